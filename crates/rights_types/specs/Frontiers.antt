@@ -1,0 +1,22 @@
+-- A frontier's numbers, and how they lie in sixteen places.
+use Rattle.std.specs.Prelude.{◌≡◌, ℕ, ◌-◌, ◌<◌, ◌≤◌, ◌⊎◌, List, ◌++◌, length, drop, replicate, Result, Ok, Err}
+use Rattle.std.specs.List.{All, Any}
+use Rattle.rights_types.specs.Ranges.{IsNumber, IsFrontier}
+use Rattle.rights_types.specs.declared.fault.TypeError.{TypeError}
+use Rattle.rights_types.specs.declared.fault.TypeError.TheVariants.{BadSite, BadAmount, BadNumber, BadCount, CloseNotLast, SameSite}
+
+-- the places behind the numbers are 0
+pub record IsPadded (count : ℕ) (places : List ℕ) : Type 0 where
+  pub sixteen : length places ≡ 16
+  pub within : count ≤ 16
+  pub zeros : drop count places ≡ replicate (16 - count) 0
+
+abbrev pub padded : List ℕ → List ℕ
+padded numbers = numbers ++ replicate (16 - length numbers) 0
+
+-- what making a frontier of these numbers answers: the count is tested before the numbers
+abbrev pub FrontierMade : List ℕ → Result (List ℕ) TypeError → Type 0
+FrontierMade numbers (Ok made) = IsFrontier numbers × (made ≡ numbers)
+FrontierMade numbers (Err BadCount) = (length numbers < 2) ⊎ (16 < length numbers)
+FrontierMade numbers (Err BadNumber) = (2 ≤ length numbers) × (length numbers ≤ 16) × Any (λ n. 1000000000 < n) numbers
+FrontierMade numbers (Err _) = ⊥

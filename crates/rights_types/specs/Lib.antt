@@ -1,0 +1,9 @@
+pub mod Ranges
+pub mod Frontiers
+pub mod FrontierInverse
+pub mod Moves
+pub mod Entries
+pub mod Chains
+pub mod Rights
+pub mod Messages
+pub mod Values

@@ -1,0 +1,25 @@
+//! Sites, amounts, moves, entries and messages, each in its limits, and the definitions that all
+//! crates share: chain, log end, prefix, sums, rights held and on the way.
+#![tactic(auto)]
+
+mod amount;
+mod answer;
+mod entry;
+mod fault;
+mod frontier;
+mod limits;
+mod message;
+mod moves;
+mod site;
+
+pub use amount::{Amount, AskNumber, Total};
+pub use answer::Answer;
+pub use entry::Entry;
+pub use fault::{OutOfMemory, TypeError};
+pub use frontier::Frontier;
+pub use limits::{
+    LAST_APPEND, MAX_AMOUNT, MAX_ANSWER, MAX_ASK, MAX_LINE, MAX_MOVES, MAX_NUMBER, MAX_SITES, MAX_TOTAL,
+};
+pub use message::{Ask, Beat, Deny, Message, Query};
+pub use moves::Move;
+pub use site::SiteId;

@@ -1,0 +1,28 @@
+//! The limits that every crate keeps to.
+
+/// Sites of a system, at most; at least there are 2.
+pub const MAX_SITES: u64 = 16;
+
+/// The greatest amount of one move; the least is 1.
+pub const MAX_AMOUNT: u64 = 1_000_000_000;
+
+/// The greatest number of a log.
+pub const MAX_NUMBER: u64 = 1_000_000_000;
+
+/// Where ordinary appends end; the numbers above are kept for the closing entry and take backs.
+pub const LAST_APPEND: u64 = 999_999_900;
+
+/// The greatest total of a take back.
+pub const MAX_TOTAL: u64 = 1_000_000_000_000_000_000;
+
+/// The greatest ask number; the least is 1.
+pub const MAX_ASK: u64 = 1_000_000_000;
+
+/// Moves of an entry, at most; at least there is 1.
+pub const MAX_MOVES: usize = 16;
+
+/// Entries of an answer, at most.
+pub const MAX_ANSWER: usize = 16;
+
+/// Bytes of a line with its line feed, at most.
+pub const MAX_LINE: usize = 16_384;

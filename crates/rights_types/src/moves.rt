@@ -1,0 +1,106 @@
+ghost use Rattle.std.specs.Prelude.{◌≡◌};
+ghost use Rattle.rights_types.specs.Moves.{IsMove, is_close, peer_of, names, lacks_own_place};
+
+use crate::amount::{Amount, AskNumber, Total};
+use crate::frontier::Frontier;
+use crate::site::SiteId;
+
+/// A change of rights that a site writes into its log. The rights are those of the Bounded Counter
+/// (Balegas and others, SRDS 2015); taking back is this project's own.
+#[derive(Clone, Copy, Debug, PartialEq, Eq)]
+pub enum Move {
+    /// Creates rights.
+    Issue(Amount),
+    /// Consumes rights.
+    Spend(Amount),
+    /// Gives rights to a peer in answer to its numbered ask.
+    Grant {
+        peer: SiteId,
+        amount: Amount,
+        ask: AskNumber,
+    },
+    /// Gives rights to a peer that did not ask.
+    Give { peer: SiteId, amount: Amount },
+    /// Closes the log without a frontier. Read for logs of an older writer, and never written.
+    Close,
+    /// Closes the log, with what this site had applied of each other one.
+    CloseAt(Frontier),
+    /// Takes back rights that were on the way to a peer that has closed.
+    TakeBack { peer: SiteId, amount: Total },
+}
+
+impl Move {
+    /// Whether it closes its log.
+    pub fn is_close(&self) -> bool
+        ensures { result ≡ is_close self.now }
+    {
+        match self {
+            Move::Close => true,
+            Move::CloseAt(_) => true,
+            _ => false,
+        }
+    }
+
+    /// The other site that it names.
+    pub fn peer(&self) -> Option<SiteId>
+        ensures { result ≡ peer_of self.now }
+    {
+        match self {
+            Move::Grant { peer, amount: _, ask: _ } => Some(*peer),
+            Move::Give { peer, amount: _ } => Some(*peer),
+            Move::TakeBack { peer, amount: _ } => Some(*peer),
+            _ => None,
+        }
+    }
+
+    /// Whether it names the site.
+    pub fn names(&self, site: SiteId) -> bool
+        ensures { result ≡ names site self.now }
+    {
+        match self.peer() {
+            Some(peer) => peer == site,
+            None => false,
+        }
+    }
+
+    /// Whether it is a frontier whose place of the origin is missing or not 0.
+    pub fn lacks_own_place(&self, origin: SiteId) -> bool
+        ensures { result ≡ lacks_own_place origin self.now }
+    {
+        match self {
+            Move::CloseAt(frontier) => frontier.at(origin) != Some(0),
+            _ => false,
+        }
+    }
+
+    /// Its values are in their ranges, as their types keep them.
+    pub fn in_range(&self)
+        ensures { IsMove self.now }
+    {
+        match self {
+            Move::Issue(amount) => {
+                let _ = amount.value();
+            }
+            Move::Spend(amount) => {
+                let _ = amount.value();
+            }
+            Move::Grant { peer, amount, ask } => {
+                let _ = peer.number();
+                let _ = amount.value();
+                let _ = ask.value();
+            }
+            Move::Give { peer, amount } => {
+                let _ = peer.number();
+                let _ = amount.value();
+            }
+            Move::Close => {}
+            Move::CloseAt(frontier) => {
+                let _ = frontier.count();
+            }
+            Move::TakeBack { peer, amount } => {
+                let _ = peer.number();
+                let _ = amount.value();
+            }
+        }
+    }
+}
