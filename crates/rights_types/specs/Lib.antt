@@ -2,6 +2,7 @@ pub mod Ranges
 pub mod Frontiers
 pub mod FrontierInverse
 pub mod Moves
+pub mod Places
 pub mod Entries
 pub mod Chains
 pub mod Rights

@@ -1,5 +1,5 @@
 -- Moves, and what each does to rights.
-use Rattle.std.specs.Prelude.{◌≡◌, ℕ, ◌+◌, ◌-◌, ◌≤◌, Bool, true, false, not, ◌==◌, ◌||◌, List, [], ◌∷◌, Option, Some, None, if◌then◌else◌}
+use Rattle.std.specs.Prelude.{◌≡◌, ℕ, ◌+◌, ◌-◌, ◌≤◌, Bool, true, false, not, ◌==◌, ◌||◌, List, [], ◌∷◌, Option, Some, None, IfSome, if◌then◌else◌}
 use Rattle.std.specs.List.{slice_get}
 use Rattle.rights_types.specs.Ranges.{IsSite, IsAmount, IsAskNumber, IsTotal, IsFrontier}
 use Rattle.rights_types.specs.declared.moves.Move.{Move}
@@ -33,6 +33,10 @@ is_site s (Some j) = j == s
 
 abbrev pub names : ℕ → Move → Bool
 names s m = is_site s (peer_of m)
+
+-- where the move names a site, it is one of the sites 1 to n
+abbrev pub NamesWithin : ℕ → Move → Type 0
+NamesWithin n m = IfSome (peer_of m) (λ j. (1 ≤ j) × (j ≤ n))
 
 abbrev pub is_zero : Option ℕ → Bool
 is_zero None = false

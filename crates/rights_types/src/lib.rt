@@ -18,7 +18,8 @@ pub use entry::Entry;
 pub use fault::{OutOfMemory, TypeError};
 pub use frontier::Frontier;
 pub use limits::{
-    LAST_APPEND, MAX_AMOUNT, MAX_ANSWER, MAX_ASK, MAX_LINE, MAX_MOVES, MAX_NUMBER, MAX_SITES, MAX_TOTAL,
+    LAST_APPEND, MAX_AMOUNT, MAX_ANSWER, MAX_ASK, MAX_LINE, MAX_MOVES, MAX_NUMBER, MAX_SITES,
+    MAX_TOTAL,
 };
 pub use message::{Ask, Beat, Deny, Message, Query};
 pub use moves::Move;

@@ -37,12 +37,7 @@ impl Model for Query {
 impl Query {
     /// `BadNumber` where a number is above 10^9, else `SameSite` where the asker is the origin.
     /// A range may be empty: the log's reader refuses it.
-    pub fn new(
-        asker: SiteId,
-        origin: SiteId,
-        first: u64,
-        last: u64,
-    ) -> Result<Query, TypeError>
+    pub fn new(asker: SiteId, origin: SiteId, first: u64, last: u64) -> Result<Query, TypeError>
         ensures { QueryMade (record { asker = asker; origin = origin; first = first; last = last }) result }
     {
         let _ = (asker.number(), origin.number());

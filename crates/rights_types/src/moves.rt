@@ -20,13 +20,19 @@ pub enum Move {
         ask: AskNumber,
     },
     /// Gives rights to a peer that did not ask.
-    Give { peer: SiteId, amount: Amount },
+    Give {
+        peer: SiteId,
+        amount: Amount,
+    },
     /// Closes the log without a frontier. Read for logs of an older writer, and never written.
     Close,
     /// Closes the log, with what this site had applied of each other one.
     CloseAt(Frontier),
     /// Takes back rights that were on the way to a peer that has closed.
-    TakeBack { peer: SiteId, amount: Total },
+    TakeBack {
+        peer: SiteId,
+        amount: Total,
+    },
 }
 
 impl Move {
@@ -46,7 +52,11 @@ impl Move {
         ensures { result ≡ peer_of self.now }
     {
         match self {
-            Move::Grant { peer, amount: _, ask: _ } => Some(*peer),
+            Move::Grant {
+                peer,
+                amount: _,
+                ask: _,
+            } => Some(*peer),
             Move::Give { peer, amount: _ } => Some(*peer),
             Move::TakeBack { peer, amount: _ } => Some(*peer),
             _ => None,
