@@ -1,5 +1,5 @@
-ghost use Rattle.std.specs.Prelude.{◌≡◌};
-ghost use Rattle.rights_types.specs.Moves.{IsMove, is_close, peer_of, names, lacks_own_place};
+ghost use Rattle.std.specs.Prelude.{◌≡◌, ◌≤◌};
+ghost use Rattle.rights_types.specs.Moves.{IsMove, is_close, peer_of, names, lacks_own_place, issue_of, spend_of, gift_to, gain_of, cost_of};
 
 use crate::amount::{Amount, AskNumber, Total};
 use crate::frontier::Frontier;
@@ -80,6 +80,73 @@ impl Move {
         match self {
             Move::CloseAt(frontier) => frontier.at(origin) != Some(0),
             _ => false,
+        }
+    }
+
+    /// The rights that it creates.
+    pub fn issued(&self) -> u64
+        ensures value { result ≡ issue_of self.now }
+        ensures range { result ≤ 1000000000 }
+    {
+        match self {
+            Move::Issue(amount) => amount.value(),
+            _ => 0,
+        }
+    }
+
+    /// The rights that it consumes.
+    pub fn spent(&self) -> u64
+        ensures value { result ≡ spend_of self.now }
+        ensures range { result ≤ 1000000000 }
+    {
+        match self {
+            Move::Spend(amount) => amount.value(),
+            _ => 0,
+        }
+    }
+
+    /// The rights that it gives to the site.
+    pub fn gift_to(&self, site: SiteId) -> u64
+        ensures value { result ≡ gift_to site self.now }
+        ensures range { result ≤ 1000000000 }
+    {
+        match self {
+            Move::Grant {
+                peer,
+                amount,
+                ask: _,
+            } => { if *peer == site { amount.value() } else { 0 } }
+            Move::Give { peer, amount } => { if *peer == site { amount.value() } else { 0 } }
+            _ => 0,
+        }
+    }
+
+    /// What it adds to the rights of its origin: what it issues or takes back.
+    pub fn gain(&self) -> u64
+        ensures value { result ≡ gain_of self.now }
+        ensures range { result ≤ 1000000000000000000 }
+    {
+        match self {
+            Move::Issue(amount) => amount.value(),
+            Move::TakeBack { peer: _, amount } => amount.value(),
+            _ => 0,
+        }
+    }
+
+    /// What it takes from the rights of its origin: what it spends or gives away.
+    pub fn cost(&self) -> u64
+        ensures value { result ≡ cost_of self.now }
+        ensures range { result ≤ 1000000000 }
+    {
+        match self {
+            Move::Spend(amount) => amount.value(),
+            Move::Grant {
+                peer: _,
+                amount,
+                ask: _,
+            } => amount.value(),
+            Move::Give { peer: _, amount } => amount.value(),
+            _ => 0,
         }
     }
 
