@@ -3,7 +3,7 @@ use Rattle.std.proofs.Common.{◌≡◌, ℕ, ◌+◌, ◌-◌, ◌*◌, ◌<◌
 use Rattle.std.specs.List.{sum_by, All}
 use Rattle.std.proofs.lemmas.Bool.{and_parts, ltb-false, le-ltb, not-true}
 use Rattle.std.proofs.lemmas.List.{append_assoc, append-nil, take-append-drop}
-use Rattle.std.proofs.lemmas.List.Sums.{sum_by-append, sum_by-cons, sum_by-le}
+use Rattle.std.proofs.lemmas.List.Sums.{sum_by-append, sum_by-cons, sum_by-le, sum_by-le-sum_by, sum_by_more}
 use Rattle.std.proofs.lemmas.List.Elements.{All-weaker, All-head, All-tail, All-take}
 use Rattle.rights_types.specs.Moves.{IsMove, NamesWithin, names, issue_of, spend_of, gift_of, gift_to, take_back_of, take_back_from, gain_of, cost_of}
 use Rattle.rights_types.specs.Entries.{EntryValue}
@@ -54,6 +54,27 @@ back-append s xs ys = sum_by-append (take_back_from s) xs ys
 pub to-nil : (s : ℕ) → to s [] ≡ 0
 unfolding to
 to-nil s = refl
+
+-- one more of some moves
+pub to-more : (s : ℕ) (ms : List Move) (i : ℕ) (d : Move) → i < length ms → to s (take (i + 1) ms) ≡ to s (take i ms) + gift_to s (get_or ms i d)
+unfolding to
+to-more s ms i d h = sum_by_more (gift_to s) ms i d h
+
+pub issued-more : (ms : List Move) (i : ℕ) (d : Move) → i < length ms → issued (take (i + 1) ms) ≡ issued (take i ms) + issue_of (get_or ms i d)
+unfolding issued
+issued-more ms i d h = sum_by_more issue_of ms i d h
+
+pub spent-more : (ms : List Move) (i : ℕ) (d : Move) → i < length ms → spent (take (i + 1) ms) ≡ spent (take i ms) + spend_of (get_or ms i d)
+unfolding spent
+spent-more ms i d h = sum_by_more spend_of ms i d h
+
+pub issued-nil : issued [] ≡ 0
+unfolding issued
+issued-nil = refl
+
+pub spent-nil : spent [] ≡ 0
+unfolding spent
+spent-nil = refl
 
 -- ---- bounds
 
@@ -109,6 +130,24 @@ log-spent o es c = let n : end es ≡ length (moves_of es) = omega (arith, end-c
 
 pub log-to : (o s : ℕ) (es : List EntryValue) → IsChain o es → to s (moves_of es) ≤ end es * 1000000000
 log-to o s es c = let n : end es ≡ length (moves_of es) = omega (arith, end-count o false 0 es c) in rw n (to-bound s (moves_of es) (all_moves o false 0 es c))
+
+at_least : (b : Bool) (n : ℕ) → cond b n 0 ≤ n
+at_least true n = omega arith
+at_least false n = omega arith
+
+back_from-bound : (s : ℕ) (m : Move) → take_back_from s m ≤ take_back_of m
+back_from-bound s (Issue n) = omega arith
+back_from-bound s (Spend n) = omega arith
+back_from-bound s (Grant j n a) = omega arith
+back_from-bound s (Give j n) = omega arith
+back_from-bound s Close = omega arith
+back_from-bound s (CloseAt f) = omega arith
+back_from-bound s (TakeBack j n) = at_least (eqb j s) n
+
+-- what is taken back from one site is no more than what is taken back
+pub back-bound : (s : ℕ) (ms : List Move) → back s ms ≤ taken_back ms
+unfolding back taken_back
+back-bound s ms = sum_by-le-sum_by (take_back_from s) take_back_of ms (back_from-bound s)
 
 -- ---- what moves leave
 

@@ -1,4 +1,5 @@
 ghost use Rattle.std.specs.Prelude.{◌≡◌, ◌≤◌};
+ghost use Rattle.std.specs.List.{All};
 ghost use Rattle.rights_types.specs.Moves.{IsMove, is_close, peer_of, names, lacks_own_place, issue_of, spend_of, gift_to, gain_of, cost_of};
 
 use crate::amount::{Amount, AskNumber, Total};
@@ -150,7 +151,8 @@ impl Move {
         }
     }
 
-    /// Its values are in their ranges, as their types keep them.
+    /// Tells a proof that its values are in their ranges, as their types keep them. It does nothing
+    /// when it runs.
     pub fn in_range(&self)
         ensures { IsMove self.now }
     {
@@ -178,6 +180,15 @@ impl Move {
                 let _ = peer.number();
                 let _ = amount.value();
             }
+        }
+    }
+
+    /// The same of each of these moves. It does nothing when it runs.
+    pub fn all_in_range(moves: &[Move])
+        ensures { All IsMove moves.now }
+    {
+        for m in moves {
+            m.in_range();
         }
     }
 }
