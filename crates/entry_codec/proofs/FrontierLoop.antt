@@ -1,0 +1,88 @@
+-- Reading a frontier's numbers one after the other, as a loop does.
+use Rattle.std.proofs.Common.{◌≡◌, ℕ, ◌+◌, ◌≤◌, ◌<◌, Bool, true, false, ltb, List, [], ◌∷◌, ◌++◌, length, take, set, Option, Some, None, Ok, Err, refl, sym, ap, ◌∙◌, arith, append_assoc, inl, inr}
+use Rattle.std.specs.Prelude.{◌||◌}
+use Rattle.std.proofs.lemmas.Bool.{lt-ltb, le-ltb}
+use Rattle.std.proofs.lemmas.List.{append-nil, take_more_set, length-set}
+use Rattle.rights_types.specs.Frontiers.{FrontierMade}
+use Rattle.rights_types.specs.declared.fault.TypeError.{TypeError}
+use Rattle.rights_types.specs.declared.fault.TypeError.TheVariants.{BadSite, BadAmount, BadNumber, BadCount, CloseNotLast, SameSite}
+use Rattle.entry_codec.specs.Moves.{◌>>=◌, number_of, all_numbers, frontier_of}
+use Rattle.entry_codec.proofs.MoveFields.{all_numbers_are}
+
+abbrev pub with_front : List ℕ → Option (List ℕ) → Option (List ℕ)
+with_front front read = read >>= λ ns. Some (front ++ ns)
+
+pub record IsReadUpTo (numbers : List ℕ) (count : ℕ) (rest whole : List (List ℕ)) : Type 0 where
+  pub so_far : with_front (take count numbers) (all_numbers rest) ≡ all_numbers whole
+  pub sum : count + length rest ≡ length whole
+  pub most : count ≤ 16
+  pub sixteen : length numbers ≡ 16
+
+regroup : (front : List ℕ) (n : ℕ) (read : Option (List ℕ)) → with_front front (read >>= λ ns. Some (n ∷ ns)) ≡ with_front (front ++ n ∷ []) read
+regroup front n (Some ns) = ap (λ (x : List ℕ). Some x) (sym (append_assoc front (n ∷ []) ns))
+regroup front n None = refl
+
+pub begins : (numbers : List ℕ) (whole : List (List ℕ)) → length numbers ≡ 16 → IsReadUpTo numbers 0 whole whole
+begins numbers whole h = record { so_far = same (all_numbers whole); sum = omega arith; most = omega arith; sixteen = h } where
+  same : (read : Option (List ℕ)) → with_front [] read ≡ read
+  same (Some ns) = refl
+  same None = refl
+
+pub reads_more : (numbers : List ℕ) (count n : ℕ) (text : List ℕ) (more rest whole : List (List ℕ)) → rest ≡ text ∷ more → count < 16
+    → number_of 0 1000000000 text ≡ Some n → IsReadUpTo numbers count rest whole → IsReadUpTo (set numbers count n) (count + 1) more whole
+unfolding all_numbers
+reads_more numbers count n text more rest whole e lt is h =
+    let front = take count numbers in
+    let taken : take (count + 1) (set numbers count n) ≡ front ++ n ∷ [] = take_more_set numbers count n (omega (arith, lt, h.sixteen)) in
+    let one : with_front front (all_numbers (text ∷ more)) ≡ with_front (front ++ n ∷ []) (all_numbers more) = rw is (regroup front n (all_numbers more)) in
+    record {
+      so_far = rw taken (sym one ∙ rw e at h.so_far);
+      sum = omega (arith, h.sum, ap length e);
+      most = omega (arith, lt);
+      sixteen = length-set numbers count n ∙ h.sixteen;
+    }
+
+or_true : (b : Bool) → (b || true) ≡ true
+or_true true = refl
+or_true false = refl
+
+-- no frontier where a value is no number, or there are more than 16
+pub stops : (numbers : List ℕ) (count : ℕ) (text : List ℕ) (more rest whole : List (List ℕ)) → rest ≡ text ∷ more
+    → number_of 0 1000000000 text ≡ None → IsReadUpTo numbers count rest whole → None ≡ frontier_of whole
+unfolding all_numbers frontier_of
+stops numbers count text more rest whole e is h =
+    let none : all_numbers whole ≡ None = sym h.so_far ∙ rw (e, is) refl in
+    grind (arith, none)
+
+pub too_many : (numbers : List ℕ) (count : ℕ) (rest whole : List (List ℕ)) → 1 ≤ length rest
+    → 16 ≤ count → IsReadUpTo numbers count rest whole → None ≡ frontier_of whole
+unfolding frontier_of
+too_many numbers count rest whole some past h =
+    let many : ltb 16 (length whole) ≡ true = lt-ltb 16 (length whole) (omega (arith, h.sum, past, some)) in
+    rw (many, or_true (ltb (length whole) 2)) refl
+
+pub all_read : (numbers : List ℕ) (count : ℕ) (rest whole : List (List ℕ)) → rest ≡ [] → IsReadUpTo numbers count rest whole → (all_numbers whole ≡ Some (take count numbers)) × (length whole ≡ count)
+unfolding all_numbers
+all_read numbers count rest whole e h =
+    (sym h.so_far ∙ rw e (ap (λ (x : List ℕ). Some x) (append-nil (take count numbers))), omega (arith, h.sum, ap length e))
+
+-- what making the frontier answers
+pub made : (ns f : List ℕ) (whole : List (List ℕ)) → all_numbers whole ≡ Some ns → length whole ≡ length ns → FrontierMade ns (Ok f) → Some f ≡ frontier_of whole
+unfolding frontier_of
+made ns f whole read same h =
+    let some : ltb (length whole) 2 ≡ false = le-ltb (length whole) 2 (omega (arith, same, h.0.some)) in
+    let few : ltb 16 (length whole) ≡ false = le-ltb 16 (length whole) (omega (arith, same, h.0.few)) in
+    rw (some, few, read, h.1) refl
+
+pub refused : (ns : List ℕ) (e : TypeError) (whole : List (List ℕ)) → all_numbers whole ≡ Some ns → length whole ≡ length ns → FrontierMade ns (Err e) → None ≡ frontier_of whole
+unfolding frontier_of
+refused ns BadCount whole read same (inl few) = rw (lt-ltb (length whole) 2 (omega (arith, same, few))) refl
+refused ns BadCount whole read same (inr many) = rw (lt-ltb 16 (length whole) (omega (arith, same, many)), or_true (ltb (length whole) 2)) refl
+refused ns BadNumber whole read same h =
+    let large = h.2 in
+    let below = (all_numbers_are whole ns read).1 large.0 large.1 large.2 in
+    absurd (omega (arith, below, large.3, large.4))
+refused ns BadSite whole read same h = absurd h
+refused ns BadAmount whole read same h = absurd h
+refused ns CloseNotLast whole read same h = absurd h
+refused ns SameSite whole read same h = absurd h

@@ -1,0 +1,11 @@
+pub mod Digits
+pub mod Numbers
+pub mod Cuts
+pub mod Behind
+pub mod Bytes
+pub mod MoveFields
+pub mod FrontierLoop
+pub mod MoveLoop
+pub mod Entries
+pub mod Room
+pub mod Lines

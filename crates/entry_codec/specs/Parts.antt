@@ -1,0 +1,34 @@
+-- The parts of a text, and what code that walks them answers.
+use Rattle.std.specs.Prelude.{◌≡◌, ℕ, List, [], map, Option, Some, None, Result, Ok, Err, ◌==◌}
+use Rattle.std.specs.List.{slice_split}
+use Rattle.std.specs.Borrow.{Bor}
+use Rattle.entry_codec.specs.declared.fault.LineError.{LineError}
+use Rattle.entry_codec.specs.declared.fault.LineError.TheVariants.{OutOfMemory}
+
+-- the parts of a text, which a byte parts
+abbrev pub split_at : ℕ → List ℕ → List (List ℕ)
+split_at at text = slice_split (λ b. b == at) text
+
+-- a line's parts, each a list of fields
+abbrev pub parts_in : List ℕ → List (List (List ℕ))
+parts_in text = map (split_at 32) (split_at 59 text)
+
+-- the parts of what is left of a text
+abbrev pub left : ℕ → Option (Bor (List ℕ)) → List (List ℕ)
+left at None = []
+left at (Some text) = split_at at text.now
+
+-- what a call that takes no memory answers, seen by view, is what reading gives
+abbrev pub Finds : {X Y : Type 0} → (X → Y) → Option X → Option Y → Type 0
+Finds view (Some x) read = read ≡ Some (view x)
+Finds view None read = read ≡ None
+
+abbrev pub Reads : {X Y : Type 0} → (X → Y) → Result X LineError → Result Y LineError → Type 0
+Reads view (Ok x) read = read ≡ Ok (view x)
+Reads view (Err e) read = read ≡ Err e
+
+-- what a call answers, seen by view, is what reading gives; want of memory comes only where reading gives a value
+abbrev pub Gives : {X Y : Type 0} → (X → Y) → Result X LineError → Result Y LineError → Type 0
+Gives view (Ok x) read = read ≡ Ok (view x)
+Gives {X} {Y} view (Err OutOfMemory) read = (y : Y) × (read ≡ Ok y)
+Gives view (Err e) read = read ≡ Err e

@@ -1,0 +1,115 @@
+//! How many bytes a message's line has.
+ghost use Rattle.std.specs.Prelude.{◌≡◌, ◌+◌, ◌<◌, ◌≤◌, length, slice_index, decimal};
+ghost use Rattle.rights_types.specs.Values.{value_of};
+ghost use Rattle.entry_codec.specs.Spelling.{move_text, line};
+ghost use Rattle.entry_codec.specs.Texts.{frontier_text, entry_text, answer_text};
+
+use rights_types::{Answer, Entry, Frontier, Message, Move, SiteId};
+use std::alloc::Allocator;
+
+pub(crate) fn digit_count(number: u64) -> usize
+    ensures value { result ≡ length (decimal number) }
+    ensures small { result ≤ 20 }
+{
+    let mut count = 1;
+    let mut rest = number;
+    while rest >= 10 {
+        rest /= 10;
+        count += 1;
+    }
+    count
+}
+
+pub(crate) fn place_of(frontier: &Frontier, index: usize) -> u64
+    requires { index < length frontier.now }
+    ensures { result ≡ slice_index frontier.now index }
+{
+    let _ = frontier.count();
+    frontier.at(SiteId::known(index as u64 + 1)).unwrap_or(0)
+}
+
+fn frontier_len(frontier: &Frontier) -> usize
+    ensures value { result ≡ length (frontier_text frontier.now) }
+    ensures small { result ≤ 400 }
+{
+    let mut total = 1;
+    for index in 0..frontier.count() {
+        total += 1 + digit_count(place_of(frontier, index));
+    }
+    total
+}
+
+fn move_len(m: &Move) -> usize
+    ensures value { result ≡ length (move_text m.now) }
+    ensures small { result ≤ 400 }
+{
+    match m {
+        Move::Issue(amount) => 2 + digit_count(amount.value()),
+        Move::Spend(amount) => 2 + digit_count(amount.value()),
+        Move::Grant { peer, amount, ask } => {
+            4 + digit_count(peer.number()) + digit_count(amount.value()) + digit_count(ask.value())
+        }
+        Move::Give { peer, amount } => 3 + digit_count(peer.number()) + digit_count(amount.value()),
+        Move::Close => 1,
+        Move::CloseAt(frontier) => frontier_len(frontier),
+        Move::TakeBack { peer, amount } => 3
+            + digit_count(peer.number())
+            + digit_count(amount.value()),
+    }
+}
+
+fn entry_len<B: Allocator>(entry: &Entry<B>) -> usize
+    ensures value { result ≡ length (entry_text entry.now) }
+    ensures small { result ≤ 10000 }
+{
+    let mut total = 4
+        + digit_count(entry.origin().number())
+        + digit_count(entry.prev())
+        + digit_count(entry.own());
+    for m in entry.moves() {
+        total += 1 + move_len(m);
+    }
+    total
+}
+
+fn answer_len<B: Allocator>(answer: &Answer<B>) -> usize
+    ensures value { result ≡ length (answer_text answer.now) }
+    ensures small { result ≤ 200000 }
+{
+    let mut total = 3
+        + digit_count(answer.origin().number())
+        + digit_count(answer.asker().number());
+    for entry in answer.entries() {
+        total += 1 + entry_len(entry);
+    }
+    total
+}
+
+pub(crate) fn line_len<B: Allocator>(message: &Message<B>) -> usize
+    ensures value { result ≡ length (line (value_of message.now)) }
+    ensures small { result ≤ 200001 }
+{
+    match message {
+        Message::Push(entry) => entry_len(entry) + 1,
+        Message::Query(query) => {
+            6 + digit_count(query.asker().number())
+                + digit_count(query.origin().number())
+                + digit_count(query.first())
+                + digit_count(query.last())
+        }
+        Message::Answer(answer) => answer_len(answer) + 1,
+        Message::Beat(beat) => 4 + digit_count(beat.origin().number()) + digit_count(beat.number()),
+        Message::Ask(ask) => {
+            6 + digit_count(ask.asker().number())
+                + digit_count(ask.asked().number())
+                + digit_count(ask.ask().value())
+                + digit_count(ask.amount().value())
+        }
+        Message::Deny(denial) => {
+            5 + digit_count(denial.denier().number())
+                + digit_count(denial.asker().number())
+                + digit_count(denial.ask().value())
+        }
+        Message::Hello(site) => 3 + digit_count(site.number()),
+    }
+}

@@ -1,0 +1,23 @@
+//! Messages between sites as lines of text, exact in both directions: what is read is what the line
+//! spells, and each message has one spelling.
+#![tactic(auto)]
+
+mod entry;
+mod fault;
+mod laws;
+mod length;
+mod moves;
+mod number;
+mod parts;
+mod put;
+mod reading;
+mod writing;
+
+pub use fault::{LineError, Place};
+pub use laws::{no_prefix, reads_back, spelled_once};
+pub use moves::read_move;
+pub use reading::read_line;
+pub use writing::{write_into, write_line};
+
+#[cfg(test)]
+mod tests;

@@ -1,0 +1,105 @@
+//! A move and its field.
+ghost use Rattle.std.specs.Prelude.{◌≡◌, ◌<◌, ◌≤◌};
+ghost use Rattle.entry_codec.specs.Parts.{left};
+ghost use Rattle.entry_codec.specs.Moves.{only_number, grant_of, give_of, take_back_of, frontier_of, move_of};
+
+use crate::number::number;
+use crate::parts::{first_number, only_number, split_first};
+use rights_types::{
+    Amount, AskNumber, Frontier, MAX_AMOUNT, MAX_ASK, MAX_NUMBER, MAX_SITES, MAX_TOTAL, Move,
+    SiteId, Total,
+};
+
+/// The move that a field spells. It knows no origin, so whether the move may stand in an entry is
+/// not tested.
+#[tactic(auto, unfolding(crate::specs::Moves::move_of))]
+pub fn read_move(field: &[u8]) -> Option<Move>
+    ensures { result ≡ move_of field.now }
+{
+    let (letter, values) = split_first(field, b':');
+    if letter == b"I".as_slice() {
+        Some(Move::Issue(amount_in(values)?))
+    } else if letter == b"S".as_slice() {
+        Some(Move::Spend(amount_in(values)?))
+    } else if letter == b"G".as_slice() {
+        grant_in(values)
+    } else if letter == b"R".as_slice() {
+        give_in(values)
+    } else if letter == b"C".as_slice() {
+        match values {
+            None => Some(Move::Close),
+            Some(_) => None,
+        }
+    } else if letter == b"K".as_slice() {
+        Some(Move::CloseAt(frontier_in(values)?))
+    } else if letter == b"V".as_slice() {
+        take_back_in(values)
+    } else {
+        None
+    }
+}
+
+fn amount_in(values: Option<&[u8]>) -> Option<Amount>
+    ensures { result ≡ only_number 1 1000000000 (left 58 values.entry) }
+{
+    Some(Amount::known(only_number(values, b':', 1, MAX_AMOUNT)?))
+}
+
+#[tactic(auto, unfolding(crate::specs::Moves::grant_of))]
+fn grant_in(values: Option<&[u8]>) -> Option<Move>
+    ensures { result ≡ grant_of (left 58 values.entry) }
+{
+    let (peer, rest) = first_number(values, b':', 1, MAX_SITES)?;
+    let (amount, rest) = first_number(rest, b':', 1, MAX_AMOUNT)?;
+    let ask = only_number(rest, b':', 1, MAX_ASK)?;
+    Some(Move::Grant {
+        peer: SiteId::known(peer),
+        amount: Amount::known(amount),
+        ask: AskNumber::known(ask),
+    })
+}
+
+#[tactic(auto, unfolding(crate::specs::Moves::give_of))]
+fn give_in(values: Option<&[u8]>) -> Option<Move>
+    ensures { result ≡ give_of (left 58 values.entry) }
+{
+    let (peer, rest) = first_number(values, b':', 1, MAX_SITES)?;
+    let amount = only_number(rest, b':', 1, MAX_AMOUNT)?;
+    Some(Move::Give {
+        peer: SiteId::known(peer),
+        amount: Amount::known(amount),
+    })
+}
+
+#[tactic(auto, unfolding(crate::specs::Moves::take_back_of))]
+fn take_back_in(values: Option<&[u8]>) -> Option<Move>
+    ensures { result ≡ take_back_of (left 58 values.entry) }
+{
+    let (peer, rest) = first_number(values, b':', 1, MAX_SITES)?;
+    let amount = only_number(rest, b':', 1, MAX_TOTAL)?;
+    Some(Move::TakeBack {
+        peer: SiteId::known(peer),
+        amount: Total::known(amount),
+    })
+}
+
+fn frontier_in(values: Option<&[u8]>) -> Option<Frontier>
+    ensures { result ≡ frontier_of (left 58 values.entry) }
+{
+    let mut numbers = [0u64; 16];
+    let mut count: usize = 0;
+    let mut rest = values;
+    while let Some(text) = rest {
+        if count >= 16 {
+            return None;
+        }
+        let (first, more) = split_first(text, b':');
+        numbers[count] = number(first, 0, MAX_NUMBER)?;
+        count += 1;
+        rest = more;
+    }
+    match Frontier::new(&numbers[..count]) {
+        Ok(frontier) => Some(frontier),
+        Err(_) => None,
+    }
+}

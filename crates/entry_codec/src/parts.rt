@@ -1,0 +1,78 @@
+//! Walking over the parts of a text, which a byte parts.
+ghost use Rattle.std.specs.Prelude.{◌≡◌, ◌∷◌, ◌==◌, ◌<◌, ◌≤◌, ◌^◌, length, position, is_none, IfSome, IfOk};
+ghost use Rattle.entry_codec.specs.Parts.{split_at, left, Finds, Reads};
+ghost use Rattle.entry_codec.specs.Moves.{first_number, only_number};
+ghost use Rattle.entry_codec.specs.Reading.{number_at};
+
+use crate::fault::{LineError, Place};
+use crate::number::number;
+
+fn position_of(text: &[u8], at: u8) -> Option<usize>
+    ensures { result ≡ position (λ b. b == at) text.now }
+{
+    text.iter().position(|b| *b == at)
+}
+
+/// The text before the first such byte, and what comes after it.
+pub(crate) fn split_first(text: &[u8], at: u8) -> (&[u8], Option<&[u8]>)
+    ensures parts { split_at at text.now ≡ result.0.now ∷ left at result.1 }
+    ensures last { is_none result.1 ≡ (length (left at result.1) == 0) }
+    ensures within { length result.0.now ≤ length text.now }
+{
+    match position_of(text, at) {
+        None => (text, None),
+        Some(i) => (&text[..i], Some(&text[i + 1..])),
+    }
+}
+
+/// The number that the first part spells, and what comes after it.
+#[tactic(auto, unfolding(crate::specs::Moves::first_number))]
+pub(crate) fn first_number(
+    parts: Option<&[u8]>,
+    at: u8,
+    low: u64,
+    high: u64,
+) -> Option<(u64, Option<&[u8]>)>
+    requires { high < 10 ^ 19 }
+    ensures value { Finds (λ x. (x.0, left at x.1)) result (first_number low high (left at parts.entry)) }
+    ensures range { IfSome result (λ x. (low ≤ x.0) × (x.0 ≤ high)) }
+    ensures last { IfSome result (λ x. is_none x.1 ≡ (length (left at x.1) == 0)) }
+    ensures shorter { IfSome result (λ x. length (left at x.1) < length (left at parts.entry)) }
+{
+    let (text, rest) = split_first(parts?, at);
+    Some((number(text, low, high)?, rest))
+}
+
+/// The number that the only part spells.
+#[tactic(auto, unfolding(crate::specs::Moves::only_number))]
+pub(crate) fn only_number(parts: Option<&[u8]>, at: u8, low: u64, high: u64) -> Option<u64>
+    requires { high < 10 ^ 19 }
+    ensures value { result ≡ only_number low high (left at parts.entry) }
+    ensures range { IfSome result (λ n. (low ≤ n) × (n ≤ high)) }
+{
+    let (number, rest) = first_number(parts, at, low, high)?;
+    match rest {
+        None => Some(number),
+        Some(_) => None,
+    }
+}
+
+/// The number in a fixed field, and the fields after it.
+#[tactic(auto, unfolding(crate::specs::Reading::number_at))]
+pub(crate) fn number_in(
+    fields: Option<&[u8]>,
+    low: u64,
+    high: u64,
+    place: Place,
+) -> Result<(u64, Option<&[u8]>), LineError>
+    requires { high < 10 ^ 19 }
+    ensures value { Reads (λ x. (x.0, left 32 x.1)) result (number_at low high place (left 32 fields.entry)) }
+    ensures range { IfOk result (λ x. (low ≤ x.0) × (x.0 ≤ high)) }
+    ensures last { IfOk result (λ x. is_none x.1 ≡ (length (left 32 x.1) == 0)) }
+    ensures shorter { IfOk result (λ x. length (left 32 x.1) < length (left 32 fields.entry)) }
+{
+    match first_number(fields, b' ', low, high) {
+        Some(found) => Ok(found),
+        None => Err(LineError::BadField(place)),
+    }
+}

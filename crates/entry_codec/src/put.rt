@@ -1,0 +1,30 @@
+//! Putting bytes into a slice that has the room, from a place on; each call answers the place behind.
+ghost use Rattle.std.specs.Prelude.{◌≡◌, ◌+◌, ◌<◌, ◌≤◌, [], ◌∷◌, ◌++◌, length, take, decimal};
+
+use crate::length::digit_count;
+
+pub(crate) fn put_byte(buffer: &mut [u8], at: usize, byte: u8) -> usize
+    requires { at < length buffer.old }
+    ensures end { result ≡ at + 1 }
+    ensures text { take result buffer.new ≡ take at buffer.old ++ byte ∷ [] }
+{
+    buffer[at] = byte;
+    at + 1
+}
+
+pub(crate) fn put_number(buffer: &mut [u8], at: usize, number: u64) -> usize
+    requires { at + length (decimal number) ≤ length buffer.old }
+    ensures end { result ≡ at + length (decimal number) }
+    ensures text { take result buffer.new ≡ take at buffer.old ++ decimal number }
+{
+    let end = at + digit_count(number);
+    let mut place = end;
+    let mut rest = number;
+    while rest >= 10 {
+        place -= 1;
+        buffer[place] = b'0' + (rest % 10) as u8;
+        rest /= 10;
+    }
+    buffer[at] = b'0' + rest as u8;
+    end
+}

@@ -1,0 +1,70 @@
+//! A message from its line.
+ghost use Rattle.std.specs.Prelude.{◌≡◌, ◌≤◌, length, map, IfOk, Ok};
+ghost use Rattle.rights_types.specs.Entries.{EntryValue};
+ghost use Rattle.rights_types.specs.Messages.MessageValue.{AnEntry};
+ghost use Rattle.rights_types.specs.Values.{value_of};
+ghost use Rattle.entry_codec.specs.Spelling.{Spells};
+ghost use Rattle.entry_codec.specs.Parts.{parts_in, split_at, left, Gives};
+ghost use Rattle.entry_codec.specs.Reading.{push_of, message_of, reading};
+
+use crate::entry::{entry_in, entry_with};
+use crate::fault::LineError;
+use crate::parts::split_first;
+use rights_types::{MAX_LINE, MAX_MOVES, Message, Move};
+use std::alloc::Allocator;
+
+fn push_in<A: Allocator>(
+    alloc: A,
+    fields: Option<&[u8]>,
+    others: Option<&[u8]>,
+) -> Result<Message<A>, LineError>
+    requires { length (left 32 fields) ≤ 20000 }
+    ensures { Gives value_of result (push_of (left 32 fields.entry) (map (split_at 32) (left 59 others.entry))) }
+{
+    let mut kept = [Move::Close; MAX_MOVES];
+    let (origin, prev, count) = entry_in(fields, 0, &mut kept)?;
+    if others.is_some() {
+        return Err(LineError::TrailingBytes);
+    }
+    Ok(Message::Push(entry_with(alloc, origin, prev, &kept[..count])?))
+}
+
+#[tactic(auto, unfolding(crate::specs::Reading::message_of))]
+fn message_in<A: Allocator>(alloc: A, text: &[u8]) -> Result<Message<A>, LineError>
+    requires { length text.now ≤ 16384 }
+    ensures { Gives value_of result (message_of (parts_in text.now)) }
+{
+    let (first, others) = split_first(text, b';');
+    let (letter, fields) = split_first(first, b' ');
+    if letter == b"E".as_slice() {
+        push_in(alloc, fields, others)
+    } else {
+        Err(LineError::BadKind)
+    }
+}
+
+#[tactic(auto, unfolding(crate::specs::Reading::reading))]
+fn message_of_line<A: Allocator>(alloc: A, line: &[u8]) -> Result<Message<A>, LineError>
+    ensures { Gives value_of result (reading line.now) }
+{
+    if line.len() > MAX_LINE {
+        return Err(LineError::TooLong);
+    }
+    match line {
+        [text @ .., b'\n'] => message_in(alloc, text),
+        _ => Err(LineError::NoEnd),
+    }
+}
+
+/// The message that a line spells. A line with a fault is refused by its first, whether there is
+/// memory or not.
+pub fn read_line<A: Allocator + Copy>(alloc: A, line: &[u8]) -> Result<Message<A>, LineError>
+    // What is read is what the line spells.
+    ensures found { IfOk result (λ m. Spells (value_of m) line.now) }
+    // What is spelled is read, memory aside.
+    ensures only { (e : EntryValue) → Spells (AnEntry e) line.now → Gives value_of result (Ok (AnEntry e)) }
+    // Which fault it is.
+    ensures exact { Gives value_of result (reading line.now) }
+{
+    message_of_line(alloc, line)
+}

@@ -1,0 +1,208 @@
+//! A message's line.
+ghost use Rattle.std.specs.Prelude.{◌≡◌, ◌+◌, ◌≤◌, [], ◌∷◌, ◌++◌, length, take, decimal, IfOk, OnOk, OnErr};
+ghost use Rattle.rights_types.specs.Values.{value_of};
+ghost use Rattle.entry_codec.specs.Spelling.{move_text, part_text, query_fields, beat_fields, ask_fields, denial_fields, text_of, line};
+ghost use Rattle.entry_codec.specs.Texts.{frontier_text, entry_text, answer_text};
+
+use crate::length::{line_len, place_of};
+use crate::put::{put_byte, put_number};
+use rights_types::{Answer, Ask, Beat, Deny, Entry, Frontier, Message, Move, OutOfMemory, Query};
+use std::alloc::Allocator;
+
+// A number behind a space.
+fn put_field(buffer: &mut [u8], at: usize, number: u64) -> usize
+    requires { at + length (32 ∷ decimal number) ≤ length buffer.old }
+    ensures end { result ≡ at + length (32 ∷ decimal number) }
+    ensures text { take result buffer.new ≡ take at buffer.old ++ 32 ∷ decimal number }
+{
+    let at = put_byte(buffer, at, b' ');
+    put_number(buffer, at, number)
+}
+
+// A number behind a colon.
+fn put_value(buffer: &mut [u8], at: usize, number: u64) -> usize
+    requires { at + length (58 ∷ decimal number) ≤ length buffer.old }
+    ensures end { result ≡ at + length (58 ∷ decimal number) }
+    ensures text { take result buffer.new ≡ take at buffer.old ++ 58 ∷ decimal number }
+{
+    let at = put_byte(buffer, at, b':');
+    put_number(buffer, at, number)
+}
+
+fn put_frontier(buffer: &mut [u8], start: usize, frontier: &Frontier) -> usize
+    requires { start + length (frontier_text frontier.now) ≤ length buffer.old }
+    ensures end { result ≡ start + length (frontier_text frontier.now) }
+    ensures text { take result buffer.new ≡ take start buffer.old ++ frontier_text frontier.now }
+{
+    let mut at = put_byte(buffer, start, b'K');
+    for index in 0..frontier.count() {
+        at = put_value(buffer, at, place_of(frontier, index));
+    }
+    at
+}
+
+fn put_move(buffer: &mut [u8], at: usize, m: &Move) -> usize
+    requires { at + length (move_text m.now) ≤ length buffer.old }
+    ensures end { result ≡ at + length (move_text m.now) }
+    ensures text { take result buffer.new ≡ take at buffer.old ++ move_text m.now }
+{
+    match m {
+        Move::Issue(amount) => {
+            let at = put_byte(buffer, at, b'I');
+            put_value(buffer, at, amount.value())
+        }
+        Move::Spend(amount) => {
+            let at = put_byte(buffer, at, b'S');
+            put_value(buffer, at, amount.value())
+        }
+        Move::Grant { peer, amount, ask } => {
+            let at = put_byte(buffer, at, b'G');
+            let at = put_value(buffer, at, peer.number());
+            let at = put_value(buffer, at, amount.value());
+            put_value(buffer, at, ask.value())
+        }
+        Move::Give { peer, amount } => {
+            let at = put_byte(buffer, at, b'R');
+            let at = put_value(buffer, at, peer.number());
+            put_value(buffer, at, amount.value())
+        }
+        Move::Close => put_byte(buffer, at, b'C'),
+        Move::CloseAt(frontier) => put_frontier(buffer, at, frontier),
+        Move::TakeBack { peer, amount } => {
+            let at = put_byte(buffer, at, b'V');
+            let at = put_value(buffer, at, peer.number());
+            put_value(buffer, at, amount.value())
+        }
+    }
+}
+
+fn put_entry<B: Allocator>(buffer: &mut [u8], start: usize, entry: &Entry<B>) -> usize
+    requires { start + length (entry_text entry.now) ≤ length buffer.old }
+    ensures end { result ≡ start + length (entry_text entry.now) }
+    ensures text { take result buffer.new ≡ take start buffer.old ++ entry_text entry.now }
+{
+    let at = put_byte(buffer, start, b'E');
+    let at = put_field(buffer, at, entry.origin().number());
+    let at = put_field(buffer, at, entry.prev());
+    let mut at = put_field(buffer, at, entry.own());
+    for m in entry.moves() {
+        at = put_byte(buffer, at, b' ');
+        at = put_move(buffer, at, m);
+    }
+    at
+}
+
+fn put_answer<B: Allocator>(buffer: &mut [u8], start: usize, answer: &Answer<B>) -> usize
+    requires { start + length (answer_text answer.now) ≤ length buffer.old }
+    ensures end { result ≡ start + length (answer_text answer.now) }
+    ensures text { take result buffer.new ≡ take start buffer.old ++ answer_text answer.now }
+{
+    let at = put_byte(buffer, start, b'A');
+    let at = put_field(buffer, at, answer.origin().number());
+    let mut at = put_field(buffer, at, answer.asker().number());
+    for entry in answer.entries() {
+        at = put_byte(buffer, at, b';');
+        at = put_entry(buffer, at, entry);
+    }
+    at
+}
+
+fn put_query(buffer: &mut [u8], at: usize, query: &Query) -> usize
+    requires { at + length (part_text (query_fields query.now)) ≤ length buffer.old }
+    ensures end { result ≡ at + length (part_text (query_fields query.now)) }
+    ensures text { take result buffer.new ≡ take at buffer.old ++ part_text (query_fields query.now) }
+{
+    let at = put_byte(buffer, at, b'Q');
+    let at = put_field(buffer, at, query.asker().number());
+    let at = put_field(buffer, at, query.origin().number());
+    let at = put_field(buffer, at, query.first());
+    put_field(buffer, at, query.last())
+}
+
+fn put_beat(buffer: &mut [u8], at: usize, beat: &Beat) -> usize
+    requires { at + length (part_text (beat_fields beat.now)) ≤ length buffer.old }
+    ensures end { result ≡ at + length (part_text (beat_fields beat.now)) }
+    ensures text { take result buffer.new ≡ take at buffer.old ++ part_text (beat_fields beat.now) }
+{
+    let at = put_byte(buffer, at, b'B');
+    let at = put_field(buffer, at, beat.origin().number());
+    put_field(buffer, at, beat.number())
+}
+
+fn put_ask(buffer: &mut [u8], at: usize, ask: &Ask) -> usize
+    requires { at + length (part_text (ask_fields ask.now)) ≤ length buffer.old }
+    ensures end { result ≡ at + length (part_text (ask_fields ask.now)) }
+    ensures text { take result buffer.new ≡ take at buffer.old ++ part_text (ask_fields ask.now) }
+{
+    let at = put_byte(buffer, at, b'W');
+    let at = put_field(buffer, at, ask.asker().number());
+    let at = put_field(buffer, at, ask.asked().number());
+    let at = put_field(buffer, at, ask.ask().value());
+    put_field(buffer, at, ask.amount().value())
+}
+
+fn put_denial(buffer: &mut [u8], at: usize, denial: &Deny) -> usize
+    requires { at + length (part_text (denial_fields denial.now)) ≤ length buffer.old }
+    ensures end { result ≡ at + length (part_text (denial_fields denial.now)) }
+    ensures text { take result buffer.new ≡ take at buffer.old ++ part_text (denial_fields denial.now) }
+{
+    let at = put_byte(buffer, at, b'D');
+    let at = put_field(buffer, at, denial.denier().number());
+    let at = put_field(buffer, at, denial.asker().number());
+    put_field(buffer, at, denial.ask().value())
+}
+
+// The text of a message, without its line feed.
+fn put_message<B: Allocator>(buffer: &mut [u8], at: usize, message: &Message<B>) -> usize
+    requires { at + length (text_of (value_of message.now)) ≤ length buffer.old }
+    ensures end { result ≡ at + length (text_of (value_of message.now)) }
+    ensures text { take result buffer.new ≡ take at buffer.old ++ text_of (value_of message.now) }
+{
+    match message {
+        Message::Push(entry) => put_entry(buffer, at, entry),
+        Message::Query(query) => put_query(buffer, at, query),
+        Message::Answer(answer) => put_answer(buffer, at, answer),
+        Message::Beat(beat) => put_beat(buffer, at, beat),
+        Message::Ask(ask) => put_ask(buffer, at, ask),
+        Message::Deny(denial) => put_denial(buffer, at, denial),
+        Message::Hello(site) => {
+            let at = put_byte(buffer, at, b'H');
+            put_field(buffer, at, site.number())
+        }
+    }
+}
+
+fn put_line<B: Allocator>(buffer: &mut [u8], at: usize, message: &Message<B>) -> usize
+    requires { at + length (line (value_of message.now)) ≤ length buffer.old }
+    ensures end { result ≡ at + length (line (value_of message.now)) }
+    ensures text { take result buffer.new ≡ take at buffer.old ++ line (value_of message.now) }
+{
+    let at = put_message(buffer, at, message);
+    put_byte(buffer, at, b'\n')
+}
+
+/// Appends a message's line. Where memory is refused, nothing is appended.
+pub fn write_into<A: Allocator, B: Allocator>(
+    out: &mut Vec<u8, A>,
+    message: &Message<B>,
+) -> Result<(), OutOfMemory>
+    ensures written { OnOk result (out.new.items ≡ out.old.items ++ line (value_of message.now)) }
+    ensures unchanged { OnErr result (out.new.items ≡ out.old.items) }
+{
+    let start = out.len();
+    out.resize(start + line_len(message), 0)?;
+    put_line(out.as_mut_slice(), start, message);
+    Ok(())
+}
+
+/// The one line of a message.
+pub fn write_line<A: Allocator + Copy, B: Allocator>(
+    alloc: A,
+    message: &Message<B>,
+) -> Result<Vec<u8, A>, OutOfMemory>
+    ensures { IfOk result (λ text. text.items ≡ line (value_of message.now)) }
+{
+    let mut out = Vec::new(alloc);
+    write_into(&mut out, message)?;
+    Ok(out)
+}
