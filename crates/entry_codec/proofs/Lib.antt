@@ -7,5 +7,7 @@ pub mod MoveFields
 pub mod FrontierLoop
 pub mod MoveLoop
 pub mod Entries
+pub mod ShortMessages
+pub mod AnswerMessages
 pub mod Room
 pub mod Lines

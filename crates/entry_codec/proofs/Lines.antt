@@ -8,29 +8,24 @@ use Rattle.std.proofs.lemmas.Bool.{ne_eqb, eqb-true, eqb-false, le-ltb, not-true
 use Rattle.std.proofs.lemmas.List.{nil_from_length, take_at, take-append-drop, length-map}
 use Rattle.std.proofs.lemmas.List.Elements.{All-head, All-tail}
 use Rattle.std.proofs.lemmas.List.Splits.{join_with_byte-slice_split}
-use Rattle.std.proofs.lemmas.Slice.Eq.{bytes_eq-Decides}
 use Rattle.std.proofs.Math.Seq.{get_or-append_seam}
-use Rattle.rights_types.specs.Entries.{EntryValue, IsEntry}
+use Rattle.rights_types.specs.Entries.{EntryValue}
 use Rattle.rights_types.specs.Messages.{MessageValue, IsMessage}
 use Rattle.rights_types.specs.Messages.MessageValue.{AnEntry, AQuery, AnAnswer, ABeat, AnAsk, ADenial, AHello}
 use Rattle.entry_codec.specs.declared.fault.LineError.{LineError}
 use Rattle.entry_codec.specs.declared.fault.LineError.TheVariants.{TooLong, NoEnd, BadKind, BadField, BadMove, CountWrong, TrailingBytes, OutOfMemory}
-use Rattle.entry_codec.specs.Parts.{split_at, parts_in, left, Gives}
+use Rattle.entry_codec.specs.Parts.{split_at, parts_in, left, Reads, Gives}
 use Rattle.entry_codec.specs.Spelling.{parts_of, part_text, text_of, line, Spells}
-use Rattle.entry_codec.specs.Reading.{fault_if, entry_of, push_of, message_of, is_ended, reading}
+use Rattle.entry_codec.specs.Reading.{fault_if, entry_of, push_of, answer_of, short_of, message_of, is_ended, reading}
 use Rattle.entry_codec.proofs.Bytes.{Lacks, are_parts, all_back, text_lacks_end}
 use Rattle.entry_codec.proofs.MoveFields.{both_are, which}
 use Rattle.entry_codec.proofs.Entries.{bind_ok, ok_is, past, IsNoWant, bind_no_want, test_no_want, entry_is, entry_again, entry_no_want}
+use Rattle.entry_codec.proofs.ShortMessages.{AreParts, alone, with_letter, short_is, query_short, beat_short, ask_short, denial_short, hello_short}
+use Rattle.entry_codec.proofs.AnswerMessages.{answer_is, answer_again}
 use Rattle.entry_codec.proofs.Cuts.{some_parts}
 use Rattle.entry_codec.proofs.Room.{line_room}
 
 -- ---- messages
-
-abbrev AreParts : List (List (List ℕ)) → MessageValue → Type 0
-AreParts parts m = (parts ≡ parts_of m) × IsMessage m
-
-alone : (others : List (List (List ℕ))) → not (length others == 0) ≡ false → others ≡ []
-alone others h = nil_from_length others (eqb-true (length others) 0 (not-false (length others == 0) h))
 
 push_is : (fields : List (List ℕ)) (others : List (List (List ℕ))) (m : MessageValue) → push_of fields others ≡ Ok m → AreParts ((codes "E" ∷ fields) ∷ others) m
 unfolding push_of
@@ -63,16 +58,27 @@ unfolding message_of
 message_is [] m h = absurd cc
 message_is ([] ∷ others) m h = absurd cc
 message_is ((letter ∷ fields) ∷ others) m h =
-    elim (which (bytes_eq letter (codes "E")) (push_of fields others) (Err BadKind) (Ok m) h) [
-      | inl y ↦
-          let found = push_is fields others m y.1 in
-          (both_are (both_are ((bytes_eq-Decides letter (codes "E")).0 y.0) refl) refl ∙ found.0, found.1)
-      | inr n ↦ let bad = n.1 in absurd cc
+    elim (which (bytes_eq letter (codes "E")) (push_of fields others) _ (Ok m) h) [
+      | inl y ↦ with_letter letter (codes "E") fields others m y.0 (push_is fields others m y.1)
+      | inr n ↦ elim (which (bytes_eq letter (codes "A")) (answer_of fields others) (short_of letter fields others) (Ok m) n.1) [
+        | inl y ↦ with_letter letter (codes "A") fields others m y.0 (answer_is fields others m y.1)
+        | inr n ↦ short_is letter fields others m n.1
+      ]
     ]
 
-message_again : (e : EntryValue) → IsEntry e → message_of (parts_of (AnEntry e)) ≡ Ok (AnEntry e)
+message_again : (m : MessageValue) → IsMessage m → message_of (parts_of m) ≡ Ok m
 unfolding message_of
-message_again e h = push_again _ [] e (entry_again 0 e h) refl
+message_again (AnEntry e) h = push_again _ [] e (entry_again 0 e h) refl
+message_again (AQuery q) h = query_short q h
+message_again (AnAnswer a) h = answer_again a h
+message_again (ABeat b) h = beat_short b h
+message_again (AnAsk a) h = ask_short a h
+message_again (ADenial d) h = denial_short d h
+message_again (AHello s) h = hello_short s h
+
+pub message_short : (letter : List ℕ) (fields : List (List ℕ)) (others : List (List (List ℕ))) → bytes_eq letter (codes "E") ≡ false → bytes_eq letter (codes "A") ≡ false → message_of ((letter ∷ fields) ∷ others) ≡ short_of letter fields others
+unfolding message_of
+message_short letter fields others a b = rw (a, b) refl
 
 -- what a call that took memory answers after a fault
 pub gives_fault : {X Y : Type 0} (view : X → Y) (e : LineError) (read : Result Y LineError) → read ≡ Err e → IsNoWant read → Gives view (Err e) read
@@ -84,6 +90,10 @@ gives_fault view (BadMove p) read h none = h
 gives_fault view CountWrong read h none = h
 gives_fault view TrailingBytes read h none = h
 gives_fault view OutOfMemory read h none = absurd (none h)
+
+pub reads_gives : {X Y : Type 0} (view : X → Y) (r : Result X LineError) (read : Result Y LineError) → Reads view r read → IsNoWant read → Gives view r read
+reads_gives view (Ok x) read h none = h
+reads_gives view (Err e) read h none = gives_fault view e read h none
 
 -- the code's test for further parts is that of the definition
 pub no_others : (o : Option (Bor (List ℕ))) (r : Bool) → r ≡ is_some o → r ≡ false → map (split_at 32) (left 59 o) ≡ []
@@ -144,9 +154,8 @@ reading_ended text short =
     let last : get_or (text ++ 10 ∷ []) (length text) 0 ≡ 10 = get_or-append_seam text 10 [] 0 in
     rw (few, some, len, last, take_at text (10 ∷ []) (length text) refl) refl
 
-pub reading_again : (e : EntryValue) → IsEntry e → reading (line (AnEntry e)) ≡ Ok (AnEntry e)
-reading_again e h =
-    reading_ended (text_of (AnEntry e)) (line_room (AnEntry e) h) ∙ ap message_of (parts_again (AnEntry e) h) ∙ message_again e h
+pub reading_again : (m : MessageValue) → IsMessage m → reading (line m) ≡ Ok m
+reading_again m h = reading_ended (text_of m) (line_room m h) ∙ ap message_of (parts_again m h) ∙ message_again m h
 
 -- ---- laws
 
@@ -154,10 +163,8 @@ pub is_found : {X : Type 0} (view : X → MessageValue) (text : List ℕ) (r : R
 is_found view text (Ok m) given = reading_is text (view m) given
 is_found view text (Err e) given = tt
 
-pub is_once : (d e : EntryValue) (text : List ℕ) → Spells (AnEntry d) text → Spells (AnEntry e) text → d ≡ e
-is_once d e text h k = same_entry d e (ok_is (AnEntry d) (AnEntry e) (sym (reading_again d h.0) ∙ ap reading (sym h.1 ∙ k.1) ∙ reading_again e k.0)) where
-  same_entry : (d e : EntryValue) → AnEntry d ≡ AnEntry e → d ≡ e
-  same_entry d e same = cc
+pub is_once : (m n : MessageValue) (text : List ℕ) → Spells m text → Spells n text → m ≡ n
+is_once m n text h k = ok_is m n (sym (reading_again m h.0) ∙ ap reading (sym h.1 ∙ k.1) ∙ reading_again n k.0)
 
 -- where a text ends in its only line feed, nothing stands behind its first one
 first_end : (a b rest : List ℕ) → Lacks 10 b → a ++ 10 ∷ rest ≡ b ++ 10 ∷ [] → rest ≡ []

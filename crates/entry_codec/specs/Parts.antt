@@ -18,6 +18,10 @@ abbrev pub left : ℕ → Option (Bor (List ℕ)) → List (List ℕ)
 left at None = []
 left at (Some text) = split_at at text.now
 
+-- a line's parts that are left, each a list of fields
+abbrev pub parts_left : Option (Bor (List ℕ)) → List (List (List ℕ))
+parts_left rest = map (split_at 32) (left 59 rest)
+
 -- what a call that takes no memory answers, seen by view, is what reading gives
 abbrev pub Finds : {X Y : Type 0} → (X → Y) → Option X → Option Y → Type 0
 Finds view (Some x) read = read ≡ Some (view x)
@@ -32,3 +36,9 @@ abbrev pub Gives : {X Y : Type 0} → (X → Y) → Result X LineError → Resul
 Gives view (Ok x) read = read ≡ Ok (view x)
 Gives {X} {Y} view (Err OutOfMemory) read = (y : Y) × (read ≡ Ok y)
 Gives view (Err e) read = read ≡ Err e
+
+-- what a call answers that gives up where memory is refused, so that a fault may be hidden
+abbrev pub Tells : {X Y : Type 0} → (X → Y) → Result X LineError → Result Y LineError → Type 0
+Tells view (Ok x) read = read ≡ Ok (view x)
+Tells view (Err OutOfMemory) read = Unit {0}
+Tells view (Err e) read = read ≡ Err e

@@ -5,7 +5,7 @@ use Rattle.rights_types.specs.declared.moves.Move.{Move}
 use Rattle.rights_types.specs.Moves.{is_close, names, lacks_own_place}
 use Rattle.rights_types.specs.Entries.{EntryValue}
 use Rattle.rights_types.specs.Messages.{MessageValue}
-use Rattle.rights_types.specs.Messages.MessageValue.{AnEntry}
+use Rattle.rights_types.specs.Messages.MessageValue.{AnEntry, AQuery, AnAnswer, ABeat, AnAsk, ADenial, AHello}
 use Rattle.entry_codec.specs.declared.fault.Place.{Place}
 use Rattle.entry_codec.specs.declared.fault.LineError.{LineError}
 use Rattle.entry_codec.specs.declared.fault.LineError.TheVariants.{TooLong, NoEnd, BadKind, BadField, BadMove, CountWrong, TrailingBytes}
@@ -52,29 +52,132 @@ moves_of origin part field (text ∷ rest) = do
 abbrev pub is_miscounted : ℕ → ℕ → ℕ → Bool
 is_miscounted prev own count = count == 0 || nat_lt 16 count || not (own == prev + count)
 
+-- an entry of this origin, from the field behind the origin on
+unfoldable pub entry_after : ℕ → ℕ → List (List ℕ) → Result EntryValue LineError
+entry_after part origin fields = do
+  prev ← number_at 0 1000000000 (place part 2) fields
+  own ← number_at 0 1000000000 (place part 3) prev.1
+  moves ← moves_of origin part 4 own.1
+  counted ← fault_if CountWrong (is_miscounted prev.0 own.0 (length moves))
+  Ok (record { origin = origin; prev = prev.0; moves = moves })
+
 -- an entry, from the field behind its letter on
 unfoldable pub entry_of : ℕ → List (List ℕ) → Result EntryValue LineError
 entry_of part fields = do
   origin ← number_at 1 16 (place part 1) fields
-  prev ← number_at 0 1000000000 (place part 2) origin.1
-  own ← number_at 0 1000000000 (place part 3) prev.1
-  moves ← moves_of origin.0 part 4 own.1
-  counted ← fault_if CountWrong (is_miscounted prev.0 own.0 (length moves))
-  Ok (record { origin = origin.0; prev = prev.0; moves = moves })
+  entry_after part origin.0 origin.1
 
--- a message by the fields behind its letter, and its further parts
+-- an entry of an answer of this origin
+unfoldable pub listed_entry_of : ℕ → ℕ → List (List ℕ) → Result EntryValue LineError
+listed_entry_of part origin [] = Err (BadField (place part 0))
+listed_entry_of part origin (letter ∷ fields) = do
+  kind ← fault_if (BadField (place part 0)) (not (bytes_eq letter (codes "E")))
+  site ← number_at 1 16 (place part 1) fields
+  same ← fault_if (BadField (place part 1)) (not (site.0 == origin))
+  entry_after part origin site.1
+
+unfoldable pub entries_of : ℕ → ℕ → List (List (List ℕ)) → Result (List EntryValue) LineError
+entries_of part origin [] = Ok []
+entries_of part origin (fields ∷ rest) = do
+  e ← listed_entry_of part origin fields
+  es ← entries_of (part + 1) origin rest
+  Ok (e ∷ es)
+
+-- a site that differs from another one
+unfoldable pub other_site_at : ℕ → Place → List (List ℕ) → Result (ℕ × List (List ℕ)) LineError
+other_site_at other at fields = do
+  site ← number_at 1 16 at fields
+  same ← fault_if (BadField at) (site.0 == other)
+  Ok site
+
+-- the two sites of an answer, which its first part has alone
+unfoldable pub answer_sites_of : List (List ℕ) → Result (ℕ × ℕ) LineError
+answer_sites_of fields = do
+  origin ← number_at 1 16 (place 0 1) fields
+  asker ← other_site_at origin.0 (place 0 2) origin.1
+  alone ← fault_if TrailingBytes (not (length asker.1 == 0))
+  Ok (origin.0, asker.0)
+
+-- the entries of an answer of this origin: each in turn, and last their count
+unfoldable pub answer_entries_of : ℕ → List (List (List ℕ)) → Result (List EntryValue) LineError
+answer_entries_of origin parts = do
+  entries ← entries_of 1 origin parts
+  few ← fault_if CountWrong (nat_lt 16 (length entries))
+  Ok entries
+
+-- more fields or parts than the kind has
+abbrev pub trails : List (List ℕ) → List (List (List ℕ)) → Bool
+trails fields others = not (length fields == 0) || not (length others == 0)
+
+-- each kind of message, by the fields behind its letter and by its further parts
 unfoldable pub push_of : List (List ℕ) → List (List (List ℕ)) → Result MessageValue LineError
 push_of fields others = do
   e ← entry_of 0 fields
   alone ← fault_if TrailingBytes (not (length others == 0))
   Ok (AnEntry e)
 
+unfoldable pub query_of : List (List ℕ) → List (List (List ℕ)) → Result MessageValue LineError
+query_of fields others = do
+  asker ← number_at 1 16 (place 0 1) fields
+  origin ← other_site_at asker.0 (place 0 2) asker.1
+  first ← number_at 0 1000000000 (place 0 3) origin.1
+  last ← number_at 0 1000000000 (place 0 4) first.1
+  alone ← fault_if TrailingBytes (trails last.1 others)
+  Ok (AQuery (record { asker = asker.0; origin = origin.0; first = first.0; last = last.0 }))
+
+unfoldable pub answer_of : List (List ℕ) → List (List (List ℕ)) → Result MessageValue LineError
+answer_of fields others = do
+  sites ← answer_sites_of fields
+  entries ← answer_entries_of sites.0 others
+  Ok (AnAnswer (record { origin = sites.0; asker = sites.1; entries = entries }))
+
+unfoldable pub beat_of : List (List ℕ) → List (List (List ℕ)) → Result MessageValue LineError
+beat_of fields others = do
+  origin ← number_at 1 16 (place 0 1) fields
+  number ← number_at 0 1000000000 (place 0 2) origin.1
+  alone ← fault_if TrailingBytes (trails number.1 others)
+  Ok (ABeat (record { origin = origin.0; number = number.0 }))
+
+unfoldable pub ask_of : List (List ℕ) → List (List (List ℕ)) → Result MessageValue LineError
+ask_of fields others = do
+  asker ← number_at 1 16 (place 0 1) fields
+  asked ← other_site_at asker.0 (place 0 2) asker.1
+  ask ← number_at 1 1000000000 (place 0 3) asked.1
+  amount ← number_at 1 1000000000 (place 0 4) ask.1
+  alone ← fault_if TrailingBytes (trails amount.1 others)
+  Ok (AnAsk (record { asker = asker.0; asked = asked.0; ask = ask.0; amount = amount.0 }))
+
+unfoldable pub denial_of : List (List ℕ) → List (List (List ℕ)) → Result MessageValue LineError
+denial_of fields others = do
+  denier ← number_at 1 16 (place 0 1) fields
+  asker ← other_site_at denier.0 (place 0 2) denier.1
+  ask ← number_at 1 1000000000 (place 0 3) asker.1
+  alone ← fault_if TrailingBytes (trails ask.1 others)
+  Ok (ADenial (record { denier = denier.0; asker = asker.0; ask = ask.0 }))
+
+unfoldable pub hello_of : List (List ℕ) → List (List (List ℕ)) → Result MessageValue LineError
+hello_of fields others = do
+  site ← number_at 1 16 (place 0 1) fields
+  alone ← fault_if TrailingBytes (trails site.1 others)
+  Ok (AHello site.0)
+
+-- a message of a kind that has no entries
+unfoldable pub short_of : List ℕ → List (List ℕ) → List (List (List ℕ)) → Result MessageValue LineError
+short_of letter fields others =
+    if bytes_eq letter (codes "Q") then query_of fields others
+    else (if bytes_eq letter (codes "B") then beat_of fields others
+    else (if bytes_eq letter (codes "W") then ask_of fields others
+    else (if bytes_eq letter (codes "D") then denial_of fields others
+    else (if bytes_eq letter (codes "H") then hello_of fields others
+    else Err BadKind))))
+
 unfoldable pub message_of : List (List (List ℕ)) → Result MessageValue LineError
 message_of [] = Err BadKind
 message_of ([] ∷ others) = Err BadKind
 message_of ((letter ∷ fields) ∷ others) =
     if bytes_eq letter (codes "E") then push_of fields others
-    else Err BadKind
+    else (if bytes_eq letter (codes "A") then answer_of fields others
+    else short_of letter fields others)
 
 abbrev pub is_ended : List ℕ → Bool
 is_ended line = not (length line == 0) && (slice_index line (length line - 1) == 10)

@@ -58,7 +58,7 @@ fn move_len(m: &Move) -> usize
     }
 }
 
-fn entry_len<B: Allocator>(entry: &Entry<B>) -> usize
+pub(crate) fn entry_len<B: Allocator>(entry: &Entry<B>) -> usize
     ensures value { result ≡ length (entry_text entry.now) }
     ensures small { result ≤ 10000 }
 {

@@ -2,6 +2,7 @@
 //! spells, and each message has one spelling.
 #![tactic(auto)]
 
+mod answer;
 mod entry;
 mod fault;
 mod laws;
@@ -11,13 +12,14 @@ mod number;
 mod parts;
 mod put;
 mod reading;
+mod short;
 mod writing;
 
 pub use fault::{LineError, Place};
 pub use laws::{no_prefix, reads_back, spelled_once};
 pub use moves::read_move;
 pub use reading::read_line;
-pub use writing::{write_into, write_line};
+pub use writing::{write_entry, write_into, write_line};
 
 #[cfg(test)]
 mod tests;

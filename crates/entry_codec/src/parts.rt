@@ -18,6 +18,7 @@ pub(crate) fn split_first(text: &[u8], at: u8) -> (&[u8], Option<&[u8]>)
     ensures parts { split_at at text.now ≡ result.0.now ∷ left at result.1 }
     ensures last { is_none result.1 ≡ (length (left at result.1) == 0) }
     ensures within { length result.0.now ≤ length text.now }
+    ensures shorter { IfSome result.1 (λ rest. length rest.now < length text.now) }
 {
     match position_of(text, at) {
         None => (text, None),

@@ -1,15 +1,16 @@
 //! A message from its line.
 ghost use Rattle.std.specs.Prelude.{◌≡◌, ◌≤◌, length, map, IfOk, Ok};
-ghost use Rattle.rights_types.specs.Entries.{EntryValue};
-ghost use Rattle.rights_types.specs.Messages.MessageValue.{AnEntry};
+ghost use Rattle.rights_types.specs.Messages.{MessageValue};
 ghost use Rattle.rights_types.specs.Values.{value_of};
 ghost use Rattle.entry_codec.specs.Spelling.{Spells};
-ghost use Rattle.entry_codec.specs.Parts.{parts_in, split_at, left, Gives};
+ghost use Rattle.entry_codec.specs.Parts.{parts_in, left, Gives, parts_left};
 ghost use Rattle.entry_codec.specs.Reading.{push_of, message_of, reading};
 
+use crate::answer::answer_in;
 use crate::entry::{entry_in, entry_with};
 use crate::fault::LineError;
 use crate::parts::split_first;
+use crate::short::short_in;
 use rights_types::{MAX_LINE, MAX_MOVES, Message, Move};
 use std::alloc::Allocator;
 
@@ -19,7 +20,7 @@ fn push_in<A: Allocator>(
     others: Option<&[u8]>,
 ) -> Result<Message<A>, LineError>
     requires { length (left 32 fields) ≤ 20000 }
-    ensures { Gives value_of result (push_of (left 32 fields.entry) (map (split_at 32) (left 59 others.entry))) }
+    ensures { Gives value_of result (push_of (left 32 fields.entry) (parts_left others.entry)) }
 {
     let mut kept = [Move::Close; MAX_MOVES];
     let (origin, prev, count) = entry_in(fields, 0, &mut kept)?;
@@ -30,7 +31,7 @@ fn push_in<A: Allocator>(
 }
 
 #[tactic(auto, unfolding(crate::specs::Reading::message_of))]
-fn message_in<A: Allocator>(alloc: A, text: &[u8]) -> Result<Message<A>, LineError>
+fn message_in<A: Allocator + Copy>(alloc: A, text: &[u8]) -> Result<Message<A>, LineError>
     requires { length text.now ≤ 16384 }
     ensures { Gives value_of result (message_of (parts_in text.now)) }
 {
@@ -38,13 +39,15 @@ fn message_in<A: Allocator>(alloc: A, text: &[u8]) -> Result<Message<A>, LineErr
     let (letter, fields) = split_first(first, b' ');
     if letter == b"E".as_slice() {
         push_in(alloc, fields, others)
+    } else if letter == b"A".as_slice() {
+        Ok(Message::Answer(answer_in(alloc, fields, others)?))
     } else {
-        Err(LineError::BadKind)
+        short_in(letter, fields, others)
     }
 }
 
 #[tactic(auto, unfolding(crate::specs::Reading::reading))]
-fn message_of_line<A: Allocator>(alloc: A, line: &[u8]) -> Result<Message<A>, LineError>
+fn message_of_line<A: Allocator + Copy>(alloc: A, line: &[u8]) -> Result<Message<A>, LineError>
     ensures { Gives value_of result (reading line.now) }
 {
     if line.len() > MAX_LINE {
@@ -62,7 +65,7 @@ pub fn read_line<A: Allocator + Copy>(alloc: A, line: &[u8]) -> Result<Message<A
     // What is read is what the line spells.
     ensures found { IfOk result (λ m. Spells (value_of m) line.now) }
     // What is spelled is read, memory aside.
-    ensures only { (e : EntryValue) → Spells (AnEntry e) line.now → Gives value_of result (Ok (AnEntry e)) }
+    ensures only { (m : MessageValue) → Spells m line.now → Gives value_of result (Ok m) }
     // Which fault it is.
     ensures exact { Gives value_of result (reading line.now) }
 {

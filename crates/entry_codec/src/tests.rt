@@ -26,14 +26,32 @@ fn entries_read_and_write(rt: HostRuntime) -> Result<(), Fail> {
 
 #[test]
 fn faults_of_entries(rt: HostRuntime) {
-    assert_eq!(rt; fault(&rt, b"E 1 0 01 I:5\n"), Some(LineError::BadField(at(0, 3))));
+    assert_eq!(rt;
+        fault(&rt, b"E 1 0 01 I:5\n"),
+        Some(LineError::BadField(at(0, 3)))
+    );
     assert_eq!(rt; fault(&rt, b"E 1 0 2 I:5\n"), Some(LineError::CountWrong));
-    assert_eq!(rt; fault(&rt, b"E 1 0 2 C I:5\n"), Some(LineError::BadMove(at(0, 4))));
-    assert_eq!(rt; fault(&rt, b"E 1 0 1 I:0\n"), Some(LineError::BadMove(at(0, 4))));
-    assert_eq!(rt; fault(&rt, b"E 1 0 1 R:1:3\n"), Some(LineError::BadMove(at(0, 4))));
-    assert_eq!(rt; fault(&rt, b"E 1 0 1 I:5 \n"), Some(LineError::BadMove(at(0, 5))));
+    assert_eq!(rt;
+        fault(&rt, b"E 1 0 2 C I:5\n"),
+        Some(LineError::BadMove(at(0, 4)))
+    );
+    assert_eq!(rt;
+        fault(&rt, b"E 1 0 1 I:0\n"),
+        Some(LineError::BadMove(at(0, 4)))
+    );
+    assert_eq!(rt;
+        fault(&rt, b"E 1 0 1 R:1:3\n"),
+        Some(LineError::BadMove(at(0, 4)))
+    );
+    assert_eq!(rt;
+        fault(&rt, b"E 1 0 1 I:5 \n"),
+        Some(LineError::BadMove(at(0, 5)))
+    );
     assert_eq!(rt; fault(&rt, b"E 9 0 1 I:5\n"), None);
-    assert_eq!(rt; fault(&rt, b"E 17 0 1 I:5\n"), Some(LineError::BadField(at(0, 1))));
+    assert_eq!(rt;
+        fault(&rt, b"E 17 0 1 I:5\n"),
+        Some(LineError::BadField(at(0, 1)))
+    );
     assert_eq!(rt; fault(&rt, b"X 1\n"), Some(LineError::BadKind));
     assert_eq!(rt; fault(&rt, b"E 1 0 1 I:5"), Some(LineError::NoEnd));
     assert_eq!(rt; fault(&rt, b""), Some(LineError::NoEnd));

@@ -1,10 +1,11 @@
 //! A message's line.
 ghost use Rattle.std.specs.Prelude.{◌≡◌, ◌+◌, ◌≤◌, [], ◌∷◌, ◌++◌, length, take, decimal, IfOk, OnOk, OnErr};
 ghost use Rattle.rights_types.specs.Values.{value_of};
+ghost use Rattle.rights_types.specs.Messages.MessageValue.{AnEntry};
 ghost use Rattle.entry_codec.specs.Spelling.{move_text, part_text, query_fields, beat_fields, ask_fields, denial_fields, text_of, line};
 ghost use Rattle.entry_codec.specs.Texts.{frontier_text, entry_text, answer_text};
 
-use crate::length::{line_len, place_of};
+use crate::length::{entry_len, line_len, place_of};
 use crate::put::{put_byte, put_number};
 use rights_types::{Answer, Ask, Beat, Deny, Entry, Frontier, Message, Move, OutOfMemory, Query};
 use std::alloc::Allocator;
@@ -205,4 +206,25 @@ pub fn write_line<A: Allocator + Copy, B: Allocator>(
     let mut out = Vec::new(alloc);
     write_into(&mut out, message)?;
     Ok(out)
+}
+
+/// The line of the message that pushes this entry.
+pub fn write_entry<A: Allocator + Copy, B: Allocator>(
+    alloc: A,
+    entry: &Entry<B>,
+) -> Result<Vec<u8, A>, OutOfMemory>
+    ensures { IfOk result (λ text. text.items ≡ line (AnEntry entry.now)) }
+{
+    let mut out = Vec::new(alloc);
+    out.resize(entry_len(entry) + 1, 0)?;
+    put_entry_line(out.as_mut_slice(), entry);
+    Ok(out)
+}
+
+fn put_entry_line<B: Allocator>(buffer: &mut [u8], entry: &Entry<B>)
+    requires { length buffer.old ≡ length (entry_text entry.now) + 1 }
+    ensures { buffer.new ≡ entry_text entry.now ++ 10 ∷ [] }
+{
+    let at = put_entry(buffer, 0, entry);
+    put_byte(buffer, at, b'\n');
 }

@@ -1,0 +1,10 @@
+pub mod Lists
+pub mod Keeps
+pub mod Facts
+pub mod Whole
+pub mod Steps
+pub mod EntryLists
+pub mod MoveLaws
+pub mod SiteLaws
+pub mod WorldLaws
+pub mod ReadEntry

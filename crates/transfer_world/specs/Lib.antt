@@ -1,0 +1,7 @@
+pub mod Values
+pub mod Worlds
+pub mod Faults
+pub mod Step
+pub mod Sound
+pub mod Links
+pub mod Headline

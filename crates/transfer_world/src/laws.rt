@@ -1,0 +1,17 @@
+//! The headline as a law of the definitions, with no program in it. The function does nothing.
+ghost use Rattle.std.specs.Prelude.{ℕ, List, Result};
+ghost use Rattle.transfer_world.specs.Values.{WorldValue};
+ghost use Rattle.transfer_world.specs.Worlds.{start};
+ghost use Rattle.transfer_world.specs.Step.{Runs};
+ghost use Rattle.transfer_world.specs.Headline.{Headline};
+ghost use Rattle.transfer_world.specs.declared.event.Event.{Event};
+ghost use Rattle.transfer_world.specs.declared.reply.Reply.{Reply};
+ghost use Rattle.transfer_world.specs.declared.fault.WorldError.{WorldError};
+
+/// The headline holds of every world that a run of the step relation reaches from the start,
+/// whatever the events and their outcomes. (The values of events and replies say nothing of where
+/// they lie in memory, so the type that stands for that is any.)
+pub fn every_run()
+    ensures { (n : ℕ) (events : List (Event ℕ)) (outcomes : List (Result (Reply ℕ) WorldError)) (w : WorldValue)
+        → Runs (start n) events outcomes w → Headline w }
+{}
