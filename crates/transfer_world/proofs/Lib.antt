@@ -8,3 +8,4 @@ pub mod MoveLaws
 pub mod SiteLaws
 pub mod WorldLaws
 pub mod ReadEntry
+pub mod ReaderLaws

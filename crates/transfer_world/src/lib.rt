@@ -15,4 +15,4 @@ pub use event::{Event, Moves};
 pub use fault::{DeskError, WorldError};
 pub use laws::every_run;
 pub use reply::{Reply, Verdict, Verdicts};
-pub use world::World;
+pub use world::{Totals, World};

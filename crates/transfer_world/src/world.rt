@@ -10,12 +10,15 @@ ghost use Rattle.transfer_world.specs.Faults.{is_site, site_fault, link_fault, a
 ghost use Rattle.transfer_world.specs.Step.{wants_memory, Attempts, Step, Runs};
 ghost use Rattle.transfer_world.specs.Headline.{Headline};
 
+mod readers;
+
 use crate::event::{Event, Moves};
 use crate::fault::WorldError;
 use crate::packet::Packet;
 use crate::reply::{Reply, Verdicts};
 use crate::site::Site;
 use entry_codec::read_line;
+pub use readers::Totals;
 use rights_types::{Entry, Message, OutOfMemory, SiteId};
 use std::alloc::{Allocator, Global};
 use std::marker::Model;

@@ -1,0 +1,32 @@
+use Rattle.std.proofs.Common.{◌≡◌, ◌≤◌, ℕ, List, length, take, drop, ◌-◌, sym, ap, ◌∙◌, subst, arith}
+use Rattle.std.proofs.lemmas.List.{take_rest}
+use Rattle.rights_types.specs.Entries.{EntryValue}
+use Rattle.rights_types.specs.Chains.{moves_of}
+use Rattle.rights_types.specs.Rights.{to}
+use Rattle.transfer_world.specs.Values.{SiteValue, WorldValue}
+use Rattle.transfer_world.specs.Worlds.{log, applied}
+use Rattle.transfer_world.specs.Sound.{Sound}
+use Rattle.transfer_world.proofs.ReaderLaws.{way_small, way_value, way_none, applied_within}
+use Rattle.transfer_world.proofs.world.World.way.Goals as goal
+
+pub gift_in-requires : goal.gift_in-requires
+gift_in-requires g c =
+    let w = c.args.self.now in
+    let sound : Sound w = subst Sound c.self.view_is c.self.invariant.sound in
+    let entries : c.log.result.now ≡ log w c.args.origin = c.log.ensures ∙ ap (λ (x : SiteValue). x.log) c.in-Some.ensures.some in
+    rw (take_rest c.log.result.now (length c.applied-applied.result.now), entries) (way_small w c.args.origin c.args.number (length c.applied-applied.result.now) sound)
+
+pub returns-in-Some : goal.returns-in-Some
+returns-in-Some g c =
+    let w = c.args.self.now in
+    let sound : Sound w = subst Sound c.self.view_is c.self.invariant.sound in
+    let entries : c.log.result.now ≡ log w c.args.origin = c.log.ensures ∙ ap (λ (x : SiteValue). x.log) c.in-Some.ensures.some in
+    let rest = take_rest c.log.result.now (length c.applied-applied.result.now) in
+    c.gift_in.ensures ∙ ap (λ es. to c.args.number (moves_of es)) rest ∙ ap (λ (es : List EntryValue). to c.args.number (moves_of (drop (length c.applied-applied.result.now) es))) entries
+    ∙ ap (λ (es : List EntryValue). to c.args.number (moves_of (drop (length es) (log w c.args.origin)))) c.applied-applied.ensures ∙ sym (way_value w c.args.origin c.args.number sound)
+
+pub returns-in-None : goal.returns-in-None
+returns-in-None g c =
+    let w = c.args.self.now in
+    let sound : Sound w = subst Sound c.self.view_is c.self.invariant.sound in
+    sym (way_none w c.args.origin c.args.number sound c.in-None.ensures.none)
