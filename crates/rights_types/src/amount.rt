@@ -110,7 +110,7 @@ impl AskNumber {
 /// What a site takes back at once from one that has closed, from 1 to 10^18.
 #[derive(Clone, Copy, Debug, PartialEq, Eq, PartialOrd, Ord)]
 pub struct Total {
-    rights: u64,
+    total: u64,
 }
 
 impl Model for Total {
@@ -119,11 +119,11 @@ impl Model for Total {
 
     ghost Value = { ℕ };
 
-    ghost view = { λ t. t.rights };
+    ghost view = { λ t. t.total };
 
-    ghost invariant = { λ t. IsTotal t.rights };
+    ghost invariant = { λ t. IsTotal t.total };
 
-    ghost inverse = { λ n. record { rights = n } };
+    ghost inverse = { λ n. record { total = n } };
 }
 
 impl Total {
@@ -143,7 +143,7 @@ impl Total {
         requires { IsTotal value }
         ensures { result ≡ value }
     {
-        Total { rights: value }
+        Total { total: value }
     }
 
     /// The rights, from 1 to 10^18.
@@ -151,6 +151,6 @@ impl Total {
         ensures value { result ≡ self }
         ensures range { IsTotal self }
     {
-        self.rights
+        self.total
     }
 }

@@ -4,16 +4,23 @@
 
 mod amount;
 mod answer;
+mod ask;
+mod beat;
+mod deny;
 mod entry;
 mod fault;
 mod frontier;
 mod limits;
 mod message;
 mod moves;
+mod query;
 mod site;
 
 pub use amount::{Amount, AskNumber, Total};
 pub use answer::Answer;
+pub use ask::Ask;
+pub use beat::Beat;
+pub use deny::Deny;
 pub use entry::Entry;
 pub use fault::{OutOfMemory, TypeError};
 pub use frontier::Frontier;
@@ -21,6 +28,7 @@ pub use limits::{
     LAST_APPEND, MAX_AMOUNT, MAX_ANSWER, MAX_ASK, MAX_LINE, MAX_MOVES, MAX_NUMBER, MAX_SITES,
     MAX_TOTAL,
 };
-pub use message::{Ask, Beat, Deny, Message, Query};
+pub use message::Message;
 pub use moves::Move;
+pub use query::Query;
 pub use site::SiteId;
