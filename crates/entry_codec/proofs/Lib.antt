@@ -11,3 +11,4 @@ pub mod ShortMessages
 pub mod AnswerMessages
 pub mod Room
 pub mod Lines
+pub mod Pieces

@@ -9,3 +9,12 @@ pub mod SiteLaws
 pub mod WorldLaws
 pub mod ReadEntry
 pub mod ReaderLaws
+pub mod WordLaws
+pub mod NumberLaws
+pub mod CommandLaws
+pub mod Writes
+pub mod ReportLaws
+pub mod CarryLaws
+pub mod ReplyLaws
+pub mod FeedLaws
+pub mod RunLaws

@@ -5,3 +5,9 @@ pub mod Step
 pub mod Sound
 pub mod Links
 pub mod Headline
+pub mod Waiting
+pub mod Commands
+pub mod Replies
+pub mod Script
+pub mod Talk
+pub mod Session

@@ -8,6 +8,7 @@ mod laws;
 mod link;
 mod packet;
 mod reply;
+mod script;
 mod site;
 mod world;
 
@@ -15,4 +16,8 @@ pub use event::{Event, Moves};
 pub use fault::{DeskError, WorldError};
 pub use laws::every_run;
 pub use reply::{Reply, Verdict, Verdicts};
+pub use script::{ScriptFault, run_script};
 pub use world::{Totals, World};
+
+#[cfg(test)]
+mod tests;

@@ -106,10 +106,16 @@ impl<A: Allocator> Link<A> {
         is_closed(&self.put[..self.applied])
     }
 
-    /// The entries that reached the buffer, all of which were put.
+    /// The entries that reached the buffer: without room for later ones, those that were put.
+    pub(crate) fn reached(&self) -> &[Entry<A>]
+        ensures { result.now ≡ self.now.reached }
+    {
+        &self.put
+    }
+
+    /// The entries that were put.
     pub(crate) fn put(&self) -> &[Entry<A>]
-        ensures put { result.now ≡ self.now.put }
-        ensures reached { result.now ≡ self.now.reached }
+        ensures { result.now ≡ self.now.put }
     {
         &self.put
     }

@@ -133,7 +133,7 @@ impl<A: Allocator> World<A> {
         ensures { result.now ≡ reached self.now number origin }
     {
         match self.link(number, origin) {
-            Some(link) => link.put(),
+            Some(link) => link.reached(),
             None => &[],
         }
     }

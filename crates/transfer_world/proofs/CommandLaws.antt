@@ -1,0 +1,71 @@
+-- The moves of a line's words, one after another, and lines of too many words.
+use Rattle.std.proofs.Common.{◌≡◌, ◌==◌, ℕ, ◌<◌, List, [], ◌∷◌, ◌++◌, length, Option, Some, None, refl, sym, ap, ◌∙◌, arith, inl, inr, take, ◌-◌, ◌≤◌, length-append, length-take-le, append_assoc, append-nil}
+use Rattle.std.proofs.lemmas.Bool.{le-leb, lt-leb, cases_lt}
+use Rattle.std.proofs.lemmas.List.{take_at, take_all}
+use Rattle.std.specs.Option.{option_map}
+use Rattle.std.specs.Borrow.{Bor}
+use Rattle.rights_types.specs.declared.moves.Move.{Move}
+use Rattle.entry_codec.specs.Moves.{move_of}
+use Rattle.transfer_world.specs.Commands.{both, words_of, words_left, moves_in, only_number, site_and, command_in, command_of}
+use Rattle.transfer_world.proofs.WordLaws.{split_some}
+
+-- these moves, and then those
+abbrev pub after_moves : List Move → Option (List Move) → Option (List Move)
+after_moves done more = option_map (λ ms. done ++ ms) more
+
+pub no_moves_before : (more : Option (List Move)) → more ≡ after_moves [] more
+no_moves_before None = refl
+no_moves_before (Some ms) = refl
+
+one_more : (done : List Move) (m : Move) (more : Option (List Move)) → after_moves done (both (λ m ms. m ∷ ms) (Some m) more) ≡ after_moves (done ++ m ∷ []) more
+one_more done m None = refl
+one_more done m (Some ms) = ap Some (sym (append_assoc done (m ∷ []) ms))
+
+-- one word more was read
+pub moves_more : (all : Option (List Move)) (done : List Move) (left : Option (Bor (List ℕ))) (text : Bor (List ℕ)) (word : List ℕ) (rest : Option (Bor (List ℕ))) (m : Move)
+    → all ≡ after_moves done (moves_in (words_left left)) → left ≡ Some text → words_of text.now ≡ word ∷ words_left rest → Some m ≡ move_of word
+    → all ≡ after_moves (done ++ m ∷ []) (moves_in (words_left rest))
+moves_more all done left text word rest m h e w r = h ∙ rw (e, w, ← r) (one_more done m (moves_in (words_left rest)))
+
+-- a word is no move
+pub moves_none : (all : Option (List Move)) (done : List Move) (left : Option (Bor (List ℕ))) (text : Bor (List ℕ)) (word : List ℕ) (rest : Option (Bor (List ℕ)))
+    → all ≡ after_moves done (moves_in (words_left left)) → left ≡ Some text → words_of text.now ≡ word ∷ words_left rest → None ≡ move_of word
+    → None ≡ all
+moves_none all done left text word rest h e w r = sym (h ∙ rw (e, w, ← r) refl)
+
+pub moves_all : (all : Option (List Move)) (done : List Move) (left : Option (Bor (List ℕ))) → all ≡ after_moves done (moves_in (words_left left)) → left ≡ None → Some done ≡ all
+moves_all all done left h e = sym (h ∙ rw e (ap Some (append-nil done)))
+
+pub fewer_words : (left : Option (Bor (List ℕ))) (text : Bor (List ℕ)) (word : List ℕ) (rest : Option (Bor (List ℕ))) → left ≡ Some text → words_of text.now ≡ word ∷ words_left rest
+    → length (words_left rest) < length (words_left left)
+fewer_words left text word rest e w = rw (e, w) (omega arith)
+
+-- a word too many
+pub second_word : (low high : ℕ) (text more : Bor (List ℕ)) (first : List ℕ) (rest : Option (Bor (List ℕ))) → words_of text.now ≡ first ∷ words_left rest → rest ≡ Some more
+    → only_number low high (words_of text.now) ≡ None
+second_word low high text more first rest w e = let third = split_some (λ (b : ℕ). b == 32) more.now in rw (w, e, third.2) refl
+
+pub third_word : (low high : ℕ) (text other more : Bor (List ℕ)) (first second : List ℕ) (left rest : Option (Bor (List ℕ))) → words_of text.now ≡ first ∷ words_left left → left ≡ Some other
+    → words_of other.now ≡ second ∷ words_left rest → rest ≡ Some more → site_and low high (words_of text.now) ≡ None
+third_word low high text other more first second left rest w e x f = let third = split_some (λ (b : ℕ). b == 32) more.now in rw (w, e, x, f, third.2) refl
+
+module _ {A : Type 0} (text : List ℕ) where
+  pub short_line : length text < 16384 → command_of {A = A} (text ++ 10 ∷ []) ≡ command_in text
+  unfolding command_of
+  short_line h =
+      let few : length (text ++ 10 ∷ []) ≤ 16384 = simp length-append (omega arith) in
+      let front : take (length (text ++ 10 ∷ []) - 1) (text ++ 10 ∷ []) ≡ text = take_at text (10 ∷ []) (length (text ++ 10 ∷ []) - 1) (omega (arith, length-append text (10 ∷ []))) in
+      rw (le-leb (length (text ++ 10 ∷ [])) 16384 few, front) refl
+
+  pub long_line : 16384 ≤ length text → command_of {A = A} (text ++ 10 ∷ []) ≡ None
+  unfolding command_of
+  long_line h =
+      let many : 16384 < length (text ++ 10 ∷ []) = simp length-append (omega arith) in
+      rw (lt-leb (length (text ++ 10 ∷ [])) 16384 many) refl
+
+-- no command needs more than the first 16384 bytes of its line
+pub cut_line : {A : Type 0} (text : List ℕ) → command_of {A = A} (take 16384 text ++ 10 ∷ []) ≡ command_of (text ++ 10 ∷ [])
+cut_line {A} text = elim (cases_lt (length text) 16384) [
+  | inl few ↦ ap (λ (l : List ℕ). command_of {A = A} (l ++ 10 ∷ [])) (take_all 16384 text (omega arith))
+  | inr many ↦ let full : length (take 16384 text) ≡ 16384 = length-take-le 16384 text many in long_line (take 16384 text) (omega (arith, full)) ∙ sym (long_line text many)
+]

@@ -1,0 +1,8 @@
+use Rattle.std.proofs.Common.{arith, length-take, length-drop}
+use Rattle.transfer_world.proofs.Writes.{wrote_more}
+use Rattle.transfer_world.proofs.script.output.write_all.Goals as goal
+
+pub loop-done-preserved : goal.loop-done-preserved
+loop-done-preserved g c =
+    let b = simp (length-take, length-drop) at c.in-Ok.ensures.bound in
+    (omega arith, wrote_more _ _ _ c.args.text.now c.loop-done.done c.in-Ok.count c.loop-done.invariant.1 c.in-Ok.ensures.bytes)

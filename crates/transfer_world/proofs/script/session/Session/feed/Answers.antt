@@ -1,0 +1,73 @@
+use Rattle.std.proofs.Common.{ℕ, ◌+◌, ◌≤◌, List, length, take, refl, ap, arith, length-take}
+use Rattle.std.proofs.lemmas.Result.{err_from_is_err_and}
+use Rattle.transfer_world.proofs.FeedLaws.{cut_found, going_next, going_end, going_written, stopped_in, stopped_in_write}
+use Rattle.transfer_world.proofs.script.session.Session.feed.Goals as goal
+
+short_front : (xs : List ℕ) → length (take 16384 xs) ≤ 16384
+short_front xs = simp length-take (omega arith)
+
+pub loop-length-preserved : goal.loop-length-preserved
+loop-length-preserved g c =
+    let inv = c.loop-length.invariant in
+    let at = c.loop-length.at in
+    let n = c.in-Some.length in
+    let bytes = c.args.bytes.now in
+    let cut = cut_found bytes at n inv.within c.in-Some.ensures in
+    let line = c.in_ok-end_line.ensures in
+    let write = c.in_ok-pass_on.ensures in
+    record {
+      within = omega (arith, cut.0);
+      ready = write.ready;
+      short = omega (arith, ap length line.ended);
+      few = omega (arith, inv.few, line.count, c.if-self-eq-MOST.false);
+      rises = omega (arith, inv.rises, line.count);
+      moves = λ some. omega (arith, inv.rises, line.count);
+      slow = omega (arith, inv.slow, line.count);
+      going = λ input held h.
+          let next = going_next g.row.A.Denot input bytes at held _ _ _ _ (inv.going input held h) n _ _ _ inv.within c.in-Some.ensures line.line line.ended in
+          going_written g.row.A.Denot _ held _ _ _ _ next _ _ write.whole.0 write.whole.1 write.whole.2 write.ready;
+    }
+
+pub returns-in_err-end_line-clause-fed : goal.returns-in_err-end_line-clause-fed
+returns-in_err-end_line-clause-fed g c = λ input held h.
+    let p = err_from_is_err_and c.from_residual.result c.from_residual.ensures.1 in
+    rw (p.1, p.2) (stopped_in g.row.A.Denot input c.args.bytes.now c.loop-length.at held _ _ _ _ (c.loop-length.invariant.going input held h) _ c.in_err-end_line.ensures.kept)
+
+pub returns-in_err-keep-clause-fed : goal.returns-in_err-keep-clause-fed
+returns-in_err-keep-clause-fed g c = λ input held h.
+    let p = err_from_is_err_and c.from_residual-in_err-keep.result c.from_residual-in_err-keep.ensures.1 in
+    rw (p.1, p.2) (stopped_in g.row.A.Denot input c.args.bytes.now c.loop-length.at held _ _ _ _ (c.loop-length.invariant.going input held h) _ refl)
+
+pub returns-then-self-eq-MOST-clause-fed : goal.returns-then-self-eq-MOST-clause-fed
+returns-then-self-eq-MOST-clause-fed g c = λ input held h.
+    let inv = c.loop-length.invariant in
+    let line = c.in_ok-end_line.ensures in
+    let next = going_next g.row.A.Denot input c.args.bytes.now c.loop-length.at held _ _ _ _ (inv.going input held h) c.in-Some.length _ _ _ inv.within c.in-Some.ensures line.line line.ended in
+    stopped_in g.row.A.Denot input c.args.bytes.now (c.loop-length.at + (c.in-Some.length + 1)) held _ _ _ _ next _ refl
+
+pub returns-in_err-pass_on-clause-fed : goal.returns-in_err-pass_on-clause-fed
+returns-in_err-pass_on-clause-fed g c = λ input held h.
+    let p = err_from_is_err_and c.from_residual-in_err-pass_on.result c.from_residual-in_err-pass_on.ensures.1 in
+    let inv = c.loop-length.invariant in
+    let line = c.in_ok-end_line.ensures in
+    let next = going_next g.row.A.Denot input c.args.bytes.now c.loop-length.at held _ _ _ _ (inv.going input held h) c.in-Some.length _ _ _ inv.within c.in-Some.ensures line.line line.ended in
+    let part = c.in_err-pass_on.ensures.part in
+    rw (p.1, p.2) (stopped_in_write g.row.A.Denot input c.args.bytes.now (c.loop-length.at + (c.in-Some.length + 1)) held _ _ _ _ next _ part.0 part.1)
+
+pub returns-then-self-eq-MOST-2-clause-fed : goal.returns-then-self-eq-MOST-2-clause-fed
+returns-then-self-eq-MOST-2-clause-fed g c = λ input held h.
+    stopped_in g.row.A.Denot input c.args.bytes.now c.loop-length.at held _ _ _ _ (c.loop-length.invariant.going input held h) _ refl
+
+pub returns-else-self-eq-MOST-2-clause-short : goal.returns-else-self-eq-MOST-2-clause-short
+returns-else-self-eq-MOST-2-clause-short g c = rw (c.in_ok-keep.ensures) (short_front _)
+
+pub returns-else-self-eq-MOST-2-clause-fed : goal.returns-else-self-eq-MOST-2-clause-fed
+returns-else-self-eq-MOST-2-clause-fed g c = λ input held h.
+    going_end g.row.A.Denot input c.args.bytes.now c.loop-length.at held _ _ _ _ (c.loop-length.invariant.going input held h) c.memchr.result _ c.in_default.not-Some c.memchr.ensures c.in_ok-keep.ensures
+
+pub returns-else-at-eq0-clause-short : goal.returns-else-at-eq0-clause-short
+returns-else-at-eq0-clause-short g c = rw (c.in_ok-keep.ensures) (short_front _)
+
+pub returns-else-at-eq0-clause-fed : goal.returns-else-at-eq0-clause-fed
+returns-else-at-eq0-clause-fed g c = λ input held h.
+    going_end g.row.A.Denot input c.args.bytes.now c.loop-length.at held _ _ _ _ (c.loop-length.invariant.going input held h) c.memchr.result _ c.in_default.not-Some c.memchr.ensures c.in_ok-keep.ensures

@@ -1,0 +1,102 @@
+-- The text of each reply, without the line feed at its end.
+use Rattle.std.specs.Prelude.{ℕ, ◌-◌, ◌==◌, Bool, List, [], ◌∷◌, ◌++◌, length, take, Option, Some, None, Result, Ok, Err, if◌then◌else◌, decimal, codes}
+use Rattle.std.specs.List.{flat_map}
+use Rattle.rights_types.specs.Chains.{end, moves_of, is_closed}
+use Rattle.rights_types.specs.Rights.{sum_sites, issued, spent}
+use Rattle.transfer_world.specs.Values.{PacketValue, WorldValue}
+use Rattle.transfer_world.specs.Worlds.{log, put, applied, count, sites_of, packet, held_by, on_way}
+use Rattle.transfer_world.specs.declared.reply.Verdict.{Verdict}
+use Rattle.transfer_world.specs.declared.reply.Verdict.TheVariants.{Ready, Held, Repeat, AfterClose, Full}
+use Rattle.transfer_world.specs.declared.reply.Reply.{Reply}
+use Rattle.transfer_world.specs.declared.reply.Reply.TheVariants.{Number, Packet, Verdicts, Taken, Nothing}
+use Rattle.transfer_world.specs.declared.fault.DeskError.{DeskError}
+use Rattle.transfer_world.specs.declared.fault.DeskError.TheVariants.{Closed, BadCount, BadMove, NoSuchSite as NoSuchPeer, SameSite, PeerClosed, LogFull, Short}
+use Rattle.transfer_world.specs.declared.fault.WorldError.{WorldError}
+use Rattle.transfer_world.specs.declared.fault.WorldError.TheVariants.{Ended, NoSuchSite, NoPacket, NotForSite, Desk, OutOfMemory}
+
+abbrev pub desk_error_name : DeskError → List ℕ
+desk_error_name Closed = codes "Closed"
+desk_error_name BadCount = codes "BadCount"
+desk_error_name BadMove = codes "BadMove"
+desk_error_name NoSuchPeer = codes "NoSuchSite"
+desk_error_name SameSite = codes "SameSite"
+desk_error_name PeerClosed = codes "PeerClosed"
+desk_error_name LogFull = codes "LogFull"
+desk_error_name Short = codes "Short"
+
+abbrev pub error_name : WorldError → List ℕ
+error_name Ended = codes "Ended"
+error_name NoSuchSite = codes "NoSuchSite"
+error_name NoPacket = codes "NoPacket"
+error_name NotForSite = codes "NotForSite"
+error_name (Desk e) = desk_error_name e
+error_name OutOfMemory = codes "OutOfMemory"
+
+abbrev pub verdict_text : Verdict → List ℕ
+verdict_text (Ready n) = codes "ready " ++ decimal n
+verdict_text Held = codes "held"
+verdict_text Repeat = codes "repeat"
+verdict_text AfterClose = codes "afterclose"
+verdict_text Full = codes "full"
+
+-- the verdicts on what arrived, one space between
+abbrev pub verdicts_text : List Verdict → List ℕ
+verdicts_text [] = codes "empty"
+verdicts_text (v ∷ vs) = verdict_text v ++ flat_map (λ v. 32 ∷ verdict_text v) vs
+
+-- a packet's text without its line feed
+abbrev pub packet_line : Option PacketValue → List ℕ
+packet_line None = []
+packet_line (Some p) = take (length p.text - 1) p.text
+
+-- a reply, which may name a packet of the world
+abbrev pub reply_text : {A : Type 0} → WorldValue → Reply A → List ℕ
+reply_text w (Number n) = codes "number " ++ decimal n
+reply_text w (Packet n) = codes "packet " ++ decimal n ++ codes " " ++ packet_line (packet w n)
+reply_text w (Verdicts vs) = verdicts_text vs
+reply_text w (Taken n) = codes "taken " ++ decimal n
+reply_text w Nothing = codes "nothing"
+
+abbrev pub outcome_text : {A : Type 0} → WorldValue → Result (Reply A) WorldError → List ℕ
+outcome_text w (Ok reply) = reply_text w reply
+outcome_text w (Err e) = codes "error " ++ error_name e
+
+abbrev pub bit : Bool → List ℕ
+bit b = if b then codes "1" else codes "0"
+
+-- what a site's log holds
+unfoldable pub site_line : WorldValue → ℕ → List ℕ
+site_line w s =
+    codes "site " ++ decimal s
+    ++ codes " number " ++ decimal (end (log w s))
+    ++ codes " issued " ++ decimal (issued (moves_of (log w s)))
+    ++ codes " spent " ++ decimal (spent (moves_of (log w s)))
+    ++ codes " held " ++ decimal (held_by w s)
+    ++ codes " closed " ++ bit (is_closed (log w s)) ++ 10 ∷ []
+
+-- how far s is with the log of o, and what is on the way from o to s
+unfoldable pub pair_line : WorldValue → ℕ → ℕ → List ℕ
+pair_line w s o =
+    codes "pair " ++ decimal s ++ codes " " ++ decimal o
+    ++ codes " applied " ++ decimal (end (applied w s o))
+    ++ codes " put " ++ decimal (end (put w s o))
+    ++ codes " way " ++ decimal (on_way w o s) ++ 10 ∷ []
+
+-- a line for each origin that is not the receiver s
+abbrev pub other_line : WorldValue → ℕ → ℕ → List ℕ
+other_line w s o = if o == s then [] else pair_line w s o
+
+unfoldable pub pair_lines : WorldValue → ℕ → List ℕ
+pair_lines w s = flat_map (other_line w s) (sites_of w)
+
+-- the sums over all sites and pairs
+unfoldable pub total_text : WorldValue → List ℕ
+total_text w =
+    codes "total issued " ++ decimal (sum_sites (count w) (λ s. issued (moves_of (log w s))))
+    ++ codes " spent " ++ decimal (sum_sites (count w) (λ s. spent (moves_of (log w s))))
+    ++ codes " held " ++ decimal (sum_sites (count w) (held_by w))
+    ++ codes " way " ++ decimal (sum_sites (count w) (λ o. sum_sites (count w) (λ s. on_way w o s)))
+
+-- all sites, then all pairs by receivers, then the sums
+abbrev pub report_text : WorldValue → List ℕ
+report_text w = flat_map (site_line w) (sites_of w) ++ flat_map (pair_lines w) (sites_of w) ++ total_text w

@@ -1,0 +1,43 @@
+-- What a script's lines are answered.
+use Rattle.std.specs.Prelude.{◌≡◌, ℕ, List, [], ◌∷◌, ◌++◌, Option, Some, None, Result, codes}
+use Rattle.entry_codec.specs.Pieces.{pieces, unfinished}
+use Rattle.transfer_world.specs.Values.{WorldValue}
+use Rattle.transfer_world.specs.Worlds.{start}
+use Rattle.transfer_world.specs.Step.{Step}
+use Rattle.transfer_world.specs.declared.reply.Reply.{Reply}
+use Rattle.transfer_world.specs.declared.fault.WorldError.{WorldError}
+use Rattle.transfer_world.specs.declared.script.commands.Command.{Command}
+use Rattle.transfer_world.specs.declared.script.commands.Command.TheVariants.{Sites, Act, Report}
+use Rattle.transfer_world.specs.Commands.{command_of}
+use Rattle.transfer_world.specs.Replies.{outcome_text, report_text}
+
+-- the reply to a command, and the world after it; there is none before `sites`
+abbrev pub Answers : {A : Type 0} → Option WorldValue → Option (Command A) → List ℕ → Option WorldValue → Type 0
+Answers old None text new = (text ≡ codes "error BadCommand") × (new ≡ old)
+Answers None (Some (Sites n)) text new = (text ≡ codes "ok") × (new ≡ Some (start n))
+Answers None (Some (Act event)) text new = (text ≡ codes "error NoWorld") × (new ≡ None)
+Answers None (Some Report) text new = (text ≡ codes "error NoWorld") × (new ≡ None)
+Answers (Some world) (Some (Sites n)) text new = (text ≡ codes "error BadCommand") × (new ≡ Some world)
+Answers {A} (Some world) (Some (Act event)) text new =
+    (outcome : Result (Reply A) WorldError) × (next : WorldValue) × Step world event outcome next × (text ≡ outcome_text next outcome) × (new ≡ Some next)
+Answers (Some world) (Some Report) text new = (text ≡ report_text world) × (new ≡ Some world)
+
+-- the reply to a line that is given with its line feed
+abbrev pub LineAnswers : Type 0 → Option WorldValue → List ℕ → List ℕ → Option WorldValue → Type 0
+LineAnswers A old line text new = Answers {A = A} old (command_of line) text new
+
+-- the replies to these lines, each with its line feed
+abbrev pub Replies : Type 0 → Option WorldValue → List (List ℕ) → List ℕ → Option WorldValue → Type 0
+Replies A old [] text new = (text ≡ []) × (new ≡ old)
+Replies A old (line ∷ lines) text new =
+    (reply : List ℕ) × (mid : Option WorldValue) × (more : List ℕ)
+    × LineAnswers A old line reply mid × Replies A mid lines more new × (text ≡ (reply ++ 10 ∷ []) ++ more)
+
+-- an unfinished last line gets its line feed
+abbrev pub last_line : List ℕ → List (List ℕ)
+last_line [] = []
+last_line (x ∷ xs) = ((x ∷ xs) ++ 10 ∷ []) ∷ []
+
+-- the lines of a script
+abbrev pub lines_of : List ℕ → List (List ℕ)
+lines_of input = pieces input ++ last_line (unfinished input)

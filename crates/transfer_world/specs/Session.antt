@@ -1,0 +1,59 @@
+-- A script at work, between its first read and its last write.
+use Rattle.std.specs.Prelude.{◌≡◌, ℕ, ◌≤◌, ◌+◌, List, [], ◌∷◌, ◌++◌, Option, None, Result, Ok, Err, take, length}
+use Rattle.std.specs.Io.KnownBytes.{Appends}
+use Rattle.entry_codec.specs.Pieces.{pieces, unfinished}
+use Rattle.transfer_world.specs.Values.{WorldValue}
+use Rattle.transfer_world.specs.Waiting.{Waiting, nothing}
+use Rattle.transfer_world.specs.Script.{LineAnswers, Replies, lines_of}
+use Rattle.transfer_world.specs.Talk.{Begins}
+use Rattle.transfer_world.specs.declared.script.fault.ScriptFault.{ScriptFault}
+use Rattle.transfer_world.specs.declared.script.fault.ScriptFault.TheVariants.{ReadFailed, WriteFailed, OutOfMemory, TooManyLines}
+
+-- these lines were answered; some of their replies the writer took, and the rest waits
+pub record Talked (A : Type 0) (lines : List (List ℕ)) (held now : Option (List ℕ)) (waits : List ℕ) : Type 0 where
+  pub replies : List ℕ
+  pub written : List ℕ
+  pub world : Option WorldValue
+  pub answers : Replies A None lines replies world
+  pub writes : Appends held now written
+  pub rest : replies ≡ written ++ waits
+
+-- the lines that ended in the input were answered, and the line that has not ended is carried, but for bytes
+-- that no command needs
+pub record Going (A : Type 0) (input : List ℕ) (held now : Option (List ℕ)) (world : Option WorldValue) (waits : Waiting) (carry : List ℕ) : Type 0 where
+  pub talked : Talked A (pieces input) held now waits.whole
+  pub same : talked.world ≡ world
+  pub ready : waits.part ≡ []
+  pub carried : carry ≡ take 16384 (unfinished input)
+
+-- a script that has done nothing yet
+abbrev pub IsNew : Option WorldValue → Waiting → List ℕ → ℕ → Type 0
+IsNew world waits carry count = (world ≡ None) × (waits ≡ nothing) × (carry ≡ []) × (count ≡ 0)
+
+-- what a line came to, of which front was carried and text came last
+abbrev pub LineEnds : Type 0 → List ℕ → List ℕ → Option WorldValue → Waiting → Option WorldValue → Waiting → Type 0
+LineEnds A front text old waits new waits' =
+    (reply : List ℕ) × LineAnswers A old ((front ++ text) ++ 10 ∷ []) reply new
+    × (waits' ≡ record { whole = waits.whole ++ (reply ++ 10 ∷ []); part = [] })
+
+-- the first of these lines were answered
+pub record Stopped (A : Type 0) (all : List (List ℕ)) (held now : Option (List ℕ)) (waits : List ℕ) : Type 0 where
+  pub lines : List (List ℕ)
+  pub front : Begins all lines
+  pub talked : Talked A lines held now waits
+
+-- what taking the last bytes of this input came to; after a failed write it is not told what waits
+abbrev pub Fed : Type 0 → List ℕ → Option (List ℕ) → Option (List ℕ) → Result (Unit {0}) ScriptFault → Option WorldValue → Waiting → List ℕ → Type 0
+Fed A input held now (Ok _) world waits carry = Going A input held now world waits carry
+Fed A input held now (Err ReadFailed) world waits carry = ⊥
+Fed A input held now (Err WriteFailed) world waits carry = (rest : List ℕ) × Stopped A (pieces input) held now rest
+Fed A input held now (Err OutOfMemory) world waits carry = Stopped A (pieces input) held now waits.whole
+Fed A input held now (Err TooManyLines) world waits carry = Stopped A (pieces input) held now waits.whole
+
+-- what reading this input came to, but for the last write
+abbrev pub Ran : Type 0 → List ℕ → Option (List ℕ) → Option (List ℕ) → Result (Unit {0}) ScriptFault → List ℕ → Type 0
+Ran A input held now (Ok _) waits = Talked A (lines_of input) held now waits
+Ran A input held now (Err ReadFailed) waits = Talked A (pieces input) held now waits
+Ran A input held now (Err WriteFailed) waits = (rest : List ℕ) × Stopped A (lines_of input) held now rest
+Ran A input held now (Err OutOfMemory) waits = Stopped A (lines_of input) held now waits
+Ran A input held now (Err TooManyLines) waits = Stopped A (lines_of input) held now waits × (1000000000 ≤ length input + 1)

@@ -1,0 +1,12 @@
+//! A script of commands, run on a world, and the replies to it.
+
+mod answers;
+mod commands;
+mod fault;
+mod output;
+mod report;
+mod session;
+mod words;
+
+pub use fault::ScriptFault;
+pub use session::run_script;

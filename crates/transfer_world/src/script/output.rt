@@ -1,0 +1,119 @@
+//! Replies on their way to a writer.
+ghost use Rattle.std.specs.Prelude.{◌≡◌, ℕ, List, ◌∷◌, [], ◌++◌, ◌<◌, ◌≤◌, length, take, decimal, OnOk, OnErr};
+ghost use Rattle.std.specs.Io.KnownBytes.{Appends};
+
+use itoa::Buffer;
+use rights_types::OutOfMemory;
+use std::alloc::Allocator;
+use std::io::Write;
+use std::marker::Model;
+
+/// So many bytes of whole replies are worth a write.
+const WORTH_A_WRITE: usize = 65536;
+
+/// A write failed, or took no byte.
+#[derive(Clone, Copy, Debug, PartialEq, Eq)]
+pub(crate) struct WriteFault;
+
+/// Replies that wait to be written: whole ones, and behind them what there is of the next one, so
+/// that no refused growth leaves a part of a reply among the whole ones.
+#[derive(Drop)]
+pub(crate) struct Replies<A: Allocator> {
+    bytes: Vec<u8, A>,
+    whole: usize,
+}
+
+impl<A: Allocator> Model for Replies<A> {
+    ghost use Rattle.std.specs.Prelude.{◌≤◌, take, drop, vec_len};
+    ghost use Rattle.transfer_world.specs.Waiting.{Waiting};
+
+    ghost Value = { Waiting };
+
+    ghost view = { λ r. record { whole = take r.whole r.bytes.items; part = drop r.whole r.bytes.items } };
+
+    ghost invariant = { λ r. r.whole ≤ vec_len r.bytes };
+}
+
+impl<A: Allocator> Replies<A> {
+    ghost use Rattle.transfer_world.specs.Waiting.{nothing};
+
+    pub(crate) fn new(alloc: A) -> Replies<A>
+        ensures { result ≡ nothing }
+    {
+        Replies {
+            bytes: Vec::new(alloc),
+            whole: 0,
+        }
+    }
+
+    /// Goes on with the reply at work.
+    pub(crate) fn put(&mut self, text: &[u8]) -> Result<(), OutOfMemory>
+        ensures ok { OnOk result (self.new.part ≡ self.old.part ++ text.now) }
+        ensures kept { self.new.whole ≡ self.old.whole }
+    {
+        self.bytes.extend_from_slice(text)?;
+        Ok(())
+    }
+
+    pub(crate) fn put_number(&mut self, number: u64) -> Result<(), OutOfMemory>
+        ensures ok { OnOk result (self.new.part ≡ self.old.part ++ decimal number) }
+        ensures kept { self.new.whole ≡ self.old.whole }
+    {
+        let mut digits = Buffer::new();
+        self.put(digits.format(number).as_bytes())
+    }
+
+    /// Ends the reply at work.
+    pub(crate) fn finish(&mut self) -> Result<(), OutOfMemory>
+        ensures ok { OnOk result (self.new ≡ record { whole = self.old.whole ++ (self.old.part ++ 10 ∷ []); part = [] }) }
+        ensures kept { OnErr result (self.new.whole ≡ self.old.whole) }
+    {
+        self.bytes.push(b'\n')?;
+        self.whole = self.bytes.len();
+        Ok(())
+    }
+
+    /// Writes the whole replies, and forgets all. After an `Err` the writer has taken a front of them.
+    pub(crate) fn write_to<W: Write>(&mut self, writer: &mut W) -> Result<(), WriteFault>
+        ensures whole { OnOk result (Appends (W.contents writer.old) (W.contents writer.new) self.old.whole) }
+        ensures empty { OnOk result (self.new ≡ nothing) }
+        ensures part { OnErr result ((n : ℕ) × Appends (W.contents writer.old) (W.contents writer.new) (take n self.old.whole)) }
+    {
+        write_all(writer, &self.bytes[..self.whole])?;
+        self.bytes.clear();
+        self.whole = 0;
+        Ok(())
+    }
+
+    /// Writes the whole replies once they are worth a write. After an `Err` the writer has taken a
+    /// front of them.
+    pub(crate) fn pass_on<W: Write>(&mut self, writer: &mut W) -> Result<(), WriteFault>
+        requires { self.old.part ≡ [] }
+        ensures whole { OnOk result ((text : List ℕ) × Appends (W.contents writer.old) (W.contents writer.new) text
+            × (self.old.whole ≡ text ++ self.new.whole)) }
+        ensures ready { OnOk result (self.new.part ≡ []) }
+        ensures part { OnErr result ((n : ℕ) × Appends (W.contents writer.old) (W.contents writer.new) (take n self.old.whole)) }
+    {
+        if self.whole < WORTH_A_WRITE {
+            return Ok(());
+        }
+        self.write_to(writer)
+    }
+}
+
+#[tactic(auto, using(crate::proofs::Writes::wrote_more))]
+/// Writes the text, in as many writes as it takes. After an `Err` the writer has taken a front of it.
+fn write_all<W: Write>(writer: &mut W, text: &[u8]) -> Result<(), WriteFault>
+    ensures whole { OnOk result (Appends (W.contents writer.old) (W.contents writer.new) text.now) }
+    ensures part { OnErr result ((n : ℕ) × Appends (W.contents writer.old) (W.contents writer.new) (take n text.now)) }
+{
+    let mut done = 0;
+    while done < text.len() {
+        match writer.write(&text[done..]) {
+            Ok(0) => return Err(WriteFault),
+            Ok(count) => done += count,
+            Err(_) => return Err(WriteFault),
+        }
+    }
+    Ok(())
+}

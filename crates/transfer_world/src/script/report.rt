@@ -1,0 +1,129 @@
+//! The report on all sites and pairs.
+ghost use Rattle.std.specs.Prelude.{◌≡◌, ◌++◌, ◌≤◌, Bool, OnOk, codes, decimal};
+ghost use Rattle.transfer_world.specs.Worlds.{count};
+ghost use Rattle.transfer_world.specs.Replies.{bit, site_line, pair_line, other_line, pair_lines, total_text, report_text};
+
+use crate::script::output::Replies;
+use crate::world::World;
+use rights_types::{OutOfMemory, SiteId};
+use std::alloc::Allocator;
+
+/// A word and its number.
+fn put_field<A: Allocator>(
+    replies: &mut Replies<A>,
+    name: &[u8],
+    number: u64,
+) -> Result<(), OutOfMemory>
+    ensures ok { OnOk result (replies.new.part ≡ replies.old.part ++ name.now ++ decimal number) }
+    ensures kept { replies.new.whole ≡ replies.old.whole }
+{
+    replies.put(name)?;
+    replies.put_number(number)
+}
+
+fn put_bit<A: Allocator>(replies: &mut Replies<A>, is_set: bool) -> Result<(), OutOfMemory>
+    ensures ok { OnOk result (replies.new.part ≡ replies.old.part ++ bit is_set) }
+    ensures kept { replies.new.whole ≡ replies.old.whole }
+{
+    replies.put(if is_set { b"1" } else { b"0" })
+}
+
+#[tactic(auto, unfolding(crate::specs::Replies::site_line))]
+fn put_site<A: Allocator + Copy>(
+    replies: &mut Replies<A>,
+    world: &World<A>,
+    site: SiteId,
+) -> Result<(), OutOfMemory>
+    ensures ok { OnOk result (replies.new.part ≡ replies.old.part ++ site_line world.now site) }
+    ensures kept { replies.new.whole ≡ replies.old.whole }
+{
+    put_field(replies, b"site ", site.number())?;
+    put_field(replies, b" number ", world.number(site))?;
+    put_field(replies, b" issued ", world.issued(site))?;
+    put_field(replies, b" spent ", world.spent(site))?;
+    put_field(replies, b" held ", world.held(site))?;
+    replies.put(b" closed ")?;
+    put_bit(replies, world.closed(site))?;
+    replies.put(b"\n")
+}
+
+#[tactic(auto, unfolding(crate::specs::Replies::pair_line))]
+fn put_pair<A: Allocator + Copy>(
+    replies: &mut Replies<A>,
+    world: &World<A>,
+    site: SiteId,
+    origin: SiteId,
+) -> Result<(), OutOfMemory>
+    ensures ok { OnOk result (replies.new.part ≡ replies.old.part ++ pair_line world.now site origin) }
+    ensures kept { replies.new.whole ≡ replies.old.whole }
+{
+    put_field(replies, b"pair ", site.number())?;
+    put_field(replies, b" ", origin.number())?;
+    put_field(replies, b" applied ", world.applied_number(site, origin))?;
+    put_field(replies, b" put ", world.put_number(site, origin))?;
+    put_field(replies, b" way ", world.way(origin, site))?;
+    replies.put(b"\n")
+}
+
+/// The line of a pair, and none for a site and itself.
+fn put_other<A: Allocator + Copy>(
+    replies: &mut Replies<A>,
+    world: &World<A>,
+    site: SiteId,
+    origin: SiteId,
+) -> Result<(), OutOfMemory>
+    ensures ok { OnOk result (replies.new.part ≡ replies.old.part ++ other_line world.now site origin) }
+    ensures kept { replies.new.whole ≡ replies.old.whole }
+{
+    if origin == site {
+        return Ok(());
+    }
+    put_pair(replies, world, site, origin)
+}
+
+#[tactic(auto, unfolding(crate::specs::Replies::pair_lines))]
+fn put_pairs<A: Allocator + Copy>(
+    replies: &mut Replies<A>,
+    world: &World<A>,
+    site: SiteId,
+) -> Result<(), OutOfMemory>
+    ensures ok { OnOk result (replies.new.part ≡ replies.old.part ++ pair_lines world.now site) }
+    ensures kept { replies.new.whole ≡ replies.old.whole }
+{
+    for number in 1..world.sites() + 1 {
+        put_other(replies, world, site, SiteId::known(number))?;
+    }
+    Ok(())
+}
+
+#[tactic(auto, unfolding(crate::specs::Replies::total_text))]
+fn put_total<A: Allocator + Copy>(
+    replies: &mut Replies<A>,
+    world: &World<A>,
+) -> Result<(), OutOfMemory>
+    ensures ok { OnOk result (replies.new.part ≡ replies.old.part ++ total_text world.now) }
+    ensures kept { replies.new.whole ≡ replies.old.whole }
+{
+    let totals = world.totals();
+    put_field(replies, b"total issued ", totals.issued)?;
+    put_field(replies, b" spent ", totals.spent)?;
+    put_field(replies, b" held ", totals.held)?;
+    put_field(replies, b" way ", totals.way)
+}
+
+/// The report, but for its last line feed.
+pub(crate) fn put_report<A: Allocator + Copy>(
+    replies: &mut Replies<A>,
+    world: &World<A>,
+) -> Result<(), OutOfMemory>
+    ensures ok { OnOk result (replies.new.part ≡ replies.old.part ++ report_text world.now) }
+    ensures kept { replies.new.whole ≡ replies.old.whole }
+{
+    'sites: for number in 1..world.sites() + 1 {
+        put_site(replies, world, SiteId::known(number))?;
+    }
+    'pairs: for number in 1..world.sites() + 1 {
+        put_pairs(replies, world, SiteId::known(number))?;
+    }
+    put_total(replies, world)
+}

@@ -1,0 +1,184 @@
+//! A script from its first read to its last write.
+ghost use Rattle.std.specs.Prelude.{◌≡◌, ℕ, ◌+◌, ◌<◌, ◌≤◌, List, [], ◌∷◌, ◌++◌, Option, length, take, ◌↔◌, IsTrue, OnOk, OnErr, IfOk, IsErrOf};
+ghost use Rattle.std.specs.Io.KnownBytes.{Consumes, IsAtEnd};
+ghost use Rattle.transfer_world.specs.Talk.{Talk, EndsBy};
+ghost use Rattle.transfer_world.specs.Session.{IsNew, LineEnds, Going, Fed, Ran};
+
+use crate::script::answers::answer_line;
+use crate::script::fault::ScriptFault;
+use crate::script::output::Replies;
+use crate::world::World;
+use memchr::memchr;
+use rights_types::{MAX_LINE, OutOfMemory};
+use std::alloc::Allocator;
+use std::io::{Read, Write};
+
+/// At so many lines, and reads that end no line, a script stops.
+const MOST: u64 = 1_000_000_000;
+
+/// So many bytes are read at a time.
+const READ_SIZE: usize = 65536;
+
+/// A script at work.
+#[derive(Drop)]
+struct Session<A: Allocator> {
+    alloc: A,
+    world: Option<World<A>>,
+    replies: Replies<A>,
+    /// The first bytes of a line that has not ended; those past the longest line are dropped.
+    carry: Vec<u8, A>,
+    count: u64,
+}
+
+/// Goes on with a line that has not ended.
+fn keep<A: Allocator>(carry: &mut Vec<u8, A>, bytes: &[u8]) -> Result<(), OutOfMemory>
+    requires { length carry.old.items ≤ 16384 }
+    ensures { OnOk result (carry.new.items ≡ take 16384 (carry.old.items ++ bytes.now)) }
+{
+    let room = MAX_LINE - carry.len();
+    if bytes.len() > room {
+        carry.extend_from_slice(&bytes[..room])?;
+    } else {
+        carry.extend_from_slice(bytes)?;
+    }
+    Ok(())
+}
+
+impl<A: Allocator + Copy> Session<A> {
+    fn new(alloc: A) -> Result<Session<A>, OutOfMemory>
+        ensures { IfOk result (λ s. IsNew s.world s.replies s.carry.items s.count) }
+    {
+        Ok(Session {
+            alloc,
+            world: None,
+            replies: Replies::new(alloc),
+            carry: Vec::with_capacity(alloc, MAX_LINE)?,
+            count: 0,
+        })
+    }
+
+    /// Answers the line that ends after this text.
+    fn end_line(&mut self, text: &[u8]) -> Result<(), OutOfMemory>
+        requires ready { self.old.replies.part ≡ [] }
+        requires short { length self.old.carry.items ≤ 16384 }
+        ensures line { OnOk result ((front : List ℕ) → self.old.carry.items ≡ take 16384 front
+            → LineEnds A front text.now self.old.world self.old.replies self.new.world self.new.replies) }
+        ensures ended { OnOk result (self.new.carry.items ≡ []) }
+        ensures ready { OnOk result (self.new.replies.part ≡ []) }
+        ensures kept { OnErr result (self.new.replies.whole ≡ self.old.replies.whole) }
+        ensures count { self.new.count ≡ self.old.count }
+    {
+        if self.carry.is_empty() {
+            return answer_line(self.alloc, &mut self.world, &mut self.replies, text);
+        }
+        keep(&mut self.carry, text)?;
+        answer_line(
+            self.alloc,
+            &mut self.world,
+            &mut self.replies,
+            self.carry.as_slice(),
+        )?;
+        self.carry.clear();
+        Ok(())
+    }
+
+    /// Takes what was read, and answers each line that ends in it.
+    fn feed<W: Write>(&mut self, writer: &mut W, bytes: &[u8]) -> Result<(), ScriptFault>
+        requires ready { self.old.replies.part ≡ [] }
+        requires short { length self.old.carry.items ≤ 16384 }
+        requires few { self.old.count < 1000000000 }
+        ensures ready { OnOk result (self.new.replies.part ≡ []) }
+        ensures short { OnOk result (length self.new.carry.items ≤ 16384) }
+        ensures few { OnOk result (self.new.count < 1000000000) }
+        ensures counts { OnOk result (0 < length bytes.now → self.old.count < self.new.count) }
+        ensures slow { self.new.count ≤ self.old.count + length bytes.now }
+        ensures many { IsErrOf result ScriptFault.TooManyLines → 1000000000 ≤ self.new.count }
+        ensures fed { (input : List ℕ) (held : Option (List ℕ))
+            → Going A input held (W.contents writer.old) self.old.world self.old.replies self.old.carry.items
+            → Fed A (input ++ bytes.now) held (W.contents writer.new) result self.new.world self.new.replies self.new.carry.items }
+    {
+        let mut at = 0;
+        while let Some(length) = memchr(b'\n', &bytes[at..]) {
+            self.end_line(&bytes[at..at + length])?;
+            at += length + 1;
+            self.count += 1;
+            if self.count == MOST {
+                return Err(ScriptFault::TooManyLines);
+            }
+            self.replies.pass_on(writer)?;
+        }
+        keep(&mut self.carry, &bytes[at..])?;
+        if at == 0 && !bytes.is_empty() {
+            self.count += 1;
+            if self.count == MOST {
+                return Err(ScriptFault::TooManyLines);
+            }
+        }
+        Ok(())
+    }
+
+    /// Reads to the end of the input, and answers each line.
+    fn run<R: Read, W: Write>(
+        &mut self,
+        reader: &mut R,
+        writer: &mut W,
+        buffer: &mut [u8],
+    ) -> Result<(), ScriptFault>
+        requires room { 0 < length buffer.old }
+        requires fresh { IsNew self.old.world self.old.replies self.old.carry.items self.old.count }
+        ensures ran { (input : List ℕ) × Consumes (R.remaining reader.old) (R.remaining reader.new) input
+            × Ran A input (W.contents writer.old) (W.contents writer.new) result self.new.replies.whole }
+        ensures all { OnOk result (IsAtEnd (R.remaining reader.new)) }
+    {
+        'reads: loop {
+            let Ok(length) = reader.read(buffer) else {
+                return Err(ScriptFault::ReadFailed);
+            };
+            if length == 0 {
+                break;
+            }
+            self.feed(writer, &buffer[..length])?;
+        }
+        if self.carry.is_empty() {
+            return Ok(());
+        }
+        self.feed(writer, b"\n")
+    }
+}
+
+/// Room for what is read at a time.
+fn read_room<A: Allocator>(alloc: A) -> Result<Vec<u8, A>, OutOfMemory>
+    ensures { IfOk result (λ room. 0 < length room.items) }
+{
+    Ok(vec![in alloc; 0; READ_SIZE]?)
+}
+
+fn is_write_failure(ended: Result<(), ScriptFault>) -> bool
+    ensures { IsTrue result ↔ IsErrOf ended ScriptFault.WriteFailed }
+{
+    match ended {
+        Err(ScriptFault::WriteFailed) => true,
+        _ => false,
+    }
+}
+
+/// Reads commands to the end of the input, and writes the reply to each. What was answered before a
+/// fault is still written.
+pub fn run_script<A: Allocator + Copy, R: Read, W: Write>(
+    alloc: A,
+    reader: &mut R,
+    writer: &mut W,
+) -> Result<(), ScriptFault>
+    ensures ends { (talk : Talk A (R.remaining reader.old) (R.remaining reader.new) (W.contents writer.old) (W.contents writer.new))
+        × EndsBy result talk }
+    ensures all { OnOk result (IsAtEnd (R.remaining reader.new)) }
+{
+    let mut buffer = read_room(alloc)?;
+    let mut session = Session::new(alloc)?;
+    let result = session.run(reader, writer, &mut buffer);
+    if is_write_failure(result) {
+        return result;
+    }
+    session.replies.write_to(writer)?;
+    result
+}

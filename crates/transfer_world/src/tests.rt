@@ -1,0 +1,123 @@
+use crate::{ScriptFault, run_script};
+use std::io;
+use std::io::{ErrorKind, Read, Write};
+use std::test::Fail;
+
+/// A reader that gives a few bytes at a time.
+#[derive(Drop)]
+struct Slow<'a> {
+    rest: &'a [u8],
+    step: usize,
+}
+
+impl Read for Slow<'_> {
+    fn read(&mut self, buf: &mut [u8]) -> io::Result<usize> {
+        let n = buf.len().min(self.step);
+        let mut rest = self.rest;
+        let count = rest.read(&mut buf[..n])?;
+        self.rest = rest;
+        Ok(count)
+    }
+}
+
+/// A reader that fails where its bytes end.
+#[derive(Drop)]
+struct Broken<'a>(&'a [u8]);
+
+impl Read for Broken<'_> {
+    fn read(&mut self, buf: &mut [u8]) -> io::Result<usize> {
+        let mut rest = self.0;
+        let count = rest.read(buf)?;
+        self.0 = rest;
+        if count == 0 {
+            return Err(io::Error::from(ErrorKind::Other));
+        }
+        Ok(count)
+    }
+}
+
+/// A writer that takes so many bytes, one at a time, and then none.
+#[derive(Drop)]
+struct Full(u64);
+
+impl Write for Full {
+    fn write(&mut self, buf: &[u8]) -> io::Result<usize> {
+        if self.0 == 0 || buf.is_empty() {
+            return Ok(0);
+        }
+        self.0 -= 1;
+        Ok(1)
+    }
+
+    fn flush(&mut self) -> io::Result<()> {
+        Ok(())
+    }
+}
+
+const SCRIPT: &[u8] =
+    b"report\ntake 1 2\nnoise\nsites 1\nsites 17\nsites 02\nsites +2\nsites 2 2\nsites 2 \nsites\nsites 2\nsites 2\nsites 3\npost 3 I:5\npost 17 I:5\npost 0 I:5\npost 1 \npost  1 I:5\npost 1 I:0\npost\npublish 1 3\npublish 1 1\npublish 1\npublish 1 2 3\narrive 1 18446744073709551615\narrive 1 18446744073709551616\narrive 1 99999999999999999999\narrive 1 0\narrive 1 00\narrive 3 1\narrive 1\t1\narrive 1 1\r\n\ntake 2 1 \ntake 2 2\nTake 2 1\nreport 1\nreport";
+
+const REPLIES: &[u8] =
+    b"error NoWorld\nerror NoWorld\nerror BadCommand\nerror BadCommand\nerror BadCommand\nerror BadCommand\nerror BadCommand\nerror BadCommand\nerror BadCommand\nerror BadCommand\nok\nerror BadCommand\nerror BadCommand\nerror NoSuchSite\nerror BadCommand\nerror BadCommand\nerror BadCommand\nerror BadCommand\nerror BadCommand\nerror BadCommand\nerror NoSuchSite\nerror NoSuchSite\nerror BadCommand\nerror BadCommand\nerror NoPacket\nerror BadCommand\nerror BadCommand\nerror NoPacket\nerror BadCommand\nerror NoSuchSite\nerror BadCommand\nerror BadCommand\nerror BadCommand\nerror BadCommand\nerror NoSuchSite\nerror BadCommand\nerror BadCommand\nsite 1 number 0 issued 0 spent 0 held 0 closed 0\nsite 2 number 0 issued 0 spent 0 held 0 closed 0\npair 1 2 applied 0 put 0 way 0\npair 2 1 applied 0 put 0 way 0\ntotal issued 0 spent 0 held 0 way 0\n";
+
+#[test]
+fn replies(rt: HostRuntime) -> Result<(), Fail> {
+    for step in [1, 7, 100000] {
+        let mut reader = Slow { rest: SCRIPT, step };
+        let mut out = Vec::new(rt.alloc());
+        let result = run_script(rt.alloc(), &mut reader, &mut out);
+        assert_eq!(rt; result, Ok(()));
+        assert_eq!(rt; out.as_slice(), REPLIES);
+    }
+    Ok(())
+}
+
+/// Lines of 16,384 bytes with their line feed are the longest, wherever a read ends in them.
+#[test]
+fn long_lines(rt: HostRuntime) -> Result<(), Fail> {
+    let mut script = Vec::from_slice(rt.alloc(), b"sites 2\n")?;
+    for length in [16383usize, 16384, 40000, 70000, 16384] {
+        script.extend_from_slice(b"post 16")?;
+        for _ in 0..(length - 7) / 4 {
+            script.extend_from_slice(b" I:5")?;
+        }
+        for _ in 0..(length - 7) % 4 {
+            script.push(b'0')?;
+        }
+        script.extend_from_slice(b"\narrive 3 1\n")?;
+    }
+    let expected =
+        b"ok\nerror NoSuchSite\nerror NoSuchSite\nerror BadCommand\nerror NoSuchSite\nerror BadCommand\nerror NoSuchSite\nerror BadCommand\nerror NoSuchSite\nerror BadCommand\nerror NoSuchSite\n";
+    for step in [16383, 16384, 16385, 65536] {
+        let mut reader = Slow {
+            rest: script.as_slice(),
+            step,
+        };
+        let mut out = Vec::new(rt.alloc());
+        let result = run_script(rt.alloc(), &mut reader, &mut out);
+        assert_eq!(rt; result, Ok(()));
+        assert_eq!(rt; out.as_slice(), expected.as_slice());
+    }
+    Ok(())
+}
+
+#[test]
+fn read_failed(rt: HostRuntime) -> Result<(), Fail> {
+    let mut out = Vec::new(rt.alloc());
+    let result = run_script(
+        rt.alloc(),
+        &mut Broken(b"sites 2\narrive 1 1\narrive"),
+        &mut out,
+    );
+    assert_eq!(rt; result, Err(ScriptFault::ReadFailed));
+    assert_eq!(rt; out.as_slice(), b"ok\nerror NoPacket\n".as_slice());
+    Ok(())
+}
+
+#[test]
+fn write_failed(rt: HostRuntime) -> Result<(), Fail> {
+    let mut reader = b"sites 2\nreport".as_slice();
+    let result = run_script(rt.alloc(), &mut reader, &mut Full(4));
+    assert_eq!(rt; result, Err(ScriptFault::WriteFailed));
+    Ok(())
+}
