@@ -1,0 +1,37 @@
+-- What the program ends with where it is stopped.
+use Rattle.std.specs.Prelude.{ℕ, List, [], ◌∷◌, ◌++◌, codes}
+use Rattle.rights_site.specs.declared.fault.Fault.{Fault}
+use Rattle.rights_site.specs.declared.fault.Fault.TheVariants.{BadCommandLine, OutOfMemory, ReadFailed, TooManyLines, WriteFailed}
+use Rattle.rights_site.specs.declared.words.WordsFault.{WordsFault}
+use Rattle.rights_site.specs.declared.words.WordsFault.TheVariants as words
+use Rattle.transfer_world.specs.declared.ScriptFault.{ScriptFault}
+use Rattle.transfer_world.specs.declared.ScriptFault.TheVariants as script
+
+-- the exit status
+abbrev pub status_of : Fault → ℕ
+status_of BadCommandLine = 2
+status_of ReadFailed = 1
+status_of WriteFailed = 1
+status_of OutOfMemory = 1
+status_of TooManyLines = 1
+
+abbrev pub text_of : Fault → List ℕ
+text_of BadCommandLine = codes "rights-site: bad command line"
+text_of ReadFailed = codes "rights-site: read failed"
+text_of WriteFailed = codes "rights-site: write failed"
+text_of OutOfMemory = codes "rights-site: out of memory"
+text_of TooManyLines = codes "rights-site: too many lines"
+
+-- what is printed: the text and a line feed
+abbrev pub line_of : Fault → List ℕ
+line_of fault = text_of fault ++ 10 ∷ []
+
+abbrev pub fault_of_words : WordsFault → Fault
+fault_of_words words.Refused = BadCommandLine
+fault_of_words words.OutOfMemory = OutOfMemory
+
+abbrev pub fault_of_script : ScriptFault → Fault
+fault_of_script script.ReadFailed = ReadFailed
+fault_of_script script.WriteFailed = WriteFailed
+fault_of_script script.OutOfMemory = OutOfMemory
+fault_of_script script.TooManyLines = TooManyLines
