@@ -1,2 +1,3 @@
 mod CommandWords
 mod Writes
+mod ScriptLaws

@@ -4,3 +4,4 @@ pub mod CommandLine
 pub mod Endings
 pub mod Faults
 pub mod Fronts
+pub mod Scripts

@@ -5,6 +5,7 @@ ghost use Rattle.rights_site.specs.Asked.{asked_by, nothing, script};
 ghost use Rattle.rights_site.specs.Endings.{MayEnd, line_of_ending, status_of_ending};
 ghost use Rattle.rights_site.specs.Faults.{line_of, status_of};
 ghost use Rattle.rights_site.specs.Fronts.{AppendsFront};
+ghost use Rattle.rights_site.specs.Scripts.{Answered};
 ghost use Rattle.rights_site.specs.declared.fault.Fault.{Fault};
 
 use crate::fault::Fault;
@@ -31,6 +32,8 @@ fn run_command<R: Read, W: Write>(
     writer: &mut W,
 ) -> Result<(), Fault>
     ensures may { MayEnd (asked_by (texts words.now)) result }
+    ensures answered { asked_by (texts words.now) ≡ script
+        → Answered Global (R.remaining reader.old) (R.remaining reader.new) (W.contents writer.old) (W.contents writer.new) result }
     ensures unread { asked_by (texts words.now) ≢ script → reader.new ≡ reader.old }
     ensures unwritten { asked_by (texts words.now) ≡ nothing → writer.new ≡ writer.old }
 {
@@ -54,8 +57,11 @@ pub fn run_words<T: AllocGlobal, R: Read, W: Write, E: Write>(
     writer: &mut W,
     errors: &mut E,
 ) -> u8
-    // The status and the line on `errors` are those of one ending, which the words allow.
+    // The status and the line on `errors` are those of one ending, which the words allow. Where they
+    // ask for it, the script was answered, and ended so.
     ensures ends { (ending : Result (Unit {0}) Fault) × MayEnd (asked_by (texts words.now)) ending
+        × (asked_by (texts words.now) ≡ script
+        → Answered Global (R.remaining reader.old) (R.remaining reader.new) (W.contents writer.old) (W.contents writer.new) ending)
         × (result ≡ status_of_ending ending)
         × AppendsFront (E.contents errors.old) (E.contents errors.new) (line_of_ending ending) }
     ensures refused { result ≡ 2 → asked_by (texts words.now) ≡ nothing }
