@@ -32,3 +32,6 @@ pub use message::Message;
 pub use moves::Move;
 pub use query::Query;
 pub use site::SiteId;
+
+#[cfg(test)]
+mod tests;
