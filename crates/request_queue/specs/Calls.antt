@@ -1,0 +1,49 @@
+-- What each call of a queue answers and leaves.
+use Rattle.std.specs.Prelude.{◌≡◌, ℕ, ◌<◌, ◌≤◌, true, false, nat_lt, nat_le, ◌||◌, List, ◌∷◌, ◌++◌, Option, Some, None, Result, Ok, Err, if◌then◌else◌}
+use Rattle.std.specs.List.{All, slice_get, remove}
+use Rattle.request_queue.specs.Queues.{QueueValue, outcome_of, has_ticket, used, with_request, settled, without}
+use Rattle.request_queue.specs.declared.request.Request.{Request}
+use Rattle.request_queue.specs.declared.request.Outcome.{Outcome}
+use Rattle.request_queue.specs.declared.request.Outcome.TheVariants.{Spent, Expired}
+use Rattle.request_queue.specs.declared.request.Status.{Status}
+use Rattle.request_queue.specs.declared.request.Status.TheVariants.{Waiting, Spent as SaysSpent, Expired as SaysExpired, Unknown}
+use Rattle.request_queue.specs.declared.fault.QueueError.{QueueError}
+use Rattle.request_queue.specs.declared.fault.QueueError.TheVariants.{BadAmount, QueueFull}
+
+-- why no request of this amount is put
+abbrev pub put_fault : QueueValue → ℕ → Option QueueError
+put_fault q amount =
+    if nat_lt amount 1 || nat_lt 1000000000 amount then Some BadAmount
+    else (if nat_le 32 (used q) || nat_lt 1000000000000000000 q.next then Some QueueFull
+    else None)
+
+abbrev pub Puts : QueueValue → ℕ → ℕ → Result ℕ QueueError → QueueValue → Type 0
+Puts old amount deadline (Ok ticket) new =
+    (put_fault old amount ≡ None) × (ticket ≡ old.next) × (new ≡ with_request old amount deadline)
+Puts old amount deadline (Err fault) new = (put_fault old amount ≡ Some fault) × (new ≡ old)
+
+-- the request at this place, which has this ticket, came to this outcome
+abbrev pub Settles : QueueValue → ℕ → Outcome → ℕ → QueueValue → Type 0
+Settles old index outcome ticket new =
+    (r : Request) × (slice_get old.waiting index ≡ Some r) × (ticket ≡ r.ticket)
+    × (new ≡ settled old (remove old.waiting index) r outcome)
+
+-- the front request was served by the log entry of this number
+abbrev pub Serves : QueueValue → ℕ → QueueValue → Type 0
+Serves old number new =
+    (r : Request) × (others : List Request) × (old.waiting ≡ r ∷ others) × (new ≡ settled old others r (Spent number))
+
+-- the first request that is late came to an end
+abbrev pub Expires : QueueValue → ℕ → Option ℕ → QueueValue → Type 0
+Expires old now None new = All (λ (r : Request). now ≤ r.deadline) old.waiting × (new ≡ old)
+Expires old now (Some ticket) new =
+    (before : List Request) × (r : Request) × (after : List Request) × (old.waiting ≡ before ++ r ∷ after)
+    × All (λ (s : Request). now ≤ s.deadline) before × (r.deadline < now) × (ticket ≡ r.ticket)
+    × (new ≡ settled old (before ++ after) r Expired)
+
+-- an outcome is told once, and its slot is free then
+abbrev pub Reads : QueueValue → ℕ → Status → QueueValue → Type 0
+Reads old t Waiting new = (outcome_of old t ≡ None) × (has_ticket t old.waiting ≡ true) × (new ≡ old)
+Reads old t (SaysSpent number) new = (outcome_of old t ≡ Some (Spent number)) × (new ≡ without old t)
+Reads old t SaysExpired new = (outcome_of old t ≡ Some Expired) × (new ≡ without old t)
+Reads old t Unknown new = (outcome_of old t ≡ None) × (has_ticket t old.waiting ≡ false) × (new ≡ old)

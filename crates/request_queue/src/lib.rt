@@ -1,0 +1,13 @@
+//! The short requests of a site: spends that lack rights wait here, each with a ticket and a
+//! deadline, and are served from the front alone.
+#![tactic(auto)]
+
+mod fault;
+mod queue;
+mod request;
+#[cfg(test)]
+mod tests;
+
+pub use fault::QueueError;
+pub use queue::{LAST_TICKET, RequestQueue, SLOTS};
+pub use request::{Outcome, Request, Status};

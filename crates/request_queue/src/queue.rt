@@ -1,0 +1,178 @@
+//! The queue of short requests.
+ghost use Rattle.std.specs.Prelude.{◌≡◌, ℕ, ◌+◌, ◌<◌, ◌≤◌, ◌==◌, ◌↔◌, length, IfOk, IfSome, IsSome, position};
+ghost use Rattle.request_queue.specs.Queues.{no_requests, front_of, total_of, has_ticket, is_late, IsQueue};
+ghost use Rattle.request_queue.specs.declared.request.Request.{Request};
+ghost use Rattle.request_queue.specs.declared.request.Outcome.{Outcome};
+ghost use Rattle.request_queue.specs.Calls.{Puts, Serves, Expires, Reads, Settles};
+
+use crate::fault::QueueError;
+use crate::request::{Outcome, Request, Status};
+use rights_types::{Amount, OutOfMemory};
+use std::alloc::{Allocator, Global};
+use std::marker::Model;
+
+/// The slots of a queue. A waiting request takes one, and so does an outcome until it is read.
+pub const SLOTS: usize = 32;
+
+/// The greatest ticket; the first is 1.
+pub const LAST_TICKET: u64 = 1_000_000_000_000_000_000;
+
+/// The requests that wait, the oldest first, and the outcomes that were not read yet.
+/// Its memory is made once, by `new`.
+#[derive(Drop)]
+pub struct RequestQueue<A: Allocator = Global> {
+    waiting: Vec<Request, A>,
+    outcomes: Vec<(u64, Outcome), A>,
+    next: u64,
+}
+
+impl<A: Allocator> Model for RequestQueue<A> {
+    ghost use Rattle.std.specs.Prelude.{◌≤◌};
+    ghost use Rattle.std.specs.Vec.{vec_capacity};
+    ghost use Rattle.request_queue.specs.Queues.{QueueValue, IsQueue};
+
+    ghost Value = { QueueValue };
+
+    ghost view = { λ q. record { waiting = q.waiting.items; outcomes = q.outcomes.items; next = q.next } };
+
+    ghost invariant = { λ q. IsQueue (record { waiting = q.waiting.items; outcomes = q.outcomes.items; next = q.next })
+        × (32 ≤ vec_capacity q.waiting) × (32 ≤ vec_capacity q.outcomes) };
+}
+
+impl<A: Allocator + Copy> RequestQueue<A> {
+    /// A queue with no request, whose first ticket will be 1.
+    pub fn new(alloc: A) -> Result<RequestQueue<A>, OutOfMemory>
+        ensures { IfOk result (λ queue. queue ≡ no_requests) }
+    {
+        Ok(RequestQueue {
+            waiting: Vec::with_capacity(alloc, SLOTS)?,
+            outcomes: Vec::with_capacity(alloc, SLOTS)?,
+            next: 1,
+        })
+    }
+}
+
+impl<A: Allocator> RequestQueue<A> {
+    /// Lets a spend of this amount wait behind all others, and answers its ticket. A deadline that
+    /// has passed already is no refusal.
+    pub fn put(&mut self, amount: u64, deadline: u64) -> Result<u64, QueueError>
+        ensures { Puts self.old amount deadline result self.new }
+    {
+        let Ok(amount) = Amount::new(amount) else {
+            return Err(QueueError::BadAmount);
+        };
+        if self.waiting.len() + self.outcomes.len() >= SLOTS || self.next > LAST_TICKET {
+            return Err(QueueError::QueueFull);
+        }
+        let ticket = self.next;
+        self.waiting
+            .push(Request {
+                ticket,
+                amount,
+                deadline,
+            })
+            .unwrap();
+        self.next += 1;
+        Ok(ticket)
+    }
+
+    /// Ticket, amount and deadline of the request that is to be served next.
+    pub fn front(&self) -> Option<(u64, Amount, u64)>
+        ensures value { result ≡ front_of self.now.waiting }
+        ensures some { IsSome result ↔ (0 < length self.now.waiting) }
+        ensures valid { IsQueue self.now }
+    {
+        let request = self.waiting.first()?;
+        Some((request.ticket, request.amount, request.deadline))
+    }
+
+    /// The front request waits no more: the log entry of this number spent its amount.
+    pub fn serve_front(&mut self, number: u64)
+        requires { 0 < length self.old.waiting }
+        ensures { Serves self.old number self.new }
+    {
+        self.settle(0, Outcome::Spent(number));
+    }
+
+    /// The first request whose deadline is less than `now` waits no more. Answers its ticket, or
+    /// None where no deadline has passed.
+    pub fn expire_one(&mut self, now: u64) -> Option<u64>
+        ensures expires { Expires self.old now result self.new }
+        ensures fewer { IfSome result (λ _. length self.new.waiting + 1 ≡ length self.old.waiting) }
+    {
+        let index = first_late(&self.waiting, now)?;
+        Some(self.settle(index, Outcome::Expired))
+    }
+
+    /// The rights that all waiting requests are to spend.
+    pub fn total(&self) -> u64
+        ensures value { result ≡ total_of self.now.waiting }
+        ensures range { result ≤ 32000000000 }
+        ensures valid { IsQueue self.now }
+    {
+        total_amount(&self.waiting)
+    }
+
+    /// How many requests wait.
+    pub fn waiting(&self) -> usize
+        ensures value { result ≡ length self.now.waiting }
+        ensures valid { IsQueue self.now }
+    {
+        self.waiting.len()
+    }
+
+    /// What became of the request of this ticket. An outcome is read once: reading it frees its
+    /// slot, and the ticket is then unknown.
+    pub fn status(&mut self, ticket: u64) -> Status
+        ensures { Reads self.old ticket result self.new }
+    {
+        if let Some(index) = place_of(&self.outcomes, ticket) {
+            let (_, outcome) = self.outcomes.remove(index);
+            return match outcome {
+                Outcome::Spent(number) => Status::Spent(number),
+                Outcome::Expired => Status::Expired,
+            };
+        }
+        if has_ticket(&self.waiting, ticket) {
+            Status::Waiting
+        } else {
+            Status::Unknown
+        }
+    }
+
+    // The request at this place waits no more, and its outcome takes its slot. Answers its ticket.
+    fn settle(&mut self, index: usize, outcome: Outcome) -> u64
+        requires { index < length self.old.waiting }
+        ensures { Settles self.old index outcome result self.new }
+    {
+        let request = self.waiting.remove(index);
+        self.outcomes.push((request.ticket, outcome)).unwrap();
+        request.ticket
+    }
+}
+
+// The place of the first request whose deadline is less than `now`.
+fn first_late(requests: &[Request], now: u64) -> Option<usize>
+    ensures { result ≡ position (is_late now) requests.now }
+{
+    requests.iter().position(|request| request.deadline < now)
+}
+
+fn total_amount(requests: &[Request]) -> u64
+    requires { length requests.now ≤ 32 }
+    ensures { result ≡ total_of requests.now }
+{
+    requests.iter().map(|request| request.amount.value()).sum()
+}
+
+fn has_ticket(requests: &[Request], ticket: u64) -> bool
+    ensures { result ≡ has_ticket ticket requests.now }
+{
+    requests.iter().any(|request| request.ticket == ticket)
+}
+
+fn place_of(outcomes: &[(u64, Outcome)], ticket: u64) -> Option<usize>
+    ensures { result ≡ position (λ (e : ℕ × Outcome). e.0 == ticket) outcomes.now }
+{
+    outcomes.iter().position(|(key, _)| *key == ticket)
+}
