@@ -13,7 +13,7 @@ use Rattle.rights_types.specs.declared.fault.TypeError.{TypeError}
 use Rattle.rights_types.specs.Messages.MessageValue.{AnAnswer}
 use Rattle.entry_codec.specs.declared.fault.LineError.{LineError}
 use Rattle.entry_codec.specs.declared.fault.LineError.TheVariants.{TooLong, NoEnd, BadKind, BadField, BadMove, CountWrong, TrailingBytes, OutOfMemory}
-use Rattle.entry_codec.specs.Parts.{split_at, left, Tells, Gives}
+use Rattle.entry_codec.specs.Parts.{left, Tells, Gives}
 use Rattle.entry_codec.specs.Spelling.{entry_fields}
 use Rattle.entry_codec.specs.Reading.{◌>>=◌, place, fault_if, number_at, other_site_at, listed_entry_of, entries_of, answer_sites_of, answer_entries_of, answer_of}
 use Rattle.entry_codec.proofs.Cuts.{few_parts}

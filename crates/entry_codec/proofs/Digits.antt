@@ -1,79 +1,168 @@
 -- Digits read from the left and written from the right.
-use Rattle.std.proofs.Common.{◌≡◌, ℕ, suc, ◌+◌, ◌-◌, ◌*◌, ◌/◌, ◌%◌, ◌^◌, ◌<◌, ◌≤◌, Bool, true, false, List, [], ◌∷◌, ◌++◌, length, get_or, take, drop, set, Option, Some, None, MatchOption, refl, sym, ap, subst, ◌∙◌, arith, length-append, append_assoc, eq-zero-or-pos, inl, inr}
-use Rattle.std.specs.Prelude.{decimal, ◌==◌}
-use Rattle.std.proofs.lemmas.Bool.{eqb-true}
+use Rattle.std.proofs.Common.{◌≡◌, ℕ, zero, suc, ◌+◌, ◌-◌, ◌*◌, ◌/◌, ◌%◌, ◌^◌, ◌<◌, ◌≤◌, true, false, cond, eqb, leb, List, [], ◌∷◌, ◌++◌, length, get_or, take, drop, set, Some, None, refl, sym, ap, subst, ◌∙◌, arith, length-append, length-set, append_assoc, eq-zero-or-pos, inl, inr}
+use Rattle.std.specs.Prelude.{decimal, ◌==◌, ◌⊎◌}
 use Rattle.std.specs.Char.{digit_value}
-use Rattle.std.specs.Str.Parse.{AllDigits, digits_value, digits_value_after}
-use Rattle.std.proofs.lemmas.Fmt.{decimal_digit, decimal_step, decimal-digits_value, decimal_nonempty, first_decimal, length-decimal-le, decimal_is_IsNumeral}
-use Rattle.std.proofs.lemmas.List.{drop_more, drop_all, drop-set, drop-take, take-set, take-set-le, take-take, take-append-drop}
-use Rattle.std.proofs.lemmas.Nat.{pow-add}
-use Rattle.std.proofs.lemmas.Str.Parse.{IsNumeralModel, numerals_by_value, tells_digits, digits_value_short}
-use Rattle.std.proofs.Math.Nat.{pow-le-pow_right}
+use Rattle.std.specs.List.{All, onto_first}
+use Rattle.std.specs.Str.Parse.{AllDigits, digits_value}
+use Rattle.std.proofs.lemmas.Bool.{eqb-true, eqb-false, eq-eqb, ne_eqb, cases_Bool, cases_lt, not-true, not-false, le-leb, lt-leb}
+use Rattle.std.proofs.lemmas.Fmt.{decimal_digit, decimal_step, decimal-digits_value, decimal_nonempty, first_decimal, length-decimal-le, digits_decimal}
+use Rattle.std.proofs.lemmas.Int.Digits.{digits_value-lt, digits_more, digits_value_more}
+use Rattle.std.proofs.lemmas.List.{drop_more, drop-set, drop-take, take-set, take-set-le, take-take, take_all, take-append-drop, length-take-le, length-drop, get_or_default, get_or-take}
+use Rattle.std.proofs.lemmas.List.Splits.{slice_split_none, slice_split_at, slice_split-cons_yes, slice_split-cons_no}
+use Rattle.std.proofs.lemmas.Str.{digit_value_digit}
+use Rattle.std.proofs.lemmas.Str.Parse.{IsNumeralModel, numerals_by_value, tells_digits, digits_value_short, digit_at}
+use Rattle.std.proofs.Math.Nat.{pow-le-pow_right, pow-suc, pow-succ', div-div-eq-div-mul}
+use Rattle.entry_codec.specs.Parts.{split_at}
+use Rattle.entry_codec.specs.Moves.{number_of, first_number}
+use Rattle.entry_codec.specs.Texts.{is_canonical}
+use Rattle.entry_codec.specs.Digits.{IsReadUpTo}
+use Rattle.entry_codec.proofs.Numbers.{number_none}
 
 pub own_digits : IsNumeralModel (AllDigits 10) (digits_value 10)
 own_digits = numerals_by_value (AllDigits 10) tells_digits
 
--- so many bytes of the text are digits, and spell the number
-pub record IsReadUpTo (text : List ℕ) (count n : ℕ) : Type 0 where
-  pub value : digits_value_after 10 n (drop count text) ≡ digits_value 10 text
-  pub whole : AllDigits 10 (drop count text) → AllDigits 10 text
-  pub rest : AllDigits 10 text → AllDigits 10 (drop count text)
-  pub bound : n < 10 ^ count
-
-pub tenfold : (count n : ℕ) → count < 19 → n < 10 ^ count → n < 10 ^ 18
-tenfold count n h below = let most : 10 ^ count ≤ 10 ^ 18 = pow-le-pow_right {n = 10} (omega arith) {i = count} {j = 18} (omega (arith, h)) in omega (arith, below, most)
+pub tenfold : (text : List ℕ) (count n : ℕ) → count < length text → count < 19 → IsReadUpTo text count n → n < 10 ^ 18
+tenfold text count n lt few h =
+    let long = length-take-le count text (omega (arith, lt)) in
+    let below : n < 10 ^ length (take count text) = rw h.value (digits_value-lt 10 (take count text) h.digits) in
+    let most : 10 ^ length (take count text) ≤ 10 ^ 18 = pow-le-pow_right {n = 10} (omega arith) {i = length (take count text)} {j = 18} (omega (arith, long, few)) in
+    omega (arith, below, most)
 
 pub reads_more : (text : List ℕ) (count n d : ℕ) → count < length text → d < 10 → d ≡ digit_value (get_or text count 0) → IsReadUpTo text count n → IsReadUpTo text (count + 1) (n * 10 + d)
-reads_more text count n d lt small is h =
-    let step : drop count text ≡ get_or text count 0 ∷ drop (count + 1) text = drop_more text count 0 lt in
+reads_more text count n d lt small is h = record {
+  digits = digits_more 10 text count lt h.digits (rw is at small);
+  value = rw (digits_value_more 10 text count lt, h.value, is) refl;
+}
+
+-- digits lack what is no digit
+pub digits_lack : (c : ℕ) (ds : List ℕ) → (c < 48) ⊎ (57 < c) → AllDigits 10 ds → All (λ b. eqb b c ≡ false) ds
+digits_lack c ds out h k d lt =
+    let digit = digit_at ds k h lt in
+    rw (get_or_default ds k d 0 lt) (ne_eqb (get_or ds k 0) c (λ e. omega (arith, e, digit.0, digit.1, out)))
+
+-- digits up to the byte that parts are the first part
+pub parted : (text : List ℕ) (count at : ℕ) → count < length text → (at < 48) ⊎ (57 < at) → get_or text count 0 ≡ at → AllDigits 10 (take count text)
+    → split_at at text ≡ take count text ∷ split_at at (take (length text - (count + 1)) (drop (count + 1) text))
+parted text count at lt out is digits =
+    let rest = drop (count + 1) text in
+    let all : take (length text - (count + 1)) rest ≡ rest = take_all (length text - (count + 1)) rest (omega (arith, length-drop (count + 1) text)) in
+    let whole : text ≡ take count text ++ at ∷ rest = sym (take-append-drop count text) ∙ ap (λ (t : List ℕ). take count text ++ t) (drop_more text count 0 lt ∙ ap (λ (b : ℕ). b ∷ rest) is) in
+    rw all (ap (split_at at) whole ∙ slice_split_at (λ b. eqb b at) (take count text) at rest (digits_lack at (take count text) out digits) (eq-eqb at at refl))
+
+pub unparted : (text : List ℕ) (count at : ℕ) → length text ≤ count → (at < 48) ⊎ (57 < at) → AllDigits 10 (take count text) → (take count text ≡ text) × (split_at at text ≡ text ∷ [])
+unparted text count at past out digits =
+    let all : take count text ≡ text = take_all count text past in
+    (all, slice_split_none (λ b. eqb b at) text (digits_lack at text out (subst (AllDigits 10) all digits)))
+
+-- a text whose first bytes do not part it begins a longer first part
+record BeginsPart (at : ℕ) (text : List ℕ) (i : ℕ) : Type 0 where
+  part : List ℕ
+  others : List (List ℕ)
+  parts-are : split_at at text ≡ part ∷ others
+  long : i < length part
+  same : get_or part i 0 ≡ get_or text i 0
+
+pub some_part : (at : ℕ) (text : List ℕ) → (part : List ℕ) × (others : List (List ℕ)) × (split_at at text ≡ part ∷ others)
+some_part at [] = ([], [], refl)
+some_part at (x ∷ xs) = elim (cases_Bool (eqb x at)) [
+  | inl e ↦ ([], split_at at xs, slice_split-cons_yes (λ b. eqb b at) x xs e)
+  | inr e ↦ let rest = some_part at xs in (x ∷ rest.0, rest.1, slice_split-cons_no (λ b. eqb b at) x xs e ∙ ap (onto_first x) rest.2)
+]
+
+begins_part : (at : ℕ) (text : List ℕ) (i : ℕ) → i < length text → ((k : ℕ) → k < i + 1 → eqb (get_or text k 0) at ≡ false) → BeginsPart at text i
+begins_part at [] i lt none = absurd (omega (arith, lt))
+begins_part at (x ∷ xs) zero lt none =
+    let rest = some_part at xs in
     record {
-      value = rw is (rw step at h.value);
-      whole = λ rest. h.whole (rw step (rw is at small, rest));
-      rest = λ all. (rw step at (h.rest all)).1;
-      bound = omega (arith, h.bound, pow-add 10 count 1);
+      part = x ∷ rest.0;
+      others = rest.1;
+      parts-are = slice_split-cons_no (λ b. eqb b at) x xs (none 0 (omega arith)) ∙ ap (onto_first x) rest.2;
+      long = omega arith;
+      same = refl;
+    }
+begins_part at (x ∷ xs) (suc i) lt none =
+    let rest = begins_part at xs i (omega (arith, lt)) (λ k h. none (suc k) (omega (arith, h))) in
+    record {
+      part = x ∷ rest.part;
+      others = rest.others;
+      parts-are = slice_split-cons_no (λ b. eqb b at) x xs (none 0 (omega arith)) ∙ ap (onto_first x) rest.parts-are;
+      long = omega (arith, rest.long);
+      same = rest.same;
     }
 
-pub stops : (text : List ℕ) (count n : ℕ) → count < length text → 10 ≤ digit_value (get_or text count 0) → IsReadUpTo text count n → AllDigits 10 text → ⊥
-stops text count n lt large h all =
-    let step : drop count text ≡ get_or text count 0 ∷ drop (count + 1) text = drop_more text count 0 lt in
-    let here = (rw step at (h.rest all)).0 in
-    omega (arith, here, large)
+-- before the byte at count and at it nothing parts the text
+none_parts : (text : List ℕ) (count at : ℕ) → count < length text → (at < 48) ⊎ (57 < at) → AllDigits 10 (take count text) → (get_or text count 0 ≡ at → ⊥) → (k : ℕ) → k < count + 1 → eqb (get_or text k 0) at ≡ false
+none_parts text count at lt out digits other k h =
+    elim (cases_lt k count) [
+      | inl below ↦
+          let long = length-take-le count text (omega (arith, lt)) in
+          let same = get_or-take count text k 0 below in
+          rw (← same) (digits_lack at (take count text) out digits k 0 (omega (arith, long, below)))
+      | inr above ↦ let is : k ≡ count = omega (arith, above, h) in rw is (ne_eqb (get_or text count 0) at other)
+    ]
 
-pub all_read : (text : List ℕ) (count n : ℕ) → length text ≤ count → IsReadUpTo text count n → AllDigits 10 text × (n ≡ digits_value 10 text)
-all_read text count n past h =
-    let none : drop count text ≡ [] = drop_all count text past in
-    (h.whole (rw none tt), rw none at h.value)
+no_digit_first : (low high at count : ℕ) (text : List ℕ) → count < length text → (at < 48) ⊎ (57 < at) → high < 10 ^ 19 → AllDigits 10 (take count text) → (get_or text count 0 ≡ at → ⊥)
+    → 10 ≤ digit_value (get_or text count 0) → first_number low high (split_at at text) ≡ None
+unfolding first_number
+no_digit_first low high at count text lt out top digits other bad =
+    let p = begins_part at text count lt (none_parts text count at lt out digits other) in
+    let none : number_of low high p.part ≡ None = number_none low high p.part (λ n e above below.
+    let digit = digit_at (decimal n) count (digits_decimal own_digits n (omega (arith, below, top))) (omega (arith, p.long, ap length e)) in
+    let here : get_or (decimal n) count 0 ≡ get_or text count 0 = sym (ap (λ (t : List ℕ). get_or t count 0) e) ∙ p.same in
+    let value = digit_value_digit (get_or text count 0) (rw here at digit) in
+    omega (arith, value, bad, rw here at digit)) in
+    rw (p.parts-are, none) refl
 
--- the number of digits that begin with another than 0, or no number
-pub spelled_by : (text : List ℕ) (r : Option ℕ) → 0 < length text → length text ≤ 19 → (get_or text 0 0 ≡ 48 → ⊥)
-    → MatchOption r (AllDigits 10 text → ⊥) (λ n. AllDigits 10 text × (n ≡ digits_value 10 text))
-    → MatchOption r ((n : ℕ) → n < 10 ^ 19 → text ≡ decimal n → ⊥) (λ n. (n < 10 ^ 19) × (text ≡ decimal n))
-spelled_by text None some few first h = λ n lt e. h (subst (λ (t : List ℕ). AllDigits 10 t) (sym e) (decimal_is_IsNumeral n (omega (arith, lt))).0.1)
-spelled_by text (Some n) some few first h =
-    let small : digits_value 10 text < 10 ^ 19 = digits_value_short own_digits text 19 h.0 few in
-    let same : decimal (digits_value 10 text) ≡ text = decimal-digits_value own_digits text h.0 some (λ e. absurd (first e)) (omega (arith, small)) in
-    (omega (arith, small, h.1), sym same ∙ ap decimal (sym h.1))
+long_first : (low high at : ℕ) (text : List ℕ) → 19 < length text → (at < 48) ⊎ (57 < at) → high < 10 ^ 19 → AllDigits 10 (take 19 text) → (get_or text 19 0 ≡ at → ⊥) → first_number low high (split_at at text) ≡ None
+unfolding first_number
+long_first low high at text lt out top digits other =
+    let p = begins_part at text 19 lt (none_parts text 19 at lt out digits other) in
+    let none : number_of low high p.part ≡ None = number_none low high p.part (λ n e above below.
+    omega (arith, p.long, ap length e, length-decimal-le 19 n (omega arith) (omega (arith, below, top)) (omega (arith, below, top)))) in
+    rw (p.parts-are, none) refl
 
-pub not_empty : (text : List ℕ) (n : ℕ) (r : Bool) → r ≡ true → r ≡ (length text == 0) → n < 10 ^ 19 → text ≡ decimal n → ⊥
-not_empty text n r h test lt e = omega (arith, eqb-true (length text) 0 (sym test ∙ h), decimal_nonempty n (omega (arith, lt)), ap length e)
+-- what follows the digits, and parts nothing, makes the first part no number
+pub bad_first : (low high at count n : ℕ) (text : List ℕ) → count < length text → count ≤ 19 → (at < 48) ⊎ (57 < at) → high < 10 ^ 19 → IsReadUpTo text count n → (get_or text count 0 ≡ at → ⊥)
+    → (count < 19 → 10 ≤ digit_value (get_or text count 0)) → first_number low high (split_at at text) ≡ None
+bad_first low high at count n text lt few out top h other stop =
+    elim (cases_lt count 19) [
+      | inl short ↦ no_digit_first low high at count text lt out top h.digits other (stop short)
+      | inr past ↦
+          let is : count ≡ 19 = omega (arith, few, past) in
+          long_first low high at text (rw is at lt) out top (rw is at h.digits) (rw is at other)
+    ]
 
-pub some_bytes : (text : List ℕ) (r : Bool) → r ≡ false → r ≡ (length text == 0) → 0 < length text
-some_bytes [] r h test = absurd cc
-some_bytes (b ∷ text) r h test = omega arith
+-- by the first part
+pub first_some : (low high n : ℕ) (parts : List (List ℕ)) (front : List ℕ) (rest : List (List ℕ)) → parts ≡ front ∷ rest → Some n ≡ number_of low high front → first_number low high parts ≡ Some (n, rest)
+unfolding first_number
+first_some low high n parts front rest e h = rw (e, ← h) refl
 
-pub not_long : (text : List ℕ) (n : ℕ) → 19 < length text → n < 10 ^ 19 → text ≡ decimal n → ⊥
-not_long text n long lt e = omega (arith, long, length-decimal-le 19 n (omega arith) lt (omega (arith, lt)), ap length e)
+pub first_none : (low high : ℕ) (parts : List (List ℕ)) (front : List ℕ) (rest : List (List ℕ)) → parts ≡ front ∷ rest → None ≡ number_of low high front → first_number low high parts ≡ None
+unfolding first_number
+first_none low high parts front rest e h = rw (e, ← h) refl
 
-pub one_zero : (text : List ℕ) → get_or text 0 0 ≡ 48 → length text ≡ 1 → text ≡ decimal 0
-one_zero [] h one = absurd (omega (arith, one))
-one_zero (b ∷ []) h one = rw (h, decimal_digit 0 (omega arith)) refl
-one_zero (b ∷ d ∷ text) h one = absurd (omega (arith, one))
+-- ---- digits that spell a number
 
-pub leading_zero : (text : List ℕ) (n : ℕ) → get_or text 0 0 ≡ 48 → (length text ≡ 1 → ⊥) → n < 10 ^ 19 → text ≡ decimal n → ⊥
-leading_zero text n h several lt e =
+canonical_parts : (ds : List ℕ) → is_canonical ds ≡ true → (0 < length ds) × (get_or ds 0 0 ≡ 48 → length ds ≡ 1)
+canonical_parts [] h = absurd cc
+canonical_parts (x ∷ []) h = (omega arith, λ e. refl)
+canonical_parts (x ∷ y ∷ ys) h = (omega arith, λ e. absurd (eqb-false x 48 (not-true (x == 48) h) e))
+
+pub spelled : (ds : List ℕ) (n : ℕ) → AllDigits 10 ds → n ≡ digits_value 10 ds → length ds ≤ 19 → is_canonical ds ≡ true → (n < 10 ^ 19) × (ds ≡ decimal n)
+spelled ds n digits is few h =
+    let c = canonical_parts ds h in
+    let small : digits_value 10 ds < 10 ^ 19 = digits_value_short own_digits ds 19 digits few in
+    let same : decimal (digits_value 10 ds) ≡ ds = decimal-digits_value own_digits ds digits c.0 c.1 (omega (arith, small)) in
+    (omega (arith, small, is), sym same ∙ ap decimal (sym is))
+
+pub not_canonical : (ds : List ℕ) (n : ℕ) → is_canonical ds ≡ false → n < 10 ^ 19 → ds ≡ decimal n → ⊥
+not_canonical [] n h lt e = omega (arith, decimal_nonempty n (omega (arith, lt)), ap length e)
+not_canonical (x ∷ []) n h lt e = absurd cc
+not_canonical (x ∷ y ∷ ys) n h lt e =
+    let zero-first : x ≡ 48 = eqb-true x 48 (not-false (x == 48) h) in
     elim (eq-zero-or-pos n) [
-      | inl zero' ↦ several (ap length (e ∙ ap decimal zero' ∙ decimal_digit 0 (omega arith)))
-      | inr more ↦ omega (arith, h, ap (λ (t : List ℕ). get_or t 0 0) e, first_decimal n more (omega (arith, lt)))
+      | inl none ↦ omega (arith, ap length (e ∙ ap decimal none ∙ decimal_digit 0 (omega arith)))
+      | inr more ↦ omega (arith, zero-first, ap (λ (t : List ℕ). get_or t 0 0) e, first_decimal n more (omega (arith, lt)))
     ]
 
 -- ---- a decimal's length, and its last digits
@@ -83,6 +172,62 @@ length_one n h = ap length (decimal_digit n h)
 
 pub length_more : (n : ℕ) → 10 ≤ n → n < 2 ^ 64 → length (decimal n) ≡ length (decimal (n / 10)) + 1
 length_more n h fits = ap length (decimal_step n h fits) ∙ length-append (decimal (n / 10)) ((48 + n % 10) ∷ [])
+
+step : ℕ → ℕ → ℕ
+step least n = cond (leb least n) 1 0
+
+-- how many digits: one more for each power of ten that is reached
+count : ℕ → ℕ → ℕ
+count zero n = 1
+count (suc k) n = count k n + step (10 ^ suc k) n
+
+step_tenth : (k n : ℕ) → step (10 ^ suc (suc k)) n ≡ step (10 ^ suc k) (n / 10)
+unfolding step
+step_tenth k n =
+    let more = pow-suc 10 (suc k) in
+    elim (cases_lt (n / 10) (10 ^ suc k)) [
+      | inl below ↦ rw (lt-leb (10 ^ suc (suc k)) n (omega (arith, more, below)), lt-leb (10 ^ suc k) (n / 10) below) refl
+      | inr above ↦ rw (le-leb (10 ^ suc (suc k)) n (omega (arith, more, above)), le-leb (10 ^ suc k) (n / 10) above) refl
+    ]
+
+count_tenth : (k n : ℕ) → 10 ≤ n → count (suc k) n ≡ suc (count k (n / 10))
+unfolding count step
+count_tenth zero n h = rw (le-leb (10 ^ 1) n (omega (arith, h))) refl
+count_tenth (suc k) n h = rw (count_tenth k n h, step_tenth k n) (omega arith)
+
+count_one : (k n : ℕ) → n < 10 → count k n ≡ 1
+unfolding count step
+count_one zero n h = refl
+count_one (suc k) n h =
+    let most : 10 ^ 1 ≤ 10 ^ suc k = pow-le-pow_right {n = 10} (omega arith) {i = 1} {j = suc k} (omega arith) in
+    rw (count_one k n h, lt-leb (10 ^ suc k) n (omega (arith, h, most))) refl
+
+count_is : (k n : ℕ) → n < 10 ^ suc k → n < 2 ^ 64 → count k n ≡ length (decimal n)
+unfolding count
+count_is zero n h fits = sym (length_one n (omega (arith, h)))
+count_is (suc k) n h fits =
+    elim (cases_lt n 10) [
+      | inl one ↦ count_one (suc k) n one ∙ sym (length_one n one)
+      | inr more ↦
+          let tenth : n / 10 < 10 ^ suc k = omega (arith, h, pow-suc 10 (suc k)) in
+          let rest = count_is k (n / 10) tenth (omega (arith, fits)) in
+          count_tenth k n more ∙ omega (arith, rest, length_more n more fits)
+    ]
+
+pub short_length : (n : ℕ) → n < 10 ^ 10
+    → 1 + cond (leb 10 n) 1 0 + cond (leb 100 n) 1 0 + cond (leb 1000 n) 1 0 + cond (leb 10000 n) 1 0 + cond (leb 100000 n) 1 0 + cond (leb 1000000 n) 1 0 + cond (leb 10000000 n) 1 0 + cond (leb 100000000 n) 1 0 + cond (leb 1000000000 n) 1 0
+    ≡ length (decimal n)
+unfolding count step
+short_length n h = count_is 9 n h (omega (arith, h))
+
+pub length_tenths : (k n : ℕ) → 10 ^ k ≤ n → n < 2 ^ 64 → length (decimal n) ≡ k + length (decimal (n / 10 ^ k))
+length_tenths zero n h fits = let whole : n / 10 ^ 0 ≡ n = omega arith in rw whole (omega arith)
+length_tenths (suc k) n h fits =
+    let more = pow-suc 10 k in
+    let one : 1 ≤ 10 ^ k = pow-le-pow_right {n = 10} (omega arith) {i = 0} {j = k} (omega arith) in
+    let rest = length_tenths k (n / 10) (omega (arith, h, more)) (omega (arith, fits)) in
+    let same : n / 10 / 10 ^ k ≡ n / 10 ^ suc k = div-div-eq-div-mul n 10 (10 ^ k) ∙ ap (λ (m : ℕ). n / m) (sym (pow-succ' 10 k)) in
+    omega (arith, length_more n (omega (arith, h, more, one)) fits, rest, ap (λ (m : ℕ). length (decimal m)) same)
 
 pub length_least : (n : ℕ) → n < 2 ^ 64 → 1 ≤ length (decimal n)
 length_least n fits = decimal_nonempty n fits
@@ -132,3 +277,31 @@ all_put first buffer number rest at place end one room h =
     let left-is : end - at ≡ suc (end - place) = omega (arith, here, h.within) in
     take_parts at end (set buffer at d) (omega (arith, here, h.within))
     ∙ rw (take-set buffer at d, h.head, set-is, here, left-is, h.tail, decimal_digit rest one) refl
+
+pub length_pair : (n : ℕ) → 10 ≤ n → n < 2 ^ 64 → 2 ≤ length (decimal n)
+length_pair n h fits = omega (arith, length_more n h fits, length_least (n / 10) (omega (arith, fits)))
+
+-- two digits in a step
+pub puts_pair : (first buffer : List ℕ) (number rest at place end : ℕ) → 100 ≤ rest → rest < 2 ^ 64 → end ≤ length buffer
+    → ArePut first buffer number rest at place end
+    → ArePut first (set (set buffer (place - 2 + 1) (48 + rest % 100 % 10)) (place - 2) (48 + rest % 100 / 10)) number (rest / 100) at (place - 2) end
+puts_pair first buffer number rest at place end more fits room h =
+    let one = puts_more first buffer number rest at place end (omega (arith, more)) fits room h in
+    let long = length-set buffer (place - 1) (48 + rest % 10) in
+    let two = puts_more first (set buffer (place - 1) (48 + rest % 10)) number (rest / 10) at (place - 1) end (omega (arith, more)) (omega (arith, fits)) (omega (arith, room, long)) one in
+    let pair = length_pair rest (omega (arith, more)) fits in
+    let right : place - 2 + 1 ≡ place - 1 = omega (arith, h.begins, pair) in
+    let left : place - 2 ≡ place - 1 - 1 = omega arith in
+    let ones : rest % 100 % 10 ≡ rest % 10 = omega arith in
+    let tens : rest % 100 / 10 ≡ rest / 10 % 10 = omega arith in
+    let front : rest / 100 ≡ rest / 10 / 10 = omega arith in
+    rw (right, left, ones, tens, front) two
+
+pub all_put_pair : (first buffer : List ℕ) (number rest at place end : ℕ) → 10 ≤ rest → rest < 100 → end ≤ length buffer
+    → ArePut first buffer number rest at place end → take end (set (set buffer (at + 1) (48 + rest % 10)) at (48 + rest / 10)) ≡ take at first ++ decimal number
+all_put_pair first buffer number rest at place end more less room h =
+    let one = puts_more first buffer number rest at place end more (omega (arith, less)) room h in
+    let long = length-set buffer (place - 1) (48 + rest % 10) in
+    let two = length_more rest more (omega (arith, less)) in
+    let right : at + 1 ≡ place - 1 = omega (arith, h.begins, two, length_one (rest / 10) (omega (arith, less))) in
+    rw right (all_put first (set buffer (place - 1) (48 + rest % 10)) number (rest / 10) at (place - 1) end (omega (arith, less)) (omega (arith, room, long)) one)

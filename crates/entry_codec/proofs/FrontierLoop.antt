@@ -1,13 +1,17 @@
 -- Reading a frontier's numbers one after the other, as a loop does.
 use Rattle.std.proofs.Common.{◌≡◌, ℕ, ◌+◌, ◌≤◌, ◌<◌, Bool, true, false, ltb, List, [], ◌∷◌, ◌++◌, length, take, set, Option, Some, None, Ok, Err, refl, sym, ap, ◌∙◌, arith, append_assoc, inl, inr}
-use Rattle.std.specs.Prelude.{◌||◌}
+use Rattle.std.specs.Prelude.{◌||◌, is_some, decimal}
 use Rattle.std.proofs.lemmas.Bool.{lt-ltb, le-ltb}
 use Rattle.std.proofs.lemmas.List.{append-nil, take_more_set, length-set}
 use Rattle.rights_types.specs.Frontiers.{FrontierMade}
 use Rattle.rights_types.specs.declared.fault.TypeError.{TypeError}
 use Rattle.rights_types.specs.declared.fault.TypeError.TheVariants.{BadSite, BadAmount, BadNumber, BadCount, CloseNotLast, SameSite}
-use Rattle.entry_codec.specs.Moves.{◌>>=◌, number_of, all_numbers, frontier_of}
-use Rattle.entry_codec.proofs.MoveFields.{all_numbers_are}
+use Rattle.entry_codec.specs.Moves.{◌>>=◌, number_of, first_number, all_numbers, frontier_of}
+use Rattle.entry_codec.specs.Parts.{left}
+use Rattle.std.specs.Borrow.{Bor}
+use Rattle.entry_codec.proofs.Cuts.{some_parts}
+use Rattle.entry_codec.proofs.Numbers.{number_some}
+use Rattle.entry_codec.proofs.MoveFields.{first_is, all_numbers_are}
 
 abbrev pub with_front : List ℕ → Option (List ℕ) → Option (List ℕ)
 with_front front read = read >>= λ ns. Some (front ++ ns)
@@ -53,6 +57,37 @@ unfolding all_numbers frontier_of
 stops numbers count text more rest whole e is h =
     let none : all_numbers whole ≡ None = sym h.so_far ∙ rw (e, is) refl in
     grind (arith, none)
+
+-- the same, by what a call that reads the first value gives
+pub reads_first : (numbers : List ℕ) (count n : ℕ) (more rest whole : List (List ℕ)) → first_number 0 1000000000 rest ≡ Some (n, more) → count < 16
+    → IsReadUpTo numbers count rest whole → IsReadUpTo (set numbers count n) (count + 1) more whole
+reads_first numbers count n more rest whole h lt inv =
+    let first = first_is 0 1000000000 rest (n, more) h in
+    reads_more numbers count n (decimal n) more rest whole first.0 lt (number_some 0 1000000000 n (omega (arith, first.2)) (omega arith) first.2) inv
+
+abbrev with_rest : List (List ℕ) → ℕ → Option (ℕ × List (List ℕ))
+with_rest more n = Some (n, more)
+
+none_of : (more : List (List ℕ)) (o : Option ℕ) → (o >>= with_rest more) ≡ None → o ≡ None
+none_of more None h = refl
+none_of more (Some n) h = absurd cc
+
+no_number : (text : List ℕ) (more : List (List ℕ)) → first_number 0 1000000000 (text ∷ more) ≡ None → number_of 0 1000000000 text ≡ None
+unfolding first_number
+no_number text more h = none_of more (number_of 0 1000000000 text) h
+
+pub stops_first : (numbers : List ℕ) (count : ℕ) (rest whole : List (List ℕ)) → 1 ≤ length rest → first_number 0 1000000000 rest ≡ None → IsReadUpTo numbers count rest whole → None ≡ frontier_of whole
+stops_first numbers count [] whole some h inv = absurd (omega (arith, some))
+stops_first numbers count (text ∷ more) whole some h inv = stops numbers count text more (text ∷ more) whole refl (no_number text more h) inv
+
+-- the code's test for what is left
+pub some_values : (o : Option (Bor (List ℕ))) (r : Bool) → r ≡ is_some o → r ≡ true → 1 ≤ length (left 58 o)
+some_values None r h k = absurd cc
+some_values (Some text) r h k = some_parts 58 text.now
+
+pub no_values : (o : Option (Bor (List ℕ))) (r : Bool) → r ≡ is_some o → r ≡ false → left 58 o ≡ []
+no_values None r h k = refl
+no_values (Some text) r h k = absurd cc
 
 pub too_many : (numbers : List ℕ) (count : ℕ) (rest whole : List (List ℕ)) → 1 ≤ length rest
     → 16 ≤ count → IsReadUpTo numbers count rest whole → None ≡ frontier_of whole

@@ -1,9 +1,10 @@
-pub mod Digits
 pub mod Numbers
+pub mod Digits
 pub mod Cuts
 pub mod Behind
 pub mod Bytes
 pub mod MoveFields
+pub mod FirstMoves
 pub mod FrontierLoop
 pub mod MoveLoop
 pub mod Entries
@@ -12,3 +13,5 @@ pub mod AnswerMessages
 pub mod Room
 pub mod Lines
 pub mod Pieces
+pub mod Views
+pub mod Streams

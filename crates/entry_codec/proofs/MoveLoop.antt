@@ -1,9 +1,9 @@
 -- Reading moves one after the other, as a loop does.
-use Rattle.std.proofs.Common.{◌≡◌, ℕ, ◌+◌, Bool, true, false, not, List, [], ◌∷◌, ◌++◌, length, take, set, Option, Some, None, Result, Ok, Err, refl, sym, ap, ◌∙◌, append_assoc, arith, inl, inr}
+use Rattle.std.proofs.Common.{◌≡◌, ℕ, ◌+◌, Bool, true, false, not, List, [], ◌∷◌, ◌++◌, length, take, set, Option, Some, None, Result, Ok, Err, refl, sym, ap, ◌∙◌, append_assoc, arith, inl, inr, min}
 use Rattle.std.specs.Prelude.{◌==◌, is_some, is_none}
 use Rattle.std.specs.Borrow.{Bor}
 use Rattle.std.proofs.lemmas.Bool.{cases_lt}
-use Rattle.std.proofs.lemmas.List.{append-nil, take_all, take-append-le, take_more_set, set_past, length_push}
+use Rattle.std.proofs.lemmas.List.{append-nil, take_all, take-append-le, take_more_set, take-set-le, take-take, length-take-le, length_push}
 use Rattle.rights_types.specs.declared.moves.Move.{Move}
 use Rattle.entry_codec.specs.declared.fault.LineError.{LineError}
 use Rattle.entry_codec.specs.declared.fault.LineError.TheVariants.{BadMove}
@@ -11,21 +11,24 @@ use Rattle.entry_codec.specs.Kept.{AreKept, ReadsMoves}
 use Rattle.entry_codec.specs.Moves.{move_of}
 use Rattle.entry_codec.specs.Reading.{◌>>=◌, allowed, place, moves_of}
 
--- one more move is kept, if there is a place for it
-pub keeps_more : (moves kept : List Move) (m : Move) → length kept ≡ 16 → AreKept moves kept → AreKept (moves ++ m ∷ []) (set kept (length moves) m)
-keeps_more moves kept m sixteen h =
+-- one more move is kept, if there is a slot for it
+pub keeps_more : (moves kept : List Move) (m : Move) → length kept ≡ 17 → AreKept moves kept → AreKept (moves ++ m ∷ []) (set kept (min (length moves) 16) m)
+keeps_more moves kept m room h =
     elim (cases_lt (length moves) 16) [
       | inl few ↦
+          let slot : min (length moves) 16 ≡ length moves = omega (arith, few) in
           let all : take 16 (moves ++ m ∷ []) ≡ moves ++ m ∷ [] = take_all 16 (moves ++ m ∷ []) (omega (arith, few, length_push moves m)) in
-          let before : moves ≡ take (length moves) kept = sym (take_all 16 moves (omega (arith, few))) ∙ h in
-          let put : take (length moves + 1) (set kept (length moves) m) ≡ take (length moves) kept ++ m ∷ [] = take_more_set kept (length moves) m (omega (arith, few, sixteen)) in
-          all ∙ ap (λ (xs : List Move). xs ++ m ∷ []) before ∙ sym put ∙ ap (λ (k : ℕ). take k (set kept (length moves) m)) (sym (length_push moves m))
+          let before : moves ≡ take (length moves) kept = sym (take_all 16 moves (omega (arith, few))) ∙ h ∙ take-take (length moves) 16 kept (omega (arith, few)) in
+          let put : take (length moves + 1) (set kept (length moves) m) ≡ take (length moves) kept ++ m ∷ [] = take_more_set kept (length moves) m (omega (arith, few, room)) in
+          let long : length (moves ++ m ∷ []) ≡ length moves + 1 = length_push moves m in
+          rw (slot, long, take-take (length moves + 1) 16 (set kept (length moves) m) (omega (arith, few)), put) (all ∙ ap (λ (xs : List Move). xs ++ m ∷ []) before)
       | inr many ↦
+          let slot : min (length moves) 16 ≡ 16 = omega (arith, many) in
           let front : take 16 (moves ++ m ∷ []) ≡ take 16 moves = take-append-le 16 moves (m ∷ []) many in
-          let same : set kept (length moves) m ≡ kept = set_past kept (length moves) m (omega (arith, many, sixteen)) in
-          let whole : take (length moves) kept ≡ kept = take_all (length moves) kept (omega (arith, many, sixteen)) in
-          let again : take (length (moves ++ m ∷ [])) kept ≡ kept = take_all (length (moves ++ m ∷ [])) kept (omega (arith, many, sixteen, length_push moves m)) in
-          front ∙ h ∙ whole ∙ sym again ∙ ap (take (length (moves ++ m ∷ []))) (sym same)
+          let sixteen = length-take-le 16 kept (omega (arith, room)) in
+          let whole : take (length moves) (take 16 kept) ≡ take 16 kept = take_all (length moves) (take 16 kept) (omega (arith, many, sixteen)) in
+          let again : take (length (moves ++ m ∷ [])) (take 16 kept) ≡ take 16 kept = take_all (length (moves ++ m ∷ [])) (take 16 kept) (omega (arith, many, sixteen, length_push moves m)) in
+          rw (slot, take-set-le 16 kept 16 m (omega arith)) (front ∙ h ∙ whole ∙ sym again)
     ]
 
 -- what was read before, and what is still read
@@ -50,16 +53,16 @@ begins kept whole = record { moves = []; count-is = refl; are_kept = refl; so_fa
   same (Err e) = refl
 
 pub reads_more : (kept : List Move) (count origin part field : ℕ) (text : List ℕ) (more rest : List (List ℕ)) (m : Move) (whole : Result (List Move) LineError)
-    → length kept ≡ 16 → rest ≡ text ∷ more → allowed (BadMove (place part field)) origin (length more == 0) (move_of text) ≡ Ok m
-    → AreReadUpTo kept count (moves_of origin part field rest) whole → AreReadUpTo (set kept count m) (count + 1) (moves_of origin part (field + 1) more) whole
+    → length kept ≡ 17 → rest ≡ text ∷ more → allowed (BadMove (place part field)) origin (length more == 0) (move_of text) ≡ Ok m
+    → AreReadUpTo kept count (moves_of origin part field rest) whole → AreReadUpTo (set kept (min count 16) m) (count + 1) (moves_of origin part (field + 1) more) whole
 unfolding moves_of
-reads_more kept count origin part field text more rest m whole sixteen e is h =
+reads_more kept count origin part field text more rest m whole room e is h =
     let one : with_front h.moves (moves_of origin part field (text ∷ more)) ≡ with_front (h.moves ++ m ∷ []) (moves_of origin part (field + 1) more) =
     rw is (regroup h.moves m (moves_of origin part (field + 1) more)) in
     record {
       moves = h.moves ++ m ∷ [];
       count-is = length_push h.moves m ∙ ap (λ (k : ℕ). k + 1) h.count-is;
-      are_kept = rw (← h.count-is) (keeps_more h.moves kept m sixteen h.are_kept);
+      are_kept = rw (← h.count-is) (keeps_more h.moves kept m room h.are_kept);
       so_far = sym one ∙ rw e at h.so_far;
     }
 

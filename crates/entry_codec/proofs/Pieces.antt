@@ -1,5 +1,5 @@
 -- Pieces of a stream that came in parts, and of one part with no line feed or with one at its end.
-use Rattle.std.proofs.Common.{◌≡◌, ◌≢◌, ℕ, suc, ◌<◌, Bool, true, false, cond, eqb, List, [], ◌∷◌, ◌++◌, length, get_or, refl, ap, ◌∙◌, sym, ne_eqb, arith, append_assoc, append-nil}
+use Rattle.std.proofs.Common.{◌≡◌, ◌≢◌, ℕ, suc, ◌<◌, true, false, cond, eqb, List, [], ◌∷◌, ◌++◌, length, get_or, refl, ap, ◌∙◌, sym, ne_eqb, arith, append_assoc, append-nil}
 use Rattle.entry_codec.specs.Pieces.{pieces_after, rest_after}
 
 -- the pieces of two parts are those of the first and, after what it left, those of the second

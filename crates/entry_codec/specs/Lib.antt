@@ -1,7 +1,10 @@
 pub mod Spelling
 pub mod Texts
 pub mod Parts
+pub mod Digits
 pub mod Moves
 pub mod Reading
 pub mod Kept
 pub mod Pieces
+pub mod Cutter
+pub mod Cuts

@@ -12,7 +12,8 @@ abbrev pub ◌>>=◌ : {A B : Type 0} → Option A → (A → Option B) → Opti
 None >>= f = None
 
 abbrev pub number_as : ℕ → ℕ → List ℕ → ℕ → Option ℕ
-number_as low high text n = if bytes_eq text (decimal n) && not (nat_lt n low) && not (nat_lt high n) then Some n else None
+number_as low high text n =
+    if bytes_eq text (decimal n) && not (nat_lt n low) && not (nat_lt high n) then Some n else None
 
 -- the number in a range that a text spells
 unfoldable pub number_of : ℕ → ℕ → List ℕ → Option ℕ
@@ -59,7 +60,8 @@ take_back_of values = do
 
 -- the numbers of 2 to 16 sites
 unfoldable pub frontier_of : List (List ℕ) → Option (List ℕ)
-frontier_of values = if nat_lt (length values) 2 || nat_lt 16 (length values) then None else all_numbers values
+frontier_of values =
+    if nat_lt (length values) 2 || nat_lt 16 (length values) then None else all_numbers values
 
 abbrev pub move_by : List (List ℕ) → Option Move
 move_by [] = None
@@ -76,3 +78,10 @@ move_by (letter ∷ values) =
 -- the move that a field spells
 unfoldable pub move_of : List ℕ → Option Move
 move_of field = move_by (split_at 58 field)
+
+-- the move that the first field spells, and the fields after it
+unfoldable pub first_move : List (List ℕ) → Option (Move × List (List ℕ))
+first_move [] = None
+first_move (text ∷ rest) = do
+  m ← move_of text
+  Some (m, rest)

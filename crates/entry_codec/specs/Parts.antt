@@ -31,7 +31,8 @@ abbrev pub Reads : {X Y : Type 0} → (X → Y) → Result X LineError → Resul
 Reads view (Ok x) read = read ≡ Ok (view x)
 Reads view (Err e) read = read ≡ Err e
 
--- what a call answers, seen by view, is what reading gives; want of memory comes only where reading gives a value
+-- what a call answers, seen by view, is what reading gives; want of memory comes only where reading
+-- gives a value
 abbrev pub Gives : {X Y : Type 0} → (X → Y) → Result X LineError → Result Y LineError → Type 0
 Gives view (Ok x) read = read ≡ Ok (view x)
 Gives {X} {Y} view (Err OutOfMemory) read = (y : Y) × (read ≡ Ok y)

@@ -4,7 +4,8 @@ use Rattle.std.specs.Prelude.{ℕ, List, [], ◌∷◌, ◌++◌, ◌==◌, if�
 -- the pieces that end in these bytes, where front came since the last line feed before them
 abbrev pub pieces_after : List ℕ → List ℕ → List (List ℕ)
 pieces_after front [] = []
-pieces_after front (x ∷ xs) = if x == 10 then (front ++ x ∷ []) ∷ pieces_after [] xs else pieces_after (front ++ x ∷ []) xs
+pieces_after front (x ∷ xs) =
+    if x == 10 then (front ++ x ∷ []) ∷ pieces_after [] xs else pieces_after (front ++ x ∷ []) xs
 
 -- what came since the last line feed
 abbrev pub rest_after : List ℕ → List ℕ → List ℕ

@@ -1,4 +1,5 @@
--- Reading a line from left to right. The order of the steps is the order in which faults are looked for.
+-- Reading a line from left to right. The order of the steps is the order in which faults are looked
+-- for.
 use Rattle.std.specs.Prelude.{ℕ, ◌+◌, ◌-◌, Bool, ◌&&◌, ◌||◌, not, List, [], ◌∷◌, length, take, Option, Some, None, Result, Ok, Err, nat_lt, ◌==◌, if◌then◌else◌, slice_index, codes}
 use Rattle.std.specs.Str.{bytes_eq}
 use Rattle.rights_types.specs.declared.moves.Move.{Move}
@@ -13,7 +14,8 @@ use Rattle.entry_codec.specs.Parts.{parts_in}
 use Rattle.entry_codec.specs.Moves.{first_number, move_of}
 
 infixl 10 ◌>>=◌
-abbrev pub ◌>>=◌ : {A B : Type 0} → Result A LineError → (A → Result B LineError) → Result B LineError
+abbrev pub ◌>>=◌ : {A B : Type 0} → Result A LineError → (A → Result B LineError)
+    → Result B LineError
 (Ok x) >>= f = f x
 (Err e) >>= f = Err e
 
@@ -162,7 +164,8 @@ hello_of fields others = do
   Ok (AHello site.0)
 
 -- a message of a kind that has no entries
-unfoldable pub short_of : List ℕ → List (List ℕ) → List (List (List ℕ)) → Result MessageValue LineError
+unfoldable pub short_of : List ℕ → List (List ℕ) → List (List (List ℕ))
+    → Result MessageValue LineError
 short_of letter fields others =
     if bytes_eq letter (codes "Q") then query_of fields others
     else (if bytes_eq letter (codes "B") then beat_of fields others

@@ -1,4 +1,5 @@
--- The one spelling of each message: parts parted by `;`, each of fields parted by spaces, and a line feed.
+-- The one spelling of each message: parts parted by `;`, each of fields parted by spaces, and a
+-- line feed.
 use Rattle.std.specs.Prelude.{◌≡◌, ℕ, List, [], ◌∷◌, ◌++◌, map, decimal, codes}
 use Rattle.std.specs.List.{join_with_byte}
 use Rattle.rights_types.specs.declared.moves.Move.{Move}
@@ -21,10 +22,12 @@ abbrev pub move_text : Move → List ℕ
 move_text m = join_with_byte 58 (move_values m)
 
 abbrev pub entry_fields : EntryValue → List (List ℕ)
-entry_fields e = codes "E" ∷ decimal e.origin ∷ decimal e.prev ∷ decimal (own e) ∷ map move_text e.moves
+entry_fields e =
+    codes "E" ∷ decimal e.origin ∷ decimal e.prev ∷ decimal (own e) ∷ map move_text e.moves
 
 abbrev pub query_fields : QueryValue → List (List ℕ)
-query_fields q = codes "Q" ∷ decimal q.asker ∷ decimal q.origin ∷ decimal q.first ∷ decimal q.last ∷ []
+query_fields q =
+    codes "Q" ∷ decimal q.asker ∷ decimal q.origin ∷ decimal q.first ∷ decimal q.last ∷ []
 
 abbrev pub answer_fields : AnswerValue → List (List ℕ)
 answer_fields a = codes "A" ∷ decimal a.origin ∷ decimal a.asker ∷ []

@@ -1,5 +1,5 @@
 -- The parts of a line's text that are written one after the other.
-use Rattle.std.specs.Prelude.{ℕ, List, ◌∷◌, ◌++◌, flat_map, decimal}
+use Rattle.std.specs.Prelude.{ℕ, Bool, true, false, not, ◌==◌, List, [], ◌∷◌, ◌++◌, flat_map, decimal}
 use Rattle.rights_types.specs.Entries.{EntryValue, own}
 use Rattle.rights_types.specs.Messages.{AnswerValue}
 use Rattle.entry_codec.specs.Spelling.{move_text}
@@ -22,3 +22,9 @@ answer_head a = 65 ∷ 32 ∷ (decimal a.origin ++ 32 ∷ decimal a.asker)
 
 abbrev pub answer_text : AnswerValue → List ℕ
 answer_text a = answer_head a ++ behind 59 entry_text a.entries
+
+-- digits that some number has: at least one, and no leading zero but in `0`
+abbrev pub is_canonical : List ℕ → Bool
+is_canonical [] = false
+is_canonical (x ∷ []) = true
+is_canonical (x ∷ (y ∷ ys)) = not (x == 48)

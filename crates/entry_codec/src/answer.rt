@@ -1,5 +1,5 @@
 //! An answer and its parts.
-ghost use Rattle.std.specs.Prelude.{◌≡◌, ◌≢◌, ◌+◌, ◌<◌, ◌≤◌, [], ◌∷◌, ◌++◌, length, take, map, List, Err, IfOk, IfSome, OnOk};
+ghost use Rattle.std.specs.Prelude.{◌≡◌, ◌≢◌, ◌+◌, ◌<◌, ◌≤◌, [], ◌∷◌, ◌++◌, length, take, List, Err, IfOk, IfSome, OnOk};
 ghost use Rattle.std.specs.List.{All};
 ghost use Rattle.rights_types.specs.Ranges.{IsSite};
 ghost use Rattle.rights_types.specs.Entries.{EntryValue, IsEntry};
@@ -8,11 +8,11 @@ ghost use Rattle.entry_codec.specs.Parts.{left, Reads, Tells, Gives, parts_left}
 ghost use Rattle.entry_codec.specs.Kept.{CountsEntries};
 ghost use Rattle.entry_codec.specs.Reading.{entries_of, answer_sites_of, answer_entries_of, answer_of};
 
-use crate::entry::{entry_with, listed_entry_in};
+use crate::entry::{SLOTS, entry_with, listed_entry_in};
 use crate::fault::{LineError, Place};
-use crate::parts::{number_in, split_first};
+use crate::parts::{number_in, split_far};
 use crate::short::other_site_in;
-use rights_types::{Answer, Entry, MAX_ANSWER, MAX_MOVES, MAX_SITES, Move, OutOfMemory, SiteId};
+use rights_types::{Answer, Entry, MAX_ANSWER, MAX_SITES, Move, OutOfMemory, SiteId};
 use std::alloc::Allocator;
 
 #[tactic(auto, unfolding(crate::specs::Reading::answer_sites_of))]
@@ -35,11 +35,11 @@ fn entry_count(origin: u64, parts: Option<&[u8]>) -> Result<usize, LineError>
     requires short { IfSome parts (λ text. length text.now ≤ 16384) }
     ensures { CountsEntries result (entries_of 1 origin (parts_left parts.entry)) }
 {
-    let mut kept = [Move::Close; MAX_MOVES];
+    let mut kept = [Move::Close; SLOTS];
     let mut count: usize = 0;
     let mut rest = parts;
     while let Some(text) = rest {
-        let (first, more) = split_first(text, b';');
+        let (first, more) = split_far(text, b';');
         listed_entry_in(first, origin, 1 + count as u16, &mut kept)?;
         count += 1;
         rest = more;
@@ -56,7 +56,8 @@ fn add_entry<A: Allocator + Copy>(
     moves: &[Move],
 ) -> Result<(), OutOfMemory>
     requires { IsEntry (record { origin = origin; prev = prev; moves = moves.now }) }
-    ensures { OnOk result (let e : EntryValue = record { origin = origin; prev = prev; moves = moves.now } in
+    ensures { OnOk result (
+        let e : EntryValue = record { origin = origin; prev = prev; moves = moves.now } in
         length entries.old.items ≤ 16 → entries.new.items ≡ take 16 (entries.old.items ++ e ∷ [])) }
 {
     if entries.len() < MAX_ANSWER {
@@ -65,22 +66,11 @@ fn add_entry<A: Allocator + Copy>(
     Ok(())
 }
 
-// How many parts a text has, and no more than an answer may.
-fn room_for(parts: Option<&[u8]>) -> usize {
-    match parts {
-        None => 0,
-        Some(text) => text
-            .iter()
-            .filter(|byte| **byte == b';')
-            .count()
-            .min(MAX_ANSWER - 1)
-            + 1,
-    }
-}
-
-fn no_entries<A: Allocator + Copy>(alloc: A, room: usize) -> Result<Vec<Entry<A>, A>, OutOfMemory>
+// Room for the most entries that an answer has, where there are any.
+fn no_entries<A: Allocator + Copy>(alloc: A, are_any: bool) -> Result<Vec<Entry<A>, A>, OutOfMemory>
     ensures { IfOk result (λ entries. entries.items ≡ []) }
 {
+    let room = if are_any { MAX_ANSWER } else { 0 };
     Ok(Vec::with_capacity(alloc, room)?)
 }
 
@@ -94,12 +84,12 @@ fn built_entries<A: Allocator + Copy>(
     requires short { IfSome parts (λ text. length text.now ≤ 16384) }
     ensures { Tells (λ v. v.items) result (answer_entries_of origin (parts_left parts.entry)) }
 {
-    let mut kept = [Move::Close; MAX_MOVES];
-    let mut entries = no_entries(alloc, room_for(parts))?;
+    let mut kept = [Move::Close; SLOTS];
+    let mut entries = no_entries(alloc, parts.is_some())?;
     let mut count: usize = 0;
     let mut rest = parts;
     while let Some(text) = rest {
-        let (first, more) = split_first(text, b';');
+        let (first, more) = split_far(text, b';');
         let (prev, moves) = listed_entry_in(first, origin, 1 + count as u16, &mut kept)?;
         add_entry(alloc, &mut entries, origin, prev, &kept[..moves])?;
         count += 1;
@@ -115,7 +105,8 @@ fn built_entries<A: Allocator + Copy>(
 fn refusal(origin: u64, parts: Option<&[u8]>) -> LineError
     requires site { IsSite origin }
     requires short { IfSome parts (λ text. length text.now ≤ 16384) }
-    ensures { Gives (λ (es : List EntryValue). es) (Err result) (answer_entries_of origin (parts_left parts.entry)) }
+    ensures { Gives (λ (es : List EntryValue). es) (Err result)
+        (answer_entries_of origin (parts_left parts.entry)) }
 {
     match entry_count(origin, parts) {
         Ok(count) => {
@@ -152,7 +143,8 @@ pub(crate) fn answer_in<A: Allocator + Copy>(
     others: Option<&[u8]>,
 ) -> Result<Answer<A>, LineError>
     requires { IfSome others (λ text. length text.now ≤ 16384) }
-    ensures { Gives (λ a. AnAnswer a) result (answer_of (left 32 fields.entry) (parts_left others.entry)) }
+    ensures { Gives (λ a. AnAnswer a) result
+        (answer_of (left 32 fields.entry) (parts_left others.entry)) }
 {
     let (origin, asker) = sites_in(fields)?;
     let entries = entries_in(alloc, origin, others)?;

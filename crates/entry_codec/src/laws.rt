@@ -16,5 +16,6 @@ pub fn spelled_once()
 
 /// No spelling is a proper prefix of another, so a line is read whatever follows it.
 pub fn no_prefix()
-    ensures { (m n : MessageValue) (text rest : List ℕ) → Spells m text → Spells n (text ++ rest) → rest ≡ [] }
+    ensures { (m n : MessageValue) (text rest : List ℕ)
+        → Spells m text → Spells n (text ++ rest) → rest ≡ [] }
 {}

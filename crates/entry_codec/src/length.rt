@@ -1,5 +1,5 @@
 //! How many bytes a message's line has.
-ghost use Rattle.std.specs.Prelude.{◌≡◌, ◌+◌, ◌<◌, ◌≤◌, length, slice_index, decimal};
+ghost use Rattle.std.specs.Prelude.{◌≡◌, ◌+◌, ◌<◌, ◌≤◌, ◌^◌, nat_le, length, slice_index, decimal, if◌then◌else◌};
 ghost use Rattle.rights_types.specs.Values.{value_of};
 ghost use Rattle.entry_codec.specs.Spelling.{move_text, line};
 ghost use Rattle.entry_codec.specs.Texts.{frontier_text, entry_text, answer_text};
@@ -7,17 +7,39 @@ ghost use Rattle.entry_codec.specs.Texts.{frontier_text, entry_text, answer_text
 use rights_types::{Answer, Entry, Frontier, Message, Move, SiteId};
 use std::alloc::Allocator;
 
+const TEN_DIGITS: u64 = 10_000_000_000;
+
+fn at_least(number: u64, least: u64) -> usize
+    ensures { result ≡ (if nat_le least number then 1 else 0) }
+{
+    if number >= least { 1 } else { 0 }
+}
+
+// A sum of tests, which need no jump.
+fn short_count(number: u64) -> usize
+    requires { number < 10 ^ 10 }
+    ensures value { result ≡ length (decimal number) }
+    ensures small { result ≤ 10 }
+{
+    1 + at_least(number, 10)
+        + at_least(number, 100)
+        + at_least(number, 1_000)
+        + at_least(number, 10_000)
+        + at_least(number, 100_000)
+        + at_least(number, 1_000_000)
+        + at_least(number, 10_000_000)
+        + at_least(number, 100_000_000)
+        + at_least(number, 1_000_000_000)
+}
+
 pub(crate) fn digit_count(number: u64) -> usize
     ensures value { result ≡ length (decimal number) }
     ensures small { result ≤ 20 }
 {
-    let mut count = 1;
-    let mut rest = number;
-    while rest >= 10 {
-        rest /= 10;
-        count += 1;
+    if number >= TEN_DIGITS {
+        return 10 + short_count(number / TEN_DIGITS);
     }
-    count
+    short_count(number)
 }
 
 pub(crate) fn place_of(frontier: &Frontier, index: usize) -> u64

@@ -3,6 +3,7 @@
 #![tactic(auto)]
 
 mod answer;
+mod cutter;
 mod entry;
 mod fault;
 mod laws;
@@ -15,6 +16,7 @@ mod reading;
 mod short;
 mod writing;
 
+pub use cutter::{Cut, LineCutter};
 pub use fault::{LineError, Place};
 pub use laws::{no_prefix, reads_back, spelled_once};
 pub use moves::read_move;

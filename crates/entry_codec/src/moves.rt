@@ -1,9 +1,9 @@
 //! A move and its field.
-ghost use Rattle.std.specs.Prelude.{◌≡◌, ◌<◌, ◌≤◌};
-ghost use Rattle.entry_codec.specs.Parts.{left};
-ghost use Rattle.entry_codec.specs.Moves.{only_number, grant_of, give_of, take_back_of, frontier_of, move_of};
+ghost use Rattle.std.specs.Prelude.{◌≡◌, ◌∷◌, ◌<◌, ◌≤◌, IfSome};
+ghost use Rattle.entry_codec.specs.Parts.{split_at, left};
+ghost use Rattle.entry_codec.specs.Kept.{FindsMove};
+ghost use Rattle.entry_codec.specs.Moves.{only_number, grant_of, give_of, take_back_of, frontier_of, move_of, first_move};
 
-use crate::number::number;
 use crate::parts::{first_number, only_number, split_first};
 use rights_types::{
     Amount, AskNumber, Frontier, MAX_AMOUNT, MAX_ASK, MAX_NUMBER, MAX_SITES, MAX_TOTAL, Move,
@@ -89,12 +89,12 @@ fn frontier_in(values: Option<&[u8]>) -> Option<Frontier>
     let mut numbers = [0u64; 16];
     let mut count: usize = 0;
     let mut rest = values;
-    while let Some(text) = rest {
+    while rest.is_some() {
         if count >= 16 {
             return None;
         }
-        let (first, more) = split_first(text, b':');
-        numbers[count] = number(first, 0, MAX_NUMBER)?;
+        let (number, more) = first_number(rest, b':', 0, MAX_NUMBER)?;
+        numbers[count] = number;
         count += 1;
         rest = more;
     }
@@ -102,4 +102,77 @@ fn frontier_in(values: Option<&[u8]>) -> Option<Frontier>
         Ok(frontier) => Some(frontier),
         Err(_) => None,
     }
+}
+
+// The letter of a move that has values, and the text behind its colon.
+fn letter_of(text: &[u8]) -> Option<(u8, &[u8])>
+    ensures { IfSome result (λ x. text.now ≡ x.0 ∷ (58 ∷ x.1.now)) }
+{
+    match text {
+        [letter, b':', values @ ..] => Some((*letter, values)),
+        _ => None,
+    }
+}
+
+/// Puts the move of the first field into a slot, and answers what comes after the field. The moves
+/// that most entries have are read in one pass.
+pub(crate) fn first_move<'a>(fields: &'a [u8], slot: &mut Move) -> Option<Option<&'a [u8]>>
+    ensures { FindsMove slot.new result (first_move (split_at 32 fields.now)) }
+{
+    let Some((letter, values)) = letter_of(fields) else {
+        return other_move(fields, slot);
+    };
+    if letter == b'I' {
+        let (amount, rest) = first_number(Some(values), b' ', 1, MAX_AMOUNT)?;
+        *slot = Move::Issue(Amount::known(amount));
+        return Some(rest);
+    }
+    if letter == b'S' {
+        let (amount, rest) = first_number(Some(values), b' ', 1, MAX_AMOUNT)?;
+        *slot = Move::Spend(Amount::known(amount));
+        return Some(rest);
+    }
+    if letter == b'G' {
+        return first_grant(values, slot);
+    }
+    if letter == b'R' {
+        return first_give(values, slot);
+    }
+    other_move(fields, slot)
+}
+
+fn first_grant<'a>(values: &'a [u8], slot: &mut Move) -> Option<Option<&'a [u8]>>
+    ensures { FindsMove slot.new result (first_move (split_at 32 (71 ∷ (58 ∷ values.now)))) }
+{
+    let (peer, rest) = first_number(Some(values), b':', 1, MAX_SITES)?;
+    let (amount, rest) = first_number(rest, b':', 1, MAX_AMOUNT)?;
+    let (ask, rest) = first_number(rest, b' ', 1, MAX_ASK)?;
+    *slot = Move::Grant {
+        peer: SiteId::known(peer),
+        amount: Amount::known(amount),
+        ask: AskNumber::known(ask),
+    };
+    Some(rest)
+}
+
+fn first_give<'a>(values: &'a [u8], slot: &mut Move) -> Option<Option<&'a [u8]>>
+    ensures { FindsMove slot.new result (first_move (split_at 32 (82 ∷ (58 ∷ values.now)))) }
+{
+    let (peer, rest) = first_number(Some(values), b':', 1, MAX_SITES)?;
+    let (amount, rest) = first_number(rest, b' ', 1, MAX_AMOUNT)?;
+    *slot = Move::Give {
+        peer: SiteId::known(peer),
+        amount: Amount::known(amount),
+    };
+    Some(rest)
+}
+
+#[inline(never)]
+#[tactic(auto, unfolding(crate::specs::Moves::first_move))]
+fn other_move<'a>(fields: &'a [u8], slot: &mut Move) -> Option<Option<&'a [u8]>>
+    ensures { FindsMove slot.new result (first_move (split_at 32 fields.now)) }
+{
+    let (field, rest) = split_first(fields, b' ');
+    *slot = read_move(field)?;
+    Some(rest)
 }

@@ -1,16 +1,56 @@
 //! Walking over the parts of a text, which a byte parts.
-ghost use Rattle.std.specs.Prelude.{◌≡◌, ◌∷◌, ◌==◌, ◌<◌, ◌≤◌, ◌^◌, length, position, is_none, IfSome, IfOk};
+ghost use Rattle.std.specs.Prelude.{◌≡◌, ◌∷◌, ◌==◌, ◌<◌, ◌≤◌, ◌^◌, ◌⊎◌, false, length, take, slice_index, position, is_none, IfSome, IfOk};
+ghost use Rattle.std.specs.List.{list_any};
+ghost use Rattle.std.specs.Char.{digit_value};
 ghost use Rattle.entry_codec.specs.Parts.{split_at, left, Finds, Reads};
 ghost use Rattle.entry_codec.specs.Moves.{first_number, only_number};
 ghost use Rattle.entry_codec.specs.Reading.{number_at};
+ghost use Rattle.entry_codec.specs.Digits.{IsReadUpTo};
 
 use crate::fault::{LineError, Place};
-use crate::number::number;
+use crate::number::{MAX_DIGITS, checked, digit};
+
+// Bytes that are looked at in one step.
+const BLOCK: usize = 16;
 
 fn position_of(text: &[u8], at: u8) -> Option<usize>
     ensures { result ≡ position (λ b. b == at) text.now }
 {
     text.iter().position(|b| *b == at)
+}
+
+// Whether a block has the byte. It looks at each, so that no step waits for the one before.
+fn has(block: &[u8], at: u8) -> bool
+    ensures { result ≡ list_any (λ b. b == at) block.now }
+{
+    let mut found = false;
+    for byte in block {
+        found = found | (*byte == at);
+    }
+    found
+}
+
+// How many bytes of whole blocks come before the block that has the byte.
+fn blocks_without(text: &[u8], at: u8) -> usize
+    ensures within { result ≤ length text.now }
+    ensures without { list_any (λ b. b == at) (take result text.now) ≡ false }
+{
+    let mut start = 0;
+    while text.len() - start >= BLOCK {
+        if has(&text[start..start + BLOCK], at) {
+            return start;
+        }
+        start += BLOCK;
+    }
+    start
+}
+
+pub(crate) fn far_position(text: &[u8], at: u8) -> Option<usize>
+    ensures { result ≡ position (λ b. b == at) text.now }
+{
+    let start = blocks_without(text, at);
+    let place = position_of(&text[start..], at)?;
+    Some(start + place)
 }
 
 /// The text before the first such byte, and what comes after it.
@@ -26,28 +66,72 @@ pub(crate) fn split_first(text: &[u8], at: u8) -> (&[u8], Option<&[u8]>)
     }
 }
 
-/// The number that the first part spells, and what comes after it.
-#[tactic(auto, unfolding(crate::specs::Moves::first_number))]
+/// The same, for a part that is mostly long.
+pub(crate) fn split_far(text: &[u8], at: u8) -> (&[u8], Option<&[u8]>)
+    ensures parts { split_at at text.now ≡ result.0.now ∷ left at result.1 }
+    ensures last { is_none result.1 ≡ (length (left at result.1) == 0) }
+    ensures within { length result.0.now ≤ length text.now }
+    ensures shorter { IfSome result.1 (λ rest. length rest.now < length text.now) }
+{
+    match far_position(text, at) {
+        None => (text, None),
+        Some(i) => (&text[..i], Some(&text[i + 1..])),
+    }
+}
+
+// The value of the digits that a text begins with, and how many they are, at most as many as a
+// number has.
+fn leading_digits(text: &[u8]) -> (u64, usize)
+    ensures read { IsReadUpTo text.now result.1 result.0 }
+    ensures few { result.1 ≤ 19 }
+    ensures within { result.1 ≤ length text.now }
+    ensures stop { result.1 < length text.now → result.1 < 19
+        → 10 ≤ digit_value (slice_index text.now result.1) }
+{
+    let front = &text[..text.len().min(MAX_DIGITS)];
+    let mut value: u64 = 0;
+    for (count, byte) in front.iter().enumerate() {
+        match digit(*byte) {
+            Some(digit) => value = value * 10 + digit,
+            None => return (value, count),
+        }
+    }
+    (value, front.len())
+}
+
+/// The number that the first part spells, and what comes after it. The byte that parts is no digit.
+#[inline(always)]
 pub(crate) fn first_number(
     parts: Option<&[u8]>,
     at: u8,
     low: u64,
     high: u64,
 ) -> Option<(u64, Option<&[u8]>)>
-    requires { high < 10 ^ 19 }
-    ensures value { Finds (λ x. (x.0, left at x.1)) result (first_number low high (left at parts.entry)) }
+    requires apart { (at < 48) ⊎ (57 < at) }
+    requires high { high < 10 ^ 19 }
+    ensures value { Finds (λ x. (x.0, left at x.1)) result
+        (first_number low high (left at parts.entry)) }
     ensures range { IfSome result (λ x. (low ≤ x.0) × (x.0 ≤ high)) }
     ensures last { IfSome result (λ x. is_none x.1 ≡ (length (left at x.1) == 0)) }
     ensures shorter { IfSome result (λ x. length (left at x.1) < length (left at parts.entry)) }
 {
-    let (text, rest) = split_first(parts?, at);
-    Some((number(text, low, high)?, rest))
+    let text = parts?;
+    let (value, count) = leading_digits(text);
+    if count == text.len() {
+        return Some((checked(text, value, low, high)?, None));
+    }
+    if text[count] != at {
+        return None;
+    }
+    let value = checked(&text[..count], value, low, high)?;
+    Some((value, Some(&text[count + 1..])))
 }
 
 /// The number that the only part spells.
 #[tactic(auto, unfolding(crate::specs::Moves::only_number))]
 pub(crate) fn only_number(parts: Option<&[u8]>, at: u8, low: u64, high: u64) -> Option<u64>
-    requires { high < 10 ^ 19 }
+    requires apart { (at < 48) ⊎ (57 < at) }
+    requires high { high < 10 ^ 19 }
     ensures value { result ≡ only_number low high (left at parts.entry) }
     ensures range { IfSome result (λ n. (low ≤ n) × (n ≤ high)) }
 {
@@ -67,7 +151,8 @@ pub(crate) fn number_in(
     place: Place,
 ) -> Result<(u64, Option<&[u8]>), LineError>
     requires { high < 10 ^ 19 }
-    ensures value { Reads (λ x. (x.0, left 32 x.1)) result (number_at low high place (left 32 fields.entry)) }
+    ensures value { Reads (λ x. (x.0, left 32 x.1)) result
+        (number_at low high place (left 32 fields.entry)) }
     ensures range { IfOk result (λ x. (low ≤ x.0) × (x.0 ≤ high)) }
     ensures last { IfOk result (λ x. is_none x.1 ≡ (length (left 32 x.1) == 0)) }
     ensures shorter { IfOk result (λ x. length (left 32 x.1) < length (left 32 fields.entry)) }

@@ -1,4 +1,5 @@
-//! Putting bytes into a slice that has the room, from a place on; each call answers the place behind.
+//! Putting bytes into a slice that has the room, from a place on. Each call answers the place
+//! behind.
 ghost use Rattle.std.specs.Prelude.{◌≡◌, ◌+◌, ◌<◌, ◌≤◌, [], ◌∷◌, ◌++◌, length, take, decimal};
 
 use crate::length::digit_count;
@@ -20,11 +21,18 @@ pub(crate) fn put_number(buffer: &mut [u8], at: usize, number: u64) -> usize
     let end = at + digit_count(number);
     let mut place = end;
     let mut rest = number;
-    while rest >= 10 {
-        place -= 1;
-        buffer[place] = b'0' + (rest % 10) as u8;
-        rest /= 10;
+    while rest >= 100 {
+        let pair = rest % 100;
+        rest /= 100;
+        place -= 2;
+        buffer[place + 1] = b'0' + (pair % 10) as u8;
+        buffer[place] = b'0' + (pair / 10) as u8;
     }
-    buffer[at] = b'0' + rest as u8;
+    if rest < 10 {
+        buffer[at] = b'0' + rest as u8;
+        return end;
+    }
+    buffer[at + 1] = b'0' + (rest % 10) as u8;
+    buffer[at] = b'0' + (rest / 10) as u8;
     end
 }

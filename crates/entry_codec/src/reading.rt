@@ -1,5 +1,5 @@
 //! A message from its line.
-ghost use Rattle.std.specs.Prelude.{◌≡◌, ◌≤◌, length, map, IfOk, Ok};
+ghost use Rattle.std.specs.Prelude.{◌≡◌, ◌≤◌, length, IfOk, Ok};
 ghost use Rattle.rights_types.specs.Messages.{MessageValue};
 ghost use Rattle.rights_types.specs.Values.{value_of};
 ghost use Rattle.entry_codec.specs.Spelling.{Spells};
@@ -7,11 +7,11 @@ ghost use Rattle.entry_codec.specs.Parts.{parts_in, left, Gives, parts_left};
 ghost use Rattle.entry_codec.specs.Reading.{push_of, message_of, reading};
 
 use crate::answer::answer_in;
-use crate::entry::{entry_in, entry_with};
+use crate::entry::{SLOTS, entry_in, entry_with};
 use crate::fault::LineError;
-use crate::parts::split_first;
+use crate::parts::{split_far, split_first};
 use crate::short::short_in;
-use rights_types::{MAX_LINE, MAX_MOVES, Message, Move};
+use rights_types::{MAX_LINE, Message, Move};
 use std::alloc::Allocator;
 
 fn push_in<A: Allocator>(
@@ -22,7 +22,7 @@ fn push_in<A: Allocator>(
     requires { length (left 32 fields) ≤ 20000 }
     ensures { Gives value_of result (push_of (left 32 fields.entry) (parts_left others.entry)) }
 {
-    let mut kept = [Move::Close; MAX_MOVES];
+    let mut kept = [Move::Close; SLOTS];
     let (origin, prev, count) = entry_in(fields, 0, &mut kept)?;
     if others.is_some() {
         return Err(LineError::TrailingBytes);
@@ -35,7 +35,7 @@ fn message_in<A: Allocator + Copy>(alloc: A, text: &[u8]) -> Result<Message<A>, 
     requires { length text.now ≤ 16384 }
     ensures { Gives value_of result (message_of (parts_in text.now)) }
 {
-    let (first, others) = split_first(text, b';');
+    let (first, others) = split_far(text, b';');
     let (letter, fields) = split_first(first, b' ');
     if letter == b"E".as_slice() {
         push_in(alloc, fields, others)

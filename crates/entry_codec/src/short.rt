@@ -1,5 +1,5 @@
 //! Messages without entries.
-ghost use Rattle.std.specs.Prelude.{◌≡◌, ◌≢◌, ◌==◌, ◌<◌, ◌≤◌, length, is_none, map, IfOk};
+ghost use Rattle.std.specs.Prelude.{◌≡◌, ◌≢◌, ◌==◌, ◌<◌, ◌≤◌, length, is_none, IfOk};
 ghost use Rattle.rights_types.specs.Messages.MessageValue.{AQuery, ABeat, AnAsk, ADenial, AHello};
 ghost use Rattle.rights_types.specs.Values.{value_of};
 ghost use Rattle.entry_codec.specs.Parts.{left, Reads, parts_left};
@@ -20,7 +20,8 @@ pub(crate) fn other_site_in(
     other: u64,
     place: Place,
 ) -> Result<(u64, Option<&[u8]>), LineError>
-    ensures value { Reads (λ x. (x.0, left 32 x.1)) result (other_site_at other place (left 32 fields.entry)) }
+    ensures value { Reads (λ x. (x.0, left 32 x.1)) result
+        (other_site_at other place (left 32 fields.entry)) }
     ensures range { IfOk result (λ x. (1 ≤ x.0) × (x.0 ≤ 16)) }
     ensures differs { IfOk result (λ x. x.0 ≢ other) }
     ensures last { IfOk result (λ x. is_none x.1 ≡ (length (left 32 x.1) == 0)) }
@@ -41,7 +42,8 @@ fn trails(fields: Option<&[u8]>, others: Option<&[u8]>) -> bool
 
 #[tactic(auto, unfolding(crate::specs::Reading::query_of))]
 fn query_in(fields: Option<&[u8]>, others: Option<&[u8]>) -> Result<Query, LineError>
-    ensures { Reads (λ q. AQuery q) result (query_of (left 32 fields.entry) (parts_left others.entry)) }
+    ensures { Reads (λ q. AQuery q) result
+        (query_of (left 32 fields.entry) (parts_left others.entry)) }
 {
     let (asker, rest) = number_in(fields, 1, MAX_SITES, Place { part: 0, field: 1 })?;
     let (origin, rest) = other_site_in(rest, asker, Place { part: 0, field: 2 })?;
@@ -58,7 +60,8 @@ fn query_in(fields: Option<&[u8]>, others: Option<&[u8]>) -> Result<Query, LineE
 
 #[tactic(auto, unfolding(crate::specs::Reading::beat_of))]
 fn beat_in(fields: Option<&[u8]>, others: Option<&[u8]>) -> Result<Beat, LineError>
-    ensures { Reads (λ b. ABeat b) result (beat_of (left 32 fields.entry) (parts_left others.entry)) }
+    ensures { Reads (λ b. ABeat b) result
+        (beat_of (left 32 fields.entry) (parts_left others.entry)) }
 {
     let (origin, rest) = number_in(fields, 1, MAX_SITES, Place { part: 0, field: 1 })?;
     let (number, rest) = number_in(rest, 0, MAX_NUMBER, Place { part: 0, field: 2 })?;
@@ -73,7 +76,8 @@ fn beat_in(fields: Option<&[u8]>, others: Option<&[u8]>) -> Result<Beat, LineErr
 
 #[tactic(auto, unfolding(crate::specs::Reading::ask_of))]
 fn ask_in(fields: Option<&[u8]>, others: Option<&[u8]>) -> Result<Ask, LineError>
-    ensures { Reads (λ a. AnAsk a) result (ask_of (left 32 fields.entry) (parts_left others.entry)) }
+    ensures { Reads (λ a. AnAsk a) result
+        (ask_of (left 32 fields.entry) (parts_left others.entry)) }
 {
     let (asker, rest) = number_in(fields, 1, MAX_SITES, Place { part: 0, field: 1 })?;
     let (asked, rest) = other_site_in(rest, asker, Place { part: 0, field: 2 })?;
@@ -91,7 +95,8 @@ fn ask_in(fields: Option<&[u8]>, others: Option<&[u8]>) -> Result<Ask, LineError
 
 #[tactic(auto, unfolding(crate::specs::Reading::denial_of))]
 fn denial_in(fields: Option<&[u8]>, others: Option<&[u8]>) -> Result<Deny, LineError>
-    ensures { Reads (λ d. ADenial d) result (denial_of (left 32 fields.entry) (parts_left others.entry)) }
+    ensures { Reads (λ d. ADenial d) result
+        (denial_of (left 32 fields.entry) (parts_left others.entry)) }
 {
     let (denier, rest) = number_in(fields, 1, MAX_SITES, Place { part: 0, field: 1 })?;
     let (asker, rest) = other_site_in(rest, denier, Place { part: 0, field: 2 })?;
@@ -111,7 +116,8 @@ fn denial_in(fields: Option<&[u8]>, others: Option<&[u8]>) -> Result<Deny, LineE
 
 #[tactic(auto, unfolding(crate::specs::Reading::hello_of))]
 fn hello_in(fields: Option<&[u8]>, others: Option<&[u8]>) -> Result<SiteId, LineError>
-    ensures { Reads (λ s. AHello s) result (hello_of (left 32 fields.entry) (parts_left others.entry)) }
+    ensures { Reads (λ s. AHello s) result
+        (hello_of (left 32 fields.entry) (parts_left others.entry)) }
 {
     let (site, rest) = number_in(fields, 1, MAX_SITES, Place { part: 0, field: 1 })?;
     if trails(rest, others) {

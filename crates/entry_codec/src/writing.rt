@@ -111,7 +111,8 @@ fn put_answer<B: Allocator>(buffer: &mut [u8], start: usize, answer: &Answer<B>)
 fn put_query(buffer: &mut [u8], at: usize, query: &Query) -> usize
     requires { at + length (part_text (query_fields query.now)) ≤ length buffer.old }
     ensures end { result ≡ at + length (part_text (query_fields query.now)) }
-    ensures text { take result buffer.new ≡ take at buffer.old ++ part_text (query_fields query.now) }
+    ensures text { take result buffer.new ≡ take at buffer.old
+        ++ part_text (query_fields query.now) }
 {
     let at = put_byte(buffer, at, b'Q');
     let at = put_field(buffer, at, query.asker().number());
@@ -123,7 +124,8 @@ fn put_query(buffer: &mut [u8], at: usize, query: &Query) -> usize
 fn put_beat(buffer: &mut [u8], at: usize, beat: &Beat) -> usize
     requires { at + length (part_text (beat_fields beat.now)) ≤ length buffer.old }
     ensures end { result ≡ at + length (part_text (beat_fields beat.now)) }
-    ensures text { take result buffer.new ≡ take at buffer.old ++ part_text (beat_fields beat.now) }
+    ensures text { take result buffer.new ≡ take at buffer.old
+        ++ part_text (beat_fields beat.now) }
 {
     let at = put_byte(buffer, at, b'B');
     let at = put_field(buffer, at, beat.origin().number());
@@ -133,7 +135,8 @@ fn put_beat(buffer: &mut [u8], at: usize, beat: &Beat) -> usize
 fn put_ask(buffer: &mut [u8], at: usize, ask: &Ask) -> usize
     requires { at + length (part_text (ask_fields ask.now)) ≤ length buffer.old }
     ensures end { result ≡ at + length (part_text (ask_fields ask.now)) }
-    ensures text { take result buffer.new ≡ take at buffer.old ++ part_text (ask_fields ask.now) }
+    ensures text { take result buffer.new ≡ take at buffer.old
+        ++ part_text (ask_fields ask.now) }
 {
     let at = put_byte(buffer, at, b'W');
     let at = put_field(buffer, at, ask.asker().number());
@@ -145,7 +148,8 @@ fn put_ask(buffer: &mut [u8], at: usize, ask: &Ask) -> usize
 fn put_denial(buffer: &mut [u8], at: usize, denial: &Deny) -> usize
     requires { at + length (part_text (denial_fields denial.now)) ≤ length buffer.old }
     ensures end { result ≡ at + length (part_text (denial_fields denial.now)) }
-    ensures text { take result buffer.new ≡ take at buffer.old ++ part_text (denial_fields denial.now) }
+    ensures text { take result buffer.new ≡ take at buffer.old
+        ++ part_text (denial_fields denial.now) }
 {
     let at = put_byte(buffer, at, b'D');
     let at = put_field(buffer, at, denial.denier().number());

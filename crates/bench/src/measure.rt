@@ -1,0 +1,99 @@
+//! Rates of reading and of writing.
+
+use crate::lines::{Load, answers, entries, short_kinds};
+use entry_codec::{read_line, write_line};
+use rights_types::Message;
+use std::alloc::Global;
+use std::io;
+use std::io::ErrorKind;
+use std::rt::Clock;
+use std::time::Instant;
+
+// Each load is gone over so many times in a run, and the best of so many runs is told. The runs are
+// short, so that some of them are not disturbed where other programs run too.
+const ROUNDS: u64 = 1_000;
+
+const RUNS: u64 = 100;
+
+fn read_all(alloc: Global, lines: &[Vec<u8>]) -> io::Result<Vec<Message>> {
+    let mut messages = Vec::with_capacity(alloc, lines.len())?;
+    for line in lines {
+        match read_line(alloc, line) {
+            Ok(message) => messages.push(message)?,
+            Err(_) => return Err(io::Error::from(ErrorKind::InvalidData)),
+        }
+    }
+    Ok(messages)
+}
+
+fn write_all(alloc: Global, messages: &[Message]) -> io::Result<Vec<Vec<u8>>> {
+    let mut lines = Vec::with_capacity(alloc, messages.len())?;
+    for message in messages {
+        match write_line(alloc, message) {
+            Ok(line) => lines.push(line)?,
+            Err(_) => return Err(io::Error::from(ErrorKind::OutOfMemory)),
+        }
+    }
+    Ok(lines)
+}
+
+// The least time of the runs, in nanoseconds, and at least 1.
+fn read_time<R: Clock + AllocGlobal>(rt: &R, lines: &[Vec<u8>]) -> io::Result<u128> {
+    let mut best = u128::MAX;
+    for _ in 0..RUNS {
+        let start = Instant::now(rt)?;
+        for _ in 0..ROUNDS {
+            read_all(rt.alloc(), lines)?;
+        }
+        best = best.min(start.elapsed(rt)?.as_nanos());
+    }
+    Ok(best.max(1))
+}
+
+fn write_time<R: Clock + AllocGlobal>(rt: &R, messages: &[Message]) -> io::Result<u128> {
+    let mut best = u128::MAX;
+    for _ in 0..RUNS {
+        let start = Instant::now(rt)?;
+        for _ in 0..ROUNDS {
+            write_all(rt.alloc(), messages)?;
+        }
+        best = best.min(start.elapsed(rt)?.as_nanos());
+    }
+    Ok(best.max(1))
+}
+
+fn per_second(count: usize, nanos: u128) -> u128 {
+    (count as u128)
+        .saturating_mul(ROUNDS as u128 * 1_000_000_000)
+        .checked_div(nanos)
+        .unwrap_or(0)
+}
+
+fn print_rates<R: Print>(rt: &R, verb: &str, load: &Load, nanos: u128) -> io::Result<()> {
+    let mut bytes: usize = 0;
+    for line in &load.lines {
+        bytes = bytes.saturating_add(line.len());
+    }
+    let count = load.lines.len();
+    let line_rate = per_second(count, nanos);
+    let byte_rate = per_second(bytes, nanos);
+    let name = load.name;
+    println!(rt;
+        "codec {verb} {name}: {line_rate} lines/s, {byte_rate} bytes/s ({count} lines, {bytes} bytes)"
+    )
+}
+
+fn measure<R: Clock + Print + AllocGlobal>(rt: &R, load: &Load) -> io::Result<()> {
+    let nanos = read_time(rt, &load.lines)?;
+    print_rates(rt, "read", load, nanos)?;
+    let messages = read_all(rt.alloc(), &load.lines)?;
+    let nanos = write_time(rt, &messages)?;
+    print_rates(rt, "write", load, nanos)
+}
+
+/// Prints the rates of each load.
+pub fn measure_all<R: Clock + Print + AllocGlobal>(rt: &R) -> io::Result<()> {
+    measure(rt, &entries(rt.alloc())?)?;
+    measure(rt, &answers(rt.alloc())?)?;
+    measure(rt, &short_kinds(rt.alloc())?)
+}

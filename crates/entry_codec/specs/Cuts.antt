@@ -1,0 +1,15 @@
+-- What a cutter gives.
+use Rattle.std.specs.Prelude.{◌≡◌, ℕ, ◌<◌, ◌≤◌, List, [], ◌∷◌, ◌++◌, length}
+use Rattle.entry_codec.specs.declared.cutter.Cut.{Cut}
+use Rattle.entry_codec.specs.declared.cutter.Cut.TheVariants.{Line, Long}
+use Rattle.entry_codec.specs.Cutter.{CutterView, IsFed}
+
+-- what is given for a piece
+abbrev pub IsCut : {A : Type 0} → List ℕ → Cut A → Type 0
+IsCut piece (Line bytes) = (bytes.items ≡ piece) × (length piece ≤ 16384)
+IsCut piece Long = 16384 < length piece
+
+-- the cut is given for the next piece of the stream, and the cutter has what comes after it
+abbrev pub IsGiven : {A : Type 0} → Cut A → CutterView → List ℕ → List (List ℕ) → Type 0
+IsGiven cut cutter stream given =
+    (piece : List ℕ) × IsCut piece cut × IsFed cutter stream (given ++ piece ∷ [])

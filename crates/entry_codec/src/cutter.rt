@@ -1,0 +1,139 @@
+//! Cutting a stream into its pieces, each of which ends in its first line feed.
+ghost use Rattle.std.specs.Prelude.{◌≡◌, ℕ, ◌<◌, ◌≤◌, ◌↔◌, false, List, [], ◌++◌, length, take, IsTrue, IfOk, OnErr, IfSome, IfNone, if◌then◌else◌};
+ghost use Rattle.std.specs.Io.BufRead.{take_through};
+ghost use Rattle.entry_codec.specs.Pieces.{unfinished};
+ghost use Rattle.entry_codec.specs.Cutter.{Holds, view_of, IsFed};
+ghost use Rattle.entry_codec.specs.Cuts.{IsCut, IsGiven};
+
+use crate::parts::far_position;
+use rights_types::{MAX_LINE, OutOfMemory};
+use std::alloc::{Allocator, Global};
+use std::marker::Model;
+
+/// A piece of a stream.
+#[derive(Drop)]
+pub enum Cut<A: Allocator = Global> {
+    /// A whole line.
+    Line(Vec<u8, A>),
+    /// A line with too many bytes, which were dropped.
+    Long,
+}
+
+/// Takes the bytes of a stream, and gives its pieces.
+#[derive(Drop)]
+pub struct LineCutter<A: Allocator = Global> {
+    room: Vec<u8, A>,
+    is_long: bool,
+    is_finished: bool,
+}
+
+impl<A: Allocator> Model for LineCutter<A> {
+    ghost use Rattle.std.specs.Prelude.{◌≤◌, vec_len, vec_capacity};
+    ghost use Rattle.entry_codec.specs.Cutter.{CutterView};
+
+    ghost Value = { CutterView };
+
+    ghost view = { λ c. record {
+      kept = c.room.items;
+      is_long = c.is_long;
+      is_finished = c.is_finished;
+    } };
+
+    ghost invariant = { λ c. (vec_len c.room ≤ 16384) × (16384 ≤ vec_capacity c.room) };
+}
+
+// How many bytes there are up to the first line feed, that with them, or in all.
+fn count_through(bytes: &[u8]) -> usize
+    ensures count { result ≡ length (take_through 10 bytes.now) }
+    ensures within { result ≤ length bytes.now }
+{
+    match far_position(bytes, b'\n') {
+        Some(index) => index + 1,
+        None => bytes.len(),
+    }
+}
+
+impl<A: Allocator + Copy> LineCutter<A> {
+    /// A cutter that took nothing. Its room is made here, once.
+    pub fn new(alloc: A) -> Result<LineCutter<A>, OutOfMemory>
+        ensures empty { IfOk result (λ cutter. cutter ≡ view_of []) }
+        ensures fed { IfOk result (λ cutter. IsFed cutter [] []) }
+    {
+        Ok(LineCutter {
+            room: Vec::with_capacity(alloc, MAX_LINE)?,
+            is_long: false,
+            is_finished: false,
+        })
+    }
+
+    /// Takes bytes up to the first line feed, and none where a finished line waits. It answers how
+    /// many it took.
+    pub fn push(&mut self, bytes: &[u8]) -> usize
+        ensures count { result
+            ≡ (if self.old.is_finished then 0 else length (take_through 10 bytes.now)) }
+        ensures within { result ≤ length bytes.now }
+        ensures taken { (piece : List ℕ) → Holds self.old piece
+            → Holds self.new (piece ++ take result bytes.now) }
+        ensures fed { (stream : List ℕ) (given : List (List ℕ))
+            → IsFed self.old stream given
+            → IsFed self.new (stream ++ take result bytes.now) given }
+    {
+        if self.is_finished {
+            return 0;
+        }
+        let count = count_through(bytes);
+        if count == 0 {
+            return 0;
+        }
+        let taken = &bytes[..count];
+        if !self.is_long {
+            if count <= MAX_LINE - self.room.len() {
+                self.room.extend_from_slice(taken).unwrap();
+            } else {
+                self.room.clear();
+                self.is_long = true;
+            }
+        }
+        self.is_finished = taken[count - 1] == b'\n';
+        count
+    }
+
+    /// Whether bytes came behind the last line feed, even too many to be kept.
+    pub fn unfinished(&self) -> bool
+        ensures piece { (piece : List ℕ) → Holds self.now piece → self.now.is_finished ≡ false
+            → (IsTrue result ↔ (0 < length piece)) }
+        ensures whole { IsTrue self.now.is_finished → result ≡ false }
+        ensures stream { (stream : List ℕ) (given : List (List ℕ)) → IsFed self.now stream given
+            → (IsTrue result ↔ (0 < length (unfinished stream))) }
+    {
+        !self.is_finished && (self.is_long || !self.room.is_empty())
+    }
+
+    /// Gives the piece that waits, if one does. Where memory is refused it still waits.
+    pub fn next_line(&mut self) -> Result<Option<Cut<A>>, OutOfMemory>
+        ensures cut { IfOk result (λ cut. IfSome cut (λ cut.
+            IsTrue self.old.is_finished × (self.new ≡ view_of [])
+            × ((piece : List ℕ) → Holds self.old piece → IsCut piece cut))) }
+        ensures given { IfOk result (λ cut. IfSome cut (λ cut.
+            (stream : List ℕ) (given : List (List ℕ))
+            → IsFed self.old stream given → IsGiven cut self.new stream given)) }
+        ensures none { IfOk result (λ cut. IfNone cut (
+            (self.old.is_finished ≡ false) × (self.new ≡ self.old))) }
+        ensures waits { OnErr result (
+            IsTrue self.old.is_finished × (self.old.is_long ≡ false) × (self.new ≡ self.old)) }
+    {
+        if !self.is_finished {
+            return Ok(None);
+        }
+        if self.is_long {
+            self.room.clear();
+            self.is_long = false;
+            self.is_finished = false;
+            return Ok(Some(Cut::Long));
+        }
+        let line = Vec::from_slice(*self.room.allocator(), self.room.as_slice())?;
+        self.room.clear();
+        self.is_finished = false;
+        Ok(Some(Cut::Line(line)))
+    }
+}

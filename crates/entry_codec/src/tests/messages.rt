@@ -1,0 +1,239 @@
+//! Messages that are read from their lines, and written again.
+
+use crate::{LineError, read_line, read_move, write_entry, write_into, write_line};
+use rights_types::{Amount, AskNumber, Entry, Message, Move, SiteId, Total};
+use std::alloc::{AllocError, Allocator};
+use std::test::Fail;
+
+/// Whether the text is read, and written as it was.
+fn is_again<A: Allocator + Copy>(alloc: A, text: &[u8]) -> Result<bool, LineError> {
+    let message = read_line(alloc, text)?;
+    Ok(write_line(alloc, &message)?.as_slice() == text)
+}
+
+#[test]
+fn line_of_example_1(rt: HostRuntime) -> Result<(), Fail> {
+    let text = b"E 1 0 3 I:10 S:4 R:2:3\n".as_slice();
+    assert_eq!(rt; text.len(), 23);
+    assert!(rt; is_again(rt.alloc(), text)?);
+    Ok(())
+}
+
+#[test]
+fn lines_of_least_values(rt: HostRuntime) -> Result<(), Fail> {
+    let lines = [
+        "E 1 0 1 C\n",
+        "E 1 0 7 I:1 S:1 G:2:1:1 R:2:1 V:2:1 V:3:1 K:0:0\n",
+        "Q 1 2 0 0\n",
+        "A 1 2\n",
+        "A 1 2;E 1 0 1 C\n",
+        "B 1 0\n",
+        "W 1 2 1 1\n",
+        "D 1 2 1\n",
+        "H 1\n",
+    ];
+    for line in &lines {
+        assert!(rt; is_again(rt.alloc(), line.as_bytes())?, "{line}");
+    }
+    Ok(())
+}
+
+#[test]
+fn lines_of_greatest_values(rt: HostRuntime) -> Result<(), Fail> {
+    let lines = [
+        "E 16 999999999 1000000000 I:1000000000\n",
+        "E 16 999999994 1000000000 I:1000000000 S:1000000000 G:15:1000000000:1000000000 R:15:1000000000 V:15:1000000000000000000 K:1000000000:1000000000:1000000000:1000000000:1000000000:1000000000:1000000000:1000000000:1000000000:1000000000:1000000000:1000000000:1000000000:1000000000:1000000000:0\n",
+        "Q 16 15 1000000000 1000000000\n",
+        "B 16 1000000000\n",
+        "W 16 15 1000000000 1000000000\n",
+        "D 16 15 1000000000\n",
+        "H 16\n",
+    ];
+    for line in &lines {
+        assert!(rt; is_again(rt.alloc(), line.as_bytes())?, "{line}");
+    }
+    Ok(())
+}
+
+/// The longest line: an answer of 16 entries, each with 15 of the longest grants and the longest
+/// close.
+fn longest<A: Allocator + Copy>(alloc: A) -> Result<Vec<u8, A>, AllocError> {
+    let mut line = Vec::new(alloc);
+    line.extend_from_slice(b"A 16 15")?;
+    for _ in 0..16usize {
+        line.extend_from_slice(b";E 16 999999984 1000000000")?;
+        for _ in 0..15usize {
+            line.extend_from_slice(b" G:15:1000000000:1000000000")?;
+        }
+        line.extend_from_slice(b" K")?;
+        for _ in 0..15usize {
+            line.extend_from_slice(b":1000000000")?;
+        }
+        line.extend_from_slice(b":0")?;
+    }
+    line.push(b'\n')?;
+    Ok(line)
+}
+
+/// codec.2
+#[test]
+fn longest_line(rt: HostRuntime) -> Result<(), Fail> {
+    let line = longest(rt.alloc())?;
+    assert_eq!(rt; line.len(), 9608);
+    assert!(rt; is_again(rt.alloc(), &line)?);
+    Ok(())
+}
+
+/// No front of a long line is a line.
+#[test]
+fn fronts_of_the_longest_line(rt: HostRuntime) -> Result<(), Fail> {
+    let line = longest(rt.alloc())?;
+    for count in 0..line.len() {
+        assert!(rt;
+            read_line(rt.alloc(), &line[..count]).is_err(),
+            "the first {count} bytes"
+        );
+    }
+    Ok(())
+}
+
+/// The numbers of a message without entries, in the order of its line.
+fn numbers<A: Allocator>(message: &Message<A>) -> Option<[u64; 4]> {
+    match message {
+        Message::Query(query) => Some([
+            query.asker().number(),
+            query.origin().number(),
+            query.first(),
+            query.last(),
+        ]),
+        Message::Beat(beat) => Some([beat.origin().number(), beat.number(), 0, 0]),
+        Message::Ask(ask) => Some([
+            ask.asker().number(),
+            ask.asked().number(),
+            ask.ask().value(),
+            ask.amount().value(),
+        ]),
+        Message::Deny(denial) => Some([
+            denial.denier().number(),
+            denial.asker().number(),
+            denial.ask().value(),
+            0,
+        ]),
+        Message::Hello(site) => Some([site.number(), 0, 0, 0]),
+        _ => None,
+    }
+}
+
+#[test]
+fn values_of_short_kinds(rt: HostRuntime) -> Result<(), Fail> {
+    let cases = [
+        ("Q 2 1 3 4\n", [2, 1, 3, 4]),
+        ("B 2 3\n", [2, 3, 0, 0]),
+        ("W 2 1 3 4\n", [2, 1, 3, 4]),
+        ("D 2 1 3\n", [2, 1, 3, 0]),
+        ("H 2\n", [2, 0, 0, 0]),
+    ];
+    for (line, expected) in &cases {
+        let message = read_line(rt.alloc(), line.as_bytes())?;
+        assert!(rt; numbers(&message) == Some(*expected), "{line}");
+    }
+    Ok(())
+}
+
+/// Whether these are the values of `E 2 3 5 I:7 S:8`.
+fn has_values<A: Allocator>(entry: &Entry<A>) -> bool {
+    let moves = [Move::Issue(Amount::known(7)), Move::Spend(Amount::known(8))];
+    entry.origin().number() == 2
+        && entry.prev() == 3
+        && entry.own() == 5
+        && entry.moves() == moves.as_slice()
+}
+
+#[test]
+fn values_of_entries(rt: HostRuntime) -> Result<(), Fail> {
+    let line = b"E 2 3 5 I:7 S:8\n".as_slice();
+    let Message::Push(entry) = read_line(rt.alloc(), line)? else {
+        panic!(rt; "no entry");
+    };
+    assert!(rt; has_values(&entry));
+    let written = write_entry(rt.alloc(), &entry)?;
+    assert_eq!(rt; written.as_slice(), line);
+    Ok(())
+}
+
+#[test]
+fn values_of_answers(rt: HostRuntime) -> Result<(), Fail> {
+    let Message::Answer(answer) = read_line(rt.alloc(), b"A 2 1;E 2 3 5 I:7 S:8\n")? else {
+        panic!(rt; "no answer");
+    };
+    assert_eq!(rt; answer.origin().number(), 2);
+    assert_eq!(rt; answer.asker().number(), 1);
+    assert_eq!(rt; answer.entries().len(), 1);
+    for entry in answer.entries() {
+        assert!(rt; has_values(entry));
+    }
+    Ok(())
+}
+
+#[test]
+fn moves_in_an_entry(rt: HostRuntime) -> Result<(), Fail> {
+    assert!(rt; is_again(rt.alloc(), b"E 1 0 2 V:2:5 I:1\n")?);
+    assert!(rt; read_line(rt.alloc(), b"E 1 0 2 C C\n").is_err());
+    assert!(rt; read_line(rt.alloc(), b"E 1 0 2 C K:0:0\n").is_err());
+    assert!(rt; read_line(rt.alloc(), b"E 1 0 2 K:0:0 C\n").is_err());
+    Ok(())
+}
+
+#[test]
+fn moves_alone(rt: HostRuntime) {
+    let peer = SiteId::known(2);
+    let amount = Amount::known(4);
+    let ask = AskNumber::known(5);
+    assert_eq!(rt; read_move(b"I:4"), Some(Move::Issue(amount)));
+    assert_eq!(rt; read_move(b"S:4"), Some(Move::Spend(amount)));
+    assert_eq!(rt;
+        read_move(b"G:2:4:5"),
+        Some(Move::Grant { peer, amount, ask })
+    );
+    assert_eq!(rt; read_move(b"R:2:4"), Some(Move::Give { peer, amount }));
+    assert_eq!(rt; read_move(b"C"), Some(Move::Close));
+    assert_eq!(rt;
+        read_move(b"V:2:4"),
+        Some(Move::TakeBack {
+            peer,
+            amount: Total::known(4)
+        })
+    );
+}
+
+#[test]
+fn fields_that_are_moves_or_not(rt: HostRuntime) {
+    let cases = [
+        ("K:1:0", true),
+        ("V:2:1000000000000000000", true),
+        ("V:2:1000000000000000001", false),
+        ("R:2:1000000001", false),
+        ("G:17:4:5", false),
+        ("G:2:4", false),
+        ("R:2:4:5", false),
+        ("K:0", false),
+        ("K:0:0:0:0:0:0:0:0:0:0:0:0:0:0:0:0", true),
+        ("K:0:0:0:0:0:0:0:0:0:0:0:0:0:0:0:0:0", false),
+        ("C:", false),
+        ("I", false),
+        ("i:4", false),
+        ("", false),
+    ];
+    for (field, is_move) in &cases {
+        assert_eq!(rt; read_move(field.as_bytes()).is_some(), *is_move, "{field}");
+    }
+}
+
+#[test]
+fn lines_behind_each_other(rt: HostRuntime) -> Result<(), Fail> {
+    let mut buffer = Vec::new(rt.alloc());
+    write_into(&mut buffer, &read_line(rt.alloc(), b"H 1\n")?)?;
+    write_into(&mut buffer, &read_line(rt.alloc(), b"B 1 5\n")?)?;
+    assert_eq!(rt; buffer.as_slice(), b"H 1\nB 1 5\n".as_slice());
+    Ok(())
+}
