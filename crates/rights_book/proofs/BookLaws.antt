@@ -1,0 +1,345 @@
+-- What is true of every book, and stays true.
+use Rattle.std.proofs.Common.{◌≡◌, ◌≢◌, ℕ, zero, suc, ◌+◌, ◌-◌, ◌*◌, ◌≤◌, ◌⊎◌, inl, inr, Bool, true, false, cond, eqb, List, length, get_or, set, replicate, refl, sym, ap, ◌∙◌, subst, arith}
+use Rattle.std.specs.List.{All}
+use Rattle.std.proofs.lemmas.Bool.{eq-eqb, ne_eqb, cases_eq, cases_lt}
+use Rattle.std.proofs.lemmas.List.{length-replicate, get_or_read}
+use Rattle.rights_types.specs.Moves.{IsMove, NamesWithin}
+use Rattle.rights_types.specs.Places.{at_site, set_site}
+use Rattle.rights_types.specs.Rights.{out, to, taken_back, back, sum_sites}
+use Rattle.rights_types.specs.declared.moves.Move.{Move}
+use Rattle.rights_types.proofs.Places.{at_site_past, at_site-replicate, at_site-index, set_site-index, length-set_site}
+use Rattle.rights_types.proofs.SiteSums.{sum_same, sum_add, sum_zero, sum_bound, sum_risen}
+use Rattle.rights_types.proofs.Sums.{to-bound, out_is, taken_back_is, rights_after_is}
+use Rattle.rights_book.specs.Accounts.{no_account, with_moves, IsAccount}
+use Rattle.rights_book.specs.Peers.{no_peer, with_own, with_gifts}
+use Rattle.rights_book.specs.Books.{BookValue, sites, peer, account, received_by, held_by, new_book, Writes, Applies, applied_by, IsBook}
+use Rattle.rights_book.specs.declared.account.Account.{Account}
+use Rattle.rights_book.specs.declared.peer.Peer.{Peer}
+use Rattle.rights_book.proofs.PeerLaws.{applied_peer, no_gift_here, applied_at}
+use Rattle.rights_book.proofs.CheckLaws.{IsChecked, named_within, nothing_to}
+
+-- ---- sums over sites
+
+-- a term is at most the sum
+pub sum_term : (n k : ℕ) (f : ℕ → ℕ) → 1 ≤ k → k ≤ n → f k ≤ sum_sites n f
+sum_term zero k f low high = absurd (omega arith)
+sum_term (suc n) k f low high =
+    elim (cases_eq k (suc n)) [
+      | inl e ↦ rw e (omega arith)
+      | inr ne ↦ omega (arith, sum_term n k f low (omega arith))
+    ]
+
+pub sum_le : (n : ℕ) (f g : ℕ → ℕ) → ((k : ℕ) → f k ≤ g k) → sum_sites n f ≤ sum_sites n g
+sum_le zero f g h = omega arith
+sum_le (suc n) f g h = omega (arith, sum_le n f g h, h (suc n))
+
+-- one term is 0: the bound of the others
+pub sum_bound_but : (n s m : ℕ) (f : ℕ → ℕ) → 1 ≤ s → s ≤ n → f s ≡ 0 → ((k : ℕ) → f k ≤ m) → sum_sites n f + m ≤ n * m
+sum_bound_but n s m f low high none h =
+    let g : ℕ → ℕ = λ k. cond (eqb k s) m (f k) in
+    let here : g s ≡ f s + m = rw (eq-eqb s s refl) (omega (arith, none)) in
+    let others : (k : ℕ) → k ≢ s → g k ≡ f k = λ k ne. rw (ne_eqb k s ne) refl in
+    let within : (k : ℕ) → g k ≤ m = λ k. elim (cases_eq k s) [
+      | inl e ↦ rw (eq-eqb k s e) (omega arith)
+      | inr ne ↦ rw (ne_eqb k s ne) (h k)
+    ] in
+    omega (arith, sum_risen n s m f g low high others here, sum_bound n m g within)
+
+-- ---- sites of the system, and outside it
+
+pub no_account_kept : IsAccount no_account
+no_account_kept = record { in_range = omega arith; issues = omega arith; spends = omega arith; gives = omega arith; takes_back = omega arith }
+
+-- a site of the system, or one of which no book of so many sites knows anything
+abbrev Outside : ℕ → ℕ → Type 0
+Outside n j = (ps : List Peer) → length ps ≡ n → at_site ps j no_peer ≡ no_peer
+
+pub inside : (n j : ℕ) → ((1 ≤ j) × (j ≤ n)) ⊎ Outside n j
+inside n zero = inr (λ ps h. refl)
+inside n (suc i) =
+    elim (cases_lt n (suc i)) [
+      | inl past ↦ inr (λ ps h. at_site_past ps (suc i) no_peer (omega (arith, h, past)))
+      | inr within ↦ inl (omega arith, within)
+    ]
+
+-- ---- a book at the start
+
+pub new_peer : (n j : ℕ) → at_site (replicate n no_peer) j no_peer ≡ no_peer
+new_peer n j = at_site-replicate (λ (p : Peer). p ≡ no_peer) n j no_peer no_peer (λ low high. refl) refl
+
+none_known : (n me : ℕ) (f : Peer → ℕ) → f no_peer ≡ 0 → sum_sites n (λ j. f (peer (new_book me n) j)) ≡ 0
+none_known n me f none = sum_same n (λ j. f (peer (new_book me n) j)) (λ j. 0) (λ j low high. ap f (new_peer n j) ∙ none) ∙ sum_zero n
+
+pub new_is_book : (me n : ℕ) → 2 ≤ n → n ≤ 16 → 1 ≤ me → me ≤ n → IsBook (new_book me n)
+new_is_book me n some few low high =
+    let b : BookValue = new_book me n in
+    let count : sites b ≡ n = length-replicate n no_peer in
+    let empty : (j : ℕ) → peer b j ≡ no_peer = new_peer n in
+    let of : (f : Peer → ℕ) → f no_peer ≡ 0 → sum_sites (sites b) (λ j. f (peer b j)) ≡ 0 = λ f none. rw count (none_known n me f none) in
+    record {
+      some = omega (arith, count);
+      few = omega (arith, count);
+      member = (low, omega (arith, count));
+      own_account = no_account_kept;
+      accounts = λ o. subst (λ (p : Peer). IsAccount p.log) (sym (empty o)) no_account_kept;
+      nothing_applied = ap (λ (p : Peer). p.log.number) (empty me);
+      nothing_given = ap (λ (p : Peer). p.given) (empty me);
+      received_within = λ o. omega (arith, ap (λ (p : Peer). p.received) (empty o));
+      received_is = ap (λ (p : Peer). p.gifts) (empty me) ∙ sym (of (λ p. p.received) refl);
+      gifts_within = λ j. omega (arith, ap (λ (p : Peer). p.gifts) (empty j));
+      given_is = sym (of (λ p. p.given) refl);
+      back_is = sym (of (λ p. p.back) refl);
+      back_within = λ j. omega (arith, ap (λ (p : Peer). p.given) (empty j), ap (λ (p : Peer). p.back) (empty j));
+      not_negative = omega arith;
+    }
+
+-- ---- bounds
+
+pub record IsBounded (b : BookValue) : Type 0 where
+  pub issues : b.own.issued ≤ 1000000000000000000
+  pub spends : b.own.spent ≤ 1000000000000000000
+  pub takes_back : b.own.back ≤ 1000000000000000000
+  pub applies : applied_by b ≤ 15000000000
+  pub receives : received_by b ≤ 15000000000000000000
+  pub receives_from : (o : ℕ) → (peer b o).received ≤ 1000000000000000000
+  pub gives_to : (j : ℕ) → (peer b j).given ≤ 1000000000000000000
+
+given_term : (b : BookValue) → IsBook b → (j : ℕ) → (peer b j).given ≤ b.own.given
+given_term b is j =
+    elim (inside (sites b) j) [
+      | inl r ↦ omega (arith, is.given_is, sum_term (sites b) j (λ k. (peer b k).given) r.0 r.1)
+      | inr out ↦ omega (arith, ap (λ (p : Peer). p.given) (out b.peers refl))
+    ]
+
+pub bounded : (b : BookValue) → IsBook b → IsBounded b
+bounded b is =
+    let n : ℕ = sites b in
+    let few = is.few in
+    let numbers : applied_by b + 1000000000 ≤ n * 1000000000 =
+    sum_bound_but n b.me 1000000000 (λ o. (peer b o).log.number) is.member.0 is.member.1 is.nothing_applied (λ o. (is.accounts o).in_range) in
+    let gives : b.own.given ≤ 1000000000000000000 = omega (arith, is.own_account.gives, is.own_account.in_range) in
+    let backs : sum_sites n (λ j. (peer b j).back) ≤ sum_sites n (λ j. (peer b j).given) = sum_le n (λ j. (peer b j).back) (λ j. (peer b j).given) is.back_within in
+    record {
+      issues = omega (arith, is.own_account.issues, is.own_account.in_range);
+      spends = omega (arith, is.own_account.spends, is.own_account.in_range);
+      takes_back = omega (arith, gives, backs, is.given_is, is.back_is);
+      applies = omega (arith, numbers, few);
+      receives = omega (arith, numbers, few, is.gifts_within b.me);
+      receives_from = λ o. omega (arith, is.received_within o, (is.accounts o).in_range);
+      gives_to = λ j. omega (arith, gives, given_term b is j);
+    }
+
+account_either : (k : Bool) (a b : Account) → IsAccount a → IsAccount b → IsAccount (cond k a b)
+account_either true a b p q = p
+account_either false a b p q = q
+
+pub account_kept : (b : BookValue) → IsBook b → (j : ℕ) → IsAccount (account b j)
+account_kept b is j = account_either (eqb j b.me) b.own (peer b j).log is.own_account (is.accounts j)
+
+-- ---- moves of the book's own site
+
+pub written_book : (old new : BookValue) (ms : List Move) → IsBook old → IsChecked old ms → All IsMove ms → ((j : ℕ) → back j ms ≤ (peer old j).given - (peer old j).back)
+    → IsAccount new.own → Writes old ms new → IsBook new
+written_book old new ms is checked ranges backs kept w =
+    let n : ℕ = sites old in
+    let named : All (NamesWithin n) ms = named_within n ms ranges checked.within in
+    let at_me : peer new new.me ≡ with_own (peer old old.me) old.me ms = w.each new.me ∙ ap (λ k. with_own (peer old k) k ms) w.same_me in
+    let same : (f : ℕ → ℕ) → sum_sites (sites new) f ≡ sum_sites n f = λ f. ap (λ k. sum_sites k f) w.same_sites in
+    let given_sum : sum_sites n (λ j. (peer new j).given) ≡ sum_sites n (λ j. (peer old j).given) + out ms =
+    sum_same n (λ j. (peer new j).given) (λ j. (peer old j).given + to j ms) (λ j low high. ap (λ (p : Peer). p.given) (w.each j))
+    ∙ sum_add n (λ j. (peer old j).given) (λ j. to j ms) ∙ ap (λ k. sum_sites n (λ j. (peer old j).given) + k) (out_is n ms named) in
+    let back_sum : sum_sites n (λ j. (peer new j).back) ≡ sum_sites n (λ j. (peer old j).back) + taken_back ms =
+    sum_same n (λ j. (peer new j).back) (λ j. (peer old j).back + back j ms) (λ j low high. ap (λ (p : Peer). p.back) (w.each j))
+    ∙ sum_add n (λ j. (peer old j).back) (λ j. back j ms) ∙ ap (λ k. sum_sites n (λ j. (peer old j).back) + k) (taken_back_is n ms named) in
+    let received_sum : sum_sites n (λ o. (peer new o).received) ≡ sum_sites n (λ o. (peer old o).received) =
+    sum_same n (λ o. (peer new o).received) (λ o. (peer old o).received) (λ o low high. ap (λ (p : Peer). p.received) (w.each o)) in
+    let number_sum : sum_sites n (λ o. (peer new o).log.number) ≡ sum_sites n (λ o. (peer old o).log.number) =
+    sum_same n (λ o. (peer new o).log.number) (λ o. (peer old o).log.number) (λ o low high. ap (λ (p : Peer). p.log.number) (w.each o)) in
+    let received : received_by new ≡ received_by old = ap (λ (p : Peer). p.gifts) at_me in
+    record {
+      some = omega (arith, is.some, w.same_sites);
+      few = omega (arith, is.few, w.same_sites);
+      member = (omega (arith, is.member.0, w.same_me), omega (arith, is.member.1, w.same_me, w.same_sites));
+      own_account = kept;
+      accounts = λ o. subst (λ (p : Peer). IsAccount p.log) (sym (w.each o)) (is.accounts o);
+      nothing_applied = ap (λ (p : Peer). p.log.number) at_me ∙ is.nothing_applied;
+      nothing_given = omega (arith, ap (λ (p : Peer). p.given) at_me, is.nothing_given, nothing_to old.me ms checked.others);
+      received_within = λ o. omega (arith, ap (λ (p : Peer). p.received) (w.each o), ap (λ (p : Peer). p.log.number) (w.each o), is.received_within o);
+      received_is = received ∙ is.received_is ∙ sym received_sum ∙ sym (same (λ o. (peer new o).received));
+      gifts_within = λ j. omega (arith, ap (λ (p : Peer). p.gifts) (w.each j), is.gifts_within j, number_sum, same (λ o. (peer new o).log.number));
+      given_is = omega (arith, ap (λ (a : Account). a.given) w.writes, is.given_is, given_sum, same (λ j. (peer new j).given));
+      back_is = omega (arith, ap (λ (a : Account). a.back) w.writes, is.back_is, back_sum, same (λ j. (peer new j).back));
+      back_within = λ j. omega (arith, ap (λ (p : Peer). p.back) (w.each j), ap (λ (p : Peer). p.given) (w.each j), is.back_within j, backs j);
+      not_negative = omega (
+        arith,
+        rights_after_is (held_by old) ms checked.covered,
+        is.not_negative,
+        received,
+        ap (λ (a : Account). a.given) w.writes,
+        ap (λ (a : Account). a.spent) w.writes,
+        ap (λ (a : Account). a.issued) w.writes,
+        ap (λ (a : Account). a.back) w.writes,
+      );
+    }
+
+-- ---- moves of another site
+
+-- what a book knows of each site after moves of site o were applied
+pub record IsApplied (old : BookValue) (o : ℕ) (ms : List Move) (new : BookValue) : Type 0 where
+  pub log_here : (peer new o).log ≡ with_moves (peer old o).log ms
+  pub received_here : (peer new o).received ≡ (peer old o).received + to old.me ms
+  pub gifts_here : (peer new o).gifts ≡ (peer old o).gifts
+  pub log_other : (k : ℕ) → k ≢ o → (peer new k).log ≡ (peer old k).log
+  pub received_other : (k : ℕ) → k ≢ o → (peer new k).received ≡ (peer old k).received
+  pub gifts_other : (k : ℕ) → k ≢ o → 1 ≤ k → k ≤ sites old → (peer new k).gifts ≡ (peer old k).gifts + to k ms
+  pub gifts_most : (k : ℕ) → (peer new k).gifts ≤ (peer old k).gifts + to k ms
+  pub given_same : (k : ℕ) → (peer new k).given ≡ (peer old k).given
+  pub back_same : (k : ℕ) → (peer new k).back ≡ (peer old k).back
+
+abbrev gifted_peer : Peer → ℕ → Peer
+gifted_peer p n = record p { gifts = p.gifts + n }
+
+peer_other : (old new : BookValue) (o : ℕ) (ms : List Move) → Applies old o ms new → (k : ℕ) → k ≢ o
+    → (((1 ≤ k) × (k ≤ sites old)) × (peer new k ≡ gifted_peer (peer old k) (to k ms))) ⊎ (Outside (sites old) k × (peer new k ≡ peer old k))
+peer_other old new o ms a k ne =
+    elim (inside (sites old) k) [
+      | inl r ↦ inl (r, a.each k r.0 r.1 ∙ (rw (ne_eqb k o ne) refl))
+      | inr out ↦ inr (out, out new.peers a.same_sites ∙ sym (out old.peers refl))
+    ]
+
+peer_here : (old new : BookValue) (o : ℕ) (ms : List Move) → Applies old o ms new → 1 ≤ o → o ≤ sites old → peer new o ≡ applied_peer old.me (peer old o) ms
+peer_here old new o ms a low high = a.each o low high ∙ (rw (eq-eqb o o refl) refl)
+
+cong : {X : Type 0} (f : Peer → X) (p q : Peer) → p ≡ q → f p ≡ f q
+cong f p q e = ap f e
+
+-- what a gift does not change, at another site
+kept_other : {X : Type 0} (f : Peer → X) (old new : BookValue) (o : ℕ) (ms : List Move) → Applies old o ms new → ((p : Peer) (n : ℕ) → f (gifted_peer p n) ≡ f p)
+    → (k : ℕ) → k ≢ o → f (peer new k) ≡ f (peer old k)
+kept_other f old new o ms a kept k ne =
+    elim (peer_other old new o ms a k ne) [
+      | inl p ↦ cong f (peer new k) (gifted_peer (peer old k) (to k ms)) p.1 ∙ kept (peer old k) (to k ms)
+      | inr p ↦ cong f (peer new k) (peer old k) p.1
+    ]
+
+-- what neither a gift nor an entry of its log changes
+kept_all : (f : Peer → ℕ) (old new : BookValue) (o : ℕ) (ms : List Move) → Applies old o ms new → 1 ≤ o → o ≤ sites old → ((p : Peer) (n : ℕ) → f (gifted_peer p n) ≡ f p)
+    → ((p : Peer) → f (applied_peer old.me p ms) ≡ f p) → (k : ℕ) → f (peer new k) ≡ f (peer old k)
+kept_all f old new o ms a low high kept applied k =
+    elim (cases_eq k o) [
+      | inl e ↦ subst (λ i. f (peer new i) ≡ f (peer old i)) (sym e)
+          (cong f (peer new o) (applied_peer old.me (peer old o) ms) (peer_here old new o ms a low high) ∙ applied (peer old o))
+      | inr ne ↦ kept_other f old new o ms a kept k ne
+    ]
+
+most_other : (old new : BookValue) (o : ℕ) (ms : List Move) → Applies old o ms new → (k : ℕ) → k ≢ o → (peer new k).gifts ≤ (peer old k).gifts + to k ms
+most_other old new o ms a k ne =
+    elim (peer_other old new o ms a k ne) [
+      | inl p ↦ omega (arith, cong (λ q. q.gifts) (peer new k) (gifted_peer (peer old k) (to k ms)) p.1)
+      | inr p ↦ omega (arith, cong (λ q. q.gifts) (peer new k) (peer old k) p.1)
+    ]
+
+pub applied_facts : (old new : BookValue) (o : ℕ) (ms : List Move) → 1 ≤ o → o ≤ sites old → Applies old o ms new → IsApplied old o ms new
+applied_facts old new o ms low high a =
+    let here : peer new o ≡ applied_peer old.me (peer old o) ms = peer_here old new o ms a low high in
+    record {
+      log_here = ap (λ (p : Peer). p.log) here;
+      received_here = ap (λ (p : Peer). p.received) here;
+      gifts_here = ap (λ (p : Peer). p.gifts) here;
+      log_other = kept_other (λ p. p.log) old new o ms a (λ p n. refl);
+      received_other = kept_other (λ p. p.received) old new o ms a (λ p n. refl);
+      gifts_other = λ k ne l h.
+          (let e : peer new k ≡ gifted_peer (peer old k) (to k ms) = a.each k l h ∙ (rw (ne_eqb k o ne) refl) in
+          cong (λ q. q.gifts) (peer new k) (gifted_peer (peer old k) (to k ms)) e);
+      gifts_most = λ k. elim (cases_eq k o) [
+        | inl e ↦ subst (λ i. (peer new i).gifts ≤ (peer old i).gifts + to i ms) (sym e) (omega (arith, ap (λ (p : Peer). p.gifts) here))
+        | inr ne ↦ most_other old new o ms a k ne
+      ];
+      given_same = kept_all (λ p. p.given) old new o ms a low high (λ p n. refl) (λ p. refl);
+      back_same = kept_all (λ p. p.back) old new o ms a low high (λ p n. refl) (λ p. refl);
+    }
+
+pub received_risen : (old new : BookValue) (o : ℕ) (ms : List Move) → IsBook old → o ≢ old.me → Applies old o ms new → IsApplied old o ms new → received_by new ≡ received_by old + to old.me ms
+received_risen old new o ms is other a f =
+    ap (λ k. (peer new k).gifts) a.same_me ∙ f.gifts_other old.me (λ e. other (sym e)) is.member.0 is.member.1
+
+pub applied_book : (old new : BookValue) (o : ℕ) (ms : List Move) → IsBook old → 1 ≤ o → o ≤ sites old → o ≢ old.me → All IsMove ms
+    → IsAccount (with_moves (peer old o).log ms) → Applies old o ms new → IsBook new
+applied_book old new o ms is low high other ranges kept a =
+    let n : ℕ = sites old in
+    let f : IsApplied old o ms new = applied_facts old new o ms low high a in
+    let me_other : old.me ≢ o = λ e. other (sym e) in
+    let same : (t : ℕ → ℕ) → sum_sites (sites new) t ≡ sum_sites n t = λ t. ap (λ k. sum_sites k t) a.same_sites in
+    let given_sum : sum_sites n (λ j. (peer new j).given) ≡ sum_sites n (λ j. (peer old j).given) =
+    sum_same n (λ j. (peer new j).given) (λ j. (peer old j).given) (λ j l h. f.given_same j) in
+    let back_sum : sum_sites n (λ j. (peer new j).back) ≡ sum_sites n (λ j. (peer old j).back) =
+    sum_same n (λ j. (peer new j).back) (λ j. (peer old j).back) (λ j l h. f.back_same j) in
+    let received_sum : sum_sites n (λ k. (peer new k).received) ≡ sum_sites n (λ k. (peer old k).received) + to old.me ms =
+    sum_risen n o (to old.me ms) (λ k. (peer old k).received) (λ k. (peer new k).received) low high f.received_other f.received_here in
+    let number_sum : sum_sites n (λ k. (peer new k).log.number) ≡ sum_sites n (λ k. (peer old k).log.number) + length ms =
+    sum_risen n o (length ms) (λ k. (peer old k).log.number) (λ k. (peer new k).log.number) low high (λ k ne. ap (λ (l : Account). l.number) (f.log_other k ne)) (ap (λ (l : Account). l.number) f.log_here) in
+    let received : received_by new ≡ received_by old + to old.me ms = received_risen old new o ms is other a f in
+    record {
+      some = omega (arith, is.some, a.same_sites);
+      few = omega (arith, is.few, a.same_sites);
+      member = (omega (arith, is.member.0, a.same_me), omega (arith, is.member.1, a.same_me, a.same_sites));
+      own_account = subst IsAccount (sym a.same_own) is.own_account;
+      accounts = λ k. elim (cases_eq k o) [
+        | inl e ↦ subst (λ i. IsAccount (peer new i).log) (sym e) (subst IsAccount (sym f.log_here) kept)
+        | inr ne ↦ subst IsAccount (sym (f.log_other k ne)) (is.accounts k)
+      ];
+      nothing_applied = ap (λ k. (peer new k).log.number) a.same_me ∙ ap (λ (l : Account). l.number) (f.log_other old.me me_other) ∙ is.nothing_applied;
+      nothing_given = ap (λ k. (peer new k).given) a.same_me ∙ f.given_same old.me ∙ is.nothing_given;
+      received_within = λ k. elim (cases_eq k o) [
+        | inl e ↦ subst (λ i. (peer new i).received ≤ (peer new i).log.number * 1000000000) (sym e)
+            (omega (arith, f.received_here, ap (λ (l : Account). l.number) f.log_here, is.received_within o, to-bound old.me ms ranges))
+        | inr ne ↦ omega (arith, f.received_other k ne, ap (λ (l : Account). l.number) (f.log_other k ne), is.received_within k)
+      ];
+      received_is = omega (arith, received, is.received_is, received_sum, same (λ k. (peer new k).received));
+      gifts_within = λ j. omega (arith, f.gifts_most j, is.gifts_within j, to-bound j ms ranges, number_sum, same (λ k. (peer new k).log.number));
+      given_is = ap (λ (l : Account). l.given) a.same_own ∙ is.given_is ∙ sym given_sum ∙ sym (same (λ j. (peer new j).given));
+      back_is = ap (λ (l : Account). l.back) a.same_own ∙ is.back_is ∙ sym back_sum ∙ sym (same (λ j. (peer new j).back));
+      back_within = λ j. omega (arith, f.given_same j, f.back_same j, is.back_within j);
+      not_negative = omega (
+        arith,
+        is.not_negative,
+        received,
+        ap (λ (l : Account). l.given) a.same_own,
+        ap (λ (l : Account). l.spent) a.same_own,
+        ap (λ (l : Account). l.issued) a.same_own,
+        ap (λ (l : Account). l.back) a.same_own,
+      );
+    }
+
+-- what the code leaves: gifts to each site, and then the origin's own entry
+pub record IsBooked (x : BookValue) (o : ℕ) (ms : List Move) (log : Account) (y : BookValue) : Type 0 where
+  pub applies : Applies x o ms y
+  pub kept : IsAccount log → IsAccount (with_moves (peer x o).log ms)
+
+abbrev pub with_peer : BookValue → List Peer → ℕ → Peer → BookValue
+with_peer x gs i p = record { me = x.me; own = x.own; peers = set gs i p }
+
+pub booked : (x : BookValue) (o i : ℕ) (ms : List Move) (gs : List Peer) (it : Peer) (log : Account) (gift : ℕ) → i + 1 ≡ o → o ≤ sites x → length gs ≡ sites x
+    → ((j : ℕ) → 1 ≤ j → j ≤ sites x → at_site gs j no_peer ≡ with_gifts (peer x j) o j ms) → it ≡ get_or gs i it → log ≡ with_moves it.log ms → gift ≡ to x.me ms
+    → IsBooked x o ms log (with_peer x gs i (record it { log = log; received = it.received + gift }))
+booked x o i ms gs it log gift at high same gifts read logs gave =
+    let p : Peer = record it { log = log; received = it.received + gift } in
+    let low : 1 ≤ o = omega (arith, at) in
+    let found : it ≡ peer x o =
+    get_or_read gs i it (omega (arith, at, high, same)) read no_peer ∙ sym (at_site-index gs i o no_peer at) ∙ gifts o low high ∙ no_gift_here (peer x o) o ms in
+    let left : p ≡ applied_peer x.me (peer x o) ms =
+    ap (λ (a : Account). let q : Peer = record it { log = a; received = it.received + gift } in q) logs
+    ∙ ap (λ n. let q : Peer = record it { log = with_moves it.log ms; received = it.received + n } in q) gave
+    ∙ ap (λ (q : Peer). applied_peer x.me q ms) found in
+    let written : set_site gs o p ≡ set gs i p = set_site-index gs i o p at in
+    let count : length (set gs i p) ≡ sites x = ap length (sym written) ∙ length-set_site gs o p ∙ same in
+    record {
+      applies = record {
+        same_me = refl;
+        same_sites = count;
+        same_own = refl;
+        each = λ j l h.
+            ap (λ (ps : List Peer). at_site ps j no_peer) (sym written) ∙ applied_at x.peers gs x.me o ms p same low high gifts left j l h;
+      };
+      kept = λ is. subst (λ (q : Peer). IsAccount (with_moves q.log ms)) found (subst IsAccount logs is);
+    }

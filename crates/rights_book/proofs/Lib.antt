@@ -1,0 +1,8 @@
+pub mod MoveLaws
+pub mod AccountLaws
+pub mod PeerLaws
+pub mod CheckLaws
+pub mod CallLaws
+pub mod BookLaws
+pub mod StandLaws
+pub mod Signed

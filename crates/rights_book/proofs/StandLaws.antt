@@ -1,0 +1,250 @@
+-- The logs that a book stands for.
+use Rattle.std.proofs.Common.{◌≡◌, ◌≢◌, ℕ, ◌+◌, ◌≤◌, pos, ◌-ℤ◌, Bool, true, false, cond, eqb, List, [], ◌∷◌, ◌++◌, inl, inr, refl, sym, ap, ◌∙◌, subst, arith}
+use Rattle.std.specs.List.{All}
+use Rattle.std.proofs.lemmas.Bool.{eq-eqb, eqb-true, ne_eqb, cases_eq}
+use Rattle.std.proofs.lemmas.List.Elements.{All-append, All-nil}
+use Rattle.rights_types.specs.Entries.{EntryValue}
+use Rattle.rights_types.specs.Chains.{moves_of}
+use Rattle.rights_types.specs.Moves.{IsMove, NamesWithin}
+use Rattle.rights_types.specs.Rights.{issued, spent, out, to, taken_back, covers, rights_after, received, held, IsNeverShort}
+use Rattle.rights_types.specs.declared.moves.Move.{Move}
+use Rattle.rights_types.proofs.SiteSums.{sum_same, sum_zero, sum_risen}
+use Rattle.rights_types.proofs.Sums.{moves_of-nil, moves_of-push, to-append, back-append, to-nil, taken_back_is, rights_after_is, covers-append, covers-more, never_short}
+use Rattle.rights_book.specs.Accounts.{account_of}
+use Rattle.rights_book.specs.Peers.{no_peer, with_own}
+use Rattle.rights_book.specs.Books.{BookValue, sites, peer, account, received_by, held_by, known_by, new_book, Writes, Applies, IsBook}
+use Rattle.rights_book.specs.Known.{logs_at, gifts_to, known}
+use Rattle.rights_book.specs.StandsFor.{StandsForOwn, StandsForApplied, StandsFor, own_entry, AddsEntry}
+use Rattle.rights_book.specs.declared.account.Account.{Account}
+use Rattle.rights_book.specs.declared.peer.Peer.{Peer}
+use Rattle.rights_book.proofs.AccountLaws.{account_of-nil, account_of-push}
+use Rattle.rights_book.proofs.MoveLaws.{back-nil}
+use Rattle.rights_book.proofs.CheckLaws.{IsChecked, named_within}
+use Rattle.rights_book.proofs.BookLaws.{new_peer, IsApplied, received_risen}
+
+-- ---- at the start
+
+no_gift : (b : Bool) (j : ℕ) → cond b 0 (to j (moves_of [])) ≡ 0
+no_gift true j = refl
+no_gift false j = rw moves_of-nil (to-nil j)
+
+no_gifts : (n j : ℕ) → gifts_to n j (λ o. []) ≡ 0
+no_gifts n j = sum_same n (λ o. cond (eqb o j) 0 (to j (moves_of []))) (λ o. 0) (λ o low high. no_gift (eqb o j) j) ∙ sum_zero n
+
+pub new_stands : (me n : ℕ) → StandsFor [] (λ o. []) (new_book me n)
+new_stands me n =
+    let b : BookValue = new_book me n in
+    let empty : (j : ℕ) → peer b j ≡ no_peer = new_peer n in
+    record {
+      of_own = record {
+        sums = sym account_of-nil;
+        given_are = λ j. ap (λ (p : Peer). p.given) (empty j) ∙ sym (rw moves_of-nil (to-nil j));
+        back_are = λ j. ap (λ (p : Peer). p.back) (empty j) ∙ sym (rw moves_of-nil (back-nil j));
+        named = rw moves_of-nil (All-nil (NamesWithin (sites b)));
+        covered = rw moves_of-nil refl;
+      };
+      of_applied = record {
+        sums = λ o. ap (λ (p : Peer). p.log) (empty o) ∙ sym account_of-nil;
+        received_are = λ o. ap (λ (p : Peer). p.received) (empty o) ∙ sym (rw moves_of-nil (to-nil me));
+        gifts_are = λ j low high. ap (λ (p : Peer). p.gifts) (empty j) ∙ sym (no_gifts (sites b) j);
+        none_own = refl;
+      };
+    }
+
+-- ---- moves of the book's own site
+
+-- what its log leaves is what the book's site holds
+left_is_held : (b : BookValue) (log : List EntryValue) → StandsForOwn log b → rights_after (received_by b) (moves_of log) ≡ held_by b
+left_is_held b log s =
+    omega (
+      arith,
+      rights_after_is (received_by b) (moves_of log) s.covered,
+      ap (λ (a : Account). a.issued) s.sums,
+      ap (λ (a : Account). a.spent) s.sums,
+      ap (λ (a : Account). a.given) s.sums,
+      ap (λ (a : Account). a.back) s.sums,
+    )
+
+pub own_written : (old new : BookValue) (ms : List Move) (log : List EntryValue) → IsChecked old ms → All IsMove ms → old.own.closed ≡ false → Writes old ms new
+    → StandsForOwn log old → StandsForOwn (log ++ own_entry old ms ∷ []) new
+own_written old new ms log checked ranges unclosed w s =
+    let e : EntryValue = own_entry old ms in
+    let pushed : moves_of (log ++ e ∷ []) ≡ moves_of log ++ ms = moves_of-push log e in
+    let received_same : received_by new ≡ received_by old = ap (λ (p : Peer). p.gifts) (w.each new.me ∙ ap (λ k. with_own (peer old k) k ms) w.same_me) in
+    record {
+      sums = w.writes ∙ account_of-push log e old.own s.sums refl unclosed;
+      given_are = λ j. rw pushed (omega (arith, ap (λ (p : Peer). p.given) (w.each j), s.given_are j, to-append j (moves_of log) ms));
+      back_are = λ j. rw pushed (omega (arith, ap (λ (p : Peer). p.back) (w.each j), s.back_are j, back-append j (moves_of log) ms));
+      named = rw (w.same_sites, pushed) (All-append (NamesWithin (sites old)) (moves_of log) ms s.named (named_within (sites old) ms ranges checked.within));
+      covered = rw (received_same, pushed)
+          (covers-append (received_by old) (moves_of log) ms s.covered (rw (left_is_held old log s) checked.covered));
+    }
+
+pub applied_written : (old new : BookValue) (ms : List Move) (applied : ℕ → List EntryValue) → Writes old ms new → StandsForApplied applied old → StandsForApplied applied new
+applied_written old new ms applied w s = record {
+  sums = λ o. ap (λ (p : Peer). p.log) (w.each o) ∙ s.sums o;
+  received_are = λ o. rw w.same_me (ap (λ (p : Peer). p.received) (w.each o) ∙ s.received_are o);
+  gifts_are = λ j low high. ap (λ (p : Peer). p.gifts) (w.each j) ∙ s.gifts_are j low (omega (arith, high, w.same_sites)) ∙ ap (λ n. gifts_to n j applied) (sym w.same_sites);
+  none_own = rw w.same_me s.none_own;
+}
+
+-- ---- moves of another site
+
+pub own_applied : (old new : BookValue) (o : ℕ) (ms : List Move) (log : List EntryValue) → IsBook old → o ≢ old.me → Applies old o ms new → IsApplied old o ms new
+    → StandsForOwn log old → StandsForOwn log new
+own_applied old new o ms log is other a f s = record {
+  sums = a.same_own ∙ s.sums;
+  given_are = λ j. f.given_same j ∙ s.given_are j;
+  back_are = λ j. f.back_same j ∙ s.back_are j;
+  named = rw a.same_sites s.named;
+  covered = covers-more (received_by old) (received_by new) (moves_of log) (omega (arith, received_risen old new o ms is other a f)) s.covered;
+}
+
+gift_more : (b : Bool) (x y z : ℕ) → x ≡ y + z → b ≡ false → cond b 0 x ≡ cond b 0 y + z
+gift_more true x y z h isnt = absurd cc
+gift_more false x y z h isnt = h
+
+pub applied_applied : (old new : BookValue) (o : ℕ) (e : EntryValue) (applied later : ℕ → List EntryValue) → IsBook old → 1 ≤ o → o ≤ sites old → o ≢ old.me
+    → (peer old o).log.closed ≡ false → e.prev ≡ (peer old o).log.number → Applies old o e.moves new → IsApplied old o e.moves new
+    → StandsForApplied applied old → AddsEntry applied o e later → StandsForApplied later new
+applied_applied old new o e applied later is low high other unclosed next a f s adds =
+    let n : ℕ = sites old in
+    let more : (j : ℕ) → to j (moves_of (later o)) ≡ to j (moves_of (applied o)) + to j e.moves =
+    λ j. rw adds.there (ap (to j) (moves_of-push (applied o) e) ∙ to-append j (moves_of (applied o)) e.moves) in
+    let elsewhere : (j k : ℕ) → k ≢ o → cond (eqb k j) 0 (to j (moves_of (later k))) ≡ cond (eqb k j) 0 (to j (moves_of (applied k))) =
+    λ j k ne. ap (λ (es : List EntryValue). cond (eqb k j) 0 (to j (moves_of es))) (adds.elsewhere k ne) in
+    let gifts : (j : ℕ) → 1 ≤ j → j ≤ n → (peer new j).gifts ≡ gifts_to n j later = λ j l h.
+    elim (cases_eq j o) [
+      | inl same ↦
+          let at_o : cond (eqb o j) 0 (to j (moves_of (later o))) ≡ cond (eqb o j) 0 (to j (moves_of (applied o))) = rw (eq-eqb o j (sym same)) refl in
+          let terms : (k : ℕ) → cond (eqb k j) 0 (to j (moves_of (later k))) ≡ cond (eqb k j) 0 (to j (moves_of (applied k))) = λ k. elim (cases_eq k o) [
+            | inl here ↦ subst (λ i. cond (eqb i j) 0 (to j (moves_of (later i))) ≡ cond (eqb i j) 0 (to j (moves_of (applied i)))) (sym here) at_o
+            | inr ne ↦ elsewhere j k ne
+          ] in
+          ap (λ k. (peer new k).gifts) same ∙ f.gifts_here ∙ ap (λ k. (peer old k).gifts) (sym same) ∙ s.gifts_are j l h
+          ∙ sym (sum_same n (λ k. cond (eqb k j) 0 (to j (moves_of (later k)))) (λ k. cond (eqb k j) 0 (to j (moves_of (applied k)))) (λ k lo hi. terms k))
+      | inr ne ↦
+          let at_o : cond (eqb o j) 0 (to j (moves_of (later o))) ≡ cond (eqb o j) 0 (to j (moves_of (applied o))) + to j e.moves =
+          gift_more (eqb o j) _ _ (to j e.moves) (more j) (ne_eqb o j (λ q. ne (sym q))) in
+          let risen : gifts_to n j later ≡ gifts_to n j applied + to j e.moves =
+          sum_risen n o (to j e.moves) (λ k. cond (eqb k j) 0 (to j (moves_of (applied k)))) (λ k. cond (eqb k j) 0 (to j (moves_of (later k)))) low high (elsewhere j) at_o in
+          omega (arith, f.gifts_other j ne l h, s.gifts_are j l h, risen)
+    ] in
+    record {
+      sums = λ k. elim (cases_eq k o) [
+        | inl here ↦ subst (λ i. (peer new i).log ≡ account_of (later i)) (sym here)
+            (f.log_here ∙ account_of-push (applied o) e (peer old o).log (s.sums o) next unclosed ∙ ap account_of (sym adds.there))
+        | inr ne ↦ f.log_other k ne ∙ s.sums k ∙ ap account_of (sym (adds.elsewhere k ne))
+      ];
+      received_are = λ k. rw a.same_me (elim (cases_eq k o) [
+        | inl here ↦ subst (λ i. (peer new i).received ≡ to old.me (moves_of (later i))) (sym here) (omega (arith, f.received_here, s.received_are o, more old.me))
+        | inr ne ↦ f.received_other k ne ∙ s.received_are k ∙ ap (λ (es : List EntryValue). to old.me (moves_of es)) (sym (adds.elsewhere k ne))
+      ]);
+      gifts_are = λ j l h. gifts j l (omega (arith, h, a.same_sites)) ∙ ap (λ k. gifts_to k j later) (sym a.same_sites);
+      none_own = rw a.same_me (adds.elsewhere old.me (λ q. other (sym q)) ∙ s.none_own);
+    }
+
+-- ---- what the readers answer
+
+one_received : (b : Bool) (s : ℕ) (es : List EntryValue) → (b ≡ true → es ≡ []) → cond b 0 (to s (moves_of es)) ≡ to s (moves_of es)
+one_received true s es none = sym (rw (none refl, moves_of-nil) (to-nil s))
+one_received false s es none = refl
+
+-- what the others gave to a site of whose log nothing was applied is what it received
+received_is_gifts : (n s : ℕ) (applied : ℕ → List EntryValue) → applied s ≡ [] → gifts_to n s applied ≡ received n s applied
+unfolding received
+received_is_gifts n s applied none =
+    sum_same n (λ o. cond (eqb o s) 0 (to s (moves_of (applied o)))) (λ o. to s (moves_of (applied o)))
+    (λ o low high. one_received (eqb o s) s (applied o) (λ e. ap applied (eqb-true o s e) ∙ none))
+
+pub received_stands : (b : BookValue) (applied : ℕ → List EntryValue) → IsBook b → StandsForApplied applied b → received_by b ≡ received (sites b) b.me applied
+received_stands b applied is s = s.gifts_are b.me is.member.0 is.member.1 ∙ received_is_gifts (sites b) b.me applied s.none_own
+
+pub held_stands : (b : BookValue) (log : List EntryValue) (applied : ℕ → List EntryValue) → IsBook b → StandsFor log applied b → held_by b ≡ held (sites b) b.me log applied
+unfolding held
+held_stands b log applied is s =
+    let ms : List Move = moves_of log in
+    let own = s.of_own.sums in
+    omega (
+      arith,
+      received_stands b applied is s.of_applied,
+      taken_back_is (sites b) ms s.of_own.named,
+      ap (λ (a : Account). a.issued) own,
+      ap (λ (a : Account). a.spent) own,
+      ap (λ (a : Account). a.given) own,
+      ap (λ (a : Account). a.back) own,
+    )
+
+pub never_short_stands : (b : BookValue) (log : List EntryValue) (applied : ℕ → List EntryValue) → IsBook b → StandsFor log applied b
+    → IsNeverShort (sites b) (received (sites b) b.me applied) (moves_of log)
+never_short_stands b log applied is s =
+    let covered : covers (received (sites b) b.me applied) (moves_of log) ≡ true = subst (λ r. covers r (moves_of log) ≡ true) (received_stands b applied is s.of_applied) s.of_own.covered in
+    never_short (sites b) (received (sites b) b.me applied) (moves_of log) covered s.of_own.named
+
+gift_me : (b : Bool) (s : ℕ) (log es : List EntryValue) → cond b 0 (to s (moves_of (cond b log es))) ≡ cond b 0 (to s (moves_of es))
+gift_me true s log es = refl
+gift_me false s log es = refl
+
+-- two logs differ at most at that of the site itself, which gives nothing to itself
+gifts_me : (n me : ℕ) (log : List EntryValue) (applied : ℕ → List EntryValue) → gifts_to n me (logs_at me log applied) ≡ gifts_to n me applied
+gifts_me n me log applied =
+    sum_same n (λ o. cond (eqb o me) 0 (to me (moves_of (logs_at me log applied o)))) (λ o. cond (eqb o me) 0 (to me (moves_of (applied o))))
+    (λ o low high. gift_me (eqb o me) me log (applied o))
+
+-- the site itself gives to another
+gifts_other : (n me j : ℕ) (log : List EntryValue) (applied : ℕ → List EntryValue) → 1 ≤ me → me ≤ n → j ≢ me → applied me ≡ []
+    → gifts_to n j (logs_at me log applied) ≡ gifts_to n j applied + to j (moves_of log)
+gifts_other n me j log applied low high ne none =
+    let f : ℕ → ℕ = λ k. cond (eqb k j) 0 (to j (moves_of (applied k))) in
+    let g : ℕ → ℕ = λ k. cond (eqb k j) 0 (to j (moves_of (logs_at me log applied k))) in
+    let mine : logs_at me log applied me ≡ log = rw (eq-eqb me me refl) refl in
+    let others : (k : ℕ) → k ≢ me → g k ≡ f k = λ k no.
+    (let theirs : logs_at me log applied k ≡ applied k = rw (ne_eqb k me no) refl in ap (λ (es : List EntryValue). cond (eqb k j) 0 (to j (moves_of es))) theirs) in
+    let nothing : to j (moves_of (applied me)) ≡ 0 = rw (none, moves_of-nil) (to-nil j) in
+    let all : to j (moves_of (logs_at me log applied me)) ≡ to j (moves_of (applied me)) + to j (moves_of log) =
+    omega (arith, nothing, ap (λ (es : List EntryValue). to j (moves_of es)) mine) in
+    let here : g me ≡ f me + to j (moves_of log) = gift_more (eqb me j) _ _ (to j (moves_of log)) all (ne_eqb me j (λ q. ne (sym q))) in
+    sum_risen n me (to j (moves_of log)) f g low high others here
+
+same_difference : (x y u v : ℕ) → x ≡ u → y ≡ v → pos x -ℤ pos y ≡ pos u -ℤ pos v
+same_difference x y u v p q = ap (λ n. pos n -ℤ pos y) p ∙ ap (λ n. pos u -ℤ pos n) q
+
+-- an account and the gifts beside it
+known_from : (a : Account) (p : Peer) (n j : ℕ) (logs : ℕ → List EntryValue) → a ≡ account_of (logs j) → p.gifts + p.given ≡ gifts_to n j logs
+    → pos (a.issued + p.gifts + p.given + a.back) -ℤ pos (a.given + a.spent) ≡ known n j logs
+unfolding known
+known_from a p n j logs its all =
+    let ms : List Move = moves_of (logs j) in
+    same_difference (a.issued + p.gifts + p.given + a.back) (a.given + a.spent) (issued ms + gifts_to n j logs + taken_back ms) (out ms + spent ms)
+    (omega (arith, ap (λ (x : Account). x.issued) its, ap (λ (x : Account). x.back) its, all))
+    (omega (arith, ap (λ (x : Account). x.given) its, ap (λ (x : Account). x.spent) its))
+
+known_me : (b : BookValue) (log : List EntryValue) (applied : ℕ → List EntryValue) (j : ℕ) → IsBook b → StandsFor log applied b → j ≡ b.me
+    → known_by b j ≡ known (sites b) j (logs_at b.me log applied)
+known_me b log applied j is s here =
+    let n : ℕ = sites b in
+    let logs : ℕ → List EntryValue = logs_at b.me log applied in
+    let its : account b j ≡ account_of log = rw (eq-eqb j b.me here) s.of_own.sums in
+    let whole : logs j ≡ log = rw (eq-eqb j b.me here) refl in
+    let given : (peer b j).given ≡ 0 = ap (λ k. (peer b k).given) here ∙ is.nothing_given in
+    let gifts : (peer b j).gifts ≡ gifts_to n j applied = s.of_applied.gifts_are j (omega (arith, here, is.member.0)) (omega (arith, here, is.member.1)) in
+    let all : gifts_to n j logs ≡ gifts_to n j applied = subst (λ k. gifts_to n k logs ≡ gifts_to n k applied) (sym here) (gifts_me n b.me log applied) in
+    known_from (account b j) (peer b j) n j logs (its ∙ ap account_of (sym whole)) (omega (arith, given, gifts, all))
+
+known_other : (b : BookValue) (log : List EntryValue) (applied : ℕ → List EntryValue) (j : ℕ) → IsBook b → StandsFor log applied b → 1 ≤ j → j ≤ sites b → j ≢ b.me
+    → known_by b j ≡ known (sites b) j (logs_at b.me log applied)
+known_other b log applied j is s low high ne =
+    let n : ℕ = sites b in
+    let logs : ℕ → List EntryValue = logs_at b.me log applied in
+    let its : account b j ≡ account_of (applied j) = rw (ne_eqb j b.me ne) (s.of_applied.sums j) in
+    let part : logs j ≡ applied j = rw (ne_eqb j b.me ne) refl in
+    let all = gifts_other n b.me j log applied is.member.0 is.member.1 ne s.of_applied.none_own in
+    known_from (account b j) (peer b j) n j logs (its ∙ ap account_of (sym part)) (omega (arith, s.of_own.given_are j, s.of_applied.gifts_are j low high, all))
+
+pub known_stands : (b : BookValue) (log : List EntryValue) (applied : ℕ → List EntryValue) (j : ℕ) → IsBook b → StandsFor log applied b → 1 ≤ j → j ≤ sites b
+    → known_by b j ≡ known (sites b) j (logs_at b.me log applied)
+known_stands b log applied j is s low high =
+    elim (cases_eq j b.me) [
+      | inl here ↦ known_me b log applied j is s here
+      | inr ne ↦ known_other b log applied j is s low high ne
+    ]

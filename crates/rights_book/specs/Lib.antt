@@ -1,0 +1,6 @@
+pub mod Accounts
+pub mod Peers
+pub mod Books
+pub mod Checks
+pub mod Known
+pub mod StandsFor

@@ -1,0 +1,286 @@
+//! The book of rights of one site.
+ghost use Rattle.std.specs.Prelude.{◌≡◌, ◌≢◌, ℕ, ◌+◌, ◌-◌, ◌≤◌, false, List, [], ◌∷◌, ◌++◌, length, IfOk, MatchResult};
+ghost use Rattle.std.specs.List.{list_any};
+ghost use Rattle.rights_types.specs.Entries.{EntryValue};
+ghost use Rattle.rights_types.specs.Chains.{moves_of};
+ghost use Rattle.rights_types.specs.Rights.{back, held, received, IsNeverShort};
+
+use crate::account::Account;
+use crate::check::{any_above, any_names, covers, gifts_to};
+use crate::fault::BookError;
+use crate::peer::{Peer, add_gifts, add_own};
+use rights_types::{Entry, Move, OutOfMemory, SiteId};
+use std::alloc::{Allocator, Global};
+use std::marker::Model;
+
+/// What one site holds, gave and received, and what it knows of the others: sums over its own log
+/// and over the entries that it applied of each other one. The rights are those of the Bounded
+/// Counter (Balegas and others, SRDS 2015) with bound 0; taking back is this project's own.
+///
+/// Readers cost the same whatever the logs hold, and no call but `new` takes memory.
+#[derive(Drop)]
+pub struct Book<A: Allocator = Global> {
+    me: SiteId,
+    own: Account,
+    peers: Vec<Peer, A>,
+}
+
+impl<A: Allocator> Model for Book<A> {
+    ghost use Rattle.rights_book.specs.Books.{BookValue, IsBook};
+
+    ghost Value = { BookValue };
+
+    ghost view = { λ b. record { me = b.me; own = b.own; peers = b.peers.items } };
+
+    ghost invariant = { λ b. IsBook (record { me = b.me; own = b.own; peers = b.peers.items }) };
+}
+
+impl<A: Allocator> Book<A> {
+    ghost use Rattle.rights_book.specs.Books.{sites, peer, account, received_by, held_by, known_by, new_book, Writes, Applies, IsBook};
+    ghost use Rattle.rights_book.specs.Checks.{gives_to_closed, check_fault};
+    ghost use Rattle.rights_book.specs.Known.{logs_at, known};
+    ghost use Rattle.rights_book.specs.StandsFor.{StandsForOwn, StandsForApplied, StandsFor, own_entry, AddsEntry};
+
+    /// The book of site `me` among so many sites, 2 to 16, where nothing is written or applied.
+    pub fn new(alloc: A, me: SiteId, sites: u64) -> Result<Book<A>, OutOfMemory>
+        requires sites { (2 ≤ sites) × (sites ≤ 16) }
+        requires me { me ≤ sites }
+        ensures made { IfOk result (λ book. book ≡ new_book me sites) }
+        ensures stands { IfOk result (StandsFor [] (λ o. [])) }
+    {
+        let _ = me.number();
+        let mut peers = Vec::with_capacity(alloc, sites as usize)?;
+        for _site in 0..sites {
+            peers.push(Peer::new())?;
+        }
+        Ok(Book {
+            me,
+            own: Account::new(),
+            peers,
+        })
+    }
+
+    /// Whether the book's site may write these moves as its next entry. Their count, the log's end
+    /// and what they take back are not tested here, and closing moves pass.
+    #[tactic(auto, unfolding(crate::specs::Checks::check_fault))]
+    pub fn check(&self, moves: &[Move]) -> Result<(), BookError>
+        ensures { MatchResult result
+            (λ _. check_fault self.now moves.now ≡ None)
+            (λ fault. check_fault self.now moves.now ≡ Some fault) }
+    {
+        if any_above(moves, self.sites()) {
+            return Err(BookError::NoSuchSite);
+        }
+        if any_names(moves, self.me) {
+            return Err(BookError::SameSite);
+        }
+        if self.any_gives_to_closed(moves) {
+            return Err(BookError::PeerClosed);
+        }
+        if !covers(self.held(), moves) {
+            return Err(BookError::Short);
+        }
+        Ok(())
+    }
+
+    /// Books the next entry of the site's own log. A closing move closes it, wherever it stands.
+    pub fn own(&mut self, moves: &[Move])
+        requires checked { check_fault self.old moves.now ≡ None }
+        requires some { 1 ≤ length moves.now }
+        requires few { length moves.now ≤ 16 }
+        requires number { self.old.own.number + length moves.now ≤ 1000000000 }
+        requires unclosed { self.old.own.closed ≡ false }
+        requires back { (j : ℕ) → back j moves.now ≤ (peer self.old j).given - (peer self.old j).back }
+        ensures writes { Writes self.old moves.now self.new }
+        ensures stands_own { (log : List EntryValue) → StandsForOwn log self.old
+            → StandsForOwn (log ++ own_entry self.old moves.now ∷ []) self.new }
+        ensures stands_applied { (applied : ℕ → List EntryValue) → StandsForApplied applied self.old
+            → StandsForApplied applied self.new }
+    {
+        Move::all_in_range(moves);
+        self.own.add(moves);
+        add_own(&mut self.peers, moves);
+    }
+
+    /// Books the next entry of the origin's log. Its moves count as the origin's, whatever site the
+    /// entry names; gifts to the origin itself and to sites that the system does not have go to
+    /// nobody.
+    pub fn apply<B: Allocator>(&mut self, origin: SiteId, entry: &Entry<B>)
+        requires site { origin ≤ sites self.old }
+        requires other { origin ≢ self.old.me }
+        requires unclosed { (peer self.old origin).log.closed ≡ false }
+        requires next { entry.now.prev ≡ (peer self.old origin).log.number }
+        ensures applies { Applies self.old origin entry.now.moves self.new }
+        ensures stands_own { (log : List EntryValue) → StandsForOwn log self.old → StandsForOwn log self.new }
+        ensures stands_applied { (applied later : ℕ → List EntryValue) → StandsForApplied applied self.old
+            → AddsEntry applied origin entry.now later → StandsForApplied later self.new }
+    {
+        let moves = entry.moves();
+        add_gifts(&mut self.peers, origin, moves);
+        let peer = &mut self.peers[origin.index()];
+        peer.received += gifts_to(moves, self.me);
+        peer.log.add(moves);
+    }
+
+    /// The site whose book it is.
+    pub fn me(&self) -> SiteId
+        ensures value { result ≡ self.now.me }
+        ensures range { (1 ≤ result) × (result ≤ sites self.now) }
+    {
+        self.me
+    }
+
+    /// How many sites the system has, from 2 to 16.
+    pub fn sites(&self) -> u64
+        ensures value { result ≡ sites self.now }
+        ensures range { (2 ≤ result) × (result ≤ 16) }
+    {
+        self.peers.len() as u64
+    }
+
+    /// The number of the last entry of that site's log that was applied, at most 10^9. It is 0 where
+    /// none was, for the book's own site, and for a site that the system does not have.
+    pub fn applied(&self, origin: SiteId) -> u64
+        ensures value { result ≡ (peer self.now origin).log.number }
+        ensures range { result ≤ 1000000000 }
+    {
+        self.peer(origin).log.number
+    }
+
+    /// The number of the last entry of the site's own log, at most 10^9.
+    pub fn number(&self) -> u64
+        ensures value { result ≡ self.now.own.number }
+        ensures range { result ≤ 1000000000 }
+    {
+        self.own.number
+    }
+
+    /// The rights that the site holds, at most 17 * 10^18.
+    pub fn held(&self) -> u64
+        ensures value { result ≡ held_by self.now }
+        ensures range { result ≤ 17000000000000000000 }
+        ensures valid { IsBook self.now }
+        ensures stands { (log : List EntryValue) (applied : ℕ → List EntryValue) → StandsFor log applied self.now
+            → result ≡ held (sites self.now) self.now.me log applied }
+
+        // No cut of the log, so also none within its last entry, gives or spends what was not held.
+        ensures never_short { (log : List EntryValue) (applied : ℕ → List EntryValue) → StandsFor log applied self.now
+            → IsNeverShort (sites self.now) (received (sites self.now) self.now.me applied) (moves_of log) }
+    {
+        let own = &self.own;
+        own.issued + self.received() + own.back as u64 - own.given - own.spent
+    }
+
+    /// What all other sites gave to this one, in the entries that were applied; at most 15 * 10^18.
+    pub fn received(&self) -> u64
+        ensures value { result ≡ received_by self.now }
+        ensures range { result ≤ 15000000000000000000 }
+        ensures stands { (applied : ℕ → List EntryValue) → StandsForApplied applied self.now
+            → result ≡ received (sites self.now) self.now.me applied }
+    {
+        self.peer(self.me).gifts
+    }
+
+    /// What that site gave to this one, in the entries that were applied.
+    pub fn received_from(&self, origin: SiteId) -> u64
+        ensures value { result ≡ (peer self.now origin).received }
+        ensures range { result ≤ 1000000000000000000 }
+    {
+        self.peer(origin).received
+    }
+
+    /// What this site gave to that one, taken back or not.
+    pub fn given_to(&self, site: SiteId) -> u64
+        ensures value { result ≡ (peer self.now site).given }
+        ensures range { result ≤ 1000000000000000000 }
+    {
+        self.peer(site).given
+    }
+
+    /// What this site took back from that one, at most what it gave to it.
+    pub fn back(&self, site: SiteId) -> u64
+        ensures value { result ≡ (peer self.now site).back }
+        ensures range { result ≤ (peer self.now site).given }
+    {
+        self.peer(site).back
+    }
+
+    /// The rights that the site's own log issued.
+    pub fn issued(&self) -> u64
+        ensures value { result ≡ self.now.own.issued }
+        ensures range { result ≤ 1000000000000000000 }
+    {
+        self.own.issued
+    }
+
+    /// The rights that the site's own log spent.
+    pub fn spent(&self) -> u64
+        ensures value { result ≡ self.now.own.spent }
+        ensures range { result ≤ 1000000000000000000 }
+    {
+        self.own.spent
+    }
+
+    /// The rights of that site, as far as this one's log and what it applied tell. It is negative
+    /// where the site used gifts that were not applied here yet.
+    pub fn known(&self, site: SiteId) -> i128
+        ensures value { result ≡ known_by self.now site }
+        ensures stands { (log : List EntryValue) (applied : ℕ → List EntryValue) → StandsFor log applied self.now
+            → site ≤ sites self.now → result ≡ known (sites self.now) site (logs_at self.now.me log applied) }
+    {
+        let peer = self.peer(site);
+        let log = self.account(site);
+        let gained = log.issued as u128 + peer.gifts as u128 + peer.given as u128 + log.back;
+        gained as i128 - (log.given + log.spent) as i128
+    }
+
+    /// Whether that site's log ends in a closing move, as far as it was applied; for the book's own
+    /// site, whether its log does.
+    pub fn closed(&self, site: SiteId) -> bool
+        ensures { result ≡ (account self.now site).closed }
+    {
+        self.account(site).closed
+    }
+
+    fn peer(&self, site: SiteId) -> Peer
+        ensures value { result ≡ peer self.now site }
+        ensures valid { IsBook self.now }
+        ensures range { 1 ≤ site }
+    {
+        match self.peers.get(site.index()) {
+            Some(peer) => *peer,
+            None => Peer::new(),
+        }
+    }
+
+    fn account(&self, site: SiteId) -> Account
+        ensures value { result ≡ account self.now site }
+        ensures valid { IsBook self.now }
+    {
+        if site == self.me {
+            self.own
+        } else {
+            self.peer(site).log
+        }
+    }
+
+    fn any_gives_to_closed(&self, moves: &[Move]) -> bool
+        ensures { result ≡ list_any (gives_to_closed self.now) moves.now }
+    {
+        moves.iter().any(|m| self.gives_to_closed(m))
+    }
+
+    fn gives_to_closed(&self, m: &Move) -> bool
+        ensures { result ≡ gives_to_closed self.now m.now }
+    {
+        match m {
+            Move::Grant {
+                peer,
+                amount: _,
+                ask: _,
+            } => self.closed(*peer),
+            Move::Give { peer, amount: _ } => self.closed(*peer),
+            _ => false,
+        }
+    }
+}

@@ -1,0 +1,60 @@
+//! What a book tests of moves, and their sums.
+ghost use Rattle.std.specs.Prelude.{◌≡◌, ◌≤◌, length};
+ghost use Rattle.std.specs.List.{list_any};
+ghost use Rattle.rights_types.specs.Moves.{names};
+ghost use Rattle.rights_types.specs.Rights.{covers, to};
+ghost use Rattle.rights_book.specs.Checks.{names_above};
+
+use rights_types::{Move, SiteId};
+
+/// Whether a move names a site above the last one.
+pub(crate) fn any_above(moves: &[Move], sites: u64) -> bool
+    ensures { result ≡ list_any (names_above sites) moves.now }
+{
+    moves.iter().any(|m| names_above(m, sites))
+}
+
+fn names_above(m: &Move, sites: u64) -> bool
+    ensures { result ≡ names_above sites m.now }
+{
+    match m.peer() {
+        Some(peer) => peer.number() > sites,
+        None => false,
+    }
+}
+
+/// Whether a move names the site.
+pub(crate) fn any_names(moves: &[Move], site: SiteId) -> bool
+    ensures { result ≡ list_any (names site) moves.now }
+{
+    moves.iter().any(|m| m.names(site))
+}
+
+/// Whether, in order, each move costs no more than what is held after the moves before it. It
+/// counts wide, since nothing bounds how many moves there are.
+pub(crate) fn covers(rights: u64, moves: &[Move]) -> bool
+    ensures { result ≡ covers rights moves.now }
+{
+    let mut left = rights as u128;
+    for m in moves {
+        let cost = m.cost() as u128;
+        if cost > left {
+            return false;
+        }
+        left = left - cost + m.gain() as u128;
+    }
+    true
+}
+
+/// What these moves give to the site.
+pub(crate) fn gifts_to(moves: &[Move], site: SiteId) -> u64
+    requires { length moves.now ≤ 16 }
+    ensures value { result ≡ to site moves.now }
+    ensures range { result ≤ 16000000000 }
+{
+    let mut gifts = 0;
+    for m in moves {
+        gifts += m.gift_to(site);
+    }
+    gifts
+}

@@ -1,0 +1,12 @@
+//! The book of rights of one site: what its own log and the entries that it applied of the others
+//! issued, spent, gave and took back, as running totals.
+#![tactic(auto)]
+
+mod account;
+mod book;
+mod check;
+mod fault;
+mod peer;
+
+pub use book::Book;
+pub use fault::BookError;

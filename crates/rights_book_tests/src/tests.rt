@@ -1,0 +1,6 @@
+mod amounts;
+mod calls;
+mod checks;
+mod examples;
+mod memory;
+mod sites;

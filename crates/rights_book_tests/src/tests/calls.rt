@@ -1,0 +1,113 @@
+//! Calls of a book that are made only where its own answers allow them.
+ghost use Rattle.std.specs.Prelude.{◌≡◌, ◌≤◌, length};
+ghost use Rattle.rights_types.specs.Moves.{take_back_from};
+ghost use Rattle.rights_types.specs.Rights.{back};
+
+use rights_book::Book;
+use rights_types::{
+    Amount, AskNumber, Entry, MAX_MOVES, MAX_NUMBER, MAX_SITES, Move, SiteId, Total, TypeError,
+};
+use std::alloc::Allocator;
+use std::test::Fail;
+
+/// Writes the moves as the next entry of the book's site, if it may.
+pub fn write<A: Allocator>(book: &mut Book<A>, moves: &[Move]) -> bool {
+    let Ok(()) = book.check(moves) else {
+        return false;
+    };
+    if moves.is_empty() || moves.len() > MAX_MOVES {
+        return false;
+    }
+    let me = book.me();
+    if book.closed(me) || book.number() + moves.len() as u64 > MAX_NUMBER {
+        return false;
+    }
+    Move::all_in_range(moves);
+    for index in 0..MAX_SITES {
+        let site = SiteId::known(index + 1);
+        if taken_back(moves, site) > book.given_to(site) - book.back(site) {
+            return false;
+        }
+    }
+    book.own(moves);
+    true
+}
+
+/// Applies the entry as the origin's next one, if it is.
+pub fn apply<A: Allocator, B: Allocator>(
+    book: &mut Book<A>,
+    origin: SiteId,
+    entry: &Entry<B>,
+) -> bool {
+    let me = book.me();
+    if origin.number() > book.sites() || origin == me {
+        return false;
+    }
+    if book.closed(origin) || entry.prev() != book.applied(origin) {
+        return false;
+    }
+    book.apply(origin, entry);
+    true
+}
+
+// What these moves take back from the site.
+fn taken_back(moves: &[Move], site: SiteId) -> u64
+    requires { length moves.now ≤ 16 }
+    ensures { result ≡ back site moves.now }
+{
+    let mut sum = 0;
+    for m in moves {
+        sum += taken_back_by(m, site);
+    }
+    sum
+}
+
+fn taken_back_by(m: &Move, site: SiteId) -> u64
+    ensures value { result ≡ take_back_from site m.now }
+    ensures range { result ≤ 1000000000000000000 }
+{
+    match m {
+        Move::TakeBack { peer, amount } => { if *peer == site { amount.value() } else { 0 } }
+        _ => 0,
+    }
+}
+
+/// The entry of these moves.
+pub fn entry<A: Allocator>(
+    alloc: A,
+    origin: SiteId,
+    prev: u64,
+    moves: &[Move],
+) -> Result<Entry<A>, Fail> {
+    Ok(Entry::new(origin, prev, Vec::from_slice(alloc, moves)?)?)
+}
+
+pub fn issue(rights: u64) -> Result<Move, TypeError> {
+    Ok(Move::Issue(Amount::new(rights)?))
+}
+
+pub fn spend(rights: u64) -> Result<Move, TypeError> {
+    Ok(Move::Spend(Amount::new(rights)?))
+}
+
+pub fn give(peer: SiteId, rights: u64) -> Result<Move, TypeError> {
+    Ok(Move::Give {
+        peer,
+        amount: Amount::new(rights)?,
+    })
+}
+
+pub fn grant(peer: SiteId, rights: u64, ask: u64) -> Result<Move, TypeError> {
+    Ok(Move::Grant {
+        peer,
+        amount: Amount::new(rights)?,
+        ask: AskNumber::new(ask)?,
+    })
+}
+
+pub fn take_back(peer: SiteId, rights: u64) -> Result<Move, TypeError> {
+    Ok(Move::TakeBack {
+        peer,
+        amount: Total::new(rights)?,
+    })
+}
