@@ -1,0 +1,6 @@
+pub mod Orders
+pub mod Windows
+pub mod Chained
+pub mod Offers
+pub mod Missing
+pub mod Keeps

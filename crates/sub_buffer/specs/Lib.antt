@@ -1,0 +1,5 @@
+pub mod Buffers
+pub mod Places
+pub mod Table
+pub mod Follows
+pub mod Gaps

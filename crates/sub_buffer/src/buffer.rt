@@ -1,0 +1,313 @@
+//! The buffer, its state and its gap.
+ghost use Rattle.std.specs.Prelude.{◌≡◌, ◌≢◌, ℕ, ◌+◌, ◌<◌, ◌≤◌, ◌++◌, ◌∷◌, [], List, IfOk, IfSome, MatchResult, Option, Some, IsTrue, ◌↔◌, length, max};
+ghost use Rattle.std.specs.List.{Contains};
+ghost use Rattle.std.specs.Option.{option_to_list};
+ghost use Rattle.rights_types.specs.Ranges.{IsNumber};
+ghost use Rattle.rights_types.specs.Entries.{EntryValue, own, IsEntry};
+ghost use Rattle.rights_types.specs.Chains.{IsChain, IsLongest};
+ghost use Rattle.rights_types.specs.Messages.{QueryValue};
+ghost use Rattle.sub_buffer.specs.Places.{IsPlace};
+
+use crate::held::{drop_before, place_for};
+use crate::verdict::{BufferError, Verdict};
+use rights_types::{Entry, OutOfMemory, Query, SiteId};
+use std::alloc::{Allocator, Global};
+use std::collections::VecDeque;
+use std::marker::Model;
+
+/// So many entries are held at most.
+const HOLD_ROOM: usize = 64;
+
+/// Whether numbers are missing.
+#[derive(Clone, Copy, Debug, PartialEq, Eq)]
+pub enum State {
+    /// Nothing is missing, as far as the buffer was told.
+    Normal,
+    /// There is a gap.
+    Buffering,
+}
+
+/// The buffer of one site for the entries of one other, the origin. Only `new` takes memory.
+#[derive(Drop)]
+pub struct SubBuffer<A: Allocator = Global> {
+    held: VecDeque<Entry<A>, A>,
+    me: SiteId,
+    origin: SiteId,
+    last: u64,
+    told: u64,
+    closed: bool,
+    asked: Option<Query>,
+}
+
+impl<A: Allocator> Model for SubBuffer<A> {
+    ghost use Rattle.std.specs.Prelude.{◌≤◌};
+    ghost use Rattle.std.specs.VecDeque.{deque_capacity};
+    ghost use Rattle.sub_buffer.specs.Buffers.{BufferValue, IsBuffer, hold_room};
+
+    ghost Value = { BufferValue };
+
+    ghost view = { λ b. record { me = b.me; origin = b.origin; last = b.last; told = b.told; closed = b.closed; held = b.held.items; asked = b.asked } };
+
+    ghost invariant = { λ b. IsBuffer (record { me = b.me; origin = b.origin; last = b.last; told = b.told; closed = b.closed; held = b.held.items; asked = b.asked }) × (hold_room ≤ deque_capacity b.held) };
+}
+
+impl<A: Allocator> SubBuffer<A> {
+    ghost use Rattle.sub_buffer.specs.Buffers.{IsBuffer, new_buffer, told_of, delivered, with_held};
+    ghost use Rattle.sub_buffer.specs.Table.{Offered, Popped, after_beat, ready_of, more_held};
+    ghost use Rattle.sub_buffer.specs.Follows.{Delivered, Follows, OfferReaches, OfferFollows, PopFollows};
+    ghost use Rattle.sub_buffer.specs.Gaps.{GapOf, GapIs, StateOf, Wants, asked_for};
+    ghost use Rattle.sub_buffer.specs.declared.verdict.BufferError.TheVariants.{WrongOrigin};
+
+    /// A buffer of site `me` for the log of `origin`, to which nothing came.
+    pub fn new(alloc: A, me: SiteId, origin: SiteId) -> Result<SubBuffer<A>, OutOfMemory>
+        requires { origin ≢ me }
+        ensures buffer { IfOk result (λ b. b ≡ new_buffer me origin) }
+        ensures delivered { IfOk result (λ b. Delivered [] b) }
+        ensures follows { IfOk result (λ b. (es : List EntryValue) → IsChain origin es → Follows es [] [] b × IsLongest [] es []) }
+    {
+        Ok(SubBuffer {
+            held: VecDeque::with_capacity(alloc, HOLD_ROOM)?,
+            me,
+            origin,
+            last: 0,
+            told: 0,
+            closed: false,
+            asked: None,
+        })
+    }
+
+    /// An entry arrives. After `Ready`, and before the next offer, call `pop_ready` until it answers `None`:
+    /// only then the verdicts are those of the log.
+    pub fn offer(&mut self, entry: Entry<A>) -> Result<Verdict<A>, BufferError>
+        ensures refused { MatchResult result (λ v. entry.origin ≡ self.old.origin) (λ fault. (fault ≡ WrongOrigin) × (entry.origin ≢ self.old.origin) × (self.new ≡ self.old)) }
+        ensures table { IfOk result (λ v. Offered self.old entry v self.new) }
+        ensures delivered { (put : List EntryValue) → Delivered put self.old → Delivered (put ++ ready_of result) self.new }
+        ensures count { IfOk result (λ v. length self.new.held ≤ length self.old.held + more_held v) }
+
+        // For an entry of the log es. The second is for where put is the longest prefix.
+        ensures follows { (es set put : List EntryValue) → Contains es entry → Follows es set put self.old → OfferFollows es set put entry result self.new × (self.new.told ≡ max self.old.told (own entry)) }
+        ensures reaches { (es set put : List EntryValue) → Contains es entry → Follows es set put self.old → IsLongest set es put → OfferReaches es set put entry result self.new }
+    {
+        if entry.origin() != self.origin {
+            return Err(BufferError::WrongOrigin);
+        }
+        Ok(self.judge(entry))
+    }
+
+    // The verdict on an entry of the origin.
+    fn judge(&mut self, entry: Entry<A>) -> Verdict<A>
+        requires { entry.origin ≡ self.old.origin }
+        ensures table { Offered self.old entry result self.new }
+        ensures valid { IsBuffer self.old }
+        ensures entry { IsEntry entry }
+    {
+        let prev = entry.prev();
+        if prev < self.last {
+            return Verdict::Repeat;
+        }
+        if self.closed {
+            return Verdict::AfterClose;
+        }
+        let own = entry.own();
+        if prev == self.last {
+            self.hear(own);
+            self.deliver(&entry);
+            return Verdict::Ready(entry);
+        }
+        let Some(place) = place_for(&self.held, prev) else {
+            return Verdict::Repeat;
+        };
+        self.hear(own);
+        if self.held.len() == HOLD_ROOM {
+            return Verdict::Full;
+        }
+        self.hold(place, entry);
+        Verdict::Held
+    }
+
+    // Notes that the log has the number.
+    fn hear(&mut self, number: u64)
+        requires { IsNumber number }
+        ensures { self.new ≡ told_of self.old number }
+    {
+        self.told = self.told.max(number);
+    }
+
+    // Goes on behind the entry.
+    fn deliver(&mut self, entry: &Entry<A>)
+        ensures { self.new ≡ delivered self.old entry.now }
+    {
+        self.last = entry.own();
+        self.closed = entry.closes();
+        drop_before(&mut self.held, self.last);
+    }
+
+    // Keeps the entry at its place.
+    fn hold(&mut self, place: usize, entry: Entry<A>)
+        requires place { IsPlace entry.prev self.old.held place }
+        requires later { self.old.last ≤ entry.prev }
+        requires of_origin { entry.origin ≡ self.old.origin }
+        requires room { length self.old.held < 64 }
+        ensures { self.new ≡ with_held self.old entry }
+    {
+        match self.held.insert(place, entry) {
+            Ok(()) => {}
+            Err(_) => unreachable!(),
+        }
+    }
+
+    /// The held entry that has become next, which is then delivered. There is none after the closing entry.
+    pub fn pop_ready(&mut self) -> Option<Entry<A>>
+        ensures table { Popped self.old result self.new }
+        ensures delivered { (put : List EntryValue) → Delivered put self.old → Delivered (put ++ option_to_list result) self.new }
+        ensures follows { (es set put : List EntryValue) → Follows es set put self.old → PopFollows es set put result self.new }
+        ensures fewer { IfSome result (λ _. length self.new.held < length self.old.held) }
+    {
+        self.pop_next()
+    }
+
+    fn pop_next(&mut self) -> Option<Entry<A>>
+        ensures table { Popped self.old result self.new }
+        ensures valid { IsBuffer self.old }
+        ensures entry { IfSome result (λ e. IsEntry e) }
+    {
+        if self.closed {
+            return None;
+        }
+        let first = self.held.front()?;
+        if first.prev() != self.last {
+            return None;
+        }
+        let entry = self.held.pop_front()?;
+        self.deliver(&entry);
+        Some(entry)
+    }
+
+    /// The origin says that its log ends at the number, which is at most 10^9. After the closing entry that
+    /// is ignored.
+    pub fn beat(&mut self, number: u64)
+        requires { IsNumber number }
+        ensures table { self.new ≡ after_beat self.old number }
+        ensures delivered { (put : List EntryValue) → Delivered put self.old → Delivered put self.new }
+        ensures follows { (es set put : List EntryValue) → Follows es set put self.old → Follows es set put self.new }
+    {
+        if !self.closed {
+            self.hear(number);
+        }
+    }
+
+    /// `Buffering` where there is a gap.
+    pub fn state(&self) -> State
+        ensures table { (gap : Option QueryValue) × GapOf self.now gap × StateOf gap result }
+        ensures gap { (es set put : List EntryValue) → Follows es set put self.now → IsLongest set es put → (gap : Option QueryValue) × GapIs self.now.me self.now.origin set put self.now.told gap × StateOf gap result }
+    {
+        if self.missing().is_some() {
+            State::Buffering
+        } else {
+            State::Normal
+        }
+    }
+
+    /// The first numbers that are missing, as a query to the origin.
+    pub fn gap(&self) -> Option<Query>
+        ensures table { GapOf self.now result }
+        ensures gap { (es set put : List EntryValue) → Follows es set put self.now → IsLongest set es put → GapIs self.now.me self.now.origin set put self.now.told result }
+    {
+        self.missing()
+    }
+
+    fn missing(&self) -> Option<Query>
+        ensures { GapOf self.now result }
+    {
+        if self.closed || self.told <= self.last {
+            return None;
+        }
+        let end = match self.held.front() {
+            Some(first) => first.prev(),
+            None => self.told,
+        };
+        if end == self.last {
+            return None;
+        }
+        match Query::new(self.me, self.origin, self.last + 1, end) {
+            Ok(query) => Some(query),
+            Err(_) => unreachable!(),
+        }
+    }
+
+    /// The gap, where it differs from the one that was asked for last. Now it counts as asked for.
+    pub fn want(&mut self) -> Option<Query>
+        ensures table { (gap : Option QueryValue) × GapOf self.old gap × Wants gap self.old.asked result × (self.new ≡ asked_for self.old result) }
+        ensures gap { (es set put : List EntryValue) → Follows es set put self.old → IsLongest set es put → (gap : Option QueryValue) × GapIs self.old.me self.old.origin set put self.old.told gap × Wants gap self.old.asked result }
+        ensures delivered { (put : List EntryValue) → Delivered put self.old → Delivered put self.new }
+        ensures follows { (es set put : List EntryValue) → Follows es set put self.old → Follows es set put self.new }
+    {
+        let gap = self.wanted();
+        self.note_asked(gap)
+    }
+
+    fn wanted(&self) -> Option<Query>
+        ensures { (gap : Option QueryValue) × GapOf self.now gap × Wants gap self.now.asked result }
+    {
+        let gap = self.missing()?;
+        if self.was_asked(&gap) {
+            return None;
+        }
+        Some(gap)
+    }
+
+    fn was_asked(&self, gap: &Query) -> bool
+        ensures { IsTrue result ↔ (self.now.asked ≡ Some gap.now) }
+    {
+        match &self.asked {
+            Some(asked) => asked == gap,
+            None => false,
+        }
+    }
+
+    // Answers the gap, which now counts as asked for.
+    fn note_asked(&mut self, gap: Option<Query>) -> Option<Query>
+        ensures value { result ≡ gap }
+        ensures asked { self.new ≡ asked_for self.old gap }
+    {
+        if gap.is_some() {
+            self.asked = gap;
+        }
+        gap
+    }
+
+    /// The gap, asked for or not. Now it counts as asked for.
+    pub fn want_again(&mut self) -> Option<Query>
+        ensures table { GapOf self.old result × (self.new ≡ asked_for self.old result) }
+        ensures gap { (es set put : List EntryValue) → Follows es set put self.old → IsLongest set es put → GapIs self.old.me self.old.origin set put self.old.told result }
+        ensures delivered { (put : List EntryValue) → Delivered put self.old → Delivered put self.new }
+        ensures follows { (es set put : List EntryValue) → Follows es set put self.old → Follows es set put self.new }
+    {
+        let gap = self.missing();
+        self.note_asked(gap)
+    }
+
+    /// The own number of the last entry that was delivered, 0 at first.
+    pub fn last(&self) -> u64
+        ensures value { result ≡ self.now.last }
+        ensures valid { IsBuffer self.now }
+    {
+        self.last
+    }
+
+    /// The greatest number that the origin's log is known to have, by entries and beats; 0 at first.
+    pub fn told(&self) -> u64
+        ensures value { result ≡ self.now.told }
+        ensures valid { IsBuffer self.now }
+    {
+        self.told
+    }
+
+    /// How many entries are held, at most 64.
+    pub fn held_count(&self) -> usize
+        ensures value { result ≡ length self.now.held }
+        ensures valid { IsBuffer self.now }
+    {
+        self.held.len()
+    }
+}

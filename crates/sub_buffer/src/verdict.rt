@@ -1,0 +1,27 @@
+//! What a buffer says of an entry that is offered to it.
+
+use rights_types::Entry;
+use std::alloc::{Allocator, Global};
+
+/// What a buffer says of an entry of its origin. With one writer `AfterClose` never comes, since all entries
+/// of a closed log are repeats.
+#[derive(Drop)]
+pub enum Verdict<A: Allocator = Global> {
+    /// It is the next entry, and this is it. Held entries may have become next: see `pop_ready`.
+    Ready(Entry<A>),
+    /// It is kept until the entries before it have come.
+    Held,
+    /// It came before, or another entry that begins at its number did.
+    Repeat,
+    /// The log was closed before it.
+    AfterClose,
+    /// It is later than the next entry, and as many entries as there is room for are held: it is dropped.
+    Full,
+}
+
+/// Why an entry is refused without a verdict.
+#[derive(Clone, Copy, Debug, PartialEq, Eq)]
+pub enum BufferError {
+    /// It is of another origin.
+    WrongOrigin,
+}
