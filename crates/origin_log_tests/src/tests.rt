@@ -1,0 +1,4 @@
+mod blocks;
+mod examples;
+mod helpers;
+mod memory;
