@@ -1,15 +1,19 @@
-//! Measures how fast lines are read and written.
+//! Measures the parts of a site. With no word it says which.
 #![tactic(auto)]
 
-mod lines;
-mod measure;
+mod buffer;
+mod codec;
+mod lane;
+mod log;
 
-use crate::measure::measure_all;
 use std::{env, io};
 
 fn main(rt: HostRuntime) -> io::Result<()> {
     match env::args(&rt)?.nth(1) {
-        Some(word) if word.as_str() == "codec" => measure_all(&rt),
-        _ => println!(rt; "usage: bench codec"),
+        Some(word) if word.as_str() == "codec" => codec::measure_all(&rt),
+        Some(word) if word.as_str() == "buffer" => buffer::measure_all(&rt),
+        Some(word) if word.as_str() == "log" => log::measure_all(&rt),
+        Some(word) if word.as_str() == "lane" => lane::measure_all(&rt),
+        _ => println!(rt; "usage: bench codec|buffer|log|lane"),
     }
 }

@@ -1,6 +1,8 @@
-//! Rates of reading and of writing.
+//! How fast lines are read and written.
 
-use crate::lines::{Load, answers, entries, short_kinds};
+mod lines;
+
+use crate::codec::lines::{Load, answers, entries, short_kinds};
 use entry_codec::{read_line, write_line};
 use rights_types::Message;
 use std::alloc::Global;

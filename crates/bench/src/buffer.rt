@@ -1,0 +1,67 @@
+//! How many offers a subscriber buffer takes in a second.
+
+mod windows;
+
+use crate::buffer::windows::{Order, WINDOW_COUNT, window};
+use rights_types::{Entry, SiteId};
+use std::io;
+use std::io::ErrorKind;
+use std::rt::Clock;
+use std::time::Instant;
+use sub_buffer::{SubBuffer, Verdict};
+
+// The best of so many runs is told.
+const RUNS: u64 = 5;
+
+/// Prints the rates of entries in order, backwards within windows of 64, and each three times.
+pub fn measure_all<R: Clock + Print + AllocGlobal>(rt: &R) -> io::Result<()> {
+    measure(rt, "in order", Order::Forward)?;
+    measure(rt, "backwards by 64", Order::Backward)?;
+    measure(rt, "in order, each three times", Order::Thrice)
+}
+
+fn measure<R: Clock + Print + AllocGlobal>(rt: &R, name: &str, order: Order) -> io::Result<()> {
+    let mut best = u128::MAX;
+    for _ in 0..RUNS {
+        best = best.min(offer_time(rt, order)?);
+    }
+    let count = order.offers_per_window() as u128 * WINDOW_COUNT as u128;
+    let rate = (count * 1_000_000_000).checked_div(best).unwrap_or(0);
+    println!(rt; "buffer {name}: {rate} offers/s ({count} offers)")
+}
+
+// The nanoseconds that the offers of all windows take, without the making of their entries.
+fn offer_time<R: Clock + AllocGlobal>(rt: &R, order: Order) -> io::Result<u128> {
+    let made = SubBuffer::new(rt.alloc(), SiteId::known(2), SiteId::known(1));
+    let Ok(mut buffer) = made else {
+        return Err(io::Error::from(ErrorKind::OutOfMemory));
+    };
+    let mut nanos: u128 = 0;
+    for number in 0..WINDOW_COUNT {
+        let entries = window(rt.alloc(), order, number)?;
+        let start = Instant::now(rt)?;
+        offer_all(&mut buffer, entries);
+        nanos = nanos.saturating_add(start.elapsed(rt)?.as_nanos());
+    }
+    if buffer.last() != WINDOW_COUNT as u64 * 64 {
+        return Err(io::Error::from(ErrorKind::InvalidData));
+    }
+    Ok(nanos)
+}
+
+fn offer_all(buffer: &mut SubBuffer, entries: Vec<Entry>) {
+    for entry in entries {
+        if let Ok(Verdict::Ready(_)) = buffer.offer(entry) {
+            deliver(buffer);
+        }
+    }
+}
+
+// Delivers what has become next.
+fn deliver(buffer: &mut SubBuffer) {
+    for _ in 0..64u8 {
+        if buffer.pop_ready().is_none() {
+            break;
+        }
+    }
+}

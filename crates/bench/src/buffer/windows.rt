@@ -1,0 +1,59 @@
+//! Entries of one log, 64 at a time.
+
+use rights_types::{Amount, Entry, Move, SiteId};
+use std::alloc::Global;
+use std::io;
+use std::io::ErrorKind;
+
+/// So many windows are offered in one run.
+pub const WINDOW_COUNT: u32 = 10_000;
+
+/// How the 64 entries of a window come.
+#[derive(Clone, Copy)]
+pub enum Order {
+    /// First to last.
+    Forward,
+    /// Last to first.
+    Backward,
+    /// First to last, each three times.
+    Thrice,
+}
+
+impl Order {
+    /// How many entries are offered for each window.
+    pub fn offers_per_window(self) -> u64 {
+        match self {
+            Order::Forward => 64,
+            Order::Backward => 64,
+            Order::Thrice => 192,
+        }
+    }
+}
+
+// An entry of site 1 that issues 1.
+fn entry(alloc: Global, prev: u64) -> io::Result<Entry> {
+    let mut moves = Vec::with_capacity(alloc, 1)?;
+    moves.push(Move::Issue(Amount::known(1)))?;
+    match Entry::new(SiteId::known(1), prev, moves) {
+        Ok(entry) => Ok(entry),
+        Err(_) => Err(io::Error::from(ErrorKind::InvalidData)),
+    }
+}
+
+/// The entries of a window as they come.
+pub fn window(alloc: Global, order: Order, number: u32) -> io::Result<Vec<Entry>> {
+    let mut entries = Vec::with_capacity(alloc, 192)?;
+    let first = number as u64 * 64;
+    for k in 0..64u64 {
+        match order {
+            Order::Forward => entries.push(entry(alloc, first + k)?)?,
+            Order::Backward => entries.push(entry(alloc, first + 63 - k)?)?,
+            Order::Thrice => {
+                for _ in 0..3u8 {
+                    entries.push(entry(alloc, first + k)?)?;
+                }
+            }
+        }
+    }
+    Ok(entries)
+}

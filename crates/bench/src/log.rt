@@ -1,0 +1,122 @@
+//! How fast a log is written and read, at three lengths.
+
+mod loads;
+
+use crate::log::loads::{MOVES, filled, next, query};
+use origin_log::OriginLog;
+use std::io;
+use std::io::ErrorKind;
+use std::rt::Clock;
+use std::time::Instant;
+
+// The best of so many runs is told.
+const RUNS: u64 = 3;
+
+// Calls of a run, at least.
+const CALLS: u64 = 1_000_000;
+
+// Numbers that an answer is asked for: those of three or four entries.
+const GAP: u64 = 12;
+
+// A short log is filled several times over.
+fn append_time<R: Clock + AllocGlobal>(rt: &R, entries: u64, rounds: u64) -> io::Result<u128> {
+    let start = Instant::now(rt)?;
+    for _ in 0..rounds {
+        filled(rt.alloc(), entries)?;
+    }
+    Ok(start.elapsed(rt)?.as_nanos())
+}
+
+fn line_time<R: Clock>(rt: &R, log: &OriginLog) -> io::Result<u128> {
+    let len = (log.len() as u64).max(1);
+    let start = Instant::now(rt)?;
+    let mut number = 1;
+    let mut bytes = 0u64;
+    for _ in 0..CALLS {
+        number = next(number);
+        if let Some(line) = log.line(((number >> 33) % len) as usize) {
+            bytes = bytes.wrapping_add(line.len() as u64);
+        }
+    }
+    let took = start.elapsed(rt)?.as_nanos();
+    if bytes == 0 {
+        return Err(io::Error::from(ErrorKind::InvalidData));
+    }
+    Ok(took)
+}
+
+fn answer_time<R: Clock>(rt: &R, log: &OriginLog) -> io::Result<u128> {
+    let end = log.end().max(1);
+    let start = Instant::now(rt)?;
+    let mut number = 1;
+    for _ in 0..CALLS {
+        number = next(number);
+        if log
+            .answer_line(&query((number >> 33) % end + 1, GAP)?)
+            .is_err()
+        {
+            return Err(io::Error::from(ErrorKind::OutOfMemory));
+        }
+    }
+    Ok(start.elapsed(rt)?.as_nanos())
+}
+
+fn read_time<R: Clock>(rt: &R, log: &OriginLog) -> io::Result<u128> {
+    let end = log.end().max(1);
+    let start = Instant::now(rt)?;
+    let mut number = 1;
+    for _ in 0..CALLS {
+        number = next(number);
+        if log.answer(&query((number >> 33) % end + 1, GAP)?).is_err() {
+            return Err(io::Error::from(ErrorKind::OutOfMemory));
+        }
+    }
+    Ok(start.elapsed(rt)?.as_nanos())
+}
+
+fn per_second(calls: u64, nanos: u128) -> u128 {
+    (calls as u128)
+        .saturating_mul(1_000_000_000)
+        .checked_div(nanos)
+        .unwrap_or(0)
+}
+
+// The bytes of all lines.
+fn total_bytes(log: &OriginLog) -> u64 {
+    let mut bytes = 0u64;
+    for index in 0..log.len() {
+        if let Some(line) = log.line(index) {
+            bytes = bytes.wrapping_add(line.len() as u64);
+        }
+    }
+    bytes
+}
+
+// Prints the rates at a log of so many moves.
+fn measure<R: Clock + Print + AllocGlobal>(rt: &R, moves: u64) -> io::Result<()> {
+    let entries = moves / MOVES;
+    let rounds = (CALLS / entries.max(1)).max(1);
+    let log = filled(rt.alloc(), entries)?;
+    let bytes = total_bytes(&log) / entries.max(1);
+    let (mut append, mut line, mut answer, mut read) = (u128::MAX, u128::MAX, u128::MAX, u128::MAX);
+    for _ in 0..RUNS {
+        append = append.min(append_time(rt, entries, rounds)?);
+        line = line.min(line_time(rt, &log)?);
+        answer = answer.min(answer_time(rt, &log)?);
+        read = read.min(read_time(rt, &log)?);
+    }
+    let append = per_second(entries.saturating_mul(rounds), append);
+    let line = per_second(CALLS, line);
+    let answer = per_second(CALLS, answer);
+    let read = per_second(CALLS, read);
+    println!(rt;
+        "log {moves} moves: {append} appends/s, {line} lines/s, {answer} answer lines/s, {read} answers/s, {bytes} bytes an entry"
+    )
+}
+
+/// Prints the rates of a short, a middling and a long log.
+pub fn measure_all<R: Clock + Print + AllocGlobal>(rt: &R) -> io::Result<()> {
+    measure(rt, 1_000)?;
+    measure(rt, 100_000)?;
+    measure(rt, 10_000_000)
+}
