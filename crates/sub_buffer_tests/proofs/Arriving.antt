@@ -1,5 +1,5 @@
 -- What an offer leaves, whatever it answers.
-use Rattle.std.proofs.Common.{◌≡◌, ◌≢◌, ◌+◌, ◌≤◌, List, [], ◌∷◌, ◌++◌, ◌⊎◌, inl, inr, length, Result, Ok, Err, Option, Some, None, arith, refl, sym, ap, ◌∙◌, subst}
+use Rattle.std.proofs.Common.{◌≡◌, ◌+◌, ◌≤◌, List, [], ◌∷◌, ◌++◌, ◌⊎◌, inl, inr, length, Result, Ok, Err, arith, sym, ap, subst}
 use Rattle.std.specs.Result.{IfOk, MatchResult}
 use Rattle.std.proofs.lemmas.List.{append-nil}
 use Rattle.rights_types.specs.Entries.{EntryValue}

@@ -1,5 +1,4 @@
-use Rattle.std.proofs.Common.{◌≡◌, ◌++◌, ◌+◌, ◌≤◌, List, arith, sym, ap, ◌∙◌, subst, length}
-use Rattle.std.specs.Vec.{vec_len, vec_capacity}
+use Rattle.std.proofs.Common.{◌++◌, ◌+◌, ◌≤◌, List, arith, sym, ap, ◌∙◌, subst, length}
 use Rattle.rights_types.specs.Entries.{EntryValue}
 use Rattle.sub_buffer.specs.Table.{ready_of}
 use Rattle.sub_buffer.specs.Follows.{Delivered, Follows}

@@ -1,6 +1,5 @@
-use Rattle.std.proofs.Common.{◌≡◌, [], ◌++◌, List, arith, sym, subst}
+use Rattle.std.proofs.Common.{arith, sym, subst}
 use Rattle.std.proofs.lemmas.List.{append-nil}
-use Rattle.rights_types.specs.Entries.{EntryValue}
 use Rattle.sub_buffer.specs.Follows.{Delivered, Follows}
 use Rattle.sub_buffer_tests.proofs.arrivals.drain.Goals as goal
 

@@ -1,4 +1,4 @@
-use Rattle.std.proofs.Common.{◌≡◌, ◌+◌, ◌≤◌, List, length}
+use Rattle.std.proofs.Common.{◌+◌, ◌≤◌, List, length}
 use Rattle.std.specs.Vec.{vec_len, vec_capacity}
 use Rattle.rights_types.specs.Entries.{EntryValue}
 use Rattle.sub_buffer.specs.Follows.{Delivered, Follows}
