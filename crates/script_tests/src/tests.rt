@@ -158,3 +158,41 @@ fn bytes_that_are_no_text(rt: HostRuntime) -> Result<(), Fail> {
     assert_eq!(rt; out.as_slice(), expected.as_slice());
     Ok(())
 }
+
+/// With ample memory a run of events answers each of them, and the log can be copied.
+#[test]
+fn a_run_of_events(rt: HostRuntime) -> Result<(), Fail> {
+    let alloc = rt.alloc();
+    let (one, two) = (SiteId::new(1)?, SiteId::new(2)?);
+    let mut moves = Vec::new(alloc);
+    moves.push(Move::Issue(Amount::new(10)?))?;
+    moves.push(Move::Give {
+        peer: two,
+        amount: Amount::new(3)?,
+    })?;
+    let mut events = Vec::new(alloc);
+    events.push(Event::Post(one, Moves::new(moves)))?;
+    events.push(Event::Publish(one, two))?;
+    events.push(Event::Arrive(two, 1))?;
+    events.push(Event::Take(two, one))?;
+    events.push(Event::Take(two, one))?;
+    let mut world = World::new(alloc, 2)?;
+    let outcomes = world.run(&events)?;
+    let [
+        Ok(Reply::Number(2)),
+        Ok(Reply::Packet(1)),
+        Ok(Reply::Verdicts(_)),
+        Ok(Reply::Taken(2)),
+        Ok(Reply::Nothing),
+    ] = outcomes.as_slice()
+    else {
+        return Err(Fail::from("the outcomes"));
+    };
+    assert_eq!(rt; (world.held(one), world.held(two)), (7, 3));
+    let log = world.log(alloc, one)?;
+    let [entry] = log.as_slice() else {
+        return Err(Fail::from("the log"));
+    };
+    assert_eq!(rt; (entry.prev(), entry.own()), (0, 2));
+    Ok(())
+}
