@@ -1,0 +1,117 @@
+-- Numbers that were answered stay so: each is granted once at most.
+use Rattle.std.proofs.Common.{◌≡◌, ℕ, ◌<◌, ◌≤◌, min, Bool, true, false, cond, eqb, ltb, inl, inr, refl, sym, ap, ◌∙◌, subst, arith}
+use Rattle.std.specs.Prelude.{None}
+use Rattle.std.proofs.lemmas.Bool.{cases_lt, ne_eqb, lt-ltb, le-ltb}
+use Rattle.rights_types.specs.Messages.{AskValue}
+use Rattle.rights_types.proofs.Places.{at_set_site}
+use Rattle.rights_book.specs.Books.{BookValue, account}
+use Rattle.request_queue.specs.Queues.{QueueValue}
+use Rattle.transfer_manager.specs.declared.peer_asks.PeerAsks.{PeerAsks}
+use Rattle.transfer_manager.specs.declared.answer.AskAnswer.{AskAnswer}
+use Rattle.transfer_manager.specs.declared.answer.AskAnswer.TheVariants.{Grant, Deny, RepeatedDeny, Repeated, OldAsk}
+use Rattle.transfer_manager.specs.Managers.{ManagerValue, sites, asks, no_asks, with_ask, with_asks, with_ended, ended}
+use Rattle.transfer_manager.specs.Plans.{amount_asked, Plans}
+use Rattle.transfer_manager.specs.Answers.{grant_of, IsLate, IsSettled}
+use Rattle.transfer_manager.proofs.Sites.{at_cases}
+use Rattle.transfer_manager.proofs.ManagerLaws.{answered}
+
+-- the answer by the last number that was answered, and whether it was granted
+abbrev answer_by : ℕ → Bool → AskValue → ℕ → AskAnswer
+answer_by last granted ask available =
+    cond (ltb ask.ask last) OldAsk (cond (eqb ask.ask last) (cond granted Repeated RepeatedDeny) (grant_of (min ask.amount available)))
+
+-- the same was answered
+pub record IsAnsweredAs (p q : PeerAsks) : Type 0 where
+  pub last : q.last_answered ≡ p.last_answered
+  pub granted : q.granted ≡ p.granted
+
+answered_as_is : (p q : PeerAsks) → q ≡ p → IsAnsweredAs p q
+answered_as_is p q e = record { last = ap (λ (a : PeerAsks). a.last_answered) e; granted = ap (λ (a : PeerAsks). a.granted) e }
+
+same_answer : (p q : PeerAsks) (ask : AskValue) (available : ℕ) → IsAnsweredAs p q
+    → IsLate (answer_by p.last_answered p.granted ask available) → IsLate (answer_by q.last_answered q.granted ask available)
+same_answer p q ask available same h =
+    subst (λ (l : ℕ). IsLate (answer_by l q.granted ask available)) (sym same.last)
+    (subst (λ (g : Bool). IsLate (answer_by p.last_answered g ask available)) (sym same.granted) h)
+
+still_settled : (old new : ManagerValue) → ((k : ℕ) → IsAnsweredAs (asks old k) (asks new k)) → (past : AskValue) → IsSettled old past → IsSettled new past
+still_settled old new same past settled again available of_asker most =
+    same_answer (asks old again.asker) (asks new again.asker) again available (same again.asker) (settled again available of_asker most)
+
+-- an ask that ended
+
+end_keeps : (t : Bool) (p : PeerAsks) → IsAnsweredAs p (cond t (record p { outstanding = None }) p)
+end_keeps true p = record { last = refl; granted = refl }
+end_keeps false p = record { last = refl; granted = refl }
+
+pub ended_keeps : (m : ManagerValue) (j ask : ℕ) → 1 ≤ j → j ≤ sites m → (k : ℕ) → IsAnsweredAs (asks m k) (asks (ended m j ask) k)
+ended_keeps m j ask low high k =
+    let p : PeerAsks = asks m j in
+    elim (at_set_site m.peers j k (with_ended p ask) no_asks low high) [
+      | inl q ↦
+          subst (λ i. IsAnsweredAs (asks m i) (asks (ended m j ask) k)) (sym q.0) (subst (IsAnsweredAs p) (sym q.1) (end_keeps (eqb p.last_ask ask) p))
+      | inr q ↦ answered_as_is (asks m k) (asks (ended m j ask) k) q.1
+    ]
+
+pub ended_settled : (m : ManagerValue) (j ask : ℕ) → 1 ≤ j → j ≤ sites m → (past : AskValue) → IsSettled m past → IsSettled (ended m j ask) past
+ended_settled m j ask low high = still_settled m (ended m j ask) (ended_keeps m j ask low high)
+
+-- a plan
+
+share_keeps : (t u : Bool) (p : PeerAsks) (n : ℕ) → (let q : PeerAsks = cond t (record p { outstanding = None }) p in IsAnsweredAs p (cond u q (with_ask q n)))
+share_keeps true true p n = record { last = refl; granted = refl }
+share_keeps true false p n = record { last = refl; granted = refl }
+share_keeps false true p n = record { last = refl; granted = refl }
+share_keeps false false p n = record { last = refl; granted = refl }
+
+pub planned_keeps : (m new : ManagerValue) (b : BookValue) (q : QueueValue) (count : ℕ) → Plans m b q count new → (k : ℕ) → IsAnsweredAs (asks m k) (asks new k)
+planned_keeps m new b q count p k =
+    elim (at_cases (sites m) k no_asks) [
+      | inl r ↦ subst (IsAnsweredAs (asks m k)) (sym (p.each k r.0 r.1))
+          (share_keeps (account b k).closed (eqb (amount_asked m b q k) 0) (asks m k) (amount_asked m b q k))
+      | inr out ↦ answered_as_is (asks m k) (asks new k) (out new.peers p.same_sites ∙ sym (out m.peers refl))
+    ]
+
+pub planned_settled : (m new : ManagerValue) (b : BookValue) (q : QueueValue) (count : ℕ) → Plans m b q count new
+    → (past : AskValue) → IsSettled m past → IsSettled new past
+planned_settled m new b q count p = still_settled m new (planned_keeps m new b q count p)
+
+-- an answer that was noted
+
+new_answer : (b : Bool) (n : ℕ) → IsLate (cond b Deny (Grant n)) → ⊥
+new_answer true n h = h
+new_answer false n h = h
+
+late_number : (last : ℕ) (granted : Bool) (ask : AskValue) (available : ℕ) → IsLate (answer_by last granted ask available) → ask.ask ≤ last
+late_number last granted ask available h =
+    elim (cases_lt last ask.ask) [
+      | inl above ↦
+          let older : ltb ask.ask last ≡ false = le-ltb ask.ask last (omega (arith, above)) in
+          let other : eqb ask.ask last ≡ false = ne_eqb ask.ask last (λ e. omega (arith, above, e)) in
+          let n = min ask.amount available in
+          absurd (new_answer (eqb n 0) n (subst (λ (t : Bool). IsLate (cond t (cond granted Repeated RepeatedDeny) (grant_of n))) other
+          (subst (λ (t : Bool). IsLate (cond t OldAsk (cond (eqb ask.ask last) (cond granted Repeated RepeatedDeny) (grant_of n)))) older h)))
+      | inr within ↦ within
+    ]
+
+-- every number that was answered before is less than this one
+older_late : (last : ℕ) (granted : Bool) (ask : AskValue) (available : ℕ) → ask.ask < last → IsLate (answer_by last granted ask available)
+older_late last granted ask available h = subst (λ (t : Bool). IsLate (cond t OldAsk (cond (eqb ask.ask last) (cond granted Repeated RepeatedDeny)
+    (grant_of (min ask.amount available))))) (sym (lt-ltb ask.ask last h)) tt
+
+pub answered_settled : (m : ManagerValue) (ask : AskValue) (granted : Bool) → 1 ≤ ask.asker → ask.asker ≤ sites m → (asks m ask.asker).last_answered < ask.ask
+    → (past : AskValue) → IsSettled m past → IsSettled (with_asks m ask.asker (answered (asks m ask.asker) ask.ask granted)) past
+answered_settled m ask granted low high above past settled again available of_asker most =
+    let j = ask.asker in
+    let p : PeerAsks = answered (asks m j) ask.ask granted in
+    let new : ManagerValue = with_asks m j p in
+    elim (at_set_site m.peers j again.asker p no_asks low high) [
+      | inl q ↦
+          let before = late_number (asks m past.asker).last_answered (asks m past.asker).granted past 0 (settled past 0 refl (omega arith)) in
+          let before_here : past.ask ≤ (asks m j).last_answered = subst (λ i. past.ask ≤ (asks m i).last_answered) (sym of_asker ∙ q.0) before in
+          let old : again.ask < ask.ask = omega (arith, most, before_here, above) in
+          subst (λ (a : PeerAsks). IsLate (answer_by a.last_answered a.granted again available)) (sym q.1) (older_late ask.ask granted again available old)
+      | inr q ↦
+          same_answer (asks m again.asker) (asks new again.asker) again available (answered_as_is (asks m again.asker) (asks new again.asker) q.1)
+          (settled again available of_asker most)
+    ]

@@ -1,0 +1,4 @@
+pub mod Sites
+pub mod ManagerLaws
+pub mod PlanLaws
+pub mod AnswerLaws

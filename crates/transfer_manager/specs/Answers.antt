@@ -1,0 +1,45 @@
+-- What a site answers to the asks of others.
+use Rattle.std.specs.Prelude.{◌≡◌, ℕ, ◌≤◌, true, false, min, nat_lt, ◌==◌, if◌then◌else◌}
+use Rattle.rights_types.specs.Messages.{AskValue}
+use Rattle.transfer_manager.specs.declared.answer.AskAnswer.{AskAnswer}
+use Rattle.transfer_manager.specs.declared.answer.AskAnswer.TheVariants.{Grant, Deny, RepeatedDeny, Repeated, OldAsk}
+use Rattle.transfer_manager.specs.Managers.{ManagerValue, asks, with_asks}
+
+-- so many rights are granted, or none
+abbrev pub grant_of : ℕ → AskAnswer
+grant_of n = if n == 0 then Deny else Grant n
+
+-- what to answer to an ask, where so many rights are available
+abbrev pub answer_to : ManagerValue → AskValue → ℕ → AskAnswer
+answer_to m ask available =
+    let p = asks m ask.asker in
+    if nat_lt ask.ask p.last_answered then OldAsk
+    else (if ask.ask == p.last_answered then (if p.granted then Repeated else RepeatedDeny)
+    else grant_of (min ask.amount available))
+
+-- the asks after this answer was noted
+abbrev pub noted : ManagerValue → AskValue → AskAnswer → ManagerValue
+noted m ask (Grant n) = with_asks m ask.asker (record (asks m ask.asker) { last_answered = ask.ask; granted = true })
+noted m ask Deny = with_asks m ask.asker (record (asks m ask.asker) { last_answered = ask.ask; granted = false })
+noted m ask _ = m
+
+-- the fact holds where the answer is a grant or a first denial
+abbrev pub IfNew : AskAnswer → Type 0 → Type 0
+IfNew (Grant n) P = P
+IfNew Deny P = P
+IfNew _ P = Unit {0}
+
+-- a grant is of what was asked for and is available
+abbrev pub IsWithin : AskAnswer → AskValue → ℕ → Type 0
+IsWithin (Grant n) ask available = (1 ≤ n) × (n ≤ ask.amount) × (n ≤ available)
+IsWithin _ ask available = Unit {0}
+
+-- the answer is neither a grant nor a first denial
+abbrev pub IsLate : AskAnswer → Type 0
+IsLate (Grant n) = ⊥
+IsLate Deny = ⊥
+IsLate _ = Unit {0}
+
+-- whatever is available, no ask of this asker with this number or a smaller one is granted any more
+abbrev pub IsSettled : ManagerValue → AskValue → Type 0
+IsSettled m ask = (again : AskValue) (available : ℕ) → again.asker ≡ ask.asker → again.ask ≤ ask.ask → IsLate (answer_to m again available)

@@ -1,0 +1,4 @@
+pub mod Managers
+pub mod Shares
+pub mod Plans
+pub mod Answers

@@ -1,0 +1,154 @@
+//! The transfer manager of one site.
+ghost use Rattle.std.specs.Prelude.{◌≡◌, ℕ, ◌<◌, ◌≤◌, IfOk, IfSome};
+ghost use Rattle.rights_types.specs.Messages.{AskValue, IsAsk};
+
+use crate::answer::AskAnswer;
+use crate::peer_asks::PeerAsks;
+use crate::plan::{ask_each, end_closed, need, offers};
+use request_queue::RequestQueue;
+use rights_book::Book;
+use rights_types::{Amount, Ask, AskNumber, OutOfMemory, SiteId};
+use std::alloc::{Allocator, Global};
+use std::marker::Model;
+
+/// The asks of one site: which are outstanding, and which of the others' were answered. It writes no
+/// entry and sends no line itself.
+///
+/// No call but `new` takes memory.
+#[derive(Drop)]
+pub struct Manager<A: Allocator = Global> {
+    me: SiteId,
+    peers: Vec<PeerAsks, A>,
+}
+
+impl<A: Allocator> Model for Manager<A> {
+    ghost use Rattle.transfer_manager.specs.Managers.{ManagerValue, IsManager};
+
+    ghost Value = { ManagerValue };
+
+    ghost view = { λ m. record { me = m.me; peers = m.peers.items } };
+
+    ghost invariant = { λ m. IsManager (record { me = m.me; peers = m.peers.items }) };
+}
+
+impl<A: Allocator> Manager<A> {
+    ghost use Rattle.transfer_manager.specs.Managers.{sites, asks, new_manager, outstanding_ask, ended};
+    ghost use Rattle.transfer_manager.specs.Plans.{Plans};
+    ghost use Rattle.transfer_manager.specs.Answers.{answer_to, noted, IfNew, IsWithin, IsSettled};
+
+    /// The manager of site `me` among so many sites, 2 to 16, where nothing was asked.
+    pub fn new(alloc: A, me: SiteId, sites: u64) -> Result<Manager<A>, OutOfMemory>
+        requires sites { (2 ≤ sites) × (sites ≤ 16) }
+        requires me { me ≤ sites }
+        ensures { IfOk result (λ manager. manager ≡ new_manager me sites) }
+    {
+        let _ = me.number();
+        let mut peers = Vec::with_capacity(alloc, sites as usize)?;
+        for _site in 0..sites {
+            peers.push(PeerAsks::new())?;
+        }
+        Ok(Manager { me, peers })
+    }
+
+    /// Ends the asks to peers that are known to have closed. Then, where the waiting requests lack
+    /// rights, asks peers for them: those known to have more first, each once and for no more than
+    /// it is known to have. Answers how many were asked.
+    pub fn plan<B: Allocator, C: Allocator>(
+        &mut self,
+        book: &Book<B>,
+        queue: &RequestQueue<C>,
+    ) -> u64
+        ensures plans { Plans self.old book.now queue.now result self.new }
+        ensures settled { (past : AskValue) → IsSettled self.old past → IsSettled self.new past }
+        ensures range { result ≤ 16 }
+    {
+        end_closed(&mut self.peers, book);
+        let need = need(&self.peers, book, queue);
+        let offers = offers(self.me, &self.peers, book);
+        let sites = self.peers.len();
+        ask_each(&mut self.peers, &offers[..sites], need)
+    }
+
+    /// The ask to that peer that is outstanding.
+    pub fn outstanding(&self, peer: SiteId) -> Option<Ask>
+        ensures value { result ≡ outstanding_ask self.now peer }
+        ensures valid { IfSome result IsAsk }
+    {
+        let asks = self.asks(peer);
+        let amount = asks.outstanding?;
+        Ask::new(self.me, peer, AskNumber::known(asks.last_ask), amount).ok()
+    }
+
+    /// What to answer to an ask of a peer, where so many rights are available. Nothing is noted.
+    pub fn on_ask(&self, ask: &Ask, available: u64) -> AskAnswer
+        ensures value { result ≡ answer_to self.now ask.now available }
+        ensures new { IfNew result ((asks self.now ask.now.asker).last_answered < ask.now.ask) }
+        ensures within { IsWithin result ask.now available }
+    {
+        let asks = self.asks(ask.asker());
+        let number = ask.ask().value();
+        if number < asks.last_answered {
+            return AskAnswer::OldAsk;
+        }
+        if number == asks.last_answered {
+            return if asks.granted {
+                AskAnswer::Repeated
+            } else {
+                AskAnswer::RepeatedDeny
+            };
+        }
+        match Amount::new(available.min(ask.amount().value())) {
+            Ok(amount) => AskAnswer::Grant(amount),
+            Err(_) => AskAnswer::Deny,
+        }
+    }
+
+    /// Notes the answer that `on_ask` gave to this ask. A repeated answer was noted before, and
+    /// changes nothing.
+    pub fn note_answer(&mut self, ask: &Ask, answer: AskAnswer)
+        requires site { ask.now.asker ≤ sites self.old }
+        requires new { IfNew answer ((asks self.old ask.now.asker).last_answered < ask.now.ask) }
+        ensures noted { self.new ≡ noted self.old ask.now answer }
+        ensures once { IfNew answer (IsSettled self.new ask.now) }
+        ensures settled { (past : AskValue) → IsSettled self.old past → IsSettled self.new past }
+    {
+        let granted = match answer {
+            AskAnswer::Grant(_) => true,
+            AskAnswer::Deny => false,
+            _ => return,
+        };
+        let asks = &mut self.peers[ask.asker().index()];
+        asks.last_answered = ask.ask().value();
+        asks.granted = granted;
+    }
+
+    /// A grant of that peer, with this ask number, was applied. The ask ends where it is the
+    /// outstanding one.
+    pub fn on_grant(&mut self, peer: SiteId, ask: AskNumber)
+        requires { peer ≤ sites self.old }
+        ensures ended { self.new ≡ ended self.old peer ask }
+        ensures settled { (past : AskValue) → IsSettled self.old past → IsSettled self.new past }
+    {
+        let granter = &mut self.peers[peer.index()];
+        granter.end(ask);
+    }
+
+    /// That peer denied the ask of this number. The ask ends where it is the outstanding one.
+    pub fn on_deny(&mut self, peer: SiteId, ask: AskNumber)
+        requires { peer ≤ sites self.old }
+        ensures ended { self.new ≡ ended self.old peer ask }
+        ensures settled { (past : AskValue) → IsSettled self.old past → IsSettled self.new past }
+    {
+        let denier = &mut self.peers[peer.index()];
+        denier.end(ask);
+    }
+
+    fn asks(&self, peer: SiteId) -> PeerAsks
+        ensures { result ≡ asks self.now peer }
+    {
+        match self.peers.get(peer.index()) {
+            Some(asks) => *asks,
+            None => PeerAsks::new(),
+        }
+    }
+}

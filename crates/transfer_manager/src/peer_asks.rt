@@ -1,0 +1,60 @@
+//! The asks between a manager's site and one other.
+ghost use Rattle.std.specs.Prelude.{◌≡◌, ◌<◌};
+ghost use Rattle.transfer_manager.specs.Managers.{no_asks, amount_of, with_ask, with_ended};
+
+use rights_types::{Amount, AskNumber};
+
+/// What a manager keeps of the asks to one peer and of those from it.
+#[derive(Clone, Copy)]
+pub(crate) struct PeerAsks {
+    /// The number of the last ask to the peer; 0 before the first.
+    pub(crate) last_ask: u64,
+    /// The amount of that ask, as long as it is outstanding.
+    pub(crate) outstanding: Option<Amount>,
+    /// The number of the peer's last ask that was answered; 0 before the first.
+    pub(crate) last_answered: u64,
+    /// Whether that one was granted.
+    pub(crate) granted: bool,
+}
+
+impl PeerAsks {
+    /// Nothing was asked.
+    pub(crate) fn new() -> PeerAsks
+        ensures { result ≡ no_asks }
+    {
+        PeerAsks {
+            last_ask: 0,
+            outstanding: None,
+            last_answered: 0,
+            granted: false,
+        }
+    }
+
+    /// The rights that the peer is asked for and did not answer yet.
+    pub(crate) fn outstanding_amount(&self) -> u64
+        ensures { result ≡ amount_of self.now.outstanding }
+    {
+        match self.outstanding {
+            Some(amount) => amount.value(),
+            None => 0,
+        }
+    }
+
+    /// The peer is asked for this amount, under the next number.
+    pub(crate) fn ask(&mut self, amount: Amount)
+        requires { self.old.last_ask < 1000000000 }
+        ensures { self.new ≡ with_ask self.old amount }
+    {
+        self.last_ask += 1;
+        self.outstanding = Some(amount);
+    }
+
+    /// The outstanding ask ends, if it has this number.
+    pub(crate) fn end(&mut self, ask: AskNumber)
+        ensures { self.new ≡ with_ended self.old ask }
+    {
+        if self.last_ask == ask.value() {
+            self.outstanding = None;
+        }
+    }
+}

@@ -1,0 +1,5 @@
+mod answers;
+mod calls;
+mod memory;
+mod plans;
+mod sixteen;

@@ -1,0 +1,85 @@
+//! Calls of managers and books, made only where they may be.
+ghost use Rattle.std.specs.Prelude.{◌≡◌, ◌≤◌};
+ghost use Rattle.transfer_manager.specs.Managers.{sites};
+
+use rights_book::Book;
+use rights_types::{Amount, Ask, AskNumber, Entry, Move, SiteId, TypeError};
+use std::alloc::{Allocator, Global};
+use std::test::Fail;
+use transfer_manager::{AskAnswer, Manager};
+
+/// Answers an ask of one of three sites, and notes the answer.
+pub fn answer<A: Allocator>(
+    manager: &mut Manager<A>,
+    ask: &Ask,
+    available: u64,
+) -> Option<AskAnswer>
+    requires { sites manager.old ≡ 3 }
+    ensures { sites manager.new ≡ 3 }
+{
+    if ask.asker().number() > 3 {
+        return None;
+    }
+    let answer = manager.on_ask(ask, available);
+    let noted = answer;
+    manager.note_answer(ask, noted);
+    Some(answer)
+}
+
+/// A grant of the peer, with this ask number, was applied.
+pub fn granted<A: Allocator>(manager: &mut Manager<A>, peer: SiteId, ask: AskNumber)
+    requires { peer ≤ sites manager.old }
+    ensures { sites manager.new ≡ sites manager.old }
+{
+    manager.on_grant(peer, ask);
+}
+
+/// The peer denied the ask of this number.
+pub fn denied<A: Allocator>(manager: &mut Manager<A>, peer: SiteId, ask: AskNumber)
+    requires { peer ≤ sites manager.old }
+    ensures { sites manager.new ≡ sites manager.old }
+{
+    manager.on_deny(peer, ask);
+}
+
+/// Applies the moves as the next entry of that site, if they may be.
+pub fn apply<A: Allocator>(
+    alloc: Global,
+    book: &mut Book<A>,
+    origin: SiteId,
+    moves: &[Move],
+) -> Result<bool, Fail> {
+    let me = book.me();
+    if origin.number() > book.sites() || origin == me || book.closed(origin) {
+        return Ok(false);
+    }
+    let entry = Entry::new(origin, book.applied(origin), Vec::from_slice(alloc, moves)?)?;
+    book.apply(origin, &entry);
+    Ok(true)
+}
+
+/// An ask of this number, between sites of these numbers.
+pub fn ask(asker: u64, asked: u64, number: u64, amount: u64) -> Result<Ask, TypeError> {
+    Ask::new(
+        SiteId::new(asker)?,
+        SiteId::new(asked)?,
+        AskNumber::new(number)?,
+        Amount::new(amount)?,
+    )
+}
+
+pub fn issue(rights: u64) -> Result<Move, TypeError> {
+    Ok(Move::Issue(Amount::new(rights)?))
+}
+
+pub fn spend(rights: u64) -> Result<Move, TypeError> {
+    Ok(Move::Spend(Amount::new(rights)?))
+}
+
+pub fn grant(peer: SiteId, rights: u64, ask: u64) -> Result<Move, TypeError> {
+    Ok(Move::Grant {
+        peer,
+        amount: Amount::new(rights)?,
+        ask: AskNumber::new(ask)?,
+    })
+}
