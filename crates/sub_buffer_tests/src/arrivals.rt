@@ -41,7 +41,7 @@ fn keep_ready<A: Allocator>(put: &mut Vec<Entry<A>, A>, offered: Result<Verdict<
     ensures capacity { vec_capacity put.old ≤ vec_capacity put.new }
 {
     match offered {
-        Ok(Verdict::Ready(next)) => keep(put, next),
+        Ok(Verdict::Ready(next)) => put.push_reserved(next),
         Ok(Verdict::Held) => {}
         Ok(Verdict::Repeat) => {}
         Ok(Verdict::AfterClose) => {}
@@ -57,19 +57,6 @@ fn drain<A: Allocator>(buffer: &mut SubBuffer<A>, put: &mut Vec<Entry<A>, A>)
     ensures longest { (es set : List EntryValue) → Follows es set put.old.items buffer.old → Follows es set put.new.items buffer.new × IsLongest set es put.new.items }
 {
     while let Some(next) = buffer.pop_ready() {
-        keep(put, next);
-    }
-}
-
-// Adds to a list that has room.
-fn keep<A: Allocator>(put: &mut Vec<Entry<A>, A>, entry: Entry<A>)
-    requires { vec_len put.old < vec_capacity put.old }
-    ensures items { put.new.items ≡ put.old.items ++ entry ∷ [] }
-    ensures len { vec_len put.new ≡ vec_len put.old + 1 }
-    ensures capacity { vec_capacity put.old ≤ vec_capacity put.new }
-{
-    match put.push(entry) {
-        Ok(()) => {}
-        Err(_) => unreachable!(),
+        put.push_reserved(next);
     }
 }
