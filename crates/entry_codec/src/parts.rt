@@ -1,6 +1,5 @@
 //! Walking over the parts of a text, which a byte parts.
-ghost use Rattle.std.specs.Prelude.{◌≡◌, ◌∷◌, ◌==◌, ◌<◌, ◌≤◌, ◌^◌, ◌⊎◌, false, length, take, slice_index, position, is_none, IfSome, IfOk};
-ghost use Rattle.std.specs.List.{list_any};
+ghost use Rattle.std.specs.Prelude.{◌≡◌, ◌∷◌, ◌==◌, ◌<◌, ◌≤◌, ◌^◌, ◌⊎◌, length, slice_index, position, is_none, IfSome, IfOk};
 ghost use Rattle.std.specs.Char.{digit_value};
 ghost use Rattle.entry_codec.specs.Parts.{split_at, left, Finds, Reads};
 ghost use Rattle.entry_codec.specs.Moves.{first_number, only_number};
@@ -9,9 +8,7 @@ ghost use Rattle.entry_codec.specs.Digits.{IsReadUpTo};
 
 use crate::fault::{LineError, Place};
 use crate::number::{MAX_DIGITS, checked, digit};
-
-// Bytes that are looked at in one step.
-const BLOCK: usize = 16;
+use memchr::memchr;
 
 fn position_of(text: &[u8], at: u8) -> Option<usize>
     ensures { result ≡ position (λ b. b == at) text.now }
@@ -19,38 +16,11 @@ fn position_of(text: &[u8], at: u8) -> Option<usize>
     text.iter().position(|b| *b == at)
 }
 
-// Whether a block has the byte. It looks at each, so that no step waits for the one before.
-fn has(block: &[u8], at: u8) -> bool
-    ensures { result ≡ list_any (λ b. b == at) block.now }
-{
-    let mut found = false;
-    for byte in block {
-        found = found | (*byte == at);
-    }
-    found
-}
-
-// How many bytes of whole blocks come before the block that has the byte.
-fn blocks_without(text: &[u8], at: u8) -> usize
-    ensures within { result ≤ length text.now }
-    ensures without { list_any (λ b. b == at) (take result text.now) ≡ false }
-{
-    let mut start = 0;
-    while text.len() - start >= BLOCK {
-        if has(&text[start..start + BLOCK], at) {
-            return start;
-        }
-        start += BLOCK;
-    }
-    start
-}
-
+/// Where the first such byte stands, in a text that is mostly long.
 pub(crate) fn far_position(text: &[u8], at: u8) -> Option<usize>
     ensures { result ≡ position (λ b. b == at) text.now }
 {
-    let start = blocks_without(text, at);
-    let place = position_of(&text[start..], at)?;
-    Some(start + place)
+    memchr(at, text)
 }
 
 /// The text before the first such byte, and what comes after it.
