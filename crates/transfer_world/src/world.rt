@@ -104,7 +104,7 @@ impl<A: Allocator + Copy> World<A> {
         };
         for event in events {
             let outcome = self.step_copy(alloc, event);
-            record(&mut outcomes, outcome);
+            outcomes.push_reserved(outcome);
         }
         Ok(outcomes)
     }
@@ -154,7 +154,7 @@ impl<A: Allocator + Copy> World<A> {
         match place.publish(peer)? {
             None => Ok(Reply::Nothing),
             Some(packet) => {
-                keep(&mut self.packets, packet);
+                self.packets.push_reserved(packet);
                 Ok(Reply::Packet(self.packets.len() as u64))
             }
         }
@@ -270,32 +270,5 @@ fn entry_in<A: Allocator + Copy>(alloc: A, text: &[u8]) -> Result<Entry<A>, OutO
         Ok(Message::Push(entry)) => Ok(entry),
         // The text spells an entry, so that nothing but memory can be refused.
         _ => Err(OutOfMemory),
-    }
-}
-
-// Adds to a list that has room.
-fn record<A: Allocator>(
-    outcomes: &mut Vec<Result<Reply<A>, WorldError>, A>,
-    outcome: Result<Reply<A>, WorldError>,
-)
-    requires { vec_len outcomes.old < vec_capacity outcomes.old }
-    ensures items { outcomes.new.items ≡ outcomes.old.items ++ outcome ∷ [] }
-    ensures len { vec_len outcomes.new ≡ vec_len outcomes.old + 1 }
-    ensures capacity { vec_capacity outcomes.old ≤ vec_capacity outcomes.new }
-{
-    match outcomes.push(outcome) {
-        Ok(()) => {}
-        Err(_) => unreachable!(),
-    }
-}
-
-// Adds to a list that has room.
-fn keep<A: Allocator>(packets: &mut Vec<Packet<A>, A>, packet: Packet<A>)
-    requires { vec_len packets.old < vec_capacity packets.old }
-    ensures { packets.new.items ≡ packets.old.items ++ packet ∷ [] }
-{
-    match packets.push(packet) {
-        Ok(()) => {}
-        Err(_) => unreachable!(),
     }
 }

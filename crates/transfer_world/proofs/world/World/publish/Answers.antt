@@ -1,4 +1,4 @@
-use Rattle.std.proofs.Common.{◌≡◌, ℕ, ◌+◌, ◌≤◌, List, ◌∷◌, [], ◌++◌, length, refl, sym, ap, ◌∙◌, subst, arith, length-append, Ok}
+use Rattle.std.proofs.Common.{◌≡◌, ℕ, ◌+◌, List, ◌∷◌, [], ◌++◌, length, ap, ◌∙◌, subst, arith, length-append, Ok}
 use Rattle.std.proofs.lemmas.Result.{err_from_is_err_and}
 use Rattle.transfer_world.specs.Values.{SiteValue, PacketValue, WorldValue}
 use Rattle.transfer_world.specs.Step.{Publishes}
@@ -27,7 +27,7 @@ invariant_of-self-in-Some g c =
     let w : WorldValue = record { sites = c.self.inside.sites.items; packets = c.self.inside.packets.items; ended = c.self.inside.ended } in
     let known = link_known w c.args.site c.args.peer (rw (← c.self.view_is) at c.requires) in
     let done = rw c.in-Some.is at c.in_ok-publish.ensures.published in
-    rw (c.keep.ensures, c.in_ok-reserve.ensures.items) (publishes_world w c.index.result c.args.site c.args.peer c.index_mut-place.result.now c.publish.new.self c.in-Some.packet c.self.invariant
+    rw (c.push_reserved.ensures.items, c.in_ok-reserve.ensures.items) (publishes_world w c.index.result c.args.site c.args.peer c.index_mut-place.result.now c.publish.new.self c.in-Some.packet c.self.invariant
     c.index.ensures.value known.0.1 known.1.0 known.1.1 c.index_mut-place.ensures.value done)
 
 pub returns-in-None : goal.returns-in-None
@@ -42,7 +42,7 @@ returns-in-Some g c =
     let w : WorldValue = record { sites = c.self.inside.sites.items; packets = c.self.inside.packets.items; ended = c.self.inside.ended } in
     let known = link_known w c.args.site c.args.peer (rw (← c.self.view_is) at c.requires) in
     let done = rw c.in-Some.is at c.in_ok-publish.ensures.published in
-    let items : c.keep.new.packets.items ≡ w.packets ++ c.in-Some.packet ∷ [] = c.keep.ensures ∙ ap (λ (l : List PacketValue). l ++ c.in-Some.packet ∷ []) c.in_ok-reserve.ensures.items in
-    let number : c.len.result ≡ length w.packets + 1 = omega (arith, c.len.ensures, c.keep.new.packets.ok, ap length items, length-append w.packets (c.in-Some.packet ∷ [])) in
+    let items : c.push_reserved.new.self.items ≡ w.packets ++ c.in-Some.packet ∷ [] = c.push_reserved.ensures.items ∙ ap (λ (l : List PacketValue). l ++ c.in-Some.packet ∷ []) c.in_ok-reserve.ensures.items in
+    let number : c.len.result ≡ length w.packets + 1 = omega (arith, c.len.ensures, c.push_reserved.new.self.ok, ap length items, length-append w.packets (c.in-Some.packet ∷ [])) in
     rw items (subst (λ (v : WorldValue). Publishes {A = ℕ} v c.args.site c.args.peer (Ok (Packet c.len.result)) (with_at_packet w c.index.result c.publish.new.self c.in-Some.packet)) c.self.view_is (publishes_ok ℕ w c.index.result c.args.site c.args.peer c.len.result c.index_mut-place.result.now c.publish.new.self c.in-Some.packet c.self.invariant.sound
     c.index.ensures.value known.0.1 c.index_mut-place.ensures.value done number))
