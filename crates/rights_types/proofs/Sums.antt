@@ -1,11 +1,11 @@
 -- Laws of the sums over moves.
-use Rattle.std.proofs.Common.{◌≡◌, ℕ, ◌+◌, ◌-◌, ◌*◌, ◌<◌, ◌≤◌, Bool, true, false, List, [], ◌∷◌, ◌++◌, length, get_or, take, drop, arith, refl, sym, ap, ◌∙◌, eqb, ltb, cond, Some, None, not, ◌&&◌}
+use Rattle.std.proofs.Common.{◌≡◌, ℕ, ◌+◌, ◌-◌, ◌*◌, ◌<◌, ◌≤◌, Bool, true, false, List, [], ◌∷◌, ◌++◌, length, get_or, take, drop, arith, refl, sym, ap, ◌∙◌, eqb, ltb, cond, not}
 use Rattle.std.specs.List.{sum_by, All}
 use Rattle.std.proofs.lemmas.Bool.{and_parts, ltb-false, le-ltb, not-true}
 use Rattle.std.proofs.lemmas.List.{append_assoc, append-nil, take-append-drop}
 use Rattle.std.proofs.lemmas.List.Sums.{sum_by-append, sum_by-cons, sum_by-le, sum_by-le-sum_by, sum_by_more}
 use Rattle.std.proofs.lemmas.List.Elements.{All-weaker, All-head, All-tail, All-take}
-use Rattle.rights_types.specs.Moves.{IsMove, NamesWithin, names, issue_of, spend_of, gift_of, gift_to, take_back_of, take_back_from, gain_of, cost_of}
+use Rattle.rights_types.specs.Moves.{IsMove, NamesWithin, issue_of, spend_of, gift_of, gift_to, take_back_of, take_back_from, gain_of, cost_of}
 use Rattle.rights_types.specs.Entries.{EntryValue}
 use Rattle.rights_types.specs.Chains.{moves_of, end, IsChain}
 use Rattle.rights_types.specs.Rights.{issued, spent, out, to, taken_back, back, sum_sites, covers, rights_after, IsNeverShort}

@@ -1,5 +1,5 @@
 -- A frontier's numbers give its places back.
-use Rattle.std.specs.Prelude.{◌≡◌, ℕ, ◌-◌, ◌≤◌, List, ◌++◌, length, take, drop, replicate, refl}
+use Rattle.std.specs.Prelude.{◌≡◌, ℕ, ◌-◌, List, ◌++◌, length, take, replicate}
 use Rattle.std.proofs.Common.{arith, ap, ◌∙◌, sym, take-append-drop}
 use Rattle.std.proofs.lemmas.List.{length-take-le}
 use Rattle.rights_types.specs.Frontiers.{IsPadded, padded}

@@ -1,9 +1,9 @@
 -- A frontier's numbers, and how they lie in sixteen places.
 use Rattle.std.specs.Prelude.{◌≡◌, ℕ, ◌-◌, ◌<◌, ◌≤◌, ◌⊎◌, List, ◌++◌, length, drop, replicate, Result, Ok, Err}
-use Rattle.std.specs.List.{All, Any}
-use Rattle.rights_types.specs.Ranges.{IsNumber, IsFrontier}
+use Rattle.std.specs.List.{Any}
+use Rattle.rights_types.specs.Ranges.{IsFrontier}
 use Rattle.rights_types.specs.declared.fault.TypeError.{TypeError}
-use Rattle.rights_types.specs.declared.fault.TypeError.TheVariants.{BadSite, BadAmount, BadNumber, BadCount, CloseNotLast, SameSite}
+use Rattle.rights_types.specs.declared.fault.TypeError.TheVariants.{BadNumber, BadCount}
 
 -- the places behind the numbers are 0
 pub record IsPadded (count : ℕ) (places : List ℕ) : Type 0 where

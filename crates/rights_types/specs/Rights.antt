@@ -1,6 +1,6 @@
 -- Sums over moves, and the rights that sites hold and that are on the way. The rights are those of the
 -- Bounded Counter with bound 0: R(i,i) is what i issued, R(i,j) what i gave to j, U(i) what i spent.
-use Rattle.std.specs.Prelude.{◌≡◌, ℕ, zero, suc, ◌+◌, ◌-◌, ◌≤◌, Bool, true, not, nat_lt, ◌&&◌, List, [], ◌∷◌, length, take, drop}
+use Rattle.std.specs.Prelude.{ℕ, zero, suc, ◌+◌, ◌-◌, ◌≤◌, Bool, true, not, nat_lt, ◌&&◌, List, [], ◌∷◌, length, take, drop}
 use Rattle.std.specs.List.{sum_by}
 use Rattle.rights_types.specs.Entries.{EntryValue}
 use Rattle.rights_types.specs.Chains.{moves_of}

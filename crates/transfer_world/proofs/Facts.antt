@@ -1,14 +1,13 @@
 -- What is known where an event is not refused.
-use Rattle.std.proofs.Common.{◌≡◌, ℕ, ◌+◌, ◌<◌, ◌≤◌, Bool, true, false, cond, not, ◌&&◌, ◌||◌, eqb, ltb, leb, List, [], ◌∷◌, length, Option, Some, None, arith, refl, sym, ap, ◌∙◌, subst}
-use Rattle.std.specs.Prelude.{IfSome}
+use Rattle.std.proofs.Common.{◌≡◌, ℕ, ◌+◌, ◌≤◌, Bool, true, false, cond, not, ◌||◌, ltb, leb, List, [], ◌∷◌, length, Option, Some, None, arith, refl, sym, ◌∙◌}
 use Rattle.std.specs.List.{All, list_any}
-use Rattle.std.proofs.lemmas.Bool.{and_parts, leb-true, ltb-false, not-true}
+use Rattle.std.proofs.lemmas.Bool.{and_parts, leb-true, ltb-false}
 use Rattle.std.proofs.lemmas.List.Elements.{All-nil, All-cons, All-head, All-tail}
 use Rattle.std.proofs.lemmas.List.Sums.{sum_by-cons}
 use Rattle.rights_types.specs.Chains.{end, is_closed}
 use Rattle.rights_types.specs.Ranges.{IsSite}
-use Rattle.rights_types.specs.Entries.{EntryValue, IsEntry}
-use Rattle.rights_types.specs.Moves.{IsMove, NamesWithin, names, peer_of, take_back_of, lacks_own_place, closes_early}
+use Rattle.rights_types.specs.Entries.{IsEntry}
+use Rattle.rights_types.specs.Moves.{IsMove, NamesWithin, names, lacks_own_place, closes_early}
 use Rattle.rights_types.specs.Rights.{covers, taken_back}
 use Rattle.rights_types.specs.declared.moves.Move.{Move}
 use Rattle.rights_types.specs.declared.moves.Move.TheVariants.{Issue, Spend, Grant, Give, Close, CloseAt, TakeBack}

@@ -1,5 +1,5 @@
 -- What each change of a world keeps.
-use Rattle.std.proofs.Common.{◌≡◌, ◌≢◌, ℕ, suc, zero, ◌+◌, ◌<◌, ◌≤◌, inl, inr, Bool, true, false, List, [], ◌∷◌, ◌++◌, length, replicate, arith, refl, sym, ap, ◌∙◌, subst}
+use Rattle.std.proofs.Common.{◌≡◌, ℕ, suc, zero, ◌+◌, ◌<◌, ◌≤◌, inl, inr, true, false, List, [], ◌∷◌, ◌++◌, length, arith, refl, sym, ap, ◌∙◌, subst}
 use Rattle.std.specs.List.{All, Contains, range_with_len}
 use Rattle.std.specs.Prelude.{map, slice_index_or}
 use Rattle.std.proofs.lemmas.List.{length-replicate}
@@ -7,11 +7,10 @@ use Rattle.std.proofs.lemmas.List.Elements.{All-weaker, All-push, All-nil, All-a
 use Rattle.rights_types.specs.Entries.{EntryValue, IsEntry}
 use Rattle.rights_types.specs.Chains.{end, is_closed, IsChain, moves_of}
 use Rattle.rights_types.specs.Moves.{NamesWithin}
-use Rattle.rights_types.specs.Places.{at_site, set_site}
-use Rattle.rights_types.specs.Rights.{to, taken_back, received, covers, rights_after, sum_sites, issued, spent, out}
-use Rattle.rights_types.specs.declared.moves.Move.{Move}
+use Rattle.rights_types.specs.Places.{at_site}
+use Rattle.rights_types.specs.Rights.{to, taken_back, received, covers, rights_after}
 use Rattle.rights_types.proofs.Chains.{chain_push}
-use Rattle.rights_types.proofs.Places.{at_set_site, set_site_keeps, length-set_site, at_site-replicate, at_site_past}
+use Rattle.rights_types.proofs.Places.{at_set_site, set_site_keeps, length-set_site, at_site-replicate}
 use Rattle.rights_types.proofs.SiteSums.{sum_risen, sum_same, sum_zero}
 use Rattle.rights_types.proofs.Sums.{moves_of-nil, moves_of-push, taken_back-append, covers-more, covers-append, to-nil}
 use Rattle.transfer_world.specs.Values.{LinkValue, SiteValue, PacketValue, WorldValue}

@@ -2,8 +2,7 @@
 use Rattle.std.proofs.Common.{◌≡◌, Result, Ok, Err}
 use Rattle.rights_types.specs.Entries.{EntryValue}
 use Rattle.rights_types.specs.Values.{value_of}
-use Rattle.rights_types.specs.Messages.{MessageValue}
-use Rattle.rights_types.specs.Messages.MessageValue.{AnEntry, AQuery, AnAnswer, ABeat, AnAsk, ADenial, AHello}
+use Rattle.rights_types.specs.Messages.MessageValue.{AnEntry}
 use Rattle.rights_types.specs.declared.message.Message.{Message}
 use Rattle.rights_types.specs.declared.message.Message.TheVariants.{Push, Query, Answer, Beat, Ask, Deny, Hello}
 use Rattle.entry_codec.specs.Parts.{Gives}

@@ -1,13 +1,13 @@
 -- What the readers of a world say.
-use Rattle.std.proofs.Common.{◌≡◌, ℕ, zero, suc, ◌+◌, ◌-◌, ◌*◌, ◌<◌, ◌≤◌, true, false, List, [], ◌∷◌, ◌++◌, length, get_or, take, drop, Option, Some, None, arith, refl, sym, ap, ◌∙◌, subst, add-one, take-append-drop}
+use Rattle.std.proofs.Common.{◌≡◌, ℕ, zero, suc, ◌+◌, ◌*◌, ◌<◌, ◌≤◌, false, List, [], ◌∷◌, ◌++◌, length, get_or, take, drop, Option, Some, None, arith, refl, sym, ap, ◌∙◌, add-one, take-append-drop}
 use Rattle.std.specs.Prelude.{IfSome, IfNone}
 use Rattle.std.specs.Borrow.{Bor}
 use Rattle.std.specs.Slice.{IsItemAt}
 use Rattle.std.proofs.lemmas.List.{take_more, get_or_past, length-append}
 use Rattle.rights_types.specs.Entries.{EntryValue}
-use Rattle.rights_types.specs.Chains.{end, IsChain, moves_of}
+use Rattle.rights_types.specs.Chains.{IsChain, moves_of}
 use Rattle.rights_types.specs.Places.{at_site}
-use Rattle.rights_types.specs.Rights.{sum_sites, issued, spent, to, back, received, held, way, rights_after}
+use Rattle.rights_types.specs.Rights.{sum_sites, issued, spent, to, received, held, way, rights_after}
 use Rattle.rights_types.proofs.Chains.{end_from-bound}
 use Rattle.rights_types.proofs.Places.{at_site-index}
 use Rattle.rights_types.proofs.SiteSums.{sum_bound, sum_fewer}
@@ -16,7 +16,7 @@ use Rattle.transfer_world.specs.Values.{LinkValue, SiteValue, WorldValue}
 use Rattle.transfer_world.specs.Worlds.{no_link, no_site, site, log, applied, count, held_by, on_way}
 use Rattle.transfer_world.specs.Faults.{rights_of}
 use Rattle.transfer_world.specs.Sound.{applied_of, SiteSound, Sound, IsWorld}
-use Rattle.transfer_world.specs.Headline.{received_by, Headline}
+use Rattle.transfer_world.specs.Headline.{Headline}
 use Rattle.transfer_world.proofs.Keeps.{none_received}
 use Rattle.transfer_world.proofs.Whole.{held_is, applied_begins, headline_of}
 use Rattle.transfer_world.proofs.WorldLaws.{read_site, site_ready}

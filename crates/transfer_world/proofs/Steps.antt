@@ -1,35 +1,34 @@
 -- The headline for every run of the step relation from the start, with no program in it.
-use Rattle.std.proofs.Common.{◌≡◌, ◌≢◌, ℕ, zero, suc, ◌+◌, ◌-◌, ◌<◌, ◌≤◌, ◌⊎◌, inl, inr, Bool, true, false, cond, ◌&&◌, not, eqb, List, [], ◌∷◌, ◌++◌, length, arith, refl, sym, ap, ◌∙◌, subst, Option, Some, None, Result, Ok, Err}
+use Rattle.std.proofs.Common.{◌≡◌, ℕ, zero, suc, ◌+◌, ◌-◌, ◌≤◌, inl, inr, Bool, true, false, cond, ◌&&◌, not, eqb, List, [], ◌∷◌, ◌++◌, length, arith, refl, sym, ap, ◌∙◌, subst, Option, Some, None, Result, Ok, Err}
 use Rattle.std.specs.Prelude.{MatchOption}
-use Rattle.std.specs.List.{All, Contains, slice_get, list_any}
+use Rattle.std.specs.List.{Contains, slice_get, list_any}
 use Rattle.std.proofs.lemmas.Bool.{and_parts, cases_lt}
-use Rattle.std.proofs.lemmas.List.Elements.{All-push, All-contains, All-weaker}
+use Rattle.std.proofs.lemmas.List.Elements.{All-push, All-contains}
 use Rattle.std.proofs.lemmas.Option.{get_or_from_slice_get, slice_get_within}
-use Rattle.rights_types.specs.Entries.{EntryValue, own, IsEntry}
-use Rattle.rights_types.specs.Chains.{end, is_closed, IsChain, IsPrefix, IsLongest, moves_of}
-use Rattle.rights_types.specs.Rights.{to, received, covers, rights_after}
-use Rattle.rights_types.specs.Moves.{NamesWithin}
+use Rattle.rights_types.specs.Entries.{EntryValue, IsEntry}
+use Rattle.rights_types.specs.Chains.{IsChain, moves_of}
+use Rattle.rights_types.specs.Rights.{to, covers}
 use Rattle.rights_types.specs.Messages.{MessageValue}
-use Rattle.rights_types.specs.Messages.MessageValue.{AnEntry, AQuery, AnAnswer, ABeat, AnAsk, ADenial, AHello}
+use Rattle.rights_types.specs.Messages.MessageValue.{AnEntry}
 use Rattle.rights_types.specs.declared.moves.Move.{Move}
 use Rattle.rights_types.proofs.Chains.{not_in_nil, is_entry, prefix_next}
 use Rattle.rights_types.proofs.Places.{at_site_past}
 use Rattle.rights_types.proofs.Sums.{moves_of-push, to-append}
-use Rattle.entry_codec.specs.Spelling.{Spells, line}
+use Rattle.entry_codec.specs.Spelling.{Spells}
 use Rattle.transfer_world.specs.Values.{LinkValue, SiteValue, PacketValue, WorldValue}
-use Rattle.transfer_world.specs.Worlds.{no_site, link_of, site, log, link, with_site, with_world_link, ended, count, packet, start}
-use Rattle.transfer_world.specs.Faults.{post_fault, names_above, is_site, site_fault, link_fault, delivery_fault, arrive_fault, place_fault, fault_of}
-use Rattle.transfer_world.specs.Step.{hold_room, next_entry, with_entry, Posts, entry_packet, published, with_packet, Publishes, Offered, Delivers, Arrives, applied_next, Takes, Happens, Step, Runs}
-use Rattle.transfer_world.specs.Sound.{applied_of, SiteSound, LinkSound, IsSent, Sound}
+use Rattle.transfer_world.specs.Worlds.{no_site, site, log, link, with_world_link, count, packet, start}
+use Rattle.transfer_world.specs.Faults.{names_above, is_site, delivery_fault, place_fault, fault_of}
+use Rattle.transfer_world.specs.Step.{hold_room, next_entry, Posts, entry_packet, published, Publishes, Offered, Delivers, Arrives, applied_next, Takes, Happens, Step, Runs}
+use Rattle.transfer_world.specs.Sound.{LinkSound, IsSent, Sound}
 use Rattle.transfer_world.specs.Headline.{Headline}
 use Rattle.transfer_world.specs.declared.event.Event.{Event}
 use Rattle.transfer_world.specs.declared.event.Event.TheVariants.{Post, Publish, Arrive, Take}
 use Rattle.transfer_world.specs.declared.reply.Verdict.{Verdict}
-use Rattle.transfer_world.specs.declared.reply.Verdict.TheVariants.{Ready, Held, Repeat, AfterClose, Full}
+use Rattle.transfer_world.specs.declared.reply.Verdict.TheVariants.{Ready, Held, Repeat, Full}
 use Rattle.transfer_world.specs.declared.reply.Reply.{Reply}
 use Rattle.transfer_world.specs.declared.reply.Reply.TheVariants.{Number, Packet, Verdicts, Taken, Nothing}
 use Rattle.transfer_world.specs.declared.fault.WorldError.{WorldError}
-use Rattle.transfer_world.specs.declared.fault.WorldError.TheVariants.{Ended, NoSuchSite, NoPacket, NotForSite, Desk, OutOfMemory}
+use Rattle.transfer_world.specs.declared.fault.WorldError.TheVariants.{Ended, NoSuchSite, Desk, OutOfMemory}
 use Rattle.transfer_world.proofs.Lists.{still_longest, wider, prefix_longer}
 use Rattle.transfer_world.proofs.Keeps.{log_kept, keeps_link, keeps_entry, keeps_packet, keeps_ended, start_sound}
 use Rattle.transfer_world.proofs.Facts.{no_cause, no_other, MayPost, may_post, nothing_back, all_within, site_is}

@@ -1,14 +1,13 @@
 -- The headline, from what is kept of every world.
-use Rattle.std.proofs.Common.{◌≡◌, ℕ, ◌+◌, ◌-◌, ◌<◌, ◌≤◌, List, ◌++◌, length, drop, true, arith, refl, sym, ap, ◌∙◌}
-use Rattle.std.specs.List.{All}
+use Rattle.std.proofs.Common.{◌≡◌, ℕ, ◌+◌, ◌≤◌, List, ◌++◌, length, drop, arith, refl, sym, ap, ◌∙◌}
 use Rattle.std.proofs.lemmas.List.{append_assoc, drop_at}
 use Rattle.rights_types.specs.Entries.{EntryValue}
-use Rattle.rights_types.specs.Chains.{moves_of, IsPrefix, IsLongest}
-use Rattle.rights_types.specs.Rights.{sum_sites, issued, spent, out, to, taken_back, back, received, held, way, covers, rights_after}
+use Rattle.rights_types.specs.Chains.{moves_of, IsPrefix}
+use Rattle.rights_types.specs.Rights.{sum_sites, issued, spent, out, to, taken_back, back, received, held, way, rights_after}
 use Rattle.rights_types.proofs.SiteSums.{sum_same, sum_add, sum_swap}
 use Rattle.rights_types.proofs.Sums.{moves_of-append, to-append, back-bound, rights_after_is, out_is, taken_back_is, never_short}
 use Rattle.transfer_world.specs.Values.{SiteValue, WorldValue}
-use Rattle.transfer_world.specs.Worlds.{site, log, put, applied, count, held_by, on_way}
+use Rattle.transfer_world.specs.Worlds.{site, log, applied, count, held_by, on_way}
 use Rattle.transfer_world.specs.Faults.{rights_of}
 use Rattle.transfer_world.specs.Sound.{applied_of, SiteSound, LinkSound, Sound}
 use Rattle.transfer_world.specs.Headline.{received_by, Headline}

@@ -1,36 +1,34 @@
 -- What the program's calls do to a world.
-use Rattle.std.proofs.Common.{◌≡◌, ◌≢◌, ℕ, zero, suc, add-one, ◌+◌, ◌-◌, ◌<◌, ◌≤◌, Bool, true, false, cond, not, ◌&&◌, ◌||◌, eqb, ltb, List, [], ◌∷◌, ◌++◌, length, get_or, set, Option, Some, None, Result, Ok, Err, arith, refl, sym, ap, ◌∙◌, subst, inl, inr}
-use Rattle.std.specs.Prelude.{MatchOption, map}
-use Rattle.std.specs.Result.{IfOk, OnErr}
-use Rattle.std.specs.List.{All, Contains, slice_get, range_with_len}
+use Rattle.std.proofs.Common.{◌≡◌, ℕ, zero, suc, add-one, ◌+◌, ◌-◌, ◌≤◌, true, false, not, ◌&&◌, eqb, List, [], ◌∷◌, ◌++◌, length, get_or, set, Option, Some, None, Result, Ok, Err, arith, refl, sym, ap, ◌∙◌, subst, inl, inr}
+use Rattle.std.specs.Prelude.{map}
+use Rattle.std.specs.List.{Contains, slice_get, range_with_len}
 use Rattle.std.proofs.lemmas.List.{append_assoc, get_or_read, set-get_or, length-set}
 use Rattle.std.proofs.lemmas.Bool.{cases_lt, ne_eqb, both_ways}
-use Rattle.std.proofs.lemmas.Option.{get_or_from_slice_get, slice_get_within, slice_get_read}
-use Rattle.rights_types.specs.Entries.{EntryValue, own, IsEntry}
-use Rattle.rights_types.specs.Chains.{end, is_closed, IsChain, IsPrefix, IsLongest, HeadNotIn, moves_of}
+use Rattle.std.proofs.lemmas.Option.{slice_get_within, slice_get_read}
+use Rattle.rights_types.specs.Entries.{EntryValue}
+use Rattle.rights_types.specs.Chains.{end, is_closed, IsChain, IsLongest, moves_of}
 use Rattle.rights_types.specs.Messages.MessageValue.{AnEntry}
 use Rattle.rights_types.specs.Places.{set_site}
 use Rattle.rights_types.specs.Rights.{to}
 use Rattle.std.proofs.lemmas.List.Elements.{All-contains_itself, Contains-append_cases}
 use Rattle.rights_types.specs.declared.moves.Move.{Move}
-use Rattle.rights_types.proofs.Chains.{not_in_nil, is_entry, chain_left, chain_right, before_end, not_before, prev_above, next_entry}
+use Rattle.rights_types.proofs.Chains.{not_in_nil, chain_left, chain_right, before_end, not_before, next_entry}
 use Rattle.rights_types.proofs.Places.{at_site-index, set_site-index, length-set_site}
-use Rattle.entry_codec.specs.Spelling.{Spells, line}
+use Rattle.entry_codec.specs.Spelling.{Spells}
 use Rattle.transfer_world.specs.Values.{LinkValue, SiteValue, PacketValue, WorldValue}
 use Rattle.transfer_world.specs.Worlds.{no_site, link_of, with_link, site, log, link, with_site, with_world_link, ended, count, packet, new_site, start}
 use Rattle.transfer_world.specs.Faults.{post_fault, is_site, site_fault, link_fault, delivery_fault, arrive_fault, place_fault, fault_of}
-use Rattle.transfer_world.specs.Step.{hold_room, wants_memory, Posts, entry_packet, published, with_packet, Publishes, Offered, Delivers, Arrives, applied_next, Takes, Happens, Attempts, Step}
-use Rattle.transfer_world.specs.Sound.{applied_of, SiteSound, LinkSound, IsSent, Sound, IsWorld}
+use Rattle.transfer_world.specs.Step.{hold_room, wants_memory, Posts, entry_packet, published, Publishes, Offered, Delivers, Arrives, Takes, Happens, Attempts, Step}
+use Rattle.transfer_world.specs.Sound.{SiteSound, LinkSound, IsSent, Sound, IsWorld}
 use Rattle.transfer_world.specs.Links.{Judged, LinksChain, PostedAt, TookAt, PublishedTo}
 use Rattle.transfer_world.specs.declared.event.Event.{Event}
-use Rattle.transfer_world.specs.declared.event.Event.TheVariants.{Post, Publish, Arrive, Take}
+use Rattle.transfer_world.specs.declared.event.Event.TheVariants.{Post}
 use Rattle.transfer_world.specs.declared.reply.Verdict.{Verdict}
 use Rattle.transfer_world.specs.declared.reply.Verdict.TheVariants.{Ready, Held, Repeat, AfterClose, Full}
 use Rattle.transfer_world.specs.declared.reply.Reply.{Reply}
 use Rattle.transfer_world.specs.declared.reply.Reply.TheVariants.{Number, Packet, Verdicts, Taken, Nothing}
 use Rattle.transfer_world.specs.declared.fault.WorldError.{WorldError}
 use Rattle.transfer_world.specs.declared.fault.WorldError.TheVariants.{Ended, NoSuchSite, NoPacket, NotForSite, Desk, OutOfMemory}
-use Rattle.transfer_world.proofs.Lists.{prefix_longer}
 use Rattle.transfer_world.proofs.Keeps.{count-start, keeps_link, keeps_ended, start_sound}
 use Rattle.transfer_world.proofs.Facts.{no_cause, no_other, site_is}
 use Rattle.transfer_world.proofs.Steps.{posts_sound, publishes_sound, takes_sound, link_is, packet_sent, offered_sound, has_log}

@@ -1,12 +1,12 @@
 -- The first cause why an event is refused.
-use Rattle.std.specs.Prelude.{ℕ, ◌+◌, ◌-◌, Bool, true, false, not, ◌&&◌, ◌||◌, nat_le, nat_lt, ◌==◌, List, length, Option, Some, None, if◌then◌else◌}
+use Rattle.std.specs.Prelude.{ℕ, ◌+◌, Bool, true, false, not, ◌&&◌, ◌||◌, nat_le, nat_lt, ◌==◌, List, length, Option, Some, None, if◌then◌else◌}
 use Rattle.std.specs.List.{list_any}
 use Rattle.rights_types.specs.Moves.{names, peer_of}
 use Rattle.rights_types.specs.Chains.{end, is_closed}
 use Rattle.rights_types.specs.Rights.{held, covers}
 use Rattle.rights_types.specs.declared.moves.Move.{Move}
-use Rattle.rights_types.specs.declared.moves.Move.TheVariants.{Issue, Spend, Grant, Give, Close, CloseAt, TakeBack}
-use Rattle.transfer_world.specs.Values.{LinkValue, SiteValue, PacketValue, WorldValue}
+use Rattle.rights_types.specs.declared.moves.Move.TheVariants.{Issue, Spend, Give}
+use Rattle.transfer_world.specs.Values.{SiteValue, PacketValue, WorldValue}
 use Rattle.transfer_world.specs.Worlds.{link_of, count, packet}
 use Rattle.transfer_world.specs.declared.event.Event.{Event}
 use Rattle.transfer_world.specs.declared.event.Event.TheVariants.{Post, Publish, Arrive, Take}

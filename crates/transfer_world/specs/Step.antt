@@ -1,5 +1,5 @@
 -- What an event may come to: a relation from old lists and an event to an outcome and new lists.
-use Rattle.std.specs.Prelude.{◌≡◌, ◌≢◌, ℕ, ◌+◌, ◌<◌, ◌≤◌, ◌⊎◌, Bool, true, false, List, [], ◌∷◌, ◌++◌, length, Option, Some, None, Result, Ok, Err, MatchOption, map}
+use Rattle.std.specs.Prelude.{◌≡◌, ◌≢◌, ℕ, ◌+◌, ◌≤◌, ◌⊎◌, Bool, true, false, List, [], ◌∷◌, ◌++◌, length, Option, Some, None, Result, Ok, Err, MatchOption, map}
 use Rattle.std.specs.List.{Contains, slice_get}
 use Rattle.rights_types.specs.Entries.{EntryValue, own, IsEntry}
 use Rattle.rights_types.specs.Chains.{end, is_closed, IsLongest}
@@ -12,11 +12,11 @@ use Rattle.transfer_world.specs.Faults.{post_fault, fault_of}
 use Rattle.transfer_world.specs.declared.event.Event.{Event}
 use Rattle.transfer_world.specs.declared.event.Event.TheVariants.{Post, Publish, Arrive, Take}
 use Rattle.transfer_world.specs.declared.reply.Verdict.{Verdict}
-use Rattle.transfer_world.specs.declared.reply.Verdict.TheVariants.{Ready, Held, Repeat, AfterClose, Full}
+use Rattle.transfer_world.specs.declared.reply.Verdict.TheVariants.{Ready, Held, Repeat, Full}
 use Rattle.transfer_world.specs.declared.reply.Reply.{Reply}
 use Rattle.transfer_world.specs.declared.reply.Reply.TheVariants.{Number, Packet, Verdicts, Taken, Nothing}
 use Rattle.transfer_world.specs.declared.fault.WorldError.{WorldError}
-use Rattle.transfer_world.specs.declared.fault.WorldError.TheVariants.{Ended, NoSuchSite, NoPacket, NotForSite, Desk, OutOfMemory}
+use Rattle.transfer_world.specs.declared.fault.WorldError.TheVariants.{Desk, OutOfMemory}
 
 -- the room of a buffer for later entries: there is none yet
 abbrev pub hold_room : ℕ

@@ -1,11 +1,9 @@
 -- The lists of a world, and the rights over them.
-use Rattle.std.specs.Prelude.{ℕ, ◌-◌, ◌+◌, ◌∷◌, ◌++◌, Bool, false, true, nat_le, ◌==◌, not, ◌&&◌, List, [], length, replicate, Option, None, map, if◌then◌else◌}
+use Rattle.std.specs.Prelude.{ℕ, ◌-◌, false, true, ◌==◌, List, [], length, replicate, Option, None, map, if◌then◌else◌}
 use Rattle.std.specs.List.{slice_get, range_with_len}
 use Rattle.rights_types.specs.Places.{at_site, set_site}
-use Rattle.rights_types.specs.Entries.{EntryValue, own}
-use Rattle.rights_types.specs.Chains.{end, moves_of, is_closed}
+use Rattle.rights_types.specs.Entries.{EntryValue}
 use Rattle.rights_types.specs.Rights.{held, way}
-use Rattle.rights_types.specs.declared.moves.Move.{Move}
 use Rattle.transfer_world.specs.Values.{LinkValue, SiteValue, PacketValue, WorldValue}
 
 abbrev pub no_link : LinkValue

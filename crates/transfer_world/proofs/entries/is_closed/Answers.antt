@@ -1,4 +1,4 @@
-use Rattle.std.proofs.Common.{◌≡◌, sym, ◌∙◌, arith}
+use Rattle.std.proofs.Common.{sym, ◌∙◌, arith}
 use Rattle.transfer_world.proofs.EntryLists.{closed_last}
 use Rattle.transfer_world.proofs.entries.is_closed.Goals as goal
 

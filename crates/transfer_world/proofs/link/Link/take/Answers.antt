@@ -1,4 +1,3 @@
-use Rattle.std.proofs.Common.{◌≡◌, ◌<◌, length, get_or, arith}
 use Rattle.transfer_world.proofs.EntryLists.{keeps_take, took_next}
 use Rattle.transfer_world.proofs.link.Link.take.Goals as goal
 

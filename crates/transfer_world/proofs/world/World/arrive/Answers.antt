@@ -1,4 +1,4 @@
-use Rattle.std.proofs.Common.{◌≡◌, ℕ, ◌+◌, ◌≤◌, List, ◌∷◌, [], ◌++◌, length, refl, sym, ap, ◌∙◌, subst, arith}
+use Rattle.std.proofs.Common.{◌≡◌, ℕ, sym, subst, arith}
 use Rattle.std.proofs.lemmas.Result.{err_from_is_err_and}
 use Rattle.transfer_world.specs.Values.{SiteValue, PacketValue, WorldValue}
 use Rattle.transfer_world.proofs.WorldLaws.{read_site, arrive_known, packet_at, packet_read, sent_at, site_ready, arrived, arrived_world, arrives_ok, same_site}

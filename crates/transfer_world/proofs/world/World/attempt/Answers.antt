@@ -1,6 +1,3 @@
-use Rattle.std.proofs.Common.{◌≡◌, ℕ, ◌+◌, ◌≤◌, List, ◌∷◌, [], ◌++◌, length, refl, sym, ap, ◌∙◌, subst, arith}
-use Rattle.std.proofs.lemmas.Result.{err_from_is_err_and}
-use Rattle.transfer_world.specs.Values.{SiteValue, PacketValue, WorldValue}
 use Rattle.transfer_world.proofs.WorldLaws.{place_known}
 use Rattle.transfer_world.proofs.world.World.attempt.Goals as goal
 

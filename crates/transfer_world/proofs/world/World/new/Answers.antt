@@ -1,6 +1,4 @@
-use Rattle.std.proofs.Common.{◌≡◌, ℕ, ◌+◌, ◌≤◌, List, ◌∷◌, [], ◌++◌, length, refl, sym, ap, ◌∙◌, subst, arith}
-use Rattle.std.proofs.lemmas.Result.{err_from_is_err_and}
-use Rattle.transfer_world.specs.Values.{SiteValue, PacketValue, WorldValue}
+use Rattle.std.proofs.Common.{◌≡◌, sym, arith}
 use Rattle.transfer_world.proofs.WorldLaws.{sites-push, start_world}
 use Rattle.transfer_world.proofs.world.World.new.Goals as goal
 

@@ -1,6 +1,6 @@
-use Rattle.std.proofs.Common.{◌≡◌, ℕ, ◌+◌, ◌≤◌, List, length, refl, sym, ap, ◌∙◌, subst, arith, Ok, Err}
+use Rattle.std.proofs.Common.{ℕ, List, subst, arith, Ok, Err}
 use Rattle.std.proofs.lemmas.Result.{err_from_is_err_and}
-use Rattle.transfer_world.specs.Values.{SiteValue, PacketValue, WorldValue}
+use Rattle.transfer_world.specs.Values.{SiteValue, WorldValue}
 use Rattle.rights_types.specs.declared.moves.Move.{Move}
 use Rattle.transfer_world.specs.Step.{Posts, Attempts}
 use Rattle.transfer_world.specs.Links.{PostedAt}

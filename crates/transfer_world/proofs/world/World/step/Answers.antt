@@ -1,9 +1,8 @@
-use Rattle.std.proofs.Common.{◌≡◌, ℕ, ◌+◌, ◌≤◌, List, ◌∷◌, [], ◌++◌, length, refl, sym, ap, ◌∙◌, subst, arith}
-use Rattle.std.proofs.lemmas.Result.{err_from_is_err_and}
-use Rattle.transfer_world.specs.Values.{SiteValue, PacketValue, WorldValue}
+use Rattle.std.proofs.Common.{sym, ◌∙◌, subst}
+use Rattle.transfer_world.specs.Values.{WorldValue}
 use Rattle.transfer_world.specs.Worlds.{ended}
 use Rattle.transfer_world.specs.Step.{Step}
-use Rattle.transfer_world.proofs.WorldLaws.{step_refused, step_happens, attempt_happens, attempt_ends, ended_world}
+use Rattle.transfer_world.proofs.WorldLaws.{step_refused, step_happens, attempt_happens, attempt_ends}
 use Rattle.transfer_world.proofs.world.World.step.Goals as goal
 
 pub returns-in-Some : goal.returns-in-Some

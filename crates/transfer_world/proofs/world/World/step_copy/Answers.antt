@@ -1,4 +1,4 @@
-use Rattle.std.proofs.Common.{◌≡◌, Err, refl, sym, ◌∙◌, subst}
+use Rattle.std.proofs.Common.{Err, refl, sym, ◌∙◌, subst}
 use Rattle.transfer_world.specs.Values.{WorldValue}
 use Rattle.transfer_world.specs.Worlds.{ended}
 use Rattle.transfer_world.specs.Step.{Step}

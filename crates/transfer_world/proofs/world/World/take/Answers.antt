@@ -1,6 +1,5 @@
-use Rattle.std.proofs.Common.{◌≡◌, ℕ, ◌+◌, ◌≤◌, length, refl, sym, ap, ◌∙◌, subst, arith, Ok}
-use Rattle.std.proofs.lemmas.Result.{err_from_is_err_and}
-use Rattle.transfer_world.specs.Values.{SiteValue, PacketValue, WorldValue}
+use Rattle.std.proofs.Common.{ℕ, subst, arith, Ok}
+use Rattle.transfer_world.specs.Values.{SiteValue, WorldValue}
 use Rattle.transfer_world.specs.Step.{Takes}
 use Rattle.transfer_world.specs.declared.reply.Reply.TheVariants.{Taken, Nothing}
 use Rattle.transfer_world.proofs.WorldLaws.{with_at, read_site, link_known, site_ready, takes_ok, takes_none, takes_world}

@@ -1,12 +1,12 @@
-use Rattle.std.proofs.Common.{◌≡◌, ◌≤◌, ℕ, List, length, take, drop, ◌-◌, sym, ap, ◌∙◌, subst, arith}
+use Rattle.std.proofs.Common.{◌≡◌, List, length, drop, sym, ap, ◌∙◌, subst}
 use Rattle.std.proofs.lemmas.List.{take_rest}
 use Rattle.rights_types.specs.Entries.{EntryValue}
 use Rattle.rights_types.specs.Chains.{moves_of}
 use Rattle.rights_types.specs.Rights.{to}
-use Rattle.transfer_world.specs.Values.{SiteValue, WorldValue}
-use Rattle.transfer_world.specs.Worlds.{log, applied}
+use Rattle.transfer_world.specs.Values.{SiteValue}
+use Rattle.transfer_world.specs.Worlds.{log}
 use Rattle.transfer_world.specs.Sound.{Sound}
-use Rattle.transfer_world.proofs.ReaderLaws.{way_small, way_value, way_none, applied_within}
+use Rattle.transfer_world.proofs.ReaderLaws.{way_small, way_value, way_none}
 use Rattle.transfer_world.proofs.world.World.way.Goals as goal
 
 pub gift_in-requires : goal.gift_in-requires

@@ -1,4 +1,4 @@
-use Rattle.std.proofs.Common.{◌+◌, sym, ap, ◌∙◌, arith}
+use Rattle.std.proofs.Common.{sym, ap, ◌∙◌, arith}
 use Rattle.rights_types.specs.Rights.{to}
 use Rattle.transfer_world.proofs.ReaderLaws.{gift_more, gift_front, gift_nil}
 use Rattle.transfer_world.proofs.world.readers.gift_in.Goals as goal
