@@ -14,7 +14,7 @@ use sub_buffer::{SubBuffer, Verdict};
 const RUNS: u64 = 5;
 
 /// Prints the rates of entries in order, backwards within windows of 64, and each three times.
-pub fn measure_all<R: Clock + Print + AllocGlobal>(rt: &R) -> io::Result<()> {
+pub(crate) fn measure_all<R: Clock + Print + AllocGlobal>(rt: &R) -> io::Result<()> {
     measure(rt, "in order", Order::Forward)?;
     measure(rt, "backwards by 64", Order::Backward)?;
     measure(rt, "in order, each three times", Order::Thrice)

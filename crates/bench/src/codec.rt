@@ -94,7 +94,7 @@ fn measure<R: Clock + Print + AllocGlobal>(rt: &R, load: &Load) -> io::Result<()
 }
 
 /// Prints the rates of each load.
-pub fn measure_all<R: Clock + Print + AllocGlobal>(rt: &R) -> io::Result<()> {
+pub(crate) fn measure_all<R: Clock + Print + AllocGlobal>(rt: &R) -> io::Result<()> {
     measure(rt, &entries(rt.alloc())?)?;
     measure(rt, &answers(rt.alloc())?)?;
     measure(rt, &short_kinds(rt.alloc())?)

@@ -127,7 +127,7 @@ fn print_rate<R: Print>(rt: &R, name: &str, nanos: u128) -> io::Result<()> {
 }
 
 /// Prints the rate of a lane, and that of a plain channel.
-pub fn measure_all<R: Clock + Print + Threads + Wait + Sync + AllocGlobal>(
+pub(crate) fn measure_all<R: Clock + Print + Threads + Wait + Sync + AllocGlobal>(
     rt: &R,
 ) -> io::Result<()> {
     let mut of_lane = u128::MAX;

@@ -115,7 +115,7 @@ fn measure<R: Clock + Print + AllocGlobal>(rt: &R, moves: u64) -> io::Result<()>
 }
 
 /// Prints the rates of a short, a middling and a long log.
-pub fn measure_all<R: Clock + Print + AllocGlobal>(rt: &R) -> io::Result<()> {
+pub(crate) fn measure_all<R: Clock + Print + AllocGlobal>(rt: &R) -> io::Result<()> {
     measure(rt, 1_000)?;
     measure(rt, 100_000)?;
     measure(rt, 10_000_000)

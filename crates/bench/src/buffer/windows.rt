@@ -6,11 +6,11 @@ use std::io;
 use std::io::ErrorKind;
 
 /// So many windows are offered in one run.
-pub const WINDOW_COUNT: u32 = 10_000;
+pub(crate) const WINDOW_COUNT: u32 = 10_000;
 
 /// How the 64 entries of a window come.
 #[derive(Clone, Copy)]
-pub enum Order {
+pub(crate) enum Order {
     /// First to last.
     Forward,
     /// Last to first.
@@ -21,7 +21,7 @@ pub enum Order {
 
 impl Order {
     /// How many entries are offered for each window.
-    pub fn offers_per_window(self) -> u64 {
+    pub(crate) fn offers_per_window(self) -> u64 {
         match self {
             Order::Forward => 64,
             Order::Backward => 64,
@@ -41,7 +41,7 @@ fn entry(alloc: Global, prev: u64) -> io::Result<Entry> {
 }
 
 /// The entries of a window as they come.
-pub fn window(alloc: Global, order: Order, number: u32) -> io::Result<Vec<Entry>> {
+pub(crate) fn window(alloc: Global, order: Order, number: u32) -> io::Result<Vec<Entry>> {
     let mut entries = Vec::with_capacity(alloc, 192)?;
     let first = number as u64 * 64;
     for k in 0..64u64 {

@@ -4,9 +4,9 @@ use std::alloc::{AllocError, Global};
 
 /// Lines of one kind.
 #[derive(Drop)]
-pub struct Load {
-    pub name: &'static str,
-    pub lines: Vec<Vec<u8>>,
+pub(crate) struct Load {
+    pub(crate) name: &'static str,
+    pub(crate) lines: Vec<Vec<u8>>,
 }
 
 const MOVES: [&str; 16] = [
@@ -29,7 +29,7 @@ const MOVES: [&str; 16] = [
 ];
 
 /// Lines of entries with 1 to 16 moves.
-pub fn entries(alloc: Global) -> Result<Load, AllocError> {
+pub(crate) fn entries(alloc: Global) -> Result<Load, AllocError> {
     let mut lines = Vec::new(alloc);
     for (index, _) in MOVES.iter().enumerate() {
         let count = index + 1;
@@ -47,7 +47,7 @@ pub fn entries(alloc: Global) -> Result<Load, AllocError> {
 }
 
 /// Lines of answers with 16 entries of one move each.
-pub fn answers(alloc: Global) -> Result<Load, AllocError> {
+pub(crate) fn answers(alloc: Global) -> Result<Load, AllocError> {
     let mut lines = Vec::new(alloc);
     for first in 0..16usize {
         let mut line = format!(in alloc; "A 3 12")?;
@@ -66,7 +66,7 @@ pub fn answers(alloc: Global) -> Result<Load, AllocError> {
 }
 
 /// Lines of messages without entries.
-pub fn short_kinds(alloc: Global) -> Result<Load, AllocError> {
+pub(crate) fn short_kinds(alloc: Global) -> Result<Load, AllocError> {
     let texts = [
         "Q 2 1 123456 123471\n",
         "B 1 123456789\n",

@@ -11,7 +11,7 @@ use std::io;
 use std::io::ErrorKind;
 
 /// Moves of each entry.
-pub const MOVES: u64 = 4;
+pub(crate) const MOVES: u64 = 4;
 
 // The moves of an entry of site 1.
 fn moves_of_one(alloc: Global) -> Result<Vec<Move>, AllocError>
@@ -38,7 +38,7 @@ fn moves_of_one(alloc: Global) -> Result<Vec<Move>, AllocError>
 }
 
 /// The log of site 1 with so many entries.
-pub fn filled(alloc: Global, entries: u64) -> io::Result<OriginLog> {
+pub(crate) fn filled(alloc: Global, entries: u64) -> io::Result<OriginLog> {
     let mut log = OriginLog::new(alloc, SiteId::known(1));
     for _ in 0..entries {
         if log.append(moves_of_one(alloc)?).is_err() {
@@ -49,14 +49,14 @@ pub fn filled(alloc: Global, entries: u64) -> io::Result<OriginLog> {
 }
 
 /// The next number of a sequence that goes all over its range.
-pub fn next(number: u64) -> u64 {
+pub(crate) fn next(number: u64) -> u64 {
     number
         .wrapping_mul(6_364_136_223_846_793_005)
         .wrapping_add(1_442_695_040_888_963_407)
 }
 
 /// Site 2 asks for so many numbers from one on.
-pub fn query(first: u64, count: u64) -> io::Result<Query> {
+pub(crate) fn query(first: u64, count: u64) -> io::Result<Query> {
     let last = first.saturating_add(count);
     match Query::new(SiteId::known(2), SiteId::known(1), first, last) {
         Ok(query) => Ok(query),

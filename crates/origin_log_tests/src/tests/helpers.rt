@@ -11,25 +11,25 @@ use std::alloc::{AllocGlobal, Allocator};
 use std::process::Abort;
 use std::test::Fail;
 
-pub fn site(number: u64) -> SiteId
+pub(crate) fn site(number: u64) -> SiteId
     requires { IsSite number }
 {
     SiteId::known(number)
 }
 
-pub fn issue(amount: u64) -> Move
+pub(crate) fn issue(amount: u64) -> Move
     requires { IsAmount amount }
 {
     Move::Issue(Amount::known(amount))
 }
 
-pub fn spend(amount: u64) -> Move
+pub(crate) fn spend(amount: u64) -> Move
     requires { IsAmount amount }
 {
     Move::Spend(Amount::known(amount))
 }
 
-pub fn give(peer: u64, amount: u64) -> Move
+pub(crate) fn give(peer: u64, amount: u64) -> Move
     requires site { IsSite peer }
     requires amount { IsAmount amount }
 {
@@ -40,7 +40,7 @@ pub fn give(peer: u64, amount: u64) -> Move
 }
 
 /// Site 2 asks site 1 for these numbers.
-pub fn query(first: u64, last: u64) -> Result<Query, Fail> {
+pub(crate) fn query(first: u64, last: u64) -> Result<Query, Fail> {
     Ok(Query::new(site(2), site(1), first, last)?)
 }
 
@@ -69,7 +69,7 @@ fn any_names(moves: &[Move], site: SiteId) -> bool
 
 /// Appends these moves. The moves' own memory comes from the host, so that only the log's growths
 /// are refused.
-pub fn append<A: Allocator + Copy>(
+pub(crate) fn append<A: Allocator + Copy>(
     rt: &(impl Abort + AllocGlobal),
     log: &mut OriginLog<A>,
     moves: &[Move],
@@ -81,7 +81,7 @@ pub fn append<A: Allocator + Copy>(
 }
 
 /// What a closing site had applied of each site.
-pub fn frontier(rt: &impl Abort, applied: &[u64]) -> Frontier {
+pub(crate) fn frontier(rt: &impl Abort, applied: &[u64]) -> Frontier {
     match Frontier::new(applied) {
         Ok(frontier) => frontier,
         Err(_) => panic!(rt; "no frontier"),
@@ -89,7 +89,7 @@ pub fn frontier(rt: &impl Abort, applied: &[u64]) -> Frontier {
 }
 
 /// Closes the log, and gives an amount to an heir.
-pub fn close_for<A: Allocator + Copy>(
+pub(crate) fn close_for<A: Allocator + Copy>(
     rt: &impl Abort,
     log: &mut OriginLog<A>,
     peer: SiteId,
@@ -104,7 +104,7 @@ pub fn close_for<A: Allocator + Copy>(
 }
 
 /// Closes the log with no heir.
-pub fn close<A: Allocator + Copy>(
+pub(crate) fn close<A: Allocator + Copy>(
     rt: &impl Abort,
     log: &mut OriginLog<A>,
     frontier: Frontier,
@@ -116,7 +116,7 @@ pub fn close<A: Allocator + Copy>(
 }
 
 /// Takes back a total from a peer.
-pub fn take_back<A: Allocator + Copy>(
+pub(crate) fn take_back<A: Allocator + Copy>(
     rt: &impl Abort,
     log: &mut OriginLog<A>,
     peer: SiteId,
@@ -128,7 +128,7 @@ pub fn take_back<A: Allocator + Copy>(
 }
 
 /// The log of site 1 with these entries: `I:10`, then `S:1` three times in one, then `S:2`.
-pub fn three_entries<A: Allocator + Copy>(
+pub(crate) fn three_entries<A: Allocator + Copy>(
     rt: &(impl Abort + AllocGlobal),
     alloc: A,
 ) -> Result<OriginLog<A>, LogError> {

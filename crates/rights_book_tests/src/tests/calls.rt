@@ -11,7 +11,7 @@ use std::alloc::Allocator;
 use std::test::Fail;
 
 /// Writes the moves as the next entry of the book's site, if it may.
-pub fn write<A: Allocator>(book: &mut Book<A>, moves: &[Move]) -> bool {
+pub(crate) fn write<A: Allocator>(book: &mut Book<A>, moves: &[Move]) -> bool {
     let Ok(()) = book.check(moves) else {
         return false;
     };
@@ -34,7 +34,7 @@ pub fn write<A: Allocator>(book: &mut Book<A>, moves: &[Move]) -> bool {
 }
 
 /// Applies the entry as the origin's next one, if it is.
-pub fn apply<A: Allocator, B: Allocator>(
+pub(crate) fn apply<A: Allocator, B: Allocator>(
     book: &mut Book<A>,
     origin: SiteId,
     entry: &Entry<B>,
@@ -73,7 +73,7 @@ fn taken_back_by(m: &Move, site: SiteId) -> u64
 }
 
 /// The entry of these moves.
-pub fn entry<A: Allocator>(
+pub(crate) fn entry<A: Allocator>(
     alloc: A,
     origin: SiteId,
     prev: u64,
@@ -82,22 +82,22 @@ pub fn entry<A: Allocator>(
     Ok(Entry::new(origin, prev, Vec::from_slice(alloc, moves)?)?)
 }
 
-pub fn issue(rights: u64) -> Result<Move, TypeError> {
+pub(crate) fn issue(rights: u64) -> Result<Move, TypeError> {
     Ok(Move::Issue(Amount::new(rights)?))
 }
 
-pub fn spend(rights: u64) -> Result<Move, TypeError> {
+pub(crate) fn spend(rights: u64) -> Result<Move, TypeError> {
     Ok(Move::Spend(Amount::new(rights)?))
 }
 
-pub fn give(peer: SiteId, rights: u64) -> Result<Move, TypeError> {
+pub(crate) fn give(peer: SiteId, rights: u64) -> Result<Move, TypeError> {
     Ok(Move::Give {
         peer,
         amount: Amount::new(rights)?,
     })
 }
 
-pub fn grant(peer: SiteId, rights: u64, ask: u64) -> Result<Move, TypeError> {
+pub(crate) fn grant(peer: SiteId, rights: u64, ask: u64) -> Result<Move, TypeError> {
     Ok(Move::Grant {
         peer,
         amount: Amount::new(rights)?,
@@ -105,7 +105,7 @@ pub fn grant(peer: SiteId, rights: u64, ask: u64) -> Result<Move, TypeError> {
     })
 }
 
-pub fn take_back(peer: SiteId, rights: u64) -> Result<Move, TypeError> {
+pub(crate) fn take_back(peer: SiteId, rights: u64) -> Result<Move, TypeError> {
     Ok(Move::TakeBack {
         peer,
         amount: Total::new(rights)?,

@@ -9,7 +9,7 @@ use std::test::Fail;
 use transfer_manager::{AskAnswer, Manager};
 
 /// Answers an ask of one of three sites, and notes the answer.
-pub fn answer<A: Allocator>(
+pub(crate) fn answer<A: Allocator>(
     manager: &mut Manager<A>,
     ask: &Ask,
     available: u64,
@@ -27,7 +27,7 @@ pub fn answer<A: Allocator>(
 }
 
 /// A grant of the peer, with this ask number, was applied.
-pub fn granted<A: Allocator>(manager: &mut Manager<A>, peer: SiteId, ask: AskNumber)
+pub(crate) fn granted<A: Allocator>(manager: &mut Manager<A>, peer: SiteId, ask: AskNumber)
     requires { peer ≤ sites manager.old }
     ensures { sites manager.new ≡ sites manager.old }
 {
@@ -35,7 +35,7 @@ pub fn granted<A: Allocator>(manager: &mut Manager<A>, peer: SiteId, ask: AskNum
 }
 
 /// The peer denied the ask of this number.
-pub fn denied<A: Allocator>(manager: &mut Manager<A>, peer: SiteId, ask: AskNumber)
+pub(crate) fn denied<A: Allocator>(manager: &mut Manager<A>, peer: SiteId, ask: AskNumber)
     requires { peer ≤ sites manager.old }
     ensures { sites manager.new ≡ sites manager.old }
 {
@@ -43,7 +43,7 @@ pub fn denied<A: Allocator>(manager: &mut Manager<A>, peer: SiteId, ask: AskNumb
 }
 
 /// Applies the moves as the next entry of that site, if they may be.
-pub fn apply<A: Allocator>(
+pub(crate) fn apply<A: Allocator>(
     alloc: Global,
     book: &mut Book<A>,
     origin: SiteId,
@@ -59,7 +59,7 @@ pub fn apply<A: Allocator>(
 }
 
 /// An ask of this number, between sites of these numbers.
-pub fn ask(asker: u64, asked: u64, number: u64, amount: u64) -> Result<Ask, TypeError> {
+pub(crate) fn ask(asker: u64, asked: u64, number: u64, amount: u64) -> Result<Ask, TypeError> {
     Ask::new(
         SiteId::new(asker)?,
         SiteId::new(asked)?,
@@ -68,15 +68,15 @@ pub fn ask(asker: u64, asked: u64, number: u64, amount: u64) -> Result<Ask, Type
     )
 }
 
-pub fn issue(rights: u64) -> Result<Move, TypeError> {
+pub(crate) fn issue(rights: u64) -> Result<Move, TypeError> {
     Ok(Move::Issue(Amount::new(rights)?))
 }
 
-pub fn spend(rights: u64) -> Result<Move, TypeError> {
+pub(crate) fn spend(rights: u64) -> Result<Move, TypeError> {
     Ok(Move::Spend(Amount::new(rights)?))
 }
 
-pub fn grant(peer: SiteId, rights: u64, ask: u64) -> Result<Move, TypeError> {
+pub(crate) fn grant(peer: SiteId, rights: u64, ask: u64) -> Result<Move, TypeError> {
     Ok(Move::Grant {
         peer,
         amount: Amount::new(rights)?,
