@@ -1,3 +1,4 @@
+//! Lanes and tallies, by one thread and by two.
 ghost use Rattle.std.specs.Prelude.{◌≡◌, ◌+◌, [], false, IfOk, IfSome};
 ghost use Rattle.rights_types.specs.Entries.{IsEntry, own, closes};
 

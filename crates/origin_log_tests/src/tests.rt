@@ -1,3 +1,4 @@
+//! The log by its public calls alone.
 mod blocks;
 mod examples;
 mod helpers;

@@ -1,4 +1,4 @@
-// An allocator for tests that refuses one request for memory.
+//! An allocator for tests that refuses one request for memory.
 #![tactic(auto)]
 
 use std::alloc::{AllocError, Allocator};

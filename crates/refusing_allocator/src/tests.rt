@@ -1,3 +1,4 @@
+//! Which request is refused.
 use crate::Refusing;
 use std::alloc::{AllocError, Allocator};
 use std::test::Fail;

@@ -1,3 +1,4 @@
+//! Requests from their tickets to their outcomes.
 use crate::{QueueError, RequestQueue, SLOTS, Status};
 use rights_types::{Amount, MAX_AMOUNT};
 use std::alloc::Global;

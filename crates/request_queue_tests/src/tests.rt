@@ -1,3 +1,4 @@
+//! The queue takes its memory once.
 use refusing_allocator::Refusing;
 use request_queue::{QueueError, RequestQueue, SLOTS, Status};
 use rights_types::OutOfMemory;

@@ -1,3 +1,4 @@
+//! The book by its public calls alone.
 mod amounts;
 mod calls;
 mod checks;

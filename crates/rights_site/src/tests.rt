@@ -1,3 +1,4 @@
+//! Words, help texts and statuses, with streams that break.
 use crate::run::run_words;
 use crate::words::{Command, WordsFault, read_words};
 use std::io;

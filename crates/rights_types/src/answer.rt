@@ -1,3 +1,4 @@
+//! What a site answers to a query.
 ghost use Rattle.std.specs.Prelude.{◌≡◌, ◌==◌, not};
 ghost use Rattle.std.specs.List.{list_any, All};
 ghost use Rattle.rights_types.specs.Entries.{EntryValue, IsEntry};

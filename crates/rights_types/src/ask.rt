@@ -1,3 +1,4 @@
+//! Asking for rights.
 ghost use Rattle.std.specs.Prelude.{◌≡◌, ◌≢◌};
 ghost use Rattle.rights_types.specs.Messages.{AskMade, IsAsk};
 

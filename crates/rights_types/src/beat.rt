@@ -1,3 +1,4 @@
+//! Telling how far a log goes.
 ghost use Rattle.std.specs.Prelude.{◌≡◌, ◌≢◌};
 ghost use Rattle.rights_types.specs.Messages.{BeatMade, IsBeat};
 

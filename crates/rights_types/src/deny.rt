@@ -1,3 +1,4 @@
+//! Refusing an ask.
 ghost use Rattle.std.specs.Prelude.{◌≡◌, ◌≢◌};
 ghost use Rattle.rights_types.specs.Messages.{DenialMade, IsDenial};
 

@@ -1,3 +1,4 @@
+//! What a closing site had applied of each site.
 ghost use Rattle.std.specs.Prelude.{◌≡◌, ℕ, ◌-◌, ◌<◌, ◌≤◌, ◌↔◌, length, IfOk, IsErrOf, slice_get, Result, Ok, Err};
 ghost use Rattle.rights_types.specs.Ranges.{IsFrontier};
 ghost use Rattle.rights_types.specs.Frontiers.{FrontierMade};

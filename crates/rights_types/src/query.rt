@@ -1,3 +1,4 @@
+//! Asking for entries that are missing.
 ghost use Rattle.std.specs.Prelude.{◌≡◌, ◌≢◌};
 ghost use Rattle.rights_types.specs.Messages.{QueryMade, IsQuery};
 

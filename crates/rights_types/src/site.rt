@@ -1,3 +1,4 @@
+//! The numbers of sites.
 ghost use Rattle.std.specs.Prelude.{◌≡◌, ◌+◌, ◌<◌, ◌≤◌, IfErr};
 ghost use Rattle.std.specs.Result.{OkIff};
 ghost use Rattle.rights_types.specs.Ranges.{IsSite};

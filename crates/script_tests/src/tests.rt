@@ -1,3 +1,4 @@
+//! Scripts and runs of events with ample memory, and with each growth refused.
 use memchr::memchr;
 use refusing_allocator::Refusing;
 use rights_types::{Amount, Move, SiteId};

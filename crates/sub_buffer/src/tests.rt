@@ -1,3 +1,4 @@
+//! Verdicts, gaps and what comes out of a buffer.
 use crate::{BufferError, State, SubBuffer, Verdict};
 use rights_types::{Amount, Entry, Move, Query, SiteId};
 use std::alloc::Global;

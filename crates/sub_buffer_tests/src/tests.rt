@@ -1,3 +1,4 @@
+//! The buffer takes its memory once, and what arrives is put.
 use crate::arrivals::arrive;
 use refusing_allocator::Refusing;
 use rights_types::{Amount, Entry, Move, SiteId};

@@ -1,3 +1,4 @@
+//! The manager by its public calls alone.
 mod answers;
 mod calls;
 mod memory;

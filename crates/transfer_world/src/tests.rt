@@ -1,3 +1,4 @@
+//! Scripts over readers that give a few bytes, and over streams that break.
 use crate::{ScriptFault, run_script};
 use std::io;
 use std::io::{ErrorKind, Read, Write};

@@ -1,3 +1,4 @@
+//! A copy of an entry, with its growth refused.
 use refusing_allocator::Refusing;
 use rights_types::{Amount, Entry, Move, OutOfMemory, SiteId};
 use std::test::Fail;

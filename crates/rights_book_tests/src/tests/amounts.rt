@@ -1,3 +1,4 @@
+//! The greatest amounts, and many of them.
 use crate::tests::calls::{apply, entry, give, issue, spend, take_back, write};
 use rights_book::{Book, BookError};
 use rights_types::{MAX_AMOUNT, MAX_MOVES, MAX_TOTAL, SiteId};

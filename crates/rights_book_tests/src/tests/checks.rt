@@ -1,3 +1,4 @@
+//! What `check` refuses, and in which order.
 use crate::tests::calls::{apply, entry, give, issue, spend, take_back, write};
 use rights_book::{Book, BookError};
 use rights_types::{Move, SiteId};

@@ -1,3 +1,4 @@
+//! Books of sites that issue, spend, give, close and take back.
 use crate::tests::calls::{apply, entry, give, grant, issue, spend, take_back, write};
 use rights_book::{Book, BookError};
 use rights_types::{Frontier, Move, SiteId};

@@ -1,3 +1,4 @@
+//! The book takes its memory once.
 use crate::tests::calls::{apply, entry, give, issue, write};
 use refusing_allocator::Refusing;
 use rights_book::Book;

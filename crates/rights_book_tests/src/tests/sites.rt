@@ -1,3 +1,4 @@
+//! A system of sixteen sites.
 use crate::tests::calls::{apply, entry, give, issue, write};
 use rights_book::Book;
 use rights_types::{MAX_SITES, Move, SiteId};

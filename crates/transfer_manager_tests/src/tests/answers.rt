@@ -1,3 +1,4 @@
+//! What a site answers to asks.
 use crate::tests::calls::{answer, ask};
 use rights_types::{Amount, SiteId};
 use std::test::Fail;

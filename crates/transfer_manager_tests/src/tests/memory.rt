@@ -1,3 +1,4 @@
+//! The manager takes its memory once.
 use crate::tests::calls::{answer, apply, ask, denied, granted, issue};
 use refusing_allocator::Refusing;
 use request_queue::RequestQueue;

@@ -1,3 +1,4 @@
+//! Which peers are asked, and for how much.
 use crate::tests::calls::{apply, ask, denied, grant, granted, issue, spend};
 use request_queue::RequestQueue;
 use rights_book::Book;

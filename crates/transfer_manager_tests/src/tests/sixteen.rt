@@ -1,3 +1,4 @@
+//! The order of fifteen peers.
 use crate::tests::calls::{apply, ask, issue};
 use request_queue::RequestQueue;
 use rights_book::Book;
