@@ -6,9 +6,9 @@ use Rattle.atomic_table.proofs.Lists.{at_set, at_snoc}
 use Rattle.crossbeam_channel.specs.Fifo.{Pushes, Pops, Forks, Merges, Learns}
 use Rattle.apply_lanes.specs.declared.item.Item.{Item}
 use Rattle.apply_lanes.specs.declared.rule.Hand.{Hand}
-use Rattle.apply_lanes.specs.Runs.{IsRun}
-use Rattle.apply_lanes.specs.Rule.{hand, Fits, Kept, Puts, Takes, Compares}
-use Rattle.apply_lanes.proofs.Runs.{run_begins, empty_run}
+use Rattle.apply_lanes.specs.Items.{IsItemChain}
+use Rattle.apply_lanes.specs.Rule.{hand, Fits, IsInOrder, Puts, Takes, Compares}
+use Rattle.apply_lanes.proofs.Items.{front_chain, empty_chain}
 
 no_hand : (b : Bool) → b ≡ false → b ≡ true → ⊥
 no_hand b off is = true≢false (sym is ∙ off)
@@ -31,7 +31,7 @@ module _ {A : Type 0} where
       ⊎_elim (λ (x : (j ≡ pass) × (w ≡ u)). subst (λ (y : ℕ × Hand A). F y.0 y.1) (λ i. (sym x.0 i, x.1 i)) mine)
       (λ (x : (j ≢ pass) × (get_elem? views j ≡ some u)). others j u x.0 x.1) (at_set views pass j w u is)
 
-  pub begins : Kept {A = A} [] (hand true true [] [] ∷ [])
+  pub begins : IsInOrder {A = A} [] (hand true true [] [] ∷ [])
   begins =
       let first : Hand A = hand true true [] [] in (
         0,
@@ -39,13 +39,13 @@ module _ {A : Type 0} where
         [],
         [],
         refl,
-        empty_run,
+        empty_chain,
         each_set (Fits 0 0 [] []) (first ∷ []) 0 first ((λ _. (refl, refl)), λ _. (refl, refl))
             (λ j u other is. absurd (other (at_end [] first u j (λ x. some-ne-none u (sym x)) is))),
       )
 
-  pub sends : (n pass : ℕ) (v : Hand A) (x : Item A) → v.puts ≡ true → IsRun (v.put ++ x ∷ []) → Pushes Kept n pass v x (Puts v x)
-  sends n pass v x may run items views room h at =
+  pub sends : (n pass : ℕ) (v : Hand A) (x : Item A) → v.puts ≡ true → IsItemChain (v.put ++ x ∷ []) → Pushes IsInOrder n pass v x (Puts v x)
+  sends n pass v x may chain items views room h at =
       let w : Hand A = hand v.puts v.takes (v.put ++ x ∷ []) v.taken in
       let mine = h.6 pass v at in
       let put : List (Item A) = h.2 ++ x ∷ [] in
@@ -57,14 +57,14 @@ module _ {A : Type 0} where
           put,
           h.3,
           ap (λ l. l ++ x ∷ []) h.4 ∙ append_assoc h.3 items (x ∷ []),
-          subst IsRun put_is run,
+          subst IsItemChain put_is chain,
           each_set (Fits h.0 h.1 put h.3) views pass w ((λ _. ((mine.0 may).0, put_is)), mine.1)
               (λ j u other is. ((λ p. absurd (other (((h.6 j u is).0 p).0 ∙ sym (mine.0 may).0))), (h.6 j u is).1)),
         ),
         refl,
       )
 
-  pub takes : (pass : ℕ) (v : Hand A) → v.takes ≡ true → Pops Kept pass v (Takes v)
+  pub takes : (pass : ℕ) (v : Hand A) → v.takes ≡ true → Pops IsInOrder pass v (Takes v)
   takes pass v may x items views h at =
       let w : Hand A = hand v.puts v.takes v.put (v.taken ++ x ∷ []) in
       let mine = h.6 pass v at in
@@ -82,10 +82,10 @@ module _ {A : Type 0} where
           each_set (Fits h.0 h.1 h.2 taken) views pass w (mine.0, λ _. ((mine.1 may).0, taken_is))
               (λ j u other is. ((h.6 j u is).0, λ p. absurd (other (((h.6 j u is).1 p).0 ∙ sym (mine.1 may).0)))),
         ),
-        (refl, subst IsRun (sym taken_is) (run_begins taken items (subst IsRun put_is h.5))),
+        (refl, subst IsItemChain (sym taken_is) (front_chain taken items (subst IsItemChain put_is h.5))),
       )
 
-  pub forks : (pass : ℕ) (v : Hand A) → v.puts ≡ true → v.takes ≡ true → Forks Kept pass v (hand true false v.put []) (hand false true [] v.taken)
+  pub forks : (pass : ℕ) (v : Hand A) → v.puts ≡ true → v.takes ≡ true → Forks IsInOrder pass v (hand true false v.put []) (hand false true [] v.taken)
   forks pass v puts takes items views h at =
       let left : Hand A = hand true false v.put [] in
       let right : Hand A = hand false true [] v.taken in
@@ -108,7 +108,7 @@ module _ {A : Type 0} where
       )
 
   pub merges : (pass : ℕ) (v : Hand A) (other : ℕ) (u : Hand A) → v.puts ≡ true → u.takes ≡ true
-      → Merges Kept pass v other u (hand true true v.put u.taken) (hand false false [] [])
+      → Merges IsInOrder pass v other u (hand true true v.put u.taken) (hand false false [] [])
   merges pass v other u puts takes items views h at two at_other =
       let both : Hand A = hand true true v.put u.taken in
       let mine = h.6 pass v at in
@@ -128,7 +128,7 @@ module _ {A : Type 0} where
             (λ j y apart is. now j y is apart),
       )
 
-  pub compares : (pass : ℕ) (v : Hand A) → v.puts ≡ true → v.takes ≡ true → Learns Kept pass v (Compares v)
+  pub compares : (pass : ℕ) (v : Hand A) → v.puts ≡ true → v.takes ≡ true → Learns IsInOrder pass v (Compares v)
   compares pass v puts takes items views h at =
       let mine = h.6 pass v at in
-      ((mine.0 puts).1 ∙ h.4 ∙ ap (λ l. l ++ items) (sym (mine.1 takes).1), subst IsRun (sym (mine.0 puts).1) h.5)
+      ((mine.0 puts).1 ∙ h.4 ∙ ap (λ l. l ++ items) (sym (mine.1 takes).1), subst IsItemChain (sym (mine.0 puts).1) h.5)

@@ -1,17 +1,18 @@
 -- The two ends of a lane, as plain data.
-use Rattle.std.specs.Prelude.{Bool, List}
+use Rattle.std.specs.Prelude.{ℕ, Bool, List}
 use Rattle.atomic_table.specs.Seated.{TableId}
 use Rattle.atomic_table.specs.declared.badge.Badge.{Badge}
 use Rattle.crossbeam_channel.specs.declared.flavors.array.Key.{Key}
-use Rattle.crossbeam_channel.specs.Claims.{Pass}
+use Rattle.crossbeam_channel.specs.Claims.{Pass, view}
 use Rattle.apply_lanes.specs.declared.item.Item.{Item}
 use Rattle.apply_lanes.specs.declared.rule.Hand.{Hand}
 
 module _ (A : Type 0) where
-  -- which lane it is
+  -- which lane it is, and how many items it holds at most
   pub record LaneId : Type 0 where
     pub table : TableId
     pub messages : Badge (Key (Item A))
+    pub room : ℕ
 
   -- the end that puts: its lane, what was put, and whether LaneClosed was answered
   pub record InletValue : Type 0 where
@@ -26,8 +27,8 @@ module _ (A : Type 0) where
     pub dead : Bool
 
 module _ {A : Type 0} where
-  abbrev pub known : Pass (Item A) (Hand A) → Hand A
-  known pass = pass.me.0.client
+  abbrev pub hand_of : Pass (Item A) (Hand A) → Hand A
+  hand_of pass = view pass
 
-  abbrev pub lane_of : Pass (Item A) (Hand A) → LaneId A
-  lane_of pass = record { table = pass.table_id; messages = pass.me.0.of }
+  abbrev pub lane_of : ℕ → Pass (Item A) (Hand A) → LaneId A
+  lane_of room pass = record { table = pass.table_id; messages = pass.me.0.of; room = room }

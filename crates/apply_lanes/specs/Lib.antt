@@ -1,4 +1,4 @@
-pub mod Runs
+pub mod Items
 pub mod Rule
 pub mod Ends
 pub mod Tallies

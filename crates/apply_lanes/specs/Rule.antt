@@ -1,11 +1,11 @@
--- The rule of a lane: what was put is what was taken, followed by what waits, and it is a run. One pass at
--- most puts, and one takes.
+-- The rule of a lane: what was put is what was taken, followed by what waits, and it is a chain of entries
+-- with at most one End, last. One pass at most puts, and one takes.
 use Rattle.std.specs.Prelude.{◌≡◌, ℕ, Bool, true, List, [], ◌∷◌, ◌++◌}
 use mathlib.Core.Option.{some}
 use lib.ListN.{get_elem?}
 use Rattle.apply_lanes.specs.declared.item.Item.{Item}
 use Rattle.apply_lanes.specs.declared.rule.Hand.{Hand}
-use Rattle.apply_lanes.specs.Runs.{IsRun}
+use Rattle.apply_lanes.specs.Items.{IsItemChain}
 
 module _ {A : Type 0} where
   abbrev pub hand : Bool → Bool → List (Item A) → List (Item A) → Hand A
@@ -17,9 +17,9 @@ module _ {A : Type 0} where
   Fits writer reader put taken pass v =
       (v.puts ≡ true → (pass ≡ writer) × (v.put ≡ put)) × (v.takes ≡ true → (pass ≡ reader) × (v.taken ≡ taken))
 
-  abbrev pub Kept : List (Item A) → List (Hand A) → Type 0
-  Kept waiting views = (writer : ℕ) × (reader : ℕ) × (put : List (Item A)) × (taken : List (Item A))
-      × (put ≡ taken ++ waiting) × IsRun put
+  abbrev pub IsInOrder : List (Item A) → List (Hand A) → Type 0
+  IsInOrder waiting views = (writer : ℕ) × (reader : ℕ) × (put : List (Item A)) × (taken : List (Item A))
+      × (put ≡ taken ++ waiting) × IsItemChain put
       × ((pass : ℕ) (v : Hand A) → get_elem? views pass ≡ some v → Fits writer reader put taken pass v)
 
   -- what a send tells
@@ -28,8 +28,8 @@ module _ {A : Type 0} where
 
   -- what a receive tells
   abbrev pub Takes : Hand A → Item A → Hand A → Type 0
-  Takes v x w = (w ≡ hand v.puts v.takes v.put (v.taken ++ x ∷ [])) × IsRun (v.taken ++ x ∷ [])
+  Takes v x w = (w ≡ hand v.puts v.takes v.put (v.taken ++ x ∷ [])) × IsItemChain (v.taken ++ x ∷ [])
 
   -- what both passes together know, where so much waits
   abbrev pub Compares : Hand A → List (Item A) → Type 0
-  Compares v waiting = (v.put ≡ v.taken ++ waiting) × IsRun v.put
+  Compares v waiting = (v.put ≡ v.taken ++ waiting) × IsItemChain v.put

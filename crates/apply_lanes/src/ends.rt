@@ -1,7 +1,7 @@
 //! The two ends of a lane.
-ghost use Rattle.std.specs.Prelude.{◌≡◌, ◌≤◌, [], ◌∷◌, ◌++◌, true, false, Some, None, IfOk, OnOk, OnErr, IsErr, MatchResult, IfErr};
+ghost use Rattle.std.specs.Prelude.{◌≡◌, ◌≤◌, [], ◌∷◌, ◌++◌, true, false, Some, None, IfOk, OnOk, OnErr, IsErr, IsNone, IfSome, IfNone, MatchResult, IfErr};
 ghost use Rattle.rights_types.specs.Entries.{EntryValue};
-ghost use Rattle.apply_lanes.specs.Runs.{Begins, Continues, Follows, IsOpen, IsRun, IsEnded, Leaves};
+ghost use Rattle.apply_lanes.specs.Items.{Begins, Continues, Follows, IsOpen, IsItemChain, IsEnded, Leaves};
 ghost use Rattle.apply_lanes.specs.declared.item.Item.{Item};
 
 use crate::item::Item;
@@ -30,16 +30,16 @@ pub struct Inlet<A: Allocator = Global> {
 impl<A: Allocator> Model for Inlet<A> {
     ghost use Rattle.std.specs.Prelude.{◌≡◌, true, false, []};
     ghost use Rattle.crossbeam_channel.specs.Claims.{IsSeatAt};
-    ghost use Rattle.crossbeam_channel.specs.Ends.{sends_on};
-    ghost use Rattle.apply_lanes.specs.Runs.{IsRun};
+    ghost use Rattle.crossbeam_channel.specs.Ends.{sends_on, ruled_capacity};
+    ghost use Rattle.apply_lanes.specs.Items.{IsItemChain};
     ghost use Rattle.apply_lanes.specs.Rule.{hand};
-    ghost use Rattle.apply_lanes.specs.Ends.{InletValue, known, lane_of};
+    ghost use Rattle.apply_lanes.specs.Ends.{InletValue, hand_of, lane_of};
 
     ghost Value = { InletValue A };
 
-    ghost view = { λ i. record { lane = lane_of i.pass; put = (known i.pass).put; dead = i.dead } };
+    ghost view = { λ i. record { lane = lane_of (ruled_capacity (sends_on i.sender)) i.pass; put = (hand_of i.pass).put; dead = i.dead } };
 
-    ghost invariant = { λ i. IsSeatAt (sends_on i.sender) i.pass × (known i.pass ≡ hand true false (known i.pass).put []) × IsRun (known i.pass).put };
+    ghost invariant = { λ i. IsSeatAt (sends_on i.sender) i.pass × (hand_of i.pass ≡ hand true false (hand_of i.pass).put []) × IsItemChain (hand_of i.pass).put };
 }
 
 /// The end of a lane that takes.
@@ -53,26 +53,28 @@ pub struct Outlet<A: Allocator = Global> {
 impl<A: Allocator> Model for Outlet<A> {
     ghost use Rattle.std.specs.Prelude.{◌≡◌, true, false, []};
     ghost use Rattle.crossbeam_channel.specs.Claims.{IsSeatAt};
-    ghost use Rattle.crossbeam_channel.specs.Ends.{receives_on};
-    ghost use Rattle.apply_lanes.specs.Runs.{IsRun};
+    ghost use Rattle.crossbeam_channel.specs.Ends.{receives_on, ruled_capacity};
+    ghost use Rattle.apply_lanes.specs.Items.{IsItemChain};
     ghost use Rattle.apply_lanes.specs.Rule.{hand};
-    ghost use Rattle.apply_lanes.specs.Ends.{OutletValue, known, lane_of};
+    ghost use Rattle.apply_lanes.specs.Ends.{OutletValue, hand_of, lane_of};
 
     ghost Value = { OutletValue A };
 
-    ghost view = { λ o. record { lane = lane_of o.pass; taken = (known o.pass).taken; dead = o.dead } };
+    ghost view = { λ o. record { lane = lane_of (ruled_capacity (receives_on o.receiver)) o.pass; taken = (hand_of o.pass).taken; dead = o.dead } };
 
-    ghost invariant = { λ o. IsSeatAt (receives_on o.receiver) o.pass × (known o.pass ≡ hand false true [] (known o.pass).taken) × IsRun (known o.pass).taken };
+    ghost invariant = { λ o. IsSeatAt (receives_on o.receiver) o.pass × (hand_of o.pass ≡ hand false true [] (hand_of o.pass).taken) × IsItemChain (hand_of o.pass).taken };
 }
 
 /// The two ends of a new lane, which holds at most so many items, 1 to 32. Its room is made here, and
 /// no later call takes memory.
+#[tactic(auto, using(crate::proofs::Rules::begins))]
 pub fn lane<A: Allocator + Copy>(
     alloc: A,
     capacity: usize,
 ) -> Result<(Inlet<A>, Outlet<A>), OutOfMemory>
     requires { (1 ≤ capacity) × (capacity ≤ 32) }
     ensures lane { IfOk result (λ r. r.1.lane ≡ r.0.lane) }
+    ensures room { IfOk result (λ r. r.0.lane.room ≡ capacity) }
     ensures inlet { IfOk result (λ r. (r.0.put ≡ []) × (r.0.dead ≡ false)) }
     ensures first { IfOk result (λ r. (e : EntryValue) → Begins e → Continues r.0.put e) }
     ensures outlet { IfOk result (λ r. (r.1.taken ≡ []) × (r.1.dead ≡ false)) }
@@ -111,6 +113,7 @@ impl<A: Allocator> Inlet<A> {
     }
 
     /// Puts End, and waits while the lane is full.
+    #[tactic(auto, using(crate::proofs::Items::end_chain))]
     pub fn end<R: Wait>(&mut self, rt: &R) -> Result<(), LaneClosed<A>>
         requires { IsOpen self.old.put }
         ensures lane { self.new.lane ≡ self.old.lane }
@@ -118,7 +121,6 @@ impl<A: Allocator> Inlet<A> {
         ensures err { IfErr result (λ e. (e.entry ≡ None) × (self.new.put ≡ self.old.put) × (self.new.dead ≡ true)) }
         ensures dead { self.old.dead ≡ true → IsErr result }
     {
-        let _ = &self.sender;
         match self.send(rt, Item::End) {
             Ok(()) => Ok(()),
             Err(_) => Err(LaneClosed { entry: None }),
@@ -126,7 +128,7 @@ impl<A: Allocator> Inlet<A> {
     }
 
     fn send<R: Wait>(&mut self, rt: &R, item: Item<A>) -> Result<(), Item<A>>
-        requires { IsRun (self.old.put ++ item ∷ []) }
+        requires { IsItemChain self.old.put → IsItemChain (self.old.put ++ item ∷ []) }
         ensures lane { self.new.lane ≡ self.old.lane }
         ensures ok { OnOk result ((self.new.put ≡ self.old.put ++ item ∷ []) × (self.new.dead ≡ false)) }
         ensures err { IfErr result (λ back. (back ≡ item) × (self.new.put ≡ self.old.put) × (self.new.dead ≡ true)) }
@@ -152,19 +154,33 @@ impl<A: Allocator> Outlet<A> {
         requires { IsOpen self.old.taken }
         ensures lane { self.new.lane ≡ self.old.lane }
         ensures ok { IfOk result (λ x. (self.new.taken ≡ self.old.taken ++ x ∷ []) × (self.new.dead ≡ false)) }
-        ensures run { OnOk result (IsRun self.new.taken) }
+        ensures chain { OnOk result (IsItemChain self.new.taken) }
         ensures next { IfOk result (λ x. Leaves x self.new.taken) }
         ensures err { IfErr result (λ e. (e.entry ≡ None) × (self.new.taken ≡ self.old.taken) × (self.new.dead ≡ true)) }
         ensures dead { self.old.dead ≡ true → IsErr result }
     {
+        match self.receive(rt) {
+            Some(item) => Ok(item),
+            None => Err(LaneClosed { entry: None }),
+        }
+    }
+
+    // None once the inlet is gone and nothing waits: then this end is dead.
+    fn receive<R: Wait>(&mut self, rt: &R) -> Option<Item<A>>
+        ensures lane { self.new.lane ≡ self.old.lane }
+        ensures some { IfSome result (λ x. (self.new.taken ≡ self.old.taken ++ x ∷ []) × (self.new.dead ≡ false)) }
+        ensures chain { IsItemChain self.new.taken }
+        ensures none { IfNone result ((self.new.taken ≡ self.old.taken) × (self.new.dead ≡ true)) }
+        ensures dead { self.old.dead ≡ true → IsNone result }
+    {
         if self.dead {
-            return Err(LaneClosed { entry: None });
+            return None;
         }
         match self.receiver.recv_as::<Taken, R>(rt, &mut self.pass) {
-            Ok(item) => Ok(item),
+            Ok(item) => Some(item),
             Err(_) => {
                 self.dead = true;
-                Err(LaneClosed { entry: None })
+                None
             }
         }
     }

@@ -1,6 +1,6 @@
 //! What the two ends of one lane say of each other.
 ghost use Rattle.std.specs.Prelude.{◌≡◌};
-ghost use Rattle.apply_lanes.specs.Runs.{StartsWith, IsEnded};
+ghost use Rattle.apply_lanes.specs.Items.{StartsWith, IsEnded};
 
 use crate::ends::{Inlet, Outlet};
 use crate::rule::{Compared, Ends};

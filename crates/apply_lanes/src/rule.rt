@@ -14,14 +14,14 @@ pub(crate) struct Hand<A: Allocator> {
     pub(crate) taken: LinkedList<Item<A>>,
 }
 
-// What was put is what was taken and what waits, and it is a run.
+// What was put is what was taken and what waits: a chain of entries, and at most one End, last.
 pub(crate) struct InOrder;
 
 impl<A: Allocator> Protocol<Item<A>, Hand<A>> for InOrder {
     ghost use Rattle.std.specs.Prelude.{true, []};
-    ghost use Rattle.apply_lanes.specs.Rule.{hand, Kept};
+    ghost use Rattle.apply_lanes.specs.Rule.{hand, IsInOrder};
 
-    ghost holds = { Kept };
+    ghost holds = { IsInOrder };
 
     ghost first = { hand true true [] [] };
 }

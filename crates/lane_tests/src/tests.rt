@@ -1,11 +1,12 @@
 //! Lanes and tallies, by one thread and by two.
 ghost use Rattle.std.specs.Prelude.{◌≡◌, ◌+◌, [], false, IfOk, IfSome};
 ghost use Rattle.rights_types.specs.Entries.{IsEntry, own, closes};
+ghost use Rattle.apply_lanes.specs.Items.{Continues, Follows, IsOpen};
 
 use apply_lanes::laws::ends_taken_in;
 use apply_lanes::{Inlet, Item, LaneClosed, Outlet, Portion, Tally, lane};
 use refusing_allocator::Refusing;
-use rights_types::{Amount, Entry, Move, OutOfMemory, SiteId};
+use rights_types::{Amount, Entry, Frontier, Move, OutOfMemory, SiteId};
 use std::alloc::Global;
 use std::marker::Brand;
 use std::sync::ledger::{Blank, Ledger};
@@ -23,6 +24,26 @@ fn one(alloc: Global, prev: u64) -> Option<Entry>
     Entry::new(SiteId::known(2), prev, moves).ok()
 }
 
+/// An entry of site 2 with these moves.
+fn entry_of(alloc: Global, prev: u64, moves: &[Move]) -> Option<Entry>
+    ensures { IfSome result (λ e. IsEntry e × (e.origin ≡ 2) × (e.prev ≡ prev)) }
+{
+    let moves = Vec::from_slice(alloc, moves).ok()?;
+    Entry::new(SiteId::known(2), prev, moves).ok()
+}
+
+/// Puts an entry and the one that follows it, and then End.
+fn put_two<R: Wait>(rt: &R, mut inlet: Inlet, first: Entry, second: Entry) -> Option<Inlet>
+    requires first { Continues inlet.put first }
+    requires second { Follows first second }
+    ensures { IfSome result (λ i. i.lane ≡ inlet.lane) }
+{
+    inlet.put(rt, first).ok()?;
+    inlet.put(rt, second).ok()?;
+    inlet.end(rt).ok()?;
+    Some(inlet)
+}
+
 /// Puts so many entries, and then End.
 fn put_all<R: Wait>(rt: &R, alloc: Global, mut inlet: Inlet, count: u64) -> Option<Inlet>
     requires { inlet.put ≡ [] }
@@ -34,6 +55,19 @@ fn put_all<R: Wait>(rt: &R, alloc: Global, mut inlet: Inlet, count: u64) -> Opti
     }
     inlet.end(rt).ok()?;
     Some(inlet)
+}
+
+/// Takes the next item, if it is an entry.
+fn take_entry<R: Wait>(rt: &R, outlet: &mut Outlet) -> Option<Entry>
+    requires { IsOpen outlet.old.taken }
+    ensures lane { outlet.new.lane ≡ outlet.old.lane }
+    ensures open { IfSome result (λ _. IsOpen outlet.new.taken) }
+{
+    match outlet.take(rt) {
+        Ok(Item::Entry(entry)) => Some(entry),
+        Ok(Item::End) => None,
+        Err(_) => None,
+    }
 }
 
 /// Takes all items to End: how many entries came, and whether each came after the one before it.
@@ -105,6 +139,43 @@ fn an_entry_and_end(rt: HostRuntime) -> Result<(), Fail> {
     Ok(())
 }
 
+/// An entry of two moves and the one that closes the log come as they were put, and then End.
+#[test]
+fn a_log_to_its_closing_entry(rt: HostRuntime) -> Result<(), Fail> {
+    let gift = [
+        Move::Issue(Amount::known(5)),
+        Move::Give {
+            peer: SiteId::known(1),
+            amount: Amount::known(5),
+        },
+    ];
+    let closing = [Move::CloseAt(Frontier::new(&[7, 0])?)];
+    let (inlet, mut outlet) = lane(rt.alloc(), 3)?;
+    let first = entry_of(rt.alloc(), 0, &gift).ok_or("a gift")?;
+    let last = entry_of(rt.alloc(), 2, &closing).ok_or("a closing entry")?;
+    if first.closes() || first.own() != 2 || !last.closes() {
+        return Err(Fail::from("the entries"));
+    }
+    let inlet = put_two(&rt, inlet, first, last).ok_or("put")?;
+    let first = take_entry(&rt, &mut outlet).ok_or("take")?;
+    assert_eq!(rt;
+        (first.origin(), first.prev(), first.own()),
+        (SiteId::known(2), 0, 2)
+    );
+    assert_eq!(rt; first.moves(), gift.as_slice());
+    let last = take_entry(&rt, &mut outlet).ok_or("take the closing entry")?;
+    assert_eq!(rt;
+        (last.origin(), last.prev(), last.own()),
+        (SiteId::known(2), 2, 3)
+    );
+    assert_eq!(rt; last.moves(), closing.as_slice());
+    let Ok(Item::End) = outlet.take(&rt) else {
+        return Err(Fail::from("take End"));
+    };
+    let _outlet = ends_taken_in(inlet, outlet);
+    Ok(())
+}
+
 /// Once the outlet is gone, an entry comes back, and so it is with each later call.
 #[test]
 fn no_outlet(rt: HostRuntime) -> Result<(), Fail> {
@@ -151,7 +222,10 @@ fn each_growth_of_a_lane_refused(rt: HostRuntime) -> Result<(), Fail> {
                 made = true;
                 break;
             }
-            Err(OutOfMemory) => refused = true,
+            Err(OutOfMemory) => {
+                assert!(rt; refusing.refused());
+                refused = true;
+            }
         }
     }
     assert!(rt; refused);

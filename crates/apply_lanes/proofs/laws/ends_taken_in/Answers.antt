@@ -1,9 +1,9 @@
 use Rattle.std.proofs.Common.{◌≡◌, [], ◌++◌, ap, rules, sym, subst, ◌∙◌, append-nil}
 use Rattle.apply_lanes.specs.declared.rule.Hand.{Hand}
-use Rattle.apply_lanes.specs.Runs.{IsRun}
+use Rattle.apply_lanes.specs.Items.{IsItemChain}
 use Rattle.apply_lanes.specs.Ends.{InletValue, OutletValue}
 use Rattle.apply_lanes.proofs.Rules.{merges, forks, compares}
-use Rattle.apply_lanes.proofs.Runs.{whole_at_end}
+use Rattle.apply_lanes.proofs.Items.{whole_at_end}
 use Rattle.apply_lanes.proofs.laws.ends_taken_in.Goals as goal
 
 pub absorb-requires-clause-rule : goal.absorb-requires-clause-rule
@@ -20,7 +20,7 @@ pub invariant_of-result : goal.invariant_of-result
 invariant_of-result g c =
     let taken_is = ap (λ (v : Hand _). v.taken) c.another-pass.ensures.rule.1 ∙ ap (λ (v : Hand _). v.taken) c.learn_as.ensures.channel.2
     ∙ ap (λ (v : Hand _). v.taken) c.absorb.ensures.rule in
-    ((search rules, search rules, search rules, search rules), search rules, subst IsRun (sym taken_is) c.outlet.invariant.2)
+    ((search rules, search rules, search rules, search rules), search rules, subst IsItemChain (sym taken_is) c.outlet.invariant.2)
 
 pub returns-clause-whole : goal.returns-clause-whole
 returns-clause-whole g c is =
@@ -30,6 +30,6 @@ returns-clause-whole g c is =
     let put_is = ap (λ (v : Hand _). v.put) both ∙ ap (λ (v : InletValue _). v.put) c.inlet.view_is in
     let taken_is = ap (λ (v : Hand _). v.taken) both ∙ ap (λ (v : OutletValue _). v.taken) c.outlet.view_is in
     let split : c.args.inlet.put ≡ taken ++ learned.0 = sym put_is ∙ learned.1.0 ∙ ap (λ l. l ++ learned.0) taken_is in
-    let run : IsRun (taken ++ learned.0) = subst IsRun split (subst IsRun put_is learned.1.1) in
-    let none : learned.0 ≡ [] = whole_at_end taken learned.0 run is in
+    let chain : IsItemChain (taken ++ learned.0) = subst IsItemChain split (subst IsItemChain put_is learned.1.1) in
+    let none : learned.0 ≡ [] = whole_at_end taken learned.0 chain is in
     sym (split ∙ ap (λ l. taken ++ l) none ∙ append-nil taken)

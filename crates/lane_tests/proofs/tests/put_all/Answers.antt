@@ -1,8 +1,8 @@
 use Rattle.std.proofs.Common.{refl, sym, subst, []}
-use Rattle.apply_lanes.specs.Runs.{Continues}
-use Rattle.apply_lanes.proofs.Runs.{begins_run}
+use Rattle.apply_lanes.specs.Items.{Continues}
+use Rattle.apply_lanes.proofs.Items.{begins_chain}
 use Rattle.lane_tests.proofs.tests.put_all.Goals as goal
 
 pub loop-number-init : goal.loop-number-init
 loop-number-init g c =
-    ((λ f of at valid. subst (λ l. Continues l f) (sym c.requires) (begins_run f (record { prev = at; valid = valid }))), ([], c.requires), refl)
+    ((λ f of at valid. subst (λ l. Continues l f) (sym c.requires) (begins_chain f (record { prev = at; valid = valid }))), ([], c.requires), refl)

@@ -1,5 +1,5 @@
 use Rattle.std.proofs.Common.{◌≡◌}
-use Rattle.apply_lanes.specs.Runs.{IsOpen}
+use Rattle.apply_lanes.specs.Items.{IsOpen}
 use Rattle.lane_tests.proofs.tests.take_all.Given as goal
 
 abbrev pub invariant-loop : goal.invariant-loop

@@ -1,10 +1,10 @@
 use Rattle.std.proofs.Common.{subst, sym}
-use Rattle.apply_lanes.specs.Runs.{IsOpen, Continues}
-use Rattle.apply_lanes.proofs.Runs.{continued, continues_on, open_push}
+use Rattle.apply_lanes.specs.Items.{IsOpen, Continues}
+use Rattle.apply_lanes.proofs.Items.{continued, continues_on, open_push}
 use Rattle.apply_lanes.proofs.ends.Inlet.put.Goals as goal
 
 pub send-requires : goal.send-requires
-send-requires g c = continued _ _ c.requires
+send-requires g c _ = continued _ _ c.requires
 
 pub returns-in-Ok-clause-open : goal.returns-in-Ok-clause-open
 returns-in-Ok-clause-open g c = subst IsOpen (sym c.in-Ok.ensures.ok.0) (open_push _ _ (c.requires.1, c.requires.2))

@@ -22,9 +22,9 @@ module _ {A : Type 0} where
   end_if true = End ∷ []
   end_if false = []
 
-  -- a chain of entries, and at most one End, after which nothing stands
-  abbrev pub IsRun : List (Item A) → Type 0
-  IsRun items = (o : ℕ) × (es : List EntryValue) × (ended : Bool) × IsChain o es × (items ≡ items_of es ++ end_if ended)
+  -- a chain of entries, and at most one End, last
+  abbrev pub IsItemChain : List (Item A) → Type 0
+  IsItemChain items = (o : ℕ) × (es : List EntryValue) × (ended : Bool) × IsChain o es × (items ≡ items_of es ++ end_if ended)
 
   -- the entry continues the chain of these items, of which none closes it or is End
   abbrev pub Continues : List (Item A) → EntryValue → Type 0

@@ -1,11 +1,11 @@
--- Laws of runs.
+-- Laws of the items of a lane.
 use Rattle.std.proofs.Common.{◌≡◌, ℕ, Bool, true, false, List, [], ◌∷◌, ◌++◌, refl, sym, ap, ◌∙◌, subst, append-nil}
 use Rattle.rights_types.specs.Entries.{EntryValue}
 use Rattle.rights_types.specs.Chains.{IsChain}
 use Rattle.rights_types.proofs.Chains.{chain_left, chain_right, chain_push, closed-push, end-push}
 use Rattle.apply_lanes.specs.declared.item.Item.{Item}
 use Rattle.apply_lanes.specs.declared.item.Item.TheVariants.{Entry, End}
-use Rattle.apply_lanes.specs.Runs.{items_of, IsOpen, end_if, IsRun, Continues, IsEnded, Follows, Begins, Leaves}
+use Rattle.apply_lanes.specs.Items.{items_of, IsOpen, end_if, IsItemChain, Continues, IsEnded, Follows, Begins, Leaves}
 
 -- a chain goes on with what follows its last entry
 follows_on : (o : ℕ) (es : List EntryValue) (e f : EntryValue) → IsChain o (es ++ e ∷ []) → Follows e f → IsChain o ((es ++ e ∷ []) ++ f ∷ [])
@@ -22,8 +22,8 @@ module _ {A : Type 0} where
   pub open_push : (items : List (Item A)) (e : EntryValue) → IsOpen items → IsOpen (items ++ Entry e ∷ [])
   open_push items e free = (free.0 ++ e ∷ [], ap (λ l. l ++ Entry e ∷ []) free.1 ∙ sym (items_of-push free.0 e))
 
-  -- a run that an entry continues goes on
-  pub continued : (items : List (Item A)) (e : EntryValue) → Continues items e → IsRun (items ++ Entry e ∷ [])
+  -- items that an entry continues are a chain with it
+  pub continued : (items : List (Item A)) (e : EntryValue) → Continues items e → IsItemChain (items ++ Entry e ∷ [])
   continued items e c =
       (c.0, c.1 ++ e ∷ [], false, c.3, ap (λ l. l ++ Entry e ∷ []) c.2 ∙ sym (items_of-push c.1 e) ∙ sym (append-nil (items_of (c.1 ++ e ∷ []))))
 
@@ -47,16 +47,16 @@ module _ {A : Type 0} where
   no_end items (e ∷ es) [] a b = cc
   no_end items (e ∷ es) (f ∷ fs) a b = no_end (items_of es) es fs refl cc
 
-  ended : (items : List (Item A)) (o : ℕ) (es : List EntryValue) (b : Bool) → IsChain o es → items ≡ items_of es ++ end_if b → IsOpen items → IsRun (items ++ End ∷ [])
+  ended : (items : List (Item A)) (o : ℕ) (es : List EntryValue) (b : Bool) → IsChain o es → items ≡ items_of es ++ end_if b → IsOpen items → IsItemChain (items ++ End ∷ [])
   ended items o es false chain is free = (o, es, true, chain, ap (λ l. l ++ End ∷ []) (is ∙ append-nil (items_of es)))
   ended items o es true chain is free = absurd (no_end items free.0 es free.1 is)
 
-  pub empty_run : IsRun {A = A} []
-  empty_run = (0, [], false, tt, refl)
+  pub empty_chain : IsItemChain {A = A} []
+  empty_chain = (0, [], false, tt, refl)
 
-  -- with End, the items of a list of entries that has not come to it are a run still
-  pub end_run : (items : List (Item A)) → IsRun items → IsOpen items → IsRun (items ++ End ∷ [])
-  end_run items run free = ended items run.0 run.1 run.2 run.3 run.4 free
+  -- a chain that has not come to End is one with End too
+  pub end_chain : (items : List (Item A)) → IsItemChain items → IsOpen items → IsItemChain (items ++ End ∷ [])
+  end_chain items chain free = ended items chain.0 chain.1 chain.2 chain.3 chain.4 free
 
   -- a list of items that is a front of others
   front : (xs ys : List (Item A)) (es : List EntryValue) (b : Bool) → xs ++ ys ≡ items_of es ++ end_if b
@@ -68,15 +68,15 @@ module _ {A : Type 0} where
   front (x ∷ xs) ys [] true is = ([], [], true, refl, only_end x xs ys is)
   front (x ∷ xs) ys [] false is = absurd cc
 
-  -- what was taken of a run is a run
-  pub run_begins : (xs ys : List (Item A)) → IsRun (xs ++ ys) → IsRun xs
-  run_begins xs ys run =
-      let cut = front xs ys run.1 run.2 run.4 in
-      (run.0, cut.0, cut.2, chain_left run.0 false 0 cut.0 cut.1 (subst (IsChain run.0) (sym cut.3) run.3), cut.4)
+  -- the front of a chain is a chain
+  pub front_chain : (xs ys : List (Item A)) → IsItemChain (xs ++ ys) → IsItemChain xs
+  front_chain xs ys chain =
+      let cut = front xs ys chain.1 chain.2 chain.4 in
+      (chain.0, cut.0, cut.2, chain_left chain.0 false 0 cut.0 cut.1 (subst (IsChain chain.0) (sym cut.3) chain.3), cut.4)
 
   -- nothing stands after End
-  pub whole_at_end : (xs ys : List (Item A)) → IsRun (xs ++ ys) → IsEnded xs → ys ≡ []
-  whole_at_end xs ys run ended = nothing_after ended.0 ys run.1 run.2 (ap (λ l. l ++ ys) (sym ended.1) ∙ run.4)
+  pub whole_at_end : (xs ys : List (Item A)) → IsItemChain (xs ++ ys) → IsEnded xs → ys ≡ []
+  whole_at_end xs ys chain ended = nothing_after ended.0 ys chain.1 chain.2 (ap (λ l. l ++ ys) (sym ended.1) ∙ chain.4)
 
   -- after an entry that may come next, one that follows it may come next
   pub continues_on : (items : List (Item A)) (e f : EntryValue) → Continues items e → Follows e f → Continues (items ++ Entry e ∷ []) f
@@ -88,10 +88,10 @@ module _ {A : Type 0} where
   )
 
   -- the first entry of a log may come first
-  pub begins_run : (e : EntryValue) → Begins e → Continues {A = A} [] e
-  begins_run e first = (e.origin, [], refl, (refl, refl, first.prev, first.valid, tt))
+  pub begins_chain : (e : EntryValue) → Begins e → Continues {A = A} [] e
+  begins_chain e first = (e.origin, [], refl, (refl, refl, first.prev, first.valid, tt))
 
-  -- what is known of a run that ends so
+  -- what is known of items of which this is the last
   pub leaves : (items : List (Item A)) (x : Item A) → IsOpen items → Leaves x (items ++ x ∷ [])
   leaves items (Entry e) is_open = open_push items e is_open
   leaves items End is_open = (items, refl)
