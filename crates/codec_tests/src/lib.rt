@@ -1,5 +1,5 @@
-//! Tests of the codec where memory is refused. They have their own crate, since they alone use the
-//! allocator that refuses a request.
+//! Tests of the codec where memory is refused, and of how much memory it wants. They have their own
+//! crate, since they alone use the allocators that refuse a request and that count bytes.
 #![tactic(auto)]
 
 #[cfg(test)]

@@ -15,7 +15,7 @@ use Rattle.entry_codec.specs.declared.fault.LineError.{LineError}
 use Rattle.entry_codec.specs.declared.fault.LineError.TheVariants.{TooLong, NoEnd, BadKind, BadField, BadMove, CountWrong, TrailingBytes, OutOfMemory}
 use Rattle.entry_codec.specs.Parts.{left, Tells, Gives}
 use Rattle.entry_codec.specs.Spelling.{entry_fields}
-use Rattle.entry_codec.specs.Reading.{◌>>=◌, place, fault_if, number_at, other_site_at, listed_entry_of, entries_of, answer_sites_of, answer_entries_of, answer_of}
+use Rattle.entry_codec.specs.Reading.{◌>>=◌, place, fault_if, value_at, other_site_at, listed_entry_of, entries_of, answer_sites_of, answer_entries_of, answer_of}
 use Rattle.entry_codec.proofs.Cuts.{few_parts}
 use Rattle.entry_codec.proofs.MoveFields.{both_are}
 use Rattle.entry_codec.proofs.Entries.{bind_ok, ok_is, past, IsNoWant, bind_no_want, test_no_want, number_at_is, number_at_again, number_no_want, IsOf, entries_are, entries_again, entries_no_want}
@@ -30,7 +30,7 @@ pub record AreSites (fields : List (List ℕ)) (sites : ℕ × ℕ) : Type 0 whe
 pub sites_are : (fields : List (List ℕ)) (sites : ℕ × ℕ) → answer_sites_of fields ≡ Ok sites → AreSites fields sites
 unfolding answer_sites_of
 sites_are fields sites h =
-    let a = bind_ok (number_at 1 16 (place 0 1) fields) _ sites h in
+    let a = bind_ok (value_at 1 16 (place 0 1) fields) _ sites h in
     let b = bind_ok (other_site_at a.0.0 (place 0 2) a.0.1) _ sites a.2 in
     let k = past TrailingBytes (not (length b.0.1 == 0)) _ sites b.2 in
     let o = number_at_is 1 16 (place 0 1) fields a.0 a.1 in
@@ -86,7 +86,7 @@ answer_again a h = rw (sites_again a.origin a.asker h.origin h.asker h.differ, a
 sites_no_want : (fields : List (List ℕ)) → IsNoWant (answer_sites_of fields)
 unfolding answer_sites_of
 sites_no_want fields =
-    bind_no_want (number_at 1 16 (place 0 1) fields) _ (number_no_want 1 16 (place 0 1) fields) (λ o.
+    bind_no_want (value_at 1 16 (place 0 1) fields) _ (number_no_want 1 16 (place 0 1) fields) (λ o.
     bind_no_want (other_site_at o.0 (place 0 2) o.1) _ (other_site_no_want o.0 (place 0 2) o.1) (λ s.
     bind_no_want (fault_if TrailingBytes (not (length s.1 == 0))) _ (test_no_want TrailingBytes (not (length s.1 == 0)) (λ same. absurd cc)) (λ _ same. absurd cc)))
 

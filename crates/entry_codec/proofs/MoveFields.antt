@@ -1,6 +1,6 @@
 -- A move and the values of its field: what is read is spelled so, and what is spelled so is read.
 use Rattle.std.proofs.Common.{◌≡◌, ℕ, ◌≤◌, ◌<◌, ◌^◌, Bool, true, false, cond, ltb, List, [], ◌∷◌, length, map, Option, Some, None, refl, sym, ap, subst, ◌∙◌, arith, inl, inr}
-use Rattle.std.specs.Prelude.{◌==◌, ◌||◌, ◌⊎◌, decimal, codes}
+use Rattle.std.specs.Prelude.{◌==◌, ◌||◌, ◌⊎◌, decimal, codes, IfSome}
 use Rattle.std.specs.List.{All, join_with_byte}
 use Rattle.std.specs.Str.{bytes_eq}
 use Rattle.std.proofs.lemmas.Bool.{eqb-true, ltb-false, le-ltb, or_parts}
@@ -229,3 +229,11 @@ move_by_again (TakeBack j n) h = take_back_again j n h
 pub move_again : (m : Move) → IsMove m → move_of (move_text m) ≡ Some m
 unfolding move_of
 move_again m h = ap move_by (values_back m h) ∙ move_by_again m h
+
+-- what reading a field finds is what the field spells, and what it spells is found
+pub move_found : (text : List ℕ) (r : Option Move) → r ≡ move_of text → IfSome r (λ m. IsMove m × (text ≡ move_text m))
+move_found text None h = tt
+move_found text (Some m) h = let is = move_of_is text m (sym h) in (is.1, is.0)
+
+pub move_only : (text : List ℕ) (r : Option Move) → r ≡ move_of text → (m : Move) → IsMove m → text ≡ move_text m → r ≡ Some m
+move_only text r h m valid is = h ∙ ap move_of is ∙ move_again m valid

@@ -14,7 +14,7 @@ use Rattle.entry_codec.specs.declared.fault.Place.{Place}
 use Rattle.entry_codec.specs.declared.fault.LineError.{LineError}
 use Rattle.entry_codec.specs.declared.fault.LineError.TheVariants.{BadField, TrailingBytes}
 use Rattle.entry_codec.specs.Spelling.{parts_of}
-use Rattle.entry_codec.specs.Reading.{place, fault_if, number_at, other_site_at, trails, query_of, beat_of, ask_of, denial_of, hello_of, short_of}
+use Rattle.entry_codec.specs.Reading.{place, fault_if, value_at, other_site_at, trails, query_of, beat_of, ask_of, denial_of, hello_of, short_of}
 use Rattle.entry_codec.proofs.MoveFields.{both_are, which}
 use Rattle.entry_codec.proofs.Entries.{bind_ok, ok_is, past, IsNoWant, bind_no_want, test_no_want, number_at_is, number_at_again, number_no_want}
 
@@ -49,7 +49,7 @@ pub other_site_is : (other : ℕ) (at : Place) (fields : List (List ℕ)) (x : �
     → (fields ≡ decimal x.0 ∷ x.1) × ((1 ≤ x.0) × (x.0 ≤ 16)) × (x.0 ≡ other → ⊥)
 unfolding other_site_at
 other_site_is other at fields x h =
-    let a = bind_ok (number_at 1 16 at fields) _ x h in
+    let a = bind_ok (value_at 1 16 at fields) _ x h in
     let b = past (BadField at) (a.0.0 == other) _ x a.2 in
     let n = number_at_is 1 16 at fields a.0 a.1 in
     subst (λ (y : ℕ × List (List ℕ)). (fields ≡ decimal y.0 ∷ y.1) × ((1 ≤ y.0) × (y.0 ≤ 16)) × (y.0 ≡ other → ⊥)) (ok_is a.0 x b.1) (n.0, (n.1, n.2), eqb-false a.0.0 other b.0)
@@ -61,7 +61,7 @@ other_site_again other at n rest h ne = rw (number_at_again 1 16 at n rest (omeg
 pub other_site_no_want : (other : ℕ) (at : Place) (fields : List (List ℕ)) → IsNoWant (other_site_at other at fields)
 unfolding other_site_at
 other_site_no_want other at fields =
-    bind_no_want (number_at 1 16 at fields) _ (number_no_want 1 16 at fields) (λ s.
+    bind_no_want (value_at 1 16 at fields) _ (number_no_want 1 16 at fields) (λ s.
     bind_no_want (fault_if (BadField at) (s.0 == other)) _ (test_no_want (BadField at) (s.0 == other) (λ same. absurd cc)) (λ _ same. absurd cc))
 
 -- ---- what is read is spelled so
@@ -69,10 +69,10 @@ other_site_no_want other at fields =
 query_is : (fields : List (List ℕ)) (others : List (List (List ℕ))) (m : MessageValue) → query_of fields others ≡ Ok m → AreParts ((codes "Q" ∷ fields) ∷ others) m
 unfolding query_of
 query_is fields others m h =
-    let a = bind_ok (number_at 1 16 (place 0 1) fields) _ m h in
+    let a = bind_ok (value_at 1 16 (place 0 1) fields) _ m h in
     let b = bind_ok (other_site_at a.0.0 (place 0 2) a.0.1) _ m a.2 in
-    let c = bind_ok (number_at 0 1000000000 (place 0 3) b.0.1) _ m b.2 in
-    let d = bind_ok (number_at 0 1000000000 (place 0 4) c.0.1) _ m c.2 in
+    let c = bind_ok (value_at 0 1000000000 (place 0 3) b.0.1) _ m b.2 in
+    let d = bind_ok (value_at 0 1000000000 (place 0 4) c.0.1) _ m c.2 in
     let k = past TrailingBytes (trails d.0.1 others) _ m d.2 in
     let none = none_left d.0.1 others k.0 in
     let s = number_at_is 1 16 (place 0 1) fields a.0 a.1 in
@@ -88,8 +88,8 @@ query_is fields others m h =
 beat_is : (fields : List (List ℕ)) (others : List (List (List ℕ))) (m : MessageValue) → beat_of fields others ≡ Ok m → AreParts ((codes "B" ∷ fields) ∷ others) m
 unfolding beat_of
 beat_is fields others m h =
-    let a = bind_ok (number_at 1 16 (place 0 1) fields) _ m h in
-    let b = bind_ok (number_at 0 1000000000 (place 0 2) a.0.1) _ m a.2 in
+    let a = bind_ok (value_at 1 16 (place 0 1) fields) _ m h in
+    let b = bind_ok (value_at 0 1000000000 (place 0 2) a.0.1) _ m a.2 in
     let k = past TrailingBytes (trails b.0.1 others) _ m b.2 in
     let none = none_left b.0.1 others k.0 in
     let o = number_at_is 1 16 (place 0 1) fields a.0 a.1 in
@@ -101,10 +101,10 @@ beat_is fields others m h =
 ask_is : (fields : List (List ℕ)) (others : List (List (List ℕ))) (m : MessageValue) → ask_of fields others ≡ Ok m → AreParts ((codes "W" ∷ fields) ∷ others) m
 unfolding ask_of
 ask_is fields others m h =
-    let a = bind_ok (number_at 1 16 (place 0 1) fields) _ m h in
+    let a = bind_ok (value_at 1 16 (place 0 1) fields) _ m h in
     let b = bind_ok (other_site_at a.0.0 (place 0 2) a.0.1) _ m a.2 in
-    let c = bind_ok (number_at 1 1000000000 (place 0 3) b.0.1) _ m b.2 in
-    let d = bind_ok (number_at 1 1000000000 (place 0 4) c.0.1) _ m c.2 in
+    let c = bind_ok (value_at 1 1000000000 (place 0 3) b.0.1) _ m b.2 in
+    let d = bind_ok (value_at 1 1000000000 (place 0 4) c.0.1) _ m c.2 in
     let k = past TrailingBytes (trails d.0.1 others) _ m d.2 in
     let none = none_left d.0.1 others k.0 in
     let o = number_at_is 1 16 (place 0 1) fields a.0 a.1 in
@@ -120,9 +120,9 @@ ask_is fields others m h =
 denial_is : (fields : List (List ℕ)) (others : List (List (List ℕ))) (m : MessageValue) → denial_of fields others ≡ Ok m → AreParts ((codes "D" ∷ fields) ∷ others) m
 unfolding denial_of
 denial_is fields others m h =
-    let a = bind_ok (number_at 1 16 (place 0 1) fields) _ m h in
+    let a = bind_ok (value_at 1 16 (place 0 1) fields) _ m h in
     let b = bind_ok (other_site_at a.0.0 (place 0 2) a.0.1) _ m a.2 in
-    let c = bind_ok (number_at 1 1000000000 (place 0 3) b.0.1) _ m b.2 in
+    let c = bind_ok (value_at 1 1000000000 (place 0 3) b.0.1) _ m b.2 in
     let k = past TrailingBytes (trails c.0.1 others) _ m c.2 in
     let none = none_left c.0.1 others k.0 in
     let o = number_at_is 1 16 (place 0 1) fields a.0 a.1 in
@@ -135,7 +135,7 @@ denial_is fields others m h =
 hello_is : (fields : List (List ℕ)) (others : List (List (List ℕ))) (m : MessageValue) → hello_of fields others ≡ Ok m → AreParts ((codes "H" ∷ fields) ∷ others) m
 unfolding hello_of
 hello_is fields others m h =
-    let a = bind_ok (number_at 1 16 (place 0 1) fields) _ m h in
+    let a = bind_ok (value_at 1 16 (place 0 1) fields) _ m h in
     let k = past TrailingBytes (trails a.0.1 others) _ m a.2 in
     let none = none_left a.0.1 others k.0 in
     let s = number_at_is 1 16 (place 0 1) fields a.0 a.1 in
@@ -233,40 +233,40 @@ hello_short s h = hello_again s h
 query_no_want : (fields : List (List ℕ)) (others : List (List (List ℕ))) → IsNoWant (query_of fields others)
 unfolding query_of
 query_no_want fields others =
-    bind_no_want (number_at 1 16 (place 0 1) fields) _ (number_no_want 1 16 (place 0 1) fields) (λ s.
+    bind_no_want (value_at 1 16 (place 0 1) fields) _ (number_no_want 1 16 (place 0 1) fields) (λ s.
     bind_no_want (other_site_at s.0 (place 0 2) s.1) _ (other_site_no_want s.0 (place 0 2) s.1) (λ o.
-    bind_no_want (number_at 0 1000000000 (place 0 3) o.1) _ (number_no_want 0 1000000000 (place 0 3) o.1) (λ f.
-    bind_no_want (number_at 0 1000000000 (place 0 4) f.1) _ (number_no_want 0 1000000000 (place 0 4) f.1) (λ l.
+    bind_no_want (value_at 0 1000000000 (place 0 3) o.1) _ (number_no_want 0 1000000000 (place 0 3) o.1) (λ f.
+    bind_no_want (value_at 0 1000000000 (place 0 4) f.1) _ (number_no_want 0 1000000000 (place 0 4) f.1) (λ l.
     bind_no_want (fault_if TrailingBytes (trails l.1 others)) _ (trails_no_want l.1 others) (λ _ same. absurd cc)))))
 
 beat_no_want : (fields : List (List ℕ)) (others : List (List (List ℕ))) → IsNoWant (beat_of fields others)
 unfolding beat_of
 beat_no_want fields others =
-    bind_no_want (number_at 1 16 (place 0 1) fields) _ (number_no_want 1 16 (place 0 1) fields) (λ o.
-    bind_no_want (number_at 0 1000000000 (place 0 2) o.1) _ (number_no_want 0 1000000000 (place 0 2) o.1) (λ n.
+    bind_no_want (value_at 1 16 (place 0 1) fields) _ (number_no_want 1 16 (place 0 1) fields) (λ o.
+    bind_no_want (value_at 0 1000000000 (place 0 2) o.1) _ (number_no_want 0 1000000000 (place 0 2) o.1) (λ n.
     bind_no_want (fault_if TrailingBytes (trails n.1 others)) _ (trails_no_want n.1 others) (λ _ same. absurd cc)))
 
 ask_no_want : (fields : List (List ℕ)) (others : List (List (List ℕ))) → IsNoWant (ask_of fields others)
 unfolding ask_of
 ask_no_want fields others =
-    bind_no_want (number_at 1 16 (place 0 1) fields) _ (number_no_want 1 16 (place 0 1) fields) (λ o.
+    bind_no_want (value_at 1 16 (place 0 1) fields) _ (number_no_want 1 16 (place 0 1) fields) (λ o.
     bind_no_want (other_site_at o.0 (place 0 2) o.1) _ (other_site_no_want o.0 (place 0 2) o.1) (λ j.
-    bind_no_want (number_at 1 1000000000 (place 0 3) j.1) _ (number_no_want 1 1000000000 (place 0 3) j.1) (λ a.
-    bind_no_want (number_at 1 1000000000 (place 0 4) a.1) _ (number_no_want 1 1000000000 (place 0 4) a.1) (λ n.
+    bind_no_want (value_at 1 1000000000 (place 0 3) j.1) _ (number_no_want 1 1000000000 (place 0 3) j.1) (λ a.
+    bind_no_want (value_at 1 1000000000 (place 0 4) a.1) _ (number_no_want 1 1000000000 (place 0 4) a.1) (λ n.
     bind_no_want (fault_if TrailingBytes (trails n.1 others)) _ (trails_no_want n.1 others) (λ _ same. absurd cc)))))
 
 denial_no_want : (fields : List (List ℕ)) (others : List (List (List ℕ))) → IsNoWant (denial_of fields others)
 unfolding denial_of
 denial_no_want fields others =
-    bind_no_want (number_at 1 16 (place 0 1) fields) _ (number_no_want 1 16 (place 0 1) fields) (λ o.
+    bind_no_want (value_at 1 16 (place 0 1) fields) _ (number_no_want 1 16 (place 0 1) fields) (λ o.
     bind_no_want (other_site_at o.0 (place 0 2) o.1) _ (other_site_no_want o.0 (place 0 2) o.1) (λ j.
-    bind_no_want (number_at 1 1000000000 (place 0 3) j.1) _ (number_no_want 1 1000000000 (place 0 3) j.1) (λ a.
+    bind_no_want (value_at 1 1000000000 (place 0 3) j.1) _ (number_no_want 1 1000000000 (place 0 3) j.1) (λ a.
     bind_no_want (fault_if TrailingBytes (trails a.1 others)) _ (trails_no_want a.1 others) (λ _ same. absurd cc))))
 
 hello_no_want : (fields : List (List ℕ)) (others : List (List (List ℕ))) → IsNoWant (hello_of fields others)
 unfolding hello_of
 hello_no_want fields others =
-    bind_no_want (number_at 1 16 (place 0 1) fields) _ (number_no_want 1 16 (place 0 1) fields) (λ s.
+    bind_no_want (value_at 1 16 (place 0 1) fields) _ (number_no_want 1 16 (place 0 1) fields) (λ s.
     bind_no_want (fault_if TrailingBytes (trails s.1 others)) _ (trails_no_want s.1 others) (λ _ same. absurd cc))
 
 pub if_no_want : {A : Type 0} (b : Bool) (x y : Result A LineError) → IsNoWant x → IsNoWant y → IsNoWant (cond b x y)

@@ -30,9 +30,22 @@ or_fault e (Some x) = Ok x
 abbrev pub fault_if : LineError → Bool → Result (Unit {0}) LineError
 fault_if e b = if b then Err e else Ok tt
 
--- the number that a fixed field spells, and the fields after it
-unfoldable pub number_at : ℕ → ℕ → Place → List (List ℕ) → Result (ℕ × List (List ℕ)) LineError
-number_at low high at fields = or_fault (BadField at) (first_number low high fields)
+-- the number in a range that a fixed field spells, and the fields after it
+unfoldable pub value_at : ℕ → ℕ → Place → List (List ℕ) → Result (ℕ × List (List ℕ)) LineError
+value_at low high at fields = or_fault (BadField at) (first_number low high fields)
+
+-- a fixed field by what it spells
+abbrev pub site_at : Place → List (List ℕ) → Result (ℕ × List (List ℕ)) LineError
+site_at at fields = value_at 1 16 at fields
+
+abbrev pub number_at : Place → List (List ℕ) → Result (ℕ × List (List ℕ)) LineError
+number_at at fields = value_at 0 1000000000 at fields
+
+abbrev pub ask_at : Place → List (List ℕ) → Result (ℕ × List (List ℕ)) LineError
+ask_at at fields = value_at 1 1000000000 at fields
+
+abbrev pub amount_at : Place → List (List ℕ) → Result (ℕ × List (List ℕ)) LineError
+amount_at at fields = value_at 1 1000000000 at fields
 
 -- a move that names its origin, lacks its own place, or closes before the last field
 abbrev pub is_misplaced : ℕ → Bool → Move → Bool
@@ -57,8 +70,8 @@ is_miscounted prev own count = count == 0 || nat_lt 16 count || not (own == prev
 -- an entry of this origin, from the field behind the origin on
 unfoldable pub entry_after : ℕ → ℕ → List (List ℕ) → Result EntryValue LineError
 entry_after part origin fields = do
-  prev ← number_at 0 1000000000 (place part 2) fields
-  own ← number_at 0 1000000000 (place part 3) prev.1
+  prev ← number_at (place part 2) fields
+  own ← number_at (place part 3) prev.1
   moves ← moves_of origin part 4 own.1
   counted ← fault_if CountWrong (is_miscounted prev.0 own.0 (length moves))
   Ok (record { origin = origin; prev = prev.0; moves = moves })
@@ -66,7 +79,7 @@ entry_after part origin fields = do
 -- an entry, from the field behind its letter on
 unfoldable pub entry_of : ℕ → List (List ℕ) → Result EntryValue LineError
 entry_of part fields = do
-  origin ← number_at 1 16 (place part 1) fields
+  origin ← site_at (place part 1) fields
   entry_after part origin.0 origin.1
 
 -- an entry of an answer of this origin
@@ -74,7 +87,7 @@ unfoldable pub listed_entry_of : ℕ → ℕ → List (List ℕ) → Result Entr
 listed_entry_of part origin [] = Err (BadField (place part 0))
 listed_entry_of part origin (letter ∷ fields) = do
   kind ← fault_if (BadField (place part 0)) (not (bytes_eq letter (codes "E")))
-  site ← number_at 1 16 (place part 1) fields
+  site ← site_at (place part 1) fields
   same ← fault_if (BadField (place part 1)) (not (site.0 == origin))
   entry_after part origin site.1
 
@@ -88,14 +101,14 @@ entries_of part origin (fields ∷ rest) = do
 -- a site that differs from another one
 unfoldable pub other_site_at : ℕ → Place → List (List ℕ) → Result (ℕ × List (List ℕ)) LineError
 other_site_at other at fields = do
-  site ← number_at 1 16 at fields
+  site ← site_at at fields
   same ← fault_if (BadField at) (site.0 == other)
   Ok site
 
 -- the two sites of an answer, which its first part has alone
 unfoldable pub answer_sites_of : List (List ℕ) → Result (ℕ × ℕ) LineError
 answer_sites_of fields = do
-  origin ← number_at 1 16 (place 0 1) fields
+  origin ← site_at (place 0 1) fields
   asker ← other_site_at origin.0 (place 0 2) origin.1
   alone ← fault_if TrailingBytes (not (length asker.1 == 0))
   Ok (origin.0, asker.0)
@@ -120,10 +133,10 @@ push_of fields others = do
 
 unfoldable pub query_of : List (List ℕ) → List (List (List ℕ)) → Result MessageValue LineError
 query_of fields others = do
-  asker ← number_at 1 16 (place 0 1) fields
+  asker ← site_at (place 0 1) fields
   origin ← other_site_at asker.0 (place 0 2) asker.1
-  first ← number_at 0 1000000000 (place 0 3) origin.1
-  last ← number_at 0 1000000000 (place 0 4) first.1
+  first ← number_at (place 0 3) origin.1
+  last ← number_at (place 0 4) first.1
   alone ← fault_if TrailingBytes (trails last.1 others)
   Ok (AQuery (record { asker = asker.0; origin = origin.0; first = first.0; last = last.0 }))
 
@@ -135,31 +148,31 @@ answer_of fields others = do
 
 unfoldable pub beat_of : List (List ℕ) → List (List (List ℕ)) → Result MessageValue LineError
 beat_of fields others = do
-  origin ← number_at 1 16 (place 0 1) fields
-  number ← number_at 0 1000000000 (place 0 2) origin.1
+  origin ← site_at (place 0 1) fields
+  number ← number_at (place 0 2) origin.1
   alone ← fault_if TrailingBytes (trails number.1 others)
   Ok (ABeat (record { origin = origin.0; number = number.0 }))
 
 unfoldable pub ask_of : List (List ℕ) → List (List (List ℕ)) → Result MessageValue LineError
 ask_of fields others = do
-  asker ← number_at 1 16 (place 0 1) fields
+  asker ← site_at (place 0 1) fields
   asked ← other_site_at asker.0 (place 0 2) asker.1
-  ask ← number_at 1 1000000000 (place 0 3) asked.1
-  amount ← number_at 1 1000000000 (place 0 4) ask.1
+  ask ← ask_at (place 0 3) asked.1
+  amount ← amount_at (place 0 4) ask.1
   alone ← fault_if TrailingBytes (trails amount.1 others)
   Ok (AnAsk (record { asker = asker.0; asked = asked.0; ask = ask.0; amount = amount.0 }))
 
 unfoldable pub denial_of : List (List ℕ) → List (List (List ℕ)) → Result MessageValue LineError
 denial_of fields others = do
-  denier ← number_at 1 16 (place 0 1) fields
+  denier ← site_at (place 0 1) fields
   asker ← other_site_at denier.0 (place 0 2) denier.1
-  ask ← number_at 1 1000000000 (place 0 3) asker.1
+  ask ← ask_at (place 0 3) asker.1
   alone ← fault_if TrailingBytes (trails ask.1 others)
   Ok (ADenial (record { denier = denier.0; asker = asker.0; ask = ask.0 }))
 
 unfoldable pub hello_of : List (List ℕ) → List (List (List ℕ)) → Result MessageValue LineError
 hello_of fields others = do
-  site ← number_at 1 16 (place 0 1) fields
+  site ← site_at (place 0 1) fields
   alone ← fault_if TrailingBytes (trails site.1 others)
   Ok (AHello site.0)
 

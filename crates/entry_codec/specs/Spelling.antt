@@ -21,9 +21,12 @@ move_values (TakeBack j n) = codes "V" ∷ decimal j ∷ decimal n ∷ []
 abbrev pub move_text : Move → List ℕ
 move_text m = join_with_byte 58 (move_values m)
 
+-- what stands before an entry's moves
+abbrev pub head_fields : EntryValue → List (List ℕ)
+head_fields e = codes "E" ∷ decimal e.origin ∷ decimal e.prev ∷ decimal (own e) ∷ []
+
 abbrev pub entry_fields : EntryValue → List (List ℕ)
-entry_fields e =
-    codes "E" ∷ decimal e.origin ∷ decimal e.prev ∷ decimal (own e) ∷ map move_text e.moves
+entry_fields e = head_fields e ++ map move_text e.moves
 
 abbrev pub query_fields : QueryValue → List (List ℕ)
 query_fields q =

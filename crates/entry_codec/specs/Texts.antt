@@ -1,24 +1,24 @@
 -- The parts of a line's text that are written one after the other.
-use Rattle.std.specs.Prelude.{ℕ, Bool, true, false, not, ◌==◌, List, [], ◌∷◌, ◌++◌, flat_map, decimal}
-use Rattle.rights_types.specs.Entries.{EntryValue, own}
+use Rattle.std.specs.Prelude.{ℕ, Bool, true, false, not, ◌==◌, List, [], ◌∷◌, ◌++◌, flat_map, decimal, codes}
+use Rattle.rights_types.specs.Entries.{EntryValue}
 use Rattle.rights_types.specs.Messages.{AnswerValue}
-use Rattle.entry_codec.specs.Spelling.{move_text}
+use Rattle.entry_codec.specs.Spelling.{move_text, part_text, head_fields, answer_fields}
 
 -- what each further part adds to a text, behind a byte
 abbrev pub behind : {A : Type 0} → ℕ → (A → List ℕ) → List A → List ℕ
 behind at text xs = flat_map (λ x. at ∷ text x) xs
 
 abbrev pub frontier_text : List ℕ → List ℕ
-frontier_text f = 75 ∷ behind 58 decimal f
+frontier_text f = codes "K" ++ behind 58 decimal f
 
 abbrev pub entry_head : EntryValue → List ℕ
-entry_head e = 69 ∷ 32 ∷ (decimal e.origin ++ 32 ∷ (decimal e.prev ++ 32 ∷ decimal (own e)))
+entry_head e = part_text (head_fields e)
 
 abbrev pub entry_text : EntryValue → List ℕ
 entry_text e = entry_head e ++ behind 32 move_text e.moves
 
 abbrev pub answer_head : AnswerValue → List ℕ
-answer_head a = 65 ∷ 32 ∷ (decimal a.origin ++ 32 ∷ decimal a.asker)
+answer_head a = part_text (answer_fields a)
 
 abbrev pub answer_text : AnswerValue → List ℕ
 answer_text a = answer_head a ++ behind 59 entry_text a.entries

@@ -21,7 +21,8 @@ pub enum LineError {
     /// The first field is the letter of no kind of message.
     BadKind,
     /// A fixed field is missing, is no decimal in its range, or names a site that must differ
-    /// from an earlier one.
+    /// from an earlier one; or a part of an answer begins with another letter than `E`, or is an
+    /// entry of another origin than the answer's.
     BadField(Place),
     /// A field of an entry is no move, names the entry's origin, lacks the origin's own place in a
     /// frontier, or closes before the end.

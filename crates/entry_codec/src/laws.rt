@@ -1,7 +1,8 @@
 //! Laws of lines, which hold of the definitions alone. The functions do nothing.
-ghost use Rattle.std.specs.Prelude.{◌≡◌, ℕ, List, [], ◌++◌, Ok};
+ghost use Rattle.std.specs.Prelude.{◌≡◌, ℕ, ◌≤◌, List, [], ◌∷◌, ◌++◌, length, Ok};
 ghost use Rattle.rights_types.specs.Messages.{MessageValue, IsMessage};
 ghost use Rattle.entry_codec.specs.Spelling.{line, Spells};
+ghost use Rattle.entry_codec.specs.Pieces.{pieces};
 ghost use Rattle.entry_codec.specs.Reading.{reading};
 
 /// What was written is read again.
@@ -9,12 +10,23 @@ pub fn reads_back()
     ensures { (m : MessageValue) → IsMessage m → reading (line m) ≡ Ok m }
 {}
 
-/// A text spells one message.
+/// A text spells one message, and a message has one spelling.
 pub fn spelled_once()
-    ensures { (m n : MessageValue) (text : List ℕ) → Spells m text → Spells n text → m ≡ n }
+    ensures message { (m n : MessageValue) (text : List ℕ)
+        → Spells m text → Spells n text → m ≡ n }
+    ensures text { (m : MessageValue) (text other : List ℕ)
+        → Spells m text → Spells m other → text ≡ other }
 {}
 
-/// No spelling is a proper prefix of another, so a line is read whatever follows it.
+/// What was written is read again whatever follows it: the line is a piece of the stream that
+/// begins with it, and no piece that is too long.
+pub fn reads_on()
+    ensures piece { (m : MessageValue) (rest : List ℕ)
+        → IsMessage m → pieces (line m ++ rest) ≡ line m ∷ pieces rest }
+    ensures fits { (m : MessageValue) → IsMessage m → length (line m) ≤ 16384 }
+{}
+
+/// No spelling is a proper prefix of another.
 pub fn no_prefix()
     ensures { (m n : MessageValue) (text rest : List ℕ)
         → Spells m text → Spells n (text ++ rest) → rest ≡ [] }

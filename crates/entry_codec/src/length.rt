@@ -1,5 +1,7 @@
 //! How many bytes a message's line has.
 ghost use Rattle.std.specs.Prelude.{◌≡◌, ◌+◌, ◌<◌, ◌≤◌, ◌^◌, nat_le, length, slice_index, decimal, if◌then◌else◌};
+ghost use Rattle.rights_types.specs.Entries.{IsEntry};
+ghost use Rattle.rights_types.specs.Messages.{IsAnswer, IsMessage};
 ghost use Rattle.rights_types.specs.Values.{value_of};
 ghost use Rattle.entry_codec.specs.Spelling.{move_text, line};
 ghost use Rattle.entry_codec.specs.Texts.{frontier_text, entry_text, answer_text};
@@ -46,6 +48,7 @@ pub(crate) fn place_of(frontier: &Frontier, index: usize) -> u64
     requires { index < length frontier.now }
     ensures { result ≡ slice_index frontier.now index }
 {
+    // Its contract tells that the frontier has at most 16 places, so that the index is a site's.
     let _ = frontier.count();
     frontier.at(SiteId::known(index as u64 + 1)).unwrap_or(0)
 }
@@ -83,6 +86,7 @@ fn move_len(m: &Move) -> usize
 pub(crate) fn entry_len<B: Allocator>(entry: &Entry<B>) -> usize
     ensures value { result ≡ length (entry_text entry.now) }
     ensures small { result ≤ 10000 }
+    ensures valid { IsEntry entry.now }
 {
     let mut total = 4
         + digit_count(entry.origin().number())
@@ -97,6 +101,7 @@ pub(crate) fn entry_len<B: Allocator>(entry: &Entry<B>) -> usize
 fn answer_len<B: Allocator>(answer: &Answer<B>) -> usize
     ensures value { result ≡ length (answer_text answer.now) }
     ensures small { result ≤ 200000 }
+    ensures valid { IsAnswer answer.now }
 {
     let mut total = 3
         + digit_count(answer.origin().number())
@@ -110,6 +115,7 @@ fn answer_len<B: Allocator>(answer: &Answer<B>) -> usize
 pub(crate) fn line_len<B: Allocator>(message: &Message<B>) -> usize
     ensures value { result ≡ length (line (value_of message.now)) }
     ensures small { result ≤ 200001 }
+    ensures valid { IsMessage (value_of message.now) }
 {
     match message {
         Message::Push(entry) => entry_len(entry) + 1,

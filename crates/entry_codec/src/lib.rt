@@ -18,7 +18,7 @@ mod writing;
 
 pub use cutter::{Cut, LineCutter};
 pub use fault::{LineError, Place};
-pub use laws::{no_prefix, reads_back, spelled_once};
+pub use laws::{no_prefix, reads_back, reads_on, spelled_once};
 pub use moves::read_move;
 pub use reading::read_line;
 pub use writing::{write_entry, write_into, write_line};

@@ -1,5 +1,8 @@
 //! A move and its field.
-ghost use Rattle.std.specs.Prelude.{◌≡◌, ◌∷◌, ◌<◌, ◌≤◌, IfSome};
+ghost use Rattle.std.specs.Prelude.{◌≡◌, ◌∷◌, ◌<◌, ◌≤◌, IfSome, Some};
+ghost use Rattle.rights_types.specs.Moves.{IsMove};
+ghost use Rattle.rights_types.specs.declared.moves.Move.{Move};
+ghost use Rattle.entry_codec.specs.Spelling.{move_text};
 ghost use Rattle.entry_codec.specs.Parts.{split_at, left};
 ghost use Rattle.entry_codec.specs.Kept.{FindsMove};
 ghost use Rattle.entry_codec.specs.Moves.{only_number, grant_of, give_of, take_back_of, frontier_of, move_of, first_move};
@@ -12,8 +15,19 @@ use rights_types::{
 
 /// The move that a field spells. It knows no origin, so whether the move may stand in an entry is
 /// not tested.
-#[tactic(auto, unfolding(crate::specs::Moves::move_of))]
 pub fn read_move(field: &[u8]) -> Option<Move>
+    // What is read is what the field spells.
+    ensures found { IfSome result (λ m. IsMove m × (field.now ≡ move_text m)) }
+    // What is spelled is read.
+    ensures only { (m : Move) → IsMove m → field.now ≡ move_text m → result ≡ Some m }
+    // The same, as a function of the field.
+    ensures exact { result ≡ move_of field.now }
+{
+    move_of_field(field)
+}
+
+#[tactic(auto, unfolding(crate::specs::Moves::move_of))]
+fn move_of_field(field: &[u8]) -> Option<Move>
     ensures { result ≡ move_of field.now }
 {
     let (letter, values) = split_first(field, b':');
@@ -86,11 +100,11 @@ fn take_back_in(values: Option<&[u8]>) -> Option<Move>
 fn frontier_in(values: Option<&[u8]>) -> Option<Frontier>
     ensures { result ≡ frontier_of (left 58 values.entry) }
 {
-    let mut numbers = [0u64; 16];
+    let mut numbers = [0u64; MAX_SITES as usize];
     let mut count: usize = 0;
     let mut rest = values;
     while rest.is_some() {
-        if count >= 16 {
+        if count >= numbers.len() {
             return None;
         }
         let (number, more) = first_number(rest, b':', 0, MAX_NUMBER)?;

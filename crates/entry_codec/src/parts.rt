@@ -3,7 +3,7 @@ ghost use Rattle.std.specs.Prelude.{◌≡◌, ◌∷◌, ◌==◌, ◌<◌, ◌
 ghost use Rattle.std.specs.Char.{digit_value};
 ghost use Rattle.entry_codec.specs.Parts.{split_at, left, Finds, Reads};
 ghost use Rattle.entry_codec.specs.Moves.{first_number, only_number};
-ghost use Rattle.entry_codec.specs.Reading.{number_at};
+ghost use Rattle.entry_codec.specs.Reading.{value_at};
 ghost use Rattle.entry_codec.specs.Digits.{IsReadUpTo};
 
 use crate::fault::{LineError, Place};
@@ -113,7 +113,7 @@ pub(crate) fn only_number(parts: Option<&[u8]>, at: u8, low: u64, high: u64) -> 
 }
 
 /// The number in a fixed field, and the fields after it.
-#[tactic(auto, unfolding(crate::specs::Reading::number_at))]
+#[tactic(auto, unfolding(crate::specs::Reading::value_at))]
 pub(crate) fn number_in(
     fields: Option<&[u8]>,
     low: u64,
@@ -122,7 +122,7 @@ pub(crate) fn number_in(
 ) -> Result<(u64, Option<&[u8]>), LineError>
     requires { high < 10 ^ 19 }
     ensures value { Reads (λ x. (x.0, left 32 x.1)) result
-        (number_at low high place (left 32 fields.entry)) }
+        (value_at low high place (left 32 fields.entry)) }
     ensures range { IfOk result (λ x. (low ≤ x.0) × (x.0 ≤ high)) }
     ensures last { IfOk result (λ x. is_none x.1 ≡ (length (left 32 x.1) == 0)) }
     ensures shorter { IfOk result (λ x. length (left 32 x.1) < length (left 32 fields.entry)) }

@@ -1,8 +1,9 @@
 //! A message's line.
 ghost use Rattle.std.specs.Prelude.{◌≡◌, ◌+◌, ◌≤◌, [], ◌∷◌, ◌++◌, length, take, decimal, IfOk, OnOk, OnErr};
 ghost use Rattle.rights_types.specs.Values.{value_of};
+ghost use Rattle.rights_types.specs.Messages.{IsMessage};
 ghost use Rattle.rights_types.specs.Messages.MessageValue.{AnEntry};
-ghost use Rattle.entry_codec.specs.Spelling.{move_text, part_text, query_fields, beat_fields, ask_fields, denial_fields, text_of, line};
+ghost use Rattle.entry_codec.specs.Spelling.{move_text, part_text, query_fields, beat_fields, ask_fields, denial_fields, text_of, line, Spells};
 ghost use Rattle.entry_codec.specs.Texts.{frontier_text, entry_text, answer_text};
 
 use crate::length::{entry_len, line_len, place_of};
@@ -193,6 +194,7 @@ pub fn write_into<A: Allocator, B: Allocator>(
 ) -> Result<(), OutOfMemory>
     ensures written { OnOk result (out.new.items ≡ out.old.items ++ line (value_of message.now)) }
     ensures unchanged { OnErr result (out.new.items ≡ out.old.items) }
+    ensures valid { IsMessage (value_of message.now) }
 {
     let start = out.len();
     out.resize(start + line_len(message), 0)?;
@@ -205,7 +207,7 @@ pub fn write_line<A: Allocator + Copy, B: Allocator>(
     alloc: A,
     message: &Message<B>,
 ) -> Result<Vec<u8, A>, OutOfMemory>
-    ensures { IfOk result (λ text. text.items ≡ line (value_of message.now)) }
+    ensures { IfOk result (λ text. Spells (value_of message.now) text.items) }
 {
     let mut out = Vec::new(alloc);
     write_into(&mut out, message)?;
@@ -217,7 +219,7 @@ pub fn write_entry<A: Allocator + Copy, B: Allocator>(
     alloc: A,
     entry: &Entry<B>,
 ) -> Result<Vec<u8, A>, OutOfMemory>
-    ensures { IfOk result (λ text. text.items ≡ line (AnEntry entry.now)) }
+    ensures { IfOk result (λ text. Spells (AnEntry entry.now) text.items) }
 {
     let mut out = Vec::new(alloc);
     out.resize(entry_len(entry) + 1, 0)?;

@@ -1,7 +1,8 @@
-//! Cutters that find no memory.
+//! Cutters that find no memory, and how much they want.
 
 use super::MANY;
 use entry_codec::{Cut, LineCutter};
+use linked_list_allocator::LocalHeap;
 use refusing_allocator::Refusing;
 use std::alloc::Allocator;
 use std::test::Fail;
@@ -67,5 +68,35 @@ fn long_line_takes_no_memory(rt: HostRuntime) -> Result<(), Fail> {
     assert_eq!(rt; cutter.push(b"\n"), 1);
     assert!(rt; matches!(cutter.next_line()?, Some(Cut::Long)));
     assert!(rt; !refusing.refused());
+    Ok(())
+}
+
+/// A cutter's room is that of the longest line, and a line that it gives takes its own length, to
+/// the heap's next 16 bytes.
+#[test]
+fn bytes_of_a_cutter(rt: HostRuntime) -> Result<(), Fail> {
+    let heap = LocalHeap::new(rt.alloc(), 16400)?;
+    let mut cutter = LineCutter::new(&heap)?;
+    assert!(rt; heap.used() <= 16384);
+    assert_eq!(rt; cutter.push(b"B 1 5\n"), 6);
+    let line = cutter.next_line()?;
+    assert!(rt; heap.used() <= 16400);
+    assert!(rt; is_line(line, b"B 1 5\n"));
+    Ok(())
+}
+
+/// The heap has the bytes of the cutter's room and of one line, so no more are held at any moment.
+#[test]
+fn bytes_of_the_longest_line(rt: HostRuntime) -> Result<(), Fail> {
+    let heap = LocalHeap::new(rt.alloc(), 32768)?;
+    let mut cutter = LineCutter::new(&heap)?;
+    for _ in 0..16383usize {
+        assert_eq!(rt; cutter.push(b"x"), 1);
+    }
+    assert_eq!(rt; cutter.push(b"\n"), 1);
+    let Some(Cut::Line(line)) = cutter.next_line()? else {
+        panic!(rt; "no line");
+    };
+    assert_eq!(rt; line.len(), 16384);
     Ok(())
 }

@@ -1,6 +1,7 @@
-//! Messages that find no memory to be read into.
+//! Messages that find no memory to be read into, and how many requests they take.
 
 use super::MANY;
+use super::texts::{answer_of, longest_entry};
 use entry_codec::{LineError, Place, read_line, write_line};
 use refusing_allocator::Refusing;
 use std::test::Fail;
@@ -64,6 +65,32 @@ fn read_line_refused(rt: HostRuntime) -> Result<(), Fail> {
     Ok(())
 }
 
+/// The moves of an entry take one request.
+#[test]
+fn entry_takes_one_request(rt: HostRuntime) -> Result<(), Fail> {
+    let line = longest_entry(rt.alloc())?;
+    let refusing = Refusing::new(rt.alloc(), 1);
+    let message = read_line(&refusing, &line)?;
+    assert!(rt; !refusing.refused());
+    let text = write_line(rt.alloc(), &message)?;
+    assert_eq!(rt; text.as_slice(), line.as_slice());
+    Ok(())
+}
+
+/// The list of an answer's entries takes one request, and so does each entry.
+#[test]
+fn answers_take_a_request_for_each_entry(rt: HostRuntime) -> Result<(), Fail> {
+    for entries in 1..17u64 {
+        let line = answer_of(rt.alloc(), entries)?;
+        let refusing = Refusing::new(rt.alloc(), entries + 1);
+        let message = read_line(&refusing, &line)?;
+        assert!(rt; !refusing.refused(), "{entries} entries");
+        let text = write_line(rt.alloc(), &message)?;
+        assert_eq!(rt; text.as_slice(), line.as_slice());
+    }
+    Ok(())
+}
+
 #[test]
 fn short_lines_take_no_memory(rt: HostRuntime) -> Result<(), Fail> {
     for line in &SHORT_LINES {
@@ -86,4 +113,20 @@ fn faults_come_before_want_of_memory(rt: HostRuntime) {
             assert_eq!(rt; error, Some(*fault), "{line} with {granted} granted");
         }
     }
+}
+
+/// That there are too many entries is told whether there is memory or not.
+#[test]
+fn too_many_entries_without_memory(rt: HostRuntime) -> Result<(), Fail> {
+    let line = answer_of(rt.alloc(), 17)?;
+    for granted in 0..20u64 {
+        let refusing = Refusing::new(rt.alloc(), granted);
+        let error = read_line(&refusing, &line).err();
+        assert_eq!(rt;
+            error,
+            Some(LineError::CountWrong),
+            "with {granted} granted"
+        );
+    }
+    Ok(())
 }

@@ -1,6 +1,7 @@
-//! Lines that find no memory to be written into.
+//! Lines that find no memory to be written into, and how many requests they take.
 
 use super::MANY;
+use super::texts::{answer_of, longest_entry};
 use entry_codec::{read_line, write_entry, write_into, write_line};
 use refusing_allocator::Refusing;
 use rights_types::Message;
@@ -61,6 +62,31 @@ fn write_entry_refused(rt: HostRuntime) -> Result<(), Fail> {
     }
     assert!(rt; was_refused);
     assert!(rt; was_written);
+    Ok(())
+}
+
+/// The longest line of all is written with one request, so that its room is not made bit by bit.
+#[test]
+fn longest_message_takes_one_request(rt: HostRuntime) -> Result<(), Fail> {
+    let line = answer_of(rt.alloc(), 16)?;
+    let message = read_line(rt.alloc(), &line)?;
+    let refusing = Refusing::new(rt.alloc(), 1);
+    let text = write_line(&refusing, &message)?;
+    assert_eq!(rt; text.as_slice(), line.as_slice());
+    assert!(rt; !refusing.refused());
+    Ok(())
+}
+
+#[test]
+fn longest_entry_takes_one_request(rt: HostRuntime) -> Result<(), Fail> {
+    let line = longest_entry(rt.alloc())?;
+    let Message::Push(entry) = read_line(rt.alloc(), &line)? else {
+        panic!(rt; "no entry");
+    };
+    let refusing = Refusing::new(rt.alloc(), 1);
+    let text = write_entry(&refusing, &entry)?;
+    assert_eq!(rt; text.as_slice(), line.as_slice());
+    assert!(rt; !refusing.refused());
     Ok(())
 }
 

@@ -57,8 +57,9 @@ fn is_unfinished<A: Allocator + Copy>(cutter: &LineCutter<A>) -> bool {
     cutter.unfinished()
 }
 
+/// A line that came in two parts, and the first byte of the next one.
 #[test]
-fn cuts_of_example_17(rt: HostRuntime) -> Result<(), Fail> {
+fn line_in_two_parts(rt: HostRuntime) -> Result<(), Fail> {
     let mut cutter = LineCutter::new(rt.alloc())?;
     assert_eq!(rt; take(&mut cutter, b"B 1"), 3);
     assert!(rt; gives_none(&mut cutter)?);
@@ -73,8 +74,9 @@ fn cuts_of_example_17(rt: HostRuntime) -> Result<(), Fail> {
     Ok(())
 }
 
+/// A line of one byte too many, and the line behind it.
 #[test]
-fn long_line_of_example_17(rt: HostRuntime) -> Result<(), Fail> {
+fn line_behind_a_long_one(rt: HostRuntime) -> Result<(), Fail> {
     let mut cutter = LineCutter::new(rt.alloc())?;
     for _ in 0..16384usize {
         assert_eq!(rt; take(&mut cutter, b"x"), 1);

@@ -50,7 +50,7 @@ fn repeated<A: Allocator + Copy>(
 }
 
 #[test]
-fn lines_of_example_14(rt: HostRuntime) {
+fn one_fault_in_each(rt: HostRuntime) {
     let cases = [
         ("E 1 0 01 I:5\n", field(0, 3)),
         ("E 1 0 2 I:5\n", Some(LineError::CountWrong)),
@@ -69,7 +69,7 @@ fn lines_of_example_14(rt: HostRuntime) {
 }
 
 #[test]
-fn lines_of_example_18(rt: HostRuntime) {
+fn last_number_of_a_log(rt: HostRuntime) {
     let cases = [
         ("E 1 999999999 1000000000 C\n", None),
         ("E 1 1000000000 1000000001 C\n", field(0, 3)),
@@ -77,8 +77,9 @@ fn lines_of_example_18(rt: HostRuntime) {
     assert_eq!(rt; first_wrong(rt.alloc(), &cases), None);
 }
 
+/// Lines that lack something, have something more, or are two in one.
 #[test]
-fn lines_of_codec_1(rt: HostRuntime) {
+fn damaged_lines(rt: HostRuntime) {
     let cases = [
         ("", Some(LineError::NoEnd)),
         ("\n", Some(LineError::BadKind)),
@@ -99,8 +100,10 @@ fn lines_of_codec_1(rt: HostRuntime) {
     assert_eq!(rt; fault(rt.alloc(), b"\xff\n"), Some(LineError::BadKind));
 }
 
+/// More parts or fields than the kind has, frontiers that do not fit their origin, moves that name
+/// it, and closing moves that are not the last.
 #[test]
-fn more_lines_of_codec_1(rt: HostRuntime) {
+fn parts_and_moves_out_of_place(rt: HostRuntime) {
     let cases = [
         ("B 1 5;E 1 0 1 I:5\n", Some(LineError::TrailingBytes)),
         ("E 1 0 1 I:5;\n", Some(LineError::TrailingBytes)),
@@ -109,6 +112,9 @@ fn more_lines_of_codec_1(rt: HostRuntime) {
         ("E 1 0 1 K:1:0\n", misfit(0, 4)),
         ("E 1 0 1 K:0\n", misfit(0, 4)),
         ("E 1 0 2 K:0:0 I:1\n", misfit(0, 4)),
+        ("E 1 0 2 C C\n", misfit(0, 4)),
+        ("E 1 0 2 C K:0:0\n", misfit(0, 4)),
+        ("E 1 0 2 K:0:0 C\n", misfit(0, 4)),
         ("E 1 0 1 V:1:4\n", misfit(0, 4)),
     ];
     assert_eq!(rt; first_wrong(rt.alloc(), &cases), None);
@@ -161,6 +167,23 @@ fn order_of_faults(rt: HostRuntime) {
         ("Q 2 2 x 1 9\n", field(0, 2)),
         ("Q 2 1 x 1 9\n", field(0, 3)),
         ("B 1 5 6;\n", Some(LineError::TrailingBytes)),
+    ];
+    assert_eq!(rt; first_wrong(rt.alloc(), &cases), None);
+}
+
+/// The same of asks, denials and first lines.
+#[test]
+fn order_of_faults_of_asks(rt: HostRuntime) {
+    let cases = [
+        ("W 1 1 0 0 5;\n", field(0, 2)),
+        ("W 1 2 0 0 5;\n", field(0, 3)),
+        ("W 1 2 1 0 5;\n", field(0, 4)),
+        ("W 1 2 1 1 5;\n", Some(LineError::TrailingBytes)),
+        ("D 1 1 0;\n", field(0, 2)),
+        ("D 1 2 0;\n", field(0, 3)),
+        ("D 1 2 1;\n", Some(LineError::TrailingBytes)),
+        ("H 0 1;\n", field(0, 1)),
+        ("H 1;\n", Some(LineError::TrailingBytes)),
     ];
     assert_eq!(rt; first_wrong(rt.alloc(), &cases), None);
 }

@@ -12,7 +12,7 @@ fn is_again<A: Allocator + Copy>(alloc: A, text: &[u8]) -> Result<bool, LineErro
 }
 
 #[test]
-fn line_of_example_1(rt: HostRuntime) -> Result<(), Fail> {
+fn line_of_an_entry(rt: HostRuntime) -> Result<(), Fail> {
     let text = b"E 1 0 3 I:10 S:4 R:2:3\n".as_slice();
     assert_eq!(rt; text.len(), 23);
     assert!(rt; is_again(rt.alloc(), text)?);
@@ -55,27 +55,32 @@ fn lines_of_greatest_values(rt: HostRuntime) -> Result<(), Fail> {
     Ok(())
 }
 
-/// The longest line: an answer of 16 entries, each with 15 of the longest grants and the longest
-/// close.
+/// Adds the text of the longest entry: 15 of the longest grants, and the longest close.
+fn add_longest_entry<A: Allocator>(line: &mut Vec<u8, A>) -> Result<(), AllocError> {
+    line.extend_from_slice(b"E 16 999999984 1000000000")?;
+    for _ in 0..15usize {
+        line.extend_from_slice(b" G:15:1000000000:1000000000")?;
+    }
+    line.extend_from_slice(b" K")?;
+    for _ in 0..15usize {
+        line.extend_from_slice(b":1000000000")?;
+    }
+    line.extend_from_slice(b":0")
+}
+
+/// The longest line: an answer of 16 of the longest entries.
 fn longest<A: Allocator + Copy>(alloc: A) -> Result<Vec<u8, A>, AllocError> {
     let mut line = Vec::new(alloc);
     line.extend_from_slice(b"A 16 15")?;
     for _ in 0..16usize {
-        line.extend_from_slice(b";E 16 999999984 1000000000")?;
-        for _ in 0..15usize {
-            line.extend_from_slice(b" G:15:1000000000:1000000000")?;
-        }
-        line.extend_from_slice(b" K")?;
-        for _ in 0..15usize {
-            line.extend_from_slice(b":1000000000")?;
-        }
-        line.extend_from_slice(b":0")?;
+        line.push(b';')?;
+        add_longest_entry(&mut line)?;
     }
     line.push(b'\n')?;
     Ok(line)
 }
 
-/// codec.2
+/// The longest line has far fewer bytes than a line may have.
 #[test]
 fn longest_line(rt: HostRuntime) -> Result<(), Fail> {
     let line = longest(rt.alloc())?;
@@ -94,6 +99,31 @@ fn fronts_of_the_longest_line(rt: HostRuntime) -> Result<(), Fail> {
             "the first {count} bytes"
         );
     }
+    Ok(())
+}
+
+/// With a line feed these fronts are lines, and written again as they were: `A 16 1`, `A 16 15`,
+/// and those that end with an entry.
+#[test]
+fn ended_fronts_of_the_longest_line(rt: HostRuntime) -> Result<(), Fail> {
+    let line = longest(rt.alloc())?;
+    let mut text = Vec::new(rt.alloc());
+    let mut lengths = Vec::new(rt.alloc());
+    for count in 0..line.len() {
+        text.clear();
+        text.extend_from_slice(&line[..count])?;
+        text.push(b'\n')?;
+        if let Ok(message) = read_line(rt.alloc(), &text) {
+            let written = write_line(rt.alloc(), &message)?;
+            assert_eq!(rt; written.as_slice(), text.as_slice());
+            lengths.push(text.len())?;
+        }
+    }
+    let expected = [
+        7, 8, 608, 1208, 1808, 2408, 3008, 3608, 4208, 4808, 5408, 6008, 6608, 7208, 7808, 8408,
+        9008, 9608,
+    ];
+    assert_eq!(rt; lengths.as_slice(), expected.as_slice());
     Ok(())
 }
 
@@ -162,6 +192,20 @@ fn values_of_entries(rt: HostRuntime) -> Result<(), Fail> {
 }
 
 #[test]
+fn entry_of_the_longest_moves(rt: HostRuntime) -> Result<(), Fail> {
+    let mut line = Vec::new(rt.alloc());
+    add_longest_entry(&mut line)?;
+    line.push(b'\n')?;
+    let Message::Push(entry) = read_line(rt.alloc(), &line)? else {
+        panic!(rt; "no entry");
+    };
+    assert_eq!(rt; entry.moves().len(), 16);
+    let written = write_entry(rt.alloc(), &entry)?;
+    assert_eq!(rt; written.as_slice(), line.as_slice());
+    Ok(())
+}
+
+#[test]
 fn values_of_answers(rt: HostRuntime) -> Result<(), Fail> {
     let Message::Answer(answer) = read_line(rt.alloc(), b"A 2 1;E 2 3 5 I:7 S:8\n")? else {
         panic!(rt; "no answer");
@@ -175,12 +219,10 @@ fn values_of_answers(rt: HostRuntime) -> Result<(), Fail> {
     Ok(())
 }
 
+/// A take back may stand before other moves.
 #[test]
-fn moves_in_an_entry(rt: HostRuntime) -> Result<(), Fail> {
+fn take_back_first(rt: HostRuntime) -> Result<(), Fail> {
     assert!(rt; is_again(rt.alloc(), b"E 1 0 2 V:2:5 I:1\n")?);
-    assert!(rt; read_line(rt.alloc(), b"E 1 0 2 C C\n").is_err());
-    assert!(rt; read_line(rt.alloc(), b"E 1 0 2 C K:0:0\n").is_err());
-    assert!(rt; read_line(rt.alloc(), b"E 1 0 2 K:0:0 C\n").is_err());
     Ok(())
 }
 
@@ -235,5 +277,9 @@ fn lines_behind_each_other(rt: HostRuntime) -> Result<(), Fail> {
     write_into(&mut buffer, &read_line(rt.alloc(), b"H 1\n")?)?;
     write_into(&mut buffer, &read_line(rt.alloc(), b"B 1 5\n")?)?;
     assert_eq!(rt; buffer.as_slice(), b"H 1\nB 1 5\n".as_slice());
+    let long = longest(rt.alloc())?;
+    write_into(&mut buffer, &read_line(rt.alloc(), &long)?)?;
+    assert_eq!(rt; &buffer[..10], b"H 1\nB 1 5\n".as_slice());
+    assert_eq!(rt; &buffer[10..], long.as_slice());
     Ok(())
 }

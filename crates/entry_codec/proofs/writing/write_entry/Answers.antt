@@ -9,5 +9,6 @@ put_entry_line-requires g c = omega (arith, c.as_mut_slice.ensures.len, c.in_ok-
 pub returns : goal.returns
 returns g c =
     let same : length c.put_entry_line.new.buffer ≡ c.resize.new.self.len = omega (arith, c.put_entry_line.auto.buffer, c.as_mut_slice.ensures.len) in
-    take_at c.put_entry_line.new.buffer _ c.resize.new.self.len same ∙ c.put_entry_line.ensures
-    ∙ ap (λ (t : List ℕ). t ++ 10 ∷ []) (sym (entry_text_is c.args.entry.now))
+    let text = take_at c.put_entry_line.new.buffer _ c.resize.new.self.len same ∙ c.put_entry_line.ensures
+    ∙ ap (λ (t : List ℕ). t ++ 10 ∷ []) (sym (entry_text_is c.args.entry.now)) in
+    (c.entry_len.ensures.valid, text)

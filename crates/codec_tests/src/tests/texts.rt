@@ -1,0 +1,36 @@
+//! Lines with many parts or fields.
+
+use std::alloc::{AllocError, Allocator};
+
+/// Adds the text of the longest entry: 15 of the longest grants, and the longest close.
+fn add_longest_entry<A: Allocator>(text: &mut Vec<u8, A>) -> Result<(), AllocError> {
+    text.extend_from_slice(b"E 16 999999984 1000000000")?;
+    for _ in 0..15usize {
+        text.extend_from_slice(b" G:15:1000000000:1000000000")?;
+    }
+    text.extend_from_slice(b" K")?;
+    for _ in 0..15usize {
+        text.extend_from_slice(b":1000000000")?;
+    }
+    text.extend_from_slice(b":0")
+}
+
+/// The longest line of an entry.
+pub(super) fn longest_entry<A: Allocator>(alloc: A) -> Result<Vec<u8, A>, AllocError> {
+    let mut line = Vec::new(alloc);
+    add_longest_entry(&mut line)?;
+    line.push(b'\n')?;
+    Ok(line)
+}
+
+/// The line of an answer of so many of the longest entries.
+pub(super) fn answer_of<A: Allocator>(alloc: A, entries: u64) -> Result<Vec<u8, A>, AllocError> {
+    let mut line = Vec::new(alloc);
+    line.extend_from_slice(b"A 16 15")?;
+    for _ in 0..entries {
+        line.push(b';')?;
+        add_longest_entry(&mut line)?;
+    }
+    line.push(b'\n')?;
+    Ok(line)
+}
