@@ -1,6 +1,7 @@
 //! Words, help texts and statuses, with streams that break.
 use crate::run::run_words;
 use crate::words::{Command, WordsFault, read_words};
+use std::alloc::Allocator;
 use std::io;
 use std::io::{ErrorKind, Read, Write};
 use std::process::Abort;
@@ -33,6 +34,27 @@ struct Full;
 impl Write for Full {
     fn write(&mut self, _buf: &[u8]) -> io::Result<usize> {
         Ok(0)
+    }
+
+    fn flush(&mut self) -> io::Result<()> {
+        Ok(())
+    }
+}
+
+/// A writer that takes a few bytes at a time.
+#[derive(Drop)]
+struct Slow<A: Allocator> {
+    text: Vec<u8, A>,
+    step: usize,
+}
+
+impl<A: Allocator> Write for Slow<A> {
+    fn write(&mut self, buf: &[u8]) -> io::Result<usize> {
+        let count = buf.len().min(self.step);
+        if self.text.extend_from_slice(&buf[..count]).is_err() {
+            return Err(io::Error::from(ErrorKind::OutOfMemory));
+        }
+        Ok(count)
     }
 
     fn flush(&mut self) -> io::Result<()> {
@@ -149,12 +171,41 @@ fn endings_have_their_status_and_line(rt: HostRuntime) {
     );
 }
 
+/// All of a help text is written, however few bytes a write takes.
 #[test]
-fn help_goes_to_the_writer(rt: HostRuntime) {
-    let mut writer = Vec::new(rt.alloc());
-    let status = run_words(&rt, &["--help"], &mut Broken, &mut writer, &mut Broken);
-    assert_eq!(rt; status, 0);
-    assert_eq!(rt; writer.as_slice(), HELP.as_bytes());
+fn help_goes_to_the_writer(rt: HostRuntime) -> Result<(), Fail> {
+    for (line, text) in [("--help", HELP), ("sim --help", SIM_HELP)] {
+        let words: Vec<&str> = line.split(' ').collect(rt.alloc())?;
+        for step in [1, 7, 1000] {
+            let mut writer = Slow {
+                text: Vec::new(rt.alloc()),
+                step,
+            };
+            let status = run_words(&rt, words.as_slice(), &mut Broken, &mut writer, &mut Broken);
+            assert_eq!(rt; status, 0);
+            assert_eq!(rt;
+                writer.text.as_slice(),
+                text.as_bytes(),
+                "with {step} at a time"
+            );
+        }
+    }
+    Ok(())
+}
+
+/// So is the line of a fault.
+#[test]
+fn a_fault_goes_to_the_errors(rt: HostRuntime) {
+    let mut errors = Slow {
+        text: Vec::new(rt.alloc()),
+        step: 7,
+    };
+    let status = run_words(&rt, &["x"], &mut Broken, &mut Broken, &mut errors);
+    assert_eq!(rt; status, 2);
+    assert_eq!(rt;
+        errors.text.as_slice(),
+        b"rights-site: bad command line\n".as_slice()
+    );
 }
 
 #[test]

@@ -17,4 +17,5 @@ pub mod ReportLaws
 pub mod CarryLaws
 pub mod ReplyLaws
 pub mod FeedLaws
+pub mod CountLaws
 pub mod RunLaws

@@ -1,5 +1,5 @@
 -- What reading to the end comes to, and the last write.
-use Rattle.std.proofs.Common.{◌≡◌, ℕ, ◌+◌, ◌<◌, ◌≤◌, List, [], ◌∷◌, ◌++◌, length, take, drop, refl, ap, ◌∙◌, sym, subst, arith, Option, None, Result, Ok, Err, append-nil, append_assoc, take-append-drop}
+use Rattle.std.proofs.Common.{◌≡◌, ℕ, ◌+◌, ◌<◌, ◌≤◌, OnOk, List, [], ◌∷◌, ◌++◌, length, length-append, take, drop, refl, ap, ◌∙◌, sym, subst, arith, Option, None, Result, Ok, Err, append-nil, append_assoc, take-append-drop}
 use Rattle.std.specs.Io.KnownBytes.{Appends, Consumes}
 use Rattle.std.proofs.KnownBytes.{Appends-trans, Appends-nil, Consumes-nil, Consumes-trans}
 use Rattle.entry_codec.specs.Pieces.{pieces, unfinished, pieces_after}
@@ -7,8 +7,9 @@ use Rattle.entry_codec.proofs.Pieces.{pieces_append}
 use Rattle.transfer_world.specs.Values.{WorldValue}
 use Rattle.transfer_world.specs.Waiting.{Waiting}
 use Rattle.transfer_world.specs.Script.{last_line, lines_of}
-use Rattle.transfer_world.specs.Talk.{Talk, EndsBy, Begins}
+use Rattle.transfer_world.specs.Talk.{still, Parted, Talk, EndsBy, Begins}
 use Rattle.transfer_world.specs.Session.{Talked, Going, IsNew, Stopped, Fed, Ran}
+use Rattle.transfer_world.proofs.CountLaws.{none_parted}
 use Rattle.transfer_world.specs.declared.script.fault.ScriptFault.{ScriptFault}
 use Rattle.transfer_world.specs.declared.script.fault.ScriptFault.TheVariants.{ReadFailed, WriteFailed, OutOfMemory, TooManyLines}
 
@@ -31,6 +32,10 @@ last_some : (front : List ℕ) → 0 < length front → last_line front ≡ piec
 last_some [] h = absurd (omega arith)
 last_some (x ∷ xs) h = refl
 
+one_last : (front : List ℕ) → 0 < length front → length (last_line front) ≡ 1
+one_last [] h = absurd (omega arith)
+one_last (x ∷ xs) h = refl
+
 -- an unfinished line is ended
 pub all_lines : (input : List ℕ) → 0 < length (unfinished input) → lines_of input ≡ pieces (input ++ 10 ∷ [])
 all_lines input some = ap (λ (l : List (List ℕ)). pieces input ++ l) (last_some (unfinished input) some) ∙ sym (pieces_append [] input (10 ∷ []))
@@ -46,40 +51,52 @@ stopped_more A all more held now waits st = record {
   talked = st.talked;
 }
 
-module _ (A : Type 0) (input : List ℕ) (held now : Option (List ℕ)) (world : Option WorldValue) (waits : Waiting) (carry : List ℕ) where
+-- an unfinished line is one line more
+pub last_counted : (input : List ℕ) → 0 < length (unfinished input) → length (lines_of input) ≡ length (pieces input) + 1
+last_counted input some = length-append (pieces input) (last_line (unfinished input)) ∙ ap (λ (n : ℕ). length (pieces input) + n) (one_last (unfinished input) some)
+
+some_counted : (input : List ℕ) → length (pieces input) ≤ length (lines_of input)
+some_counted input = omega (arith, length-append (pieces input) (last_line (unfinished input)))
+
+module _ (A : Type 0) (portions : List (List ℕ)) (input : List ℕ) (held now : Option (List ℕ)) (world : Option WorldValue) (waits : Waiting) (carry : List ℕ) where
   -- a fault while bytes were taken
-  pub ran_err : (fault : ScriptFault) → Fed A input held now (Err fault) world waits carry → (fault ≡ TooManyLines → 1000000000 ≤ length input + 1) → Ran A input held now (Err fault) waits.whole
+  pub ran_err : (fault : ScriptFault) → Fed A input held now (Err fault) world waits carry → (fault ≡ TooManyLines → 1000000000 ≤ length (pieces input) + still portions) → Ran A portions input held now (Err fault) waits.whole
   ran_err ReadFailed fed many = absurd fed
   ran_err WriteFailed fed many = (fed.0, stopped_more A (pieces input) (last_line (unfinished input)) held now fed.0 fed.1)
   ran_err OutOfMemory fed many = stopped_more A (pieces input) (last_line (unfinished input)) held now waits.whole fed
-  ran_err TooManyLines fed many = (stopped_more A (pieces input) (last_line (unfinished input)) held now waits.whole fed, many refl)
+  ran_err TooManyLines fed many = (stopped_more A (pieces input) (last_line (unfinished input)) held now waits.whole fed, omega (arith, many refl, some_counted input))
 
-  pub ran_end : Going A input held now world waits carry → unfinished input ≡ [] → Ran A input held now (Ok tt) waits.whole
-  ran_end h none = subst (λ (l : List (List ℕ)). Talked A l held now waits.whole) (sym (all_ended input none)) h.talked
+  pub ran_end : Going A input held now world waits carry → unfinished input ≡ [] → length (pieces input) + still portions < 1000000000 → Ran A portions input held now (Ok tt) waits.whole
+  ran_end h none few =
+      (subst (λ (l : List (List ℕ)). Talked A l held now waits.whole) (sym (all_ended input none)) h.talked, omega (arith, few, ap length (all_ended input none)))
 
   -- the line feed that an unfinished line gets
   pub ran_last : (result : Result (Unit {0}) ScriptFault) → 0 < length (unfinished input) → Fed A (input ++ 10 ∷ []) held now result world waits carry
-      → (result ≡ Err TooManyLines → 1000000000 ≤ length input + 1) → Ran A input held now result waits.whole
-  ran_last (Ok u) some fed many = subst (λ (l : List (List ℕ)). Talked A l held now waits.whole) (sym (all_lines input some)) fed.talked
-  ran_last (Err ReadFailed) some fed many = absurd fed
-  ran_last (Err WriteFailed) some fed many = (fed.0, subst (λ (l : List (List ℕ)). Stopped A l held now fed.0) (sym (all_lines input some)) fed.1)
-  ran_last (Err OutOfMemory) some fed many = subst (λ (l : List (List ℕ)). Stopped A l held now waits.whole) (sym (all_lines input some)) fed
-  ran_last (Err TooManyLines) some fed many = (subst (λ (l : List (List ℕ)). Stopped A l held now waits.whole) (sym (all_lines input some)) fed, many refl)
+      → OnOk result ((length (pieces input) + still portions) + 1 < 1000000000) → (result ≡ Err TooManyLines → 1000000000 ≤ (length (pieces input) + still portions) + 1)
+      → Ran A portions input held now result waits.whole
+  ran_last (Ok u) some fed few many =
+      (subst (λ (l : List (List ℕ)). Talked A l held now waits.whole) (sym (all_lines input some)) fed.talked, omega (arith, few, last_counted input some))
+  ran_last (Err ReadFailed) some fed few many = absurd fed
+  ran_last (Err WriteFailed) some fed few many = (fed.0, subst (λ (l : List (List ℕ)). Stopped A l held now fed.0) (sym (all_lines input some)) fed.1)
+  ran_last (Err OutOfMemory) some fed few many = subst (λ (l : List (List ℕ)). Stopped A l held now waits.whole) (sym (all_lines input some)) fed
+  ran_last (Err TooManyLines) some fed few many = (subst (λ (l : List (List ℕ)). Stopped A l held now waits.whole) (sym (all_lines input some)) fed, omega (arith, many refl, last_counted input some))
 
 pub nothing_ran : (A : Type 0) (given held : Option (List ℕ)) → (talk : Talk A given given held held) × EndsBy (Err OutOfMemory) talk
 nothing_ran A given held =
-    (record { input = []; lines = []; replies = []; text = []; world = None; reads = Consumes-nil given; answers = (refl, refl); writes = Appends-nil held }, (([], refl), refl))
+    (record { portions = []; input = []; lines = []; replies = []; text = []; world = None; reads = Consumes-nil given; parted = none_parted; answers = (refl, refl); writes = Appends-nil held }, (([], refl), refl))
 
-module _ (A : Type 0) (input : List ℕ) (given left held now after : Option (List ℕ)) (reads : Consumes given left input) (lines : List (List ℕ)) (waits : List ℕ) (t : Talked A lines held now waits) where
+module _ (A : Type 0) (portions : List (List ℕ)) (input : List ℕ) (given left held now after : Option (List ℕ)) (reads : Consumes given left input) (parted : Parted portions input) (lines : List (List ℕ)) (waits : List ℕ) (t : Talked A lines held now waits) where
   -- what waited was written
   pub talk_whole : Appends now after waits → Talk A given left held after
   talk_whole writes = record {
+    portions = portions;
     input = input;
     lines = lines;
     replies = t.replies;
     text = t.written ++ waits;
     world = t.world;
     reads = reads;
+    parted = parted;
     answers = t.answers;
     writes = Appends-trans held now after t.written waits t.writes writes;
   }
@@ -87,12 +104,14 @@ module _ (A : Type 0) (input : List ℕ) (given left held now after : Option (Li
   -- some of it was
   pub talk_part : (n : ℕ) → Appends now after (take n waits) → Talk A given left held after
   talk_part n writes = record {
+    portions = portions;
     input = input;
     lines = lines;
     replies = t.replies;
     text = t.written ++ take n waits;
     world = t.world;
     reads = reads;
+    parted = parted;
     answers = t.answers;
     writes = Appends-trans held now after t.written (take n waits) t.writes writes;
   }
@@ -104,33 +123,33 @@ module _ (A : Type 0) (input : List ℕ) (given left held now after : Option (Li
   unfolding talk_part
   cut_short n writes front = (talk_part n writes, (front, part_begins n))
 
-module _ (A : Type 0) (input : List ℕ) (given left held now after : Option (List ℕ)) (reads : Consumes given left input) (waits : List ℕ) where
+module _ (A : Type 0) (portions : List (List ℕ)) (input : List ℕ) (given left held now after : Option (List ℕ)) (reads : Consumes given left input) (parted : Parted portions input) (waits : List ℕ) where
   -- the last write took all
-  pub ends_whole : (result : Result (Unit {0}) ScriptFault) → Ran A input held now result waits → (result ≡ Err WriteFailed → ⊥) → Appends now after waits → (talk : Talk A given left held after) × EndsBy result talk
+  pub ends_whole : (result : Result (Unit {0}) ScriptFault) → Ran A portions input held now result waits → (result ≡ Err WriteFailed → ⊥) → Appends now after waits → (talk : Talk A given left held after) × EndsBy result talk
   unfolding talk_whole
-  ends_whole (Ok u) ran other writes = (talk_whole A input given left held now after reads (lines_of input) waits ran writes, (refl, sym ran.rest))
-  ends_whole (Err ReadFailed) ran other writes = (talk_whole A input given left held now after reads (pieces input) waits ran writes, (refl, sym ran.rest))
+  ends_whole (Ok u) ran other writes = (talk_whole A portions input given left held now after reads parted (lines_of input) waits ran.0 writes, (refl, sym ran.0.rest, ran.1))
+  ends_whole (Err ReadFailed) ran other writes = (talk_whole A portions input given left held now after reads parted (pieces input) waits ran.0 writes, (refl, sym ran.0.rest, ran.1))
   ends_whole (Err WriteFailed) ran other writes = absurd (other refl)
-  ends_whole (Err OutOfMemory) ran other writes = (talk_whole A input given left held now after reads ran.lines waits ran.talked writes, (ran.front, sym ran.talked.rest))
-  ends_whole (Err TooManyLines) ran other writes = (talk_whole A input given left held now after reads ran.0.lines waits ran.0.talked writes, (ran.0.front, sym ran.0.talked.rest, ran.1))
+  ends_whole (Err OutOfMemory) ran other writes = (talk_whole A portions input given left held now after reads parted ran.lines waits ran.talked writes, (ran.front, sym ran.talked.rest))
+  ends_whole (Err TooManyLines) ran other writes = (talk_whole A portions input given left held now after reads parted ran.0.lines waits ran.0.talked writes, (ran.0.front, sym ran.0.talked.rest, ran.1))
 
   -- the last write failed
-  pub ends_cut : (result : Result (Unit {0}) ScriptFault) (n : ℕ) → Ran A input held now result waits → (result ≡ Err WriteFailed → ⊥) → Appends now after (take n waits) → (talk : Talk A given left held after) × EndsBy (Err WriteFailed) talk
-  ends_cut (Ok u) n ran other writes = cut_short A input given left held now after reads (lines_of input) waits ran n writes ([], sym (append-nil (lines_of input)))
-  ends_cut (Err ReadFailed) n ran other writes = cut_short A input given left held now after reads (pieces input) waits ran n writes (last_line (unfinished input), refl)
+  pub ends_cut : (result : Result (Unit {0}) ScriptFault) (n : ℕ) → Ran A portions input held now result waits → (result ≡ Err WriteFailed → ⊥) → Appends now after (take n waits) → (talk : Talk A given left held after) × EndsBy (Err WriteFailed) talk
+  ends_cut (Ok u) n ran other writes = cut_short A portions input given left held now after reads parted (lines_of input) waits ran.0 n writes ([], sym (append-nil (lines_of input)))
+  ends_cut (Err ReadFailed) n ran other writes = cut_short A portions input given left held now after reads parted (pieces input) waits ran.0 n writes (last_line (unfinished input), refl)
   ends_cut (Err WriteFailed) n ran other writes = absurd (other refl)
-  ends_cut (Err OutOfMemory) n ran other writes = cut_short A input given left held now after reads ran.lines waits ran.talked n writes ran.front
-  ends_cut (Err TooManyLines) n ran other writes = cut_short A input given left held now after reads ran.0.lines waits ran.0.talked n writes ran.0.front
+  ends_cut (Err OutOfMemory) n ran other writes = cut_short A portions input given left held now after reads parted ran.lines waits ran.talked n writes ran.front
+  ends_cut (Err TooManyLines) n ran other writes = cut_short A portions input given left held now after reads parted ran.0.lines waits ran.0.talked n writes ran.0.front
 
 -- an earlier write failed
-pub ends_failed : (A : Type 0) (input : List ℕ) (given left held now : Option (List ℕ)) → Consumes given left input → (waits : List ℕ) (result : Result (Unit {0}) ScriptFault) → result ≡ Err WriteFailed
-    → Ran A input held now result waits → (talk : Talk A given left held now) × EndsBy result talk
-ends_failed A input given left held now reads waits (Ok u) e ran = absurd cc
-ends_failed A input given left held now reads waits (Err ReadFailed) e ran = absurd cc
-ends_failed A input given left held now reads waits (Err WriteFailed) e ran =
-    cut_short A input given left held now now reads ran.1.lines ran.0 ran.1.talked 0 (Appends-nil now) ran.1.front
-ends_failed A input given left held now reads waits (Err OutOfMemory) e ran = absurd cc
-ends_failed A input given left held now reads waits (Err TooManyLines) e ran = absurd cc
+pub ends_failed : (A : Type 0) (portions : List (List ℕ)) (input : List ℕ) (given left held now : Option (List ℕ)) → Consumes given left input → Parted portions input → (waits : List ℕ) (result : Result (Unit {0}) ScriptFault) → result ≡ Err WriteFailed
+    → Ran A portions input held now result waits → (talk : Talk A given left held now) × EndsBy result talk
+ends_failed A portions input given left held now reads parted waits (Ok u) e ran = absurd cc
+ends_failed A portions input given left held now reads parted waits (Err ReadFailed) e ran = absurd cc
+ends_failed A portions input given left held now reads parted waits (Err WriteFailed) e ran =
+    cut_short A portions input given left held now now reads parted ran.1.lines ran.0 ran.1.talked 0 (Appends-nil now) ran.1.front
+ends_failed A portions input given left held now reads parted waits (Err OutOfMemory) e ran = absurd cc
+ends_failed A portions input given left held now reads parted waits (Err TooManyLines) e ran = absurd cc
 
 -- a read that gave nothing
 pub reads_end : (given left after : Option (List ℕ)) (input bytes : List ℕ) → Consumes given left input → Consumes left after bytes → bytes ≡ [] → Consumes given after input

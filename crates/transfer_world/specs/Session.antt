@@ -1,11 +1,11 @@
 -- A script at work, between its first read and its last write.
-use Rattle.std.specs.Prelude.{◌≡◌, ℕ, ◌≤◌, ◌+◌, List, [], ◌∷◌, ◌++◌, Option, None, Result, Ok, Err, take, length}
+use Rattle.std.specs.Prelude.{◌≡◌, ℕ, ◌<◌, ◌≤◌, ◌+◌, List, [], ◌∷◌, ◌++◌, Option, None, Result, Ok, Err, take, length}
 use Rattle.std.specs.Io.KnownBytes.{Appends}
 use Rattle.entry_codec.specs.Pieces.{pieces, unfinished}
 use Rattle.transfer_world.specs.Values.{WorldValue}
 use Rattle.transfer_world.specs.Waiting.{Waiting, nothing}
 use Rattle.transfer_world.specs.Script.{LineAnswers, Replies, lines_of}
-use Rattle.transfer_world.specs.Talk.{Begins}
+use Rattle.transfer_world.specs.Talk.{still, Begins}
 use Rattle.transfer_world.specs.declared.script.fault.ScriptFault.{ScriptFault}
 use Rattle.transfer_world.specs.declared.script.fault.ScriptFault.TheVariants.{ReadFailed, WriteFailed, OutOfMemory, TooManyLines}
 
@@ -30,6 +30,10 @@ pub record Going (A : Type 0) (input : List ℕ) (held now : Option (List ℕ)) 
 abbrev pub IsNew : Option WorldValue → Waiting → List ℕ → ℕ → Type 0
 IsNew world waits carry count = (world ≡ None) × (waits ≡ nothing) × (carry ≡ []) × (count ≡ 0)
 
+-- what a read counts for: each line that ends in it, and 1 where none does
+abbrev pub counts_for : List ℕ → ℕ
+counts_for bytes = length (pieces bytes) + still (bytes ∷ [])
+
 -- what a line came to, of which front was carried and text came last
 abbrev pub LineEnds : Type 0 → List ℕ → List ℕ → Option WorldValue → Waiting → Option WorldValue → Waiting → Type 0
 LineEnds A front text old waits new waits' =
@@ -50,10 +54,10 @@ Fed A input held now (Err WriteFailed) world waits carry = (rest : List ℕ) × 
 Fed A input held now (Err OutOfMemory) world waits carry = Stopped A (pieces input) held now waits.whole
 Fed A input held now (Err TooManyLines) world waits carry = Stopped A (pieces input) held now waits.whole
 
--- what reading this input came to, but for the last write
-abbrev pub Ran : Type 0 → List ℕ → Option (List ℕ) → Option (List ℕ) → Result (Unit {0}) ScriptFault → List ℕ → Type 0
-Ran A input held now (Ok _) waits = Talked A (lines_of input) held now waits
-Ran A input held now (Err ReadFailed) waits = Talked A (pieces input) held now waits
-Ran A input held now (Err WriteFailed) waits = (rest : List ℕ) × Stopped A (lines_of input) held now rest
-Ran A input held now (Err OutOfMemory) waits = Stopped A (lines_of input) held now waits
-Ran A input held now (Err TooManyLines) waits = Stopped A (lines_of input) held now waits × (1000000000 ≤ length input + 1)
+-- what these reads, which gave this input, came to, but for the last write
+abbrev pub Ran : Type 0 → List (List ℕ) → List ℕ → Option (List ℕ) → Option (List ℕ) → Result (Unit {0}) ScriptFault → List ℕ → Type 0
+Ran A portions input held now (Ok _) waits = Talked A (lines_of input) held now waits × (length (lines_of input) + still portions < 1000000000)
+Ran A portions input held now (Err ReadFailed) waits = Talked A (pieces input) held now waits × (length (pieces input) + still portions < 1000000000)
+Ran A portions input held now (Err WriteFailed) waits = (rest : List ℕ) × Stopped A (lines_of input) held now rest
+Ran A portions input held now (Err OutOfMemory) waits = Stopped A (lines_of input) held now waits
+Ran A portions input held now (Err TooManyLines) waits = Stopped A (lines_of input) held now waits × (1000000000 ≤ length (lines_of input) + still portions)

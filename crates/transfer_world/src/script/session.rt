@@ -1,8 +1,8 @@
 //! A script from its first read to its last write.
 ghost use Rattle.std.specs.Prelude.{◌≡◌, ℕ, ◌+◌, ◌<◌, ◌≤◌, List, [], ◌∷◌, ◌++◌, Option, length, take, ◌↔◌, IsTrue, OnOk, OnErr, IfOk, IsErrOf};
 ghost use Rattle.std.specs.Io.KnownBytes.{Consumes, IsAtEnd};
-ghost use Rattle.transfer_world.specs.Talk.{Talk, EndsBy};
-ghost use Rattle.transfer_world.specs.Session.{IsNew, LineEnds, Going, Fed, Ran};
+ghost use Rattle.transfer_world.specs.Talk.{Parted, Talk, EndsBy};
+ghost use Rattle.transfer_world.specs.Session.{IsNew, LineEnds, Going, Fed, Ran, counts_for};
 
 use crate::script::answers::answer_line;
 use crate::script::fault::ScriptFault;
@@ -90,9 +90,8 @@ impl<A: Allocator + Copy> Session<A> {
         ensures ready { OnOk result (self.new.replies.part ≡ []) }
         ensures short { OnOk result (length self.new.carry.items ≤ 16384) }
         ensures few { OnOk result (self.new.count < 1000000000) }
-        ensures counts { OnOk result (0 < length bytes.now → self.old.count < self.new.count) }
-        ensures slow { self.new.count ≤ self.old.count + length bytes.now }
-        ensures many { IsErrOf result ScriptFault.TooManyLines → 1000000000 ≤ self.new.count }
+        ensures counts { OnOk result (0 < length bytes.now → self.new.count ≡ self.old.count + counts_for bytes.now) }
+        ensures many { IsErrOf result ScriptFault.TooManyLines → 1000000000 ≤ self.old.count + counts_for bytes.now }
         ensures fed { (input : List ℕ) (held : Option (List ℕ))
             → Going A input held (W.contents writer.old) self.old.world self.old.replies self.old.carry.items
             → Fed A (input ++ bytes.now) held (W.contents writer.new) result self.new.world self.new.replies self.new.carry.items }
@@ -126,8 +125,8 @@ impl<A: Allocator + Copy> Session<A> {
     ) -> Result<(), ScriptFault>
         requires room { 0 < length buffer.old }
         requires fresh { IsNew self.old.world self.old.replies self.old.carry.items self.old.count }
-        ensures ran { (input : List ℕ) × Consumes (R.remaining reader.old) (R.remaining reader.new) input
-            × Ran A input (W.contents writer.old) (W.contents writer.new) result self.new.replies.whole }
+        ensures ran { (portions : List (List ℕ)) × (input : List ℕ) × Consumes (R.remaining reader.old) (R.remaining reader.new) input
+            × Parted portions input × Ran A portions input (W.contents writer.old) (W.contents writer.new) result self.new.replies.whole }
         ensures all { OnOk result (IsAtEnd (R.remaining reader.new)) }
     {
         'reads: loop {

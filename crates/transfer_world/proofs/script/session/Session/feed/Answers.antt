@@ -1,6 +1,10 @@
-use Rattle.std.proofs.Common.{ℕ, ◌+◌, ◌≤◌, List, length, take, refl, ap, arith, length-take}
+use Rattle.std.proofs.Common.{ℕ, ◌+◌, ◌≤◌, List, length, take, refl, ap, sym, arith, length-take}
+use Rattle.std.proofs.lemmas.Bool.{eqb-true}
 use Rattle.std.proofs.lemmas.Result.{err_from_is_err_and}
-use Rattle.transfer_world.proofs.FeedLaws.{cut_found, going_next, going_end, going_written, stopped_in, stopped_in_write}
+use Rattle.entry_codec.specs.Pieces.{pieces}
+use Rattle.transfer_world.proofs.CountLaws.{line_more, line_none, line_some, counts_lines, counts_still, counts_within}
+use Rattle.transfer_world.proofs.FeedLaws.{cut_found, cut_none, going_next, going_end, going_written, stopped_in, stopped_in_write}
+use Rattle.transfer_world.proofs.script.session.Session.feed.Goals.{else-at-eq0-via-then-at-eq0+else-not-is_empty, else-at-eq0-via-else-at-eq0}
 use Rattle.transfer_world.proofs.script.session.Session.feed.Goals as goal
 
 short_front : (xs : List ℕ) → length (take 16384 xs) ≤ 16384
@@ -15,14 +19,14 @@ loop-length-preserved g c =
     let cut = cut_found bytes at n inv.within c.in-Some.ensures in
     let line = c.in_ok-end_line.ensures in
     let write = c.in_ok-pass_on.ensures in
+    let more = line_more (take at bytes) _ (take (at + (n + 1)) bytes) cut.1 cut.2 in
     record {
       within = omega (arith, cut.0);
       ready = write.ready;
       short = omega (arith, ap length line.ended);
       few = omega (arith, inv.few, line.count, c.if-self-eq-MOST.false);
-      rises = omega (arith, inv.rises, line.count);
-      moves = λ some. omega (arith, inv.rises, line.count);
-      slow = omega (arith, inv.slow, line.count);
+      counted = omega (arith, inv.counted, line.count, more);
+      moves = λ some. omega (arith, more);
       going = λ input held h.
           let next = going_next g.row.A.Denot input bytes at held _ _ _ _ (inv.going input held h) n _ _ _ inv.within c.in-Some.ensures line.line line.ended in
           going_written g.row.A.Denot _ held _ _ _ _ next _ _ write.whole.0 write.whole.1 write.whole.2 write.ready;
@@ -71,3 +75,44 @@ returns-else-at-eq0-clause-short g c = rw (c.in_ok-keep.ensures) (short_front _)
 pub returns-else-at-eq0-clause-fed : goal.returns-else-at-eq0-clause-fed
 returns-else-at-eq0-clause-fed g c = λ input held h.
     going_end g.row.A.Denot input c.args.bytes.now c.loop-length.at held _ _ _ _ (c.loop-length.invariant.going input held h) c.memchr.result _ c.in_default.not-Some c.memchr.ensures c.in_ok-keep.ensures
+
+pub returns-then-self-eq-MOST-clause-many : goal.returns-then-self-eq-MOST-clause-many
+returns-then-self-eq-MOST-clause-many g c = λ e.
+    let inv = c.loop-length.invariant in
+    let at = c.loop-length.at in
+    let n = c.in-Some.length in
+    let bytes = c.args.bytes.now in
+    let cut = cut_found bytes at n inv.within c.in-Some.ensures in
+    let more = line_more (take at bytes) _ (take (at + (n + 1)) bytes) cut.1 cut.2 in
+    omega (arith, inv.counted, c.in_ok-end_line.ensures.count, more, line_some bytes (at + (n + 1)), counts_within bytes, c.if-self-eq-MOST.true)
+
+pub returns-then-self-eq-MOST-2-clause-many : goal.returns-then-self-eq-MOST-2-clause-many
+returns-then-self-eq-MOST-2-clause-many g c = λ e.
+    let inv = c.loop-length.invariant in
+    let bytes = c.args.bytes.now in
+    let none = cut_none bytes c.loop-length.at c.memchr.result c.in_default.not-Some c.memchr.ensures in
+    let start = ap (λ (n : ℕ). length (pieces (take n bytes))) c.if-at-eq0.true in
+    let still = counts_still bytes (omega (arith, line_none bytes c.loop-length.at none, start)) in
+    omega (arith, inv.counted, start, still, c.if-self-eq-MOST-2.true)
+
+pub returns-else-self-eq-MOST-2-clause-counts : goal.returns-else-self-eq-MOST-2-clause-counts
+returns-else-self-eq-MOST-2-clause-counts g c = λ some.
+    let inv = c.loop-length.invariant in
+    let bytes = c.args.bytes.now in
+    let none = cut_none bytes c.loop-length.at c.memchr.result c.in_default.not-Some c.memchr.ensures in
+    let start = ap (λ (n : ℕ). length (pieces (take n bytes))) c.if-at-eq0.true in
+    let still = counts_still bytes (omega (arith, line_none bytes c.loop-length.at none, start)) in
+    omega (arith, inv.counted, start, still)
+
+pub returns-else-at-eq0-clause-counts : goal.returns-else-at-eq0-clause-counts
+returns-else-at-eq0-clause-counts g c = λ some.
+    let inv = c.loop-length.invariant in
+    let bytes = c.args.bytes.now in
+    let none = cut_none bytes c.loop-length.at c.memchr.result c.in_default.not-Some c.memchr.ensures in
+    let same = line_none bytes c.loop-length.at none in
+    elim c.else-at-eq0.branch [
+      | else-at-eq0-via-then-at-eq0+else-not-is_empty w ↦ absurd (omega (arith, some, eqb-true (length bytes) 0 (sym w.if-not-is_empty.ensures)))
+      | else-at-eq0-via-else-at-eq0 w ↦
+          let lines = counts_lines bytes (omega (arith, same, inv.moves (omega (arith, w.if-at-eq0)))) in
+          omega (arith, inv.counted, same, lines)
+    ]

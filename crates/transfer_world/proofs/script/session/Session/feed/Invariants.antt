@@ -1,4 +1,5 @@
 use Rattle.std.proofs.Common.{◌≡◌, ◌-◌, ◌+◌, ◌<◌, ◌≤◌, ◌++◌, ℕ, List, [], Option, length, take}
+use Rattle.entry_codec.specs.Pieces.{pieces}
 use Rattle.transfer_world.specs.Session.{Going}
 use Rattle.transfer_world.proofs.script.session.Session.feed.Given as goal
 
@@ -8,9 +9,8 @@ invariant-loop-length g l = record {
   ready : l.self.replies.part ≡ [];
   short : length l.self.carry.items ≤ 16384;
   few : l.self.count < 1000000000;
-  rises : l.fn.self.count ≤ l.self.count;
-  moves : 0 < l.at → l.fn.self.count < l.self.count;
-  slow : l.self.count ≤ l.fn.self.count + l.at;
+  counted : l.self.count ≡ l.fn.self.count + length (pieces (take l.at l.bytes));
+  moves : 0 < l.at → 0 < length (pieces (take l.at l.bytes));
   going : (input : List ℕ) (held : Option (List ℕ))
       → Going g.row.A.Denot input held (g.W.Write.contents l.fn.writer) l.fn.self.world l.fn.self.replies l.fn.self.carry.items
       → Going g.row.A.Denot (input ++ take l.at l.bytes) held (g.W.Write.contents l.writer) l.self.world l.self.replies l.self.carry.items;

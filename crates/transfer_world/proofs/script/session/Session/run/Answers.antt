@@ -1,12 +1,21 @@
-use Rattle.std.proofs.Common.{◌≡◌, ℕ, ◌<◌, ◌≤◌, List, [], ◌++◌, length, take, ap, sym, arith, length-append, Err, vec_len}
+use Rattle.std.proofs.Common.{◌≡◌, ℕ, ◌<◌, List, [], ◌++◌, ◌∷◌, ◌+◌, length, length-take, take, ap, sym, arith, Result, Ok, Err, OnOk, vec_len}
 use Rattle.std.proofs.lemmas.Bool.{eqb-true, eqb-false}
 use Rattle.std.proofs.lemmas.List.{nil_from_length}
 use Rattle.std.proofs.lemmas.Result.{err_from_is_err_and}
 use Rattle.std.proofs.KnownBytes.{Consumes-trans, Consumes-nil}
 use Rattle.entry_codec.specs.Pieces.{unfinished}
+use Rattle.transfer_world.specs.Session.{counts_for}
+use Rattle.transfer_world.specs.declared.script.fault.ScriptFault.{ScriptFault}
 use Rattle.transfer_world.proofs.CarryLaws.{none_carried, some_carried}
+use Rattle.transfer_world.proofs.CountLaws.{none_parted, parted_more, counted_more}
 use Rattle.transfer_world.proofs.RunLaws.{going_new, ran_err, ran_end, ran_last, reads_end}
 use Rattle.transfer_world.proofs.script.session.Session.run.Goals as goal
+
+-- the line feed that an unfinished line gets counts as one line
+last_few : (result : Result (Unit {0}) ScriptFault) (told old new : ℕ) → old ≡ told → OnOk result (new < 1000000000)
+    → OnOk result (0 < length {A = ℕ} (10 ∷ []) → new ≡ old + counts_for (10 ∷ [])) → OnOk result (told + 1 < 1000000000)
+last_few (Ok u) told old new same few counts = omega (arith, same, few, counts (omega arith))
+last_few (Err fault) told old new same few counts = tt
 
 pub reads-init : goal.reads-init
 reads-init g c =
@@ -16,7 +25,7 @@ reads-init g c =
       ready = h.ready;
       short = omega (arith, ap length new.2);
       few = omega (arith, new.3);
-      going = ([], Consumes-nil _, omega (arith, new.3), h);
+      going = ([], [], Consumes-nil _, none_parted, new.3, h);
     }
 
 pub reads-preserved : goal.reads-preserved
@@ -24,15 +33,18 @@ reads-preserved g c =
     let before = c.reads.invariant.going in
     let fed = c.in_ok-feed.ensures in
     let bytes : List ℕ = take c.in-Ok.length c.read.new.buf in
+    let some : 0 < length bytes = simp length-take (omega (arith, c.in-Ok.ensures, c.if-length-eq0.false)) in
     record {
       ready = fed.ready;
       short = fed.short;
       few = fed.few;
       going = (
-        before.0 ++ bytes,
-        Consumes-trans _ _ _ before.0 bytes before.1 c.in-Ok.ensures.bytes.0,
-        simp length-append (omega (arith, before.2, fed.slow)),
-        fed.fed before.0 _ before.3,
+        before.0 ++ bytes ∷ [],
+        before.1 ++ bytes,
+        Consumes-trans _ _ _ before.1 bytes before.2 c.in-Ok.ensures.bytes.0,
+        parted_more before.0 before.1 bytes before.3 some,
+        omega (arith, before.4, fed.counts some, counted_more before.0 before.1 bytes),
+        fed.fed before.1 _ before.5,
       );
     }
 
@@ -42,12 +54,14 @@ returns-in_err-feed-clause-ran g c =
     let before = c.reads.invariant.going in
     let fed = c.in_err-feed.ensures in
     let bytes : List ℕ = take c.in-Ok.length c.read.new.buf in
-    let count : c.feed.new.self.count ≤ length (before.0 ++ bytes) = simp length-append (omega (arith, before.2, fed.slow)) in
+    let some : 0 < length bytes = simp length-take (omega (arith, c.in-Ok.ensures, c.if-length-eq0.false)) in
     rw (p.1, p.2) (
-      before.0 ++ bytes,
-      Consumes-trans _ _ _ before.0 bytes before.1 c.in-Ok.ensures.bytes.0,
-      ran_err g.row.A.Denot (before.0 ++ bytes) _ _ c.feed.new.self.world c.feed.new.self.replies c.feed.new.self.carry.items _ (fed.fed before.0 _ before.3)
-          (λ e. let many : 1000000000 ≤ c.feed.new.self.count = fed.many (ap Err e) in omega arith),
+      before.0 ++ bytes ∷ [],
+      before.1 ++ bytes,
+      Consumes-trans _ _ _ before.1 bytes before.2 c.in-Ok.ensures.bytes.0,
+      parted_more before.0 before.1 bytes before.3 some,
+      ran_err g.row.A.Denot (before.0 ++ bytes ∷ []) (before.1 ++ bytes) _ _ c.feed.new.self.world c.feed.new.self.replies c.feed.new.self.carry.items _ (fed.fed before.1 _ before.5)
+          (λ e. omega (arith, before.4, fed.many (ap Err e), counted_more before.0 before.1 bytes)),
     )
 
 pub returns-then-is_empty-clause-ran : goal.returns-then-is_empty-clause-ran
@@ -58,8 +72,11 @@ returns-then-is_empty-clause-ran g c =
     let none : bytes ≡ [] = ap (λ (n : ℕ). take n c.read.new.buf) c.if-length-eq0.true in
     let empty : carry.items ≡ [] = nil_from_length carry.items (omega (arith, carry.ok.0, eqb-true (vec_len carry) 0 (sym c.if-is_empty.ensures))) in (
       before.0,
-      reads_end _ _ _ before.0 bytes before.1 c.in-Ok.ensures.bytes.0 none,
-      ran_end g.row.A.Denot before.0 _ _ c.reads.self.world c.reads.self.replies carry.items before.3 (none_carried carry.items (unfinished before.0) empty before.3.carried),
+      before.1,
+      reads_end _ _ _ before.1 bytes before.2 c.in-Ok.ensures.bytes.0 none,
+      before.3,
+      ran_end g.row.A.Denot before.0 before.1 _ _ c.reads.self.world c.reads.self.replies carry.items before.5 (none_carried carry.items (unfinished before.1) empty before.5.carried)
+          (omega (arith, before.4, c.reads.invariant.few)),
     )
 
 pub returns-clause-ran : goal.returns-clause-ran
@@ -70,9 +87,12 @@ returns-clause-ran g c =
     let bytes : List ℕ = take c.in-Ok.length c.read.new.buf in
     let none : bytes ≡ [] = ap (λ (n : ℕ). take n c.read.new.buf) c.if-length-eq0.true in
     let more = eqb-false (vec_len carry) 0 (sym c.if-is_empty.ensures) in
-    let some : 0 < length (unfinished before.0) = some_carried carry.items (unfinished before.0) (omega (arith, carry.ok.0, more)) before.3.carried in (
+    let some : 0 < length (unfinished before.1) = some_carried carry.items (unfinished before.1) (omega (arith, carry.ok.0, more)) before.5.carried in (
       before.0,
-      reads_end _ _ _ before.0 bytes before.1 c.in-Ok.ensures.bytes.0 none,
-      ran_last g.row.A.Denot before.0 _ _ c.feed-2.new.self.world c.feed-2.new.self.replies c.feed-2.new.self.carry.items c.feed-2.result some (fed.fed before.0 _ before.3)
-          (λ e. let many : 1000000000 ≤ c.feed-2.new.self.count = fed.many e in omega (arith, before.2, fed.slow)),
+      before.1,
+      reads_end _ _ _ before.1 bytes before.2 c.in-Ok.ensures.bytes.0 none,
+      before.3,
+      ran_last g.row.A.Denot before.0 before.1 _ _ c.feed-2.new.self.world c.feed-2.new.self.replies c.feed-2.new.self.carry.items c.feed-2.result some (fed.fed before.1 _ before.5)
+          (last_few c.feed-2.result _ _ _ before.4 fed.few fed.counts)
+          (λ e. omega (arith, before.4, fed.many e)),
     )

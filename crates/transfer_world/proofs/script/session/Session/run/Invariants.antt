@@ -1,5 +1,7 @@
-use Rattle.std.proofs.Common.{◌≡◌, ◌-◌, ◌<◌, ◌≤◌, ℕ, List, [], length}
+use Rattle.std.proofs.Common.{◌≡◌, ◌-◌, ◌+◌, ◌<◌, ◌≤◌, ℕ, List, [], length}
 use Rattle.std.specs.Io.KnownBytes.{Consumes}
+use Rattle.entry_codec.specs.Pieces.{pieces}
+use Rattle.transfer_world.specs.Talk.{still, Parted}
 use Rattle.transfer_world.specs.Session.{Going}
 use Rattle.transfer_world.proofs.script.session.Session.run.Given as goal
 
@@ -8,7 +10,8 @@ invariant-reads g l = record {
   ready : l.self.replies.part ≡ [];
   short : length l.self.carry.items ≤ 16384;
   few : l.self.count < 1000000000;
-  going : (input : List ℕ) × Consumes (g.R.Read.remaining l.fn.reader) (g.R.Read.remaining l.reader) input × (l.self.count ≤ length input)
+  going : (portions : List (List ℕ)) × (input : List ℕ) × Consumes (g.R.Read.remaining l.fn.reader) (g.R.Read.remaining l.reader) input
+      × Parted portions input × (l.self.count ≡ length (pieces input) + still portions)
       × Going g.row.A.Denot input (g.W.Write.contents l.fn.writer) (g.W.Write.contents l.writer) l.self.world l.self.replies l.self.carry.items;
 }
 
