@@ -15,7 +15,7 @@ const RUNS: u64 = 3;
 // Calls of a run, at least.
 const CALLS: u64 = 1_000_000;
 
-// Numbers that an answer is asked for: those of three or four entries.
+// An answer is asked for a number and so many behind it, which four entries hold.
 const GAP: u64 = 12;
 
 // A short log is filled several times over.
@@ -110,7 +110,7 @@ fn measure<R: Clock + Print + AllocGlobal>(rt: &R, moves: u64) -> io::Result<()>
     let answer = per_second(CALLS, answer);
     let read = per_second(CALLS, read);
     println!(rt;
-        "log {moves} moves: {append} appends/s, {line} lines/s, {answer} answer lines/s, {read} answers/s, {bytes} bytes an entry"
+        "log {moves} moves: {append} appends/s, {line} lines/s, {answer} answer lines/s, {read} answers/s, {bytes} bytes a line"
     )
 }
 

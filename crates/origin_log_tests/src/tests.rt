@@ -2,4 +2,6 @@
 mod blocks;
 mod examples;
 mod helpers;
+mod longest;
 mod memory;
+mod room;

@@ -295,7 +295,8 @@ impl<A: Allocator> SubBuffer<A> {
         self.last
     }
 
-    /// The greatest number that the origin's log is known to have, by entries and beats; 0 at first.
+    /// The greatest number that the origin's log is known to have, by entries and beats; 0 at first. Repeats,
+    /// and what comes after the closing entry was delivered, don't count.
     pub fn told(&self) -> u64
         ensures value { result ≡ self.now.told }
         ensures valid { IsBuffer self.now }

@@ -53,10 +53,6 @@ fn wanted_again(buffer: &mut SubBuffer) -> Option<(u64, u64)> {
     numbers(buffer.want_again())
 }
 
-fn beat(buffer: &mut SubBuffer, number: u32) {
-    buffer.beat((number % 1_000_000) as u64);
-}
-
 /// The own numbers of all entries that have become next.
 fn popped(alloc: Global, buffer: &mut SubBuffer) -> Result<Vec<u64>, Fail> {
     let mut owns = Vec::new(alloc);
@@ -103,7 +99,7 @@ fn closed(rt: HostRuntime) -> Result<(), Fail> {
     assert_eq!(rt; later, "after close");
     let again = word(&mut buffer, closing(rt.alloc(), 0)?);
     assert_eq!(rt; again, "repeat");
-    beat(&mut buffer, 9);
+    buffer.beat(9);
     assert_eq!(rt; buffer.told(), 1);
     assert_eq!(rt; buffer.state(), State::Normal);
     assert_eq!(rt; numbers(buffer.gap()), None);
@@ -160,8 +156,8 @@ fn beat_tells_of_a_loss(rt: HostRuntime) -> Result<(), Fail> {
         assert_eq!(rt; word, "ready", "after {prev}");
     }
     assert_eq!(rt; buffer.state(), State::Normal);
-    beat(&mut buffer, 5);
-    beat(&mut buffer, 3);
+    buffer.beat(5);
+    buffer.beat(3);
     assert_eq!(rt; buffer.told(), 5);
     assert_eq!(rt; wanted(&mut buffer), Some((5, 5)));
     assert_eq!(rt; wanted(&mut buffer), None);
@@ -176,7 +172,7 @@ fn beat_tells_of_a_loss(rt: HostRuntime) -> Result<(), Fail> {
 #[test]
 fn answer_is_too_short(rt: HostRuntime) -> Result<(), Fail> {
     let mut buffer = buffer(rt.alloc())?;
-    beat(&mut buffer, 20);
+    buffer.beat(20);
     assert_eq!(rt; wanted(&mut buffer), Some((1, 20)));
     for prev in 0..16u64 {
         let word = word(&mut buffer, entry(rt.alloc(), 1, prev, 1)?);

@@ -11,7 +11,7 @@ pub enum Verdict<A: Allocator = Global> {
     Ready(Entry<A>),
     /// It is kept until the entries before it have come.
     Held,
-    /// It came before, or another entry that begins at its number did.
+    /// It begins before the last number that was delivered, or where a held one begins.
     Repeat,
     /// The log was closed before it.
     AfterClose,

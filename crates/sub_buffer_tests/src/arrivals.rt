@@ -24,7 +24,7 @@ pub fn arrive<A: Allocator>(
     ensures chain { IfOk result (λ _. Delivered put.old.items buffer.old → Delivered put.new.items buffer.new) }
 
     // An entry of the log es, after the entries of set.
-    ensures longest { IfOk result (λ _. (es set : List EntryValue) → Contains es entry → Follows es set put.old.items buffer.old → PutsLongest es set entry put.new.items buffer.new) }
+    ensures longest { IfOk result (λ _. (es set : List EntryValue) → Contains es entry → Follows es set put.old.items buffer.old → PutsLongest es set put.old.items entry put.new.items buffer.new) }
 {
     put.reserve(buffer.held_count() + 2)?;
     let offered = buffer.offer(entry);

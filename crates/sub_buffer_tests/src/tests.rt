@@ -1,5 +1,6 @@
 //! The buffer takes its memory once, and what arrives is put.
 use crate::arrivals::arrive;
+use linked_list_allocator::LocalHeap;
 use refusing_allocator::Refusing;
 use rights_types::{Amount, Entry, Move, SiteId};
 use std::alloc::{AllocError, Allocator, Global};
@@ -51,6 +52,21 @@ fn room_refused(rt: HostRuntime) -> Result<(), Fail> {
     let one = Refusing::new(rt.alloc(), 1);
     let made = SubBuffer::new(&one, SiteId::known(2), SiteId::known(1)).is_ok();
     assert!(rt; made);
+    assert!(rt; !one.refused());
+    Ok(())
+}
+
+/// The room is that of 64 entries, and no more.
+#[test]
+fn room_of_64_entries(rt: HostRuntime) -> Result<(), Fail> {
+    let heap = LocalHeap::new(rt.alloc(), 1 << 16)?;
+    let entries: Vec<Entry<&LocalHeap>, &LocalHeap> = Vec::with_capacity(&heap, 64)?;
+    let wanted = heap.used();
+    assert!(rt; wanted > 0);
+    let buffer = SubBuffer::new(&heap, SiteId::known(2), SiteId::known(1))?;
+    assert_eq!(rt; heap.used().saturating_sub(wanted), wanted);
+    drop(entries);
+    assert_eq!(rt; buffer.held_count(), 0);
     Ok(())
 }
 

@@ -55,9 +55,9 @@ pub(crate) fn next(number: u64) -> u64 {
         .wrapping_add(1_442_695_040_888_963_407)
 }
 
-/// Site 2 asks for so many numbers from one on.
-pub(crate) fn query(first: u64, count: u64) -> io::Result<Query> {
-    let last = first.saturating_add(count);
+/// Site 2 asks for a number and so many behind it.
+pub(crate) fn query(first: u64, more: u64) -> io::Result<Query> {
+    let last = first.saturating_add(more);
     match Query::new(SiteId::known(2), SiteId::known(1), first, last) {
         Ok(query) => Ok(query),
         Err(_) => Err(io::Error::from(ErrorKind::InvalidInput)),

@@ -1,10 +1,12 @@
 //! Logs of many lines.
 ghost use Rattle.std.specs.Prelude.{◌<◌};
 
-use crate::tests::helpers::{append, issue, query, site};
+use crate::tests::helpers::{append, gives, is_entry, issue, query, site};
+use linked_list_allocator::LocalHeap;
 use origin_log::OriginLog;
 use rights_types::{Amount, AskNumber, Move};
-use std::alloc::Global;
+use std::alloc::{AllocGlobal, Allocator, Global};
+use std::process::Abort;
 use std::test::Fail;
 
 const ENTRIES: usize = 3_000;
@@ -35,14 +37,13 @@ fn a_long_log_gives_each_entry_back(rt: HostRuntime) -> Result<(), Fail> {
     assert_eq!(rt; log.len(), ENTRIES);
     for index in 0..ENTRIES {
         let own = index as u64 * 16 + 16;
-        let Ok(Some(entry)) = log.get(index) else {
-            panic!(rt; "no entry at {index}");
-        };
-        assert_eq!(rt; entry.own(), own);
-        assert_eq!(rt; entry.moves(), grants(index).as_slice());
+        let prev = index as u64 * 16;
+        assert!(rt; gives(&log, index, prev, &grants(index)));
         let found = log.answer(&query(own, own)?).expect(&rt, "an answer");
         assert_eq!(rt; found.len(), 1);
-        assert_eq!(rt; found.first().map(|entry| entry.own()), Some(own));
+        for entry in &found {
+            assert!(rt; is_entry(entry, site(1), prev, &grants(index)));
+        }
     }
     Ok(())
 }
@@ -58,45 +59,62 @@ fn issue_of(digits: usize) -> Move {
 }
 
 /// The bytes of the last line.
-fn last_len(log: &OriginLog) -> usize {
+fn last_len<A: Allocator + Copy>(log: &OriginLog<A>) -> usize {
     match log.line(log.len().saturating_sub(1)) {
         Some(line) => line.len(),
         None => 0,
     }
 }
 
-/// A line ends at the last byte of a block, the next one begins a block, and both are given back.
-#[test]
-fn a_block_is_filled_to_its_last_byte(rt: HostRuntime) -> Result<(), Fail> {
-    let mut log: OriginLog<Global> = OriginLog::new(rt.alloc(), site(1));
-    let mut room = 65_536usize;
+/// Appends short entries until less than 80 bytes of the first block are left, and answers how many.
+fn nearly_fill<A: Allocator + Copy>(
+    rt: &(impl Abort + AllocGlobal),
+    log: &mut OriginLog<A>,
+) -> usize {
+    let mut room = 65_536usize.saturating_sub(last_len(log));
     for _ in 0..10_000 {
-        append(&rt, &mut log, &[issue(1)]).expect(&rt, "memory");
-        room = room.saturating_sub(last_len(&log));
+        append(rt, log, &[issue(1)]).expect(rt, "memory");
+        room = room.saturating_sub(last_len(log));
         if room < 80 {
             break;
         }
     }
-    // One more line of one move is as long as the last one; each further move adds four bytes, and
-    // each further digit one.
-    let more = room.saturating_sub(last_len(&log));
-    let mut moves = Vec::new(rt.alloc());
+    room
+}
+
+/// Moves whose line has so many bytes more than that of one move.
+fn longer_by(alloc: Global, more: usize) -> Result<Vec<Move>, Fail> {
+    let mut moves = Vec::new(alloc);
+    // Each further move adds four bytes, and each further digit one.
     for _ in 0..more / 4 {
         moves.push(issue(1))?;
     }
     moves.push(issue_of(more % 4 + 1))?;
+    Ok(moves)
+}
+
+/// A line ends at the last byte of a block, and the next one begins a block of 65,536 bytes.
+#[test]
+fn a_block_is_filled_to_its_last_byte(rt: HostRuntime) -> Result<(), Fail> {
+    let heap = LocalHeap::new(rt.alloc(), 1 << 20)?;
+    let mut log = OriginLog::new(&heap, site(1));
+    // A long line first, so that the draft has room for each later one.
+    append(&rt, &mut log, &[issue(1_000); 16]).expect(&rt, "memory");
+    assert!(rt; heap.used() < 70_000);
+    let room = nearly_fill(&rt, &mut log);
+    let moves = longer_by(rt.alloc(), room.saturating_sub(last_len(&log)))?;
+    let used = heap.used();
+    let before = log.end();
     append(&rt, &mut log, &moves).expect(&rt, "memory");
     assert_eq!(rt; last_len(&log), room);
+    assert_eq!(rt; heap.used(), used);
+    let filled = log.end();
     append(&rt, &mut log, &[issue(7)]).expect(&rt, "memory");
+    assert_eq!(rt; heap.used(), used.saturating_add(65_536));
+    append(&rt, &mut log, &[issue(8)]).expect(&rt, "memory");
+    assert_eq!(rt; heap.used(), used.saturating_add(65_536));
     let last = log.len().saturating_sub(1);
-    for (index, wanted) in [
-        (last.saturating_sub(1), moves.as_slice()),
-        (last, [issue(7)].as_slice()),
-    ] {
-        let Ok(Some(entry)) = log.get(index) else {
-            panic!(rt; "no entry");
-        };
-        assert_eq!(rt; entry.moves(), wanted);
-    }
+    assert!(rt; gives(&log, last.saturating_sub(2), before, &moves));
+    assert!(rt; gives(&log, last.saturating_sub(1), filled, &[issue(7)]));
     Ok(())
 }

@@ -1,9 +1,10 @@
 //! Worked examples.
 use crate::tests::helpers::{
-    append, close, close_for, frontier, give, issue, query, site, spend, take_back, three_entries,
+    append, close, close_for, frontier, give, gives, issue, query, site, spend, take_back,
+    three_entries,
 };
 use origin_log::{LogError, OriginLog, ReadError};
-use rights_types::{Amount, Query, Total};
+use rights_types::{Amount, Move, Query, Total};
 use std::alloc::Global;
 use std::test::Fail;
 
@@ -99,6 +100,7 @@ fn a_closed_log(rt: HostRuntime) -> Result<(), Fail> {
     assert!(rt; log.closed());
     assert_eq!(rt; log.beat(), 5);
     assert_eq!(rt; log.line(1), Some(b"E 1 3 5 R:2:3 K:0:0\n".as_slice()));
+    assert!(rt; gives(&log, 1, 3, &[give(2, 3), Move::CloseAt(nothing)]));
     let line = log.answer_line(&query(1, 3)?).expect(&rt, "an answer");
     assert_eq!(rt;
         line.as_slice(),
@@ -112,12 +114,9 @@ fn a_closed_log(rt: HostRuntime) -> Result<(), Fail> {
 #[test]
 fn a_closing_entry_is_read_again(rt: HostRuntime) -> Result<(), Fail> {
     let mut log: OriginLog<Global> = OriginLog::new(rt.alloc(), site(1));
-    assert_eq!(rt; close(&rt, &mut log, frontier(&rt, &[0, 7])), Ok(1));
-    let Ok(Some(entry)) = log.get(0) else {
-        panic!(rt; "no entry");
-    };
-    assert_eq!(rt; entry.own(), 1);
-    assert!(rt; entry.closes());
+    let applied = frontier(&rt, &[0, 7]);
+    assert_eq!(rt; close(&rt, &mut log, applied), Ok(1));
+    assert!(rt; gives(&log, 0, 0, &[Move::CloseAt(applied)]));
     assert_eq!(rt; log.line(0), Some(b"E 1 0 1 K:0:7\n".as_slice()));
     assert!(rt; matches!(log.get(1), Ok(None)));
     Ok(())
@@ -128,8 +127,11 @@ fn a_total_is_taken_back(rt: HostRuntime) -> Result<(), Fail> {
     let mut log: OriginLog<Global> = OriginLog::new(rt.alloc(), site(1));
     assert_eq!(rt; append(&rt, &mut log, &[issue(10)]), Ok(1));
     assert_eq!(rt; append(&rt, &mut log, &[give(2, 4)]), Ok(2));
-    assert_eq!(rt; take_back(&rt, &mut log, site(2), Total::known(4)), Ok(3));
+    let amount = Total::known(4);
+    assert_eq!(rt; take_back(&rt, &mut log, site(2), amount), Ok(3));
     assert_eq!(rt; log.line(2), Some(b"E 1 2 3 V:2:4\n".as_slice()));
+    let peer = site(2);
+    assert!(rt; gives(&log, 2, 2, &[Move::TakeBack { peer, amount }]));
     assert!(rt; !log.closed());
     Ok(())
 }
@@ -162,5 +164,10 @@ fn a_long_gap_is_answered_in_parts(rt: HostRuntime) -> Result<(), Fail> {
         assert_eq!(rt; found.first().map(|entry| entry.prev() + 1), Some(first));
         assert_eq!(rt; found.last().map(|entry| entry.own()), Some(own));
     }
+    let line = log.answer_line(&query(1, 20)?).expect(&rt, "an answer");
+    let wanted = b"A 1 2;E 1 0 1 I:1;E 1 1 2 I:1;E 1 2 3 I:1;E 1 3 4 I:1;E 1 4 5 I:1;E 1 5 6 I:1;\
+E 1 6 7 I:1;E 1 7 8 I:1;E 1 8 9 I:1;E 1 9 10 I:1;E 1 10 11 I:1;E 1 11 12 I:1;E 1 12 13 I:1;\
+E 1 13 14 I:1;E 1 14 15 I:1;E 1 15 16 I:1\n";
+    assert_eq!(rt; line.as_slice(), wanted.as_slice());
     Ok(())
 }

@@ -6,7 +6,7 @@ ghost use Rattle.rights_types.specs.Ranges.{IsSite, IsAmount};
 ghost use Rattle.origin_log.specs.Logs.{is_special};
 
 use origin_log::{LogError, OriginLog};
-use rights_types::{Amount, Frontier, Move, Query, SiteId, Total};
+use rights_types::{Amount, AskNumber, Entry, Frontier, Move, Query, SiteId, Total};
 use std::alloc::{AllocGlobal, Allocator};
 use std::process::Abort;
 use std::test::Fail;
@@ -36,6 +36,17 @@ pub(crate) fn give(peer: u64, amount: u64) -> Move
     Move::Give {
         peer: SiteId::known(peer),
         amount: Amount::known(amount),
+    }
+}
+
+/// A grant to a peer with the greatest numbers.
+pub(crate) fn grant(peer: u64) -> Move
+    requires { IsSite peer }
+{
+    Move::Grant {
+        peer: SiteId::known(peer),
+        amount: Amount::known(1_000_000_000),
+        ask: AskNumber::known(1_000_000_000),
     }
 }
 
@@ -137,4 +148,27 @@ pub(crate) fn three_entries<A: Allocator + Copy>(
     append(rt, &mut log, &[spend(1); 3])?;
     append(rt, &mut log, &[spend(2)])?;
     Ok(log)
+}
+
+/// Whether an entry is that of the origin behind a number, with these moves.
+pub(crate) fn is_entry<A: Allocator>(
+    entry: &Entry<A>,
+    origin: SiteId,
+    prev: u64,
+    moves: &[Move],
+) -> bool {
+    entry.origin() == origin && entry.prev() == prev && entry.moves() == moves
+}
+
+/// Whether the entry at an index is read again whole.
+pub(crate) fn gives<A: Allocator + Copy>(
+    log: &OriginLog<A>,
+    index: usize,
+    prev: u64,
+    moves: &[Move],
+) -> bool {
+    match log.get(index) {
+        Ok(Some(entry)) => is_entry(&entry, log.site(), prev, moves),
+        _ => false,
+    }
 }

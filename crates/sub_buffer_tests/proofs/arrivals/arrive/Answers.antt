@@ -2,7 +2,7 @@ use Rattle.std.proofs.Common.{◌++◌, ◌+◌, ◌≤◌, List, arith, sym, ap
 use Rattle.rights_types.specs.Entries.{EntryValue}
 use Rattle.sub_buffer.specs.Table.{ready_of}
 use Rattle.sub_buffer.specs.Follows.{Delivered, Follows}
-use Rattle.sub_buffer_tests.proofs.Arriving.{one_more, reached, Reached}
+use Rattle.sub_buffer_tests.proofs.Arriving.{one_more, offers, Offers}
 use Rattle.sub_buffer_tests.proofs.arrivals.arrive.Goals as goal
 
 pub drain-requires : goal.drain-requires
@@ -19,6 +19,8 @@ pub returns-clause-longest : goal.returns-clause-longest
 returns-clause-longest g c = λ es set of f.
     let put : List EntryValue = c.args.put.now.items in
     let kept = c.keep_ready.ensures.items ∙ ap (λ (xs : List EntryValue). xs ++ ready_of c.offer-offered.result) c.in_ok-reserve.ensures.items in
-    let r : Reached es set put c.args.entry c.offer-offered.result c.offer-offered.new.self = reached es set put c.args.entry c.offer-offered.result c.offer-offered.new.self (c.offer-offered.ensures.follows es set put of f).0 in
+    let offered = c.offer-offered.ensures in
+    let r : Offers es set put c.args.entry c.offer-offered.result c.offer-offered.new.self =
+    offers es set put c.args.entry c.offer-offered.result c.args.buffer.now c.offer-offered.new.self f offered.table (offered.follows es set put of f).0 in
     let d = c.drain.ensures.longest es r.0 (subst (λ xs. Follows es r.0 xs c.offer-offered.new.self) (sym kept) r.2) in
     (r.0, r.1, d.0, d.1)

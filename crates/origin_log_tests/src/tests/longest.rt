@@ -1,0 +1,110 @@
+//! Entries, closing entries and answers with the most moves and the greatest numbers, compared whole.
+use crate::tests::helpers::{append, close_for, frontier, gives, grant, is_entry, issue, site};
+use origin_log::{LogError, OriginLog};
+use rights_types::{Amount, Move, Query};
+use std::alloc::{AllocError, AllocGlobal, Allocator, Global};
+use std::process::Abort;
+use std::test::Fail;
+
+// How the lines of the first entries of site 15 begin, where each has 16 moves.
+const HEADS: [&[u8]; 16] = [
+    b"E 15 0 16",
+    b"E 15 16 32",
+    b"E 15 32 48",
+    b"E 15 48 64",
+    b"E 15 64 80",
+    b"E 15 80 96",
+    b"E 15 96 112",
+    b"E 15 112 128",
+    b"E 15 128 144",
+    b"E 15 144 160",
+    b"E 15 160 176",
+    b"E 15 176 192",
+    b"E 15 192 208",
+    b"E 15 208 224",
+    b"E 15 224 240",
+    b"E 15 240 256",
+];
+
+/// The log of site 15 with 17 entries of the longest moves.
+pub(crate) fn longest_log<A: Allocator + Copy>(
+    rt: &(impl Abort + AllocGlobal),
+    alloc: A,
+) -> Result<OriginLog<A>, LogError> {
+    let mut log = OriginLog::new(alloc, site(15));
+    for _ in 0..17u8 {
+        append(rt, &mut log, &[grant(16); 16])?;
+    }
+    Ok(log)
+}
+
+/// Site 16 asks for all of them, and gets 16.
+pub(crate) fn query_for_all() -> Result<Query, Fail> {
+    Ok(Query::new(site(16), site(15), 1, 272)?)
+}
+
+/// An entry's text behind this one, without its line feed.
+fn add_text(text: &mut Vec<u8>, head: &[u8]) -> Result<(), AllocError> {
+    text.extend_from_slice(head)?;
+    for _ in 0..16u8 {
+        text.extend_from_slice(b" G:16:1000000000:1000000000")?;
+    }
+    Ok(())
+}
+
+#[test]
+fn the_longest_entries(rt: HostRuntime) -> Result<(), Fail> {
+    let log = longest_log(&rt, rt.alloc()).expect(&rt, "memory");
+    for (index, head) in HEADS.iter().enumerate() {
+        let mut wanted = Vec::new(rt.alloc());
+        add_text(&mut wanted, head)?;
+        wanted.push(b'\n')?;
+        assert_eq!(rt; log.line(index), Some(wanted.as_slice()));
+        assert!(rt; gives(&log, index, index as u64 * 16, &[grant(16); 16]));
+    }
+    Ok(())
+}
+
+#[test]
+fn the_longest_answer(rt: HostRuntime) -> Result<(), Fail> {
+    let log = longest_log(&rt, rt.alloc()).expect(&rt, "memory");
+    let query = query_for_all()?;
+    let found = log.answer(&query).expect(&rt, "an answer");
+    assert_eq!(rt; found.len(), 16);
+    for (index, entry) in found.iter().enumerate() {
+        assert!(rt; is_entry(entry, site(15), index as u64 * 16, &[grant(16); 16]));
+    }
+    let mut wanted = Vec::from_slice(rt.alloc(), b"A 15 16")?;
+    for head in &HEADS {
+        wanted.push(b';')?;
+        add_text(&mut wanted, head)?;
+    }
+    wanted.push(b'\n')?;
+    let line = log.answer_line(&query).expect(&rt, "an answer");
+    assert_eq!(rt; line.as_slice(), wanted.as_slice());
+    Ok(())
+}
+
+/// A gift to an heir, and a frontier of sixteen sites.
+#[test]
+fn the_longest_closing_entry(rt: HostRuntime) -> Result<(), Fail> {
+    let mut applied = [1_000_000_000; 16];
+    applied[0] = 0;
+    let applied = frontier(&rt, &applied);
+    let amount = Amount::known(1_000_000_000);
+    let mut log: OriginLog<Global> = OriginLog::new(rt.alloc(), site(1));
+    assert_eq!(rt; append(&rt, &mut log, &[issue(1_000_000_000)]), Ok(1));
+    assert_eq!(rt; close_for(&rt, &mut log, site(16), amount, applied), Ok(3));
+    let mut wanted = Vec::from_slice(rt.alloc(), b"E 1 1 3 R:16:1000000000 K:0")?;
+    for _ in 0..15u8 {
+        wanted.extend_from_slice(b":1000000000")?;
+    }
+    wanted.push(b'\n')?;
+    assert_eq!(rt; log.line(1), Some(wanted.as_slice()));
+    let gift = Move::Give {
+        peer: site(16),
+        amount,
+    };
+    assert!(rt; gives(&log, 1, 1, &[gift, Move::CloseAt(applied)]));
+    Ok(())
+}
