@@ -10,4 +10,4 @@ mod tests;
 
 pub use fault::QueueError;
 pub use queue::{LAST_TICKET, RequestQueue, SLOTS};
-pub use request::{Outcome, Request, Status};
+pub use request::Status;

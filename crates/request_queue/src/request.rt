@@ -3,19 +3,19 @@
 use rights_types::Amount;
 
 /// A spend that waits for rights.
-#[derive(Clone, Copy, Debug, PartialEq, Eq)]
-pub struct Request {
+#[derive(Clone, Copy)]
+pub(crate) struct Request {
     /// By which its status is asked, from 1.
-    pub ticket: u64,
+    pub(crate) ticket: u64,
     /// The rights that it is to spend.
-    pub amount: Amount,
+    pub(crate) amount: Amount,
     /// The last time at which it may still wait, in whatever unit its site counts time.
-    pub deadline: u64,
+    pub(crate) deadline: u64,
 }
 
 /// How a request ended.
-#[derive(Clone, Copy, Debug, PartialEq, Eq)]
-pub enum Outcome {
+#[derive(Clone, Copy)]
+pub(crate) enum Outcome {
     /// It was served by the log entry of this number.
     Spent(u64),
     /// Its deadline passed.

@@ -18,6 +18,8 @@ fn each_growth_of_a_new_queue_refused(rt: HostRuntime) -> Result<(), Fail> {
             Ok(queue) => {
                 assert!(rt; !refusing.refused());
                 assert_eq!(rt; queue.waiting(), 0);
+                assert_eq!(rt; queue.total(), 0);
+                assert_eq!(rt; queue.front(), None);
                 whole = true;
                 break;
             }

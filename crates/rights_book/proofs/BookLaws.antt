@@ -50,15 +50,15 @@ sum_bound_but n s m f low high none h =
 pub no_account_kept : IsAccount no_account
 no_account_kept = record { in_range = omega arith; issues = omega arith; spends = omega arith; gives = omega arith; takes_back = omega arith }
 
--- a site of the system, or one of which no book of so many sites knows anything
-abbrev Outside : ℕ → ℕ → Type 0
-Outside n j = (ps : List Peer) → length ps ≡ n → at_site ps j no_peer ≡ no_peer
+-- no list of n items has one for site j
+abbrev pub Outside : {X : Type 0} → X → ℕ → ℕ → Type 0
+Outside d n j = (xs : List _) → length xs ≡ n → at_site xs j d ≡ d
 
-pub inside : (n j : ℕ) → ((1 ≤ j) × (j ≤ n)) ⊎ Outside n j
-inside n zero = inr (λ ps h. refl)
-inside n (suc i) =
+pub inside : {X : Type 0} (d : X) (n j : ℕ) → ((1 ≤ j) × (j ≤ n)) ⊎ Outside d n j
+inside d n zero = inr (λ xs h. refl)
+inside d n (suc i) =
     elim (cases_lt n (suc i)) [
-      | inl past ↦ inr (λ ps h. at_site_past ps (suc i) no_peer (omega (arith, h, past)))
+      | inl past ↦ inr (λ xs h. at_site_past xs (suc i) d (omega (arith, h, past)))
       | inr within ↦ inl (omega arith, within)
     ]
 
@@ -106,7 +106,7 @@ pub record IsBounded (b : BookValue) : Type 0 where
 
 given_term : (b : BookValue) → IsBook b → (j : ℕ) → (peer b j).given ≤ b.own.given
 given_term b is j =
-    elim (inside (sites b) j) [
+    elim (inside no_peer (sites b) j) [
       | inl r ↦ omega (arith, is.given_is, sum_term (sites b) j (λ k. (peer b k).given) r.0 r.1)
       | inr out ↦ omega (arith, ap (λ (p : Peer). p.given) (out b.peers refl))
     ]
@@ -200,9 +200,9 @@ abbrev gifted_peer : Peer → ℕ → Peer
 gifted_peer p n = record p { gifts = p.gifts + n }
 
 peer_other : (old new : BookValue) (o : ℕ) (ms : List Move) → Applies old o ms new → (k : ℕ) → k ≢ o
-    → (((1 ≤ k) × (k ≤ sites old)) × (peer new k ≡ gifted_peer (peer old k) (to k ms))) ⊎ (Outside (sites old) k × (peer new k ≡ peer old k))
+    → (((1 ≤ k) × (k ≤ sites old)) × (peer new k ≡ gifted_peer (peer old k) (to k ms))) ⊎ (Outside no_peer (sites old) k × (peer new k ≡ peer old k))
 peer_other old new o ms a k ne =
-    elim (inside (sites old) k) [
+    elim (inside no_peer (sites old) k) [
       | inl r ↦ inl (r, a.each k r.0 r.1 ∙ (rw (ne_eqb k o ne) refl))
       | inr out ↦ inr (out, out new.peers a.same_sites ∙ sym (out old.peers refl))
     ]

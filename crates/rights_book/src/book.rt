@@ -48,6 +48,7 @@ impl<A: Allocator> Book<A> {
         ensures made { IfOk result (λ book. book ≡ new_book me sites) }
         ensures stands { IfOk result (StandsFor [] (λ o. [])) }
     {
+        // This states the range of `me`, which the proof asks for.
         let _ = me.number();
         let mut peers = Vec::with_capacity(alloc, sites as usize)?;
         for _site in 0..sites {
@@ -60,8 +61,9 @@ impl<A: Allocator> Book<A> {
         })
     }
 
-    /// Whether the book's site may write these moves as its next entry. Their count, the log's end
-    /// and what they take back are not tested here, and closing moves pass.
+    /// Whether the book's site may write these moves as its next entry. Not tested here: how many
+    /// they are, whether the site's log has room for them or has closed, and what they take back.
+    /// Closing moves pass.
     #[tactic(auto, unfolding(crate::specs::Checks::check_fault))]
     pub fn check(&self, moves: &[Move]) -> Result<(), BookError>
         ensures { MatchResult result

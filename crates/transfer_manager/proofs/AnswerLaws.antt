@@ -5,6 +5,7 @@ use Rattle.std.proofs.lemmas.Bool.{cases_lt, ne_eqb, lt-ltb, le-ltb}
 use Rattle.rights_types.specs.Messages.{AskValue}
 use Rattle.rights_types.proofs.Places.{at_set_site}
 use Rattle.rights_book.specs.Books.{BookValue, account}
+use Rattle.rights_book.proofs.BookLaws.{inside}
 use Rattle.request_queue.specs.Queues.{QueueValue}
 use Rattle.transfer_manager.specs.declared.peer_asks.PeerAsks.{PeerAsks}
 use Rattle.transfer_manager.specs.declared.answer.AskAnswer.{AskAnswer}
@@ -12,7 +13,6 @@ use Rattle.transfer_manager.specs.declared.answer.AskAnswer.TheVariants.{Grant, 
 use Rattle.transfer_manager.specs.Managers.{ManagerValue, sites, asks, no_asks, with_ask, with_asks, with_ended, ended}
 use Rattle.transfer_manager.specs.Plans.{amount_asked, Plans}
 use Rattle.transfer_manager.specs.Answers.{grant_of, IsLate, IsSettled}
-use Rattle.transfer_manager.proofs.Sites.{at_cases}
 use Rattle.transfer_manager.proofs.ManagerLaws.{answered}
 
 -- the answer by the last number that was answered, and whether it was granted
@@ -66,7 +66,7 @@ share_keeps false false p n = record { last = refl; granted = refl }
 
 pub planned_keeps : (m new : ManagerValue) (b : BookValue) (q : QueueValue) (count : ℕ) → Plans m b q count new → (k : ℕ) → IsAnsweredAs (asks m k) (asks new k)
 planned_keeps m new b q count p k =
-    elim (at_cases (sites m) k no_asks) [
+    elim (inside no_asks (sites m) k) [
       | inl r ↦ subst (IsAnsweredAs (asks m k)) (sym (p.each k r.0 r.1))
           (share_keeps (account b k).closed (eqb (amount_asked m b q k) 0) (asks m k) (amount_asked m b q k))
       | inr out ↦ answered_as_is (asks m k) (asks new k) (out new.peers p.same_sites ∙ sym (out m.peers refl))

@@ -1,7 +1,8 @@
 -- What every manager keeps.
-use Rattle.std.proofs.Common.{◌≡◌, ℕ, ◌+◌, ◌≤◌, Bool, true, false, cond, eqb, List, length, get_or, set, inl, inr, refl, sym, ap, ◌∙◌, subst, arith}
+use Rattle.std.proofs.Common.{◌≡◌, ℕ, ◌+◌, ◌<◌, ◌≤◌, Bool, true, false, cond, eqb, List, length, take, get_or, set, inl, inr, refl, sym, ap, ◌∙◌, subst, arith}
 use Rattle.std.specs.Prelude.{replicate, None}
-use Rattle.std.proofs.lemmas.List.{length-replicate, get_or_read}
+use Rattle.std.proofs.Math.Seq.{take-set-lt}
+use Rattle.std.proofs.lemmas.List.{length-replicate, length-take, take-replicate, get_or-take, get_or_default}
 use Rattle.std.proofs.lemmas.Bool.{ne_eqb}
 use Rattle.rights_types.specs.Places.{at_site}
 use Rattle.rights_types.proofs.Places.{at_site-index, set_site-index, at_site-replicate, at_set_site, length-set_site, set_site_keeps}
@@ -13,6 +14,10 @@ no_asks_is = record { numbers = omega arith; asked = tt }
 
 pub new_asks : (n j : ℕ) → at_site (replicate n no_asks) j no_asks ≡ no_asks
 new_asks n j = at_site-replicate (λ p. p ≡ no_asks) n j no_asks no_asks (λ low high. refl) refl
+
+-- as many of sixteen equal items as there are sites
+pub of_sixteen : (n : ℕ) (p : PeerAsks) → n ≤ 16 → p ≡ no_asks → take n (replicate 16 p) ≡ replicate n no_asks
+of_sixteen n p few is = take-replicate n 16 p few ∙ ap (replicate n) is
 
 pub new_is_manager : (me n : ℕ) → 2 ≤ n → n ≤ 16 → 1 ≤ me → me ≤ n → IsManager (new_manager me n)
 new_is_manager me n some few low high =
@@ -57,31 +62,43 @@ ended_is m j ask is low high =
     with_asks_is m j (with_ended p ask) is low high (ends_is (eqb p.last_ask ask) p (is.each j)) (λ e.
     ends_none (eqb p.last_ask ask) p (subst (λ k. (asks m k).outstanding ≡ None) (sym e) is.none_own))
 
+-- the first sites' items of a list that has one for each site that a system can have
+abbrev front : ℕ → ℕ → List PeerAsks → ManagerValue
+front me n ps = record { me = me; peers = take n ps }
+
+-- the index of a site of the system
+index_inside : (n i j : ℕ) (ps : List PeerAsks) → i + 1 ≡ j → j ≤ length (take n ps) → i < n
+index_inside n i j ps at high = omega (arith, at, high, length-take n ps)
+
 -- the asks that stand at the index of site j
-pub asks_read : (m : ManagerValue) (i j : ℕ) (it : PeerAsks) → i + 1 ≡ j → j ≤ sites m → it ≡ get_or m.peers i it → it ≡ asks m j
-asks_read m i j it at high is = get_or_read m.peers i it (omega arith) is no_asks ∙ sym (at_site-index m.peers i j no_asks at)
+asks_read : (me n i j : ℕ) (ps : List PeerAsks) (d : PeerAsks) → i + 1 ≡ j → j ≤ length (take n ps) → get_or ps i d ≡ asks (front me n ps) j
+asks_read me n i j ps d at high =
+    sym (get_or-take n ps i d (index_inside n i j ps at high)) ∙ get_or_default (take n ps) i d no_asks (omega arith)
+    ∙ sym (at_site-index (take n ps) i j no_asks at)
 
 -- .. and the manager with other asks there
-asks_set : (m : ManagerValue) (i j : ℕ) (p q : PeerAsks) → i + 1 ≡ j → p ≡ q → record { me = m.me; peers = set m.peers i p } ≡ with_asks m j q
-asks_set m i j p q at is =
-    let made : List PeerAsks → ManagerValue = λ ps. record { me = m.me; peers = ps } in
-    ap made (sym (set_site-index m.peers i j p at)) ∙ ap (with_asks m j) is
+asks_set : (me n i j : ℕ) (ps : List PeerAsks) (p q : PeerAsks) → i + 1 ≡ j → j ≤ length (take n ps) → p ≡ q
+    → front me n (set ps i p) ≡ with_asks (front me n ps) j q
+asks_set me n i j ps p q at high is =
+    let made : List PeerAsks → ManagerValue = λ xs. record { me = me; peers = xs } in
+    ap made (take-set-lt n ps i p (index_inside n i j ps at high)) ∙ ap made (sym (set_site-index (take n ps) i j p at)) ∙ ap (with_asks (front me n ps) j) is
 
 -- an ask ended at the index of site j
-pub ended_set : (m : ManagerValue) (i j ask : ℕ) (it p : PeerAsks) → i + 1 ≡ j → j ≤ sites m → it ≡ get_or m.peers i it
-    → p ≡ with_ended it ask → record { me = m.me; peers = set m.peers i p } ≡ ended m j ask
-ended_set m i j ask it p at high read ends =
-    asks_set m i j p (with_ended (asks m j) ask) at (ends ∙ ap (λ q. with_ended q ask) (asks_read m i j it at high read))
+pub ended_set : (me n i j ask : ℕ) (ps : List PeerAsks) (d p : PeerAsks) → i + 1 ≡ j → j ≤ length (take n ps)
+    → p ≡ with_ended (get_or ps i d) ask → front me n (set ps i p) ≡ ended (front me n ps) j ask
+ended_set me n i j ask ps d p at high ends =
+    asks_set me n i j ps p (with_ended (asks (front me n ps) j) ask) at high (ends ∙ ap (λ q. with_ended q ask) (asks_read me n i j ps d at high))
 
 -- an answer noted there
 abbrev pub answered : PeerAsks → ℕ → Bool → PeerAsks
 answered p n g = record p { last_answered = n; granted = g }
 
-pub answered_set : (m : ManagerValue) (i j n k : ℕ) (g : Bool) (it : PeerAsks) → i + 1 ≡ j → j ≤ sites m → it ≡ get_or m.peers i it
-    → n ≡ k → record { me = m.me; peers = set m.peers i (answered it n g) } ≡ with_asks m j (answered (asks m j) k g)
-answered_set m i j n k g it at high read number =
-    asks_set m i j (answered it n g) (answered (asks m j) k g) at (ap (λ (p : PeerAsks). answered p n g) (asks_read m i j it at high read)
-    ∙ ap (λ (l : ℕ). answered (asks m j) l g) number)
+pub answered_set : (me n i j number k : ℕ) (g : Bool) (ps : List PeerAsks) (d : PeerAsks) → i + 1 ≡ j → j ≤ length (take n ps) → number ≡ k
+    → front me n (set ps i (answered (get_or ps i d) number g)) ≡ with_asks (front me n ps) j (answered (asks (front me n ps) j) k g)
+answered_set me n i j number k g ps d at high same =
+    let old : PeerAsks = asks (front me n ps) j in
+    asks_set me n i j ps (answered (get_or ps i d) number g) (answered old k g) at high (ap (λ (p : PeerAsks). answered p number g) (asks_read me n i j ps d at high)
+    ∙ ap (λ (l : ℕ). answered old l g) same)
 
 pub answered_is : (m : ManagerValue) (j n : ℕ) (g : Bool) → IsManager m → 1 ≤ j → j ≤ sites m → IsManager (with_asks m j (answered (asks m j) n g))
 answered_is m j n g is low high =

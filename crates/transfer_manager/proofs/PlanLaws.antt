@@ -1,21 +1,21 @@
 -- The plan, from what each site offers.
-use Rattle.std.proofs.Common.{◌≡◌, ℕ, ◌+◌, ◌-◌, ◌<◌, ◌≤◌, min, Bool, true, false, not, cond, eqb, ltb, ◌&&◌, List, length, take, inl, inr, refl, sym, ap, ◌∙◌, subst, arith}
+use Rattle.std.proofs.Common.{◌≡◌, ℕ, ◌+◌, ◌-◌, ◌<◌, ◌≤◌, min, Bool, true, false, not, cond, eqb, ltb, ◌&&◌, List, ◌++◌, length, take, drop, inl, inr, refl, sym, ap, ◌∙◌, subst, arith}
 use Rattle.std.specs.Prelude.{ℤ, pos, negsuc, ◌-ℤ◌, None, is_none}
 use Rattle.std.proofs.lemmas.Int.{ints}
 use Rattle.std.proofs.lemmas.Bool.{cases_eq, cases_lt, eq-eqb, ne_eqb, lt-ltb, le-ltb, ltb-true}
 use Rattle.rights_types.specs.Places.{at_site}
 use Rattle.rights_types.specs.Rights.{sum_sites}
-use Rattle.std.proofs.lemmas.List.{length-take-le}
+use Rattle.std.proofs.lemmas.List.{length-take-le, take_at}
 use Rattle.rights_types.proofs.SiteSums.{sum_same}
 use Rattle.rights_book.specs.Books.{BookValue, IsBook, account, peer, held_by, known_by}
-use Rattle.rights_book.proofs.BookLaws.{bounded, account_kept}
+use Rattle.rights_book.proofs.BookLaws.{inside, bounded, account_kept}
 use Rattle.request_queue.specs.Queues.{QueueValue, total_of}
 use Rattle.transfer_manager.specs.declared.peer_asks.PeerAsks.{PeerAsks}
 use Rattle.transfer_manager.specs.Managers.{ManagerValue, sites, asks, no_asks, amount_of, with_ask, with_share, IsPeerAsks, IsManager}
 use Rattle.transfer_manager.specs.Shares.{is_first, offered_before, share, asks_made}
 use Rattle.transfer_manager.specs.Plans.{above_zero, known_rights, open_asks, need, can_be_asked, is_eligible, is_before, known_before, amount_asked, offer, Plans}
 use Rattle.transfer_manager.proofs.ManagerLaws.{no_asks_is}
-use Rattle.transfer_manager.proofs.Sites.{at_site-take, at_cases}
+use Rattle.transfer_manager.proofs.Sites.{asks_few, at_site-take}
 
 -- what a site offers
 
@@ -134,11 +134,16 @@ pub record IsOpened (m : ManagerValue) (b : BookValue) (opened : List PeerAsks) 
   pub enough : sites m ≤ length offers
   pub offered : (j : ℕ) → 1 ≤ j → j ≤ length opened → at_site offers j 0 ≡ offer m.me b j (at_site opened j no_asks)
 
+pub is_opened : (m : ManagerValue) (b : BookValue) (opened : List PeerAsks) (offers : List ℕ) → sites m ≤ 16 → length opened ≡ sites m
+    → ((j : ℕ) → 1 ≤ j → j ≤ sites m → at_site opened j no_asks ≡ open_asks m b j) → length offers ≡ 16
+    → ((j : ℕ) → 1 ≤ j → j ≤ length opened → at_site offers j 0 ≡ offer m.me b j (at_site opened j no_asks)) → IsOpened m b opened offers
+is_opened m b opened offers few same opens whole offered = record { same = same; opens = opens; enough = omega (arith, whole, few); offered = offered }
+
 pub offers_bounded : (m : ManagerValue) (b : BookValue) (opened : List PeerAsks) (offers : List ℕ) → IsBook b → IsOpened m b opened offers
     → (j : ℕ) → at_site (take (sites m) offers) j 0 ≤ 2000000000000000000000000000
 offers_bounded m b opened offers is o j =
     let whole = length-take-le (sites m) offers o.enough in
-    elim (at_cases {X = ℕ} (sites m) j 0) [
+    elim (inside {X = ℕ} 0 (sites m) j) [
       | inl r ↦
           let high : j ≤ sites m = r.1 in
           let e = at_site-take (sites m) offers j 0 high ∙ o.offered j r.0 (omega (arith, high, o.same)) in
@@ -150,7 +155,7 @@ pub offers_left : (m : ManagerValue) (b : BookValue) (opened : List PeerAsks) (o
     → (j : ℕ) → 0 < at_site (take (sites m) offers) j 0 → (at_site opened j no_asks).last_ask < 1000000000
 offers_left m b opened offers o j some =
     let whole = length-take-le (sites m) offers o.enough in
-    elim (at_cases {X = ℕ} (sites m) j 0) [
+    elim (inside {X = ℕ} 0 (sites m) j) [
       | inl r ↦
           let high : j ≤ sites m = r.1 in
           let e = at_site-take (sites m) offers j 0 high ∙ o.offered j r.0 (omega (arith, high, o.same)) in
@@ -163,9 +168,9 @@ pub record IsPlanned (m : ManagerValue) (b : BookValue) (q : QueueValue) (opened
   pub begun : IsOpened m b opened offers
   pub whole : length asked ≡ sites m
   pub lacks : lack ≡ (total_of q.waiting - held_by b) - sum_sites (length opened) (λ j. amount_of (at_site opened j no_asks).outstanding)
-  pub asks_each : (j : ℕ) → 1 ≤ j → j ≤ length opened
+  pub asks_each : (j : ℕ) → 1 ≤ j → j ≤ sites m
       → at_site asked j no_asks ≡ with_share (at_site opened j no_asks) (share (take (sites m) offers) lack j)
-  pub counted : count ≡ asks_made (length opened) (share (take (sites m) offers) lack)
+  pub counted : count ≡ asks_made (sites m) (share (take (sites m) offers) lack)
 
 need_is : (m : ManagerValue) (b : BookValue) (q : QueueValue) (opened asked : List PeerAsks) (offers : List ℕ) (lack count : ℕ)
     → IsPlanned m b q opened asked offers lack count → lack ≡ need m b q
@@ -196,14 +201,22 @@ plans m b q opened asked offers lack count is =
       same_me = refl;
       same_sites = is.whole;
       each = λ j low high.
-          is.asks_each j low (omega (arith, is.begun.same)) ∙ ap (with_share (at_site opened j no_asks)) (shares j low high)
+          is.asks_each j low high ∙ ap (with_share (at_site opened j no_asks)) (shares j low high)
           ∙ ap (λ p. with_share p (amount_asked m b q j)) (is.begun.opens j low high);
-      counted = is.counted ∙ ap (λ n. asks_made n (share (take (sites m) offers) lack)) is.begun.same
+      counted = is.counted
           ∙ sum_same (sites m) (λ j. cond (eqb (share (take (sites m) offers) lack j) 0) 0 1) (λ j. cond (eqb (amount_asked m b q j) 0) 0 1)
           (λ j low high. ap (λ n. cond (eqb n 0) 0 1) (shares j low high));
     }
 
+-- each site is asked once
+pub planned_few : (m : ManagerValue) (b : BookValue) (q : QueueValue) (count : ℕ) (new : ManagerValue) → IsManager m → Plans m b q count new → count ≤ 16
+planned_few m b q count new is p = omega (arith, p.counted, asks_few (sites m) (amount_asked m b q), is.few)
+
 -- a manager after its plan
+
+-- the items in front, once they were written
+pub front_written : (n : ℕ) (ps new : List PeerAsks) → n ≤ length ps → length new ≡ length (take n ps) → take n (new ++ drop n ps) ≡ new
+front_written n ps new fit same = take_at new (drop n ps) n (same ∙ length-take-le n ps fit)
 
 some_asked : (c : Bool) (x : ℕ) → 1 ≤ cond c x 0 → c ≡ true
 some_asked true x h = refl
@@ -255,7 +268,7 @@ planned_is m new b q count is p =
       few = rw same is.few;
       member = rw (same, me) is.member;
       each = λ j.
-          elim (at_cases (sites m) j no_asks) [
+          elim (inside no_asks (sites m) j) [
             | inl r ↦ subst IsPeerAsks (sym (p.each j r.0 r.1)) (planned_asks m b q j is)
             | inr out ↦ subst IsPeerAsks (sym (out new.peers same)) no_asks_is
           ];

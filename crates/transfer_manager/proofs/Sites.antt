@@ -1,10 +1,10 @@
 -- Lists with an item for each site that are written from site 1 on, and sums over the sites so far.
-use Rattle.std.proofs.Common.{◌≡◌, ℕ, suc, ◌+◌, ◌<◌, ◌≤◌, ◌⊎◌, Bool, true, false, cond, eqb, zero, take, inl, inr, List, length, set, refl, sym, ap, ◌∙◌, subst, arith, add-one}
-use Rattle.std.proofs.lemmas.Bool.{cases_eq, cases_lt, ne_eqb}
+use Rattle.std.proofs.Common.{◌≡◌, ℕ, suc, ◌+◌, ◌<◌, ◌≤◌, Bool, true, false, cond, eqb, zero, take, inl, inr, List, length, set, refl, sym, ap, ◌∙◌, subst, arith, add-one}
+use Rattle.std.proofs.lemmas.Bool.{cases_eq, ne_eqb}
 use Rattle.std.proofs.lemmas.List.{get_or-take}
 use Rattle.rights_types.specs.Places.{at_site, set_site}
 use Rattle.rights_types.specs.Rights.{sum_sites}
-use Rattle.rights_types.proofs.Places.{set_site-index, at_set_site, at_site_past}
+use Rattle.rights_types.proofs.Places.{set_site-index, at_set_site}
 use Rattle.rights_types.proofs.SiteSums.{sum_bound}
 use Rattle.transfer_manager.specs.Shares.{asks_made}
 
@@ -40,15 +40,6 @@ asks_same n shares h =
 pub at_site-take : {X : Type 0} (n : ℕ) (xs : List X) (j : ℕ) (d : X) → j ≤ n → at_site (take n xs) j d ≡ at_site xs j d
 at_site-take n xs zero d h = refl
 at_site-take n xs (suc i) d h = get_or-take n xs i d (omega arith)
-
--- a site of n, or one for which no list of n items has one
-pub at_cases : {X : Type 0} (n j : ℕ) (d : X) → ((1 ≤ j) × (j ≤ n)) ⊎ ((xs : List X) → length xs ≡ n → at_site xs j d ≡ d)
-at_cases n zero d = inr (λ xs h. refl)
-at_cases n (suc i) d =
-    elim (cases_lt i n) [
-      | inl h ↦ inl (omega arith, omega arith)
-      | inr h ↦ inr (λ xs e. at_site_past xs (suc i) d (omega (arith, e)))
-    ]
 
 -- the items of the first n sites were made new by f, and those behind are the old ones
 pub record IsWritten {X : Type 0} (d : X) (f : ℕ → X → X) (old new : List X) (n : ℕ) : Type 0 where

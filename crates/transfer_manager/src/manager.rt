@@ -1,5 +1,5 @@
 //! The transfer manager of one site.
-ghost use Rattle.std.specs.Prelude.{◌≡◌, ℕ, ◌<◌, ◌≤◌, IfOk, IfSome};
+ghost use Rattle.std.specs.Prelude.{◌≡◌, ℕ, ◌<◌, ◌≤◌, IfSome};
 ghost use Rattle.rights_types.specs.Messages.{AskValue, IsAsk};
 
 use crate::answer::AskAnswer;
@@ -7,66 +7,69 @@ use crate::peer_asks::PeerAsks;
 use crate::plan::{ask_each, end_closed, need, offers};
 use request_queue::RequestQueue;
 use rights_book::Book;
-use rights_types::{Amount, Ask, AskNumber, OutOfMemory, SiteId};
-use std::alloc::{Allocator, Global};
+use rights_types::{Amount, Ask, AskNumber, SiteId};
+use std::alloc::Allocator;
 use std::marker::Model;
 
 /// The asks of one site: which are outstanding, and which of the others' were answered. It writes no
-/// entry and sends no line itself.
-///
-/// No call but `new` takes memory.
+/// entry and sends no line itself, and it takes no memory.
 #[derive(Drop)]
-pub struct Manager<A: Allocator = Global> {
+pub struct Manager {
     me: SiteId,
-    peers: Vec<PeerAsks, A>,
+    sites: usize,
+    // A place for each site that a system can have; those past its last one stay unused.
+    peers: [PeerAsks; 16],
 }
 
-impl<A: Allocator> Model for Manager<A> {
+impl Model for Manager {
+    ghost use Rattle.std.specs.Prelude.{◌≤◌, take};
     ghost use Rattle.transfer_manager.specs.Managers.{ManagerValue, IsManager};
 
     ghost Value = { ManagerValue };
 
-    ghost view = { λ m. record { me = m.me; peers = m.peers.items } };
+    ghost view = { λ m. record { me = m.me; peers = take m.sites m.peers } };
 
-    ghost invariant = { λ m. IsManager (record { me = m.me; peers = m.peers.items }) };
+    ghost invariant = { λ m. IsManager (record { me = m.me; peers = take m.sites m.peers }) × (m.sites ≤ 16) };
 }
 
-impl<A: Allocator> Manager<A> {
+impl Manager {
     ghost use Rattle.transfer_manager.specs.Managers.{sites, asks, new_manager, outstanding_ask, ended};
     ghost use Rattle.transfer_manager.specs.Plans.{Plans};
     ghost use Rattle.transfer_manager.specs.Answers.{answer_to, noted, IfNew, IsWithin, IsSettled};
 
     /// The manager of site `me` among so many sites, 2 to 16, where nothing was asked.
-    pub fn new(alloc: A, me: SiteId, sites: u64) -> Result<Manager<A>, OutOfMemory>
+    pub fn new(me: SiteId, sites: u64) -> Manager
         requires sites { (2 ≤ sites) × (sites ≤ 16) }
         requires me { me ≤ sites }
-        ensures { IfOk result (λ manager. manager ≡ new_manager me sites) }
+        ensures { result ≡ new_manager me sites }
     {
+        // This states the range of `me`, which the proof asks for.
         let _ = me.number();
-        let mut peers = Vec::with_capacity(alloc, sites as usize)?;
-        for _site in 0..sites {
-            peers.push(PeerAsks::new())?;
+        Manager {
+            me,
+            sites: sites as usize,
+            peers: [PeerAsks::new(); 16],
         }
-        Ok(Manager { me, peers })
     }
 
     /// Ends the asks to peers that are known to have closed. Then, where the waiting requests lack
     /// rights, asks peers for them: those known to have more first, each once and for no more than
     /// it is known to have. Answers how many were asked.
-    pub fn plan<B: Allocator, C: Allocator>(
+    pub fn plan<A: Allocator, B: Allocator>(
         &mut self,
-        book: &Book<B>,
-        queue: &RequestQueue<C>,
+        book: &Book<A>,
+        queue: &RequestQueue<B>,
     ) -> u64
         ensures plans { Plans self.old book.now queue.now result self.new }
         ensures settled { (past : AskValue) → IsSettled self.old past → IsSettled self.new past }
         ensures range { result ≤ 16 }
     {
-        end_closed(&mut self.peers, book);
-        let need = need(&self.peers, book, queue);
-        let offers = offers(self.me, &self.peers, book);
-        let sites = self.peers.len();
-        ask_each(&mut self.peers, &offers[..sites], need)
+        let peers = &mut self.peers[..self.sites];
+        end_closed(peers, book);
+        let need = need(peers, book, queue);
+        let offers = offers(self.me, peers, book);
+        let sites = peers.len();
+        ask_each(peers, &offers[..sites], need)
     }
 
     /// The ask to that peer that is outstanding.
@@ -146,7 +149,7 @@ impl<A: Allocator> Manager<A> {
     fn asks(&self, peer: SiteId) -> PeerAsks
         ensures { result ≡ asks self.now peer }
     {
-        match self.peers.get(peer.index()) {
+        match self.peers[..self.sites].get(peer.index()) {
             Some(asks) => *asks,
             None => PeerAsks::new(),
         }

@@ -1,5 +1,5 @@
-//! Tests of the transfer manager: worked examples, refusals of rights, many sites, and a manager whose memory is
-//! refused. They have their own crate, since they alone use the allocator that refuses a request.
+//! Tests of the transfer manager: worked examples, refusals of rights, and many sites. They have their own crate,
+//! since a crate with tests is proved twice.
 #![tactic(auto)]
 
 #[cfg(test)]

@@ -23,6 +23,22 @@ fn greatest_moves(rt: HostRuntime) -> Result<(), Fail> {
     Ok(())
 }
 
+/// The greatest gifts of another site, in one entry, are received whole.
+#[test]
+fn greatest_gifts(rt: HostRuntime) -> Result<(), Fail> {
+    let alloc = rt.alloc();
+    let (one, two) = (SiteId::new(1)?, SiteId::new(2)?);
+    let gifts = entry(alloc, two, 0, &[give(one, MAX_AMOUNT)?; 16])?;
+    let mut book = Book::new(alloc, one, 2)?;
+    assert!(rt; apply(&mut book, two, &gifts));
+    assert_eq!(rt; book.received_from(two), 16 * MAX_AMOUNT);
+    assert_eq!(rt; book.received(), 16 * MAX_AMOUNT);
+    assert_eq!(rt; book.held(), 16 * MAX_AMOUNT);
+    assert_eq!(rt; book.known(one), 16_000_000_000);
+    assert_eq!(rt; book.known(two), -16_000_000_000);
+    Ok(())
+}
+
 /// A test of many moves counts past 64 bits.
 #[test]
 fn many_moves_do_not_wrap(rt: HostRuntime) -> Result<(), Fail> {

@@ -2,8 +2,50 @@
 use crate::tests::calls::{apply, entry, give, issue, write};
 use refusing_allocator::Refusing;
 use rights_book::Book;
-use rights_types::{OutOfMemory, SiteId};
+use rights_types::{MAX_SITES, OutOfMemory, SiteId};
+use std::alloc::Allocator;
+use std::process::Abort;
 use std::test::Fail;
+
+/// In a system of each size, each site's book is made by one request for memory, and is refused
+/// where that is.
+#[test]
+fn each_new_book(rt: HostRuntime) -> Result<(), Fail> {
+    let alloc = rt.alloc();
+    for sites in 2..MAX_SITES + 1 {
+        for index in 0..sites {
+            let me = SiteId::known(index + 1);
+            let refusing = Refusing::new(alloc, 0);
+            assert!(rt; Book::new(&refusing, me, sites).err() == Some(OutOfMemory));
+            assert!(rt; refusing.refused());
+            let once = Refusing::new(alloc, 1);
+            let book = Book::new(&once, me, sites)?;
+            assert!(rt; !once.refused());
+            assert_eq!(rt; book.me(), me);
+            assert_eq!(rt; book.sites(), sites);
+            nothing_booked(&rt, &book);
+        }
+    }
+    Ok(())
+}
+
+// All that the book tells of its own log and of each site's is 0, and no site has closed.
+fn nothing_booked<A: Allocator>(rt: &impl Abort, book: &Book<A>) {
+    assert_eq!(rt; book.number(), 0);
+    assert_eq!(rt; book.held(), 0);
+    assert_eq!(rt; book.received(), 0);
+    assert_eq!(rt; book.issued(), 0);
+    assert_eq!(rt; book.spent(), 0);
+    for index in 0..MAX_SITES {
+        let site = SiteId::known(index + 1);
+        assert_eq!(rt; book.applied(site), 0);
+        assert_eq!(rt; book.received_from(site), 0);
+        assert_eq!(rt; book.given_to(site), 0);
+        assert_eq!(rt; book.back(site), 0);
+        assert_eq!(rt; book.known(site), 0);
+        assert!(rt; !book.closed(site));
+    }
+}
 
 /// A new book asks for memory once, and nothing else does.
 #[test]

@@ -1,5 +1,5 @@
 //! Calls of managers and books, made only where they may be.
-ghost use Rattle.std.specs.Prelude.{◌≡◌, ◌≤◌};
+ghost use Rattle.std.specs.Prelude.{◌≡◌, ◌≤◌, IfOk};
 ghost use Rattle.transfer_manager.specs.Managers.{sites};
 
 use rights_book::Book;
@@ -8,26 +8,20 @@ use std::alloc::{Allocator, Global};
 use std::test::Fail;
 use transfer_manager::{AskAnswer, Manager};
 
-/// Answers an ask of one of three sites, and notes the answer.
-pub(crate) fn answer<A: Allocator>(
-    manager: &mut Manager<A>,
-    ask: &Ask,
-    available: u64,
-) -> Option<AskAnswer>
-    requires { sites manager.old ≡ 3 }
-    ensures { sites manager.new ≡ 3 }
+/// Answers an ask, and notes the answer.
+pub(crate) fn answer(manager: &mut Manager, ask: &Ask, available: u64) -> AskAnswer
+    requires { ask.now.asker ≤ sites manager.old }
+    ensures { sites manager.new ≡ sites manager.old }
 {
-    if ask.asker().number() > 3 {
-        return None;
-    }
     let answer = manager.on_ask(ask, available);
+    // The borrow checker does not cover an enum that is passed on here and answered below.
     let noted = answer;
     manager.note_answer(ask, noted);
-    Some(answer)
+    answer
 }
 
 /// A grant of the peer, with this ask number, was applied.
-pub(crate) fn granted<A: Allocator>(manager: &mut Manager<A>, peer: SiteId, ask: AskNumber)
+pub(crate) fn granted(manager: &mut Manager, peer: SiteId, ask: AskNumber)
     requires { peer ≤ sites manager.old }
     ensures { sites manager.new ≡ sites manager.old }
 {
@@ -35,7 +29,7 @@ pub(crate) fn granted<A: Allocator>(manager: &mut Manager<A>, peer: SiteId, ask:
 }
 
 /// The peer denied the ask of this number.
-pub(crate) fn denied<A: Allocator>(manager: &mut Manager<A>, peer: SiteId, ask: AskNumber)
+pub(crate) fn denied(manager: &mut Manager, peer: SiteId, ask: AskNumber)
     requires { peer ≤ sites manager.old }
     ensures { sites manager.new ≡ sites manager.old }
 {
@@ -59,7 +53,9 @@ pub(crate) fn apply<A: Allocator>(
 }
 
 /// An ask of this number, between sites of these numbers.
-pub(crate) fn ask(asker: u64, asked: u64, number: u64, amount: u64) -> Result<Ask, TypeError> {
+pub(crate) fn ask(asker: u64, asked: u64, number: u64, amount: u64) -> Result<Ask, TypeError>
+    ensures { IfOk result (λ made. made.asker ≡ asker) }
+{
     Ask::new(
         SiteId::new(asker)?,
         SiteId::new(asked)?,

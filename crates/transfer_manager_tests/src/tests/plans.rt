@@ -16,7 +16,7 @@ fn two_peers_are_asked(rt: HostRuntime) -> Result<(), Fail> {
     assert!(rt; apply(alloc, &mut book, three, &[issue(4)?])?);
     let mut queue = RequestQueue::new(alloc)?;
     assert_eq!(rt; queue.put(10, 0), Ok(1));
-    let mut manager = Manager::new(alloc, two, 3)?;
+    let mut manager = Manager::new(two, 3);
     assert_eq!(rt; manager.plan(&book, &queue), 2);
     assert_eq!(rt; manager.outstanding(one), Some(ask(2, 1, 1, 4)?));
     assert_eq!(rt; manager.outstanding(three), Some(ask(2, 3, 1, 4)?));
@@ -34,7 +34,7 @@ fn a_grant_ends_its_ask(rt: HostRuntime) -> Result<(), Fail> {
     assert!(rt; apply(alloc, &mut book, one, &[issue(10)?])?);
     let mut queue = RequestQueue::new(alloc)?;
     assert_eq!(rt; queue.put(6, 9), Ok(1));
-    let mut manager = Manager::new(alloc, two, 2)?;
+    let mut manager = Manager::new(two, 2);
     assert_eq!(rt; manager.plan(&book, &queue), 1);
     assert_eq!(rt; manager.outstanding(one), Some(ask(2, 1, 1, 6)?));
     granted(&mut manager, one, AskNumber::new(2)?);
@@ -55,7 +55,7 @@ fn a_denied_peer_is_asked_again(rt: HostRuntime) -> Result<(), Fail> {
     assert!(rt; apply(alloc, &mut book, one, &[issue(10)?])?);
     let mut queue = RequestQueue::new(alloc)?;
     assert_eq!(rt; queue.put(6, 0), Ok(1));
-    let mut manager = Manager::new(alloc, two, 2)?;
+    let mut manager = Manager::new(two, 2);
     assert_eq!(rt; manager.plan(&book, &queue), 1);
     denied(&mut manager, one, AskNumber::new(1)?);
     denied(&mut manager, one, AskNumber::new(1)?);
@@ -76,7 +76,7 @@ fn no_peer_with_rights(rt: HostRuntime) -> Result<(), Fail> {
     assert_eq!(rt; book.known(one), 0);
     let mut queue = RequestQueue::new(alloc)?;
     assert_eq!(rt; queue.put(1, 0), Ok(1));
-    let mut manager = Manager::new(alloc, three, 3)?;
+    let mut manager = Manager::new(three, 3);
     assert_eq!(rt; manager.plan(&book, &queue), 0);
     assert_eq!(rt; manager.outstanding(one), None);
     assert_eq!(rt; manager.outstanding(two), None);
@@ -96,7 +96,7 @@ fn an_ask_has_a_greatest_amount(rt: HostRuntime) -> Result<(), Fail> {
     for ticket in 1..=3u64 {
         assert_eq!(rt; queue.put(MAX_AMOUNT, 0), Ok(ticket));
     }
-    let mut manager = Manager::new(alloc, two, 3)?;
+    let mut manager = Manager::new(two, 3);
     assert_eq!(rt; manager.plan(&book, &queue), 1);
     assert_eq!(rt; manager.outstanding(three), Some(ask(2, 3, 1, MAX_AMOUNT)?));
     assert_eq!(rt; manager.outstanding(one), None);
@@ -115,7 +115,7 @@ fn a_closed_peer_is_not_asked(rt: HostRuntime) -> Result<(), Fail> {
     assert!(rt; apply(alloc, &mut book, three, &[issue(5)?])?);
     let mut queue = RequestQueue::new(alloc)?;
     assert_eq!(rt; queue.put(4, 0), Ok(1));
-    let mut manager = Manager::new(alloc, two, 3)?;
+    let mut manager = Manager::new(two, 3);
     assert_eq!(rt; manager.plan(&book, &queue), 1);
     assert_eq!(rt; manager.outstanding(one), Some(ask(2, 1, 1, 4)?));
     assert!(rt; apply(alloc, &mut book, one, &[Move::Close])?);

@@ -18,7 +18,7 @@ fn equal_peers_by_number(rt: HostRuntime) -> Result<(), Fail> {
     }
     let mut queue = RequestQueue::new(alloc)?;
     assert_eq!(rt; queue.put(12, 0), Ok(1));
-    let mut manager = Manager::new(alloc, me, MAX_SITES)?;
+    let mut manager = Manager::new(me, MAX_SITES);
     assert_eq!(rt; manager.plan(&book, &queue), 3);
     for index in 0..MAX_SITES {
         let peer = SiteId::known(index + 1);
@@ -49,7 +49,7 @@ fn unequal_peers_by_rights(rt: HostRuntime) -> Result<(), Fail> {
     }
     let mut queue = RequestQueue::new(alloc)?;
     assert_eq!(rt; queue.put(40, 0), Ok(1));
-    let mut manager = Manager::new(alloc, me, MAX_SITES)?;
+    let mut manager = Manager::new(me, MAX_SITES);
     assert_eq!(rt; manager.plan(&book, &queue), 3);
     for index in 0..MAX_SITES {
         let peer = SiteId::known(index + 1);

@@ -1,8 +1,17 @@
-use Rattle.std.proofs.Common.{◌≡◌, arith}
-use Rattle.transfer_manager.proofs.ManagerLaws.{new_is_manager}
+use Rattle.std.proofs.Common.{List, sym, ap, subst}
+use Rattle.transfer_manager.specs.declared.peer_asks.PeerAsks.{PeerAsks}
+use Rattle.transfer_manager.specs.Managers.{ManagerValue, IsManager}
+use Rattle.transfer_manager.proofs.ManagerLaws.{of_sixteen, new_is_manager}
 use Rattle.transfer_manager.proofs.manager.Manager.new.Goals as goal
 
 pub invariant_of-result : goal.invariant_of-result
-invariant_of-result g c =
-    let all : c.loop-site._site ≡ c.args.sites = omega arith in
-    rw (c.loop-site.invariant, all) (new_is_manager c.args.me c.args.sites c.requires.sites.0 c.requires.sites.1 c.number.ensures.range.0 c.requires.me)
+invariant_of-result c =
+    let few = c.requires.sites.1 in
+    let made : List PeerAsks → ManagerValue = λ ps. record { me = c.args.me; peers = ps } in
+    let is = new_is_manager c.args.me c.args.sites c.requires.sites.0 few c.number.ensures.range.0 c.requires.me in
+    (subst (λ ps. IsManager (made ps)) (sym (of_sixteen c.args.sites c.new.result few c.new.ensures)) is, few)
+
+pub returns : goal.returns
+returns c =
+    let made : List PeerAsks → ManagerValue = λ ps. record { me = c.args.me; peers = ps } in
+    ap made (of_sixteen c.args.sites c.new.result c.requires.sites.1 c.new.ensures)

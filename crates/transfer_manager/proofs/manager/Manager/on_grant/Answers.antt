@@ -1,5 +1,6 @@
-use Rattle.std.proofs.Common.{◌≤◌, sym, subst, arith}
+use Rattle.std.proofs.Common.{◌≤◌, List, take, sym, subst, arith}
 use Rattle.rights_types.specs.Messages.{AskValue}
+use Rattle.transfer_manager.specs.declared.peer_asks.PeerAsks.{PeerAsks}
 use Rattle.transfer_manager.specs.Managers.{ManagerValue, sites, IsManager}
 use Rattle.transfer_manager.specs.Answers.{IsSettled}
 use Rattle.transfer_manager.proofs.ManagerLaws.{ended_set, ended_is}
@@ -7,16 +8,32 @@ use Rattle.transfer_manager.proofs.AnswerLaws.{ended_settled}
 use Rattle.transfer_manager.proofs.manager.Manager.on_grant.Goals as goal
 
 pub invariant_of-self : goal.invariant_of-self
-invariant_of-self g c =
-    let x : ManagerValue = record { me = c.self.inside.me; peers = c.self.inside.peers.items } in
+invariant_of-self c =
+    let me = c.self.inside.me in
+    let n = c.self.inside.sites in
+    let ps : List PeerAsks = c.self.inside.peers in
+    let x : ManagerValue = record { me = me; peers = take n ps } in
     let high : c.args.peer ≤ sites x = rw (← c.self.view_is) at c.requires in
-    let same = ended_set x c.index.result c.args.peer c.args.ask c.index_mut-granter.result.now _ c.index.ensures.value high c.index_mut-granter.ensures.value c.end.ensures in
-    subst IsManager (sym same) (ended_is x c.args.peer c.args.ask c.self.invariant (omega (arith, c.index.ensures.value)) high)
+    let same = ended_set me n c.index.result c.args.peer c.args.ask ps c.index-self-index.result _ c.index.ensures.value high c.end.ensures in
+    (subst IsManager (sym same) (ended_is x c.args.peer c.args.ask c.self.invariant.0 (omega (arith, c.index.ensures.value)) high), c.self.invariant.1)
+
+pub returns-clause-ended : goal.returns-clause-ended
+returns-clause-ended c =
+    let me = c.self.inside.me in
+    let n = c.self.inside.sites in
+    let ps : List PeerAsks = c.self.inside.peers in
+    let x : ManagerValue = record { me = me; peers = take n ps } in
+    let high : c.args.peer ≤ sites x = rw (← c.self.view_is) at c.requires in
+    let same = ended_set me n c.index.result c.args.peer c.args.ask ps c.index-self-index.result _ c.index.ensures.value high c.end.ensures in
+    rw (← c.self.view_is) same
 
 pub returns-clause-settled : goal.returns-clause-settled
-returns-clause-settled g c =
-    let x : ManagerValue = record { me = c.self.inside.me; peers = c.self.inside.peers.items } in
+returns-clause-settled c =
+    let me = c.self.inside.me in
+    let n = c.self.inside.sites in
+    let ps : List PeerAsks = c.self.inside.peers in
+    let x : ManagerValue = record { me = me; peers = take n ps } in
     let high : c.args.peer ≤ sites x = rw (← c.self.view_is) at c.requires in
-    let same = ended_set x c.index.result c.args.peer c.args.ask c.index_mut-granter.result.now _ c.index.ensures.value high c.index_mut-granter.ensures.value c.end.ensures in
+    let same = ended_set me n c.index.result c.args.peer c.args.ask ps c.index-self-index.result _ c.index.ensures.value high c.end.ensures in
     rw (← c.self.view_is) (subst (λ (m : ManagerValue). (past : AskValue) → IsSettled x past → IsSettled m past) (sym same)
     (ended_settled x c.args.peer c.args.ask (omega (arith, c.index.ensures.value)) high))
