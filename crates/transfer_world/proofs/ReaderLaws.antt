@@ -19,6 +19,7 @@ use Rattle.transfer_world.specs.Sound.{applied_of, SiteSound, Sound, IsWorld}
 use Rattle.transfer_world.specs.Headline.{Headline}
 use Rattle.transfer_world.proofs.Keeps.{none_received}
 use Rattle.transfer_world.proofs.Whole.{held_is, applied_begins, headline_of}
+use Rattle.transfer_world.proofs.MoveLaws.{none_to_itself}
 use Rattle.transfer_world.proofs.WorldLaws.{read_site, site_ready}
 
 -- ---- sites
@@ -79,6 +80,11 @@ way_small w o s i sound = omega (arith, gift_split s (log w o) i, log_small w o 
 pub way_value : (w : WorldValue) (o s : ℕ) → Sound w → on_way w o s ≡ to s (moves_of (drop (length (applied w s o)) (log w o)))
 unfolding way
 way_value w o s sound = omega (arith, back-bound s (moves_of (log w o)), (sound.sites o).none_back)
+
+-- no rights are on the way from a site to itself
+pub way_itself : (w : WorldValue) (o : ℕ) → Sound w → on_way w o o ≡ 0
+way_itself w o sound =
+    omega (arith, way_value w o o sound, gift_split o (log w o) (length (applied w o o)), none_to_itself o false 0 (log w o) (sound.sites o).chain)
 
 pub way_none : (w : WorldValue) (o s : ℕ) → Sound w → site w o ≡ no_site → on_way w o s ≡ 0
 way_none w o s sound none =

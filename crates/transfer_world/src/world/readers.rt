@@ -184,6 +184,10 @@ impl<A: Allocator> World<A> {
         ensures { result ≡ on_way self.now origin number }
     {
         let _ = &self.sites;
+        // Nothing is on the way from a site to itself.
+        if origin == number {
+            return 0;
+        }
         let applied = self.applied(number, origin).len();
         match self.place(origin) {
             Some(place) => gift_in(&place.log()[applied..], number),

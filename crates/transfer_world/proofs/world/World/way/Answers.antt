@@ -1,13 +1,21 @@
-use Rattle.std.proofs.Common.{◌≡◌, List, length, drop, sym, ap, ◌∙◌, subst}
+use Rattle.std.proofs.Common.{◌≡◌, ℕ, List, length, drop, sym, ap, ◌∙◌, subst}
+use Rattle.std.proofs.lemmas.Bool.{eqb-true}
 use Rattle.std.proofs.lemmas.List.{take_rest}
 use Rattle.rights_types.specs.Entries.{EntryValue}
 use Rattle.rights_types.specs.Chains.{moves_of}
 use Rattle.rights_types.specs.Rights.{to}
 use Rattle.transfer_world.specs.Values.{SiteValue}
-use Rattle.transfer_world.specs.Worlds.{log}
+use Rattle.transfer_world.specs.Worlds.{log, on_way}
 use Rattle.transfer_world.specs.Sound.{Sound}
-use Rattle.transfer_world.proofs.ReaderLaws.{way_small, way_value, way_none}
+use Rattle.transfer_world.proofs.ReaderLaws.{way_small, way_value, way_itself, way_none}
 use Rattle.transfer_world.proofs.world.World.way.Goals as goal
+
+pub returns-then-eq : goal.returns-then-eq
+returns-then-eq g c =
+    let w = c.args.self.now in
+    let sound : Sound w = subst Sound c.self.view_is c.self.invariant.sound in
+    let same : c.args.origin ≡ c.args.number = eqb-true c.args.origin c.args.number (sym c.eq.ensures ∙ c.if-eq.true) in
+    sym (subst (λ (s : ℕ). on_way w c.args.origin s ≡ 0) same (way_itself w c.args.origin sound))
 
 pub gift_in-requires : goal.gift_in-requires
 gift_in-requires g c =
