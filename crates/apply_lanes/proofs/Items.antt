@@ -5,7 +5,7 @@ use Rattle.rights_types.specs.Chains.{IsChain}
 use Rattle.rights_types.proofs.Chains.{chain_left, chain_right, chain_push, closed-push, end-push}
 use Rattle.apply_lanes.specs.declared.item.Item.{Item}
 use Rattle.apply_lanes.specs.declared.item.Item.TheVariants.{Entry, End}
-use Rattle.apply_lanes.specs.Items.{items_of, IsOpen, end_if, IsItemChain, Continues, IsEnded, Follows, Begins, Leaves}
+use Rattle.apply_lanes.specs.Items.{items_of, IsOpen, end_if, IsItemChain, Continues, MayCome, IsEnded, Follows, Begins, Leaves}
 
 -- a chain goes on with what follows its last entry
 follows_on : (o : ℕ) (es : List EntryValue) (e f : EntryValue) → IsChain o (es ++ e ∷ []) → Follows e f → IsChain o ((es ++ e ∷ []) ++ f ∷ [])
@@ -90,6 +90,21 @@ module _ {A : Type 0} where
   -- the first entry of a log may come first
   pub begins_chain : (e : EntryValue) → Begins e → Continues {A = A} [] e
   begins_chain e first = (e.origin, [], refl, (refl, refl, first.prev, first.valid, tt))
+
+  same_entries : (fs es : List EntryValue) (b : Bool) → items_of {A = A} fs ≡ items_of es ++ end_if b → fs ≡ es
+  same_entries [] [] b is = refl
+  same_entries [] (e ∷ es) b is = absurd cc
+  same_entries (f ∷ fs) [] true is = absurd cc
+  same_entries (f ∷ fs) [] false is = absurd cc
+  same_entries (f ∷ fs) (e ∷ es) b is = let rest = same_entries fs es b cc in cc
+
+  -- the last item of a chain could come next to those before it
+  pub may_come : (items later : List (Item A)) (x : Item A) → later ≡ items ++ x ∷ [] → IsItemChain later → IsOpen items → MayCome x items
+  unfolding MayCome
+  may_come items later (Entry e) is chain free =
+      let entries = items_of-push free.0 e ∙ ap (λ l. l ++ Entry e ∷ []) (sym free.1) ∙ sym is ∙ chain.4 in
+      (chain.0, free.0, free.1, subst (IsChain chain.0) (sym (same_entries (free.0 ++ e ∷ []) chain.1 chain.2 entries)) chain.3)
+  may_come items later End is chain free = free
 
   -- what is known of items of which this is the last
   pub leaves : (items : List (Item A)) (x : Item A) → IsOpen items → Leaves x (items ++ x ∷ [])

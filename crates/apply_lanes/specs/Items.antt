@@ -30,6 +30,11 @@ module _ {A : Type 0} where
   abbrev pub Continues : List (Item A) → EntryValue → Type 0
   Continues items e = (o : ℕ) × (es : List EntryValue) × AreEntries es items × IsChain o (es ++ e ∷ [])
 
+  -- the item may come next to these, of which none is End: an entry continues their chain
+  unfoldable pub MayCome : Item A → List (Item A) → Type 0
+  MayCome (Entry e) items = Continues items e
+  MayCome End items = IsOpen items
+
   -- some items, followed by others, are all
   abbrev pub StartsWith : List (Item A) → List (Item A) → Type 0
   StartsWith all some = (rest : List (Item A)) × (all ≡ some ++ rest)

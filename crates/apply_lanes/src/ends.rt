@@ -1,7 +1,7 @@
 //! The two ends of a lane.
 ghost use Rattle.std.specs.Prelude.{◌≡◌, ◌≤◌, [], ◌∷◌, ◌++◌, true, false, Some, None, IfOk, OnOk, OnErr, IsErr, IsNone, IfSome, IfNone, MatchResult, IfErr};
 ghost use Rattle.rights_types.specs.Entries.{EntryValue};
-ghost use Rattle.apply_lanes.specs.Items.{Begins, Continues, Follows, IsOpen, IsItemChain, IsEnded, Leaves};
+ghost use Rattle.apply_lanes.specs.Items.{Begins, Continues, Follows, MayCome, IsOpen, IsItemChain, IsEnded, Leaves};
 ghost use Rattle.apply_lanes.specs.declared.item.Item.{Item};
 
 use crate::item::Item;
@@ -149,12 +149,15 @@ impl<A: Allocator> Inlet<A> {
 }
 
 impl<A: Allocator> Outlet<A> {
-    /// Takes the next item, and waits while there is none.
+    /// Takes the next item, and waits while there is none. That an entry continues those taken before
+    /// is known by the rule, with no test.
+    #[tactic(auto, using(crate::proofs::Items::may_come))]
     pub fn take<R: Wait>(&mut self, rt: &R) -> Result<Item<A>, LaneClosed<A>>
         requires { IsOpen self.old.taken }
         ensures lane { self.new.lane ≡ self.old.lane }
         ensures ok { IfOk result (λ x. (self.new.taken ≡ self.old.taken ++ x ∷ []) × (self.new.dead ≡ false)) }
         ensures chain { OnOk result (IsItemChain self.new.taken) }
+        ensures continues { IfOk result (λ x. MayCome x self.old.taken) }
         ensures next { IfOk result (λ x. Leaves x self.new.taken) }
         ensures err { IfErr result (λ e. (e.entry ≡ None) × (self.new.taken ≡ self.old.taken) × (self.new.dead ≡ true)) }
         ensures dead { self.old.dead ≡ true → IsErr result }
