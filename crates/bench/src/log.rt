@@ -27,8 +27,8 @@ fn append_time<R: Clock + AllocGlobal>(rt: &R, entries: u64, rounds: u64) -> io:
     Ok(start.elapsed(rt)?.as_nanos())
 }
 
-fn line_time<R: Clock>(rt: &R, log: &OriginLog) -> io::Result<u128> {
-    let len = (log.len() as u64).max(1);
+fn line_time<R: Clock>(rt: &R, log: &OriginLog, numbers: u64) -> io::Result<u128> {
+    let len = (numbers / MOVES).max(1);
     let start = Instant::now(rt)?;
     let mut number = 1;
     let mut bytes = 0u64;
@@ -45,8 +45,8 @@ fn line_time<R: Clock>(rt: &R, log: &OriginLog) -> io::Result<u128> {
     Ok(took)
 }
 
-fn answer_time<R: Clock>(rt: &R, log: &OriginLog) -> io::Result<u128> {
-    let end = log.end().max(1);
+fn answer_time<R: Clock>(rt: &R, log: &OriginLog, numbers: u64) -> io::Result<u128> {
+    let end = numbers.max(1);
     let start = Instant::now(rt)?;
     let mut number = 1;
     for _ in 0..CALLS {
@@ -61,8 +61,8 @@ fn answer_time<R: Clock>(rt: &R, log: &OriginLog) -> io::Result<u128> {
     Ok(start.elapsed(rt)?.as_nanos())
 }
 
-fn read_time<R: Clock>(rt: &R, log: &OriginLog) -> io::Result<u128> {
-    let end = log.end().max(1);
+fn read_time<R: Clock>(rt: &R, log: &OriginLog, numbers: u64) -> io::Result<u128> {
+    let end = numbers.max(1);
     let start = Instant::now(rt)?;
     let mut number = 1;
     for _ in 0..CALLS {
@@ -92,8 +92,8 @@ fn total_bytes(log: &OriginLog) -> u64 {
     bytes
 }
 
-// Prints the rates at a log of so many moves.
-fn measure<R: Clock + Print + AllocGlobal>(rt: &R, moves: u64) -> io::Result<()> {
+// Prints the rates at a log of so many moves, of which the first so many numbers are read.
+fn measure<R: Clock + Print + AllocGlobal>(rt: &R, moves: u64, numbers: u64) -> io::Result<()> {
     let entries = moves / MOVES;
     let rounds = (CALLS / entries.max(1)).max(1);
     let log = filled(rt.alloc(), entries)?;
@@ -101,22 +101,25 @@ fn measure<R: Clock + Print + AllocGlobal>(rt: &R, moves: u64) -> io::Result<()>
     let (mut append, mut line, mut answer, mut read) = (u128::MAX, u128::MAX, u128::MAX, u128::MAX);
     for _ in 0..RUNS {
         append = append.min(append_time(rt, entries, rounds)?);
-        line = line.min(line_time(rt, &log)?);
-        answer = answer.min(answer_time(rt, &log)?);
-        read = read.min(read_time(rt, &log)?);
+        line = line.min(line_time(rt, &log, numbers)?);
+        answer = answer.min(answer_time(rt, &log, numbers)?);
+        read = read.min(read_time(rt, &log, numbers)?);
     }
     let append = per_second(entries.saturating_mul(rounds), append);
     let line = per_second(CALLS, line);
     let answer = per_second(CALLS, answer);
     let read = per_second(CALLS, read);
     println!(rt;
-        "log {moves} moves: {append} appends/s, {line} lines/s, {answer} answer lines/s, {read} answers/s, {bytes} bytes a line"
+        "log {moves} moves, {numbers} read: {append} appends/s, {line} lines/s, {answer} answer lines/s, {read} answers/s, {bytes} bytes a line"
     )
 }
 
-/// Prints the rates of a short, a middling and a long log.
+/// Prints the rates of a short, a middling and a long log. The long one is read over a short front
+/// too, which caches hold, so that what its length alone costs is seen.
 pub(crate) fn measure_all<R: Clock + Print + AllocGlobal>(rt: &R) -> io::Result<()> {
-    measure(rt, 1_000)?;
-    measure(rt, 100_000)?;
-    measure(rt, 10_000_000)
+    measure(rt, 1_000, 1_000)?;
+    measure(rt, 100_000, 100_000)?;
+    measure(rt, 10_000_000, 1_000)?;
+    measure(rt, 10_000_000, 100_000)?;
+    measure(rt, 10_000_000, 10_000_000)
 }
