@@ -9,14 +9,14 @@ use Rattle.rights_types.specs.Rights.{out, to, taken_back, back, sum_sites}
 use Rattle.rights_types.specs.declared.moves.Move.{Move}
 use Rattle.rights_types.proofs.Places.{at_site_past, at_site-replicate, at_site-index, set_site-index, length-set_site}
 use Rattle.rights_types.proofs.SiteSums.{sum_same, sum_add, sum_zero, sum_bound, sum_risen}
-use Rattle.rights_types.proofs.Sums.{to-bound, out_is, taken_back_is, rights_after_is}
+use Rattle.rights_types.proofs.Sums.{to-bound, nothing_to, out_is, taken_back_is, rights_after_is}
 use Rattle.rights_book.specs.Accounts.{no_account, with_moves, IsAccount}
 use Rattle.rights_book.specs.Peers.{no_peer, with_own, with_gifts}
 use Rattle.rights_book.specs.Books.{BookValue, sites, peer, account, received_by, held_by, new_book, Writes, Applies, applied_by, IsBook}
 use Rattle.rights_book.specs.declared.account.Account.{Account}
 use Rattle.rights_book.specs.declared.peer.Peer.{Peer}
 use Rattle.rights_book.proofs.PeerLaws.{applied_peer, no_gift_here, applied_at}
-use Rattle.rights_book.proofs.CheckLaws.{IsChecked, named_within, nothing_to}
+use Rattle.rights_book.proofs.CheckLaws.{IsChecked, named_within}
 
 -- ---- sums over sites
 

@@ -1,16 +1,15 @@
 -- What is known of moves that a book does not refuse.
-use Rattle.std.proofs.Common.{◌≡◌, ℕ, Bool, true, false, cond, not, List, [], ◌∷◌, Option, Some, None, refl, arith}
+use Rattle.std.proofs.Common.{◌≡◌, ℕ, Bool, true, false, cond, not, List, [], ◌∷◌, Option, Some, None, refl}
 use Rattle.std.specs.Prelude.{◌||◌}
 use Rattle.std.specs.List.{All, list_any}
 use Rattle.std.proofs.lemmas.Bool.{ltb-false}
 use Rattle.std.proofs.lemmas.List.Elements.{All-nil, All-cons, All-head, All-tail}
-use Rattle.rights_types.specs.Moves.{IsMove, NamesWithin, names, gift_to}
-use Rattle.rights_types.specs.Rights.{covers, to}
+use Rattle.rights_types.specs.Moves.{IsMove, NamesWithin, names}
+use Rattle.rights_types.specs.Rights.{covers}
 use Rattle.rights_types.specs.declared.moves.Move.{Move}
 use Rattle.rights_types.specs.declared.moves.Move.TheVariants.{Issue, Spend, Grant, Give, Close, CloseAt, TakeBack}
 use Rattle.rights_book.specs.Books.{BookValue, sites, held_by}
 use Rattle.rights_book.specs.Checks.{names_above, gives_to_closed, check_fault}
-use Rattle.rights_book.proofs.MoveLaws.{to-cons, to-nil}
 
 -- no cause was found: neither this one nor one of the others
 no_cause : {E : Type 0} (b : Bool) (x : E) (others : Option E) → cond b (Some x) others ≡ None → (b ≡ false) × (others ≡ None)
@@ -55,19 +54,3 @@ named_within n [] is h = All-nil (NamesWithin n)
 named_within n (m ∷ ms) is h =
     let p = neither (names_above n m) (list_any (names_above n) ms) h in
     All-cons (NamesWithin n) m ms (one_named n m (All-head IsMove m ms is) p.0) (named_within n ms (All-tail IsMove m ms is) p.1)
-
-no_one : (s : ℕ) (m : Move) → names s m ≡ false → gift_to s m ≡ 0
-no_one s (Issue a) h = refl
-no_one s (Spend a) h = refl
-no_one s (Grant j a k) h = rw h refl
-no_one s (Give j a) h = rw h refl
-no_one s Close h = refl
-no_one s (CloseAt f) h = refl
-no_one s (TakeBack j a) h = refl
-
--- moves that do not name a site give nothing to it
-pub nothing_to : (s : ℕ) (ms : List Move) → list_any (names s) ms ≡ false → to s ms ≡ 0
-nothing_to s [] h = to-nil s
-nothing_to s (m ∷ ms) h =
-    let p = neither (names s m) (list_any (names s) ms) h in
-    omega (arith, to-cons s m ms, no_one s m p.0, nothing_to s ms p.1)

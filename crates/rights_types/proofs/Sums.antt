@@ -1,11 +1,11 @@
 -- Laws of the sums over moves.
 use Rattle.std.proofs.Common.{◌≡◌, ℕ, ◌+◌, ◌-◌, ◌*◌, ◌<◌, ◌≤◌, Bool, true, false, List, [], ◌∷◌, ◌++◌, length, get_or, take, drop, arith, refl, sym, ap, ◌∙◌, eqb, ltb, cond, not}
-use Rattle.std.specs.List.{sum_by, All}
-use Rattle.std.proofs.lemmas.Bool.{and_parts, ltb-false, le-ltb, not-true}
+use Rattle.std.specs.List.{sum_by, All, list_any}
+use Rattle.std.proofs.lemmas.Bool.{and_parts, or_parts, ltb-false, le-ltb, not-true}
 use Rattle.std.proofs.lemmas.List.{append_assoc, append-nil, take-append-drop}
 use Rattle.std.proofs.lemmas.List.Sums.{sum_by-append, sum_by-cons, sum_by-le, sum_by-le-sum_by, sum_by_more}
 use Rattle.std.proofs.lemmas.List.Elements.{All-weaker, All-head, All-tail, All-take}
-use Rattle.rights_types.specs.Moves.{IsMove, NamesWithin, issue_of, spend_of, gift_of, gift_to, take_back_of, take_back_from, gain_of, cost_of}
+use Rattle.rights_types.specs.Moves.{IsMove, NamesWithin, names, issue_of, spend_of, gift_of, gift_to, take_back_of, take_back_from, gain_of, cost_of}
 use Rattle.rights_types.specs.Entries.{EntryValue}
 use Rattle.rights_types.specs.Chains.{moves_of, end, IsChain}
 use Rattle.rights_types.specs.Rights.{issued, spent, out, to, taken_back, back, sum_sites, covers, rights_after, IsNeverShort}
@@ -54,6 +54,26 @@ back-append s xs ys = sum_by-append (take_back_from s) xs ys
 pub to-nil : (s : ℕ) → to s [] ≡ 0
 unfolding to
 to-nil s = refl
+
+no_gift : (s : ℕ) (m : Move) → names s m ≡ false → gift_to s m ≡ 0
+no_gift s (Issue a) h = refl
+no_gift s (Spend a) h = refl
+no_gift s (Grant j a k) h = rw h refl
+no_gift s (Give j a) h = rw h refl
+no_gift s Close h = refl
+no_gift s (CloseAt f) h = refl
+no_gift s (TakeBack j a) h = refl
+
+to_one_more : (s : ℕ) (m : Move) (ms : List Move) → to s (m ∷ ms) ≡ gift_to s m + to s ms
+unfolding to
+to_one_more s m ms = sum_by-cons (gift_to s) m ms
+
+-- moves that do not name a site give nothing to it
+pub nothing_to : (s : ℕ) (ms : List Move) → list_any (names s) ms ≡ false → to s ms ≡ 0
+nothing_to s [] h = to-nil s
+nothing_to s (m ∷ ms) h =
+    let p = or_parts (names s m) (list_any (names s) ms) h in
+    omega (arith, to_one_more s m ms, no_gift s m p.0, nothing_to s ms p.1)
 
 -- one more of some moves
 pub to-more : (s : ℕ) (ms : List Move) (i : ℕ) (d : Move) → i < length ms → to s (take (i + 1) ms) ≡ to s (take i ms) + gift_to s (get_or ms i d)
