@@ -1,4 +1,4 @@
--- A frontier's numbers give its places back.
+-- A frontier's numbers give its places back. It stands here since the type itself cites it.
 use Rattle.std.specs.Prelude.{◌≡◌, ℕ, ◌-◌, List, ◌++◌, length, take, replicate}
 use Rattle.std.proofs.Common.{arith, ap, ◌∙◌, sym, take-append-drop}
 use Rattle.std.proofs.lemmas.List.{length-take-le}

@@ -2,6 +2,7 @@
 use Rattle.std.specs.Prelude.{◌≡◌, ℕ, ◌-◌, ◌<◌, ◌≤◌, ◌⊎◌, List, ◌++◌, length, drop, replicate, Result, Ok, Err}
 use Rattle.std.specs.List.{Any}
 use Rattle.rights_types.specs.Ranges.{IsFrontier}
+use Rattle.rights_types.specs.declared.limits.TheConstants.{MIN_SITES, MAX_SITES, MAX_NUMBER}
 use Rattle.rights_types.specs.declared.fault.TypeError.{TypeError}
 use Rattle.rights_types.specs.declared.fault.TypeError.TheVariants.{BadNumber, BadCount}
 
@@ -17,6 +18,6 @@ padded numbers = numbers ++ replicate (16 - length numbers) 0
 -- what making a frontier of these numbers answers: the count is tested before the numbers
 abbrev pub FrontierMade : List ℕ → Result (List ℕ) TypeError → Type 0
 FrontierMade numbers (Ok made) = IsFrontier numbers × (made ≡ numbers)
-FrontierMade numbers (Err BadCount) = (length numbers < 2) ⊎ (16 < length numbers)
-FrontierMade numbers (Err BadNumber) = (2 ≤ length numbers) × (length numbers ≤ 16) × Any (λ n. 1000000000 < n) numbers
+FrontierMade numbers (Err BadCount) = (length numbers < MIN_SITES) ⊎ (MAX_SITES < length numbers)
+FrontierMade numbers (Err BadNumber) = (MIN_SITES ≤ length numbers) × (length numbers ≤ MAX_SITES) × Any (λ n. MAX_NUMBER < n) numbers
 FrontierMade numbers (Err _) = ⊥

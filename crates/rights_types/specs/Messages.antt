@@ -3,6 +3,7 @@ use Rattle.std.specs.Prelude.{◌≡◌, ◌≢◌, ℕ, ◌<◌, ◌≤◌, Lis
 use Rattle.std.specs.List.{All, list_any}
 use Rattle.rights_types.specs.Ranges.{IsSite, IsAmount, IsAskNumber, IsNumber}
 use Rattle.rights_types.specs.Entries.{EntryValue, IsEntry}
+use Rattle.rights_types.specs.declared.limits.TheConstants.{MAX_NUMBER, MAX_ANSWER}
 use Rattle.rights_types.specs.declared.fault.TypeError.{TypeError}
 use Rattle.rights_types.specs.declared.fault.TypeError.TheVariants.{BadSite, BadNumber, BadCount, SameSite}
 
@@ -57,7 +58,7 @@ pub record IsAnswer (a : AnswerValue) : Type 0 where
   pub origin : IsSite a.origin
   pub asker : IsSite a.asker
   pub differ : a.asker ≢ a.origin
-  pub few : length a.entries ≤ 16
+  pub few : length a.entries ≤ MAX_ANSWER
   pub entries : All IsEntry a.entries
   pub of_origin : All (λ (e : EntryValue). e.origin ≡ a.origin) a.entries
 
@@ -91,20 +92,20 @@ IsMessage (AHello s) = IsSite s
 -- what making a query answers
 abbrev pub QueryMade : QueryValue → Result QueryValue TypeError → Type 0
 QueryMade q (Ok made) = IsQuery q × (made ≡ q)
-QueryMade q (Err fault) = (if nat_lt 1000000000 q.first || nat_lt 1000000000 q.last then Some BadNumber
+QueryMade q (Err fault) = (if nat_lt MAX_NUMBER q.first || nat_lt MAX_NUMBER q.last then Some BadNumber
     else (if q.origin == q.asker then Some SameSite else None)) ≡ Some fault
 
 -- what making an answer answers
 abbrev pub AnswerMade : AnswerValue → Result AnswerValue TypeError → Type 0
 AnswerMade a (Ok made) = IsAnswer a × (made ≡ a)
 AnswerMade a (Err fault) = (if list_any (λ (e : EntryValue). not (e.origin == a.origin)) a.entries then Some BadSite
-    else (if nat_lt 16 (length a.entries) then Some BadCount
+    else (if nat_lt MAX_ANSWER (length a.entries) then Some BadCount
     else (if a.asker == a.origin then Some SameSite else None))) ≡ Some fault
 
 -- what making a beat answers
 abbrev pub BeatMade : BeatValue → Result BeatValue TypeError → Type 0
 BeatMade b (Ok made) = IsBeat b × (made ≡ b)
-BeatMade b (Err fault) = (1000000000 < b.number) × (fault ≡ BadNumber)
+BeatMade b (Err fault) = (MAX_NUMBER < b.number) × (fault ≡ BadNumber)
 
 -- what making an ask or a denial of values in their ranges answers
 abbrev pub AskMade : AskValue → Result AskValue TypeError → Type 0

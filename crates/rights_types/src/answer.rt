@@ -1,5 +1,5 @@
 //! What a site answers to a query.
-ghost use Rattle.std.specs.Prelude.{◌≡◌, ◌==◌, not};
+ghost use Rattle.std.specs.Prelude.{◌≡◌, ◌≤◌, ◌==◌, not, length};
 ghost use Rattle.std.specs.List.{list_any, All};
 ghost use Rattle.rights_types.specs.Entries.{EntryValue, IsEntry};
 ghost use Rattle.rights_types.specs.Messages.{AnswerMade, IsAnswer};
@@ -39,6 +39,7 @@ impl<A: Allocator> Answer<A> {
     ) -> Result<Answer<A>, TypeError>
         ensures { AnswerMade (record { origin = origin; asker = asker; entries = entries.items }) result }
     {
+        // For the proof: the ranges of both sites.
         let _ = (origin.number(), asker.number());
         if any_foreign(&entries, origin) {
             return Err(TypeError::BadSite);
@@ -50,11 +51,19 @@ impl<A: Allocator> Answer<A> {
             return Err(TypeError::SameSite);
         }
         all_valid(&entries);
-        Ok(Answer {
+        Ok(Answer::known(origin, asker, entries))
+    }
+
+    /// The answer of values that are known to keep the limits.
+    pub fn known(origin: SiteId, asker: SiteId, entries: Vec<Entry<A>, A>) -> Answer<A>
+        requires { IsAnswer (record { origin = origin; asker = asker; entries = entries.items }) }
+        ensures { result ≡ record { origin = origin; asker = asker; entries = entries.items } }
+    {
+        Answer {
             origin,
             asker,
             entries,
-        })
+        }
     }
 
     /// The site whose entries these are.
@@ -83,7 +92,9 @@ impl<A: Allocator> Answer<A> {
 
     /// The entries, to be kept.
     pub fn into_entries(self) -> Vec<Entry<A>, A>
-        ensures { result.items ≡ self.entries }
+        ensures value { result.items ≡ self.entries }
+        ensures valid { IsAnswer self }
+        ensures few { length result.items ≤ MAX_ANSWER }
     {
         self.entries
     }
@@ -95,7 +106,7 @@ fn any_foreign<A: Allocator>(entries: &[Entry<A>], origin: SiteId) -> bool
     entries.iter().any(|entry| entry.origin() != origin)
 }
 
-// The type of an entry keeps its limits; this tells it of all of them.
+// For the proof: each entry keeps its limits, as its type does.
 fn all_valid<A: Allocator>(entries: &[Entry<A>])
     ensures { All IsEntry entries.now }
 {

@@ -38,16 +38,27 @@ impl Ask {
     ) -> Result<Ask, TypeError>
         ensures { AskMade (record { asker = asker; asked = asked; ask = ask; amount = amount }) result }
     {
+        // For the proof: the ranges of all four.
         let _ = (asker.number(), asked.number(), ask.value(), amount.value());
         if asked == asker {
             return Err(TypeError::SameSite);
         }
-        Ok(Ask {
+        Ok(Ask::known(asker, asked, ask, amount))
+    }
+
+    /// The ask of two sites that are known to differ.
+    pub fn known(asker: SiteId, asked: SiteId, ask: AskNumber, amount: Amount) -> Ask
+        requires { asked ≢ asker }
+        ensures { result ≡ record { asker = asker; asked = asked; ask = ask; amount = amount } }
+    {
+        // For the proof: the ranges of all four.
+        let _ = (asker.number(), asked.number(), ask.value(), amount.value());
+        Ask {
             asker,
             asked,
             ask,
             amount,
-        })
+        }
     }
 
     /// The site that lacks rights.

@@ -1,5 +1,6 @@
 //! Telling how far a log goes.
 ghost use Rattle.std.specs.Prelude.{◌≡◌, ◌≢◌};
+ghost use Rattle.rights_types.specs.Ranges.{IsNumber};
 ghost use Rattle.rights_types.specs.Messages.{BeatMade, IsBeat};
 
 use crate::fault::TypeError;
@@ -31,14 +32,25 @@ impl Beat {
     pub fn new(origin: SiteId, number: u64) -> Result<Beat, TypeError>
         ensures { BeatMade (record { origin = origin; number = number }) result }
     {
+        // For the proof: the range of the site.
         let _ = origin.number();
         if number > MAX_NUMBER {
             return Err(TypeError::BadNumber);
         }
-        Ok(Beat {
+        Ok(Beat::known(origin, number))
+    }
+
+    /// The beat of a number that is known to be a log's.
+    pub fn known(origin: SiteId, number: u64) -> Beat
+        requires { IsNumber number }
+        ensures { result ≡ record { origin = origin; number = number } }
+    {
+        // For the proof: the range of the site.
+        let _ = origin.number();
+        Beat {
             origin,
             number: number as u32,
-        })
+        }
     }
 
     /// The site whose log it is.

@@ -32,11 +32,22 @@ impl Deny {
     pub fn new(denier: SiteId, asker: SiteId, ask: AskNumber) -> Result<Deny, TypeError>
         ensures { DenialMade (record { denier = denier; asker = asker; ask = ask }) result }
     {
+        // For the proof: the ranges of all three.
         let _ = (denier.number(), asker.number(), ask.value());
         if asker == denier {
             return Err(TypeError::SameSite);
         }
-        Ok(Deny { denier, asker, ask })
+        Ok(Deny::known(denier, asker, ask))
+    }
+
+    /// The denial of two sites that are known to differ.
+    pub fn known(denier: SiteId, asker: SiteId, ask: AskNumber) -> Deny
+        requires { asker ≢ denier }
+        ensures { result ≡ record { denier = denier; asker = asker; ask = ask } }
+    {
+        // For the proof: the ranges of all three.
+        let _ = (denier.number(), asker.number(), ask.value());
+        Deny { denier, asker, ask }
     }
 
     /// The site that was asked.

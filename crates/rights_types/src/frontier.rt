@@ -4,7 +4,7 @@ ghost use Rattle.rights_types.specs.Ranges.{IsFrontier};
 ghost use Rattle.rights_types.specs.Frontiers.{FrontierMade};
 
 use crate::fault::TypeError;
-use crate::limits::MAX_NUMBER;
+use crate::limits::{MAX_NUMBER, MAX_SITES, MIN_SITES};
 use crate::site::SiteId;
 use std::marker::Model;
 
@@ -38,7 +38,8 @@ impl Frontier {
     pub fn new(numbers: &[u64]) -> Result<Frontier, TypeError>
         ensures { FrontierMade numbers.now result }
     {
-        if numbers.len() < 2 || numbers.len() > 16 {
+        let count = numbers.len() as u64;
+        if count < MIN_SITES || count > MAX_SITES {
             return Err(TypeError::BadCount);
         }
         let mut kept = [0u32; 16];

@@ -25,13 +25,10 @@ pub use entry::Entry;
 pub use fault::{OutOfMemory, TypeError};
 pub use frontier::Frontier;
 pub use limits::{
-    LAST_APPEND, MAX_AMOUNT, MAX_ANSWER, MAX_ASK, MAX_LINE, MAX_MOVES, MAX_NUMBER, MAX_SITES,
-    MAX_TOTAL,
+    LAST_APPEND, MAX_AMOUNT, MAX_ANSWER, MAX_ASK, MAX_HELD, MAX_HELD_RIGHTS, MAX_LINE, MAX_MOVES,
+    MAX_NUMBER, MAX_RECEIVED, MAX_SITES, MAX_TOTAL, MIN_SITES,
 };
 pub use message::Message;
 pub use moves::Move;
 pub use query::Query;
 pub use site::SiteId;
-
-#[cfg(test)]
-mod tests;

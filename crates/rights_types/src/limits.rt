@@ -1,6 +1,9 @@
 //! The limits that every crate keeps to.
 
-/// Sites of a system, at most; at least there are 2.
+/// Sites of a system, at least.
+pub const MIN_SITES: u64 = 2;
+
+/// Sites of a system, at most.
 pub const MAX_SITES: u64 = 16;
 
 /// The greatest amount of one move; the least is 1.
@@ -12,8 +15,15 @@ pub const MAX_NUMBER: u64 = 1_000_000_000;
 /// Where ordinary appends end; the numbers above are kept for the closing entry and take backs.
 pub const LAST_APPEND: u64 = 999_999_900;
 
-/// The greatest total of a take back.
+/// The greatest total of a take back, and the most that one log can give to one site: the greatest
+/// amount for each of its numbers.
 pub const MAX_TOTAL: u64 = 1_000_000_000_000_000_000;
+
+/// The most that a site can receive: the greatest total from each of 15 others.
+pub const MAX_RECEIVED: u64 = 15_000_000_000_000_000_000;
+
+/// The most rights that a site can hold: what it received, issued and took back.
+pub const MAX_HELD_RIGHTS: u64 = 17_000_000_000_000_000_000;
 
 /// The greatest ask number; the least is 1.
 pub const MAX_ASK: u64 = 1_000_000_000;
@@ -23,6 +33,9 @@ pub const MAX_MOVES: usize = 16;
 
 /// Entries of an answer, at most.
 pub const MAX_ANSWER: usize = 16;
+
+/// Entries that a buffer holds for one origin, at most.
+pub const MAX_HELD: usize = 64;
 
 /// Bytes of a line with its line feed, at most.
 pub const MAX_LINE: usize = 16_384;

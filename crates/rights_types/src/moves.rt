@@ -1,10 +1,11 @@
 //! The moves of an entry.
 ghost use Rattle.std.specs.Prelude.{◌≡◌, ◌≤◌};
-ghost use Rattle.std.specs.List.{All};
+ghost use Rattle.std.specs.List.{All, list_any};
 ghost use Rattle.rights_types.specs.Moves.{IsMove, is_close, peer_of, names, lacks_own_place, issue_of, spend_of, gift_to, gain_of, cost_of};
 
 use crate::amount::{Amount, AskNumber, Total};
 use crate::frontier::Frontier;
+use crate::limits::{MAX_AMOUNT, MAX_TOTAL};
 use crate::site::SiteId;
 
 /// A change of rights that a site writes into its log. The rights are those of the Bounded Counter
@@ -75,6 +76,13 @@ impl Move {
         }
     }
 
+    /// Whether one of these moves names the site.
+    pub fn any_names(moves: &[Move], site: SiteId) -> bool
+        ensures { result ≡ list_any (names site) moves.now }
+    {
+        moves.iter().any(|m| m.names(site))
+    }
+
     /// Whether it is a frontier whose place of the origin is missing or not 0.
     pub fn lacks_own_place(&self, origin: SiteId) -> bool
         ensures { result ≡ lacks_own_place origin self.now }
@@ -88,7 +96,7 @@ impl Move {
     /// The rights that it creates.
     pub fn issued(&self) -> u64
         ensures value { result ≡ issue_of self.now }
-        ensures range { result ≤ 1000000000 }
+        ensures range { result ≤ MAX_AMOUNT }
     {
         match self {
             Move::Issue(amount) => amount.value(),
@@ -99,7 +107,7 @@ impl Move {
     /// The rights that it consumes.
     pub fn spent(&self) -> u64
         ensures value { result ≡ spend_of self.now }
-        ensures range { result ≤ 1000000000 }
+        ensures range { result ≤ MAX_AMOUNT }
     {
         match self {
             Move::Spend(amount) => amount.value(),
@@ -110,7 +118,7 @@ impl Move {
     /// The rights that it gives to the site.
     pub fn gift_to(&self, site: SiteId) -> u64
         ensures value { result ≡ gift_to site self.now }
-        ensures range { result ≤ 1000000000 }
+        ensures range { result ≤ MAX_AMOUNT }
     {
         match self {
             Move::Grant {
@@ -126,7 +134,7 @@ impl Move {
     /// What it adds to the rights of its origin: what it issues or takes back.
     pub fn gain(&self) -> u64
         ensures value { result ≡ gain_of self.now }
-        ensures range { result ≤ 1000000000000000000 }
+        ensures range { result ≤ MAX_TOTAL }
     {
         match self {
             Move::Issue(amount) => amount.value(),
@@ -138,7 +146,7 @@ impl Move {
     /// What it takes from the rights of its origin: what it spends or gives away.
     pub fn cost(&self) -> u64
         ensures value { result ≡ cost_of self.now }
-        ensures range { result ≤ 1000000000 }
+        ensures range { result ≤ MAX_AMOUNT }
     {
         match self {
             Move::Spend(amount) => amount.value(),
@@ -152,8 +160,8 @@ impl Move {
         }
     }
 
-    /// Tells a proof that its values are in their ranges, as their types keep them. It does nothing
-    /// when it runs.
+    /// For proofs: its values are in their ranges, as their types keep them. A reader of each value
+    /// brings its range; nothing is left of this when it runs.
     pub fn in_range(&self)
         ensures { IsMove self.now }
     {
@@ -184,7 +192,7 @@ impl Move {
         }
     }
 
-    /// The same of each of these moves. It does nothing when it runs.
+    /// For proofs: the same of each of these moves.
     pub fn all_in_range(moves: &[Move])
         ensures { All IsMove moves.now }
     {

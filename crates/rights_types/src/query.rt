@@ -34,6 +34,7 @@ impl Query {
     pub fn new(asker: SiteId, origin: SiteId, first: u64, last: u64) -> Result<Query, TypeError>
         ensures { QueryMade (record { asker = asker; origin = origin; first = first; last = last }) result }
     {
+        // For the proof: the ranges of both sites.
         let _ = (asker.number(), origin.number());
         if first > MAX_NUMBER || last > MAX_NUMBER {
             return Err(TypeError::BadNumber);
@@ -41,12 +42,20 @@ impl Query {
         if origin == asker {
             return Err(TypeError::SameSite);
         }
-        Ok(Query {
+        Ok(Query::known(asker, origin, first, last))
+    }
+
+    /// The query of values that are known to keep the limits.
+    pub fn known(asker: SiteId, origin: SiteId, first: u64, last: u64) -> Query
+        requires { IsQuery (record { asker = asker; origin = origin; first = first; last = last }) }
+        ensures { result ≡ record { asker = asker; origin = origin; first = first; last = last } }
+    {
+        Query {
             asker,
             origin,
             first: first as u32,
             last: last as u32,
-        })
+        }
     }
 
     /// The site that asks.

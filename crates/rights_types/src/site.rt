@@ -1,5 +1,5 @@
 //! The numbers of sites.
-ghost use Rattle.std.specs.Prelude.{◌≡◌, ◌+◌, ◌<◌, ◌≤◌, IfErr};
+ghost use Rattle.std.specs.Prelude.{◌≡◌, ◌+◌, ◌<◌, IfErr};
 ghost use Rattle.std.specs.Result.{OkIff};
 ghost use Rattle.rights_types.specs.Ranges.{IsSite};
 
@@ -59,7 +59,7 @@ impl SiteId {
     /// The place of this site in a list that begins with site 1.
     pub fn index(self) -> usize
         ensures value { result + 1 ≡ self }
-        ensures range { result < 16 }
+        ensures range { result < MAX_SITES }
     {
         self.number as usize - 1
     }

@@ -1,5 +1,4 @@
-//! Tests of entries that run out of memory. They have their own crate, since they alone use the allocator
-//! that refuses a request.
+//! Tests of the types: their limits, and copies of entries with memory refused.
 #![tactic(auto)]
 
 #[cfg(test)]

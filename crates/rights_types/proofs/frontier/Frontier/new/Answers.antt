@@ -14,7 +14,7 @@ loop-i-preserved c =
     let number : ℕ = slice_index_or numbers i 0 in
     let so_far = c.loop-i.invariant in
     let more : i < length numbers = c.loop-i-test.true in
-    let small : i < 16 = omega (arith, c.if-numbers-gt16.false) in
+    let small : i < 16 = omega (arith, c.if-count-gt-MAX_SITES.false) in
     let room : i < length kept = omega (arith, so_far.0) in (
       length-set kept i number ∙ so_far.0,
       take_more_set kept i number room ∙ ap (λ (xs : List ℕ). xs ++ number ∷ []) so_far.1 ∙ sym (take_more numbers i 0 more),

@@ -1,6 +1,6 @@
 //! The limits of values, at and just past them.
 
-use crate::{
+use rights_types::{
     Amount, Answer, Ask, AskNumber, Beat, Deny, Entry, Frontier, Move, Query, SiteId, Total,
     TypeError,
 };
