@@ -1,39 +1,45 @@
-//! A copy of an entry, with its growth refused.
-use refusing_allocator::Refusing;
-use rights_types::{Amount, Entry, Move, OutOfMemory, SiteId};
+//! Copies of entries of every size, with memory and without.
+use rights_types::{Entry, MAX_MOVES, Move, OutOfMemory};
+use std::alloc::{AllocGlobal, Global};
 use std::test::Fail;
+use test_kit::{entry, is_entry, longest_close, move_of_kind, requests_of};
 
-/// A copy whose one growth is refused is want of memory, and the entry is as it was.
-#[test]
-fn each_growth_of_a_copy_refused(rt: HostRuntime) -> Result<(), Fail> {
-    let mut moves = Vec::new(rt.alloc());
-    moves.push(Move::Issue(Amount::new(10)?))?;
-    moves.push(Move::Give {
-        peer: SiteId::new(3)?,
-        amount: Amount::new(4)?,
-    })?;
-    let entry = Entry::new(SiteId::new(2)?, 5, moves)?;
-    let mut refused = false;
-    let mut whole = false;
-    for granted in 0..100u64 {
-        let refusing = Refusing::new(rt.alloc(), granted);
-        let copied = entry.clone_in(&refusing);
-        assert_eq!(rt; entry.own(), 7);
-        match copied {
-            Ok(copy) => {
-                assert_eq!(rt;
-                    (copy.origin().number(), copy.prev(), copy.own()),
-                    (2, 5, 7)
-                );
-                assert_eq!(rt; copy.moves(), entry.moves());
-                assert!(rt; !refusing.refused());
-                whole = true;
-                break;
-            }
-            Err(OutOfMemory) => refused = true,
-        }
+// So many moves, of each kind in turn.
+fn moves_of_each_kind(alloc: Global, count: usize) -> Result<Vec<Move>, Fail> {
+    let mut moves = Vec::new(alloc);
+    for kind in 0..count as u64 {
+        moves.push(move_of_kind(kind % 5))?;
     }
-    assert!(rt; refused);
-    assert!(rt; whole);
+    Ok(moves)
+}
+
+// Whether a copy is the entry again, made with one request for memory, and where that is refused it is
+// want of memory.
+fn copies_with_one_request(rt: &impl AllocGlobal, entry: &Entry) -> bool {
+    let copied = requests_of(rt.alloc(), |memory| {
+        match entry.clone_in(memory) {
+            Ok(copy) => !memory.refused() && is_entry(&copy, 1, entry.prev(), entry.moves()),
+            Err(OutOfMemory) => memory.refused(),
+        }
+    });
+    copied == Some(1)
+}
+
+/// Entries of 1 to 16 moves, and each with a closing move in the place of its last.
+#[test]
+fn copies_of_every_size(rt: HostRuntime) -> Result<(), Fail> {
+    for count in 1..=MAX_MOVES {
+        let mut moves = moves_of_each_kind(rt.alloc(), count)?;
+        let open = entry(rt.alloc(), 1, 7, &moves)?;
+        assert!(rt; copies_with_one_request(&rt, &open), "{count} moves");
+        moves.pop();
+        moves.push(longest_close()?)?;
+        let closing = entry(rt.alloc(), 1, 7, &moves)?;
+        assert!(rt; closing.closes());
+        assert!(rt;
+            copies_with_one_request(&rt, &closing),
+            "{count} moves, closing"
+        );
+    }
     Ok(())
 }
