@@ -5,10 +5,10 @@ use Rattle.rights_types.specs.Chains.{IsChain}
 use Rattle.rights_types.proofs.Chains.{chain_left, chain_right, chain_push, closed-push, end-push}
 use Rattle.apply_lanes.specs.declared.item.Item.{Item}
 use Rattle.apply_lanes.specs.declared.item.Item.TheVariants.{Entry, End}
-use Rattle.apply_lanes.specs.Items.{items_of, IsOpen, end_if, IsItemChain, Continues, MayCome, IsEnded, Follows, Begins, Leaves}
+use Rattle.apply_lanes.specs.Items.{items_of, IsOpen, end_if, IsItemChain, Continues, MayCome, IsEnded, Precedes, MayBeFirst, Leaves}
 
 -- a chain goes on with what follows its last entry
-follows_on : (o : ℕ) (es : List EntryValue) (e f : EntryValue) → IsChain o (es ++ e ∷ []) → Follows e f → IsChain o ((es ++ e ∷ []) ++ f ∷ [])
+follows_on : (o : ℕ) (es : List EntryValue) (e f : EntryValue) → IsChain o (es ++ e ∷ []) → Precedes e f → IsChain o ((es ++ e ∷ []) ++ f ∷ [])
 follows_on o es e f chain follows =
     let last = chain_right o false 0 es (e ∷ []) chain in
     chain_push o false 0 (es ++ e ∷ []) f chain (closed-push false es e ∙ follows.goes_on) (follows.origin ∙ last.1)
@@ -79,7 +79,7 @@ module _ {A : Type 0} where
   whole_at_end xs ys chain ended = nothing_after ended.0 ys chain.1 chain.2 (ap (λ l. l ++ ys) (sym ended.1) ∙ chain.4)
 
   -- after an entry that may come next, one that follows it may come next
-  pub continues_on : (items : List (Item A)) (e f : EntryValue) → Continues items e → Follows e f → Continues (items ++ Entry e ∷ []) f
+  pub continues_on : (items : List (Item A)) (e f : EntryValue) → Continues items e → Precedes e f → Continues (items ++ Entry e ∷ []) f
   continues_on items e f c follows = (
     c.0,
     c.1 ++ e ∷ [],
@@ -88,7 +88,7 @@ module _ {A : Type 0} where
   )
 
   -- the first entry of a log may come first
-  pub begins_chain : (e : EntryValue) → Begins e → Continues {A = A} [] e
+  pub begins_chain : (e : EntryValue) → MayBeFirst e → Continues {A = A} [] e
   begins_chain e first = (e.origin, [], refl, (refl, refl, first.prev, first.valid, tt))
 
   same_entries : (fs es : List EntryValue) (b : Bool) → items_of {A = A} fs ≡ items_of es ++ end_if b → fs ≡ es

@@ -7,7 +7,7 @@ use Rattle.crossbeam_channel.specs.Fifo.{Pushes, Pops, Forks, Merges, Learns}
 use Rattle.apply_lanes.specs.declared.item.Item.{Item}
 use Rattle.apply_lanes.specs.declared.rule.Hand.{Hand}
 use Rattle.apply_lanes.specs.Items.{IsItemChain}
-use Rattle.apply_lanes.specs.Rule.{hand, Fits, IsInOrder, Puts, Takes, Compares}
+use Rattle.apply_lanes.specs.Rule.{hand, Fits, IsInOrder, Sends, Receives, Compares}
 use Rattle.apply_lanes.proofs.Items.{front_chain, empty_chain}
 
 no_hand : (b : Bool) → b ≡ false → b ≡ true → ⊥
@@ -44,7 +44,7 @@ module _ {A : Type 0} where
             (λ j u other is. absurd (other (at_end [] first u j (λ x. some-ne-none u (sym x)) is))),
       )
 
-  pub sends : (n pass : ℕ) (v : Hand A) (x : Item A) → v.puts ≡ true → IsItemChain (v.put ++ x ∷ []) → Pushes IsInOrder n pass v x (Puts v x)
+  pub sends : (n pass : ℕ) (v : Hand A) (x : Item A) → v.puts ≡ true → IsItemChain (v.put ++ x ∷ []) → Pushes IsInOrder n pass v x (Sends v x)
   sends n pass v x may chain items views room h at =
       let w : Hand A = hand v.puts v.takes (v.put ++ x ∷ []) v.taken in
       let mine = h.6 pass v at in
@@ -64,7 +64,7 @@ module _ {A : Type 0} where
         refl,
       )
 
-  pub takes : (pass : ℕ) (v : Hand A) → v.takes ≡ true → Pops IsInOrder pass v (Takes v)
+  pub takes : (pass : ℕ) (v : Hand A) → v.takes ≡ true → Pops IsInOrder pass v (Receives v)
   takes pass v may x items views h at =
       let w : Hand A = hand v.puts v.takes v.put (v.taken ++ x ∷ []) in
       let mine = h.6 pass v at in

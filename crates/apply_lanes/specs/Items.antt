@@ -49,13 +49,13 @@ module _ {A : Type 0} where
   Leaves End items = IsEnded items
 
 -- f may come next to e in a log
-pub record Follows (e f : EntryValue) : Type 0 where
+pub record Precedes (e f : EntryValue) : Type 0 where
   pub goes_on : closes e ≡ false
   pub origin : f.origin ≡ e.origin
   pub prev : f.prev ≡ own e
   pub valid : IsEntry f
 
 -- e may be the first of a log
-pub record Begins (e : EntryValue) : Type 0 where
+pub record MayBeFirst (e : EntryValue) : Type 0 where
   pub prev : e.prev ≡ 0
   pub valid : IsEntry e

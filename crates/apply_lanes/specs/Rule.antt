@@ -23,12 +23,12 @@ module _ {A : Type 0} where
       × ((pass : ℕ) (v : Hand A) → get_elem? views pass ≡ some v → Fits writer reader put taken pass v)
 
   -- what a send tells
-  abbrev pub Puts : Hand A → Item A → Hand A → Type 0
-  Puts v x w = w ≡ hand v.puts v.takes (v.put ++ x ∷ []) v.taken
+  abbrev pub Sends : Hand A → Item A → Hand A → Type 0
+  Sends v x w = w ≡ hand v.puts v.takes (v.put ++ x ∷ []) v.taken
 
   -- what a receive tells
-  abbrev pub Takes : Hand A → Item A → Hand A → Type 0
-  Takes v x w = (w ≡ hand v.puts v.takes v.put (v.taken ++ x ∷ [])) × IsItemChain (v.taken ++ x ∷ [])
+  abbrev pub Receives : Hand A → Item A → Hand A → Type 0
+  Receives v x w = (w ≡ hand v.puts v.takes v.put (v.taken ++ x ∷ [])) × IsItemChain (v.taken ++ x ∷ [])
 
   -- what both passes together know, where so much waits
   abbrev pub Compares : Hand A → List (Item A) → Type 0

@@ -5,4 +5,4 @@ use Rattle.std.specs.Prelude.{ℕ}
 pub record TallyValue : Type 0 where
   pub sum : ℕ
   pub left : ℕ
-  pub back : ℕ
+  pub returned : ℕ

@@ -1,7 +1,7 @@
 //! The two ends of a lane.
 ghost use Rattle.std.specs.Prelude.{◌≡◌, ◌≤◌, [], ◌∷◌, ◌++◌, true, false, Some, None, IfOk, OnOk, OnErr, IsErr, IsNone, IfSome, IfNone, MatchResult, IfErr};
 ghost use Rattle.rights_types.specs.Entries.{EntryValue};
-ghost use Rattle.apply_lanes.specs.Items.{Begins, Continues, Follows, MayCome, IsOpen, IsItemChain, IsEnded, Leaves};
+ghost use Rattle.apply_lanes.specs.Items.{MayBeFirst, Continues, Precedes, MayCome, IsOpen, IsItemChain, IsEnded, Leaves};
 ghost use Rattle.apply_lanes.specs.declared.item.Item.{Item};
 
 use crate::item::Item;
@@ -11,6 +11,9 @@ use rights_types::{Entry, OutOfMemory};
 use std::alloc::{Allocator, Global};
 use std::marker::Model;
 use std::sync::Wait;
+
+/// Items that a lane holds, at most.
+pub const MAX_LANE: usize = 32;
 
 /// The other end of the lane is gone. An entry that could not be put comes back. From then on the end
 /// is dead: it answers this to every call.
@@ -65,18 +68,18 @@ impl<A: Allocator> Model for Outlet<A> {
     ghost invariant = { λ o. IsSeatAt (receives_on o.receiver) o.pass × (hand_of o.pass ≡ hand false true [] (hand_of o.pass).taken) × IsItemChain (hand_of o.pass).taken };
 }
 
-/// The two ends of a new lane, which holds at most so many items, 1 to 32. Its room is made here, and
-/// no later call takes memory.
+/// The two ends of a new lane, which holds at most so many items, 1 to `MAX_LANE`. Its room is made
+/// here, and no later call takes memory.
 #[tactic(auto, using(crate::proofs::Rules::begins))]
 pub fn lane<A: Allocator + Copy>(
     alloc: A,
     capacity: usize,
 ) -> Result<(Inlet<A>, Outlet<A>), OutOfMemory>
-    requires { (1 ≤ capacity) × (capacity ≤ 32) }
+    requires { (1 ≤ capacity) × (capacity ≤ MAX_LANE) }
     ensures lane { IfOk result (λ r. r.1.lane ≡ r.0.lane) }
     ensures room { IfOk result (λ r. r.0.lane.room ≡ capacity) }
     ensures inlet { IfOk result (λ r. (r.0.put ≡ []) × (r.0.dead ≡ false)) }
-    ensures first { IfOk result (λ r. (e : EntryValue) → Begins e → Continues r.0.put e) }
+    ensures first { IfOk result (λ r. (e : EntryValue) → MayBeFirst e → Continues r.0.put e) }
     ensures outlet { IfOk result (λ r. (r.1.taken ≡ []) × (r.1.dead ≡ false)) }
 {
     let (sender, receiver, mut pass) = bounded_with::<Item<A>, _, InOrder, A>(alloc, capacity)?;
@@ -101,7 +104,7 @@ impl<A: Allocator> Inlet<A> {
         ensures lane { self.new.lane ≡ self.old.lane }
         ensures ok { OnOk result ((self.new.put ≡ self.old.put ++ Item.Entry entry ∷ []) × (self.new.dead ≡ false)) }
         ensures open { OnOk result (IsOpen self.new.put) }
-        ensures next { OnOk result ((f : EntryValue) → Follows entry f → Continues self.new.put f) }
+        ensures next { OnOk result ((f : EntryValue) → Precedes entry f → Continues self.new.put f) }
         ensures err { IfErr result (λ e. (e.entry ≡ Some entry) × (self.new.put ≡ self.old.put) × (self.new.dead ≡ true)) }
         ensures dead { self.old.dead ≡ true → IsErr result }
     {

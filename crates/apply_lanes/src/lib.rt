@@ -7,6 +7,6 @@ pub mod laws;
 mod rule;
 mod tally;
 
-pub use ends::{Inlet, LaneClosed, Outlet, lane};
+pub use ends::{Inlet, LaneClosed, MAX_LANE, Outlet, lane};
 pub use item::Item;
 pub use tally::{Portion, Tally};

@@ -50,9 +50,9 @@ impl<A: Allocator> Join<Hand<A>> for Ends {
 pub(crate) struct Put;
 
 impl<A: Allocator> Outcome<Item<A>, Hand<A>> for Put {
-    ghost use Rattle.apply_lanes.specs.Rule.{Puts};
+    ghost use Rattle.apply_lanes.specs.Rule.{Sends};
 
-    ghost then = { Puts };
+    ghost then = { Sends };
 }
 
 impl<A: Allocator> Lesson<Item<A>, Hand<A>> for Put {
@@ -64,9 +64,9 @@ impl<A: Allocator> Lesson<Item<A>, Hand<A>> for Put {
 pub(crate) struct Taken;
 
 impl<A: Allocator> Outcome<Item<A>, Hand<A>> for Taken {
-    ghost use Rattle.apply_lanes.specs.Rule.{Takes};
+    ghost use Rattle.apply_lanes.specs.Rule.{Receives};
 
-    ghost then = { Takes };
+    ghost then = { Receives };
 }
 
 impl<A: Allocator> Lesson<Item<A>, Hand<A>> for Taken {

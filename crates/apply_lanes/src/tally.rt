@@ -20,7 +20,7 @@ impl<L: Ledger> Model for Tally<L> {
 
     ghost Value = { TallyValue };
 
-    ghost view = { λ t. record { sum = t.sum; left = t.left; back = t.rest.amount } };
+    ghost view = { λ t. record { sum = t.sum; left = t.left; returned = t.rest.amount } };
 
     ghost invariant = { λ t. (t.book.total ≡ t.sum) × (t.rest.parts ≡ t.left + 1) };
 }
@@ -48,7 +48,7 @@ impl<L: Ledger> Tally<L> {
     pub fn open(blank: Blank, portions: u64) -> Tally<L>
         requires name { blank.name ≡ L.name }
         requires parts { (blank.parts ≡ L.parts) × (L.parts ≡ portions + 1) }
-        ensures { result ≡ record { sum = 0; left = portions; back = 0 } }
+        ensures { result ≡ record { sum = 0; left = portions; returned = 0 } }
     {
         let (book, rest) = blank.open::<L>();
         Tally {
@@ -75,7 +75,7 @@ impl<L: Ledger> Tally<L> {
 
     /// A new portion, which has told 0. None where all are given out.
     pub fn split(&mut self) -> Option<Portion<L>>
-        ensures some { IfSome result (λ p. (p ≡ 0) × (self.new ≡ record { sum = self.old.sum; left = self.new.left; back = self.old.back }) × (self.new.left + 1 ≡ self.old.left)) }
+        ensures some { IfSome result (λ p. (p ≡ 0) × (self.new ≡ record { sum = self.old.sum; left = self.new.left; returned = self.old.returned }) × (self.new.left + 1 ≡ self.old.left)) }
         ensures none { IfNone result ((self.old.left ≡ 0) × (self.new ≡ self.old)) }
     {
         if self.left == 0 {
@@ -89,7 +89,7 @@ impl<L: Ledger> Tally<L> {
     /// Adds to the sum, and to what the portion told.
     pub fn add(&mut self, portion: &mut Portion<L>, amount: u64)
         requires { self.old.sum + amount < 2 ^ 64 }
-        ensures sum { self.new ≡ record { sum = self.old.sum + amount; left = self.old.left; back = self.old.back } }
+        ensures sum { self.new ≡ record { sum = self.old.sum + amount; left = self.old.left; returned = self.old.returned } }
         ensures told { portion.new ≡ portion.old + amount }
         ensures within { portion.new ≤ self.new.sum }
     {
@@ -99,12 +99,12 @@ impl<L: Ledger> Tally<L> {
         portion.told += amount;
     }
 
-    /// Takes a portion back, and answers what it told.
-    pub fn take_back(&mut self, portion: Portion<L>) -> u64
+    /// Takes in a portion that has come back, and answers what it told.
+    pub fn collect(&mut self, portion: Portion<L>) -> u64
         requires { self.old.left + 1 < 2 ^ 64 }
         ensures told { result ≡ portion }
-        ensures sum { self.new ≡ record { sum = self.old.sum; left = self.old.left + 1; back = self.old.back + portion } }
-        ensures within { self.new.back ≤ self.new.sum }
+        ensures sum { self.new ≡ record { sum = self.old.sum; left = self.old.left + 1; returned = self.old.returned + portion } }
+        ensures within { self.new.returned ≤ self.new.sum }
     {
         let Portion { told, share } = portion;
         self.rest.merge(share);
@@ -117,7 +117,7 @@ impl<L: Ledger> Tally<L> {
     pub fn settle(&mut self)
         requires { self.old.left + 1 ≡ L.parts }
         ensures same { self.new ≡ self.old }
-        ensures whole { self.new.back ≡ self.new.sum }
+        ensures whole { self.new.returned ≡ self.new.sum }
     {
         let Tally { book, rest, .. } = self;
         book.audit(rest);

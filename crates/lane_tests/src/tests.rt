@@ -1,7 +1,7 @@
 //! Lanes and tallies, by one thread and by two.
 ghost use Rattle.std.specs.Prelude.{◌≡◌, ◌+◌, [], false, IfOk, IfSome};
 ghost use Rattle.rights_types.specs.Entries.{IsEntry, own, closes};
-ghost use Rattle.apply_lanes.specs.Items.{Continues, Follows, IsOpen};
+ghost use Rattle.apply_lanes.specs.Items.{Continues, Precedes, IsOpen};
 
 use apply_lanes::laws::ends_taken_in;
 use apply_lanes::{Inlet, Item, LaneClosed, Outlet, Portion, Tally, lane};
@@ -35,7 +35,7 @@ fn entry_of(alloc: Global, prev: u64, moves: &[Move]) -> Option<Entry>
 /// Puts an entry and the one that follows it, and then End.
 fn put_two<R: Wait>(rt: &R, mut inlet: Inlet, first: Entry, second: Entry) -> Option<Inlet>
     requires first { Continues inlet.put first }
-    requires second { Follows first second }
+    requires second { Precedes first second }
     ensures { IfSome result (λ i. i.lane ≡ inlet.lane) }
 {
     inlet.put(rt, first).ok()?;
@@ -274,7 +274,7 @@ fn two_portions<L: Ledger + Send + Sync, R: Threads + Wait + Sync>(
     if tally.left() != 0 {
         return Err(Fail::from("both portions are out"));
     }
-    let told = (tally.take_back(first), tally.take_back(second));
+    let told = (tally.collect(first), tally.collect(second));
     if tally.left() != 2 {
         return Err(Fail::from("both portions are back"));
     }
