@@ -1,173 +1,160 @@
-//! The limits of values, at and just past them.
-
+//! The limits of values, at and just past them. Contracts say which values are refused, and why; here each
+//! maker is called.
 use rights_types::{
-    Amount, Answer, Ask, AskNumber, Beat, Deny, Entry, Frontier, Move, Query, SiteId, Total,
-    TypeError,
+    Amount, Answer, Ask, AskNumber, Beat, Deny, Entry, Frontier, MAX_AMOUNT, MAX_ANSWER, MAX_ASK,
+    MAX_NUMBER, MAX_SITES, MAX_TOTAL, Move, Query, SiteId, Total, TypeError,
 };
-use std::alloc::{AllocError, Global};
+use std::alloc::Global;
 use std::test::Fail;
-
-const TOO_MANY: usize = 17;
-
-fn issues(alloc: Global, count: usize) -> Result<Vec<Move>, AllocError> {
-    let mut moves = Vec::new(alloc);
-    for _ in 0..count {
-        moves.push(Move::Issue(Amount::known(5)))?;
-    }
-    Ok(moves)
-}
+use test_kit::{close, close_at, entry, give, issue, take_back};
 
 #[test]
 fn numbers_in_their_ranges(rt: HostRuntime) {
-    assert_eq!(rt; SiteId::new(0), Err(TypeError::BadSite));
-    assert_eq!(rt; SiteId::new(17), Err(TypeError::BadSite));
-    assert_eq!(rt; SiteId::new(16), Ok(SiteId::known(16)));
-    assert_eq!(rt; Amount::new(0), Err(TypeError::BadAmount));
-    assert_eq!(rt; Amount::new(1_000_000_001), Err(TypeError::BadAmount));
-    assert_eq!(rt;
-        Amount::new(1_000_000_000),
-        Ok(Amount::known(1_000_000_000))
-    );
-    assert_eq!(rt; AskNumber::new(0), Err(TypeError::BadNumber));
-    assert_eq!(rt; AskNumber::new(1_000_000_001), Err(TypeError::BadNumber));
-    assert_eq!(rt; Total::new(0), Err(TypeError::BadAmount));
-    assert_eq!(rt;
-        Total::new(1_000_000_000_000_000_001),
-        Err(TypeError::BadAmount)
-    );
-    assert_eq!(rt;
-        Total::new(1_000_000_000_000_000_000),
-        Ok(Total::known(1_000_000_000_000_000_000))
-    );
+    for (number, fits) in [
+        (0, false),
+        (1, true),
+        (MAX_SITES, true),
+        (MAX_SITES + 1, false),
+    ] {
+        assert!(rt; SiteId::new(number).is_ok() == fits, "site {number}");
+    }
+    for (number, fits) in [
+        (0, false),
+        (1, true),
+        (MAX_AMOUNT, true),
+        (MAX_AMOUNT + 1, false),
+    ] {
+        assert!(rt; Amount::new(number).is_ok() == fits, "amount {number}");
+    }
+    for (number, fits) in [(0, false), (1, true), (MAX_ASK, true), (MAX_ASK + 1, false)] {
+        assert!(rt; AskNumber::new(number).is_ok() == fits, "ask {number}");
+    }
+    for (number, fits) in [
+        (0, false),
+        (1, true),
+        (MAX_TOTAL, true),
+        (MAX_TOTAL + 1, false),
+    ] {
+        assert!(rt; Total::new(number).is_ok() == fits, "total {number}");
+    }
 }
 
 #[test]
-fn frontiers(rt: HostRuntime) {
-    assert_eq!(rt; Frontier::new(&[0]), Err(TypeError::BadCount));
-    assert_eq!(rt; Frontier::new(&[0; TOO_MANY]), Err(TypeError::BadCount));
-    assert_eq!(rt;
-        Frontier::new(&[0, 1_000_000_001]),
-        Err(TypeError::BadNumber)
-    );
-    let Ok(frontier) = Frontier::new(&[0, 1_000_000_000]) else {
-        assert!(rt; false, "a frontier of two sites");
-        return;
-    };
-    assert_eq!(rt; frontier.count(), 2);
-    assert_eq!(rt; frontier.at(SiteId::known(2)), Some(1_000_000_000));
-    assert_eq!(rt; frontier.at(SiteId::known(3)), None);
+fn frontiers(rt: HostRuntime) -> Result<(), Fail> {
+    for (numbers, refusal) in [
+        ([0; 17].as_slice(), Some(TypeError::BadCount)),
+        (&[0; 16], None),
+        (&[0], Some(TypeError::BadCount)),
+        (&[0, MAX_NUMBER + 1], Some(TypeError::BadNumber)),
+    ] {
+        assert!(rt;
+            Frontier::new(numbers).err() == refusal,
+            "{} numbers",
+            numbers.len()
+        );
+    }
+    let frontier = Frontier::new(&[0, MAX_NUMBER])?;
+    assert!(rt; frontier.count() == 2);
+    for (site, number) in [(1, Some(0)), (2, Some(MAX_NUMBER)), (3, None)] {
+        assert!(rt; frontier.at(SiteId::new(site)?) == number, "site {site}");
+    }
+    Ok(())
 }
 
-fn refusal(origin: SiteId, prev: u64, moves: Vec<Move>) -> Option<TypeError> {
-    Entry::new(origin, prev, moves).err()
+// Whether an entry of site 2 after a number, with these moves, is refused for the cause, or is made where
+// there is none.
+fn comes_to(
+    alloc: Global,
+    prev: u64,
+    moves: &[Move],
+    cause: Option<TypeError>,
+) -> Result<bool, Fail> {
+    let moves = Vec::from_slice(alloc, moves)?;
+    Ok(Entry::new(SiteId::new(2)?, prev, moves).err() == cause)
 }
 
+/// The causes in their order.
 #[test]
-fn entries_by_count_and_number(rt: HostRuntime) -> Result<(), Fail> {
-    let site = SiteId::known(1);
+fn entries(rt: HostRuntime) -> Result<(), Fail> {
     let alloc = rt.alloc();
-    assert_eq!(rt;
-        refusal(site, 0, issues(alloc, 0)?),
-        Some(TypeError::BadCount)
+    assert!(rt; comes_to(alloc, 0, &[], Some(TypeError::BadCount))?);
+    assert!(rt; comes_to(alloc, 0, &[issue(5); 17], Some(TypeError::BadCount))?);
+    assert!(rt; comes_to(alloc, 0, &[issue(5); 16], None)?);
+    assert!(rt; comes_to(alloc, MAX_NUMBER - 1, &[issue(5)], None)?);
+    assert!(rt;
+        comes_to(
+            alloc,
+            MAX_NUMBER - 1,
+            &[issue(5); 2],
+            Some(TypeError::BadNumber)
+        )?
     );
-    assert_eq!(rt;
-        refusal(site, 0, issues(alloc, TOO_MANY)?),
-        Some(TypeError::BadCount)
+    assert!(rt;
+        comes_to(
+            alloc,
+            0,
+            &[close(), give(2, 1)],
+            Some(TypeError::CloseNotLast)
+        )?
     );
-    assert_eq!(rt; refusal(site, 0, issues(alloc, 16)?), None);
-    assert_eq!(rt; refusal(site, 999_999_999, issues(alloc, 1)?), None);
-    assert_eq!(rt;
-        refusal(site, 999_999_999, issues(alloc, 2)?),
-        Some(TypeError::BadNumber)
+    assert!(rt; comes_to(alloc, 0, &[give(2, 1)], Some(TypeError::SameSite))?);
+    assert!(rt; comes_to(alloc, 0, &[take_back(2, 1)], Some(TypeError::SameSite))?);
+    assert!(rt; comes_to(alloc, 0, &[close_at(&[7, 0])?], None)?);
+    assert!(rt;
+        comes_to(
+            alloc,
+            0,
+            &[close_at(&[0, 7])?, close()],
+            Some(TypeError::BadNumber)
+        )?
     );
-    Ok(())
-}
-
-#[test]
-fn entries_by_their_closing_move(rt: HostRuntime) -> Result<(), Fail> {
-    let site = SiteId::known(2);
-    let mut early = issues(rt.alloc(), 1)?;
-    early.push(Move::Close)?;
-    early.push(Move::Issue(Amount::known(5)))?;
-    assert_eq!(rt; refusal(site, 0, early), Some(TypeError::CloseNotLast));
-    let mut last = issues(rt.alloc(), 1)?;
-    last.push(Move::CloseAt(Frontier::new(&[7, 0])?))?;
-    assert_eq!(rt; refusal(site, 0, last), None);
-    let mut missing = issues(rt.alloc(), 1)?;
-    missing.push(Move::CloseAt(Frontier::new(&[0, 7])?))?;
-    assert_eq!(rt; refusal(site, 0, missing), Some(TypeError::BadNumber));
-    Ok(())
-}
-
-#[test]
-fn entries_that_name_their_origin(rt: HostRuntime) -> Result<(), Fail> {
-    let site = SiteId::known(3);
-    let mut gift = issues(rt.alloc(), 1)?;
-    gift.push(Move::Give {
-        peer: site,
-        amount: Amount::known(1),
-    })?;
-    assert_eq!(rt; refusal(site, 0, gift), Some(TypeError::SameSite));
-    let mut taken = issues(rt.alloc(), 1)?;
-    taken.push(Move::TakeBack {
-        peer: site,
-        amount: Total::known(1),
-    })?;
-    assert_eq!(rt; refusal(site, 0, taken), Some(TypeError::SameSite));
     Ok(())
 }
 
 #[test]
 fn messages_between_two_sites(rt: HostRuntime) -> Result<(), Fail> {
-    let (one, two) = (SiteId::known(1), SiteId::known(2));
-    let (ask, amount) = (AskNumber::known(1), Amount::known(6));
-    assert_eq!(rt; Query::new(one, one, 1, 4), Err(TypeError::SameSite));
-    assert_eq!(rt;
-        Query::new(one, one, 1, 1_000_000_001),
-        Err(TypeError::BadNumber)
-    );
-    assert_eq!(rt; Ask::new(two, two, ask, amount), Err(TypeError::SameSite));
-    assert_eq!(rt; Deny::new(two, two, ask), Err(TypeError::SameSite));
-    assert_eq!(rt; Beat::new(one, 1_000_000_001), Err(TypeError::BadNumber));
+    let (one, two) = (SiteId::new(1)?, SiteId::new(2)?);
+    let (ask, amount) = (AskNumber::new(1)?, Amount::new(6)?);
+    assert!(rt; Query::new(one, one, 1, MAX_NUMBER).err() == Some(TypeError::SameSite));
+    assert!(rt; Query::new(one, one, 1, MAX_NUMBER + 1).err() == Some(TypeError::BadNumber));
+    assert!(rt; Ask::new(two, two, ask, amount).err() == Some(TypeError::SameSite));
+    assert!(rt; Deny::new(two, two, ask).err() == Some(TypeError::SameSite));
+    assert!(rt; Beat::new(one, MAX_NUMBER + 1).err() == Some(TypeError::BadNumber));
     let query = Query::new(two, one, 1, 4)?;
-    assert_eq!(rt; (query.asker(), query.origin()), (two, one));
-    assert_eq!(rt; (query.first(), query.last()), (1, 4));
+    assert!(rt; (query.asker(), query.origin()) == (two, one));
+    assert!(rt; (query.first(), query.last()) == (1, 4));
     Ok(())
 }
 
-fn entries_of(alloc: Global, origin: SiteId, count: usize) -> Result<Vec<Entry>, AllocError> {
+// Why an answer of site 1 to another, with so many entries of an origin, is refused.
+fn refused_answer(
+    alloc: Global,
+    asker: u64,
+    origin: u64,
+    count: usize,
+) -> Result<Option<TypeError>, Fail> {
     let mut entries = Vec::new(alloc);
     for _ in 0..count {
-        let mut moves = Vec::new(alloc);
-        moves.push(Move::Issue(Amount::known(5)))?;
-        if let Ok(entry) = Entry::new(origin, 0, moves) {
-            entries.push(entry)?;
-        }
+        entries.push(entry(alloc, origin, 0, &[issue(5)])?)?;
     }
-    Ok(entries)
+    Ok(Answer::new(SiteId::new(1)?, SiteId::new(asker)?, entries).err())
 }
 
+/// The causes in their order.
 #[test]
-fn answers_by_origin_and_count(rt: HostRuntime) -> Result<(), Fail> {
-    let (one, two) = (SiteId::known(1), SiteId::known(2));
+fn answers(rt: HostRuntime) -> Result<(), Fail> {
     let alloc = rt.alloc();
-    let foreign = Answer::new(one, two, entries_of(alloc, two, 1)?).err();
-    assert_eq!(rt; foreign, Some(TypeError::BadSite));
-    let long = Answer::new(one, two, entries_of(alloc, one, TOO_MANY)?).err();
-    assert_eq!(rt; long, Some(TypeError::BadCount));
-    let own = Answer::new(one, one, entries_of(alloc, one, 1)?).err();
-    assert_eq!(rt; own, Some(TypeError::SameSite));
-    let answer = Answer::new(one, two, entries_of(alloc, one, 16)?)?;
-    assert_eq!(rt; answer.entries().len(), 16);
-    Ok(())
-}
-
-#[test]
-fn a_copy_of_an_entry(rt: HostRuntime) -> Result<(), Fail> {
-    let entry = Entry::new(SiteId::known(4), 7, issues(rt.alloc(), 3)?)?;
-    let copy = entry.clone_in(rt.alloc())?;
-    assert_eq!(rt; copy.origin(), SiteId::known(4));
-    assert_eq!(rt; (copy.prev(), copy.own()), (7, 10));
-    assert_eq!(rt; copy.moves(), entry.moves());
+    for (asker, origin, count, expected) in [
+        (1, 2, 17, Some(TypeError::BadSite)),
+        (1, 1, 17, Some(TypeError::BadCount)),
+        (1, 1, 1, Some(TypeError::SameSite)),
+        (2, 1, 0, None),
+        (2, 1, MAX_ANSWER, None),
+    ] {
+        assert!(rt;
+            refused_answer(alloc, asker, origin, count)? == expected,
+            "{count} entries"
+        );
+    }
     Ok(())
 }
