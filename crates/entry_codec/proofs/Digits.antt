@@ -5,7 +5,7 @@ use Rattle.std.specs.Char.{digit_value}
 use Rattle.std.specs.List.{All, onto_first}
 use Rattle.std.specs.Str.Parse.{AllDigits, digits_value}
 use Rattle.std.proofs.lemmas.Bool.{eqb-true, eqb-false, eq-eqb, ne_eqb, cases_Bool, cases_lt, not-true, not-false, le-leb, lt-leb}
-use Rattle.std.proofs.lemmas.Fmt.{decimal_digit, decimal_step, decimal-digits_value, decimal_nonempty, first_decimal, length-decimal-le, digits_decimal}
+use Rattle.std.proofs.lemmas.Fmt.{decimal_digit, decimal_step, decimal-digits_value, decimal_nonempty, first_decimal, length-decimal-le, digits_decimal, decimal_is_IsNumeral}
 use Rattle.std.proofs.lemmas.Int.Digits.{digits_value-lt, digits_more, digits_value_more}
 use Rattle.std.proofs.lemmas.List.{drop_more, drop-set, drop-take, take-set, take-set-le, take-take, take_all, take-append-drop, length-take-le, length-drop, get_or_default, get_or-take}
 use Rattle.std.proofs.lemmas.List.Splits.{slice_split_none, slice_split_at, slice_split-cons_yes, slice_split-cons_no}
@@ -148,21 +148,54 @@ canonical_parts [] h = absurd cc
 canonical_parts (x ∷ []) h = (omega arith, λ e. refl)
 canonical_parts (x ∷ y ∷ ys) h = (omega arith, λ e. absurd (eqb-false x 48 (not-true (x == 48) h) e))
 
-pub spelled : (ds : List ℕ) (n : ℕ) → AllDigits 10 ds → n ≡ digits_value 10 ds → length ds ≤ 19 → is_canonical ds ≡ true → (n < 10 ^ 19) × (ds ≡ decimal n)
-spelled ds n digits is few h =
+pub spelled : (ds : List ℕ) (n : ℕ) → AllDigits 10 ds → n ≡ digits_value 10 ds → n < 2 ^ 64 → is_canonical ds ≡ true → ds ≡ decimal n
+spelled ds n digits is fits h =
     let c = canonical_parts ds h in
-    let small : digits_value 10 ds < 10 ^ 19 = digits_value_short own_digits ds 19 digits few in
-    let same : decimal (digits_value 10 ds) ≡ ds = decimal-digits_value own_digits ds digits c.0 c.1 (omega (arith, small)) in
-    (omega (arith, small, is), sym same ∙ ap decimal (sym is))
+    let same : decimal (digits_value 10 ds) ≡ ds = decimal-digits_value own_digits ds digits c.0 c.1 (rw (← is) fits) in
+    sym same ∙ ap decimal (sym is)
 
-pub not_canonical : (ds : List ℕ) (n : ℕ) → is_canonical ds ≡ false → n < 10 ^ 19 → ds ≡ decimal n → ⊥
-not_canonical [] n h lt e = omega (arith, decimal_nonempty n (omega (arith, lt)), ap length e)
-not_canonical (x ∷ []) n h lt e = absurd cc
-not_canonical (x ∷ y ∷ ys) n h lt e =
+pub not_canonical : (ds : List ℕ) (n : ℕ) → is_canonical ds ≡ false → n < 2 ^ 64 → ds ≡ decimal n → ⊥
+not_canonical [] n h fits e = omega (arith, decimal_nonempty n fits, ap length e)
+not_canonical (x ∷ []) n h fits e = absurd cc
+not_canonical (x ∷ y ∷ ys) n h fits e =
     let zero-first : x ≡ 48 = eqb-true x 48 (not-false (x == 48) h) in
     elim (eq-zero-or-pos n) [
       | inl none ↦ omega (arith, ap length (e ∙ ap decimal none ∙ decimal_digit 0 (omega arith)))
-      | inr more ↦ omega (arith, zero-first, ap (λ (t : List ℕ). get_or t 0 0) e, first_decimal n more (omega (arith, lt)))
+      | inr more ↦ omega (arith, zero-first, ap (λ (t : List ℕ). get_or t 0 0) e, first_decimal n more fits)
+    ]
+
+-- ---- a text whose digits were read up to some place
+
+pub read_whole : (text : List ℕ) (count n : ℕ) → length text ≤ count → IsReadUpTo text count n → AllDigits 10 text × (n ≡ digits_value 10 text)
+read_whole text count n all h =
+    let whole : take count text ≡ text = take_all count text all in
+    (subst (AllDigits 10) whole h.digits, h.value ∙ ap (digits_value 10) whole)
+
+-- the value of a text by its last digit
+pub by_last : (text : List ℕ) (count front n : ℕ) → length text ≡ count + 1 → IsReadUpTo text count front → n < 2 ^ 64 → text ≡ decimal n
+    → n ≡ front * 10 + digit_value (get_or text count 0)
+by_last text count front n long h fits e =
+    let whole : take (count + 1) text ≡ text = take_all (count + 1) text (omega (arith, long)) in
+    let value : digits_value 10 text ≡ n = ap (digits_value 10) e ∙ (decimal_is_IsNumeral n fits).1 in
+    omega (arith, digits_value_more 10 text count (omega (arith, long)), ap (digits_value 10) whole, value, h.value)
+
+-- the first byte of what is left is the next one
+pub last_of : (text : List ℕ) (count : ℕ) → count < length text → get_or (take (length text - count) (drop count text)) 0 0 ≡ get_or text count 0
+last_of text count lt =
+    get_or-take (length text - count) (drop count text) 0 0 (omega (arith, lt)) ∙ ap (λ (t : List ℕ). get_or t 0 0) (drop_more text count 0 lt)
+
+-- a number's text has digits alone
+pub all_digits : (text : List ℕ) (count n : ℕ) → count < length text → 10 ≤ digit_value (get_or text count 0) → n < 2 ^ 64 → text ≡ decimal n → ⊥
+all_digits text count n lt bad fits e =
+    let digit = digit_at text count (rw e (digits_decimal own_digits n fits)) lt in
+    omega (arith, digit_value_digit (get_or text count 0) digit, bad, digit)
+
+-- and no more than twenty
+pub too_many : (text : List ℕ) (count n : ℕ) → count + 2 ≤ length text → count ≤ 19 → (count < 19 → 10 ≤ digit_value (get_or text count 0)) → n < 2 ^ 64 → text ≡ decimal n → ⊥
+too_many text count n long few stop fits e =
+    elim (cases_lt count 19) [
+      | inl short ↦ all_digits text count n (omega (arith, long)) (stop short) fits e
+      | inr past ↦ omega (arith, long, past, ap length e, length-decimal-le 20 n (omega arith) (omega (arith, fits)) fits)
     ]
 
 -- ---- a decimal's length, and its last digits

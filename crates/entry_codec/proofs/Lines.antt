@@ -16,7 +16,7 @@ use Rattle.entry_codec.specs.declared.fault.LineError.{LineError}
 use Rattle.entry_codec.specs.declared.fault.LineError.TheVariants.{TooLong, NoEnd, BadKind, BadField, BadMove, CountWrong, TrailingBytes, OutOfMemory}
 use Rattle.entry_codec.specs.Parts.{split_at, parts_in, left, Reads, Gives}
 use Rattle.entry_codec.specs.Spelling.{parts_of, part_text, text_of, line, Spells}
-use Rattle.entry_codec.specs.Pieces.{pieces}
+use Rattle.entry_codec.specs.Pieces.{pieces, IsLine}
 use Rattle.entry_codec.specs.Reading.{fault_if, entry_of, push_of, answer_of, short_of, message_of, is_ended, reading}
 use Rattle.entry_codec.proofs.Bytes.{Lacks, are_parts, all_back, text_lacks_end}
 use Rattle.entry_codec.proofs.MoveFields.{both_are, which}
@@ -186,6 +186,10 @@ pub ends_first : (m n : MessageValue) (text rest : List ℕ) → Spells m text �
 ends_first m n text rest h k =
     let whole : (text_of m ++ 10 ∷ []) ++ rest ≡ text_of n ++ 10 ∷ [] = ap (λ (t : List ℕ). t ++ rest) (sym h.1) ∙ k.1 in
     first_end (text_of m) (text_of n) rest (text_lacks_end n k.0) (sym (append_assoc (text_of m) (10 ∷ []) rest) ∙ whole)
+
+pub is_line : (m : MessageValue) (text : List ℕ) → Spells m text → IsLine text
+is_line m text h =
+    (text_of m, h.1, λ k d lt. eqb-false (get_or (text_of m) k d) 10 (text_lacks_end m h.0 k d lt))
 
 -- a line is the first piece of what it begins
 pub first_piece : (m : MessageValue) (rest : List ℕ) → IsMessage m → pieces (line m ++ rest) ≡ line m ∷ pieces rest

@@ -1,6 +1,6 @@
 -- The number that a text spells.
-use Rattle.std.proofs.Common.{◌≡◌, ℕ, ◌^◌, ◌<◌, ◌≤◌, Bool, true, ◌&&◌, not, ltb, List, Some, None, refl, sym, ap, subst, ◌∙◌, arith, inl, inr}
-use Rattle.std.specs.Prelude.{decimal}
+use Rattle.std.proofs.Common.{◌≡◌, ℕ, ◌^◌, ◌<◌, ◌≤◌, Bool, true, ◌&&◌, not, ltb, List, Option, Some, None, refl, sym, ap, subst, ◌∙◌, arith, inl, inr}
+use Rattle.std.specs.Prelude.{decimal, IfSome}
 use Rattle.std.specs.Str.{bytes_eq}
 use Rattle.std.specs.Str.Parse.{digits_value}
 use Rattle.std.proofs.lemmas.Bool.{ltb-false, le-ltb, and_parts, cases_Bool, not-true}
@@ -40,14 +40,22 @@ number_none low high text none =
     ]
 
 -- what a call that found the number, or none, answers after testing the range
-pub found_within : (low high n : ℕ) (text : List ℕ) → n < 10 ^ 19 → text ≡ decimal n → low ≤ n → n ≤ high → Some n ≡ number_of low high text
-found_within low high n text small is above below = sym (ap (number_of low high) is ∙ number_some low high n (omega (arith, small)) above below)
+pub found_within : (low high n : ℕ) (text : List ℕ) → n < 2 ^ 64 → text ≡ decimal n → low ≤ n → n ≤ high → Some n ≡ number_of low high text
+found_within low high n text fits is above below = sym (ap (number_of low high) is ∙ number_some low high n fits above below)
 
-pub found_outside : (low high n : ℕ) (text : List ℕ) → n < 10 ^ 19 → high < 10 ^ 19 → text ≡ decimal n → (low ≤ n → n ≤ high → ⊥) → None ≡ number_of low high text
-found_outside low high n text small top is out =
+pub found_outside : (low high n : ℕ) (text : List ℕ) → n < 2 ^ 64 → high < 2 ^ 64 → text ≡ decimal n → (low ≤ n → n ≤ high → ⊥) → None ≡ number_of low high text
+found_outside low high n text fits top is out =
     sym (number_none low high text (λ m e above below.
-    let same : n ≡ m = decimal_injective n m (omega (arith, small)) (omega (arith, below, top)) (sym is ∙ e) in
+    let same : n ≡ m = decimal_injective n m fits (omega (arith, below, top)) (sym is ∙ e) in
     out (omega (arith, same, above)) (omega (arith, same, below))))
 
-pub found_none : (low high : ℕ) (text : List ℕ) → high < 10 ^ 19 → ((n : ℕ) → n < 10 ^ 19 → text ≡ decimal n → ⊥) → None ≡ number_of low high text
+pub found_none : (low high : ℕ) (text : List ℕ) → high < 2 ^ 64 → ((n : ℕ) → n < 2 ^ 64 → text ≡ decimal n → ⊥) → None ≡ number_of low high text
 found_none low high text top none = sym (number_none low high text (λ n e above below. none n (omega (arith, below, top)) e))
+
+-- what a call that reads a number found
+pub is_found : (low high : ℕ) (text : List ℕ) (r : Option ℕ) → r ≡ number_of low high text → IfSome r (λ n. (low ≤ n) × (n ≤ high) × (text ≡ decimal n))
+is_found low high text None h = tt
+is_found low high text (Some n) h = let p = number_is low high text n (sym h) in (p.1, p.2, p.0)
+
+pub is_only : (low high : ℕ) (text : List ℕ) (r : Option ℕ) → high < 2 ^ 64 → r ≡ number_of low high text → (n : ℕ) → low ≤ n → n ≤ high → text ≡ decimal n → r ≡ Some n
+is_only low high text r top h n above below e = h ∙ ap (number_of low high) e ∙ number_some low high n (omega (arith, below, top)) above below

@@ -1,3 +1,4 @@
+pub mod Faults
 pub mod Spelling
 pub mod Texts
 pub mod Parts

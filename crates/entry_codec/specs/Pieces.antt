@@ -1,5 +1,6 @@
 -- The pieces of a stream of bytes, each ending in its first line feed.
-use Rattle.std.specs.Prelude.{ℕ, List, [], ◌∷◌, ◌++◌, ◌==◌, if◌then◌else◌}
+use Rattle.std.specs.Prelude.{◌≡◌, ◌≢◌, ℕ, List, [], ◌∷◌, ◌++◌, ◌==◌, if◌then◌else◌}
+use Rattle.std.specs.List.{All}
 
 -- the pieces that end in these bytes, where front came since the last line feed before them
 abbrev pub pieces_after : List ℕ → List ℕ → List (List ℕ)
@@ -18,3 +19,7 @@ pieces stream = pieces_after [] stream
 
 abbrev pub unfinished : List ℕ → List ℕ
 unfinished stream = rest_after [] stream
+
+-- a text whose one line feed is its last byte
+abbrev pub IsLine : List ℕ → Type 0
+IsLine text = (front : List ℕ) × (text ≡ front ++ 10 ∷ []) × All (λ b. b ≢ 10) front

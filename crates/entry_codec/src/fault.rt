@@ -1,5 +1,6 @@
 //! Why a line is refused.
 ghost use Rattle.std.specs.Prelude.{◌≡◌};
+ghost use Rattle.entry_codec.specs.Faults.{fault_number};
 ghost use Rattle.entry_codec.specs.declared.fault.LineError.TheVariants.{OutOfMemory as NoMemory};
 
 use rights_types::OutOfMemory;
@@ -34,6 +35,24 @@ pub enum LineError {
     TrailingBytes,
     /// The line has no fault, and a request for the message's memory was refused.
     OutOfMemory,
+}
+
+impl LineError {
+    /// Which of the causes it is, from 1 to 8: what a script prints of a line that is refused.
+    pub fn number(self) -> u64
+        ensures { result ≡ fault_number self }
+    {
+        match self {
+            LineError::TooLong => 1,
+            LineError::NoEnd => 2,
+            LineError::BadKind => 3,
+            LineError::BadField(_) => 4,
+            LineError::BadMove(_) => 5,
+            LineError::CountWrong => 6,
+            LineError::TrailingBytes => 7,
+            LineError::OutOfMemory => 8,
+        }
+    }
 }
 
 impl From<OutOfMemory> for LineError {

@@ -2,12 +2,22 @@
 ghost use Rattle.std.specs.Prelude.{◌≡◌, ℕ, ◌≤◌, List, [], ◌∷◌, ◌++◌, length, Ok};
 ghost use Rattle.rights_types.specs.Messages.{MessageValue, IsMessage};
 ghost use Rattle.entry_codec.specs.Spelling.{line, Spells};
-ghost use Rattle.entry_codec.specs.Pieces.{pieces};
+ghost use Rattle.entry_codec.specs.Pieces.{pieces, IsLine};
 ghost use Rattle.entry_codec.specs.Reading.{reading};
 
 /// What was written is read again.
 pub fn reads_back()
     ensures { (m : MessageValue) → IsMessage m → reading (line m) ≡ Ok m }
+{}
+
+/// What is read is what the text spells.
+pub fn read_is_spelled()
+    ensures { (m : MessageValue) (text : List ℕ) → reading text ≡ Ok m → Spells m text }
+{}
+
+/// A message's line has one line feed, its last byte.
+pub fn ends_once()
+    ensures { (m : MessageValue) (text : List ℕ) → Spells m text → IsLine text }
 {}
 
 /// A text spells one message, and a message has one spelling.

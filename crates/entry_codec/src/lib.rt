@@ -18,8 +18,9 @@ mod writing;
 
 pub use cutter::{Cut, LineCutter};
 pub use fault::{LineError, Place};
-pub use laws::{no_prefix, reads_back, reads_on, spelled_once};
+pub use laws::{ends_once, no_prefix, read_is_spelled, reads_back, reads_on, spelled_once};
 pub use moves::read_move;
+pub use number::read_decimal;
 pub use reading::read_line;
 pub use writing::{write_entry, write_into, write_line};
 

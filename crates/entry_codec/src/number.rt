@@ -1,20 +1,68 @@
 //! Decimals: no sign, and no leading zero but in `0`.
-ghost use Rattle.std.specs.Prelude.{◌≡◌, ◌<◌, ◌≤◌, ◌^◌, length, MatchOption, IfSome};
+ghost use Rattle.std.specs.Prelude.{◌≡◌, ℕ, ◌<◌, ◌≤◌, ◌^◌, length, slice_index, decimal, MatchOption, IfSome, Some};
 ghost use Rattle.std.specs.Char.{digit_value};
 ghost use Rattle.std.specs.Str.Parse.{AllDigits, digits_value};
+ghost use Rattle.entry_codec.specs.Digits.{IsReadUpTo};
 ghost use Rattle.entry_codec.specs.Moves.{number_of};
 ghost use Rattle.entry_codec.specs.Texts.{is_canonical};
 
-/// The most digits of a number.
-pub(crate) const MAX_DIGITS: usize = 19;
+/// So many digits are read without a test: their value fits a `u64`.
+const SAFE_DIGITS: usize = 19;
 
-pub(crate) fn digit(byte: u8) -> Option<u64>
+/// The number from `least` to `most` that a text spells.
+pub fn read_decimal(text: &[u8], least: u64, most: u64) -> Option<u64>
+    // What is read is what the text spells.
+    ensures found { IfSome result (λ n. (least ≤ n) × (n ≤ most) × (text.now ≡ decimal n)) }
+    // What is spelled is read.
+    ensures only { (n : ℕ) → least ≤ n → n ≤ most → text.now ≡ decimal n → result ≡ Some n }
+    // The same, as a function of the text.
+    ensures exact { result ≡ number_of least most text.now }
+{
+    decimal_of(text, least, most)
+}
+
+// A number has no more than one digit behind the safe ones.
+fn decimal_of(text: &[u8], least: u64, most: u64) -> Option<u64>
+    ensures { result ≡ number_of least most text.now }
+{
+    let (front, count) = leading_digits(text);
+    match &text[count..] {
+        [] => checked(text, front, least, most),
+        [last] => {
+            let last = digit(*last)?;
+            checked(text, front.checked_mul(10)?.checked_add(last)?, least, most)
+        }
+        _ => None,
+    }
+}
+
+fn digit(byte: u8) -> Option<u64>
     ensures { MatchOption result (10 ≤ digit_value byte) (λ d. (d < 10) × (d ≡ digit_value byte)) }
 {
     match byte {
         b'0'..=b'9' => Some((byte - b'0') as u64),
         _ => None,
     }
+}
+
+/// The value of the digits that a text begins with, and how many they are, at most as many as are
+/// safe.
+pub(crate) fn leading_digits(text: &[u8]) -> (u64, usize)
+    ensures read { IsReadUpTo text.now result.1 result.0 }
+    ensures few { result.1 ≤ 19 }
+    ensures within { result.1 ≤ length text.now }
+    ensures stop { result.1 < length text.now → result.1 < 19
+        → 10 ≤ digit_value (slice_index text.now result.1) }
+{
+    let front = &text[..text.len().min(SAFE_DIGITS)];
+    let mut value: u64 = 0;
+    for (count, byte) in front.iter().enumerate() {
+        match digit(*byte) {
+            Some(digit) => value = value * 10 + digit,
+            None => return (value, count),
+        }
+    }
+    (value, front.len())
 }
 
 // Whether the digits are those of some number, which has no leading zero.
@@ -32,8 +80,6 @@ fn is_canonical(digits: &[u8]) -> bool
 pub(crate) fn checked(digits: &[u8], value: u64, low: u64, high: u64) -> Option<u64>
     requires digits { AllDigits 10 digits.now }
     requires value { value ≡ digits_value 10 digits.now }
-    requires short { length digits.now ≤ 19 }
-    requires high { high < 10 ^ 19 }
     ensures value { result ≡ number_of low high digits.now }
     ensures range { IfSome result (λ n. (low ≤ n) × (n ≤ high)) }
 {

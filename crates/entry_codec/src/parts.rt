@@ -1,13 +1,11 @@
 //! Walking over the parts of a text, which a byte parts.
-ghost use Rattle.std.specs.Prelude.{◌≡◌, ◌∷◌, ◌==◌, ◌<◌, ◌≤◌, ◌^◌, ◌⊎◌, length, slice_index, position, is_none, IfSome, IfOk};
-ghost use Rattle.std.specs.Char.{digit_value};
+ghost use Rattle.std.specs.Prelude.{◌≡◌, ◌∷◌, ◌==◌, ◌<◌, ◌≤◌, ◌^◌, ◌⊎◌, length, position, is_none, IfSome, IfOk};
 ghost use Rattle.entry_codec.specs.Parts.{split_at, left, Finds, Reads};
 ghost use Rattle.entry_codec.specs.Moves.{first_number, only_number};
 ghost use Rattle.entry_codec.specs.Reading.{value_at};
-ghost use Rattle.entry_codec.specs.Digits.{IsReadUpTo};
 
 use crate::fault::{LineError, Place};
-use crate::number::{MAX_DIGITS, checked, digit};
+use crate::number::{checked, leading_digits};
 use memchr::memchr;
 
 fn position_of(text: &[u8], at: u8) -> Option<usize>
@@ -47,26 +45,6 @@ pub(crate) fn split_far(text: &[u8], at: u8) -> (&[u8], Option<&[u8]>)
         None => (text, None),
         Some(i) => (&text[..i], Some(&text[i + 1..])),
     }
-}
-
-// The value of the digits that a text begins with, and how many they are, at most as many as a
-// number has.
-fn leading_digits(text: &[u8]) -> (u64, usize)
-    ensures read { IsReadUpTo text.now result.1 result.0 }
-    ensures few { result.1 ≤ 19 }
-    ensures within { result.1 ≤ length text.now }
-    ensures stop { result.1 < length text.now → result.1 < 19
-        → 10 ≤ digit_value (slice_index text.now result.1) }
-{
-    let front = &text[..text.len().min(MAX_DIGITS)];
-    let mut value: u64 = 0;
-    for (count, byte) in front.iter().enumerate() {
-        match digit(*byte) {
-            Some(digit) => value = value * 10 + digit,
-            None => return (value, count),
-        }
-    }
-    (value, front.len())
 }
 
 /// The number that the first part spells, and what comes after it. The byte that parts is no digit.

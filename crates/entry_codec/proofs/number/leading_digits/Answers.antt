@@ -2,7 +2,7 @@ use Rattle.std.proofs.Common.{◌<◌, ap, ◌∙◌, arith}
 use Rattle.std.specs.Char.{digit_value}
 use Rattle.std.proofs.lemmas.List.{length-take-le, get_or-take}
 use Rattle.entry_codec.proofs.Digits.{tenfold, reads_more}
-use Rattle.entry_codec.proofs.parts.leading_digits.Goals as goal
+use Rattle.entry_codec.proofs.number.leading_digits.Goals as goal
 
 pub overflow_mul-value : goal.overflow_mul-value
 overflow_mul-value c =
