@@ -1,15 +1,14 @@
 -- An answer and its parts: what is read is spelled so and keeps its limits, and what is spelled so is read.
-use Rattle.std.proofs.Common.{◌≡◌, ℕ, ◌+◌, ◌≤◌, ◌<◌, false, not, ltb, List, [], ◌∷◌, ◌++◌, length, take, map, Option, Some, None, Result, Ok, Err, refl, sym, ap, subst, ◌∙◌, arith, inl, inr, append_assoc}
+use Rattle.std.proofs.Common.{◌≡◌, ℕ, ◌+◌, ◌≤◌, ◌<◌, not, ltb, List, [], ◌∷◌, ◌++◌, length, take, map, Option, Some, None, Result, Ok, Err, refl, sym, ap, subst, ◌∙◌, arith, inl, inr, append_assoc}
 use Rattle.std.specs.Prelude.{◌==◌, decimal, codes, IfSome}
 use Rattle.std.specs.Borrow.{Bor}
-use Rattle.std.specs.List.{All, AllByRecursion, list_any}
-use Rattle.std.proofs.lemmas.Bool.{ltb-false, le-ltb, lt-ltb, cases_lt, eq-eqb, ne_eqb}
+use Rattle.std.specs.List.{All}
+use Rattle.std.proofs.lemmas.Bool.{ltb-false, le-ltb, lt-ltb, cases_lt}
 use Rattle.std.proofs.lemmas.List.{append-nil, length_push, take_all, take-append-le, length-take-le, take-take}
 use Rattle.std.proofs.lemmas.List.Elements.{All-from_recursion, recursion_from_All}
 use Rattle.rights_types.specs.Ranges.{IsSite}
 use Rattle.rights_types.specs.Entries.{EntryValue, IsEntry}
-use Rattle.rights_types.specs.Messages.{MessageValue, AnswerValue, IsAnswer, AnswerMade}
-use Rattle.rights_types.specs.declared.fault.TypeError.{TypeError}
+use Rattle.rights_types.specs.Messages.{MessageValue, AnswerValue, IsAnswer}
 use Rattle.rights_types.specs.Messages.MessageValue.{AnAnswer}
 use Rattle.entry_codec.specs.declared.fault.LineError.{LineError}
 use Rattle.entry_codec.specs.declared.fault.LineError.TheVariants.{TooLong, NoEnd, BadKind, BadField, BadMove, CountWrong, TrailingBytes, OutOfMemory}
@@ -247,20 +246,6 @@ pub too_many : (items : List EntryValue) (count part origin : ℕ) (rest : List 
     → rest ≡ [] → 16 < count → AreKeptUpTo items count (entries_of part origin rest) (entries_of 1 origin parts) → answer_entries_of origin parts ≡ Err CountWrong
 too_many items count part origin rest parts e many h =
     counted_many origin parts h.read.entries (all_read count part origin rest (entries_of 1 origin parts) h.read e) (omega (arith, h.read.count-is, many))
-
--- ---- the code's values
-
-none_foreign : (o : ℕ) (es : List EntryValue) → AllByRecursion (IsOf o) es → list_any (λ (e : EntryValue). not (e.origin == o)) es ≡ false
-none_foreign o [] h = refl
-none_foreign o (e ∷ es) h = rw (eq-eqb e.origin o h.0) (none_foreign o es h.1)
-
--- what keeps the limits is made
-pub no_fault : (a : AnswerValue) (f : TypeError) → IsAnswer a → AnswerMade a (Err f) → ⊥
-no_fault a f h made =
-    let same = none_foreign a.origin a.entries (recursion_from_All (IsOf a.origin) a.entries h.of_origin) in
-    let few = le-ltb 16 (length a.entries) h.few in
-    let differ = ne_eqb a.asker a.origin h.differ in
-    let bad = rw (same, few, differ) at made in absurd cc
 
 -- ---- room
 

@@ -10,7 +10,7 @@ use Rattle.std.proofs.lemmas.Int.Digits.{digits_value-lt, digits_more, digits_va
 use Rattle.std.proofs.lemmas.List.{drop_more, drop-set, drop-take, take-set, take-set-le, take-take, take_all, take-append-drop, length-take-le, length-drop, get_or_default, get_or-take}
 use Rattle.std.proofs.lemmas.List.Splits.{slice_split_none, slice_split_at, slice_split-cons_yes, slice_split-cons_no}
 use Rattle.std.proofs.lemmas.Str.{digit_value_digit}
-use Rattle.std.proofs.lemmas.Str.Parse.{IsNumeralModel, numerals_by_value, tells_digits, digits_value_short, digit_at}
+use Rattle.std.proofs.lemmas.Str.Parse.{IsNumeralModel, numerals_by_value, tells_digits, digit_at}
 use Rattle.std.proofs.Math.Nat.{pow-le-pow_right, pow-suc, pow-succ', div-div-eq-div-mul}
 use Rattle.entry_codec.specs.Parts.{split_at}
 use Rattle.entry_codec.specs.Moves.{number_of, first_number}

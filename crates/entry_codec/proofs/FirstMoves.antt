@@ -10,7 +10,7 @@ use Rattle.std.proofs.lemmas.List.Splits.{slice_split_none, slice_split_at, slic
 use Rattle.rights_types.specs.declared.moves.Move.{Move}
 use Rattle.rights_types.specs.declared.moves.Move.TheVariants.{Issue, Spend, Grant, Give}
 use Rattle.entry_codec.specs.Parts.{split_at, left}
-use Rattle.entry_codec.specs.Moves.{◌>>=◌, number_of, first_number, only_number, grant_of, give_of, move_of, first_move}
+use Rattle.entry_codec.specs.Moves.{◌>>=◌, number_of, first_number, only_number, grant_in, give_in, move_of, first_move}
 use Rattle.entry_codec.proofs.Bytes.{Lacks, decimal_lacks}
 use Rattle.entry_codec.specs.declared.fault.LineError.{LineError}
 use Rattle.entry_codec.specs.Reading.{is_misplaced, allowed}
@@ -154,7 +154,7 @@ no_peer None k = refl
 no_peer (Some x) k = rw (k x refl) refl
 
 pub give_none : (values : List ℕ) → first_number 1 16 (split_at 58 values) ≡ None → first_move (split_at 32 (82 ∷ 58 ∷ values)) ≡ None
-unfolding first_move move_of give_of
+unfolding first_move move_of give_in
 give_none values h =
     let p = some_part 32 values in
     let fields = lettered 82 values p.0 p.1 refl p.2 in
@@ -175,7 +175,7 @@ give_number j gs (Some n) = refl
 
 pub give_first : (values : List ℕ) (j : ℕ) (r : Option (Bor (List ℕ))) → first_number 1 16 (split_at 58 values) ≡ Some (j, left 58 r)
     → first_move (split_at 32 (82 ∷ 58 ∷ values)) ≡ (first_number 1 1000000000 (left 32 r) >>= gave j)
-unfolding first_move move_of give_of only_number first_number
+unfolding first_move move_of give_in only_number first_number
 give_first values j None h =
     let a = alone_parts 1 16 j values (omega arith) h in
     let fields = lettered 82 values (decimal j) [] refl a.0 in
@@ -207,7 +207,7 @@ no_grant_peer None k = refl
 no_grant_peer (Some x) k = rw (k x refl) refl
 
 pub grant_none : (values : List ℕ) → first_number 1 16 (split_at 58 values) ≡ None → first_move (split_at 32 (71 ∷ 58 ∷ values)) ≡ None
-unfolding first_move move_of grant_of
+unfolding first_move move_of grant_in
 grant_none values h =
     let p = some_part 32 values in
     let fields = lettered 71 values p.0 p.1 refl p.2 in
@@ -216,7 +216,7 @@ grant_none values h =
 
 pub grant_peer : (values : List ℕ) (j : ℕ) (r : Option (Bor (List ℕ))) → first_number 1 16 (split_at 58 values) ≡ Some (j, left 58 r) → first_number 1 1000000000 (left 58 r) ≡ None
     → first_move (split_at 32 (71 ∷ 58 ∷ values)) ≡ None
-unfolding first_move move_of grant_of
+unfolding first_move move_of grant_in
 grant_peer values j None h none =
     let a = alone_parts 1 16 j values (omega arith) h in
     let fields = lettered 71 values (decimal j) [] refl a.0 in
@@ -237,7 +237,7 @@ grant_number j n gs (Some a) = refl
 
 pub grant_first : (values : List ℕ) (j n : ℕ) (r s : Option (Bor (List ℕ))) → first_number 1 16 (split_at 58 values) ≡ Some (j, left 58 r) → first_number 1 1000000000 (left 58 r) ≡ Some (n, left 58 s)
     → first_move (split_at 32 (71 ∷ 58 ∷ values)) ≡ (first_number 1 1000000000 (left 32 s) >>= granted j n)
-unfolding first_move move_of grant_of only_number first_number
+unfolding first_move move_of grant_in only_number first_number
 grant_first values j n None s h k = absurd cc
 grant_first values j n (Some u) None h k =
     let a = alone_parts 1 1000000000 n u.now (omega arith) k in

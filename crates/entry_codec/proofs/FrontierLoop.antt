@@ -6,7 +6,7 @@ use Rattle.std.proofs.lemmas.List.{append-nil, take_more_set, length-set}
 use Rattle.rights_types.specs.Frontiers.{FrontierMade}
 use Rattle.rights_types.specs.declared.fault.TypeError.{TypeError}
 use Rattle.rights_types.specs.declared.fault.TypeError.TheVariants.{BadSite, BadAmount, BadNumber, BadCount, CloseNotLast, SameSite}
-use Rattle.entry_codec.specs.Moves.{◌>>=◌, number_of, first_number, all_numbers, frontier_of}
+use Rattle.entry_codec.specs.Moves.{◌>>=◌, number_of, first_number, all_numbers, frontier_in}
 use Rattle.entry_codec.specs.Parts.{left}
 use Rattle.std.specs.Borrow.{Bor}
 use Rattle.entry_codec.proofs.Cuts.{some_parts}
@@ -52,8 +52,8 @@ or_true false = refl
 
 -- no frontier where a value is no number, or there are more than 16
 pub stops : (numbers : List ℕ) (count : ℕ) (text : List ℕ) (more rest whole : List (List ℕ)) → rest ≡ text ∷ more
-    → number_of 0 1000000000 text ≡ None → IsReadUpTo numbers count rest whole → None ≡ frontier_of whole
-unfolding all_numbers frontier_of
+    → number_of 0 1000000000 text ≡ None → IsReadUpTo numbers count rest whole → None ≡ frontier_in whole
+unfolding all_numbers frontier_in
 stops numbers count text more rest whole e is h =
     let none : all_numbers whole ≡ None = sym h.so_far ∙ rw (e, is) refl in
     grind (arith, none)
@@ -76,7 +76,7 @@ no_number : (text : List ℕ) (more : List (List ℕ)) → first_number 0 100000
 unfolding first_number
 no_number text more h = none_of more (number_of 0 1000000000 text) h
 
-pub stops_first : (numbers : List ℕ) (count : ℕ) (rest whole : List (List ℕ)) → 1 ≤ length rest → first_number 0 1000000000 rest ≡ None → IsReadUpTo numbers count rest whole → None ≡ frontier_of whole
+pub stops_first : (numbers : List ℕ) (count : ℕ) (rest whole : List (List ℕ)) → 1 ≤ length rest → first_number 0 1000000000 rest ≡ None → IsReadUpTo numbers count rest whole → None ≡ frontier_in whole
 stops_first numbers count [] whole some h inv = absurd (omega (arith, some))
 stops_first numbers count (text ∷ more) whole some h inv = stops numbers count text more (text ∷ more) whole refl (no_number text more h) inv
 
@@ -90,8 +90,8 @@ no_values None r h k = refl
 no_values (Some text) r h k = absurd cc
 
 pub too_many : (numbers : List ℕ) (count : ℕ) (rest whole : List (List ℕ)) → 1 ≤ length rest
-    → 16 ≤ count → IsReadUpTo numbers count rest whole → None ≡ frontier_of whole
-unfolding frontier_of
+    → 16 ≤ count → IsReadUpTo numbers count rest whole → None ≡ frontier_in whole
+unfolding frontier_in
 too_many numbers count rest whole some past h =
     let many : ltb 16 (length whole) ≡ true = lt-ltb 16 (length whole) (omega (arith, h.sum, past, some)) in
     rw (many, or_true (ltb (length whole) 2)) refl
@@ -102,15 +102,15 @@ all_read numbers count rest whole e h =
     (sym h.so_far ∙ rw e (ap (λ (x : List ℕ). Some x) (append-nil (take count numbers))), omega (arith, h.sum, ap length e))
 
 -- what making the frontier answers
-pub made : (ns f : List ℕ) (whole : List (List ℕ)) → all_numbers whole ≡ Some ns → length whole ≡ length ns → FrontierMade ns (Ok f) → Some f ≡ frontier_of whole
-unfolding frontier_of
+pub made : (ns f : List ℕ) (whole : List (List ℕ)) → all_numbers whole ≡ Some ns → length whole ≡ length ns → FrontierMade ns (Ok f) → Some f ≡ frontier_in whole
+unfolding frontier_in
 made ns f whole read same h =
     let some : ltb (length whole) 2 ≡ false = le-ltb (length whole) 2 (omega (arith, same, h.0.some)) in
     let few : ltb 16 (length whole) ≡ false = le-ltb 16 (length whole) (omega (arith, same, h.0.few)) in
     rw (some, few, read, h.1) refl
 
-pub refused : (ns : List ℕ) (e : TypeError) (whole : List (List ℕ)) → all_numbers whole ≡ Some ns → length whole ≡ length ns → FrontierMade ns (Err e) → None ≡ frontier_of whole
-unfolding frontier_of
+pub refused : (ns : List ℕ) (e : TypeError) (whole : List (List ℕ)) → all_numbers whole ≡ Some ns → length whole ≡ length ns → FrontierMade ns (Err e) → None ≡ frontier_in whole
+unfolding frontier_in
 refused ns BadCount whole read same (inl few) = rw (lt-ltb (length whole) 2 (omega (arith, same, few))) refl
 refused ns BadCount whole read same (inr many) = rw (lt-ltb 16 (length whole) (omega (arith, same, many)), or_true (ltb (length whole) 2)) refl
 refused ns BadNumber whole read same h =

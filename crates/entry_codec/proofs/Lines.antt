@@ -14,7 +14,7 @@ use Rattle.rights_types.specs.Messages.{MessageValue, IsMessage}
 use Rattle.rights_types.specs.Messages.MessageValue.{AnEntry, AQuery, AnAnswer, ABeat, AnAsk, ADenial, AHello}
 use Rattle.entry_codec.specs.declared.fault.LineError.{LineError}
 use Rattle.entry_codec.specs.declared.fault.LineError.TheVariants.{TooLong, NoEnd, BadKind, BadField, BadMove, CountWrong, TrailingBytes, OutOfMemory}
-use Rattle.entry_codec.specs.Parts.{split_at, parts_in, left, Reads, Gives}
+use Rattle.entry_codec.specs.Parts.{split_at, parts_in, left, ReadsAs, Gives}
 use Rattle.entry_codec.specs.Spelling.{parts_of, part_text, text_of, line, Spells}
 use Rattle.entry_codec.specs.Pieces.{pieces, IsLine}
 use Rattle.entry_codec.specs.Reading.{fault_if, entry_of, push_of, answer_of, short_of, message_of, is_ended, reading}
@@ -93,7 +93,7 @@ gives_fault view CountWrong read h none = h
 gives_fault view TrailingBytes read h none = h
 gives_fault view OutOfMemory read h none = absurd (none h)
 
-pub reads_gives : {X Y : Type 0} (view : X → Y) (r : Result X LineError) (read : Result Y LineError) → Reads view r read → IsNoWant read → Gives view r read
+pub reads_gives : {X Y : Type 0} (view : X → Y) (r : Result X LineError) (read : Result Y LineError) → ReadsAs view r read → IsNoWant read → Gives view r read
 reads_gives view (Ok x) read h none = h
 reads_gives view (Err e) read h none = gives_fault view e read h none
 

@@ -15,7 +15,7 @@ use Rattle.rights_types.specs.declared.moves.Move.{Move}
 use Rattle.rights_types.specs.declared.moves.Move.TheVariants.{Issue, Spend, Grant, Give, Close, CloseAt, TakeBack}
 use Rattle.entry_codec.specs.Parts.{split_at}
 use Rattle.entry_codec.specs.Spelling.{move_values, move_text}
-use Rattle.entry_codec.specs.Moves.{◌>>=◌, number_of, first_number, only_number, all_numbers, grant_of, give_of, take_back_of, frontier_of, move_by, move_of}
+use Rattle.entry_codec.specs.Moves.{◌>>=◌, number_of, first_number, only_number, all_numbers, grant_in, give_in, take_back_in, frontier_in, move_by, move_of}
 use Rattle.entry_codec.proofs.Numbers.{number_is, number_some}
 use Rattle.entry_codec.proofs.Bytes.{values_back}
 
@@ -71,8 +71,8 @@ cond_some_of : {A : Type 0} (b : Bool) (o : Option A) (y : A) → cond b o None 
 cond_some_of true o y h = (refl, h)
 cond_some_of false o y h = absurd cc
 
-frontier_is : (texts : List (List ℕ)) (f : List ℕ) → frontier_of texts ≡ Some f → (texts ≡ map decimal f) × IsFrontier f
-unfolding frontier_of
+frontier_is : (texts : List (List ℕ)) (f : List ℕ) → frontier_in texts ≡ Some f → (texts ≡ map decimal f) × IsFrontier f
+unfolding frontier_in
 frontier_is texts f h =
     let a = none_or (ltb (length texts) 2 || ltb 16 (length texts)) (all_numbers texts) f h in
     let ns = all_numbers_are texts f a.1 in
@@ -101,8 +101,8 @@ all_again (n ∷ ns) h =
     let small = All-head IsNumber n ns h in
     rw (number_some 0 1000000000 n (omega (arith, small)) (omega arith) small, all_again ns (All-tail IsNumber n ns h)) refl
 
-frontier_again : (f : List ℕ) → IsFrontier f → frontier_of (map decimal f) ≡ Some f
-unfolding frontier_of
+frontier_again : (f : List ℕ) → IsFrontier f → frontier_in (map decimal f) ≡ Some f
+unfolding frontier_in
 frontier_again f h =
     let same : length (map decimal f) ≡ length f = length-map f decimal in
     let some : ltb (length (map decimal f)) 2 ≡ false = le-ltb (length (map decimal f)) 2 (omega (arith, same, h.some)) in
@@ -114,8 +114,8 @@ frontier_again f h =
 abbrev Spelled : List (List ℕ) → Move → Type 0
 Spelled texts m = (texts ≡ move_values m) × IsMove m
 
-grant_is : (values : List (List ℕ)) (m : Move) → grant_of values ≡ Some m → Spelled (codes "G" ∷ values) m
-unfolding grant_of
+grant_is : (values : List (List ℕ)) (m : Move) → grant_in values ≡ Some m → Spelled (codes "G" ∷ values) m
+unfolding grant_in
 grant_is values m h =
     let a = bind_some (first_number 1 16 values) _ m h in
     let b = bind_some (first_number 1 1000000000 a.0.1) _ m a.2 in
@@ -126,8 +126,8 @@ grant_is values m h =
     subst (Spelled (codes "G" ∷ values)) (same_Some (Grant a.0.0 b.0.0 c.0) m c.2)
     (both_are refl (j.0 ∙ both_are refl (n.0 ∙ both_are refl k.0)), ((j.1, j.2), (n.1, n.2), (k.1, k.2)))
 
-give_is : (values : List (List ℕ)) (m : Move) → give_of values ≡ Some m → Spelled (codes "R" ∷ values) m
-unfolding give_of
+give_is : (values : List (List ℕ)) (m : Move) → give_in values ≡ Some m → Spelled (codes "R" ∷ values) m
+unfolding give_in
 give_is values m h =
     let a = bind_some (first_number 1 16 values) _ m h in
     let b = bind_some (only_number 1 1000000000 a.0.1) _ m a.2 in
@@ -135,8 +135,8 @@ give_is values m h =
     let n = only_is 1 1000000000 a.0.1 b.0 b.1 in
     subst (Spelled (codes "R" ∷ values)) (same_Some (Give a.0.0 b.0) m b.2) (both_are refl (j.0 ∙ both_are refl n.0), ((j.1, j.2), (n.1, n.2)))
 
-take_back_is : (values : List (List ℕ)) (m : Move) → take_back_of values ≡ Some m → Spelled (codes "V" ∷ values) m
-unfolding take_back_of
+take_back_is : (values : List (List ℕ)) (m : Move) → take_back_in values ≡ Some m → Spelled (codes "V" ∷ values) m
+unfolding take_back_in
 take_back_is values m h =
     let a = bind_some (first_number 1 16 values) _ m h in
     let b = bind_some (only_number 1 1000000000000000000 a.0.1) _ m a.2 in
@@ -161,9 +161,9 @@ close_is values m h =
     let a = cond_some (length values == 0) Close m h in
     subst (Spelled (codes "C" ∷ values)) a.1 (both_are refl (nil_from_length values (eqb-true (length values) 0 a.0)), tt)
 
-close_at_is : (values : List (List ℕ)) (m : Move) → (frontier_of values >>= λ f. Some (CloseAt f)) ≡ Some m → Spelled (codes "K" ∷ values) m
+close_at_is : (values : List (List ℕ)) (m : Move) → (frontier_in values >>= λ f. Some (CloseAt f)) ≡ Some m → Spelled (codes "K" ∷ values) m
 close_at_is values m h =
-    let a = bind_some (frontier_of values) (λ f. Some (CloseAt f)) m h in
+    let a = bind_some (frontier_in values) (λ f. Some (CloseAt f)) m h in
     let f = frontier_is values a.0 a.1 in
     subst (Spelled (codes "K" ∷ values)) (same_Some (CloseAt a.0) m a.2) (both_are refl f.0, f.1)
 
@@ -187,7 +187,7 @@ move_is (l ∷ vs) m h =
               | inr n ↦ elim (which (bytes_eq l (codes "K")) _ _ (Some m) n.1) [
                 | inl y ↦ with_letter l (codes "K") vs m y.0 (close_at_is vs m y.1)
                 | inr n ↦
-                    let y = cond_some_of (bytes_eq l (codes "V")) (take_back_of vs) m n.1 in
+                    let y = cond_some_of (bytes_eq l (codes "V")) (take_back_in vs) m n.1 in
                     with_letter l (codes "V") vs m y.0 (take_back_is vs m y.1)
               ]
             ]
@@ -203,17 +203,17 @@ move_of_is text m h =
     let found = move_is (split_at 58 text) m h in
     (sym (join_with_byte-slice_split 58 text) ∙ ap (join_with_byte 58) found.0, found.1)
 
-grant_again : (j n a : ℕ) → IsMove (Grant j n a) → grant_of (decimal j ∷ decimal n ∷ decimal a ∷ []) ≡ Some (Grant j n a)
-unfolding grant_of
+grant_again : (j n a : ℕ) → IsMove (Grant j n a) → grant_in (decimal j ∷ decimal n ∷ decimal a ∷ []) ≡ Some (Grant j n a)
+unfolding grant_in
 grant_again j n a h =
     rw (first_again 1 16 j (decimal n ∷ decimal a ∷ []) (omega (arith, h.0.1)) h.0.0 h.0.1, first_again 1 1000000000 n (decimal a ∷ []) (omega (arith, h.1.1)) h.1.0 h.1.1, only_again 1 1000000000 a (omega (arith, h.2.1)) h.2.0 h.2.1) refl
 
-give_again : (j n : ℕ) → IsMove (Give j n) → give_of (decimal j ∷ decimal n ∷ []) ≡ Some (Give j n)
-unfolding give_of
+give_again : (j n : ℕ) → IsMove (Give j n) → give_in (decimal j ∷ decimal n ∷ []) ≡ Some (Give j n)
+unfolding give_in
 give_again j n h = rw (first_again 1 16 j (decimal n ∷ []) (omega (arith, h.0.1)) h.0.0 h.0.1, only_again 1 1000000000 n (omega (arith, h.1.1)) h.1.0 h.1.1) refl
 
-take_back_again : (j n : ℕ) → IsMove (TakeBack j n) → take_back_of (decimal j ∷ decimal n ∷ []) ≡ Some (TakeBack j n)
-unfolding take_back_of
+take_back_again : (j n : ℕ) → IsMove (TakeBack j n) → take_back_in (decimal j ∷ decimal n ∷ []) ≡ Some (TakeBack j n)
+unfolding take_back_in
 take_back_again j n h = rw (first_again 1 16 j (decimal n ∷ []) (omega (arith, h.0.1)) h.0.0 h.0.1, only_again 1 1000000000000000000 n (omega (arith, h.1.1)) h.1.0 h.1.1) refl
 
 move_by_again : (m : Move) → IsMove m → move_by (move_values m) ≡ Some m

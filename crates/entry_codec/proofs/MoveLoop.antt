@@ -9,7 +9,7 @@ use Rattle.entry_codec.specs.declared.fault.LineError.{LineError}
 use Rattle.entry_codec.specs.declared.fault.LineError.TheVariants.{BadMove}
 use Rattle.entry_codec.specs.Kept.{AreKept, ReadsMoves}
 use Rattle.entry_codec.specs.Moves.{move_of}
-use Rattle.entry_codec.specs.Reading.{◌>>=◌, allowed, place, moves_of}
+use Rattle.entry_codec.specs.Reading.{◌>>=◌, allowed, place, moves_from}
 
 -- one more move is kept, if there is a slot for it
 pub keeps_more : (moves kept : List Move) (m : Move) → length kept ≡ 17 → AreKept moves kept → AreKept (moves ++ m ∷ []) (set kept (min (length moves) 16) m)
@@ -54,11 +54,11 @@ begins kept whole = record { moves = []; count-is = refl; are_kept = refl; so_fa
 
 pub reads_more : (kept : List Move) (count origin part field : ℕ) (text : List ℕ) (more rest : List (List ℕ)) (m : Move) (whole : Result (List Move) LineError)
     → length kept ≡ 17 → rest ≡ text ∷ more → allowed (BadMove (place part field)) origin (length more == 0) (move_of text) ≡ Ok m
-    → AreReadUpTo kept count (moves_of origin part field rest) whole → AreReadUpTo (set kept (min count 16) m) (count + 1) (moves_of origin part (field + 1) more) whole
-unfolding moves_of
+    → AreReadUpTo kept count (moves_from origin part field rest) whole → AreReadUpTo (set kept (min count 16) m) (count + 1) (moves_from origin part (field + 1) more) whole
+unfolding moves_from
 reads_more kept count origin part field text more rest m whole room e is h =
-    let one : with_front h.moves (moves_of origin part field (text ∷ more)) ≡ with_front (h.moves ++ m ∷ []) (moves_of origin part (field + 1) more) =
-    rw is (regroup h.moves m (moves_of origin part (field + 1) more)) in
+    let one : with_front h.moves (moves_from origin part field (text ∷ more)) ≡ with_front (h.moves ++ m ∷ []) (moves_from origin part (field + 1) more) =
+    rw is (regroup h.moves m (moves_from origin part (field + 1) more)) in
     record {
       moves = h.moves ++ m ∷ [];
       count-is = length_push h.moves m ∙ ap (λ (k : ℕ). k + 1) h.count-is;
@@ -68,15 +68,15 @@ reads_more kept count origin part field text more rest m whole room e is h =
 
 pub stops : (kept : List Move) (count origin part field : ℕ) (text : List ℕ) (more rest : List (List ℕ)) (e : LineError) (whole : Result (List Move) LineError)
     → rest ≡ text ∷ more → allowed (BadMove (place part field)) origin (length more == 0) (move_of text) ≡ Err e
-    → AreReadUpTo kept count (moves_of origin part field rest) whole → whole ≡ Err e
-unfolding moves_of
+    → AreReadUpTo kept count (moves_from origin part field rest) whole → whole ≡ Err e
+unfolding moves_from
 stops kept count origin part field text more rest e whole eq is h =
-    let one : with_front h.moves (moves_of origin part field (text ∷ more)) ≡ Err e = rw is refl in
+    let one : with_front h.moves (moves_from origin part field (text ∷ more)) ≡ Err e = rw is refl in
     sym (rw eq at h.so_far) ∙ one
 
 pub all_read : (kept : List Move) (count origin part field : ℕ) (rest : List (List ℕ)) (whole : Result (List Move) LineError)
-    → rest ≡ [] → AreReadUpTo kept count (moves_of origin part field rest) whole → ReadsMoves kept (Ok count) whole
-unfolding moves_of
+    → rest ≡ [] → AreReadUpTo kept count (moves_from origin part field rest) whole → ReadsMoves kept (Ok count) whole
+unfolding moves_from
 all_read kept count origin part field rest whole e h =
     (h.moves, sym h.so_far ∙ rw e (ap (λ (x : List Move). Ok x) (append-nil h.moves)), h.count-is, h.are_kept)
 

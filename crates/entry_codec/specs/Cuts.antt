@@ -3,11 +3,12 @@ use Rattle.std.specs.Prelude.{◌≡◌, ℕ, ◌<◌, ◌≤◌, List, [], ◌�
 use Rattle.entry_codec.specs.declared.cutter.Cut.{Cut}
 use Rattle.entry_codec.specs.declared.cutter.Cut.TheVariants.{Line, Long}
 use Rattle.entry_codec.specs.Cutter.{CutterView, IsFed}
+use Rattle.rights_types.specs.declared.limits.TheConstants.{MAX_LINE}
 
 -- what is given for a piece
 abbrev pub IsCut : {A : Type 0} → List ℕ → Cut A → Type 0
-IsCut piece (Line bytes) = (bytes.items ≡ piece) × (length piece ≤ 16384)
-IsCut piece Long = 16384 < length piece
+IsCut piece (Line bytes) = (bytes.items ≡ piece) × (length piece ≤ MAX_LINE)
+IsCut piece Long = MAX_LINE < length piece
 
 -- the cut is given for the next piece of the stream, and the cutter has what comes after it
 abbrev pub IsGiven : {A : Type 0} → Cut A → CutterView → List ℕ → List (List ℕ) → Type 0

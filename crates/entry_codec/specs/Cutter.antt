@@ -2,6 +2,8 @@
 use Rattle.std.specs.Prelude.{◌≡◌, ℕ, Bool, not, List, [], ◌∷◌, ◌++◌, length, nat_le, if◌then◌else◌}
 use Rattle.std.specs.Io.BufRead.{ends_with_byte}
 use Rattle.entry_codec.specs.Pieces.{pieces, unfinished}
+use Rattle.rights_types.specs.declared.limits.TheConstants.{MAX_LINE}
+use Rattle.entry_codec.specs.declared.format.TheConstants.{LINE_END}
 
 -- what it has of the piece at work: its bytes, unless they are too many
 pub record CutterView : Type 0 where
@@ -10,13 +12,13 @@ pub record CutterView : Type 0 where
   pub is_finished : Bool
 
 abbrev pub fits : List ℕ → Bool
-fits piece = nat_le (length piece) 16384
+fits piece = nat_le (length piece) MAX_LINE
 
 abbrev pub view_of : List ℕ → CutterView
 view_of piece = record {
   kept = if fits piece then piece else [];
   is_long = not (fits piece);
-  is_finished = ends_with_byte 10 piece;
+  is_finished = ends_with_byte LINE_END piece;
 }
 
 -- it took these bytes since the last piece that it gave

@@ -7,26 +7,28 @@ use Rattle.entry_codec.specs.declared.fault.LineError.{LineError}
 use Rattle.entry_codec.specs.Parts.{left}
 use Rattle.entry_codec.specs.Moves.{move_of}
 use Rattle.entry_codec.specs.Reading.{allowed}
+use Rattle.rights_types.specs.declared.limits.TheConstants.{MAX_MOVES}
+use Rattle.entry_codec.specs.declared.format.TheConstants.{FIELD_BREAK}
 
 -- the entry whose moves are the first of those that are kept
 abbrev pub kept_entry : ℕ → ℕ → ℕ → List Move → EntryValue
 kept_entry origin prev count kept = record { origin = origin; prev = prev; moves = take count kept }
 
 abbrev pub AreKept : List Move → List Move → Type 0
-AreKept moves kept = take 16 moves ≡ take (length moves) (take 16 kept)
+AreKept moves kept = take MAX_MOVES moves ≡ take (length moves) (take MAX_MOVES kept)
 
 -- the answer is what comes after the first field, whose move is in the slot
 abbrev pub FindsMove : Move → Option (Option (Bor (List ℕ)))
     → Option (Move × List (List ℕ)) → Type 0
-FindsMove slot (Some rest) read = read ≡ Some (slot, left 32 rest)
+FindsMove slot (Some rest) read = read ≡ Some (slot, left FIELD_BREAK rest)
 FindsMove slot None read = read ≡ None
 
 -- the same, for a field whose move may stand in an entry of this origin
 abbrev pub ReadsMove : LineError → ℕ → Move → Result (Option (Bor (List ℕ))) LineError
     → List (List ℕ) → Type 0
 ReadsMove fault origin slot (Ok rest) fields =
-    (text : List ℕ) × (fields ≡ text ∷ left 32 rest)
-    × (allowed fault origin (length (left 32 rest) == 0) (move_of text) ≡ Ok slot)
+    (text : List ℕ) × (fields ≡ text ∷ left FIELD_BREAK rest)
+    × (allowed fault origin (length (left FIELD_BREAK rest) == 0) (move_of text) ≡ Ok slot)
 ReadsMove fault origin slot (Err e) fields =
     (text : List ℕ) × (rest : List (List ℕ)) × (fields ≡ text ∷ rest)
     × (allowed fault origin (length rest == 0) (move_of text) ≡ Err e)

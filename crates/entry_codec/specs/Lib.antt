@@ -1,3 +1,4 @@
+pub mod Letters
 pub mod Faults
 pub mod Spelling
 pub mod Texts

@@ -1,10 +1,13 @@
 -- Reading a move from its field, whose values colons part: a letter, and numbers in their ranges.
-use Rattle.std.specs.Prelude.{ℕ, ◌&&◌, ◌||◌, not, List, [], ◌∷◌, length, Option, Some, None, nat_lt, ◌==◌, if◌then◌else◌, decimal, codes}
+use Rattle.std.specs.Prelude.{ℕ, ◌&&◌, ◌||◌, not, List, [], ◌∷◌, length, Option, Some, None, nat_lt, ◌==◌, if◌then◌else◌, decimal}
 use Rattle.std.specs.Str.{bytes_eq}
 use Rattle.std.specs.Str.Parse.{digits_value}
 use Rattle.rights_types.specs.declared.moves.Move.{Move}
 use Rattle.rights_types.specs.declared.moves.Move.TheVariants.{Issue, Spend, Grant, Give, Close, CloseAt, TakeBack}
 use Rattle.entry_codec.specs.Parts.{split_at}
+use Rattle.rights_types.specs.declared.limits.TheConstants.{MAX_AMOUNT, MAX_ASK, MAX_NUMBER, MAX_SITES, MAX_TOTAL, MIN_SITES}
+use Rattle.entry_codec.specs.declared.format.TheConstants.{CLOSE_AT_LETTER, CLOSE_LETTER, GIVE_LETTER, GRANT_LETTER, ISSUE_LETTER, SPEND_LETTER, TAKE_BACK_LETTER, VALUE_BREAK}
+use Rattle.entry_codec.specs.Letters.{is_letter}
 
 infixl 10 ◌>>=◌
 abbrev pub ◌>>=◌ : {A B : Type 0} → Option A → (A → Option B) → Option B
@@ -35,49 +38,49 @@ only_number low high texts = do
 unfoldable pub all_numbers : List (List ℕ) → Option (List ℕ)
 all_numbers [] = Some []
 all_numbers (text ∷ rest) = do
-  n ← number_of 0 1000000000 text
+  n ← number_of 0 MAX_NUMBER text
   ns ← all_numbers rest
   Some (n ∷ ns)
 
-unfoldable pub grant_of : List (List ℕ) → Option Move
-grant_of values = do
-  peer ← first_number 1 16 values
-  amount ← first_number 1 1000000000 peer.1
-  ask ← only_number 1 1000000000 amount.1
+unfoldable pub grant_in : List (List ℕ) → Option Move
+grant_in values = do
+  peer ← first_number 1 MAX_SITES values
+  amount ← first_number 1 MAX_AMOUNT peer.1
+  ask ← only_number 1 MAX_ASK amount.1
   Some (Grant peer.0 amount.0 ask)
 
-unfoldable pub give_of : List (List ℕ) → Option Move
-give_of values = do
-  peer ← first_number 1 16 values
-  amount ← only_number 1 1000000000 peer.1
+unfoldable pub give_in : List (List ℕ) → Option Move
+give_in values = do
+  peer ← first_number 1 MAX_SITES values
+  amount ← only_number 1 MAX_AMOUNT peer.1
   Some (Give peer.0 amount)
 
-unfoldable pub take_back_of : List (List ℕ) → Option Move
-take_back_of values = do
-  peer ← first_number 1 16 values
-  amount ← only_number 1 1000000000000000000 peer.1
+unfoldable pub take_back_in : List (List ℕ) → Option Move
+take_back_in values = do
+  peer ← first_number 1 MAX_SITES values
+  amount ← only_number 1 MAX_TOTAL peer.1
   Some (TakeBack peer.0 amount)
 
 -- the numbers of 2 to 16 sites
-unfoldable pub frontier_of : List (List ℕ) → Option (List ℕ)
-frontier_of values =
-    if nat_lt (length values) 2 || nat_lt 16 (length values) then None else all_numbers values
+unfoldable pub frontier_in : List (List ℕ) → Option (List ℕ)
+frontier_in values =
+    if nat_lt (length values) MIN_SITES || nat_lt MAX_SITES (length values) then None else all_numbers values
 
 abbrev pub move_by : List (List ℕ) → Option Move
 move_by [] = None
 move_by (letter ∷ values) =
-    if bytes_eq letter (codes "I") then only_number 1 1000000000 values >>= (λ n. Some (Issue n))
-    else (if bytes_eq letter (codes "S") then only_number 1 1000000000 values >>= (λ n. Some (Spend n))
-    else (if bytes_eq letter (codes "G") then grant_of values
-    else (if bytes_eq letter (codes "R") then give_of values
-    else (if bytes_eq letter (codes "C") then (if length values == 0 then Some Close else None)
-    else (if bytes_eq letter (codes "K") then frontier_of values >>= (λ f. Some (CloseAt f))
-    else (if bytes_eq letter (codes "V") then take_back_of values
+    if is_letter ISSUE_LETTER letter then only_number 1 MAX_AMOUNT values >>= (λ n. Some (Issue n))
+    else (if is_letter SPEND_LETTER letter then only_number 1 MAX_AMOUNT values >>= (λ n. Some (Spend n))
+    else (if is_letter GRANT_LETTER letter then grant_in values
+    else (if is_letter GIVE_LETTER letter then give_in values
+    else (if is_letter CLOSE_LETTER letter then (if length values == 0 then Some Close else None)
+    else (if is_letter CLOSE_AT_LETTER letter then frontier_in values >>= (λ f. Some (CloseAt f))
+    else (if is_letter TAKE_BACK_LETTER letter then take_back_in values
     else None))))))
 
 -- the move that a field spells
 unfoldable pub move_of : List ℕ → Option Move
-move_of field = move_by (split_at 58 field)
+move_of field = move_by (split_at VALUE_BREAK field)
 
 -- the move that the first field spells, and the fields after it
 unfoldable pub first_move : List (List ℕ) → Option (Move × List (List ℕ))

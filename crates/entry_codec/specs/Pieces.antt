@@ -1,17 +1,18 @@
 -- The pieces of a stream of bytes, each ending in its first line feed.
 use Rattle.std.specs.Prelude.{◌≡◌, ◌≢◌, ℕ, List, [], ◌∷◌, ◌++◌, ◌==◌, if◌then◌else◌}
 use Rattle.std.specs.List.{All}
+use Rattle.entry_codec.specs.declared.format.TheConstants.{LINE_END}
 
 -- the pieces that end in these bytes, where front came since the last line feed before them
 abbrev pub pieces_after : List ℕ → List ℕ → List (List ℕ)
 pieces_after front [] = []
 pieces_after front (x ∷ xs) =
-    if x == 10 then (front ++ x ∷ []) ∷ pieces_after [] xs else pieces_after (front ++ x ∷ []) xs
+    if x == LINE_END then (front ++ x ∷ []) ∷ pieces_after [] xs else pieces_after (front ++ x ∷ []) xs
 
 -- what came since the last line feed
 abbrev pub rest_after : List ℕ → List ℕ → List ℕ
 rest_after front [] = front
-rest_after front (x ∷ xs) = if x == 10 then rest_after [] xs else rest_after (front ++ x ∷ []) xs
+rest_after front (x ∷ xs) = if x == LINE_END then rest_after [] xs else rest_after (front ++ x ∷ []) xs
 
 -- the whole pieces of a stream; what comes after its last line feed is unfinished
 abbrev pub pieces : List ℕ → List (List ℕ)
@@ -22,4 +23,4 @@ unfinished stream = rest_after [] stream
 
 -- a text whose one line feed is its last byte
 abbrev pub IsLine : List ℕ → Type 0
-IsLine text = (front : List ℕ) × (text ≡ front ++ 10 ∷ []) × All (λ b. b ≢ 10) front
+IsLine text = (front : List ℕ) × (text ≡ front ++ LINE_END ∷ []) × All (λ b. b ≢ LINE_END) front

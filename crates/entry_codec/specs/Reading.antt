@@ -1,7 +1,6 @@
 -- Reading a line from left to right. The order of the steps is the order in which faults are looked
 -- for.
-use Rattle.std.specs.Prelude.{ℕ, ◌+◌, ◌-◌, Bool, ◌&&◌, ◌||◌, not, List, [], ◌∷◌, length, take, Option, Some, None, Result, Ok, Err, nat_lt, ◌==◌, if◌then◌else◌, slice_index, codes}
-use Rattle.std.specs.Str.{bytes_eq}
+use Rattle.std.specs.Prelude.{ℕ, ◌+◌, ◌-◌, Bool, ◌&&◌, ◌||◌, not, List, [], ◌∷◌, length, take, Option, Some, None, Result, Ok, Err, nat_lt, ◌==◌, if◌then◌else◌, slice_index}
 use Rattle.rights_types.specs.declared.moves.Move.{Move}
 use Rattle.rights_types.specs.Moves.{is_close, names, lacks_own_place}
 use Rattle.rights_types.specs.Entries.{EntryValue}
@@ -12,6 +11,9 @@ use Rattle.entry_codec.specs.declared.fault.LineError.{LineError}
 use Rattle.entry_codec.specs.declared.fault.LineError.TheVariants.{TooLong, NoEnd, BadKind, BadField, BadMove, CountWrong, TrailingBytes}
 use Rattle.entry_codec.specs.Parts.{parts_in}
 use Rattle.entry_codec.specs.Moves.{first_number, move_of}
+use Rattle.rights_types.specs.declared.limits.TheConstants.{MAX_AMOUNT, MAX_ANSWER, MAX_ASK, MAX_LINE, MAX_MOVES, MAX_NUMBER, MAX_SITES}
+use Rattle.entry_codec.specs.declared.format.TheConstants.{ANSWER_LETTER, ASK_LETTER, BEAT_LETTER, DENIAL_LETTER, ENTRY_LETTER, FIRST_MOVE, HELLO_LETTER, LINE_END, QUERY_LETTER}
+use Rattle.entry_codec.specs.Letters.{is_letter}
 
 infixl 10 ◌>>=◌
 abbrev pub ◌>>=◌ : {A B : Type 0} → Result A LineError → (A → Result B LineError)
@@ -36,16 +38,16 @@ value_at low high at fields = or_fault (BadField at) (first_number low high fiel
 
 -- a fixed field by what it spells
 abbrev pub site_at : Place → List (List ℕ) → Result (ℕ × List (List ℕ)) LineError
-site_at at fields = value_at 1 16 at fields
+site_at at fields = value_at 1 MAX_SITES at fields
 
 abbrev pub number_at : Place → List (List ℕ) → Result (ℕ × List (List ℕ)) LineError
-number_at at fields = value_at 0 1000000000 at fields
+number_at at fields = value_at 0 MAX_NUMBER at fields
 
 abbrev pub ask_at : Place → List (List ℕ) → Result (ℕ × List (List ℕ)) LineError
-ask_at at fields = value_at 1 1000000000 at fields
+ask_at at fields = value_at 1 MAX_ASK at fields
 
 abbrev pub amount_at : Place → List (List ℕ) → Result (ℕ × List (List ℕ)) LineError
-amount_at at fields = value_at 1 1000000000 at fields
+amount_at at fields = value_at 1 MAX_AMOUNT at fields
 
 -- a move that names its origin, lacks its own place, or closes before the last field
 abbrev pub is_misplaced : ℕ → Bool → Move → Bool
@@ -56,23 +58,23 @@ allowed e origin last None = Err e
 allowed e origin last (Some m) = if is_misplaced origin last m then Err e else Ok m
 
 -- the moves from a field on
-unfoldable pub moves_of : ℕ → ℕ → ℕ → List (List ℕ) → Result (List Move) LineError
-moves_of origin part field [] = Ok []
-moves_of origin part field (text ∷ rest) = do
+unfoldable pub moves_from : ℕ → ℕ → ℕ → List (List ℕ) → Result (List Move) LineError
+moves_from origin part field [] = Ok []
+moves_from origin part field (text ∷ rest) = do
   m ← allowed (BadMove (place part field)) origin (length rest == 0) (move_of text)
-  ms ← moves_of origin part (field + 1) rest
+  ms ← moves_from origin part (field + 1) rest
   Ok (m ∷ ms)
 
 -- no move, more than 16, or an own number that they do not lead to
 abbrev pub is_miscounted : ℕ → ℕ → ℕ → Bool
-is_miscounted prev own count = count == 0 || nat_lt 16 count || not (own == prev + count)
+is_miscounted prev own count = count == 0 || nat_lt MAX_MOVES count || not (own == prev + count)
 
 -- an entry of this origin, from the field behind the origin on
 unfoldable pub entry_after : ℕ → ℕ → List (List ℕ) → Result EntryValue LineError
 entry_after part origin fields = do
   prev ← number_at (place part 2) fields
   own ← number_at (place part 3) prev.1
-  moves ← moves_of origin part 4 own.1
+  moves ← moves_from origin part FIRST_MOVE own.1
   counted ← fault_if CountWrong (is_miscounted prev.0 own.0 (length moves))
   Ok (record { origin = origin; prev = prev.0; moves = moves })
 
@@ -86,7 +88,7 @@ entry_of part fields = do
 unfoldable pub listed_entry_of : ℕ → ℕ → List (List ℕ) → Result EntryValue LineError
 listed_entry_of part origin [] = Err (BadField (place part 0))
 listed_entry_of part origin (letter ∷ fields) = do
-  kind ← fault_if (BadField (place part 0)) (not (bytes_eq letter (codes "E")))
+  kind ← fault_if (BadField (place part 0)) (not (is_letter ENTRY_LETTER letter))
   site ← site_at (place part 1) fields
   same ← fault_if (BadField (place part 1)) (not (site.0 == origin))
   entry_after part origin site.1
@@ -117,7 +119,7 @@ answer_sites_of fields = do
 unfoldable pub answer_entries_of : ℕ → List (List (List ℕ)) → Result (List EntryValue) LineError
 answer_entries_of origin parts = do
   entries ← entries_of 1 origin parts
-  few ← fault_if CountWrong (nat_lt 16 (length entries))
+  few ← fault_if CountWrong (nat_lt MAX_ANSWER (length entries))
   Ok entries
 
 -- more fields or parts than the kind has
@@ -180,27 +182,27 @@ hello_of fields others = do
 unfoldable pub short_of : List ℕ → List (List ℕ) → List (List (List ℕ))
     → Result MessageValue LineError
 short_of letter fields others =
-    if bytes_eq letter (codes "Q") then query_of fields others
-    else (if bytes_eq letter (codes "B") then beat_of fields others
-    else (if bytes_eq letter (codes "W") then ask_of fields others
-    else (if bytes_eq letter (codes "D") then denial_of fields others
-    else (if bytes_eq letter (codes "H") then hello_of fields others
+    if is_letter QUERY_LETTER letter then query_of fields others
+    else (if is_letter BEAT_LETTER letter then beat_of fields others
+    else (if is_letter ASK_LETTER letter then ask_of fields others
+    else (if is_letter DENIAL_LETTER letter then denial_of fields others
+    else (if is_letter HELLO_LETTER letter then hello_of fields others
     else Err BadKind))))
 
 unfoldable pub message_of : List (List (List ℕ)) → Result MessageValue LineError
 message_of [] = Err BadKind
 message_of ([] ∷ others) = Err BadKind
 message_of ((letter ∷ fields) ∷ others) =
-    if bytes_eq letter (codes "E") then push_of fields others
-    else (if bytes_eq letter (codes "A") then answer_of fields others
+    if is_letter ENTRY_LETTER letter then push_of fields others
+    else (if is_letter ANSWER_LETTER letter then answer_of fields others
     else short_of letter fields others)
 
 abbrev pub is_ended : List ℕ → Bool
-is_ended line = not (length line == 0) && (slice_index line (length line - 1) == 10)
+is_ended line = not (length line == 0) && (slice_index line (length line - 1) == LINE_END)
 
 -- a whole line
 unfoldable pub reading : List ℕ → Result MessageValue LineError
 reading line = do
-  short ← fault_if TooLong (nat_lt 16384 (length line))
+  short ← fault_if TooLong (nat_lt MAX_LINE (length line))
   ended ← fault_if NoEnd (not (is_ended line))
   message_of (parts_in (take (length line - 1) line))

@@ -4,20 +4,21 @@ ghost use Rattle.std.specs.List.{All};
 ghost use Rattle.rights_types.specs.Ranges.{IsSite};
 ghost use Rattle.rights_types.specs.Entries.{EntryValue, IsEntry};
 ghost use Rattle.rights_types.specs.Messages.MessageValue.{AnAnswer};
-ghost use Rattle.entry_codec.specs.Parts.{left, Reads, Tells, Gives, parts_left};
+ghost use Rattle.entry_codec.specs.Parts.{ReadsAs, Tells, Gives, parts_left, fields_left};
 ghost use Rattle.entry_codec.specs.Kept.{CountsEntries};
 ghost use Rattle.entry_codec.specs.Reading.{entries_of, answer_sites_of, answer_entries_of, answer_of};
 
 use crate::entry::{SLOTS, entry_with, listed_entry_in};
 use crate::fault::{LineError, Place};
+use crate::format::PART_BREAK;
 use crate::parts::{number_in, split_far};
 use crate::short::other_site_in;
-use rights_types::{Answer, Entry, MAX_ANSWER, MAX_SITES, Move, OutOfMemory, SiteId};
+use rights_types::{Answer, Entry, MAX_ANSWER, MAX_LINE, MAX_SITES, Move, OutOfMemory, SiteId};
 use std::alloc::Allocator;
 
 #[tactic(auto, unfolding(crate::specs::Reading::answer_sites_of))]
 fn sites_in(fields: Option<&[u8]>) -> Result<(u64, u64), LineError>
-    ensures sites { Reads (λ x. (x.0, x.1)) result (answer_sites_of (left 32 fields.entry)) }
+    ensures sites { ReadsAs (λ x. (x.0, x.1)) result (answer_sites_of (fields_left fields.entry)) }
     ensures origin { IfOk result (λ x. IsSite x.0) }
     ensures asker { IfOk result (λ x. IsSite x.1 × (x.1 ≢ x.0)) }
 {
@@ -32,14 +33,14 @@ fn sites_in(fields: Option<&[u8]>) -> Result<(u64, u64), LineError>
 // Reads the entries without memory, and answers how many there are.
 fn entry_count(origin: u64, parts: Option<&[u8]>) -> Result<usize, LineError>
     requires site { IsSite origin }
-    requires short { IfSome parts (λ text. length text.now ≤ 16384) }
+    requires short { IfSome parts (λ text. length text.now ≤ MAX_LINE) }
     ensures { CountsEntries result (entries_of 1 origin (parts_left parts.entry)) }
 {
     let mut kept = [Move::Close; SLOTS];
     let mut count: usize = 0;
     let mut rest = parts;
     while let Some(text) = rest {
-        let (first, more) = split_far(text, b';');
+        let (first, more) = split_far(text, PART_BREAK);
         listed_entry_in(first, origin, 1 + count as u16, &mut kept)?;
         count += 1;
         rest = more;
@@ -58,7 +59,7 @@ fn add_entry<A: Allocator + Copy>(
     requires { IsEntry (record { origin = origin; prev = prev; moves = moves.now }) }
     ensures { OnOk result (
         let e : EntryValue = record { origin = origin; prev = prev; moves = moves.now } in
-        length entries.old.items ≤ 16 → entries.new.items ≡ take 16 (entries.old.items ++ e ∷ [])) }
+        length entries.old.items ≤ MAX_ANSWER → entries.new.items ≡ take MAX_ANSWER (entries.old.items ++ e ∷ [])) }
 {
     if entries.len() < MAX_ANSWER {
         entries.push(entry_with(alloc, origin, prev, moves)?)?;
@@ -81,7 +82,7 @@ fn built_entries<A: Allocator + Copy>(
     parts: Option<&[u8]>,
 ) -> Result<Vec<Entry<A>, A>, LineError>
     requires site { IsSite origin }
-    requires short { IfSome parts (λ text. length text.now ≤ 16384) }
+    requires short { IfSome parts (λ text. length text.now ≤ MAX_LINE) }
     ensures { Tells (λ v. v.items) result (answer_entries_of origin (parts_left parts.entry)) }
 {
     let mut kept = [Move::Close; SLOTS];
@@ -89,7 +90,7 @@ fn built_entries<A: Allocator + Copy>(
     let mut count: usize = 0;
     let mut rest = parts;
     while let Some(text) = rest {
-        let (first, more) = split_far(text, b';');
+        let (first, more) = split_far(text, PART_BREAK);
         let (prev, moves) = listed_entry_in(first, origin, 1 + count as u16, &mut kept)?;
         add_entry(alloc, &mut entries, origin, prev, &kept[..moves])?;
         count += 1;
@@ -104,7 +105,7 @@ fn built_entries<A: Allocator + Copy>(
 // What refuses the entries where memory is refused: a fault, if there is one.
 fn refusal(origin: u64, parts: Option<&[u8]>) -> LineError
     requires site { IsSite origin }
-    requires short { IfSome parts (λ text. length text.now ≤ 16384) }
+    requires short { IfSome parts (λ text. length text.now ≤ MAX_LINE) }
     ensures { Gives (λ (es : List EntryValue). es) (Err result)
         (answer_entries_of origin (parts_left parts.entry)) }
 {
@@ -126,7 +127,7 @@ fn entries_in<A: Allocator + Copy>(
     parts: Option<&[u8]>,
 ) -> Result<Vec<Entry<A>, A>, LineError>
     requires site { IsSite origin }
-    requires short { IfSome parts (λ text. length text.now ≤ 16384) }
+    requires short { IfSome parts (λ text. length text.now ≤ MAX_LINE) }
     ensures { Gives (λ v. v.items) result (answer_entries_of origin (parts_left parts.entry)) }
 {
     match built_entries(alloc, origin, parts) {
@@ -142,14 +143,12 @@ pub(crate) fn answer_in<A: Allocator + Copy>(
     fields: Option<&[u8]>,
     others: Option<&[u8]>,
 ) -> Result<Answer<A>, LineError>
-    requires { IfSome others (λ text. length text.now ≤ 16384) }
+    requires { IfSome others (λ text. length text.now ≤ MAX_LINE) }
     ensures { Gives (λ a. AnAnswer a) result
-        (answer_of (left 32 fields.entry) (parts_left others.entry)) }
+        (answer_of (fields_left fields.entry) (parts_left others.entry)) }
 {
     let (origin, asker) = sites_in(fields)?;
     let entries = entries_in(alloc, origin, others)?;
-    match Answer::new(SiteId::known(origin), SiteId::known(asker), entries) {
-        Ok(answer) => Ok(answer),
-        Err(_) => unreachable!(),
-    }
+    let (origin, asker) = (SiteId::known(origin), SiteId::known(asker));
+    Ok(Answer::known(origin, asker, entries))
 }

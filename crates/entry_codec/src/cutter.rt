@@ -5,6 +5,7 @@ ghost use Rattle.entry_codec.specs.Pieces.{unfinished};
 ghost use Rattle.entry_codec.specs.Cutter.{Holds, view_of, IsFed};
 ghost use Rattle.entry_codec.specs.Cuts.{IsCut, IsGiven};
 
+use crate::format::LINE_END;
 use crate::parts::far_position;
 use rights_types::{MAX_LINE, OutOfMemory};
 use std::alloc::{Allocator, Global};
@@ -29,6 +30,7 @@ pub struct LineCutter<A: Allocator = Global> {
 
 impl<A: Allocator> Model for LineCutter<A> {
     ghost use Rattle.std.specs.Prelude.{◌≤◌, vec_len, vec_capacity};
+    ghost use Rattle.rights_types.specs.declared.limits.TheConstants.{MAX_LINE};
     ghost use Rattle.entry_codec.specs.Cutter.{CutterView};
 
     ghost Value = { CutterView };
@@ -39,15 +41,15 @@ impl<A: Allocator> Model for LineCutter<A> {
       is_finished = c.is_finished;
     } };
 
-    ghost invariant = { λ c. (vec_len c.room ≤ 16384) × (16384 ≤ vec_capacity c.room) };
+    ghost invariant = { λ c. (vec_len c.room ≤ MAX_LINE) × (MAX_LINE ≤ vec_capacity c.room) };
 }
 
 // How many bytes there are up to the first line feed, that with them, or in all.
 fn count_through(bytes: &[u8]) -> usize
-    ensures count { result ≡ length (take_through 10 bytes.now) }
+    ensures count { result ≡ length (take_through LINE_END bytes.now) }
     ensures within { result ≤ length bytes.now }
 {
-    match far_position(bytes, b'\n') {
+    match far_position(bytes, LINE_END) {
         Some(index) => index + 1,
         None => bytes.len(),
     }
@@ -70,7 +72,7 @@ impl<A: Allocator + Copy> LineCutter<A> {
     /// many it took.
     pub fn push(&mut self, bytes: &[u8]) -> usize
         ensures count { result
-            ≡ (if self.old.is_finished then 0 else length (take_through 10 bytes.now)) }
+            ≡ (if self.old.is_finished then 0 else length (take_through LINE_END bytes.now)) }
         ensures within { result ≤ length bytes.now }
         ensures taken { (piece : List ℕ) → Holds self.old piece
             → Holds self.new (piece ++ take result bytes.now) }
@@ -94,7 +96,7 @@ impl<A: Allocator + Copy> LineCutter<A> {
                 self.is_long = true;
             }
         }
-        self.is_finished = taken[count - 1] == b'\n';
+        self.is_finished = taken[count - 1] == LINE_END;
         count
     }
 

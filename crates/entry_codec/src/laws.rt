@@ -5,6 +5,8 @@ ghost use Rattle.entry_codec.specs.Spelling.{line, Spells};
 ghost use Rattle.entry_codec.specs.Pieces.{pieces, IsLine};
 ghost use Rattle.entry_codec.specs.Reading.{reading};
 
+use rights_types::MAX_LINE;
+
 /// What was written is read again.
 pub fn reads_back()
     ensures { (m : MessageValue) → IsMessage m → reading (line m) ≡ Ok m }
@@ -33,7 +35,7 @@ pub fn spelled_once()
 pub fn reads_on()
     ensures piece { (m : MessageValue) (rest : List ℕ)
         → IsMessage m → pieces (line m ++ rest) ≡ line m ∷ pieces rest }
-    ensures fits { (m : MessageValue) → IsMessage m → length (line m) ≤ 16384 }
+    ensures fits { (m : MessageValue) → IsMessage m → length (line m) ≤ MAX_LINE }
 {}
 
 /// No spelling is a proper prefix of another.

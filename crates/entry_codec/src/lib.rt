@@ -6,6 +6,7 @@ mod answer;
 mod cutter;
 mod entry;
 mod fault;
+mod format;
 mod laws;
 mod length;
 mod moves;

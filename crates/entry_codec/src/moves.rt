@@ -3,11 +3,15 @@ ghost use Rattle.std.specs.Prelude.{◌≡◌, ◌∷◌, ◌<◌, ◌≤◌, If
 ghost use Rattle.rights_types.specs.Moves.{IsMove};
 ghost use Rattle.rights_types.specs.declared.moves.Move.{Move};
 ghost use Rattle.entry_codec.specs.Spelling.{move_text};
-ghost use Rattle.entry_codec.specs.Parts.{split_at, left};
+ghost use Rattle.entry_codec.specs.Parts.{split_at, values_left};
 ghost use Rattle.entry_codec.specs.Kept.{FindsMove};
-ghost use Rattle.entry_codec.specs.Moves.{only_number, grant_of, give_of, take_back_of, frontier_of, move_of, first_move};
+ghost use Rattle.entry_codec.specs.Moves.{only_number, grant_in, give_in, take_back_in, frontier_in, move_of, first_move};
 
-use crate::parts::{first_number, only_number, split_first};
+use crate::format::{
+    CLOSE_AT_LETTER, CLOSE_LETTER, FIELD_BREAK, GIVE_LETTER, GRANT_LETTER, ISSUE_LETTER,
+    SPEND_LETTER, TAKE_BACK_LETTER, VALUE_BREAK,
+};
+use crate::parts::{first_number, is_letter, only_number, split_first};
 use rights_types::{
     Amount, AskNumber, Frontier, MAX_AMOUNT, MAX_ASK, MAX_NUMBER, MAX_SITES, MAX_TOTAL, Move,
     SiteId, Total,
@@ -30,23 +34,23 @@ pub fn read_move(field: &[u8]) -> Option<Move>
 fn move_of_field(field: &[u8]) -> Option<Move>
     ensures { result ≡ move_of field.now }
 {
-    let (letter, values) = split_first(field, b':');
-    if letter == b"I".as_slice() {
+    let (letter, values) = split_first(field, VALUE_BREAK);
+    if is_letter(letter, ISSUE_LETTER) {
         Some(Move::Issue(amount_in(values)?))
-    } else if letter == b"S".as_slice() {
+    } else if is_letter(letter, SPEND_LETTER) {
         Some(Move::Spend(amount_in(values)?))
-    } else if letter == b"G".as_slice() {
+    } else if is_letter(letter, GRANT_LETTER) {
         grant_in(values)
-    } else if letter == b"R".as_slice() {
+    } else if is_letter(letter, GIVE_LETTER) {
         give_in(values)
-    } else if letter == b"C".as_slice() {
+    } else if is_letter(letter, CLOSE_LETTER) {
         match values {
             None => Some(Move::Close),
             Some(_) => None,
         }
-    } else if letter == b"K".as_slice() {
+    } else if is_letter(letter, CLOSE_AT_LETTER) {
         Some(Move::CloseAt(frontier_in(values)?))
-    } else if letter == b"V".as_slice() {
+    } else if is_letter(letter, TAKE_BACK_LETTER) {
         take_back_in(values)
     } else {
         None
@@ -54,18 +58,18 @@ fn move_of_field(field: &[u8]) -> Option<Move>
 }
 
 fn amount_in(values: Option<&[u8]>) -> Option<Amount>
-    ensures { result ≡ only_number 1 1000000000 (left 58 values.entry) }
+    ensures { result ≡ only_number 1 MAX_AMOUNT (values_left values.entry) }
 {
-    Some(Amount::known(only_number(values, b':', 1, MAX_AMOUNT)?))
+    Some(Amount::known(only_number(values, VALUE_BREAK, 1, MAX_AMOUNT)?))
 }
 
-#[tactic(auto, unfolding(crate::specs::Moves::grant_of))]
+#[tactic(auto, unfolding(crate::specs::Moves::grant_in))]
 fn grant_in(values: Option<&[u8]>) -> Option<Move>
-    ensures { result ≡ grant_of (left 58 values.entry) }
+    ensures { result ≡ grant_in (values_left values.entry) }
 {
-    let (peer, rest) = first_number(values, b':', 1, MAX_SITES)?;
-    let (amount, rest) = first_number(rest, b':', 1, MAX_AMOUNT)?;
-    let ask = only_number(rest, b':', 1, MAX_ASK)?;
+    let (peer, rest) = first_number(values, VALUE_BREAK, 1, MAX_SITES)?;
+    let (amount, rest) = first_number(rest, VALUE_BREAK, 1, MAX_AMOUNT)?;
+    let ask = only_number(rest, VALUE_BREAK, 1, MAX_ASK)?;
     Some(Move::Grant {
         peer: SiteId::known(peer),
         amount: Amount::known(amount),
@@ -73,24 +77,24 @@ fn grant_in(values: Option<&[u8]>) -> Option<Move>
     })
 }
 
-#[tactic(auto, unfolding(crate::specs::Moves::give_of))]
+#[tactic(auto, unfolding(crate::specs::Moves::give_in))]
 fn give_in(values: Option<&[u8]>) -> Option<Move>
-    ensures { result ≡ give_of (left 58 values.entry) }
+    ensures { result ≡ give_in (values_left values.entry) }
 {
-    let (peer, rest) = first_number(values, b':', 1, MAX_SITES)?;
-    let amount = only_number(rest, b':', 1, MAX_AMOUNT)?;
+    let (peer, rest) = first_number(values, VALUE_BREAK, 1, MAX_SITES)?;
+    let amount = only_number(rest, VALUE_BREAK, 1, MAX_AMOUNT)?;
     Some(Move::Give {
         peer: SiteId::known(peer),
         amount: Amount::known(amount),
     })
 }
 
-#[tactic(auto, unfolding(crate::specs::Moves::take_back_of))]
+#[tactic(auto, unfolding(crate::specs::Moves::take_back_in))]
 fn take_back_in(values: Option<&[u8]>) -> Option<Move>
-    ensures { result ≡ take_back_of (left 58 values.entry) }
+    ensures { result ≡ take_back_in (values_left values.entry) }
 {
-    let (peer, rest) = first_number(values, b':', 1, MAX_SITES)?;
-    let amount = only_number(rest, b':', 1, MAX_TOTAL)?;
+    let (peer, rest) = first_number(values, VALUE_BREAK, 1, MAX_SITES)?;
+    let amount = only_number(rest, VALUE_BREAK, 1, MAX_TOTAL)?;
     Some(Move::TakeBack {
         peer: SiteId::known(peer),
         amount: Total::known(amount),
@@ -98,7 +102,7 @@ fn take_back_in(values: Option<&[u8]>) -> Option<Move>
 }
 
 fn frontier_in(values: Option<&[u8]>) -> Option<Frontier>
-    ensures { result ≡ frontier_of (left 58 values.entry) }
+    ensures { result ≡ frontier_in (values_left values.entry) }
 {
     let mut numbers = [0u64; MAX_SITES as usize];
     let mut count: usize = 0;
@@ -107,7 +111,7 @@ fn frontier_in(values: Option<&[u8]>) -> Option<Frontier>
         if count >= numbers.len() {
             return None;
         }
-        let (number, more) = first_number(rest, b':', 0, MAX_NUMBER)?;
+        let (number, more) = first_number(rest, VALUE_BREAK, 0, MAX_NUMBER)?;
         numbers[count] = number;
         count += 1;
         rest = more;
@@ -120,10 +124,10 @@ fn frontier_in(values: Option<&[u8]>) -> Option<Frontier>
 
 // The letter of a move that has values, and the text behind its colon.
 fn letter_of(text: &[u8]) -> Option<(u8, &[u8])>
-    ensures { IfSome result (λ x. text.now ≡ x.0 ∷ (58 ∷ x.1.now)) }
+    ensures { IfSome result (λ x. text.now ≡ x.0 ∷ (VALUE_BREAK ∷ x.1.now)) }
 {
     match text {
-        [letter, b':', values @ ..] => Some((*letter, values)),
+        [letter, VALUE_BREAK, values @ ..] => Some((*letter, values)),
         _ => None,
     }
 }
@@ -131,36 +135,36 @@ fn letter_of(text: &[u8]) -> Option<(u8, &[u8])>
 /// Puts the move of the first field into a slot, and answers what comes after the field. The moves
 /// that most entries have are read in one pass.
 pub(crate) fn first_move<'a>(fields: &'a [u8], slot: &mut Move) -> Option<Option<&'a [u8]>>
-    ensures { FindsMove slot.new result (first_move (split_at 32 fields.now)) }
+    ensures { FindsMove slot.new result (first_move (split_at FIELD_BREAK fields.now)) }
 {
     let Some((letter, values)) = letter_of(fields) else {
         return other_move(fields, slot);
     };
-    if letter == b'I' {
-        let (amount, rest) = first_number(Some(values), b' ', 1, MAX_AMOUNT)?;
+    if letter == ISSUE_LETTER {
+        let (amount, rest) = first_number(Some(values), FIELD_BREAK, 1, MAX_AMOUNT)?;
         *slot = Move::Issue(Amount::known(amount));
         return Some(rest);
     }
-    if letter == b'S' {
-        let (amount, rest) = first_number(Some(values), b' ', 1, MAX_AMOUNT)?;
+    if letter == SPEND_LETTER {
+        let (amount, rest) = first_number(Some(values), FIELD_BREAK, 1, MAX_AMOUNT)?;
         *slot = Move::Spend(Amount::known(amount));
         return Some(rest);
     }
-    if letter == b'G' {
+    if letter == GRANT_LETTER {
         return first_grant(values, slot);
     }
-    if letter == b'R' {
+    if letter == GIVE_LETTER {
         return first_give(values, slot);
     }
     other_move(fields, slot)
 }
 
 fn first_grant<'a>(values: &'a [u8], slot: &mut Move) -> Option<Option<&'a [u8]>>
-    ensures { FindsMove slot.new result (first_move (split_at 32 (71 ∷ (58 ∷ values.now)))) }
+    ensures { FindsMove slot.new result (first_move (split_at FIELD_BREAK (GRANT_LETTER ∷ (VALUE_BREAK ∷ values.now)))) }
 {
-    let (peer, rest) = first_number(Some(values), b':', 1, MAX_SITES)?;
-    let (amount, rest) = first_number(rest, b':', 1, MAX_AMOUNT)?;
-    let (ask, rest) = first_number(rest, b' ', 1, MAX_ASK)?;
+    let (peer, rest) = first_number(Some(values), VALUE_BREAK, 1, MAX_SITES)?;
+    let (amount, rest) = first_number(rest, VALUE_BREAK, 1, MAX_AMOUNT)?;
+    let (ask, rest) = first_number(rest, FIELD_BREAK, 1, MAX_ASK)?;
     *slot = Move::Grant {
         peer: SiteId::known(peer),
         amount: Amount::known(amount),
@@ -170,10 +174,10 @@ fn first_grant<'a>(values: &'a [u8], slot: &mut Move) -> Option<Option<&'a [u8]>
 }
 
 fn first_give<'a>(values: &'a [u8], slot: &mut Move) -> Option<Option<&'a [u8]>>
-    ensures { FindsMove slot.new result (first_move (split_at 32 (82 ∷ (58 ∷ values.now)))) }
+    ensures { FindsMove slot.new result (first_move (split_at FIELD_BREAK (GIVE_LETTER ∷ (VALUE_BREAK ∷ values.now)))) }
 {
-    let (peer, rest) = first_number(Some(values), b':', 1, MAX_SITES)?;
-    let (amount, rest) = first_number(rest, b' ', 1, MAX_AMOUNT)?;
+    let (peer, rest) = first_number(Some(values), VALUE_BREAK, 1, MAX_SITES)?;
+    let (amount, rest) = first_number(rest, FIELD_BREAK, 1, MAX_AMOUNT)?;
     *slot = Move::Give {
         peer: SiteId::known(peer),
         amount: Amount::known(amount),
@@ -184,9 +188,9 @@ fn first_give<'a>(values: &'a [u8], slot: &mut Move) -> Option<Option<&'a [u8]>>
 #[inline(never)]
 #[tactic(auto, unfolding(crate::specs::Moves::first_move))]
 fn other_move<'a>(fields: &'a [u8], slot: &mut Move) -> Option<Option<&'a [u8]>>
-    ensures { FindsMove slot.new result (first_move (split_at 32 fields.now)) }
+    ensures { FindsMove slot.new result (first_move (split_at FIELD_BREAK fields.now)) }
 {
-    let (field, rest) = split_first(fields, b' ');
+    let (field, rest) = split_first(fields, FIELD_BREAK);
     *slot = read_move(field)?;
     Some(rest)
 }

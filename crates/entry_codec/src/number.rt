@@ -6,8 +6,8 @@ ghost use Rattle.entry_codec.specs.Digits.{IsReadUpTo};
 ghost use Rattle.entry_codec.specs.Moves.{number_of};
 ghost use Rattle.entry_codec.specs.Texts.{is_canonical};
 
-/// So many digits are read without a test: their value fits a `u64`.
-const SAFE_DIGITS: usize = 19;
+//// So many digits are read without a test: their value fits a `u64`.
+pub(crate) const SAFE_DIGITS: usize = 19;
 
 /// The number from `least` to `most` that a text spells.
 pub fn read_decimal(text: &[u8], least: u64, most: u64) -> Option<u64>
@@ -49,9 +49,9 @@ fn digit(byte: u8) -> Option<u64>
 /// safe.
 pub(crate) fn leading_digits(text: &[u8]) -> (u64, usize)
     ensures read { IsReadUpTo text.now result.1 result.0 }
-    ensures few { result.1 ≤ 19 }
+    ensures few { result.1 ≤ SAFE_DIGITS }
     ensures within { result.1 ≤ length text.now }
-    ensures stop { result.1 < length text.now → result.1 < 19
+    ensures stop { result.1 < length text.now → result.1 < SAFE_DIGITS
         → 10 ≤ digit_value (slice_index text.now result.1) }
 {
     let front = &text[..text.len().min(SAFE_DIGITS)];

@@ -1,11 +1,13 @@
 //! Walking over the parts of a text, which a byte parts.
 ghost use Rattle.std.specs.Prelude.{◌≡◌, ◌∷◌, ◌==◌, ◌<◌, ◌≤◌, ◌^◌, ◌⊎◌, length, position, is_none, IfSome, IfOk};
-ghost use Rattle.entry_codec.specs.Parts.{split_at, left, Finds, Reads};
+ghost use Rattle.entry_codec.specs.Letters.{is_letter};
+ghost use Rattle.entry_codec.specs.Parts.{split_at, left, Finds, ReadsAs, fields_left};
 ghost use Rattle.entry_codec.specs.Moves.{first_number, only_number};
 ghost use Rattle.entry_codec.specs.Reading.{value_at};
 
 use crate::fault::{LineError, Place};
-use crate::number::{checked, leading_digits};
+use crate::format::FIELD_BREAK;
+use crate::number::{SAFE_DIGITS, checked, leading_digits};
 use memchr::memchr;
 
 fn position_of(text: &[u8], at: u8) -> Option<usize>
@@ -19,6 +21,16 @@ pub(crate) fn far_position(text: &[u8], at: u8) -> Option<usize>
     ensures { result ≡ position (λ b. b == at) text.now }
 {
     memchr(at, text)
+}
+
+/// Whether a field is this letter alone.
+pub(crate) fn is_letter(field: &[u8], letter: u8) -> bool
+    ensures { result ≡ is_letter letter field.now }
+{
+    match field {
+        [byte] => *byte == letter,
+        _ => false,
+    }
 }
 
 /// The text before the first such byte, and what comes after it.
@@ -56,7 +68,7 @@ pub(crate) fn first_number(
     high: u64,
 ) -> Option<(u64, Option<&[u8]>)>
     requires apart { (at < 48) ⊎ (57 < at) }
-    requires high { high < 10 ^ 19 }
+    requires high { high < 10 ^ SAFE_DIGITS }
     ensures value { Finds (λ x. (x.0, left at x.1)) result
         (first_number low high (left at parts.entry)) }
     ensures range { IfSome result (λ x. (low ≤ x.0) × (x.0 ≤ high)) }
@@ -79,7 +91,7 @@ pub(crate) fn first_number(
 #[tactic(auto, unfolding(crate::specs::Moves::only_number))]
 pub(crate) fn only_number(parts: Option<&[u8]>, at: u8, low: u64, high: u64) -> Option<u64>
     requires apart { (at < 48) ⊎ (57 < at) }
-    requires high { high < 10 ^ 19 }
+    requires high { high < 10 ^ SAFE_DIGITS }
     ensures value { result ≡ only_number low high (left at parts.entry) }
     ensures range { IfSome result (λ n. (low ≤ n) × (n ≤ high)) }
 {
@@ -98,14 +110,14 @@ pub(crate) fn number_in(
     high: u64,
     place: Place,
 ) -> Result<(u64, Option<&[u8]>), LineError>
-    requires { high < 10 ^ 19 }
-    ensures value { Reads (λ x. (x.0, left 32 x.1)) result
-        (value_at low high place (left 32 fields.entry)) }
+    requires { high < 10 ^ SAFE_DIGITS }
+    ensures value { ReadsAs (λ x. (x.0, fields_left x.1)) result
+        (value_at low high place (fields_left fields.entry)) }
     ensures range { IfOk result (λ x. (low ≤ x.0) × (x.0 ≤ high)) }
-    ensures last { IfOk result (λ x. is_none x.1 ≡ (length (left 32 x.1) == 0)) }
-    ensures shorter { IfOk result (λ x. length (left 32 x.1) < length (left 32 fields.entry)) }
+    ensures last { IfOk result (λ x. is_none x.1 ≡ (length (fields_left x.1) == 0)) }
+    ensures shorter { IfOk result (λ x. length (fields_left x.1) < length (fields_left fields.entry)) }
 {
-    match first_number(fields, b' ', low, high) {
+    match first_number(fields, FIELD_BREAK, low, high) {
         Some(found) => Ok(found),
         None => Err(LineError::BadField(place)),
     }

@@ -13,7 +13,7 @@ pub(crate) fn put_byte(buffer: &mut [u8], at: usize, byte: u8) -> usize
     at + 1
 }
 
-pub(crate) fn put_number(buffer: &mut [u8], at: usize, number: u64) -> usize
+pub(crate) fn put_decimal(buffer: &mut [u8], at: usize, number: u64) -> usize
     requires { at + length (decimal number) ≤ length buffer.old }
     ensures end { result ≡ at + length (decimal number) }
     ensures text { take result buffer.new ≡ take at buffer.old ++ decimal number }

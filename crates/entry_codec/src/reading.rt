@@ -3,13 +3,14 @@ ghost use Rattle.std.specs.Prelude.{◌≡◌, ◌≤◌, length, IfOk, Ok};
 ghost use Rattle.rights_types.specs.Messages.{MessageValue};
 ghost use Rattle.rights_types.specs.Values.{value_of};
 ghost use Rattle.entry_codec.specs.Spelling.{Spells};
-ghost use Rattle.entry_codec.specs.Parts.{parts_in, left, Gives, parts_left};
+ghost use Rattle.entry_codec.specs.Parts.{parts_in, Gives, parts_left, fields_left};
 ghost use Rattle.entry_codec.specs.Reading.{push_of, message_of, reading};
 
 use crate::answer::answer_in;
 use crate::entry::{SLOTS, entry_in, entry_with};
 use crate::fault::LineError;
-use crate::parts::{split_far, split_first};
+use crate::format::{ANSWER_LETTER, ENTRY_LETTER, FIELD_BREAK, LINE_END, MAX_FIELDS, PART_BREAK};
+use crate::parts::{is_letter, split_far, split_first};
 use crate::short::short_in;
 use rights_types::{MAX_LINE, Message, Move};
 use std::alloc::Allocator;
@@ -19,8 +20,8 @@ fn push_in<A: Allocator>(
     fields: Option<&[u8]>,
     others: Option<&[u8]>,
 ) -> Result<Message<A>, LineError>
-    requires { length (left 32 fields) ≤ 20000 }
-    ensures { Gives value_of result (push_of (left 32 fields.entry) (parts_left others.entry)) }
+    requires { length (fields_left fields) ≤ MAX_FIELDS }
+    ensures { Gives value_of result (push_of (fields_left fields.entry) (parts_left others.entry)) }
 {
     let mut kept = [Move::Close; SLOTS];
     let (origin, prev, count) = entry_in(fields, 0, &mut kept)?;
@@ -32,14 +33,14 @@ fn push_in<A: Allocator>(
 
 #[tactic(auto, unfolding(crate::specs::Reading::message_of))]
 fn message_in<A: Allocator + Copy>(alloc: A, text: &[u8]) -> Result<Message<A>, LineError>
-    requires { length text.now ≤ 16384 }
+    requires { length text.now ≤ MAX_LINE }
     ensures { Gives value_of result (message_of (parts_in text.now)) }
 {
-    let (first, others) = split_far(text, b';');
-    let (letter, fields) = split_first(first, b' ');
-    if letter == b"E".as_slice() {
+    let (first, others) = split_far(text, PART_BREAK);
+    let (letter, fields) = split_first(first, FIELD_BREAK);
+    if is_letter(letter, ENTRY_LETTER) {
         push_in(alloc, fields, others)
-    } else if letter == b"A".as_slice() {
+    } else if is_letter(letter, ANSWER_LETTER) {
         Ok(Message::Answer(answer_in(alloc, fields, others)?))
     } else {
         short_in(letter, fields, others)
@@ -54,7 +55,7 @@ fn message_of_line<A: Allocator + Copy>(alloc: A, line: &[u8]) -> Result<Message
         return Err(LineError::TooLong);
     }
     match line {
-        [text @ .., b'\n'] => message_in(alloc, text),
+        [text @ .., LINE_END] => message_in(alloc, text),
         _ => Err(LineError::NoEnd),
     }
 }

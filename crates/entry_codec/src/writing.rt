@@ -6,29 +6,34 @@ ghost use Rattle.rights_types.specs.Messages.MessageValue.{AnEntry};
 ghost use Rattle.entry_codec.specs.Spelling.{move_text, part_text, query_fields, beat_fields, ask_fields, denial_fields, text_of, line, Spells};
 ghost use Rattle.entry_codec.specs.Texts.{frontier_text, entry_text, answer_text};
 
+use crate::format::{
+    ANSWER_LETTER, ASK_LETTER, BEAT_LETTER, CLOSE_AT_LETTER, CLOSE_LETTER, DENIAL_LETTER,
+    ENTRY_LETTER, FIELD_BREAK, GIVE_LETTER, GRANT_LETTER, HELLO_LETTER, ISSUE_LETTER, LINE_END,
+    PART_BREAK, QUERY_LETTER, SPEND_LETTER, TAKE_BACK_LETTER, VALUE_BREAK,
+};
 use crate::length::{entry_len, line_len, place_of};
-use crate::put::{put_byte, put_number};
+use crate::put::{put_byte, put_decimal};
 use rights_types::{Answer, Ask, Beat, Deny, Entry, Frontier, Message, Move, OutOfMemory, Query};
 use std::alloc::Allocator;
 
 // A number behind a space.
 fn put_field(buffer: &mut [u8], at: usize, number: u64) -> usize
-    requires { at + length (32 ∷ decimal number) ≤ length buffer.old }
-    ensures end { result ≡ at + length (32 ∷ decimal number) }
-    ensures text { take result buffer.new ≡ take at buffer.old ++ 32 ∷ decimal number }
+    requires { at + length (FIELD_BREAK ∷ decimal number) ≤ length buffer.old }
+    ensures end { result ≡ at + length (FIELD_BREAK ∷ decimal number) }
+    ensures text { take result buffer.new ≡ take at buffer.old ++ FIELD_BREAK ∷ decimal number }
 {
-    let at = put_byte(buffer, at, b' ');
-    put_number(buffer, at, number)
+    let at = put_byte(buffer, at, FIELD_BREAK);
+    put_decimal(buffer, at, number)
 }
 
 // A number behind a colon.
 fn put_value(buffer: &mut [u8], at: usize, number: u64) -> usize
-    requires { at + length (58 ∷ decimal number) ≤ length buffer.old }
-    ensures end { result ≡ at + length (58 ∷ decimal number) }
-    ensures text { take result buffer.new ≡ take at buffer.old ++ 58 ∷ decimal number }
+    requires { at + length (VALUE_BREAK ∷ decimal number) ≤ length buffer.old }
+    ensures end { result ≡ at + length (VALUE_BREAK ∷ decimal number) }
+    ensures text { take result buffer.new ≡ take at buffer.old ++ VALUE_BREAK ∷ decimal number }
 {
-    let at = put_byte(buffer, at, b':');
-    put_number(buffer, at, number)
+    let at = put_byte(buffer, at, VALUE_BREAK);
+    put_decimal(buffer, at, number)
 }
 
 fn put_frontier(buffer: &mut [u8], start: usize, frontier: &Frontier) -> usize
@@ -36,7 +41,7 @@ fn put_frontier(buffer: &mut [u8], start: usize, frontier: &Frontier) -> usize
     ensures end { result ≡ start + length (frontier_text frontier.now) }
     ensures text { take result buffer.new ≡ take start buffer.old ++ frontier_text frontier.now }
 {
-    let mut at = put_byte(buffer, start, b'K');
+    let mut at = put_byte(buffer, start, CLOSE_AT_LETTER);
     for index in 0..frontier.count() {
         at = put_value(buffer, at, place_of(frontier, index));
     }
@@ -50,28 +55,28 @@ fn put_move(buffer: &mut [u8], at: usize, m: &Move) -> usize
 {
     match m {
         Move::Issue(amount) => {
-            let at = put_byte(buffer, at, b'I');
+            let at = put_byte(buffer, at, ISSUE_LETTER);
             put_value(buffer, at, amount.value())
         }
         Move::Spend(amount) => {
-            let at = put_byte(buffer, at, b'S');
+            let at = put_byte(buffer, at, SPEND_LETTER);
             put_value(buffer, at, amount.value())
         }
         Move::Grant { peer, amount, ask } => {
-            let at = put_byte(buffer, at, b'G');
+            let at = put_byte(buffer, at, GRANT_LETTER);
             let at = put_value(buffer, at, peer.number());
             let at = put_value(buffer, at, amount.value());
             put_value(buffer, at, ask.value())
         }
         Move::Give { peer, amount } => {
-            let at = put_byte(buffer, at, b'R');
+            let at = put_byte(buffer, at, GIVE_LETTER);
             let at = put_value(buffer, at, peer.number());
             put_value(buffer, at, amount.value())
         }
-        Move::Close => put_byte(buffer, at, b'C'),
+        Move::Close => put_byte(buffer, at, CLOSE_LETTER),
         Move::CloseAt(frontier) => put_frontier(buffer, at, frontier),
         Move::TakeBack { peer, amount } => {
-            let at = put_byte(buffer, at, b'V');
+            let at = put_byte(buffer, at, TAKE_BACK_LETTER);
             let at = put_value(buffer, at, peer.number());
             put_value(buffer, at, amount.value())
         }
@@ -83,12 +88,12 @@ fn put_entry<B: Allocator>(buffer: &mut [u8], start: usize, entry: &Entry<B>) ->
     ensures end { result ≡ start + length (entry_text entry.now) }
     ensures text { take result buffer.new ≡ take start buffer.old ++ entry_text entry.now }
 {
-    let at = put_byte(buffer, start, b'E');
+    let at = put_byte(buffer, start, ENTRY_LETTER);
     let at = put_field(buffer, at, entry.origin().number());
     let at = put_field(buffer, at, entry.prev());
     let mut at = put_field(buffer, at, entry.own());
     for m in entry.moves() {
-        at = put_byte(buffer, at, b' ');
+        at = put_byte(buffer, at, FIELD_BREAK);
         at = put_move(buffer, at, m);
     }
     at
@@ -99,11 +104,11 @@ fn put_answer<B: Allocator>(buffer: &mut [u8], start: usize, answer: &Answer<B>)
     ensures end { result ≡ start + length (answer_text answer.now) }
     ensures text { take result buffer.new ≡ take start buffer.old ++ answer_text answer.now }
 {
-    let at = put_byte(buffer, start, b'A');
+    let at = put_byte(buffer, start, ANSWER_LETTER);
     let at = put_field(buffer, at, answer.origin().number());
     let mut at = put_field(buffer, at, answer.asker().number());
     for entry in answer.entries() {
-        at = put_byte(buffer, at, b';');
+        at = put_byte(buffer, at, PART_BREAK);
         at = put_entry(buffer, at, entry);
     }
     at
@@ -115,7 +120,7 @@ fn put_query(buffer: &mut [u8], at: usize, query: &Query) -> usize
     ensures text { take result buffer.new ≡ take at buffer.old
         ++ part_text (query_fields query.now) }
 {
-    let at = put_byte(buffer, at, b'Q');
+    let at = put_byte(buffer, at, QUERY_LETTER);
     let at = put_field(buffer, at, query.asker().number());
     let at = put_field(buffer, at, query.origin().number());
     let at = put_field(buffer, at, query.first());
@@ -128,7 +133,7 @@ fn put_beat(buffer: &mut [u8], at: usize, beat: &Beat) -> usize
     ensures text { take result buffer.new ≡ take at buffer.old
         ++ part_text (beat_fields beat.now) }
 {
-    let at = put_byte(buffer, at, b'B');
+    let at = put_byte(buffer, at, BEAT_LETTER);
     let at = put_field(buffer, at, beat.origin().number());
     put_field(buffer, at, beat.number())
 }
@@ -139,7 +144,7 @@ fn put_ask(buffer: &mut [u8], at: usize, ask: &Ask) -> usize
     ensures text { take result buffer.new ≡ take at buffer.old
         ++ part_text (ask_fields ask.now) }
 {
-    let at = put_byte(buffer, at, b'W');
+    let at = put_byte(buffer, at, ASK_LETTER);
     let at = put_field(buffer, at, ask.asker().number());
     let at = put_field(buffer, at, ask.asked().number());
     let at = put_field(buffer, at, ask.ask().value());
@@ -152,7 +157,7 @@ fn put_denial(buffer: &mut [u8], at: usize, denial: &Deny) -> usize
     ensures text { take result buffer.new ≡ take at buffer.old
         ++ part_text (denial_fields denial.now) }
 {
-    let at = put_byte(buffer, at, b'D');
+    let at = put_byte(buffer, at, DENIAL_LETTER);
     let at = put_field(buffer, at, denial.denier().number());
     let at = put_field(buffer, at, denial.asker().number());
     put_field(buffer, at, denial.ask().value())
@@ -172,7 +177,7 @@ fn put_message<B: Allocator>(buffer: &mut [u8], at: usize, message: &Message<B>)
         Message::Ask(ask) => put_ask(buffer, at, ask),
         Message::Deny(denial) => put_denial(buffer, at, denial),
         Message::Hello(site) => {
-            let at = put_byte(buffer, at, b'H');
+            let at = put_byte(buffer, at, HELLO_LETTER);
             put_field(buffer, at, site.number())
         }
     }
@@ -184,7 +189,7 @@ fn put_line<B: Allocator>(buffer: &mut [u8], at: usize, message: &Message<B>) ->
     ensures text { take result buffer.new ≡ take at buffer.old ++ line (value_of message.now) }
 {
     let at = put_message(buffer, at, message);
-    put_byte(buffer, at, b'\n')
+    put_byte(buffer, at, LINE_END)
 }
 
 /// Appends a message's line. Where memory is refused, nothing is appended.
@@ -229,8 +234,8 @@ pub fn write_entry<A: Allocator + Copy, B: Allocator>(
 
 fn put_entry_line<B: Allocator>(buffer: &mut [u8], entry: &Entry<B>)
     requires { length buffer.old ≡ length (entry_text entry.now) + 1 }
-    ensures { buffer.new ≡ entry_text entry.now ++ 10 ∷ [] }
+    ensures { buffer.new ≡ entry_text entry.now ++ LINE_END ∷ [] }
 {
     let at = put_entry(buffer, 0, entry);
-    put_byte(buffer, at, b'\n');
+    put_byte(buffer, at, LINE_END);
 }
