@@ -1,5 +1,5 @@
-//! Tests of the codec where memory is refused, and of how much memory it wants. They have their own
-//! crate, since they alone use the allocators that refuse a request and that count bytes.
+//! Tests of the codec: texts given from outside, lines of every length, each growth refused in turn,
+//! and how much memory each call wants. They have their own crate, so that the codec is proved once.
 #![tactic(auto)]
 
 #[cfg(test)]

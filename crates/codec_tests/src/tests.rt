@@ -1,9 +1,12 @@
-//! Each growth of each call is refused in turn, and no call grows more than it has to.
+//! What is read is written again as it was, faults are told in their order, and no call wants more
+//! memory than it has to.
 
 mod cutting;
+mod decimals;
+mod faults;
+mod lengths;
+mod messages;
+mod pieces;
 mod reading;
 mod texts;
 mod writing;
-
-/// More requests than any run here makes.
-const MANY: u64 = 100;

@@ -24,6 +24,3 @@ pub use moves::read_move;
 pub use number::read_decimal;
 pub use reading::read_line;
 pub use writing::{write_entry, write_into, write_line};
-
-#[cfg(test)]
-mod tests;

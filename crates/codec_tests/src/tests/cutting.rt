@@ -1,11 +1,13 @@
 //! Cutters that find no memory, and how much they want.
 
-use super::MANY;
 use entry_codec::{Cut, LineCutter};
 use linked_list_allocator::LocalHeap;
 use refusing_allocator::Refusing;
 use std::alloc::Allocator;
 use std::test::Fail;
+
+/// More requests than any run here makes.
+const MANY: u64 = 100;
 
 /// A cutter makes its room with one request, and the bytes that it takes need none.
 #[test]

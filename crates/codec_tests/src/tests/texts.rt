@@ -1,5 +1,7 @@
-//! Lines with many parts or fields.
+//! Lines with many parts or fields, and lines that are read and written again.
 
+use entry_codec::{read_line, write_line};
+use rights_types::Message;
 use std::alloc::{AllocError, Allocator};
 
 /// Adds the text of the longest entry: 15 of the longest grants, and the longest close.
@@ -33,4 +35,41 @@ pub(super) fn answer_of<A: Allocator>(alloc: A, entries: u64) -> Result<Vec<u8, 
     }
     line.push(b'\n')?;
     Ok(line)
+}
+
+/// A text, another so many times, and an end.
+pub(super) fn repeated<A: Allocator>(
+    alloc: A,
+    front: &[u8],
+    text: &[u8],
+    times: usize,
+    end: &[u8],
+) -> Result<Vec<u8, A>, AllocError> {
+    let mut line = Vec::new(alloc);
+    line.extend_from_slice(front)?;
+    for _ in 0..times {
+        line.extend_from_slice(text)?;
+    }
+    line.extend_from_slice(end)?;
+    Ok(line)
+}
+
+/// Whether this is the line of the message.
+pub(super) fn is_written<A: Allocator + Copy, B: Allocator>(
+    alloc: A,
+    message: &Message<B>,
+    line: &[u8],
+) -> bool {
+    match write_line(alloc, message) {
+        Ok(text) => text.as_slice() == line,
+        Err(_) => false,
+    }
+}
+
+/// Whether the line is read, and written again as it was.
+pub(super) fn is_again<A: Allocator + Copy>(alloc: A, line: &[u8]) -> bool {
+    match read_line(alloc, line) {
+        Ok(message) => is_written(alloc, &message, line),
+        Err(_) => false,
+    }
 }

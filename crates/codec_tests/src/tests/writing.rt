@@ -1,11 +1,11 @@
 //! Lines that find no memory to be written into, and how many requests they take.
 
-use super::MANY;
 use super::texts::{answer_of, longest_entry};
 use entry_codec::{read_line, write_entry, write_into, write_line};
-use refusing_allocator::Refusing;
-use rights_types::Message;
+use rights_types::{Entry, Message, OutOfMemory};
+use std::alloc::Allocator;
 use std::test::Fail;
+use test_kit::requests_of;
 
 /// A line of each kind.
 const LINES: [&str; 8] = [
@@ -19,74 +19,66 @@ const LINES: [&str; 8] = [
     "H 1\n",
 ];
 
+// How many requests writing takes, where each that is refused is told.
+fn line_requests<A: Allocator + Copy>(alloc: A, message: &Message<A>, line: &[u8]) -> Option<u64> {
+    requests_of(alloc, |memory| {
+        match write_line(memory, message) {
+            Ok(text) => !memory.refused() && text.as_slice() == line,
+            Err(OutOfMemory) => memory.refused(),
+        }
+    })
+}
+
+fn entry_requests<A: Allocator + Copy>(alloc: A, entry: &Entry<A>, line: &[u8]) -> Option<u64> {
+    requests_of(alloc, |memory| {
+        match write_entry(memory, entry) {
+            Ok(text) => !memory.refused() && text.as_slice() == line,
+            Err(OutOfMemory) => memory.refused(),
+        }
+    })
+}
+
+// The same for a line behind another one, which stays as it is.
+fn requests_behind<A: Allocator + Copy>(
+    alloc: A,
+    message: &Message<A>,
+    expected: &[u8],
+) -> Option<u64> {
+    requests_of(alloc, |memory| {
+        let Ok(mut buffer) = Vec::from_slice(memory, b"H 1\n") else {
+            return memory.refused();
+        };
+        match write_into(&mut buffer, message) {
+            Ok(()) => !memory.refused() && buffer.as_slice() == expected,
+            Err(OutOfMemory) => memory.refused() && buffer.as_slice() == b"H 1\n".as_slice(),
+        }
+    })
+}
+
+/// Each line is written with one request, so that its room is not made bit by bit.
 #[test]
 fn write_line_refused(rt: HostRuntime) -> Result<(), Fail> {
     for line in &LINES {
         let message = read_line(rt.alloc(), line.as_bytes())?;
-        let mut was_refused = false;
-        let mut was_written = false;
-        for granted in 0..MANY {
-            let refusing = Refusing::new(rt.alloc(), granted);
-            if let Ok(text) = write_line(&refusing, &message) {
-                assert_eq!(rt; text.as_slice(), line.as_bytes());
-                assert!(rt; !refusing.refused());
-                was_written = true;
-                break;
-            }
-            assert!(rt; refusing.refused());
-            was_refused = true;
-        }
-        assert!(rt; was_refused);
-        assert!(rt; was_written);
+        assert_eq!(rt;
+            line_requests(rt.alloc(), &message, line.as_bytes()),
+            Some(1),
+            "{line}"
+        );
     }
+    let longest = answer_of(rt.alloc(), 16)?;
+    let message = read_line(rt.alloc(), &longest)?;
+    assert_eq!(rt; line_requests(rt.alloc(), &message, &longest), Some(1));
     Ok(())
 }
 
 #[test]
 fn write_entry_refused(rt: HostRuntime) -> Result<(), Fail> {
-    let line = b"E 1 0 3 I:10 S:4 R:2:3\n".as_slice();
-    let mut was_refused = false;
-    let mut was_written = false;
-    if let Message::Push(entry) = read_line(rt.alloc(), line)? {
-        for granted in 0..MANY {
-            let refusing = Refusing::new(rt.alloc(), granted);
-            if let Ok(text) = write_entry(&refusing, &entry) {
-                assert_eq!(rt; text.as_slice(), line);
-                assert!(rt; !refusing.refused());
-                was_written = true;
-                break;
-            }
-            assert!(rt; refusing.refused());
-            was_refused = true;
-        }
-    }
-    assert!(rt; was_refused);
-    assert!(rt; was_written);
-    Ok(())
-}
-
-/// The longest line of all is written with one request, so that its room is not made bit by bit.
-#[test]
-fn longest_message_takes_one_request(rt: HostRuntime) -> Result<(), Fail> {
-    let line = answer_of(rt.alloc(), 16)?;
-    let message = read_line(rt.alloc(), &line)?;
-    let refusing = Refusing::new(rt.alloc(), 1);
-    let text = write_line(&refusing, &message)?;
-    assert_eq!(rt; text.as_slice(), line.as_slice());
-    assert!(rt; !refusing.refused());
-    Ok(())
-}
-
-#[test]
-fn longest_entry_takes_one_request(rt: HostRuntime) -> Result<(), Fail> {
     let line = longest_entry(rt.alloc())?;
     let Message::Push(entry) = read_line(rt.alloc(), &line)? else {
         panic!(rt; "no entry");
     };
-    let refusing = Refusing::new(rt.alloc(), 1);
-    let text = write_entry(&refusing, &entry)?;
-    assert_eq!(rt; text.as_slice(), line.as_slice());
-    assert!(rt; !refusing.refused());
+    assert_eq!(rt; entry_requests(rt.alloc(), &entry, &line), Some(1));
     Ok(())
 }
 
@@ -94,25 +86,7 @@ fn longest_entry_takes_one_request(rt: HostRuntime) -> Result<(), Fail> {
 #[test]
 fn write_into_refused(rt: HostRuntime) -> Result<(), Fail> {
     let message = read_line(rt.alloc(), b"E 1 0 3 I:10 S:4 R:2:3\n")?;
-    let mut was_refused = false;
-    let mut was_written = false;
-    for granted in 1..MANY {
-        let refusing = Refusing::new(rt.alloc(), granted);
-        let mut buffer = Vec::from_slice(&refusing, b"H 1\n")?;
-        if write_into(&mut buffer, &message).is_ok() {
-            assert_eq!(rt;
-                buffer.as_slice(),
-                b"H 1\nE 1 0 3 I:10 S:4 R:2:3\n".as_slice()
-            );
-            assert!(rt; !refusing.refused());
-            was_written = true;
-            break;
-        }
-        assert_eq!(rt; buffer.as_slice(), b"H 1\n".as_slice());
-        assert!(rt; refusing.refused());
-        was_refused = true;
-    }
-    assert!(rt; was_refused);
-    assert!(rt; was_written);
+    let both = b"H 1\nE 1 0 3 I:10 S:4 R:2:3\n".as_slice();
+    assert_eq!(rt; requests_behind(rt.alloc(), &message, both), Some(2));
     Ok(())
 }

@@ -1,7 +1,8 @@
 //! Lines that are refused, and for what.
 
-use crate::{LineError, Place, read_line};
-use std::alloc::{AllocError, Allocator};
+use super::texts::repeated;
+use entry_codec::{LineError, Place, read_line};
+use std::alloc::Allocator;
 use std::test::Fail;
 
 fn fault<A: Allocator + Copy>(alloc: A, line: &[u8]) -> Option<LineError> {
@@ -30,23 +31,6 @@ fn field(part: u16, field: u16) -> Option<LineError> {
 
 fn misfit(part: u16, field: u16) -> Option<LineError> {
     Some(LineError::BadMove(Place { part, field }))
-}
-
-/// A text, another so many times, and an end.
-fn repeated<A: Allocator + Copy>(
-    alloc: A,
-    front: &str,
-    text: &str,
-    times: usize,
-    end: &str,
-) -> Result<Vec<u8, A>, AllocError> {
-    let mut line = Vec::new(alloc);
-    line.extend_from_slice(front.as_bytes())?;
-    for _ in 0..times {
-        line.extend_from_slice(text.as_bytes())?;
-    }
-    line.extend_from_slice(end.as_bytes())?;
-    Ok(line)
 }
 
 #[test]
@@ -122,24 +106,24 @@ fn parts_and_moves_out_of_place(rt: HostRuntime) {
 
 #[test]
 fn too_many(rt: HostRuntime) -> Result<(), Fail> {
-    let moves = repeated(rt.alloc(), "E 1 0 17", " I:1", 17, "\n")?;
+    let moves = repeated(rt.alloc(), b"E 1 0 17", b" I:1", 17, b"\n")?;
     assert_eq!(rt; fault(rt.alloc(), &moves), Some(LineError::CountWrong));
-    let moves = repeated(rt.alloc(), "E 1 0 16", " I:1", 16, "\n")?;
+    let moves = repeated(rt.alloc(), b"E 1 0 16", b" I:1", 16, b"\n")?;
     assert_eq!(rt; fault(rt.alloc(), &moves), None);
-    let entries = repeated(rt.alloc(), "A 1 2", ";E 1 0 1 I:1", 17, "\n")?;
+    let entries = repeated(rt.alloc(), b"A 1 2", b";E 1 0 1 I:1", 17, b"\n")?;
     assert_eq!(rt; fault(rt.alloc(), &entries), Some(LineError::CountWrong));
-    let entries = repeated(rt.alloc(), "A 1 2", ";E 1 0 1 I:1", 16, "\n")?;
+    let entries = repeated(rt.alloc(), b"A 1 2", b";E 1 0 1 I:1", 16, b"\n")?;
     assert_eq!(rt; fault(rt.alloc(), &entries), None);
     Ok(())
 }
 
 #[test]
 fn too_long(rt: HostRuntime) -> Result<(), Fail> {
-    let long = repeated(rt.alloc(), "", "x", 16384, "\n")?;
+    let long = repeated(rt.alloc(), b"", b"x", 16384, b"\n")?;
     assert_eq!(rt; fault(rt.alloc(), &long), Some(LineError::TooLong));
-    let endless = repeated(rt.alloc(), "", "x", 16385, "")?;
+    let endless = repeated(rt.alloc(), b"", b"x", 16385, b"")?;
     assert_eq!(rt; fault(rt.alloc(), &endless), Some(LineError::TooLong));
-    let whole = repeated(rt.alloc(), "", "x", 16383, "\n")?;
+    let whole = repeated(rt.alloc(), b"", b"x", 16383, b"\n")?;
     assert_eq!(rt; fault(rt.alloc(), &whole), Some(LineError::BadKind));
     Ok(())
 }
@@ -147,7 +131,7 @@ fn too_long(rt: HostRuntime) -> Result<(), Fail> {
 /// The parts of an answer are read before they are counted.
 #[test]
 fn fault_behind_too_many_entries(rt: HostRuntime) -> Result<(), Fail> {
-    let late = repeated(rt.alloc(), "A 1 2", ";E 1 0 1 I:1", 17, ";E 1 0 1 I:0\n")?;
+    let late = repeated(rt.alloc(), b"A 1 2", b";E 1 0 1 I:1", 17, b";E 1 0 1 I:0\n")?;
     assert_eq!(rt; fault(rt.alloc(), &late), misfit(18, 4));
     Ok(())
 }

@@ -1,6 +1,6 @@
 //! Streams that are cut into lines.
 
-use crate::{Cut, LineCutter};
+use entry_codec::{Cut, LineCutter};
 use rights_types::OutOfMemory;
 use std::alloc::Allocator;
 use std::test::Fail;

@@ -1,21 +1,16 @@
 //! Messages that are read from their lines, and written again.
 
-use crate::{LineError, read_line, read_move, write_entry, write_into, write_line};
+use super::texts::{answer_of, is_again, longest_entry};
+use entry_codec::{read_line, read_move, write_entry, write_into, write_line};
 use rights_types::{Amount, AskNumber, Entry, Message, Move, SiteId, Total};
-use std::alloc::{AllocError, Allocator};
+use std::alloc::Allocator;
 use std::test::Fail;
-
-/// Whether the text is read, and written as it was.
-fn is_again<A: Allocator + Copy>(alloc: A, text: &[u8]) -> Result<bool, LineError> {
-    let message = read_line(alloc, text)?;
-    Ok(write_line(alloc, &message)?.as_slice() == text)
-}
 
 #[test]
 fn line_of_an_entry(rt: HostRuntime) -> Result<(), Fail> {
     let text = b"E 1 0 3 I:10 S:4 R:2:3\n".as_slice();
     assert_eq!(rt; text.len(), 23);
-    assert!(rt; is_again(rt.alloc(), text)?);
+    assert!(rt; is_again(rt.alloc(), text));
     Ok(())
 }
 
@@ -33,7 +28,7 @@ fn lines_of_least_values(rt: HostRuntime) -> Result<(), Fail> {
         "H 1\n",
     ];
     for line in &lines {
-        assert!(rt; is_again(rt.alloc(), line.as_bytes())?, "{line}");
+        assert!(rt; is_again(rt.alloc(), line.as_bytes()), "{line}");
     }
     Ok(())
 }
@@ -50,49 +45,24 @@ fn lines_of_greatest_values(rt: HostRuntime) -> Result<(), Fail> {
         "H 16\n",
     ];
     for line in &lines {
-        assert!(rt; is_again(rt.alloc(), line.as_bytes())?, "{line}");
+        assert!(rt; is_again(rt.alloc(), line.as_bytes()), "{line}");
     }
     Ok(())
-}
-
-/// Adds the text of the longest entry: 15 of the longest grants, and the longest close.
-fn add_longest_entry<A: Allocator>(line: &mut Vec<u8, A>) -> Result<(), AllocError> {
-    line.extend_from_slice(b"E 16 999999984 1000000000")?;
-    for _ in 0..15usize {
-        line.extend_from_slice(b" G:15:1000000000:1000000000")?;
-    }
-    line.extend_from_slice(b" K")?;
-    for _ in 0..15usize {
-        line.extend_from_slice(b":1000000000")?;
-    }
-    line.extend_from_slice(b":0")
-}
-
-/// The longest line: an answer of 16 of the longest entries.
-fn longest<A: Allocator + Copy>(alloc: A) -> Result<Vec<u8, A>, AllocError> {
-    let mut line = Vec::new(alloc);
-    line.extend_from_slice(b"A 16 15")?;
-    for _ in 0..16usize {
-        line.push(b';')?;
-        add_longest_entry(&mut line)?;
-    }
-    line.push(b'\n')?;
-    Ok(line)
 }
 
 /// The longest line has far fewer bytes than a line may have.
 #[test]
 fn longest_line(rt: HostRuntime) -> Result<(), Fail> {
-    let line = longest(rt.alloc())?;
+    let line = answer_of(rt.alloc(), 16)?;
     assert_eq!(rt; line.len(), 9608);
-    assert!(rt; is_again(rt.alloc(), &line)?);
+    assert!(rt; is_again(rt.alloc(), &line));
     Ok(())
 }
 
 /// No front of a long line is a line.
 #[test]
 fn fronts_of_the_longest_line(rt: HostRuntime) -> Result<(), Fail> {
-    let line = longest(rt.alloc())?;
+    let line = answer_of(rt.alloc(), 16)?;
     for count in 0..line.len() {
         assert!(rt;
             read_line(rt.alloc(), &line[..count]).is_err(),
@@ -106,7 +76,7 @@ fn fronts_of_the_longest_line(rt: HostRuntime) -> Result<(), Fail> {
 /// and those that end with an entry.
 #[test]
 fn ended_fronts_of_the_longest_line(rt: HostRuntime) -> Result<(), Fail> {
-    let line = longest(rt.alloc())?;
+    let line = answer_of(rt.alloc(), 16)?;
     let mut text = Vec::new(rt.alloc());
     let mut lengths = Vec::new(rt.alloc());
     for count in 0..line.len() {
@@ -193,9 +163,7 @@ fn values_of_entries(rt: HostRuntime) -> Result<(), Fail> {
 
 #[test]
 fn entry_of_the_longest_moves(rt: HostRuntime) -> Result<(), Fail> {
-    let mut line = Vec::new(rt.alloc());
-    add_longest_entry(&mut line)?;
-    line.push(b'\n')?;
+    let line = longest_entry(rt.alloc())?;
     let Message::Push(entry) = read_line(rt.alloc(), &line)? else {
         panic!(rt; "no entry");
     };
@@ -222,7 +190,7 @@ fn values_of_answers(rt: HostRuntime) -> Result<(), Fail> {
 /// A take back may stand before other moves.
 #[test]
 fn take_back_first(rt: HostRuntime) -> Result<(), Fail> {
-    assert!(rt; is_again(rt.alloc(), b"E 1 0 2 V:2:5 I:1\n")?);
+    assert!(rt; is_again(rt.alloc(), b"E 1 0 2 V:2:5 I:1\n"));
     Ok(())
 }
 
@@ -277,7 +245,7 @@ fn lines_behind_each_other(rt: HostRuntime) -> Result<(), Fail> {
     write_into(&mut buffer, &read_line(rt.alloc(), b"H 1\n")?)?;
     write_into(&mut buffer, &read_line(rt.alloc(), b"B 1 5\n")?)?;
     assert_eq!(rt; buffer.as_slice(), b"H 1\nB 1 5\n".as_slice());
-    let long = longest(rt.alloc())?;
+    let long = answer_of(rt.alloc(), 16)?;
     write_into(&mut buffer, &read_line(rt.alloc(), &long)?)?;
     assert_eq!(rt; &buffer[..10], b"H 1\nB 1 5\n".as_slice());
     assert_eq!(rt; &buffer[10..], long.as_slice());

@@ -1,0 +1,210 @@
+//! Lines of every length, with ample memory: whatever is read or cut is what was written. A body that
+//! gives up on some length is proved, since it may always want memory, and is found here.
+
+use super::texts::{is_again, repeated};
+use entry_codec::{Cut, LineCutter, read_line, write_entry, write_into, write_line};
+use linked_list_allocator::LocalHeap;
+use rights_types::{MAX_LINE, Message, OutOfMemory};
+use std::alloc::{AllocError, Allocator};
+use std::test::Fail;
+
+// The text of a move of each kind, those that close behind the others.
+const MOVES: [&str; 7] = [
+    " I:10", " S:9", " G:2:8:7", " R:3:6", " V:4:5", " C", " K:0:1:2",
+];
+
+// Adds an entry of so many moves, of the kinds in turn, of which the last is of this one.
+fn add_entry<A: Allocator>(
+    line: &mut Vec<u8, A>,
+    count: usize,
+    last: usize,
+) -> Result<(), AllocError> {
+    line.extend_from_slice(b"E 1 0 ")?;
+    if count >= 10 {
+        line.push(b'1')?;
+    }
+    line.push(b'0' + (count % 10) as u8)?;
+    for index in 1..count {
+        line.extend_from_slice(MOVES[index % 5].as_bytes())?;
+    }
+    line.extend_from_slice(MOVES[last % 7].as_bytes())
+}
+
+fn entry_line<A: Allocator>(alloc: A, count: usize, last: usize) -> Result<Vec<u8, A>, AllocError> {
+    let mut line = Vec::new(alloc);
+    add_entry(&mut line, count, last)?;
+    line.push(b'\n')?;
+    Ok(line)
+}
+
+// Whether the message is an entry that is written so.
+fn is_entry_line<A: Allocator + Copy>(alloc: A, message: &Message<A>, line: &[u8]) -> bool {
+    match message {
+        Message::Push(entry) => {
+            match write_entry(alloc, entry) {
+                Ok(text) => text.as_slice() == line,
+                Err(OutOfMemory) => false,
+            }
+        }
+        _ => false,
+    }
+}
+
+/// Entries of 1 to 16 moves, each ending in a move of each kind.
+#[test]
+fn entries_of_every_count(rt: HostRuntime) -> Result<(), Fail> {
+    for count in 1..=16usize {
+        for last in 0..7usize {
+            let line = entry_line(rt.alloc(), count, last)?;
+            let message = read_line(rt.alloc(), &line)?;
+            assert!(rt;
+                is_entry_line(rt.alloc(), &message, &line),
+                "{count} moves, the last of kind {last}"
+            );
+        }
+    }
+    Ok(())
+}
+
+/// Answers of 0 to 16 entries, which have 1, 2 and more moves.
+#[test]
+fn answers_of_every_count(rt: HostRuntime) -> Result<(), Fail> {
+    for entries in 0..=16usize {
+        let mut line = Vec::new(rt.alloc());
+        line.extend_from_slice(b"A 1 2")?;
+        for count in 1..=entries {
+            line.push(b';')?;
+            add_entry(&mut line, count, count)?;
+        }
+        line.push(b'\n')?;
+        assert!(rt; is_again(rt.alloc(), &line), "{entries} entries");
+    }
+    Ok(())
+}
+
+// Takes a zero off the last number that has more digits than one and ends in it, if there is one.
+fn shorten<A: Allocator>(line: &mut Vec<u8, A>) -> bool {
+    let mut found = 0;
+    for at in 1..line.len() {
+        if line[at] == b'0' && line[at - 1].is_ascii_digit() {
+            found = at;
+        }
+    }
+    if found == 0 || found >= line.len() {
+        return false;
+    }
+    line.remove(found);
+    true
+}
+
+// Whether the line is read and written again as it was, in no more memory than it is long, to the
+// heap's next 16 bytes, and behind another line too.
+fn is_kept<A: Allocator + Copy>(alloc: A, heap: &LocalHeap, line: &[u8]) -> bool {
+    let Ok(message) = read_line(alloc, line) else {
+        return false;
+    };
+    let Ok(text) = write_line(heap, &message) else {
+        return false;
+    };
+    let Ok(mut buffer) = Vec::from_slice(alloc, b"H 1\n") else {
+        return false;
+    };
+    heap.used() <= line.len() + 16
+        && text.as_slice() == line
+        && write_into(&mut buffer, &message).is_ok()
+        && buffer.len() == line.len() + 4
+        && &buffer[4..] == line
+}
+
+// Goes over the line and all that come of it by taking zeros off, and answers the length of the first
+// that is not kept, or else how long the last one is.
+fn first_lost<A: Allocator + Copy>(
+    alloc: A,
+    heap: &LocalHeap,
+    line: &mut Vec<u8, A>,
+) -> Result<usize, usize> {
+    for _ in 0..MAX_LINE {
+        if !is_kept(alloc, heap, line) {
+            return Err(line.len());
+        }
+        if !shorten(line) {
+            return Ok(line.len());
+        }
+    }
+    Err(line.len())
+}
+
+// The text of an entry whose numbers can be shortened.
+const WIDE_ENTRY: &str =
+    ";E 16 0 16 G:15:1000000000:1000000000 G:15:1000000000:1000000000 G:15:1000000000:1000000000 G:15:1000000000:1000000000 G:15:1000000000:1000000000 G:15:1000000000:1000000000 G:15:1000000000:1000000000 G:15:1000000000:1000000000 G:15:1000000000:1000000000 G:15:1000000000:1000000000 G:15:1000000000:1000000000 G:15:1000000000:1000000000 G:15:1000000000:1000000000 G:15:1000000000:1000000000 G:15:1000000000:1000000000 K:1000000000:1000000000:1000000000:1000000000:1000000000:1000000000:1000000000:1000000000:1000000000:1000000000:1000000000:1000000000:1000000000:1000000000:1000000000:0";
+
+/// Answers of every length from 187 to 9,352 bytes.
+#[test]
+fn answers_of_every_length(rt: HostRuntime) -> Result<(), Fail> {
+    let heap = LocalHeap::new(rt.alloc(), MAX_LINE)?;
+    let spans = [
+        (1, 592, 187),
+        (2, 1176, 366),
+        (4, 2344, 724),
+        (8, 4680, 1440),
+        (16, 9352, 2872),
+    ];
+    for (entries, longest, shortest) in &spans {
+        let mut line = repeated(
+            rt.alloc(),
+            b"A 16 15",
+            WIDE_ENTRY.as_bytes(),
+            *entries,
+            b"\n",
+        )?;
+        assert_eq!(rt; line.len(), *longest);
+        assert_eq!(rt; first_lost(rt.alloc(), &heap, &mut line), Ok(*shortest));
+    }
+    Ok(())
+}
+
+/// Entries of every length from 13 to 218 bytes.
+#[test]
+fn entries_of_every_length(rt: HostRuntime) -> Result<(), Fail> {
+    let heap = LocalHeap::new(rt.alloc(), MAX_LINE)?;
+    let spans = [
+        (1, "E 16 0 1", 22, 13),
+        (4, "E 16 0 4", 61, 25),
+        (8, "E 16 0 8", 113, 41),
+        (16, "E 16 0 16", 218, 74),
+    ];
+    for (count, front, longest, shortest) in &spans {
+        let mut line = repeated(
+            rt.alloc(),
+            front.as_bytes(),
+            b" I:1000000000",
+            *count,
+            b"\n",
+        )?;
+        assert_eq!(rt; line.len(), *longest);
+        assert_eq!(rt; first_lost(rt.alloc(), &heap, &mut line), Ok(*shortest));
+    }
+    Ok(())
+}
+
+fn is_line<A: Allocator>(cut: Result<Option<Cut<A>>, OutOfMemory>, expected: &[u8]) -> bool {
+    match cut {
+        Ok(Some(Cut::Line(line))) => line.as_slice() == expected,
+        _ => false,
+    }
+}
+
+/// A cutter gives lines of every length.
+#[test]
+fn pieces_of_every_length(rt: HostRuntime) -> Result<(), Fail> {
+    let mut cutter = LineCutter::new(rt.alloc())?;
+    let mut line = Vec::new(rt.alloc());
+    for length in 1..=MAX_LINE {
+        line.push(b'\n')?;
+        assert_eq!(rt; cutter.push(&line), length);
+        assert!(rt; is_line(cutter.next_line(), &line), "{length} bytes");
+        line.pop();
+        line.push(b'x')?;
+    }
+    Ok(())
+}

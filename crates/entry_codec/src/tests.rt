@@ -1,5 +1,0 @@
-//! Texts given from outside.
-
-mod cutting;
-mod faults;
-mod messages;
