@@ -23,16 +23,16 @@ or_false false = refl
 
 -- an account is its sums
 abbrev made : ℕ → ℕ → ℕ → ℕ → ℕ → Bool → Account
-made n i s g b c = record { number = n; issued = i; spent = s; given = g; back = b; closed = c }
+made n i s g b c = record { end = n; issued = i; spent = s; given = g; back = b; closed = c }
 
-same_account : (x y : Account) → x.number ≡ y.number → x.issued ≡ y.issued → x.spent ≡ y.spent → x.given ≡ y.given → x.back ≡ y.back → x.closed ≡ y.closed → x ≡ y
+same_account : (x y : Account) → x.end ≡ y.end → x.issued ≡ y.issued → x.spent ≡ y.spent → x.given ≡ y.given → x.back ≡ y.back → x.closed ≡ y.closed → x ≡ y
 same_account x y n i s g b c =
     ap (λ k. made k x.issued x.spent x.given x.back x.closed) n
-    ∙ ap (λ k. made y.number k x.spent x.given x.back x.closed) i
-    ∙ ap (λ k. made y.number y.issued k x.given x.back x.closed) s
-    ∙ ap (λ k. made y.number y.issued y.spent k x.back x.closed) g
-    ∙ ap (λ k. made y.number y.issued y.spent y.given k x.closed) b
-    ∙ ap (λ k. made y.number y.issued y.spent y.given y.back k) c
+    ∙ ap (λ k. made y.end k x.spent x.given x.back x.closed) i
+    ∙ ap (λ k. made y.end y.issued k x.given x.back x.closed) s
+    ∙ ap (λ k. made y.end y.issued y.spent k x.back x.closed) g
+    ∙ ap (λ k. made y.end y.issued y.spent y.given k x.closed) b
+    ∙ ap (λ k. made y.end y.issued y.spent y.given y.back k) c
 
 -- one move, and then the others
 pub with_moves-cons : (a : Account) (m : Move) (ms : List Move) → with_moves (with_move a m) ms ≡ with_moves a (m ∷ ms)
@@ -49,7 +49,7 @@ account_of-nil =
     same_account (account_of []) no_account refl (rw moves_of-nil issued-nil) (rw moves_of-nil spent-nil) (rw moves_of-nil out-nil) (rw moves_of-nil taken_back-nil) refl
 
 -- the account of a log with an entry more, which follows its end
-pub account_of-push : (es : List EntryValue) (e : EntryValue) (a : Account) → a ≡ account_of es → e.prev ≡ a.number → a.closed ≡ false
+pub account_of-push : (es : List EntryValue) (e : EntryValue) (a : Account) → a ≡ account_of es → e.prev ≡ a.end → a.closed ≡ false
     → with_moves a e.moves ≡ account_of (es ++ e ∷ [])
 account_of-push es e a is next unclosed =
     let ms : List Move = moves_of es in

@@ -82,7 +82,7 @@ new_is_book me n some few low high =
       member = (low, omega (arith, count));
       own_account = no_account_kept;
       accounts = λ o. subst (λ (p : Peer). IsAccount p.log) (sym (empty o)) no_account_kept;
-      nothing_applied = ap (λ (p : Peer). p.log.number) (empty me);
+      nothing_applied = ap (λ (p : Peer). p.log.end) (empty me);
       nothing_given = ap (λ (p : Peer). p.given) (empty me);
       received_within = λ o. omega (arith, ap (λ (p : Peer). p.received) (empty o));
       received_is = ap (λ (p : Peer). p.gifts) (empty me) ∙ sym (of (λ p. p.received) refl);
@@ -111,18 +111,21 @@ given_term b is j =
       | inr out ↦ omega (arith, ap (λ (p : Peer). p.given) (out b.peers refl))
     ]
 
+-- no more is taken back than was given
+pub back_given : (b : BookValue) → IsBook b → b.own.back ≤ b.own.given
+back_given b is = omega (arith, is.given_is, is.back_is, sum_le (sites b) (λ j. (peer b j).back) (λ j. (peer b j).given) is.back_within)
+
 pub bounded : (b : BookValue) → IsBook b → IsBounded b
 bounded b is =
     let n : ℕ = sites b in
     let few = is.few in
     let numbers : applied_by b + 1000000000 ≤ n * 1000000000 =
-    sum_bound_but n b.me 1000000000 (λ o. (peer b o).log.number) is.member.0 is.member.1 is.nothing_applied (λ o. (is.accounts o).in_range) in
+    sum_bound_but n b.me 1000000000 (λ o. (peer b o).log.end) is.member.0 is.member.1 is.nothing_applied (λ o. (is.accounts o).in_range) in
     let gives : b.own.given ≤ 1000000000000000000 = omega (arith, is.own_account.gives, is.own_account.in_range) in
-    let backs : sum_sites n (λ j. (peer b j).back) ≤ sum_sites n (λ j. (peer b j).given) = sum_le n (λ j. (peer b j).back) (λ j. (peer b j).given) is.back_within in
     record {
       issues = omega (arith, is.own_account.issues, is.own_account.in_range);
       spends = omega (arith, is.own_account.spends, is.own_account.in_range);
-      takes_back = omega (arith, gives, backs, is.given_is, is.back_is);
+      takes_back = omega (arith, gives, back_given b is);
       applies = omega (arith, numbers, few);
       receives = omega (arith, numbers, few, is.gifts_within b.me);
       receives_from = λ o. omega (arith, is.received_within o, (is.accounts o).in_range);
@@ -153,8 +156,8 @@ written_book old new ms is checked ranges backs kept w =
     ∙ sum_add n (λ j. (peer old j).back) (λ j. back j ms) ∙ ap (λ k. sum_sites n (λ j. (peer old j).back) + k) (taken_back_is n ms named) in
     let received_sum : sum_sites n (λ o. (peer new o).received) ≡ sum_sites n (λ o. (peer old o).received) =
     sum_same n (λ o. (peer new o).received) (λ o. (peer old o).received) (λ o low high. ap (λ (p : Peer). p.received) (w.each o)) in
-    let number_sum : sum_sites n (λ o. (peer new o).log.number) ≡ sum_sites n (λ o. (peer old o).log.number) =
-    sum_same n (λ o. (peer new o).log.number) (λ o. (peer old o).log.number) (λ o low high. ap (λ (p : Peer). p.log.number) (w.each o)) in
+    let end_sum : sum_sites n (λ o. (peer new o).log.end) ≡ sum_sites n (λ o. (peer old o).log.end) =
+    sum_same n (λ o. (peer new o).log.end) (λ o. (peer old o).log.end) (λ o low high. ap (λ (p : Peer). p.log.end) (w.each o)) in
     let received : received_by new ≡ received_by old = ap (λ (p : Peer). p.gifts) at_me in
     record {
       some = omega (arith, is.some, w.same_sites);
@@ -162,11 +165,11 @@ written_book old new ms is checked ranges backs kept w =
       member = (omega (arith, is.member.0, w.same_me), omega (arith, is.member.1, w.same_me, w.same_sites));
       own_account = kept;
       accounts = λ o. subst (λ (p : Peer). IsAccount p.log) (sym (w.each o)) (is.accounts o);
-      nothing_applied = ap (λ (p : Peer). p.log.number) at_me ∙ is.nothing_applied;
+      nothing_applied = ap (λ (p : Peer). p.log.end) at_me ∙ is.nothing_applied;
       nothing_given = omega (arith, ap (λ (p : Peer). p.given) at_me, is.nothing_given, nothing_to old.me ms checked.others);
-      received_within = λ o. omega (arith, ap (λ (p : Peer). p.received) (w.each o), ap (λ (p : Peer). p.log.number) (w.each o), is.received_within o);
+      received_within = λ o. omega (arith, ap (λ (p : Peer). p.received) (w.each o), ap (λ (p : Peer). p.log.end) (w.each o), is.received_within o);
       received_is = received ∙ is.received_is ∙ sym received_sum ∙ sym (same (λ o. (peer new o).received));
-      gifts_within = λ j. omega (arith, ap (λ (p : Peer). p.gifts) (w.each j), is.gifts_within j, number_sum, same (λ o. (peer new o).log.number));
+      gifts_within = λ j. omega (arith, ap (λ (p : Peer). p.gifts) (w.each j), is.gifts_within j, end_sum, same (λ o. (peer new o).log.end));
       given_is = omega (arith, ap (λ (a : Account). a.given) w.writes, is.given_is, given_sum, same (λ j. (peer new j).given));
       back_is = omega (arith, ap (λ (a : Account). a.back) w.writes, is.back_is, back_sum, same (λ j. (peer new j).back));
       back_within = λ j. omega (arith, ap (λ (p : Peer). p.back) (w.each j), ap (λ (p : Peer). p.given) (w.each j), is.back_within j, backs j);
@@ -276,8 +279,8 @@ applied_book old new o ms is low high other ranges kept a =
     sum_same n (λ j. (peer new j).back) (λ j. (peer old j).back) (λ j l h. f.back_same j) in
     let received_sum : sum_sites n (λ k. (peer new k).received) ≡ sum_sites n (λ k. (peer old k).received) + to old.me ms =
     sum_risen n o (to old.me ms) (λ k. (peer old k).received) (λ k. (peer new k).received) low high f.received_other f.received_here in
-    let number_sum : sum_sites n (λ k. (peer new k).log.number) ≡ sum_sites n (λ k. (peer old k).log.number) + length ms =
-    sum_risen n o (length ms) (λ k. (peer old k).log.number) (λ k. (peer new k).log.number) low high (λ k ne. ap (λ (l : Account). l.number) (f.log_other k ne)) (ap (λ (l : Account). l.number) f.log_here) in
+    let end_sum : sum_sites n (λ k. (peer new k).log.end) ≡ sum_sites n (λ k. (peer old k).log.end) + length ms =
+    sum_risen n o (length ms) (λ k. (peer old k).log.end) (λ k. (peer new k).log.end) low high (λ k ne. ap (λ (l : Account). l.end) (f.log_other k ne)) (ap (λ (l : Account). l.end) f.log_here) in
     let received : received_by new ≡ received_by old + to old.me ms = received_risen old new o ms is other a f in
     record {
       some = omega (arith, is.some, a.same_sites);
@@ -288,15 +291,15 @@ applied_book old new o ms is low high other ranges kept a =
         | inl e ↦ subst (λ i. IsAccount (peer new i).log) (sym e) (subst IsAccount (sym f.log_here) kept)
         | inr ne ↦ subst IsAccount (sym (f.log_other k ne)) (is.accounts k)
       ];
-      nothing_applied = ap (λ k. (peer new k).log.number) a.same_me ∙ ap (λ (l : Account). l.number) (f.log_other old.me me_other) ∙ is.nothing_applied;
+      nothing_applied = ap (λ k. (peer new k).log.end) a.same_me ∙ ap (λ (l : Account). l.end) (f.log_other old.me me_other) ∙ is.nothing_applied;
       nothing_given = ap (λ k. (peer new k).given) a.same_me ∙ f.given_same old.me ∙ is.nothing_given;
       received_within = λ k. elim (cases_eq k o) [
-        | inl e ↦ subst (λ i. (peer new i).received ≤ (peer new i).log.number * 1000000000) (sym e)
-            (omega (arith, f.received_here, ap (λ (l : Account). l.number) f.log_here, is.received_within o, to-bound old.me ms ranges))
-        | inr ne ↦ omega (arith, f.received_other k ne, ap (λ (l : Account). l.number) (f.log_other k ne), is.received_within k)
+        | inl e ↦ subst (λ i. (peer new i).received ≤ (peer new i).log.end * 1000000000) (sym e)
+            (omega (arith, f.received_here, ap (λ (l : Account). l.end) f.log_here, is.received_within o, to-bound old.me ms ranges))
+        | inr ne ↦ omega (arith, f.received_other k ne, ap (λ (l : Account). l.end) (f.log_other k ne), is.received_within k)
       ];
       received_is = omega (arith, received, is.received_is, received_sum, same (λ k. (peer new k).received));
-      gifts_within = λ j. omega (arith, f.gifts_most j, is.gifts_within j, to-bound j ms ranges, number_sum, same (λ k. (peer new k).log.number));
+      gifts_within = λ j. omega (arith, f.gifts_most j, is.gifts_within j, to-bound j ms ranges, end_sum, same (λ k. (peer new k).log.end));
       given_is = ap (λ (l : Account). l.given) a.same_own ∙ is.given_is ∙ sym given_sum ∙ sym (same (λ j. (peer new j).given));
       back_is = ap (λ (l : Account). l.back) a.same_own ∙ is.back_is ∙ sym back_sum ∙ sym (same (λ j. (peer new j).back));
       back_within = λ j. omega (arith, f.given_same j, f.back_same j, is.back_within j);

@@ -1,6 +1,7 @@
 -- The logs that a book stands for.
 use Rattle.std.proofs.Common.{◌≡◌, ◌≢◌, ℕ, ◌+◌, ◌≤◌, pos, ◌-ℤ◌, Bool, true, false, cond, eqb, List, [], ◌∷◌, ◌++◌, inl, inr, refl, sym, ap, ◌∙◌, subst, arith}
 use Rattle.std.specs.List.{All}
+use Rattle.std.proofs.lemmas.Int.{ints}
 use Rattle.std.proofs.lemmas.Bool.{eq-eqb, eqb-true, ne_eqb, cases_eq}
 use Rattle.std.proofs.lemmas.List.Elements.{All-append, All-nil}
 use Rattle.rights_types.specs.Entries.{EntryValue}
@@ -105,7 +106,7 @@ gift_more true x y z h isnt = absurd cc
 gift_more false x y z h isnt = h
 
 pub applied_applied : (old new : BookValue) (o : ℕ) (e : EntryValue) (applied later : ℕ → List EntryValue) → IsBook old → 1 ≤ o → o ≤ sites old → o ≢ old.me
-    → (peer old o).log.closed ≡ false → e.prev ≡ (peer old o).log.number → Applies old o e.moves new → IsApplied old o e.moves new
+    → (peer old o).log.closed ≡ false → e.prev ≡ (peer old o).log.end → Applies old o e.moves new → IsApplied old o e.moves new
     → StandsForApplied applied old → AddsEntry applied o e later → StandsForApplied later new
 applied_applied old new o e applied later is low high other unclosed next a f s adds =
     let n : ℕ = sites old in
@@ -248,3 +249,13 @@ known_stands b log applied j is s low high =
       | inl here ↦ known_me b log applied j is s here
       | inr ne ↦ known_other b log applied j is s low high ne
     ]
+
+-- what the book's site knows of itself is what it holds
+pub held_known : (b : BookValue) → IsBook b → pos (held_by b) ≡ known_by b b.me
+held_known b is =
+    let its : account b b.me ≡ b.own = rw (eq-eqb b.me b.me refl) refl in
+    rw its (omega (arith, ints, is.not_negative, is.nothing_given))
+
+pub held_known_stands : (b : BookValue) (log : List EntryValue) (applied : ℕ → List EntryValue) → IsBook b → StandsFor log applied b
+    → pos (held_by b) ≡ known (sites b) b.me (logs_at b.me log applied)
+held_known_stands b log applied is s = held_known b is ∙ known_stands b log applied b.me is s is.member.0 is.member.1

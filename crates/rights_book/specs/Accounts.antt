@@ -11,12 +11,12 @@ use Rattle.rights_book.specs.declared.account.Account.{Account}
 
 -- the account of an empty log
 abbrev pub no_account : Account
-no_account = record { number = 0; issued = 0; spent = 0; given = 0; back = 0; closed = false }
+no_account = record { end = 0; issued = 0; spent = 0; given = 0; back = 0; closed = false }
 
 -- the account of a log
 abbrev pub account_of : List EntryValue → Account
 account_of es = record {
-  number = end es;
+  end = end es;
   issued = issued (moves_of es);
   spent = spent (moves_of es);
   given = out (moves_of es);
@@ -27,7 +27,7 @@ account_of es = record {
 -- the account with one move more
 abbrev pub with_move : Account → Move → Account
 with_move a m = record {
-  number = a.number + 1;
+  end = a.end + 1;
   issued = a.issued + issue_of m;
   spent = a.spent + spend_of m;
   given = a.given + gift_of m;
@@ -38,7 +38,7 @@ with_move a m = record {
 -- the account with these moves more
 abbrev pub with_moves : Account → List Move → Account
 with_moves a ms = record {
-  number = a.number + length ms;
+  end = a.end + length ms;
   issued = a.issued + issued ms;
   spent = a.spent + spent ms;
   given = a.given + out ms;
@@ -48,8 +48,8 @@ with_moves a ms = record {
 
 -- for each of its numbers, a log issues, spends and gives at most 10^9, and takes back at most 10^18
 pub record IsAccount (a : Account) : Type 0 where
-  pub in_range : IsNumber a.number
-  pub issues : a.issued ≤ a.number * 1000000000
-  pub spends : a.spent ≤ a.number * 1000000000
-  pub gives : a.given ≤ a.number * 1000000000
-  pub takes_back : a.back ≤ a.number * 1000000000000000000
+  pub in_range : IsNumber a.end
+  pub issues : a.issued ≤ a.end * 1000000000
+  pub spends : a.spent ≤ a.end * 1000000000
+  pub gives : a.given ≤ a.end * 1000000000
+  pub takes_back : a.back ≤ a.end * 1000000000000000000

@@ -57,7 +57,7 @@ pub record Applies (old : BookValue) (o : ℕ) (ms : List Move) (new : BookValue
 
 -- the numbers that were applied of all logs
 abbrev pub applied_by : BookValue → ℕ
-applied_by b = sum_sites (sites b) (λ o. (peer b o).log.number)
+applied_by b = sum_sites (sites b) (λ o. (peer b o).log.end)
 
 -- what is true of every book, whatever the logs
 pub record IsBook (b : BookValue) : Type 0 where
@@ -66,9 +66,9 @@ pub record IsBook (b : BookValue) : Type 0 where
   pub member : (1 ≤ b.me) × (b.me ≤ sites b)
   pub own_account : IsAccount b.own
   pub accounts : (o : ℕ) → IsAccount (peer b o).log
-  pub nothing_applied : (peer b b.me).log.number ≡ 0
+  pub nothing_applied : (peer b b.me).log.end ≡ 0
   pub nothing_given : (peer b b.me).given ≡ 0
-  pub received_within : (o : ℕ) → (peer b o).received ≤ (peer b o).log.number * 1000000000
+  pub received_within : (o : ℕ) → (peer b o).received ≤ (peer b o).log.end * 1000000000
   pub received_is : received_by b ≡ sum_sites (sites b) (λ o. (peer b o).received)
   pub gifts_within : (j : ℕ) → (peer b j).gifts ≤ applied_by b * 1000000000
   pub given_is : b.own.given ≡ sum_sites (sites b) (λ j. (peer b j).given)

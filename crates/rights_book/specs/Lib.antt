@@ -1,6 +1,7 @@
 pub mod Accounts
 pub mod Peers
 pub mod Books
+pub mod Leaves
 pub mod Checks
 pub mod Known
 pub mod StandsFor

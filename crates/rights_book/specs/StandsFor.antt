@@ -33,7 +33,7 @@ pub record StandsFor (log : List EntryValue) (applied : ℕ → List EntryValue)
 
 -- the entry that the book's site writes next
 abbrev pub own_entry : BookValue → List Move → EntryValue
-own_entry b ms = record { origin = b.me; prev = b.own.number; moves = ms }
+own_entry b ms = record { origin = b.me; prev = b.own.end; moves = ms }
 
 -- the same logs, but that of o has an entry more
 pub record AddsEntry (old : ℕ → List EntryValue) (o : ℕ) (e : EntryValue) (new : ℕ → List EntryValue) : Type 0 where

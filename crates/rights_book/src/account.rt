@@ -7,8 +7,8 @@ use rights_types::Move;
 /// What the moves of one log add up to.
 #[derive(Clone, Copy)]
 pub(crate) struct Account {
-    /// The number of the log's end.
-    pub(crate) number: u64,
+    /// The number of the log's last entry.
+    pub(crate) end: u64,
     pub(crate) issued: u64,
     pub(crate) spent: u64,
     /// What was given to other sites.
@@ -25,7 +25,7 @@ impl Account {
         ensures { result ≡ no_account }
     {
         Account {
-            number: 0,
+            end: 0,
             issued: 0,
             spent: 0,
             given: 0,
@@ -37,7 +37,7 @@ impl Account {
     /// Adds the moves of the log's next entry.
     pub(crate) fn add(&mut self, moves: &[Move])
         requires valid { IsAccount self.old }
-        requires number { self.old.number + length moves.now ≤ 1000000000 }
+        requires number { self.old.end + length moves.now ≤ 1000000000 }
         ensures added { self.new ≡ with_moves self.old moves.now }
         ensures valid { IsAccount self.new }
     {
@@ -48,11 +48,11 @@ impl Account {
 
     fn add_move(&mut self, m: &Move)
         requires valid { IsAccount self.old }
-        requires number { self.old.number < 1000000000 }
+        requires number { self.old.end < 1000000000 }
         ensures added { self.new ≡ with_move self.old m.now }
         ensures valid { IsAccount self.new }
     {
-        self.number += 1;
+        self.end += 1;
         match m {
             Move::Issue(amount) => self.issued += amount.value(),
             Move::Spend(amount) => self.spent += amount.value(),

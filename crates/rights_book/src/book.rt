@@ -1,17 +1,23 @@
 //! The book of rights of one site.
-ghost use Rattle.std.specs.Prelude.{◌≡◌, ◌≢◌, ℕ, ◌+◌, ◌-◌, ◌≤◌, false, List, [], ◌∷◌, ◌++◌, length, IfOk, MatchResult};
+ghost use Rattle.std.specs.Prelude.{◌≡◌, ◌≢◌, ℕ, ◌+◌, ◌*◌, ◌-◌, ◌≤◌, pos, neg_ℤ, ◌≤ℤ◌, false, List, [], ◌∷◌, ◌++◌, length, IfOk, MatchResult};
 ghost use Rattle.std.specs.List.{list_any};
 ghost use Rattle.rights_types.specs.Entries.{EntryValue};
-ghost use Rattle.rights_types.specs.Chains.{moves_of};
-ghost use Rattle.rights_types.specs.Rights.{back, held, received, IsNeverShort};
+ghost use Rattle.rights_types.specs.Chains.{moves_of, end, is_closed};
+ghost use Rattle.rights_types.specs.Rights.{issued, spent, out, to, taken_back, back, held, received, sum_sites, IsNeverShort};
 
 use crate::account::Account;
 use crate::check::{any_above, any_names, covers, gifts_to};
 use crate::fault::BookError;
 use crate::peer::{Peer, add_gifts, add_own};
-use rights_types::{Entry, Move, OutOfMemory, SiteId};
+use rights_types::{
+    Entry, MAX_AMOUNT, MAX_MOVES, MAX_NUMBER, MAX_TOTAL, Move, OutOfMemory, SiteId,
+};
 use std::alloc::{Allocator, Global};
 use std::marker::Model;
+
+/// The rights that a book may know a site to have, at most: 17 * 10^18 as a site holds them, and the
+/// greatest take backs that a log has numbers for.
+pub const MAX_KNOWN: u128 = 1_000_000_017_000_000_000_000_000_000;
 
 /// What one site holds, gave and received, and what it knows of the others: sums over its own log
 /// and over the entries that it applied of each other one. The rights are those of the Bounded
@@ -37,6 +43,7 @@ impl<A: Allocator> Model for Book<A> {
 
 impl<A: Allocator> Book<A> {
     ghost use Rattle.rights_book.specs.Books.{sites, peer, account, received_by, held_by, known_by, new_book, Writes, Applies, IsBook};
+    ghost use Rattle.rights_book.specs.Leaves.{OwnLeaves, ApplyLeaves};
     ghost use Rattle.rights_book.specs.Checks.{gives_to_closed, check_fault};
     ghost use Rattle.rights_book.specs.Known.{logs_at, known};
     ghost use Rattle.rights_book.specs.StandsFor.{StandsForOwn, StandsForApplied, StandsFor, own_entry, AddsEntry};
@@ -90,10 +97,11 @@ impl<A: Allocator> Book<A> {
         requires checked { check_fault self.old moves.now ≡ None }
         requires some { 1 ≤ length moves.now }
         requires few { length moves.now ≤ 16 }
-        requires number { self.old.own.number + length moves.now ≤ 1000000000 }
+        requires number { self.old.own.end + length moves.now ≤ 1000000000 }
         requires unclosed { self.old.own.closed ≡ false }
         requires back { (j : ℕ) → back j moves.now ≤ (peer self.old j).given - (peer self.old j).back }
         ensures writes { Writes self.old moves.now self.new }
+        ensures leaves { OwnLeaves self.old moves.now self.new }
         ensures stands_own { (log : List EntryValue) → StandsForOwn log self.old
             → StandsForOwn (log ++ own_entry self.old moves.now ∷ []) self.new }
         ensures stands_applied { (applied : ℕ → List EntryValue) → StandsForApplied applied self.old
@@ -111,8 +119,9 @@ impl<A: Allocator> Book<A> {
         requires site { origin ≤ sites self.old }
         requires other { origin ≢ self.old.me }
         requires unclosed { (peer self.old origin).log.closed ≡ false }
-        requires next { entry.now.prev ≡ (peer self.old origin).log.number }
+        requires next { entry.now.prev ≡ (peer self.old origin).log.end }
         ensures applies { Applies self.old origin entry.now.moves self.new }
+        ensures leaves { ApplyLeaves self.old origin entry.now self.new }
         ensures stands_own { (log : List EntryValue) → StandsForOwn log self.old → StandsForOwn log self.new }
         ensures stands_applied { (applied later : ℕ → List EntryValue) → StandsForApplied applied self.old
             → AddsEntry applied origin entry.now later → StandsForApplied later self.new }
@@ -143,18 +152,21 @@ impl<A: Allocator> Book<A> {
     /// The number of the last entry of that site's log that was applied, at most 10^9. It is 0 where
     /// none was, for the book's own site, and for a site that the system does not have.
     pub fn applied(&self, origin: SiteId) -> u64
-        ensures value { result ≡ (peer self.now origin).log.number }
-        ensures range { result ≤ 1000000000 }
+        ensures value { result ≡ (peer self.now origin).log.end }
+        ensures range { result ≤ MAX_NUMBER }
+        ensures itself { origin ≡ self.now.me → result ≡ 0 }
+        ensures stands { (applied : ℕ → List EntryValue) → StandsForApplied applied self.now → result ≡ end (applied origin) }
     {
-        self.peer(origin).log.number
+        self.peer(origin).log.end
     }
 
     /// The number of the last entry of the site's own log, at most 10^9.
     pub fn number(&self) -> u64
-        ensures value { result ≡ self.now.own.number }
-        ensures range { result ≤ 1000000000 }
+        ensures value { result ≡ self.now.own.end }
+        ensures range { result ≤ MAX_NUMBER }
+        ensures stands { (log : List EntryValue) → StandsForOwn log self.now → result ≡ end log }
     {
-        self.own.number
+        self.own.end
     }
 
     /// The rights that the site holds, at most 17 * 10^18.
@@ -162,8 +174,13 @@ impl<A: Allocator> Book<A> {
         ensures value { result ≡ held_by self.now }
         ensures range { result ≤ 17000000000000000000 }
         ensures valid { IsBook self.now }
+        ensures balance { result + self.now.own.given + self.now.own.spent
+            ≡ self.now.own.issued + sum_sites (sites self.now) (λ o. (peer self.now o).received) + self.now.own.back }
+        ensures itself { pos result ≡ known_by self.now self.now.me }
         ensures stands { (log : List EntryValue) (applied : ℕ → List EntryValue) → StandsFor log applied self.now
             → result ≡ held (sites self.now) self.now.me log applied }
+        ensures stands_known { (log : List EntryValue) (applied : ℕ → List EntryValue) → StandsFor log applied self.now
+            → pos result ≡ known (sites self.now) self.now.me (logs_at self.now.me log applied) }
 
         // No cut of the log, so also none within its last entry, gives or spends what was not held.
         ensures never_short { (log : List EntryValue) (applied : ℕ → List EntryValue) → StandsFor log applied self.now
@@ -176,6 +193,7 @@ impl<A: Allocator> Book<A> {
     /// What all other sites gave to this one, in the entries that were applied; at most 15 * 10^18.
     pub fn received(&self) -> u64
         ensures value { result ≡ received_by self.now }
+        ensures sum { result ≡ sum_sites (sites self.now) (λ o. (peer self.now o).received) }
         ensures range { result ≤ 15000000000000000000 }
         ensures stands { (applied : ℕ → List EntryValue) → StandsForApplied applied self.now
             → result ≡ received (sites self.now) self.now.me applied }
@@ -186,7 +204,9 @@ impl<A: Allocator> Book<A> {
     /// What that site gave to this one, in the entries that were applied.
     pub fn received_from(&self, origin: SiteId) -> u64
         ensures value { result ≡ (peer self.now origin).received }
-        ensures range { result ≤ 1000000000000000000 }
+        ensures range { result ≤ MAX_TOTAL }
+        ensures stands { (applied : ℕ → List EntryValue) → StandsForApplied applied self.now
+            → result ≡ to self.now.me (moves_of (applied origin)) }
     {
         self.peer(origin).received
     }
@@ -194,23 +214,46 @@ impl<A: Allocator> Book<A> {
     /// What this site gave to that one, taken back or not.
     pub fn given_to(&self, site: SiteId) -> u64
         ensures value { result ≡ (peer self.now site).given }
-        ensures range { result ≤ 1000000000000000000 }
+        ensures range { result ≤ MAX_TOTAL }
+        ensures stands { (log : List EntryValue) → StandsForOwn log self.now → result ≡ to site (moves_of log) }
     {
         self.peer(site).given
+    }
+
+    /// What this site gave to all others, taken back or not.
+    pub fn given(&self) -> u64
+        ensures value { result ≡ self.now.own.given }
+        ensures sum { result ≡ sum_sites (sites self.now) (λ j. (peer self.now j).given) }
+        ensures range { result ≤ MAX_TOTAL }
+        ensures stands { (log : List EntryValue) → StandsForOwn log self.now → result ≡ out (moves_of log) }
+    {
+        self.own.given
     }
 
     /// What this site took back from that one, at most what it gave to it.
     pub fn back(&self, site: SiteId) -> u64
         ensures value { result ≡ (peer self.now site).back }
         ensures range { result ≤ (peer self.now site).given }
+        ensures stands { (log : List EntryValue) → StandsForOwn log self.now → result ≡ back site (moves_of log) }
     {
         self.peer(site).back
+    }
+
+    /// What this site took back from all others, at most what it gave to them.
+    pub fn taken_back(&self) -> u64
+        ensures value { result ≡ self.now.own.back }
+        ensures sum { result ≡ sum_sites (sites self.now) (λ j. (peer self.now j).back) }
+        ensures range { result ≤ self.now.own.given }
+        ensures stands { (log : List EntryValue) → StandsForOwn log self.now → result ≡ taken_back (moves_of log) }
+    {
+        self.own.back as u64
     }
 
     /// The rights that the site's own log issued.
     pub fn issued(&self) -> u64
         ensures value { result ≡ self.now.own.issued }
-        ensures range { result ≤ 1000000000000000000 }
+        ensures range { result ≤ MAX_TOTAL }
+        ensures stands { (log : List EntryValue) → StandsForOwn log self.now → result ≡ issued (moves_of log) }
     {
         self.own.issued
     }
@@ -218,7 +261,8 @@ impl<A: Allocator> Book<A> {
     /// The rights that the site's own log spent.
     pub fn spent(&self) -> u64
         ensures value { result ≡ self.now.own.spent }
-        ensures range { result ≤ 1000000000000000000 }
+        ensures range { result ≤ MAX_TOTAL }
+        ensures stands { (log : List EntryValue) → StandsForOwn log self.now → result ≡ spent (moves_of log) }
     {
         self.own.spent
     }
@@ -227,6 +271,8 @@ impl<A: Allocator> Book<A> {
     /// where the site used gifts that were not applied here yet.
     pub fn known(&self, site: SiteId) -> i128
         ensures value { result ≡ known_by self.now site }
+        ensures itself { site ≡ self.now.me → result ≡ pos (held_by self.now) }
+        ensures range { (neg_ℤ (pos (2 * MAX_TOTAL)) ≤ℤ result) × (result ≤ℤ pos MAX_KNOWN) }
         ensures stands { (log : List EntryValue) (applied : ℕ → List EntryValue) → StandsFor log applied self.now
             → site ≤ sites self.now → result ≡ known (sites self.now) site (logs_at self.now.me log applied) }
     {
@@ -239,7 +285,9 @@ impl<A: Allocator> Book<A> {
     /// Whether that site's log ends in a closing move, as far as it was applied; for the book's own
     /// site, whether its log does.
     pub fn closed(&self, site: SiteId) -> bool
-        ensures { result ≡ (account self.now site).closed }
+        ensures value { result ≡ (account self.now site).closed }
+        ensures stands { (log : List EntryValue) (applied : ℕ → List EntryValue) → StandsFor log applied self.now
+            → result ≡ is_closed (logs_at self.now.me log applied site) }
     {
         self.account(site).closed
     }

@@ -8,5 +8,5 @@ mod check;
 mod fault;
 mod peer;
 
-pub use book::Book;
+pub use book::{Book, MAX_KNOWN};
 pub use fault::BookError;

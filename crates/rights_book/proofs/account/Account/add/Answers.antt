@@ -16,7 +16,7 @@ loop-m-preserved c =
     record {
       added = ap (λ (x : Account). with_moves x rest) c.add_move.ensures.added ∙ with_moves-cons a m rest ∙ ap (with_moves a) (sym next) ∙ c.loop-m.invariant.added;
       valid = c.add_move.ensures.valid;
-      number = omega (arith, ap (λ (x : Account). x.number) c.add_move.ensures.added, c.loop-m.invariant.number);
+      end = omega (arith, ap (λ (x : Account). x.end) c.add_move.ensures.added, c.loop-m.invariant.end);
     }
 
 pub returns : goal.returns

@@ -6,5 +6,5 @@ abbrev pub invariant-loop-m : goal.invariant-loop-m
 invariant-loop-m l = record {
   added : with_moves l.self (drop l.m-index l.moves) ≡ with_moves l.initial.self l.moves;
   valid : IsAccount l.self;
-  number : l.self.number ≡ l.initial.self.number + l.m-index;
+  end : l.self.end ≡ l.initial.self.end + l.m-index;
 }

@@ -8,6 +8,7 @@ use Rattle.rights_book.specs.Peers.{no_peer, with_gifts}
 use Rattle.rights_book.specs.Books.{BookValue, sites, peer}
 use Rattle.rights_book.specs.declared.peer.Peer.{Peer}
 use Rattle.rights_book.proofs.BookLaws.{bounded, applied_book, applied_facts, with_peer, booked}
+use Rattle.rights_book.proofs.LeaveLaws.{apply_leaves}
 use Rattle.rights_book.proofs.StandLaws.{own_applied, applied_applied}
 use Rattle.rights_book.proofs.book.Book.apply.Goals as goal
 
@@ -58,6 +59,7 @@ returns g c =
     let next = rw (← c.self.view_is) at c.requires.next in
     rw (← c.self.view_is, with_items_is c.self.inside.peers gs whole) (record {
       applies = b.applies;
+      leaves = apply_leaves x y o c.args.entry.now c.self.invariant other unclosed next b.applies facts;
       stands_own = λ log s. own_applied x y o ms log c.self.invariant other b.applies facts s;
       stands_applied = λ applied later s adds. applied_applied x y o c.args.entry.now applied later c.self.invariant low high other unclosed next b.applies facts s adds;
     })

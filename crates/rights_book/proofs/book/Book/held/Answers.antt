@@ -1,7 +1,7 @@
-use Rattle.std.proofs.Common.{◌≡◌, sym, subst, arith}
-use Rattle.rights_book.specs.Books.{BookValue, received_by}
+use Rattle.std.proofs.Common.{◌≡◌, pos, sym, ap, ◌∙◌, subst, arith}
+use Rattle.rights_book.specs.Books.{BookValue, received_by, held_by}
 use Rattle.rights_book.proofs.BookLaws.{bounded}
-use Rattle.rights_book.proofs.StandLaws.{held_stands, never_short_stands}
+use Rattle.rights_book.proofs.StandLaws.{held_stands, held_known_stands, never_short_stands}
 use Rattle.rights_book.proofs.book.Book.held.Goals as goal
 
 pub overflow_cast-result : goal.overflow_cast-result
@@ -31,3 +31,10 @@ pub returns-clause-never_short : goal.returns-clause-never_short
 returns-clause-never_short g c =
     let x : BookValue = record { me = c.self.inside.me; own = c.self.inside.own; peers = c.self.inside.peers.items } in
     rw (← c.self.view_is) (λ log applied s. never_short_stands x log applied c.self.invariant s)
+
+pub returns-clause-stands_known : goal.returns-clause-stands_known
+returns-clause-stands_known g c =
+    let x : BookValue = record { me = c.self.inside.me; own = c.self.inside.own; peers = c.self.inside.peers.items } in
+    let received : c.received.result ≡ received_by x = subst (λ (b : BookValue). c.received.result ≡ received_by b) (sym c.self.view_is) c.received.ensures.value in
+    let value : _ ≡ held_by x = omega (arith, received) in
+    rw (← c.self.view_is) (λ log applied s. ap pos value ∙ held_known_stands x log applied c.self.invariant s)

@@ -7,6 +7,7 @@ use Rattle.rights_book.specs.Books.{BookValue, Writes, peer}
 use Rattle.rights_book.specs.declared.peer.Peer.{Peer}
 use Rattle.rights_book.proofs.CheckLaws.{IsChecked, checked, named_within}
 use Rattle.rights_book.proofs.BookLaws.{bounded, written_book}
+use Rattle.rights_book.proofs.LeaveLaws.{own_leaves}
 use Rattle.rights_book.proofs.StandLaws.{own_written}
 use Rattle.rights_book.proofs.book.Book.own.Goals as goal
 
@@ -58,3 +59,19 @@ returns-clause-stands_own g c =
     } in
     rw (← c.self.view_is, with_items_is c.self.inside.peers c.add_own.new.peers whole)
     (λ log s. own_written x y c.args.moves.now log is c.all_in_range.ensures (rw (← c.self.view_is) at c.requires.unclosed) wrote s)
+
+pub returns-clause-leaves : goal.returns-clause-leaves
+returns-clause-leaves g c =
+    let x : BookValue = record { me = c.self.inside.me; own = c.self.inside.own; peers = c.self.inside.peers.items } in
+    let y : BookValue = record { me = c.self.inside.me; own = c.add.new.self; peers = c.add_own.new.peers } in
+    let is : IsChecked x c.args.moves.now = checked x c.args.moves.now (rw (← c.self.view_is) at c.requires.checked) in
+    let same : length c.add_own.new.peers ≡ length c.self.inside.peers.items = c.add_own.auto.peers ∙ ap length c.deref_mut.ensures.value in
+    let whole : length c.add_own.new.peers ≡ c.self.inside.peers.len = omega (arith, c.add_own.auto.peers, c.deref_mut.ensures.len) in
+    let wrote : Writes x c.args.moves.now y = record {
+      same_me = refl;
+      same_sites = same;
+      writes = c.add.ensures.added;
+      each = λ j. c.add_own.ensures j ∙ ap (λ (ps : List Peer). with_own (at_site ps j no_peer) j c.args.moves.now) c.deref_mut.ensures.value;
+    } in
+    rw (← c.self.view_is, with_items_is c.self.inside.peers c.add_own.new.peers whole)
+    (own_leaves x y c.args.moves.now c.self.invariant is (rw (← c.self.view_is) at c.requires.unclosed) wrote)

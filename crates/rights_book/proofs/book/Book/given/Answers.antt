@@ -1,0 +1,5 @@
+use Rattle.rights_book.specs.Books.{BookValue}
+use Rattle.rights_book.proofs.book.Book.given.Goals as goal
+
+pub returns-clause-sum : goal.returns-clause-sum
+returns-clause-sum g c = rw (← c.self.view_is) c.self.invariant.given_is
