@@ -1,8 +1,8 @@
 -- Laws of the sums over moves.
 use Rattle.std.proofs.Common.{◌≡◌, ℕ, ◌+◌, ◌-◌, ◌*◌, ◌<◌, ◌≤◌, Bool, true, false, List, [], ◌∷◌, ◌++◌, length, get_or, take, drop, arith, refl, sym, ap, ◌∙◌, eqb, ltb, cond, not}
 use Rattle.std.specs.List.{sum_by, All, list_any}
-use Rattle.std.proofs.lemmas.Bool.{and_parts, or_parts, ltb-false, le-ltb, not-true}
-use Rattle.std.proofs.lemmas.List.{append_assoc, append-nil, take-append-drop}
+use Rattle.std.proofs.lemmas.Bool.{and_parts, or_parts, ltb-false, le-ltb, lt-ltb, not-true}
+use Rattle.std.proofs.lemmas.List.{append_assoc, append-nil, take-append-drop, at_drop_more}
 use Rattle.std.proofs.lemmas.List.Sums.{sum_by-append, sum_by-cons, sum_by-le, sum_by-le-sum_by, sum_by_more}
 use Rattle.std.proofs.lemmas.List.Elements.{All-weaker, All-head, All-tail, All-take}
 use Rattle.rights_types.specs.Moves.{IsMove, NamesWithin, names, issue_of, spend_of, gift_of, gift_to, take_back_of, take_back_from, gain_of, cost_of}
@@ -51,6 +51,46 @@ pub back-append : (s : ℕ) (xs ys : List Move) → back s (xs ++ ys) ≡ back s
 unfolding back
 back-append s xs ys = sum_by-append (take_back_from s) xs ys
 
+-- the moves from one on
+pub next_move : (ms : List Move) (i : ℕ) (m : Move) → i < length ms → m ≡ get_or ms i m → drop i ms ≡ m ∷ drop (i + 1) ms
+next_move ms i m lt is = at_drop_more (λ xs. xs) ms i m lt ∙ ap (λ (x : Move). x ∷ drop (i + 1) ms) (sym is)
+
+pub issued-cons : (m : Move) (ms : List Move) → issued (m ∷ ms) ≡ issue_of m + issued ms
+unfolding issued
+issued-cons m ms = sum_by-cons issue_of m ms
+
+pub spent-cons : (m : Move) (ms : List Move) → spent (m ∷ ms) ≡ spend_of m + spent ms
+unfolding spent
+spent-cons m ms = sum_by-cons spend_of m ms
+
+pub out-cons : (m : Move) (ms : List Move) → out (m ∷ ms) ≡ gift_of m + out ms
+unfolding out
+out-cons m ms = sum_by-cons gift_of m ms
+
+pub taken_back-cons : (m : Move) (ms : List Move) → taken_back (m ∷ ms) ≡ take_back_of m + taken_back ms
+unfolding taken_back
+taken_back-cons m ms = sum_by-cons take_back_of m ms
+
+pub to-cons : (j : ℕ) (m : Move) (ms : List Move) → to j (m ∷ ms) ≡ gift_to j m + to j ms
+unfolding to
+to-cons j m ms = sum_by-cons (gift_to j) m ms
+
+pub back-cons : (j : ℕ) (m : Move) (ms : List Move) → back j (m ∷ ms) ≡ take_back_from j m + back j ms
+unfolding back
+back-cons j m ms = sum_by-cons (take_back_from j) m ms
+
+pub out-nil : out [] ≡ 0
+unfolding out
+out-nil = refl
+
+pub taken_back-nil : taken_back [] ≡ 0
+unfolding taken_back
+taken_back-nil = refl
+
+pub back-nil : (j : ℕ) → back j [] ≡ 0
+unfolding back
+back-nil j = refl
+
 pub to-nil : (s : ℕ) → to s [] ≡ 0
 unfolding to
 to-nil s = refl
@@ -64,16 +104,12 @@ no_gift s Close h = refl
 no_gift s (CloseAt f) h = refl
 no_gift s (TakeBack j a) h = refl
 
-to_one_more : (s : ℕ) (m : Move) (ms : List Move) → to s (m ∷ ms) ≡ gift_to s m + to s ms
-unfolding to
-to_one_more s m ms = sum_by-cons (gift_to s) m ms
-
 -- moves that do not name a site give nothing to it
 pub nothing_to : (s : ℕ) (ms : List Move) → list_any (names s) ms ≡ false → to s ms ≡ 0
 nothing_to s [] h = to-nil s
 nothing_to s (m ∷ ms) h =
     let p = or_parts (names s m) (list_any (names s) ms) h in
-    omega (arith, to_one_more s m ms, no_gift s m p.0, nothing_to s ms p.1)
+    omega (arith, to-cons s m ms, no_gift s m p.0, nothing_to s ms p.1)
 
 -- one more of some moves
 pub to-more : (s : ℕ) (ms : List Move) (i : ℕ) (d : Move) → i < length ms → to s (take (i + 1) ms) ≡ to s (take i ms) + gift_to s (get_or ms i d)
@@ -141,6 +177,32 @@ pub to-bound : (s : ℕ) (ms : List Move) → All IsMove ms → to s ms ≤ leng
 unfolding to
 to-bound s ms h = sum_by-le (gift_to s) 1000000000 ms (All-weaker IsMove (λ m. gift_to s m ≤ 1000000000) (gift_to-bound s) ms h)
 
+gift-bound : (m : Move) → IsMove m → gift_of m ≤ 1000000000
+gift-bound (Issue n) h = omega arith
+gift-bound (Spend n) h = omega arith
+gift-bound (Grant j n a) h = h.1.1
+gift-bound (Give j n) h = h.1.1
+gift-bound Close h = omega arith
+gift-bound (CloseAt f) h = omega arith
+gift-bound (TakeBack j n) h = omega arith
+
+take_back-bound : (m : Move) → IsMove m → take_back_of m ≤ 1000000000000000000
+take_back-bound (Issue n) h = omega arith
+take_back-bound (Spend n) h = omega arith
+take_back-bound (Grant j n a) h = omega arith
+take_back-bound (Give j n) h = omega arith
+take_back-bound Close h = omega arith
+take_back-bound (CloseAt f) h = omega arith
+take_back-bound (TakeBack j n) h = h.1.1
+
+pub out-bound : (ms : List Move) → All IsMove ms → out ms ≤ length ms * 1000000000
+unfolding out
+out-bound ms h = sum_by-le gift_of 1000000000 ms (All-weaker IsMove (λ m. gift_of m ≤ 1000000000) gift-bound ms h)
+
+pub taken_back-bound : (ms : List Move) → All IsMove ms → taken_back ms ≤ length ms * 1000000000000000000
+unfolding taken_back
+taken_back-bound ms h = sum_by-le take_back_of 1000000000000000000 ms (All-weaker IsMove (λ m. take_back_of m ≤ 1000000000000000000) take_back-bound ms h)
+
 -- a log issues, spends and gives to each site at most 10^9 for each of its numbers
 pub log-issued : (o : ℕ) (es : List EntryValue) → IsChain o es → issued (moves_of es) ≤ end es * 1000000000
 log-issued o es c = let n : end es ≡ length (moves_of es) = omega (arith, end-count o false 0 es c) in rw n (issued-bound (moves_of es) (all_moves o false 0 es c))
@@ -189,6 +251,14 @@ covers_parts r m ms h =
 
 pub covers_both : (r : ℕ) (m : Move) (ms : List Move) → cost_of m ≤ r → covers ((r - cost_of m) + gain_of m) ms ≡ true → covers r (m ∷ ms) ≡ true
 covers_both r m ms le h = rw (le-ltb r (cost_of m) le, h) refl
+
+-- a covered move leaves the others to what is left
+pub covers_next : (r : ℕ) (m : Move) (ms : List Move) → cost_of m ≤ r → covers r (m ∷ ms) ≡ covers ((r - cost_of m) + gain_of m) ms
+covers_next r m ms le = rw (le-ltb r (cost_of m) le) refl
+
+-- a move that costs more than there is
+pub covers_not : (r : ℕ) (m : Move) (ms : List Move) → r < cost_of m → covers r (m ∷ ms) ≡ false
+covers_not r m ms lt = rw (lt-ltb r (cost_of m) lt) refl
 
 after_by : (r : ℕ) (ms : List Move) → covers r ms ≡ true → rights_after r ms + sum_by cost_of ms ≡ r + sum_by gain_of ms
 after_by r [] h = refl
