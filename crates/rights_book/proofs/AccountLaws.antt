@@ -8,10 +8,9 @@ use Rattle.rights_types.specs.Moves.{is_close}
 use Rattle.rights_types.specs.Rights.{issued, spent, out, taken_back}
 use Rattle.rights_types.specs.declared.moves.Move.{Move}
 use Rattle.rights_types.proofs.Chains.{end-push, closed-push}
-use Rattle.rights_types.proofs.Sums.{moves_of-nil, moves_of-push, issued-append, spent-append, out-append, taken_back-append}
+use Rattle.rights_types.proofs.Sums.{moves_of-nil, moves_of-push, issued-append, spent-append, out-append, taken_back-append, issued-cons, spent-cons, out-cons, taken_back-cons, issued-nil, spent-nil, out-nil, taken_back-nil}
 use Rattle.rights_book.specs.Accounts.{no_account, account_of, with_move, with_moves}
 use Rattle.rights_book.specs.declared.account.Account.{Account}
-use Rattle.rights_book.proofs.MoveLaws.{issued-cons, spent-cons, out-cons, taken_back-cons, issued-nil, spent-nil, out-nil, taken_back-nil}
 
 or_later : (a b c : Bool) → ((a || b) || c) ≡ (a || (b || c))
 or_later true b c = refl

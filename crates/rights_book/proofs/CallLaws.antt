@@ -10,7 +10,7 @@ use Rattle.rights_types.specs.declared.moves.Move.{Move}
 use Rattle.rights_types.specs.declared.moves.Move.TheVariants.{Issue, Spend, Grant, Give, Close, CloseAt, TakeBack}
 use Rattle.rights_book.specs.Books.{BookValue, sites, account, peer, held_by}
 use Rattle.rights_book.specs.Checks.{names_above, gives_to_closed, check_fault}
-use Rattle.rights_book.proofs.MoveLaws.{back-cons, back-nil}
+use Rattle.rights_types.proofs.Sums.{back-cons, back-nil}
 
 none_from : (j : ℕ) (m : Move) → IsMove m → (IsSite j → ⊥) → take_back_from j m ≡ 0
 none_from j (Issue a) is out = refl

@@ -1,4 +1,3 @@
-pub mod MoveLaws
 pub mod AccountLaws
 pub mod PeerLaws
 pub mod CheckLaws

@@ -6,11 +6,10 @@ use Rattle.rights_types.specs.Places.{at_site, set_site}
 use Rattle.rights_types.specs.Rights.{to, back}
 use Rattle.rights_types.specs.declared.moves.Move.{Move}
 use Rattle.rights_types.proofs.Places.{at_set_site}
-use Rattle.rights_types.proofs.Sums.{gift_to-bound}
+use Rattle.rights_types.proofs.Sums.{gift_to-bound, to-cons, back-cons, to-nil, back-nil}
 use Rattle.rights_book.specs.Peers.{with_own_move, with_own, with_move_gift, with_gifts, with_applied, no_peer}
 use Rattle.rights_book.specs.Accounts.{with_moves}
 use Rattle.rights_book.specs.declared.peer.Peer.{Peer}
-use Rattle.rights_book.proofs.MoveLaws.{to-cons, back-cons, to-nil, back-nil}
 
 abbrev owned : Peer → ℕ → ℕ → Peer
 owned p g b = record p { given = g; back = b }

@@ -10,16 +10,15 @@ use Rattle.rights_types.specs.Moves.{IsMove, NamesWithin}
 use Rattle.rights_types.specs.Rights.{issued, spent, out, to, taken_back, covers, rights_after, received, held, IsNeverShort}
 use Rattle.rights_types.specs.declared.moves.Move.{Move}
 use Rattle.rights_types.proofs.SiteSums.{sum_same, sum_zero, sum_risen}
-use Rattle.rights_types.proofs.Sums.{moves_of-nil, moves_of-push, to-append, back-append, to-nil, taken_back_is, rights_after_is, covers-append, covers-more, never_short}
+use Rattle.rights_types.proofs.Sums.{moves_of-nil, moves_of-push, to-append, back-append, to-nil, taken_back_is, rights_after_is, covers-append, covers-more, never_short, back-nil}
 use Rattle.rights_book.specs.Accounts.{account_of}
 use Rattle.rights_book.specs.Peers.{no_peer, with_own}
 use Rattle.rights_book.specs.Books.{BookValue, sites, peer, account, received_by, held_by, known_by, new_book, Writes, Applies, IsBook}
-use Rattle.rights_book.specs.Known.{logs_at, gifts_to, known}
+use Rattle.rights_book.specs.Known.{logs_at, known_gifts, known}
 use Rattle.rights_book.specs.StandsFor.{StandsForOwn, StandsForApplied, StandsFor, own_entry, AddsEntry}
 use Rattle.rights_book.specs.declared.account.Account.{Account}
 use Rattle.rights_book.specs.declared.peer.Peer.{Peer}
 use Rattle.rights_book.proofs.AccountLaws.{account_of-nil, account_of-push}
-use Rattle.rights_book.proofs.MoveLaws.{back-nil}
 use Rattle.rights_book.proofs.CheckLaws.{IsChecked, named_within}
 use Rattle.rights_book.proofs.BookLaws.{new_peer, IsApplied, received_risen}
 
@@ -29,7 +28,7 @@ no_gift : (b : Bool) (j : ℕ) → cond b 0 (to j (moves_of [])) ≡ 0
 no_gift true j = refl
 no_gift false j = rw moves_of-nil (to-nil j)
 
-no_gifts : (n j : ℕ) → gifts_to n j (λ o. []) ≡ 0
+no_gifts : (n j : ℕ) → known_gifts n j (λ o. []) ≡ 0
 no_gifts n j = sum_same n (λ o. cond (eqb o j) 0 (to j (moves_of []))) (λ o. 0) (λ o low high. no_gift (eqb o j) j) ∙ sum_zero n
 
 pub new_stands : (me n : ℕ) → StandsFor [] (λ o. []) (new_book me n)
@@ -85,7 +84,7 @@ pub applied_written : (old new : BookValue) (ms : List Move) (applied : ℕ → 
 applied_written old new ms applied w s = record {
   sums = λ o. ap (λ (p : Peer). p.log) (w.each o) ∙ s.sums o;
   received_are = λ o. rw w.same_me (ap (λ (p : Peer). p.received) (w.each o) ∙ s.received_are o);
-  gifts_are = λ j low high. ap (λ (p : Peer). p.gifts) (w.each j) ∙ s.gifts_are j low (omega (arith, high, w.same_sites)) ∙ ap (λ n. gifts_to n j applied) (sym w.same_sites);
+  gifts_are = λ j low high. ap (λ (p : Peer). p.gifts) (w.each j) ∙ s.gifts_are j low (omega (arith, high, w.same_sites)) ∙ ap (λ n. known_gifts n j applied) (sym w.same_sites);
   none_own = rw w.same_me s.none_own;
 }
 
@@ -114,7 +113,7 @@ applied_applied old new o e applied later is low high other unclosed next a f s 
     λ j. rw adds.there (ap (to j) (moves_of-push (applied o) e) ∙ to-append j (moves_of (applied o)) e.moves) in
     let elsewhere : (j k : ℕ) → k ≢ o → cond (eqb k j) 0 (to j (moves_of (later k))) ≡ cond (eqb k j) 0 (to j (moves_of (applied k))) =
     λ j k ne. ap (λ (es : List EntryValue). cond (eqb k j) 0 (to j (moves_of es))) (adds.elsewhere k ne) in
-    let gifts : (j : ℕ) → 1 ≤ j → j ≤ n → (peer new j).gifts ≡ gifts_to n j later = λ j l h.
+    let gifts : (j : ℕ) → 1 ≤ j → j ≤ n → (peer new j).gifts ≡ known_gifts n j later = λ j l h.
     elim (cases_eq j o) [
       | inl same ↦
           let at_o : cond (eqb o j) 0 (to j (moves_of (later o))) ≡ cond (eqb o j) 0 (to j (moves_of (applied o))) = rw (eq-eqb o j (sym same)) refl in
@@ -127,7 +126,7 @@ applied_applied old new o e applied later is low high other unclosed next a f s 
       | inr ne ↦
           let at_o : cond (eqb o j) 0 (to j (moves_of (later o))) ≡ cond (eqb o j) 0 (to j (moves_of (applied o))) + to j e.moves =
           gift_more (eqb o j) _ _ (to j e.moves) (more j) (ne_eqb o j (λ q. ne (sym q))) in
-          let risen : gifts_to n j later ≡ gifts_to n j applied + to j e.moves =
+          let risen : known_gifts n j later ≡ known_gifts n j applied + to j e.moves =
           sum_risen n o (to j e.moves) (λ k. cond (eqb k j) 0 (to j (moves_of (applied k)))) (λ k. cond (eqb k j) 0 (to j (moves_of (later k)))) low high (elsewhere j) at_o in
           omega (arith, f.gifts_other j ne l h, s.gifts_are j l h, risen)
     ] in
@@ -141,7 +140,7 @@ applied_applied old new o e applied later is low high other unclosed next a f s 
         | inl here ↦ subst (λ i. (peer new i).received ≡ to old.me (moves_of (later i))) (sym here) (omega (arith, f.received_here, s.received_are o, more old.me))
         | inr ne ↦ f.received_other k ne ∙ s.received_are k ∙ ap (λ (es : List EntryValue). to old.me (moves_of es)) (sym (adds.elsewhere k ne))
       ]);
-      gifts_are = λ j l h. gifts j l (omega (arith, h, a.same_sites)) ∙ ap (λ k. gifts_to k j later) (sym a.same_sites);
+      gifts_are = λ j l h. gifts j l (omega (arith, h, a.same_sites)) ∙ ap (λ k. known_gifts k j later) (sym a.same_sites);
       none_own = rw a.same_me (adds.elsewhere old.me (λ q. other (sym q)) ∙ s.none_own);
     }
 
@@ -152,14 +151,14 @@ one_received true s es none = sym (rw (none refl, moves_of-nil) (to-nil s))
 one_received false s es none = refl
 
 -- what the others gave to a site of whose log nothing was applied is what it received
-received_is_gifts : (n s : ℕ) (applied : ℕ → List EntryValue) → applied s ≡ [] → gifts_to n s applied ≡ received n s applied
+received_is_known : (n s : ℕ) (applied : ℕ → List EntryValue) → applied s ≡ [] → known_gifts n s applied ≡ received n s applied
 unfolding received
-received_is_gifts n s applied none =
+received_is_known n s applied none =
     sum_same n (λ o. cond (eqb o s) 0 (to s (moves_of (applied o)))) (λ o. to s (moves_of (applied o)))
     (λ o low high. one_received (eqb o s) s (applied o) (λ e. ap applied (eqb-true o s e) ∙ none))
 
 pub received_stands : (b : BookValue) (applied : ℕ → List EntryValue) → IsBook b → StandsForApplied applied b → received_by b ≡ received (sites b) b.me applied
-received_stands b applied is s = s.gifts_are b.me is.member.0 is.member.1 ∙ received_is_gifts (sites b) b.me applied s.none_own
+received_stands b applied is s = s.gifts_are b.me is.member.0 is.member.1 ∙ received_is_known (sites b) b.me applied s.none_own
 
 pub held_stands : (b : BookValue) (log : List EntryValue) (applied : ℕ → List EntryValue) → IsBook b → StandsFor log applied b → held_by b ≡ held (sites b) b.me log applied
 unfolding held
@@ -187,14 +186,14 @@ gift_me true s log es = refl
 gift_me false s log es = refl
 
 -- two logs differ at most at that of the site itself, which gives nothing to itself
-gifts_me : (n me : ℕ) (log : List EntryValue) (applied : ℕ → List EntryValue) → gifts_to n me (logs_at me log applied) ≡ gifts_to n me applied
+gifts_me : (n me : ℕ) (log : List EntryValue) (applied : ℕ → List EntryValue) → known_gifts n me (logs_at me log applied) ≡ known_gifts n me applied
 gifts_me n me log applied =
     sum_same n (λ o. cond (eqb o me) 0 (to me (moves_of (logs_at me log applied o)))) (λ o. cond (eqb o me) 0 (to me (moves_of (applied o))))
     (λ o low high. gift_me (eqb o me) me log (applied o))
 
 -- the site itself gives to another
 gifts_other : (n me j : ℕ) (log : List EntryValue) (applied : ℕ → List EntryValue) → 1 ≤ me → me ≤ n → j ≢ me → applied me ≡ []
-    → gifts_to n j (logs_at me log applied) ≡ gifts_to n j applied + to j (moves_of log)
+    → known_gifts n j (logs_at me log applied) ≡ known_gifts n j applied + to j (moves_of log)
 gifts_other n me j log applied low high ne none =
     let f : ℕ → ℕ = λ k. cond (eqb k j) 0 (to j (moves_of (applied k))) in
     let g : ℕ → ℕ = λ k. cond (eqb k j) 0 (to j (moves_of (logs_at me log applied k))) in
@@ -211,12 +210,12 @@ same_difference : (x y u v : ℕ) → x ≡ u → y ≡ v → pos x -ℤ pos y �
 same_difference x y u v p q = ap (λ n. pos n -ℤ pos y) p ∙ ap (λ n. pos u -ℤ pos n) q
 
 -- an account and the gifts beside it
-known_from : (a : Account) (p : Peer) (n j : ℕ) (logs : ℕ → List EntryValue) → a ≡ account_of (logs j) → p.gifts + p.given ≡ gifts_to n j logs
+known_from : (a : Account) (p : Peer) (n j : ℕ) (logs : ℕ → List EntryValue) → a ≡ account_of (logs j) → p.gifts + p.given ≡ known_gifts n j logs
     → pos (a.issued + p.gifts + p.given + a.back) -ℤ pos (a.given + a.spent) ≡ known n j logs
 unfolding known
 known_from a p n j logs its all =
     let ms : List Move = moves_of (logs j) in
-    same_difference (a.issued + p.gifts + p.given + a.back) (a.given + a.spent) (issued ms + gifts_to n j logs + taken_back ms) (out ms + spent ms)
+    same_difference (a.issued + p.gifts + p.given + a.back) (a.given + a.spent) (issued ms + known_gifts n j logs + taken_back ms) (out ms + spent ms)
     (omega (arith, ap (λ (x : Account). x.issued) its, ap (λ (x : Account). x.back) its, all))
     (omega (arith, ap (λ (x : Account). x.given) its, ap (λ (x : Account). x.spent) its))
 
@@ -228,8 +227,8 @@ known_me b log applied j is s here =
     let its : account b j ≡ account_of log = rw (eq-eqb j b.me here) s.of_own.sums in
     let whole : logs j ≡ log = rw (eq-eqb j b.me here) refl in
     let given : (peer b j).given ≡ 0 = ap (λ k. (peer b k).given) here ∙ is.nothing_given in
-    let gifts : (peer b j).gifts ≡ gifts_to n j applied = s.of_applied.gifts_are j (omega (arith, here, is.member.0)) (omega (arith, here, is.member.1)) in
-    let all : gifts_to n j logs ≡ gifts_to n j applied = subst (λ k. gifts_to n k logs ≡ gifts_to n k applied) (sym here) (gifts_me n b.me log applied) in
+    let gifts : (peer b j).gifts ≡ known_gifts n j applied = s.of_applied.gifts_are j (omega (arith, here, is.member.0)) (omega (arith, here, is.member.1)) in
+    let all : known_gifts n j logs ≡ known_gifts n j applied = subst (λ k. known_gifts n k logs ≡ known_gifts n k applied) (sym here) (gifts_me n b.me log applied) in
     known_from (account b j) (peer b j) n j logs (its ∙ ap account_of (sym whole)) (omega (arith, given, gifts, all))
 
 known_other : (b : BookValue) (log : List EntryValue) (applied : ℕ → List EntryValue) (j : ℕ) → IsBook b → StandsFor log applied b → 1 ≤ j → j ≤ sites b → j ≢ b.me

@@ -1,6 +1,7 @@
 -- What the moves of one log add up to.
 use Rattle.std.specs.Prelude.{◌+◌, ◌*◌, ◌≤◌, false, ◌||◌, List, length}
 use Rattle.std.specs.List.{list_any}
+use Rattle.rights_types.specs.declared.limits.TheConstants.{MAX_AMOUNT, MAX_TOTAL}
 use Rattle.rights_types.specs.Ranges.{IsNumber}
 use Rattle.rights_types.specs.Entries.{EntryValue}
 use Rattle.rights_types.specs.Moves.{is_close, issue_of, spend_of, gift_of, take_back_of}
@@ -46,10 +47,11 @@ with_moves a ms = record {
   closed = a.closed || list_any is_close ms;
 }
 
--- for each of its numbers, a log issues, spends and gives at most 10^9, and takes back at most 10^18
+-- for each of its numbers, a log issues, spends and gives the greatest amount at most, and takes back the greatest
+-- total at most
 pub record IsAccount (a : Account) : Type 0 where
   pub in_range : IsNumber a.end
-  pub issues : a.issued ≤ a.end * 1000000000
-  pub spends : a.spent ≤ a.end * 1000000000
-  pub gives : a.given ≤ a.end * 1000000000
-  pub takes_back : a.back ≤ a.end * 1000000000000000000
+  pub issues : a.issued ≤ a.end * MAX_AMOUNT
+  pub spends : a.spent ≤ a.end * MAX_AMOUNT
+  pub gives : a.given ≤ a.end * MAX_AMOUNT
+  pub takes_back : a.back ≤ a.end * MAX_TOTAL

@@ -1,5 +1,6 @@
 -- A book of rights, as plain data.
 use Rattle.std.specs.Prelude.{◌≡◌, ℕ, ◌+◌, ◌*◌, ◌-◌, ◌≤◌, ◌==◌, List, length, replicate, ℤ, pos, ◌-ℤ◌, if◌then◌else◌}
+use Rattle.rights_types.specs.declared.limits.TheConstants.{MIN_SITES, MAX_SITES, MAX_AMOUNT}
 use Rattle.rights_types.specs.Places.{at_site}
 use Rattle.rights_types.specs.Rights.{sum_sites}
 use Rattle.rights_types.specs.declared.moves.Move.{Move}
@@ -61,16 +62,16 @@ applied_by b = sum_sites (sites b) (λ o. (peer b o).log.end)
 
 -- what is true of every book, whatever the logs
 pub record IsBook (b : BookValue) : Type 0 where
-  pub some : 2 ≤ sites b
-  pub few : sites b ≤ 16
+  pub some : MIN_SITES ≤ sites b
+  pub few : sites b ≤ MAX_SITES
   pub member : (1 ≤ b.me) × (b.me ≤ sites b)
   pub own_account : IsAccount b.own
   pub accounts : (o : ℕ) → IsAccount (peer b o).log
   pub nothing_applied : (peer b b.me).log.end ≡ 0
   pub nothing_given : (peer b b.me).given ≡ 0
-  pub received_within : (o : ℕ) → (peer b o).received ≤ (peer b o).log.end * 1000000000
+  pub received_within : (o : ℕ) → (peer b o).received ≤ (peer b o).log.end * MAX_AMOUNT
   pub received_is : received_by b ≡ sum_sites (sites b) (λ o. (peer b o).received)
-  pub gifts_within : (j : ℕ) → (peer b j).gifts ≤ applied_by b * 1000000000
+  pub gifts_within : (j : ℕ) → (peer b j).gifts ≤ applied_by b * MAX_AMOUNT
   pub given_is : b.own.given ≡ sum_sites (sites b) (λ j. (peer b j).given)
   pub back_is : b.own.back ≡ sum_sites (sites b) (λ j. (peer b j).back)
   pub back_within : (j : ℕ) → (peer b j).back ≤ (peer b j).given

@@ -9,11 +9,11 @@ abbrev pub logs_at : ℕ → List EntryValue → (ℕ → List EntryValue) → �
 logs_at me log applied o = if o == me then log else applied o
 
 -- what the others of n sites gave to j in these logs
-abbrev pub gifts_to : ℕ → ℕ → (ℕ → List EntryValue) → ℕ
-gifts_to n j logs = sum_sites n (λ o. if o == j then 0 else to j (moves_of (logs o)))
+abbrev pub known_gifts : ℕ → ℕ → (ℕ → List EntryValue) → ℕ
+known_gifts n j logs = sum_sites n (λ o. if o == j then 0 else to j (moves_of (logs o)))
 
 -- the rights of j by these logs of n sites: what it issued, the others gave to it and it took back, less what it
 -- gave and spent. It is negative where j used gifts that are not in these logs.
 unfoldable pub known : ℕ → ℕ → (ℕ → List EntryValue) → ℤ
 known n j logs =
-    let ms = moves_of (logs j) in pos (issued ms + gifts_to n j logs + taken_back ms) -ℤ pos (out ms + spent ms)
+    let ms = moves_of (logs j) in pos (issued ms + known_gifts n j logs + taken_back ms) -ℤ pos (out ms + spent ms)

@@ -8,7 +8,7 @@ use Rattle.rights_types.specs.Rights.{to, back, covers}
 use Rattle.rights_types.specs.declared.moves.Move.{Move}
 use Rattle.rights_book.specs.Accounts.{account_of}
 use Rattle.rights_book.specs.Books.{BookValue, sites, peer, received_by}
-use Rattle.rights_book.specs.Known.{gifts_to}
+use Rattle.rights_book.specs.Known.{known_gifts}
 
 -- this is the log of the book's site: the book has its sums, it names sites of the system, and with what was
 -- received each of its moves was covered by what was held before it
@@ -23,7 +23,7 @@ pub record StandsForOwn (log : List EntryValue) (b : BookValue) : Type 0 where
 pub record StandsForApplied (applied : ℕ → List EntryValue) (b : BookValue) : Type 0 where
   pub sums : (o : ℕ) → (peer b o).log ≡ account_of (applied o)
   pub received_are : (o : ℕ) → (peer b o).received ≡ to b.me (moves_of (applied o))
-  pub gifts_are : (j : ℕ) → 1 ≤ j → j ≤ sites b → (peer b j).gifts ≡ gifts_to (sites b) j applied
+  pub gifts_are : (j : ℕ) → 1 ≤ j → j ≤ sites b → (peer b j).gifts ≡ known_gifts (sites b) j applied
   pub none_own : applied b.me ≡ []
 
 -- the book stands for its own log and what was applied of each other one

@@ -2,7 +2,7 @@
 ghost use Rattle.std.specs.Prelude.{◌≡◌, ◌+◌, ◌<◌, ◌≤◌, length};
 ghost use Rattle.rights_book.specs.Accounts.{no_account, with_move, with_moves, IsAccount};
 
-use rights_types::Move;
+use rights_types::{MAX_NUMBER, Move};
 
 /// What the moves of one log add up to.
 #[derive(Clone, Copy)]
@@ -37,7 +37,7 @@ impl Account {
     /// Adds the moves of the log's next entry.
     pub(crate) fn add(&mut self, moves: &[Move])
         requires valid { IsAccount self.old }
-        requires number { self.old.end + length moves.now ≤ 1000000000 }
+        requires number { self.old.end + length moves.now ≤ MAX_NUMBER }
         ensures added { self.new ≡ with_moves self.old moves.now }
         ensures valid { IsAccount self.new }
     {
@@ -48,7 +48,7 @@ impl Account {
 
     fn add_move(&mut self, m: &Move)
         requires valid { IsAccount self.old }
-        requires number { self.old.end < 1000000000 }
+        requires number { self.old.end < MAX_NUMBER }
         ensures added { self.new ≡ with_move self.old m.now }
         ensures valid { IsAccount self.new }
     {

@@ -6,11 +6,12 @@ ghost use Rattle.rights_types.specs.Chains.{moves_of, end, is_closed};
 ghost use Rattle.rights_types.specs.Rights.{issued, spent, out, to, taken_back, back, held, received, sum_sites, IsNeverShort};
 
 use crate::account::Account;
-use crate::check::{any_above, any_names, covers, gifts_to};
+use crate::check::{any_above, covers, gifts_to};
 use crate::fault::BookError;
 use crate::peer::{Peer, add_gifts, add_own};
 use rights_types::{
-    Entry, MAX_AMOUNT, MAX_MOVES, MAX_NUMBER, MAX_TOTAL, Move, OutOfMemory, SiteId,
+    Entry, MAX_HELD_RIGHTS, MAX_MOVES, MAX_NUMBER, MAX_RECEIVED, MAX_SITES, MAX_TOTAL, MIN_SITES,
+    Move, OutOfMemory, SiteId,
 };
 use std::alloc::{Allocator, Global};
 use std::marker::Model;
@@ -50,12 +51,13 @@ impl<A: Allocator> Book<A> {
 
     /// The book of site `me` among so many sites, 2 to 16, where nothing is written or applied.
     pub fn new(alloc: A, me: SiteId, sites: u64) -> Result<Book<A>, OutOfMemory>
-        requires sites { (2 ≤ sites) × (sites ≤ 16) }
+        requires sites { (MIN_SITES ≤ sites) × (sites ≤ MAX_SITES) }
         requires me { me ≤ sites }
         ensures made { IfOk result (λ book. book ≡ new_book me sites) }
+        ensures system { IfOk result (λ book. (book.me ≡ me) × (length book.peers ≡ sites)) }
         ensures stands { IfOk result (StandsFor [] (λ o. [])) }
     {
-        // This states the range of `me`, which the proof asks for.
+        // For the proof: a site's number is at least 1.
         let _ = me.number();
         let mut peers = Vec::with_capacity(alloc, sites as usize)?;
         for _site in 0..sites {
@@ -80,7 +82,7 @@ impl<A: Allocator> Book<A> {
         if any_above(moves, self.sites()) {
             return Err(BookError::NoSuchSite);
         }
-        if any_names(moves, self.me) {
+        if Move::any_names(moves, self.me) {
             return Err(BookError::SameSite);
         }
         if self.any_gives_to_closed(moves) {
@@ -96,8 +98,8 @@ impl<A: Allocator> Book<A> {
     pub fn own(&mut self, moves: &[Move])
         requires checked { check_fault self.old moves.now ≡ None }
         requires some { 1 ≤ length moves.now }
-        requires few { length moves.now ≤ 16 }
-        requires number { self.old.own.end + length moves.now ≤ 1000000000 }
+        requires few { length moves.now ≤ MAX_MOVES }
+        requires number { self.old.own.end + length moves.now ≤ MAX_NUMBER }
         requires unclosed { self.old.own.closed ≡ false }
         requires back { (j : ℕ) → back j moves.now ≤ (peer self.old j).given - (peer self.old j).back }
         ensures writes { Writes self.old moves.now self.new }
@@ -144,7 +146,7 @@ impl<A: Allocator> Book<A> {
     /// How many sites the system has, from 2 to 16.
     pub fn sites(&self) -> u64
         ensures value { result ≡ sites self.now }
-        ensures range { (2 ≤ result) × (result ≤ 16) }
+        ensures range { (MIN_SITES ≤ result) × (result ≤ MAX_SITES) }
     {
         self.peers.len() as u64
     }
@@ -172,7 +174,7 @@ impl<A: Allocator> Book<A> {
     /// The rights that the site holds, at most 17 * 10^18.
     pub fn held(&self) -> u64
         ensures value { result ≡ held_by self.now }
-        ensures range { result ≤ 17000000000000000000 }
+        ensures range { result ≤ MAX_HELD_RIGHTS }
         ensures valid { IsBook self.now }
         ensures balance { result + self.now.own.given + self.now.own.spent
             ≡ self.now.own.issued + sum_sites (sites self.now) (λ o. (peer self.now o).received) + self.now.own.back }
@@ -194,7 +196,7 @@ impl<A: Allocator> Book<A> {
     pub fn received(&self) -> u64
         ensures value { result ≡ received_by self.now }
         ensures sum { result ≡ sum_sites (sites self.now) (λ o. (peer self.now o).received) }
-        ensures range { result ≤ 15000000000000000000 }
+        ensures range { result ≤ MAX_RECEIVED }
         ensures stands { (applied : ℕ → List EntryValue) → StandsForApplied applied self.now
             → result ≡ received (sites self.now) self.now.me applied }
     {

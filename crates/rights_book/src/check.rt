@@ -1,11 +1,10 @@
 //! What a book tests of moves, and their sums.
-ghost use Rattle.std.specs.Prelude.{◌≡◌, ◌≤◌, length};
+ghost use Rattle.std.specs.Prelude.{◌≡◌, ◌*◌, ◌≤◌, length};
 ghost use Rattle.std.specs.List.{list_any};
-ghost use Rattle.rights_types.specs.Moves.{names};
 ghost use Rattle.rights_types.specs.Rights.{covers, to};
 ghost use Rattle.rights_book.specs.Checks.{names_above};
 
-use rights_types::{Move, SiteId};
+use rights_types::{MAX_AMOUNT, MAX_MOVES, Move, SiteId};
 
 /// Whether a move names a site above the last one.
 pub(crate) fn any_above(moves: &[Move], sites: u64) -> bool
@@ -21,13 +20,6 @@ fn names_above(m: &Move, sites: u64) -> bool
         Some(peer) => peer.number() > sites,
         None => false,
     }
-}
-
-/// Whether a move names the site.
-pub(crate) fn any_names(moves: &[Move], site: SiteId) -> bool
-    ensures { result ≡ list_any (names site) moves.now }
-{
-    moves.iter().any(|m| m.names(site))
 }
 
 /// Whether, in order, each move costs no more than what is held after the moves before it. It
@@ -48,9 +40,9 @@ pub(crate) fn covers(rights: u64, moves: &[Move]) -> bool
 
 /// What these moves give to the site.
 pub(crate) fn gifts_to(moves: &[Move], site: SiteId) -> u64
-    requires { length moves.now ≤ 16 }
+    requires { length moves.now ≤ MAX_MOVES }
     ensures value { result ≡ to site moves.now }
-    ensures range { result ≤ 16000000000 }
+    ensures range { result ≤ MAX_MOVES * MAX_AMOUNT }
 {
     let mut gifts = 0;
     for m in moves {

@@ -1,5 +1,5 @@
 //! What a book knows of each site.
-ghost use Rattle.std.specs.Prelude.{◌≡◌, ℕ, ◌+◌, ◌≤◌, ◌==◌, if◌then◌else◌, length};
+ghost use Rattle.std.specs.Prelude.{◌≡◌, ℕ, ◌+◌, ◌*◌, ◌≤◌, ◌==◌, if◌then◌else◌, length};
 ghost use Rattle.std.specs.List.{All};
 ghost use Rattle.rights_types.specs.Moves.{IsMove, NamesWithin, take_back_from};
 ghost use Rattle.rights_types.specs.Rights.{back};
@@ -7,7 +7,7 @@ ghost use Rattle.rights_types.specs.Places.{at_site};
 ghost use Rattle.rights_book.specs.Peers.{no_peer, with_own_move, with_own, with_gift, with_move_gift, with_gifts};
 
 use crate::account::Account;
-use rights_types::{Amount, Move, SiteId};
+use rights_types::{Amount, MAX_MOVES, MAX_RECEIVED, MAX_TOTAL, Move, SiteId};
 
 /// What a book knows of one site. Of the book's own site it holds only the gifts to it.
 #[derive(Clone, Copy)]
@@ -42,10 +42,10 @@ impl Peer {
 /// Books what these moves of the book's own site give to each site and take back from it.
 pub(crate) fn add_own(peers: &mut [Peer], moves: &[Move])
     requires named { All (NamesWithin (length peers.old)) moves.now }
-    requires few { length moves.now ≤ 16 }
+    requires few { length moves.now ≤ MAX_MOVES }
     requires ranges { All IsMove moves.now }
-    requires given { (j : ℕ) → (at_site peers.old j no_peer).given ≤ 1000000000000000000 }
-    requires back { (j : ℕ) → (at_site peers.old j no_peer).back + back j moves.now ≤ 1000000000000000000 }
+    requires given { (j : ℕ) → (at_site peers.old j no_peer).given ≤ MAX_TOTAL }
+    requires back { (j : ℕ) → (at_site peers.old j no_peer).back + back j moves.now ≤ MAX_TOTAL }
     ensures { (j : ℕ) → at_site peers.new j no_peer ≡ with_own (at_site peers.old j no_peer) j moves.now }
 {
     for m in moves {
@@ -55,8 +55,8 @@ pub(crate) fn add_own(peers: &mut [Peer], moves: &[Move])
 
 fn add_own_move(peers: &mut [Peer], m: &Move)
     requires named { NamesWithin (length peers.old) m.now }
-    requires given { (j : ℕ) → (at_site peers.old j no_peer).given ≤ 2000000000000000000 }
-    requires back { (j : ℕ) → (at_site peers.old j no_peer).back + take_back_from j m.now ≤ 1000000000000000000 }
+    requires given { (j : ℕ) → (at_site peers.old j no_peer).given ≤ 2 * MAX_TOTAL }
+    requires back { (j : ℕ) → (at_site peers.old j no_peer).back + take_back_from j m.now ≤ MAX_TOTAL }
     ensures { (j : ℕ) → at_site peers.new j no_peer ≡ with_own_move (at_site peers.old j no_peer) j m.now }
 {
     match m {
@@ -73,9 +73,9 @@ fn add_own_move(peers: &mut [Peer], m: &Move)
 
 /// Books what these moves of the origin give to each other site.
 pub(crate) fn add_gifts(peers: &mut [Peer], origin: SiteId, moves: &[Move])
-    requires few { length moves.now ≤ 16 }
+    requires few { length moves.now ≤ MAX_MOVES }
     requires ranges { All IsMove moves.now }
-    requires room { (j : ℕ) → 1 ≤ j → j ≤ length peers.old → (at_site peers.old j no_peer).gifts ≤ 16000000000000000000 }
+    requires fits { (j : ℕ) → 1 ≤ j → j ≤ length peers.old → (at_site peers.old j no_peer).gifts ≤ MAX_RECEIVED }
     ensures { (j : ℕ) → 1 ≤ j → j ≤ length peers.old →
         at_site peers.new j no_peer ≡ with_gifts (at_site peers.old j no_peer) origin j moves.now }
 {
@@ -85,7 +85,7 @@ pub(crate) fn add_gifts(peers: &mut [Peer], origin: SiteId, moves: &[Move])
 }
 
 fn add_move_gift(peers: &mut [Peer], origin: SiteId, m: &Move)
-    requires { (j : ℕ) → 1 ≤ j → j ≤ length peers.old → (at_site peers.old j no_peer).gifts ≤ 17000000000000000000 }
+    requires { (j : ℕ) → 1 ≤ j → j ≤ length peers.old → (at_site peers.old j no_peer).gifts ≤ MAX_RECEIVED + MAX_TOTAL }
     ensures { (j : ℕ) → 1 ≤ j → j ≤ length peers.old →
         at_site peers.new j no_peer ≡ with_move_gift (at_site peers.old j no_peer) origin j m.now }
 {
@@ -102,7 +102,7 @@ fn add_move_gift(peers: &mut [Peer], origin: SiteId, m: &Move)
 
 // A gift to the origin itself, or to a site outside the system, is none.
 fn add_gift(peers: &mut [Peer], origin: SiteId, peer: SiteId, amount: Amount)
-    requires { (j : ℕ) → 1 ≤ j → j ≤ length peers.old → (at_site peers.old j no_peer).gifts ≤ 17000000000000000000 }
+    requires { (j : ℕ) → 1 ≤ j → j ≤ length peers.old → (at_site peers.old j no_peer).gifts ≤ MAX_RECEIVED + MAX_TOTAL }
     ensures { (j : ℕ) → 1 ≤ j → j ≤ length peers.old →
         at_site peers.new j no_peer ≡ with_gift (at_site peers.old j no_peer) origin j (if peer == j then amount else 0) }
 {

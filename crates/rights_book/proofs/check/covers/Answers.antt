@@ -2,7 +2,7 @@ use Rattle.std.proofs.Common.{◌≡◌, ◌∷◌, ◌+◌, ◌-◌, ◌≤◌,
 use Rattle.std.proofs.lemmas.List.{drop_all}
 use Rattle.rights_types.specs.Moves.{cost_of, gain_of}
 use Rattle.rights_types.specs.Rights.{covers}
-use Rattle.rights_book.proofs.MoveLaws.{next_move, covers_next, covers_not}
+use Rattle.rights_types.proofs.Sums.{next_move, covers_next, covers_not}
 use Rattle.rights_book.proofs.check.covers.Goals as goal
 
 pub returns-then-cost-left : goal.returns-then-cost-left

@@ -5,12 +5,12 @@ use Rattle.rights_types.specs.Moves.{IsMove}
 use Rattle.rights_types.specs.Places.{at_site}
 use Rattle.rights_book.specs.Peers.{no_peer, with_gifts}
 use Rattle.rights_book.specs.declared.peer.Peer.{Peer}
-use Rattle.rights_book.proofs.MoveLaws.{next_move}
+use Rattle.rights_types.proofs.Sums.{next_move}
 use Rattle.rights_book.proofs.PeerLaws.{with_gifts-cons, with_gifts-nil, gifts-bound}
 use Rattle.rights_book.proofs.peer.add_gifts.Goals as goal
 
 pub add_move_gift-requires : goal.add_move_gift-requires
-add_move_gift-requires c = λ j low high. omega (arith, c.loop-m.invariant.room j low (omega arith), c.requires.few)
+add_move_gift-requires c = λ j low high. omega (arith, c.loop-m.invariant.few j low (omega arith), c.requires.few)
 
 pub loop-m-preserved : goal.loop-m-preserved
 loop-m-preserved c =
@@ -24,9 +24,9 @@ loop-m-preserved c =
           (let p : Peer = at_site c.loop-m.peers j no_peer in
           ap (λ (q : Peer). with_gifts q o j rest) (c.add_move_gift.ensures j low (omega arith)) ∙ with_gifts-cons p o j m rest
           ∙ ap (with_gifts p o j) (sym next) ∙ c.loop-m.invariant.each j low high);
-      room = λ j low high.
+      few = λ j low high.
           (let p : Peer = at_site c.loop-m.peers j no_peer in
-          omega (arith, ap (λ (q : Peer). q.gifts) (c.add_move_gift.ensures j low (omega arith)), gifts-bound p o j m range, c.loop-m.invariant.room j low high));
+          omega (arith, ap (λ (q : Peer). q.gifts) (c.add_move_gift.ensures j low (omega arith)), gifts-bound p o j m range, c.loop-m.invariant.few j low high));
     }
 
 pub returns : goal.returns

@@ -2,10 +2,9 @@ use Rattle.std.proofs.Common.{◌+◌, drop, sym, ap, ◌∙◌, arith}
 use Rattle.std.proofs.lemmas.List.{drop_all}
 use Rattle.rights_types.specs.Places.{at_site}
 use Rattle.rights_types.specs.Rights.{back}
-use Rattle.rights_types.proofs.Sums.{to-bound}
+use Rattle.rights_types.proofs.Sums.{to-bound, next_move, back-cons}
 use Rattle.rights_book.specs.Peers.{no_peer, with_own}
 use Rattle.rights_book.specs.declared.peer.Peer.{Peer}
-use Rattle.rights_book.proofs.MoveLaws.{next_move, back-cons}
 use Rattle.rights_book.proofs.PeerLaws.{with_own-cons, with_own-nil}
 use Rattle.rights_book.proofs.peer.add_own.Goals as goal
 

@@ -2,7 +2,7 @@ use Rattle.std.proofs.Common.{◌≡◌, ◌+◌, [], drop, sym, ap, ◌∙◌, 
 use Rattle.std.proofs.lemmas.List.{drop_all}
 use Rattle.rights_book.specs.Accounts.{with_moves}
 use Rattle.rights_book.specs.declared.account.Account.{Account}
-use Rattle.rights_book.proofs.MoveLaws.{next_move}
+use Rattle.rights_types.proofs.Sums.{next_move}
 use Rattle.rights_book.proofs.AccountLaws.{with_moves-cons, with_moves-nil}
 use Rattle.rights_book.proofs.account.Account.add.Goals as goal
 

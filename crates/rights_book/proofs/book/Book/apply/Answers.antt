@@ -12,8 +12,8 @@ use Rattle.rights_book.proofs.LeaveLaws.{apply_leaves}
 use Rattle.rights_book.proofs.StandLaws.{own_applied, applied_applied}
 use Rattle.rights_book.proofs.book.Book.apply.Goals as goal
 
-pub add_gifts-requires-clause-room : goal.add_gifts-requires-clause-room
-add_gifts-requires-clause-room g c =
+pub add_gifts-requires-clause-fits : goal.add_gifts-requires-clause-fits
+add_gifts-requires-clause-fits g c =
     let x : BookValue = record { me = c.self.inside.me; own = c.self.inside.own; peers = c.self.inside.peers.items } in
     rw c.deref_mut.ensures.value (λ j low high. omega (arith, c.self.invariant.gifts_within j, (bounded x c.self.invariant).applies))
 

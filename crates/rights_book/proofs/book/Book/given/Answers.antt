@@ -1,4 +1,3 @@
-use Rattle.rights_book.specs.Books.{BookValue}
 use Rattle.rights_book.proofs.book.Book.given.Goals as goal
 
 pub returns-clause-sum : goal.returns-clause-sum

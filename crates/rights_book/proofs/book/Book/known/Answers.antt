@@ -1,4 +1,4 @@
-use Rattle.std.proofs.Common.{ℤ, ◌+◌, ◌*◌, ◌<◌, ◌≤◌, ◌^◌, pos, neg_ℤ, ◌≤ℤ◌, sym, ◌∙◌, subst, arith}
+use Rattle.std.proofs.Common.{ℤ, ◌+◌, ◌<◌, ◌≤◌, ◌^◌, pos, neg_ℤ, ◌≤ℤ◌, sym, ◌∙◌, subst, arith}
 use Rattle.rights_book.specs.Books.{BookValue, account, peer}
 use Rattle.rights_book.specs.declared.account.Account.{Account}
 use Rattle.rights_book.specs.declared.peer.Peer.{Peer}

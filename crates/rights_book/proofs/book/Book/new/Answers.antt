@@ -1,4 +1,6 @@
 use Rattle.std.proofs.Common.{◌≡◌, refl, arith}
+use Rattle.std.proofs.lemmas.List.{length-replicate}
+use Rattle.rights_book.specs.Peers.{no_peer}
 use Rattle.rights_book.proofs.BookLaws.{new_is_book}
 use Rattle.rights_book.proofs.StandLaws.{new_stands}
 use Rattle.rights_book.proofs.book.Book.new.Goals as goal
@@ -13,5 +15,6 @@ returns g c =
     let all : c.loop-site._site ≡ c.args.sites = omega arith in
     record {
       made = rw (c.loop-site.invariant, c.new-2.ensures, all) refl;
+      system = rw (c.loop-site.invariant, all) (refl, length-replicate c.args.sites no_peer);
       stands = rw (c.loop-site.invariant, c.new-2.ensures, all) (new_stands c.args.me c.args.sites);
     }

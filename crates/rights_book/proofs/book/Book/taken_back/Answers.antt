@@ -1,4 +1,4 @@
-use Rattle.std.proofs.Common.{◌∙◌, arith}
+use Rattle.std.proofs.Common.{arith}
 use Rattle.rights_book.specs.Books.{BookValue}
 use Rattle.rights_book.proofs.BookLaws.{bounded, back_given}
 use Rattle.rights_book.proofs.book.Book.taken_back.Goals as goal

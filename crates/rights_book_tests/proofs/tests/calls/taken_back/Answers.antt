@@ -1,7 +1,7 @@
 use Rattle.std.proofs.Common.{◌+◌, drop, ap, arith}
 use Rattle.std.proofs.lemmas.List.{drop_all}
 use Rattle.rights_types.specs.Rights.{back}
-use Rattle.rights_book.proofs.MoveLaws.{next_move, back-cons, back-nil}
+use Rattle.rights_types.proofs.Sums.{next_move, back-cons, back-nil}
 use Rattle.rights_book_tests.proofs.tests.calls.taken_back.Goals as goal
 
 pub loop-m-preserved : goal.loop-m-preserved
