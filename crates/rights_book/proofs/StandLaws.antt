@@ -219,27 +219,32 @@ known_from a p n j logs its all =
     (omega (arith, ap (λ (x : Account). x.issued) its, ap (λ (x : Account). x.back) its, all))
     (omega (arith, ap (λ (x : Account). x.given) its, ap (λ (x : Account). x.spent) its))
 
+-- each account is that of a log
+pub account_stands : (b : BookValue) (log : List EntryValue) (applied : ℕ → List EntryValue) (j : ℕ) → StandsFor log applied b
+    → account b j ≡ account_of (logs_at b.me log applied j)
+account_stands b log applied j s =
+    elim (cases_eq j b.me) [
+      | inl here ↦ rw (eq-eqb j b.me here) s.of_own.sums
+      | inr ne ↦ rw (ne_eqb j b.me ne) (s.of_applied.sums j)
+    ]
+
 known_me : (b : BookValue) (log : List EntryValue) (applied : ℕ → List EntryValue) (j : ℕ) → IsBook b → StandsFor log applied b → j ≡ b.me
     → known_by b j ≡ known (sites b) j (logs_at b.me log applied)
 known_me b log applied j is s here =
     let n : ℕ = sites b in
     let logs : ℕ → List EntryValue = logs_at b.me log applied in
-    let its : account b j ≡ account_of log = rw (eq-eqb j b.me here) s.of_own.sums in
-    let whole : logs j ≡ log = rw (eq-eqb j b.me here) refl in
     let given : (peer b j).given ≡ 0 = ap (λ k. (peer b k).given) here ∙ is.nothing_given in
     let gifts : (peer b j).gifts ≡ known_gifts n j applied = s.of_applied.gifts_are j (omega (arith, here, is.member.0)) (omega (arith, here, is.member.1)) in
     let all : known_gifts n j logs ≡ known_gifts n j applied = subst (λ k. known_gifts n k logs ≡ known_gifts n k applied) (sym here) (gifts_me n b.me log applied) in
-    known_from (account b j) (peer b j) n j logs (its ∙ ap account_of (sym whole)) (omega (arith, given, gifts, all))
+    known_from (account b j) (peer b j) n j logs (account_stands b log applied j s) (omega (arith, given, gifts, all))
 
 known_other : (b : BookValue) (log : List EntryValue) (applied : ℕ → List EntryValue) (j : ℕ) → IsBook b → StandsFor log applied b → 1 ≤ j → j ≤ sites b → j ≢ b.me
     → known_by b j ≡ known (sites b) j (logs_at b.me log applied)
 known_other b log applied j is s low high ne =
     let n : ℕ = sites b in
     let logs : ℕ → List EntryValue = logs_at b.me log applied in
-    let its : account b j ≡ account_of (applied j) = rw (ne_eqb j b.me ne) (s.of_applied.sums j) in
-    let part : logs j ≡ applied j = rw (ne_eqb j b.me ne) refl in
     let all = gifts_other n b.me j log applied is.member.0 is.member.1 ne s.of_applied.none_own in
-    known_from (account b j) (peer b j) n j logs (its ∙ ap account_of (sym part)) (omega (arith, s.of_own.given_are j, s.of_applied.gifts_are j low high, all))
+    known_from (account b j) (peer b j) n j logs (account_stands b log applied j s) (omega (arith, s.of_own.given_are j, s.of_applied.gifts_are j low high, all))
 
 pub known_stands : (b : BookValue) (log : List EntryValue) (applied : ℕ → List EntryValue) (j : ℕ) → IsBook b → StandsFor log applied b → 1 ≤ j → j ≤ sites b
     → known_by b j ≡ known (sites b) j (logs_at b.me log applied)
