@@ -4,15 +4,13 @@ use Rattle.std.specs.Prelude.{None}
 use Rattle.std.proofs.lemmas.Bool.{cases_lt, ne_eqb, lt-ltb, le-ltb}
 use Rattle.rights_types.specs.Messages.{AskValue}
 use Rattle.rights_types.proofs.Places.{at_set_site}
-use Rattle.rights_book.specs.Books.{BookValue, account}
 use Rattle.rights_book.proofs.BookLaws.{inside}
-use Rattle.request_queue.specs.Queues.{QueueValue}
 use Rattle.transfer_manager.specs.declared.peer_asks.PeerAsks.{PeerAsks}
 use Rattle.transfer_manager.specs.declared.answer.AskAnswer.{AskAnswer}
 use Rattle.transfer_manager.specs.declared.answer.AskAnswer.TheVariants.{Grant, Deny, RepeatedDeny, Repeated, OldAsk}
 use Rattle.transfer_manager.specs.Managers.{ManagerValue, sites, asks, no_asks, with_ask, with_asks, with_ended, ended}
-use Rattle.transfer_manager.specs.Plans.{amount_asked, Plans}
-use Rattle.transfer_manager.specs.Answers.{grant_of, IsLate, IsSettled}
+use Rattle.transfer_manager.specs.Plans.{Knowledge, planned, Plans}
+use Rattle.transfer_manager.specs.AskAnswers.{grant_of, IsLate, IsSettled}
 use Rattle.transfer_manager.proofs.ManagerLaws.{answered}
 
 -- the answer by the last number that was answered, and whether it was granted
@@ -58,23 +56,23 @@ ended_settled m j ask low high = still_settled m (ended m j ask) (ended_keeps m 
 
 -- a plan
 
-share_keeps : (t u : Bool) (p : PeerAsks) (n : ℕ) → (let q : PeerAsks = cond t (record p { outstanding = None }) p in IsAnsweredAs p (cond u q (with_ask q n)))
-share_keeps true true p n = record { last = refl; granted = refl }
-share_keeps true false p n = record { last = refl; granted = refl }
-share_keeps false true p n = record { last = refl; granted = refl }
-share_keeps false false p n = record { last = refl; granted = refl }
+plan_keeps : (t u : Bool) (p : PeerAsks) (n : ℕ) → (let q : PeerAsks = cond t (record p { outstanding = None }) p in IsAnsweredAs p (cond u q (with_ask q n)))
+plan_keeps true true p n = record { last = refl; granted = refl }
+plan_keeps true false p n = record { last = refl; granted = refl }
+plan_keeps false true p n = record { last = refl; granted = refl }
+plan_keeps false false p n = record { last = refl; granted = refl }
 
-pub planned_keeps : (m new : ManagerValue) (b : BookValue) (q : QueueValue) (count : ℕ) → Plans m b q count new → (k : ℕ) → IsAnsweredAs (asks m k) (asks new k)
-planned_keeps m new b q count p k =
-    elim (inside no_asks (sites m) k) [
-      | inl r ↦ subst (IsAnsweredAs (asks m k)) (sym (p.each k r.0 r.1))
-          (share_keeps (account b k).closed (eqb (amount_asked m b q k) 0) (asks m k) (amount_asked m b q k))
-      | inr out ↦ answered_as_is (asks m k) (asks new k) (out new.peers p.same_sites ∙ sym (out m.peers refl))
+pub planned_keeps : (m new : ManagerValue) (k : Knowledge) (queued count : ℕ) → Plans m k queued count new → (j : ℕ) → IsAnsweredAs (asks m j) (asks new j)
+planned_keeps m new k queued count p j =
+    elim (inside no_asks (sites m) j) [
+      | inl r ↦ subst (IsAnsweredAs (asks m j)) (sym (p.each j r.0 r.1))
+          (plan_keeps (k.closed j) (eqb (planned m k queued j) 0) (asks m j) (planned m k queued j))
+      | inr out ↦ answered_as_is (asks m j) (asks new j) (out new.peers p.same.same_sites ∙ sym (out m.peers refl))
     ]
 
-pub planned_settled : (m new : ManagerValue) (b : BookValue) (q : QueueValue) (count : ℕ) → Plans m b q count new
+pub planned_settled : (m new : ManagerValue) (k : Knowledge) (queued count : ℕ) → Plans m k queued count new
     → (past : AskValue) → IsSettled m past → IsSettled new past
-planned_settled m new b q count p = still_settled m new (planned_keeps m new b q count p)
+planned_settled m new k queued count p = still_settled m new (planned_keeps m new k queued count p)
 
 -- an answer that was noted
 

@@ -7,7 +7,7 @@ use Rattle.std.proofs.lemmas.Bool.{ne_eqb}
 use Rattle.rights_types.specs.Places.{at_site}
 use Rattle.rights_types.proofs.Places.{at_site-index, set_site-index, at_site-replicate, at_set_site, length-set_site, set_site_keeps}
 use Rattle.transfer_manager.specs.declared.peer_asks.PeerAsks.{PeerAsks}
-use Rattle.transfer_manager.specs.Managers.{ManagerValue, sites, asks, no_asks, with_asks, new_manager, with_ask, with_share, with_ended, ended, IsPeerAsks, IsManager}
+use Rattle.transfer_manager.specs.Managers.{ManagerValue, sites, asks, no_asks, with_asks, new_manager, with_ask, with_asked, with_ended, ended, IsPeerAsks, IsManager}
 
 pub no_asks_is : IsPeerAsks no_asks
 no_asks_is = record { numbers = omega arith; asked = tt }
@@ -106,8 +106,8 @@ answered_is m j n g is low high =
     with_asks_is m j (answered p n g) is low high (record { numbers = (is.each j).numbers; asked = (is.each j).asked })
     (λ e. subst (λ k. (asks m k).outstanding ≡ None) (sym e) is.none_own)
 
-pub with_share_none : (p : PeerAsks) (n : ℕ) → n ≡ 0 → with_share p n ≡ p
-with_share_none p n h = rw h refl
+pub with_asked_none : (p : PeerAsks) (n : ℕ) → n ≡ 0 → with_asked p n ≡ p
+with_asked_none p n h = rw h refl
 
-pub with_share_some : (p : PeerAsks) (n : ℕ) → 1 ≤ n → with_share p n ≡ with_ask p n
-with_share_some p n h = rw (ne_eqb n 0 (λ e. omega (arith, e))) refl
+pub with_asked_some : (p : PeerAsks) (n : ℕ) → 1 ≤ n → with_asked p n ≡ with_ask p n
+with_asked_some p n h = rw (ne_eqb n 0 (λ e. omega (arith, e))) refl

@@ -6,7 +6,7 @@ use Rattle.rights_types.specs.Places.{at_site, set_site}
 use Rattle.rights_types.specs.Rights.{sum_sites}
 use Rattle.rights_types.proofs.Places.{set_site-index, at_set_site}
 use Rattle.rights_types.proofs.SiteSums.{sum_bound}
-use Rattle.transfer_manager.specs.Shares.{asks_made}
+use Rattle.transfer_manager.specs.Plans.{count_asked}
 
 pub sum_next : (i : ℕ) (f : ℕ → ℕ) → sum_sites (i + 1) f ≡ sum_sites i f + f (i + 1)
 sum_next i f = rw add-one refl
@@ -23,18 +23,18 @@ none_or_one true = omega arith
 none_or_one false = omega arith
 
 -- each site is asked once
-pub asks_few : (n : ℕ) (shares : ℕ → ℕ) → asks_made n shares ≤ n
-asks_few n shares = let h = sum_bound n 1 (λ j. cond (eqb (shares j) 0) 0 1) (λ j. none_or_one (eqb (shares j) 0)) in omega (arith, h)
+pub asks_few : (n : ℕ) (amounts : ℕ → ℕ) → count_asked n amounts ≤ n
+asks_few n amounts = let h = sum_bound n 1 (λ j. cond (eqb (amounts j) 0) 0 1) (λ j. none_or_one (eqb (amounts j) 0)) in omega (arith, h)
 
-pub asks_more : (n : ℕ) (shares : ℕ → ℕ) → 1 ≤ shares (n + 1) → asks_made (n + 1) shares ≡ asks_made n shares + 1
-asks_more n shares h =
-    let one : one_unless (eqb (shares (n + 1)) 0) ≡ 1 = rw (ne_eqb (shares (n + 1)) 0 (λ e. omega (arith, e))) refl in
-    omega (arith, sum_next n (λ j. cond (eqb (shares j) 0) 0 1), one)
+pub asks_more : (n : ℕ) (amounts : ℕ → ℕ) → 1 ≤ amounts (n + 1) → count_asked (n + 1) amounts ≡ count_asked n amounts + 1
+asks_more n amounts h =
+    let one : one_unless (eqb (amounts (n + 1)) 0) ≡ 1 = rw (ne_eqb (amounts (n + 1)) 0 (λ e. omega (arith, e))) refl in
+    omega (arith, sum_next n (λ j. cond (eqb (amounts j) 0) 0 1), one)
 
-pub asks_same : (n : ℕ) (shares : ℕ → ℕ) → shares (n + 1) ≡ 0 → asks_made (n + 1) shares ≡ asks_made n shares
-asks_same n shares h =
-    let none : one_unless (eqb (shares (n + 1)) 0) ≡ 0 = rw h refl in
-    omega (arith, sum_next n (λ j. cond (eqb (shares j) 0) 0 1), none)
+pub asks_same : (n : ℕ) (amounts : ℕ → ℕ) → amounts (n + 1) ≡ 0 → count_asked (n + 1) amounts ≡ count_asked n amounts
+asks_same n amounts h =
+    let none : one_unless (eqb (amounts (n + 1)) 0) ≡ 0 = rw h refl in
+    omega (arith, sum_next n (λ j. cond (eqb (amounts j) 0) 0 1), none)
 
 -- an item in the front of a list
 pub at_site-take : {X : Type 0} (n : ℕ) (xs : List X) (j : ℕ) (d : X) → j ≤ n → at_site (take n xs) j d ≡ at_site xs j d

@@ -1,4 +1,3 @@
 pub mod Managers
-pub mod Shares
 pub mod Plans
-pub mod Answers
+pub mod AskAnswers

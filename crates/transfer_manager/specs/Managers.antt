@@ -1,5 +1,6 @@
 -- The asks between one site and each other, as plain data.
 use Rattle.std.specs.Prelude.{◌≡◌, ℕ, ◌+◌, ◌≤◌, false, ◌==◌, List, length, replicate, Option, Some, None, IfSome, option_map, if◌then◌else◌}
+use Rattle.rights_types.specs.declared.limits.TheConstants.{MIN_SITES, MAX_SITES, MAX_ASK}
 use Rattle.rights_types.specs.Ranges.{IsAmount}
 use Rattle.rights_types.specs.Messages.{AskValue}
 use Rattle.rights_types.specs.Places.{at_site, set_site}
@@ -25,6 +26,11 @@ asks m j = at_site m.peers j no_asks
 abbrev pub with_asks : ManagerValue → ℕ → PeerAsks → ManagerValue
 with_asks m j p = record { me = m.me; peers = set_site m.peers j p }
 
+-- the same site of the same system
+pub record SameSystem (old new : ManagerValue) : Type 0 where
+  pub same_me : new.me ≡ old.me
+  pub same_sites : sites new ≡ sites old
+
 -- the manager of site me among n, at the start
 abbrev pub new_manager : ℕ → ℕ → ManagerValue
 new_manager me n = record { me = me; peers = replicate n no_asks }
@@ -44,8 +50,8 @@ abbrev pub with_ask : PeerAsks → ℕ → PeerAsks
 with_ask p n = record p { last_ask = p.last_ask + 1; outstanding = Some n }
 
 -- one ask more, unless it is for nothing
-abbrev pub with_share : PeerAsks → ℕ → PeerAsks
-with_share p n = if n == 0 then p else with_ask p n
+abbrev pub with_asked : PeerAsks → ℕ → PeerAsks
+with_asked p n = if n == 0 then p else with_ask p n
 
 -- without the outstanding ask, if it has this number
 abbrev pub with_ended : PeerAsks → ℕ → PeerAsks
@@ -57,13 +63,13 @@ ended m j ask = with_asks m j (with_ended (asks m j) ask)
 
 -- what is outstanding is an amount under a number in its range
 pub record IsPeerAsks (p : PeerAsks) : Type 0 where
-  pub numbers : p.last_ask ≤ 1000000000
+  pub numbers : p.last_ask ≤ MAX_ASK
   pub asked : IfSome p.outstanding (λ n. IsAmount n × (1 ≤ p.last_ask))
 
 -- what is true of every manager: a site asks nothing of itself
 pub record IsManager (m : ManagerValue) : Type 0 where
-  pub some : 2 ≤ sites m
-  pub few : sites m ≤ 16
+  pub some : MIN_SITES ≤ sites m
+  pub few : sites m ≤ MAX_SITES
   pub member : (1 ≤ m.me) × (m.me ≤ sites m)
   pub each : (j : ℕ) → IsPeerAsks (asks m j)
   pub none_own : (asks m m.me).outstanding ≡ None

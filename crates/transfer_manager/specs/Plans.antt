@@ -1,60 +1,82 @@
--- What a site asks of each other one.
-use Rattle.std.specs.Prelude.{◌≡◌, ℕ, ◌-◌, ◌≤◌, min, Bool, not, is_none, nat_lt, ◌==◌, ◌&&◌, None, ℤ, pos, negsuc, if◌then◌else◌}
-use Rattle.rights_types.specs.Rights.{sum_sites}
+-- What a site asks of each peer.
+use Rattle.std.specs.Prelude.{◌≡◌, ℕ, ◌-◌, ◌≤◌, min, Bool, not, is_none, nat_lt, ◌==◌, ◌&&◌, ◌||◌, None, List, ℤ, pos, negsuc, if◌then◌else◌}
+use Rattle.rights_types.specs.declared.limits.TheConstants.{MAX_AMOUNT, MAX_ASK}
+use Rattle.rights_types.specs.Entries.{EntryValue}
+use Rattle.rights_types.specs.Chains.{is_closed}
+use Rattle.rights_types.specs.Rights.{held, sum_sites}
 use Rattle.rights_book.specs.Books.{BookValue, account, held_by, known_by}
-use Rattle.request_queue.specs.Queues.{QueueValue, total_of}
+use Rattle.rights_book.specs.Known.{logs_at, known}
 use Rattle.transfer_manager.specs.declared.peer_asks.PeerAsks.{PeerAsks}
-use Rattle.transfer_manager.specs.Managers.{ManagerValue, sites, asks, amount_of, with_share}
-use Rattle.transfer_manager.specs.Shares.{is_first, asks_made}
+use Rattle.transfer_manager.specs.Managers.{ManagerValue, sites, asks, amount_of, with_asked, SameSystem}
+
+-- what a plan goes by: the rights that each site is known to have, which sites are known to have closed, and what
+-- the planning site holds
+pub record Knowledge : Type 0 where
+  pub known : ℕ → ℤ
+  pub closed : ℕ → Bool
+  pub held : ℕ
+
+-- .. as a book has it
+abbrev pub of_book : BookValue → Knowledge
+of_book b = record { known = known_by b; closed = λ j. (account b j).closed; held = held_by b }
+
+-- .. as the logs say that site me of n sites has: its own, and of each other one what it applied
+abbrev pub of_logs : ℕ → ℕ → List EntryValue → (ℕ → List EntryValue) → Knowledge
+of_logs n me log applied =
+    let logs = logs_at me log applied in record { known = λ j. known n j logs; closed = λ j. is_closed (logs j); held = held n me log applied }
+
+-- without the outstanding ask, if site j is known to have closed
+abbrev pub without_closed : Knowledge → ℕ → PeerAsks → PeerAsks
+without_closed k j p = if k.closed j then record p { outstanding = None } else p
+
+-- the asks to and from site j, once those to sites that are known to have closed have ended
+abbrev pub open_asks : ManagerValue → Knowledge → ℕ → PeerAsks
+open_asks m k j = without_closed k j (asks m j)
+
+-- what is queued, less what is held, less what is outstanding; 0 where that is negative
+abbrev pub need : ManagerValue → Knowledge → ℕ → ℕ
+need m k queued = (queued - k.held) - sum_sites (sites m) (λ j. amount_of (open_asks m k j).outstanding)
 
 abbrev pub above_zero : ℤ → ℕ
 above_zero (pos n) = n
 above_zero (negsuc n) = 0
 
--- the rights that site j is known to have; 0 where it is known to lack some
-abbrev pub known_rights : BookValue → ℕ → ℕ
-known_rights b j = above_zero (known_by b j)
+-- site j, with these asks, is eligible: it is another one than me, has no ask outstanding, is not known to have
+-- closed, has an ask number left, and is known to have rights
+abbrev pub is_eligible : ℕ → Knowledge → ℕ → PeerAsks → Bool
+is_eligible me k j p = not (j == me) && is_none p.outstanding && not (k.closed j) && nat_lt p.last_ask MAX_ASK && nat_lt 0 (above_zero (k.known j))
 
--- without the outstanding ask, if site j is known to have closed
-abbrev pub without_closed : BookValue → ℕ → PeerAsks → PeerAsks
-without_closed b j p = if (account b j).closed then record p { outstanding = None } else p
+-- the rights that an eligible site is known to have; 0 of any other site
+abbrev pub eligible_rights : ℕ → Knowledge → ℕ → PeerAsks → ℕ
+eligible_rights me k j p = if is_eligible me k j p then above_zero (k.known j) else 0
 
--- the asks to and from site j, once those to sites that are known to have closed are ended
-abbrev pub open_asks : ManagerValue → BookValue → ℕ → PeerAsks
-open_asks m b j = without_closed b j (asks m j)
+-- .. at the time of a plan
+abbrev pub rights_of : ManagerValue → Knowledge → ℕ → ℕ
+rights_of m k j = eligible_rights m.me k j (open_asks m k j)
 
--- what the waiting requests lack beyond what is held and asked for
-abbrev pub need : ManagerValue → BookValue → QueueValue → ℕ
-need m b q = (total_of q.waiting - held_by b) - sum_sites (sites m) (λ j. amount_of (open_asks m b j).outstanding)
+-- by these rights, site i comes before site j: it has more, or as many and the smaller number
+abbrev pub is_before : (ℕ → ℕ) → ℕ → ℕ → Bool
+is_before rights i j = nat_lt (rights j) (rights i) || (rights i == rights j && nat_lt i j)
 
--- site j is another one than me, has no ask outstanding, is not known to have closed, and has an ask number left
-abbrev pub can_be_asked : ℕ → BookValue → ℕ → PeerAsks → Bool
-can_be_asked me b j p = not (j == me) && is_none p.outstanding && not (account b j).closed && nat_lt p.last_ask 1000000000
+-- the rights of those of n sites that come before site j
+abbrev pub rights_before : ℕ → (ℕ → ℕ) → ℕ → ℕ
+rights_before n rights j = sum_sites n (λ i. if is_before rights i j then rights i else 0)
 
--- .. and is known to have rights
-abbrev pub is_eligible : ManagerValue → BookValue → ℕ → Bool
-is_eligible m b j = can_be_asked m.me b j (open_asks m b j) && nat_lt 0 (known_rights b j)
+-- what site j is asked for: what those before it leave of the need, but no more than it is known to have, nor than
+-- one ask may be for; 0 where it is not asked
+abbrev pub amount_asked : ℕ → (ℕ → ℕ) → ℕ → ℕ → ℕ
+amount_asked n rights need j = min (min (rights j) (need - rights_before n rights j)) MAX_AMOUNT
 
--- site i comes before site j: it is known to have more rights, or as many and has the smaller number
-abbrev pub is_before : BookValue → ℕ → ℕ → Bool
-is_before b i j = is_first i (known_rights b i) j (known_rights b j)
+-- how many of n sites are asked for something
+abbrev pub count_asked : ℕ → (ℕ → ℕ) → ℕ
+count_asked n amounts = sum_sites n (λ j. if amounts j == 0 then 0 else 1)
 
--- what is known of the eligible sites before site j
-abbrev pub known_before : ManagerValue → BookValue → ℕ → ℕ
-known_before m b j = sum_sites (sites m) (λ i. if is_eligible m b i && is_before b i j then known_rights b i else 0)
+-- the amounts that a plan asks for where so many rights are queued
+abbrev pub planned : ManagerValue → Knowledge → ℕ → ℕ → ℕ
+planned m k queued = amount_asked (sites m) (rights_of m k) (need m k queued)
 
--- the amount that site j is asked for, 0 where it is not asked
-abbrev pub amount_asked : ManagerValue → BookValue → QueueValue → ℕ → ℕ
-amount_asked m b q j =
-    if is_eligible m b j then min 1000000000 (min (known_rights b j) (need m b q - known_before m b j)) else 0
-
--- the plan by this book and queue: each site is asked for its amount under its next number, if that is not 0
-pub record Plans (old : ManagerValue) (b : BookValue) (q : QueueValue) (count : ℕ) (new : ManagerValue) : Type 0 where
-  pub same_me : new.me ≡ old.me
-  pub same_sites : sites new ≡ sites old
-  pub each : (j : ℕ) → 1 ≤ j → j ≤ sites old → asks new j ≡ with_share (open_asks old b j) (amount_asked old b q j)
-  pub counted : count ≡ asks_made (sites old) (amount_asked old b q)
-
--- the rights that a site with these asks can be asked for
-abbrev pub offer : ℕ → BookValue → ℕ → PeerAsks → ℕ
-offer me b j p = if can_be_asked me b j p then known_rights b j else 0
+-- the plan: each site is asked for its amount under its next number, if that is not 0
+pub record Plans (old : ManagerValue) (k : Knowledge) (queued count : ℕ) (new : ManagerValue) : Type 0 where
+  pub same : SameSystem old new
+  pub each : (j : ℕ) → 1 ≤ j → j ≤ sites old → asks new j ≡ with_asked (open_asks old k j) (planned old k queued j)
+  pub counted : count ≡ count_asked (sites old) (planned old k queued)

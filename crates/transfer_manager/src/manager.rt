@@ -1,13 +1,14 @@
 //! The transfer manager of one site.
-ghost use Rattle.std.specs.Prelude.{◌≡◌, ℕ, ◌<◌, ◌≤◌, IfSome};
+ghost use Rattle.std.specs.Prelude.{◌≡◌, ℕ, ◌<◌, ◌≤◌, List, length, IfSome};
+ghost use Rattle.rights_types.specs.Entries.{EntryValue};
 ghost use Rattle.rights_types.specs.Messages.{AskValue, IsAsk};
 
 use crate::answer::AskAnswer;
 use crate::peer_asks::PeerAsks;
-use crate::plan::{ask_each, end_closed, need, offers};
+use crate::plan::{ask_each, eligible_rights, end_closed, need};
 use request_queue::RequestQueue;
 use rights_book::Book;
-use rights_types::{Amount, Ask, AskNumber, SiteId};
+use rights_types::{Amount, Ask, AskNumber, MAX_SITES, MIN_SITES, SiteId};
 use std::alloc::Allocator;
 use std::marker::Model;
 
@@ -23,27 +24,32 @@ pub struct Manager {
 
 impl Model for Manager {
     ghost use Rattle.std.specs.Prelude.{◌≤◌, take};
+    ghost use Rattle.rights_types.specs.declared.limits.TheConstants.{MAX_SITES};
     ghost use Rattle.transfer_manager.specs.Managers.{ManagerValue, IsManager};
 
     ghost Value = { ManagerValue };
 
     ghost view = { λ m. record { me = m.me; peers = take m.sites m.peers } };
 
-    ghost invariant = { λ m. IsManager (record { me = m.me; peers = take m.sites m.peers }) × (m.sites ≤ 16) };
+    ghost invariant = { λ m. IsManager (record { me = m.me; peers = take m.sites m.peers }) × (m.sites ≤ MAX_SITES) };
 }
 
 impl Manager {
-    ghost use Rattle.transfer_manager.specs.Managers.{sites, asks, new_manager, outstanding_ask, ended};
-    ghost use Rattle.transfer_manager.specs.Plans.{Plans};
-    ghost use Rattle.transfer_manager.specs.Answers.{answer_to, noted, IfNew, IsWithin, IsSettled};
+    ghost use Rattle.rights_book.specs.Books.{sites as book_sites};
+    ghost use Rattle.rights_book.specs.StandsFor.{StandsFor};
+    ghost use Rattle.request_queue.specs.Queues.{total_of};
+    ghost use Rattle.transfer_manager.specs.Managers.{sites, asks, SameSystem, new_manager, outstanding_ask, ended};
+    ghost use Rattle.transfer_manager.specs.Plans.{of_book, of_logs, Plans};
+    ghost use Rattle.transfer_manager.specs.AskAnswers.{answer_to, noted, IfNew, IsWithin, IsSettled};
 
     /// The manager of site `me` among so many sites, 2 to 16, where nothing was asked.
     pub fn new(me: SiteId, sites: u64) -> Manager
-        requires sites { (2 ≤ sites) × (sites ≤ 16) }
+        requires sites { (MIN_SITES ≤ sites) × (sites ≤ MAX_SITES) }
         requires me { me ≤ sites }
-        ensures { result ≡ new_manager me sites }
+        ensures made { result ≡ new_manager me sites }
+        ensures system { (result.me ≡ me) × (length result.peers ≡ sites) }
     {
-        // This states the range of `me`, which the proof asks for.
+        // For the proof: a site's number is at least 1.
         let _ = me.number();
         Manager {
             me,
@@ -60,16 +66,19 @@ impl Manager {
         book: &Book<A>,
         queue: &RequestQueue<B>,
     ) -> u64
-        ensures plans { Plans self.old book.now queue.now result self.new }
+        ensures plans { Plans self.old (of_book book.now) (total_of queue.now.waiting) result self.new }
+        ensures plans_by_logs { (log : List EntryValue) (applied : ℕ → List EntryValue) → StandsFor log applied book.now
+            → book_sites book.now ≡ sites self.old
+            → Plans self.old (of_logs (sites self.old) book.now.me log applied) (total_of queue.now.waiting) result self.new }
         ensures settled { (past : AskValue) → IsSettled self.old past → IsSettled self.new past }
-        ensures range { result ≤ 16 }
+        ensures range { result ≤ MAX_SITES }
     {
         let peers = &mut self.peers[..self.sites];
         end_closed(peers, book);
         let need = need(peers, book, queue);
-        let offers = offers(self.me, peers, book);
+        let rights = eligible_rights(self.me, peers, book);
         let sites = peers.len();
-        ask_each(peers, &offers[..sites], need)
+        ask_each(peers, &rights[..sites], need)
     }
 
     /// The ask to that peer that is outstanding.
@@ -79,7 +88,7 @@ impl Manager {
     {
         let asks = self.asks(peer);
         let amount = asks.outstanding?;
-        Ask::new(self.me, peer, AskNumber::known(asks.last_ask), amount).ok()
+        Some(Ask::known(self.me, peer, AskNumber::known(asks.last_ask), amount))
     }
 
     /// What to answer to an ask of a peer, where so many rights are available. Nothing is noted.
@@ -112,6 +121,7 @@ impl Manager {
         requires site { ask.now.asker ≤ sites self.old }
         requires new { IfNew answer ((asks self.old ask.now.asker).last_answered < ask.now.ask) }
         ensures noted { self.new ≡ noted self.old ask.now answer }
+        ensures same { SameSystem self.old self.new }
         ensures once { IfNew answer (IsSettled self.new ask.now) }
         ensures settled { (past : AskValue) → IsSettled self.old past → IsSettled self.new past }
     {
@@ -130,6 +140,7 @@ impl Manager {
     pub fn on_grant(&mut self, peer: SiteId, ask: AskNumber)
         requires { peer ≤ sites self.old }
         ensures ended { self.new ≡ ended self.old peer ask }
+        ensures same { SameSystem self.old self.new }
         ensures settled { (past : AskValue) → IsSettled self.old past → IsSettled self.new past }
     {
         let granter = &mut self.peers[peer.index()];
@@ -140,6 +151,7 @@ impl Manager {
     pub fn on_deny(&mut self, peer: SiteId, ask: AskNumber)
         requires { peer ≤ sites self.old }
         ensures ended { self.new ≡ ended self.old peer ask }
+        ensures same { SameSystem self.old self.new }
         ensures settled { (past : AskValue) → IsSettled self.old past → IsSettled self.new past }
     {
         let denier = &mut self.peers[peer.index()];

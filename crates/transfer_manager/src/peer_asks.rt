@@ -2,7 +2,7 @@
 ghost use Rattle.std.specs.Prelude.{◌≡◌, ◌<◌};
 ghost use Rattle.transfer_manager.specs.Managers.{no_asks, amount_of, with_ask, with_ended};
 
-use rights_types::{Amount, AskNumber};
+use rights_types::{Amount, AskNumber, MAX_ASK};
 
 /// What a manager keeps of the asks to one peer and of those from it.
 #[derive(Clone, Copy)]
@@ -42,7 +42,7 @@ impl PeerAsks {
 
     /// The peer is asked for this amount, under the next number.
     pub(crate) fn ask(&mut self, amount: Amount)
-        requires { self.old.last_ask < 1000000000 }
+        requires { self.old.last_ask < MAX_ASK }
         ensures { self.new ≡ with_ask self.old amount }
     {
         self.last_ask += 1;

@@ -1,12 +1,13 @@
 use Rattle.rights_types.specs.Places.{at_site}
-use Rattle.std.proofs.Common.{◌≡◌, length, replicate}
+use Rattle.std.proofs.Common.{◌≡◌, ◌≤◌, ℕ, length, replicate}
 use Rattle.transfer_manager.specs.Managers.{no_asks}
-use Rattle.transfer_manager.specs.Plans.{offer}
+use Rattle.transfer_manager.specs.Plans.{of_book, eligible_rights}
 use Rattle.transfer_manager.proofs.Sites.{IsWritten}
-use Rattle.transfer_manager.proofs.plan.offers.Given as goal
+use Rattle.transfer_manager.proofs.plan.eligible_rights.Given as goal
 
 abbrev pub invariant-loop-place : goal.invariant-loop-place
 invariant-loop-place g l = record {
-  whole : length l.offers ≡ 16;
-  written : IsWritten 0 (λ j old. offer l.me l.book j (at_site l.peers j no_asks)) (replicate 16 0) l.offers l.place;
+  whole : length l.rights ≡ 16;
+  written : IsWritten 0 (λ j old. eligible_rights l.me (of_book l.book) j (at_site l.peers j no_asks)) (replicate 16 0) l.rights l.place;
+  bounded : (j : ℕ) → at_site l.rights j 0 ≤ 1000000017000000000000000000;
 }

@@ -1,6 +1,7 @@
-use Rattle.std.proofs.Common.{List, sym, ap, subst}
+use Rattle.std.proofs.Common.{List, length, refl, sym, ap, ◌∙◌, subst}
+use Rattle.std.proofs.lemmas.List.{length-replicate}
 use Rattle.transfer_manager.specs.declared.peer_asks.PeerAsks.{PeerAsks}
-use Rattle.transfer_manager.specs.Managers.{ManagerValue, IsManager}
+use Rattle.transfer_manager.specs.Managers.{ManagerValue, no_asks, IsManager}
 use Rattle.transfer_manager.proofs.ManagerLaws.{of_sixteen, new_is_manager}
 use Rattle.transfer_manager.proofs.manager.Manager.new.Goals as goal
 
@@ -14,4 +15,5 @@ invariant_of-result c =
 pub returns : goal.returns
 returns c =
     let made : List PeerAsks → ManagerValue = λ ps. record { me = c.args.me; peers = ps } in
-    ap made (of_sixteen c.args.sites c.new.result c.requires.sites.1 c.new.ensures)
+    let same = of_sixteen c.args.sites c.new.result c.requires.sites.1 c.new.ensures in
+    record { made = ap made same; system = (refl, ap length same ∙ length-replicate c.args.sites no_asks) }

@@ -3,7 +3,7 @@ use Rattle.rights_types.specs.Messages.{AskValue}
 use Rattle.transfer_manager.specs.declared.answer.AskAnswer.{AskAnswer}
 use Rattle.transfer_manager.specs.declared.peer_asks.PeerAsks.{PeerAsks}
 use Rattle.transfer_manager.specs.Managers.{ManagerValue, sites, asks, with_asks, IsManager}
-use Rattle.transfer_manager.specs.Answers.{noted, IfNew, IsSettled}
+use Rattle.transfer_manager.specs.AskAnswers.{noted, IfNew, IsSettled}
 use Rattle.transfer_manager.proofs.ManagerLaws.{answered, answered_set, answered_is}
 use Rattle.transfer_manager.proofs.AnswerLaws.{answered_settled}
 use Rattle.transfer_manager.proofs.manager.Manager.note_answer.Goals.{in-Grant, in-Deny}

@@ -2,7 +2,7 @@ use Rattle.std.proofs.Common.{◌≤◌, List, take, sym, subst, arith}
 use Rattle.rights_types.specs.Messages.{AskValue}
 use Rattle.transfer_manager.specs.declared.peer_asks.PeerAsks.{PeerAsks}
 use Rattle.transfer_manager.specs.Managers.{ManagerValue, sites, IsManager}
-use Rattle.transfer_manager.specs.Answers.{IsSettled}
+use Rattle.transfer_manager.specs.AskAnswers.{IsSettled}
 use Rattle.transfer_manager.proofs.ManagerLaws.{ended_set, ended_is}
 use Rattle.transfer_manager.proofs.AnswerLaws.{ended_settled}
 use Rattle.transfer_manager.proofs.manager.Manager.on_deny.Goals as goal
