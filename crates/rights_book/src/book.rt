@@ -71,7 +71,7 @@ impl<A: Allocator> Book<A> {
     }
 
     /// Whether the book's site may write these moves as its next entry. Not tested here: how many
-    /// they are, whether the site's log has room for them or has closed, and what they take back.
+    /// they are, whether the site's log has numbers for them or has closed, and what they take back.
     /// Closing moves pass.
     #[tactic(auto, unfolding(crate::specs::Checks::check_fault))]
     pub fn check(&self, moves: &[Move]) -> Result<(), BookError>
@@ -109,6 +109,7 @@ impl<A: Allocator> Book<A> {
         ensures stands_applied { (applied : ℕ → List EntryValue) → StandsForApplied applied self.old
             → StandsForApplied applied self.new }
     {
+        // For the proof: each amount and peer is in its range.
         Move::all_in_range(moves);
         self.own.add(moves);
         add_own(&mut self.peers, moves);
