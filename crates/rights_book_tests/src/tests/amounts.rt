@@ -1,8 +1,9 @@
 //! The greatest amounts, and many of them.
-use crate::tests::calls::{apply, entry, give, issue, spend, take_back, write};
+use crate::tests::calls::{apply, write};
 use rights_book::{Book, BookError};
 use rights_types::{MAX_AMOUNT, MAX_MOVES, MAX_TOTAL, SiteId};
 use std::test::Fail;
+use test_kit::{entry, give, issue, spend, take_back};
 
 /// The greatest amounts are booked, and what was given may be taken back once.
 #[test]
@@ -10,16 +11,18 @@ fn greatest_moves(rt: HostRuntime) -> Result<(), Fail> {
     let (one, two) = (SiteId::new(1)?, SiteId::new(2)?);
     let all = MAX_MOVES as u64 * MAX_AMOUNT;
     let mut book = Book::new(rt.alloc(), one, 2)?;
-    assert!(rt; write(&mut book, &[issue(MAX_AMOUNT)?; 16]));
+    assert!(rt; write(&mut book, &[issue(MAX_AMOUNT); 16]));
     assert_eq!(rt; book.held(), all);
-    assert!(rt; write(&mut book, &[give(two, MAX_AMOUNT)?; 16]));
+    assert!(rt; write(&mut book, &[give(2, MAX_AMOUNT); 16]));
     assert_eq!(rt; book.held(), 0);
     assert_eq!(rt; book.given_to(two), all);
-    assert!(rt; !write(&mut book, &[take_back(two, MAX_TOTAL)?]));
-    assert!(rt; write(&mut book, &[take_back(two, all)?]));
+    assert!(rt; !write(&mut book, &[take_back(2, MAX_TOTAL)]));
+    assert!(rt; write(&mut book, &[take_back(2, all)]));
     assert_eq!(rt; book.held(), all);
     assert_eq!(rt; book.back(two), all);
-    assert!(rt; !write(&mut book, &[take_back(two, 1)?]));
+    assert_eq!(rt; book.taken_back(), all);
+    assert_eq!(rt; book.given(), all);
+    assert!(rt; !write(&mut book, &[take_back(2, 1)]));
     Ok(())
 }
 
@@ -28,7 +31,7 @@ fn greatest_moves(rt: HostRuntime) -> Result<(), Fail> {
 fn greatest_gifts(rt: HostRuntime) -> Result<(), Fail> {
     let alloc = rt.alloc();
     let (one, two) = (SiteId::new(1)?, SiteId::new(2)?);
-    let gifts = entry(alloc, two, 0, &[give(one, MAX_AMOUNT)?; 16])?;
+    let gifts = entry(alloc, 2, 0, &[give(1, MAX_AMOUNT); 16])?;
     let mut book = Book::new(alloc, one, 2)?;
     assert!(rt; apply(&mut book, two, &gifts));
     assert_eq!(rt; book.received_from(two), 16 * MAX_AMOUNT);
@@ -44,8 +47,8 @@ fn greatest_gifts(rt: HostRuntime) -> Result<(), Fail> {
 fn many_moves_do_not_wrap(rt: HostRuntime) -> Result<(), Fail> {
     let (one, two) = (SiteId::new(1)?, SiteId::new(2)?);
     let book = Book::new(rt.alloc(), one, 2)?;
-    let back = take_back(two, MAX_TOTAL)?;
-    let spent = spend(MAX_AMOUNT)?;
+    let back = take_back(2, MAX_TOTAL);
+    let spent = spend(MAX_AMOUNT);
     assert_eq!(rt; book.check(&[back; 40]), Ok(()));
     assert_eq!(rt;
         book.check(&[
@@ -63,18 +66,12 @@ fn many_moves_do_not_wrap(rt: HostRuntime) -> Result<(), Fail> {
 fn known_passes_64_bits(rt: HostRuntime) -> Result<(), Fail> {
     let alloc = rt.alloc();
     let (one, two) = (SiteId::new(1)?, SiteId::new(2)?);
-    let backs = [take_back(one, MAX_TOTAL)?; 16];
+    let backs = [take_back(1, MAX_TOTAL); 16];
     let mut book = Book::new(alloc, one, 2)?;
-    assert!(rt; apply(&mut book, two, &entry(alloc, two, 0, &backs)?));
-    assert!(rt; apply(&mut book, two, &entry(alloc, two, 16, &backs)?));
+    assert!(rt; apply(&mut book, two, &entry(alloc, 2, 0, &backs)?));
+    assert!(rt; apply(&mut book, two, &entry(alloc, 2, 16, &backs)?));
     assert_eq!(rt; book.known(two), 32_000_000_000_000_000_000);
-    assert!(rt;
-        apply(
-            &mut book,
-            two,
-            &entry(alloc, two, 32, &[spend(MAX_AMOUNT)?])?
-        )
-    );
+    assert!(rt; apply(&mut book, two, &entry(alloc, 2, 32, &[spend(MAX_AMOUNT)])?));
     assert_eq!(rt; book.known(two), 31_999_999_999_000_000_000);
     assert_eq!(rt; book.held(), 0);
     Ok(())
@@ -86,13 +83,13 @@ fn many_entries(rt: HostRuntime) -> Result<(), Fail> {
     let alloc = rt.alloc();
     let (one, two) = (SiteId::new(1)?, SiteId::new(2)?);
     let mut book = Book::new(alloc, one, 2)?;
-    assert!(rt; write(&mut book, &[issue(MAX_AMOUNT)?]));
-    let out = [give(two, MAX_AMOUNT)?];
-    let home = [give(one, MAX_AMOUNT)?];
+    assert!(rt; write(&mut book, &[issue(MAX_AMOUNT)]));
+    let out = [give(2, MAX_AMOUNT)];
+    let home = [give(1, MAX_AMOUNT)];
     for round in 0..1000 {
         assert!(rt; write(&mut book, &out));
         assert_eq!(rt; book.held(), 0);
-        assert!(rt; apply(&mut book, two, &entry(alloc, two, round, &home)?));
+        assert!(rt; apply(&mut book, two, &entry(alloc, 2, round, &home)?));
         assert_eq!(rt; book.held(), MAX_AMOUNT);
     }
     assert_eq!(rt; book.number(), 1001);

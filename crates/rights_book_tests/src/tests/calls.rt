@@ -4,11 +4,8 @@ ghost use Rattle.rights_types.specs.Moves.{take_back_from};
 ghost use Rattle.rights_types.specs.Rights.{back};
 
 use rights_book::Book;
-use rights_types::{
-    Amount, AskNumber, Entry, MAX_MOVES, MAX_NUMBER, MAX_SITES, Move, SiteId, Total, TypeError,
-};
+use rights_types::{Entry, MAX_MOVES, MAX_NUMBER, MAX_SITES, MAX_TOTAL, Move, SiteId};
 use std::alloc::Allocator;
-use std::test::Fail;
 
 /// Writes the moves as the next entry of the book's site, if it may.
 pub(crate) fn write<A: Allocator>(book: &mut Book<A>, moves: &[Move]) -> bool {
@@ -22,6 +19,7 @@ pub(crate) fn write<A: Allocator>(book: &mut Book<A>, moves: &[Move]) -> bool {
     if book.closed(me) || book.number() + moves.len() as u64 > MAX_NUMBER {
         return false;
     }
+    // For the proof: each amount and peer is in its range.
     Move::all_in_range(moves);
     for index in 0..MAX_SITES {
         let site = SiteId::known(index + 1);
@@ -52,7 +50,7 @@ pub(crate) fn apply<A: Allocator, B: Allocator>(
 
 // What these moves take back from the site.
 fn taken_back(moves: &[Move], site: SiteId) -> u64
-    requires { length moves.now ≤ 16 }
+    requires { length moves.now ≤ MAX_MOVES }
     ensures { result ≡ back site moves.now }
 {
     let mut sum = 0;
@@ -64,50 +62,10 @@ fn taken_back(moves: &[Move], site: SiteId) -> u64
 
 fn taken_back_by(m: &Move, site: SiteId) -> u64
     ensures value { result ≡ take_back_from site m.now }
-    ensures range { result ≤ 1000000000000000000 }
+    ensures range { result ≤ MAX_TOTAL }
 {
     match m {
         Move::TakeBack { peer, amount } => { if *peer == site { amount.value() } else { 0 } }
         _ => 0,
     }
-}
-
-/// The entry of these moves.
-pub(crate) fn entry<A: Allocator>(
-    alloc: A,
-    origin: SiteId,
-    prev: u64,
-    moves: &[Move],
-) -> Result<Entry<A>, Fail> {
-    Ok(Entry::new(origin, prev, Vec::from_slice(alloc, moves)?)?)
-}
-
-pub(crate) fn issue(rights: u64) -> Result<Move, TypeError> {
-    Ok(Move::Issue(Amount::new(rights)?))
-}
-
-pub(crate) fn spend(rights: u64) -> Result<Move, TypeError> {
-    Ok(Move::Spend(Amount::new(rights)?))
-}
-
-pub(crate) fn give(peer: SiteId, rights: u64) -> Result<Move, TypeError> {
-    Ok(Move::Give {
-        peer,
-        amount: Amount::new(rights)?,
-    })
-}
-
-pub(crate) fn grant(peer: SiteId, rights: u64, ask: u64) -> Result<Move, TypeError> {
-    Ok(Move::Grant {
-        peer,
-        amount: Amount::new(rights)?,
-        ask: AskNumber::new(ask)?,
-    })
-}
-
-pub(crate) fn take_back(peer: SiteId, rights: u64) -> Result<Move, TypeError> {
-    Ok(Move::TakeBack {
-        peer,
-        amount: Total::new(rights)?,
-    })
 }

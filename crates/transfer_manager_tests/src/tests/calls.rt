@@ -20,22 +20,6 @@ pub(crate) fn answer(manager: &mut Manager, ask: &Ask, available: u64) -> AskAns
     answer
 }
 
-/// A grant of the peer, with this ask number, was applied.
-pub(crate) fn granted(manager: &mut Manager, peer: SiteId, ask: AskNumber)
-    requires { peer ≤ sites manager.old }
-    ensures { sites manager.new ≡ sites manager.old }
-{
-    manager.on_grant(peer, ask);
-}
-
-/// The peer denied the ask of this number.
-pub(crate) fn denied(manager: &mut Manager, peer: SiteId, ask: AskNumber)
-    requires { peer ≤ sites manager.old }
-    ensures { sites manager.new ≡ sites manager.old }
-{
-    manager.on_deny(peer, ask);
-}
-
 /// Applies the moves as the next entry of that site, if they may be.
 pub(crate) fn apply<A: Allocator>(
     alloc: Global,
@@ -62,20 +46,4 @@ pub(crate) fn ask(asker: u64, asked: u64, number: u64, amount: u64) -> Result<As
         AskNumber::new(number)?,
         Amount::new(amount)?,
     )
-}
-
-pub(crate) fn issue(rights: u64) -> Result<Move, TypeError> {
-    Ok(Move::Issue(Amount::new(rights)?))
-}
-
-pub(crate) fn spend(rights: u64) -> Result<Move, TypeError> {
-    Ok(Move::Spend(Amount::new(rights)?))
-}
-
-pub(crate) fn grant(peer: SiteId, rights: u64, ask: u64) -> Result<Move, TypeError> {
-    Ok(Move::Grant {
-        peer,
-        amount: Amount::new(rights)?,
-        ask: AskNumber::new(ask)?,
-    })
 }

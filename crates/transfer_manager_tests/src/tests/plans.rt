@@ -1,9 +1,10 @@
 //! Which peers are asked, and for how much.
-use crate::tests::calls::{apply, ask, denied, grant, granted, issue, spend};
+use crate::tests::calls::{apply, ask};
 use request_queue::RequestQueue;
 use rights_book::Book;
 use rights_types::{AskNumber, MAX_AMOUNT, Move, SiteId};
 use std::test::Fail;
+use test_kit::{grant, issue, spend};
 use transfer_manager::Manager;
 
 /// Both peers are asked for all that they are known to have, and then no more.
@@ -12,8 +13,8 @@ fn two_peers_are_asked(rt: HostRuntime) -> Result<(), Fail> {
     let alloc = rt.alloc();
     let (one, two, three) = (SiteId::new(1)?, SiteId::new(2)?, SiteId::new(3)?);
     let mut book = Book::new(alloc, two, 3)?;
-    assert!(rt; apply(alloc, &mut book, one, &[issue(4)?])?);
-    assert!(rt; apply(alloc, &mut book, three, &[issue(4)?])?);
+    assert!(rt; apply(alloc, &mut book, one, &[issue(4)])?);
+    assert!(rt; apply(alloc, &mut book, three, &[issue(4)])?);
     let mut queue = RequestQueue::new(alloc)?;
     assert_eq!(rt; queue.put(10, 0), Ok(1));
     let mut manager = Manager::new(two, 3);
@@ -31,17 +32,17 @@ fn a_grant_ends_its_ask(rt: HostRuntime) -> Result<(), Fail> {
     let alloc = rt.alloc();
     let (one, two) = (SiteId::new(1)?, SiteId::new(2)?);
     let mut book = Book::new(alloc, two, 2)?;
-    assert!(rt; apply(alloc, &mut book, one, &[issue(10)?])?);
+    assert!(rt; apply(alloc, &mut book, one, &[issue(10)])?);
     let mut queue = RequestQueue::new(alloc)?;
     assert_eq!(rt; queue.put(6, 9), Ok(1));
     let mut manager = Manager::new(two, 2);
     assert_eq!(rt; manager.plan(&book, &queue), 1);
     assert_eq!(rt; manager.outstanding(one), Some(ask(2, 1, 1, 6)?));
-    granted(&mut manager, one, AskNumber::new(2)?);
+    manager.on_grant(one, AskNumber::new(2)?);
     assert_eq!(rt; manager.outstanding(one), Some(ask(2, 1, 1, 6)?));
-    granted(&mut manager, one, AskNumber::new(1)?);
+    manager.on_grant(one, AskNumber::new(1)?);
     assert_eq!(rt; manager.outstanding(one), None);
-    assert!(rt; apply(alloc, &mut book, one, &[grant(two, 6, 1)?])?);
+    assert!(rt; apply(alloc, &mut book, one, &[grant(2, 6, 1)])?);
     assert_eq!(rt; manager.plan(&book, &queue), 0);
     Ok(())
 }
@@ -52,13 +53,13 @@ fn a_denied_peer_is_asked_again(rt: HostRuntime) -> Result<(), Fail> {
     let alloc = rt.alloc();
     let (one, two) = (SiteId::new(1)?, SiteId::new(2)?);
     let mut book = Book::new(alloc, two, 2)?;
-    assert!(rt; apply(alloc, &mut book, one, &[issue(10)?])?);
+    assert!(rt; apply(alloc, &mut book, one, &[issue(10)])?);
     let mut queue = RequestQueue::new(alloc)?;
     assert_eq!(rt; queue.put(6, 0), Ok(1));
     let mut manager = Manager::new(two, 2);
     assert_eq!(rt; manager.plan(&book, &queue), 1);
-    denied(&mut manager, one, AskNumber::new(1)?);
-    denied(&mut manager, one, AskNumber::new(1)?);
+    manager.on_deny(one, AskNumber::new(1)?);
+    manager.on_deny(one, AskNumber::new(1)?);
     assert_eq!(rt; manager.outstanding(one), None);
     assert_eq!(rt; manager.plan(&book, &queue), 1);
     assert_eq!(rt; manager.outstanding(one), Some(ask(2, 1, 2, 6)?));
@@ -71,7 +72,7 @@ fn no_peer_with_rights(rt: HostRuntime) -> Result<(), Fail> {
     let alloc = rt.alloc();
     let (one, two, three) = (SiteId::new(1)?, SiteId::new(2)?, SiteId::new(3)?);
     let mut book = Book::new(alloc, three, 3)?;
-    assert!(rt; apply(alloc, &mut book, two, &[spend(6)?])?);
+    assert!(rt; apply(alloc, &mut book, two, &[spend(6)])?);
     assert_eq!(rt; book.known(two), -6);
     assert_eq!(rt; book.known(one), 0);
     let mut queue = RequestQueue::new(alloc)?;
@@ -88,7 +89,7 @@ fn no_peer_with_rights(rt: HostRuntime) -> Result<(), Fail> {
 fn an_ask_has_a_greatest_amount(rt: HostRuntime) -> Result<(), Fail> {
     let alloc = rt.alloc();
     let (one, two, three) = (SiteId::new(1)?, SiteId::new(2)?, SiteId::new(3)?);
-    let most = issue(MAX_AMOUNT)?;
+    let most = issue(MAX_AMOUNT);
     let mut book = Book::new(alloc, two, 3)?;
     assert!(rt; apply(alloc, &mut book, one, &[most, most])?);
     assert!(rt; apply(alloc, &mut book, three, &[most, most, most])?);
@@ -111,8 +112,8 @@ fn a_closed_peer_is_not_asked(rt: HostRuntime) -> Result<(), Fail> {
     let alloc = rt.alloc();
     let (one, two, three) = (SiteId::new(1)?, SiteId::new(2)?, SiteId::new(3)?);
     let mut book = Book::new(alloc, two, 3)?;
-    assert!(rt; apply(alloc, &mut book, one, &[issue(8)?])?);
-    assert!(rt; apply(alloc, &mut book, three, &[issue(5)?])?);
+    assert!(rt; apply(alloc, &mut book, one, &[issue(8)])?);
+    assert!(rt; apply(alloc, &mut book, three, &[issue(5)])?);
     let mut queue = RequestQueue::new(alloc)?;
     assert_eq!(rt; queue.put(4, 0), Ok(1));
     let mut manager = Manager::new(two, 3);

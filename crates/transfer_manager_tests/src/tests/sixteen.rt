@@ -1,9 +1,10 @@
 //! The order of fifteen peers.
-use crate::tests::calls::{apply, ask, issue};
+use crate::tests::calls::{apply, ask};
 use request_queue::RequestQueue;
 use rights_book::Book;
 use rights_types::{MAX_SITES, SiteId};
 use std::test::Fail;
+use test_kit::issue;
 use transfer_manager::Manager;
 
 /// Of peers that are known to have as much, those with smaller numbers are asked first.
@@ -14,7 +15,7 @@ fn equal_peers_by_number(rt: HostRuntime) -> Result<(), Fail> {
     let mut book = Book::new(alloc, me, MAX_SITES)?;
     for index in 0..MAX_SITES {
         let peer = SiteId::known(index + 1);
-        assert_eq!(rt; apply(alloc, &mut book, peer, &[issue(5)?])?, peer != me);
+        assert_eq!(rt; apply(alloc, &mut book, peer, &[issue(5)])?, peer != me);
     }
     let mut queue = RequestQueue::new(alloc)?;
     assert_eq!(rt; queue.put(12, 0), Ok(1));
@@ -43,7 +44,7 @@ fn unequal_peers_by_rights(rt: HostRuntime) -> Result<(), Fail> {
     for index in 0..MAX_SITES {
         let peer = SiteId::known(index + 1);
         assert_eq!(rt;
-            apply(alloc, &mut book, peer, &[issue(index + 1)?])?,
+            apply(alloc, &mut book, peer, &[issue(index + 1)])?,
             peer != me
         );
     }

@@ -11,4 +11,4 @@ own-requires-clause-back g c =
 pub own-requires-clause-unclosed : goal.own-requires-clause-unclosed
 own-requires-clause-unclosed g c =
     let b : BookValue = c.args.book.now in
-    ap (λ (a : Account). a.closed) (sym (own_account b)) ∙ ap (λ k. (account b k).closed) (sym c.me-me.ensures.value) ∙ sym c.if-closed.ensures
+    ap (λ (a : Account). a.closed) (sym (own_account b)) ∙ ap (λ k. (account b k).closed) (sym c.me-me.ensures.value) ∙ sym c.if-closed.ensures.value
