@@ -59,7 +59,8 @@ fn add_entry<A: Allocator + Copy>(
     requires { IsEntry (record { origin = origin; prev = prev; moves = moves.now }) }
     ensures { OnOk result (
         let e : EntryValue = record { origin = origin; prev = prev; moves = moves.now } in
-        length entries.old.items ≤ MAX_ANSWER → entries.new.items ≡ take MAX_ANSWER (entries.old.items ++ e ∷ [])) }
+        length entries.old.items ≤ MAX_ANSWER
+        → entries.new.items ≡ take MAX_ANSWER (entries.old.items ++ e ∷ [])) }
 {
     if entries.len() < MAX_ANSWER {
         entries.push(entry_with(alloc, origin, prev, moves)?)?;

@@ -1,4 +1,5 @@
-//! How many bytes a message's line has.
+//! How many bytes a message's line has. The clauses `small` are rough bounds, by which no sum of
+//! these numbers wraps.
 ghost use Rattle.std.specs.Prelude.{◌≡◌, ◌+◌, ◌<◌, ◌≤◌, ◌^◌, nat_le, length, slice_index, decimal, if◌then◌else◌};
 ghost use Rattle.rights_types.specs.Entries.{IsEntry};
 ghost use Rattle.rights_types.specs.Messages.{IsAnswer, IsMessage};

@@ -160,7 +160,8 @@ pub(crate) fn first_move<'a>(fields: &'a [u8], slot: &mut Move) -> Option<Option
 }
 
 fn first_grant<'a>(values: &'a [u8], slot: &mut Move) -> Option<Option<&'a [u8]>>
-    ensures { FindsMove slot.new result (first_move (split_at FIELD_BREAK (GRANT_LETTER ∷ (VALUE_BREAK ∷ values.now)))) }
+    ensures { FindsMove slot.new result
+        (first_move (split_at FIELD_BREAK (GRANT_LETTER ∷ (VALUE_BREAK ∷ values.now)))) }
 {
     let (peer, rest) = first_number(Some(values), VALUE_BREAK, 1, MAX_SITES)?;
     let (amount, rest) = first_number(rest, VALUE_BREAK, 1, MAX_AMOUNT)?;
@@ -174,7 +175,8 @@ fn first_grant<'a>(values: &'a [u8], slot: &mut Move) -> Option<Option<&'a [u8]>
 }
 
 fn first_give<'a>(values: &'a [u8], slot: &mut Move) -> Option<Option<&'a [u8]>>
-    ensures { FindsMove slot.new result (first_move (split_at FIELD_BREAK (GIVE_LETTER ∷ (VALUE_BREAK ∷ values.now)))) }
+    ensures { FindsMove slot.new result
+        (first_move (split_at FIELD_BREAK (GIVE_LETTER ∷ (VALUE_BREAK ∷ values.now)))) }
 {
     let (peer, rest) = first_number(Some(values), VALUE_BREAK, 1, MAX_SITES)?;
     let (amount, rest) = first_number(rest, FIELD_BREAK, 1, MAX_AMOUNT)?;

@@ -46,7 +46,8 @@ pub(crate) fn split_first(text: &[u8], at: u8) -> (&[u8], Option<&[u8]>)
     }
 }
 
-/// The same, for a part that is mostly long.
+/// The same, for a part that is mostly long: it is looked for by `memchr`, where the other one goes byte by
+/// byte.
 pub(crate) fn split_far(text: &[u8], at: u8) -> (&[u8], Option<&[u8]>)
     ensures parts { split_at at text.now ≡ result.0.now ∷ left at result.1 }
     ensures last { is_none result.1 ≡ (length (left at result.1) == 0) }
