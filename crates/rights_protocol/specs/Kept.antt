@@ -1,0 +1,44 @@
+-- What is kept by every change: of each site alone, and of each link between two.
+use Rattle.std.specs.Prelude.{◌≡◌, ◌≢◌, ℕ, ◌+◌, ◌≤◌, true, false, List, [], length, Some, if◌then◌else◌}
+use Rattle.std.specs.List.{All, AllPairs, Contains}
+use Rattle.rights_types.specs.Entries.{EntryValue}
+use Rattle.rights_types.specs.Chains.{end, is_closed, IsChain, IsPrefix, IsLongest, moves_of}
+use Rattle.rights_types.specs.Moves.{NamesWithin}
+use Rattle.rights_types.specs.Rights.{covers, received, sum_sites}
+use Rattle.rights_types.specs.declared.limits.TheConstants.{MIN_SITES, MAX_SITES, MAX_HELD, LAST_APPEND}
+use Rattle.rights_protocol.specs.Lists.{Lists}
+use Rattle.rights_protocol.specs.Retiring.{frontier, own_frontier, owed, takings, one_taking}
+
+-- how many of n sites are closed, by what was applied of their logs
+abbrev pub known_closed : ℕ → (ℕ → List EntryValue) → ℕ
+known_closed n applied = sum_sites n (λ o. if is_closed (applied o) then 1 else 0)
+
+-- Of site s among n, by its log and what it applied of the others.
+pub record SiteKept (n s : ℕ) (log : List EntryValue) (applied : ℕ → List EntryValue) : Type 0 where
+  pub chain : IsChain s log
+  pub chains : (o : ℕ) → IsChain o (applied o)
+  -- of its own log it applies nothing
+  pub itself : applied s ≡ []
+  pub within : All (NamesWithin n) (moves_of log)
+  -- it never spent or gave what it did not hold
+  pub covered : covers (received n s applied) (moves_of log) ≡ true
+  -- a log that is closed ends in a K whose frontier is what the site applied
+  pub closing : is_closed log ≡ true → frontier log ≡ Some (own_frontier n applied)
+  -- from each c whose K it applied it took back what it owes by that K, once; and from no other
+  pub taken : (c : ℕ) → takings c log ≡ one_taking c (owed s c log (frontier (applied c)))
+  -- above the last number of an ordinary entry there is one take back, at most, for each site known as closed
+  pub fits : is_closed log ≡ false → end log ≤ LAST_APPEND + known_closed n applied
+
+-- Of a link: what came of this log to another site, what that site put of it in order, and what it applied.
+pub record LinkKept (log reached put applied : List EntryValue) : Type 0 where
+  pub sent : All (Contains log) reached
+  pub once : AllPairs (λ x y. x ≢ y) reached
+  pub longest : IsLongest reached log put
+  pub held : length reached ≤ length put + MAX_HELD
+  pub begins : IsPrefix applied put
+
+pub record Kept (w : Lists) : Type 0 where
+  pub some : MIN_SITES ≤ w.count
+  pub few : w.count ≤ MAX_SITES
+  pub sites : (s : ℕ) → SiteKept w.count s (w.log s) (w.applied s)
+  pub links : (s o : ℕ) → LinkKept (w.log o) (w.reached s o) (w.put s o) (w.applied s o)

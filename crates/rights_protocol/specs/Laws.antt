@@ -1,0 +1,70 @@
+-- The laws of the protocol.
+use Rattle.std.specs.Prelude.{◌≡◌, ℕ, ◌+◌, ◌≤◌, true, false, List, [], ◌∷◌, Option}
+use Rattle.rights_types.specs.Entries.{EntryValue}
+use Rattle.rights_types.specs.Chains.{end, is_closed, moves_of}
+use Rattle.rights_types.specs.Rights.{to, back, received, held}
+use Rattle.rights_types.specs.declared.limits.TheConstants.{MIN_SITES, MAX_SITES, LAST_APPEND, MAX_TOTAL, MAX_RECEIVED, MAX_HELD_RIGHTS}
+use Rattle.rights_protocol.specs.Lists.{Lists, IsOf}
+use Rattle.rights_protocol.specs.Retiring.{frontier, owed}
+use Rattle.rights_protocol.specs.Changes.{Change, Step, Runs, Start}
+use Rattle.rights_protocol.specs.Kept.{SiteKept, Kept}
+use Rattle.rights_protocol.specs.Retirement.{AppliedClose, Promised}
+
+-- ---- every run
+
+-- P holds of the lists before the first of these changes, between any two and after the last
+abbrev pub AllAlong : (Lists → Type 0) → (old : Lists) → (changes : List Change) → (new : Lists) → Runs old changes new → Type 0
+AllAlong P old [] new run = P old × P new
+AllAlong P old (change ∷ changes) new run = P old × AllAlong P run.0 changes new run.2
+
+-- all that is promised holds at each moment of each run from the start
+abbrev pub EveryMoment : Type 0
+EveryMoment = (n : ℕ) (start : Lists) (changes : List Change) (new : Lists) → Start n start → (run : Runs start changes new) → AllAlong Promised start changes new run
+
+-- so it holds of the lists that a run leads to
+abbrev pub EveryRun : Type 0
+EveryRun = (n : ℕ) (start : Lists) (changes : List Change) (new : Lists) → Start n start → Runs start changes new → Promised new
+
+-- ---- by what is kept
+
+abbrev pub StartKept : Type 0
+StartKept = (n : ℕ) (w : Lists) → Start n w → Kept w
+
+abbrev pub StepKeeps : Type 0
+StepKeeps = (old : Lists) (change : Change) (new : Lists) → Kept old → Step old change new → Kept new
+
+abbrev pub KeptPromises : Type 0
+KeptPromises = (w : Lists) → Kept w → Promised w
+
+-- ---- for good
+
+-- a closed site stays closed, and no applied list of it changes
+abbrev pub ClosedForGood : Type 0
+ClosedForGood = (old : Lists) (changes : List Change) (new : Lists) (c : ℕ) → Runs old changes new → is_closed (old.log c) ≡ true
+    → (is_closed (new.log c) ≡ true) × ((o : ℕ) → new.applied c o ≡ old.applied c o)
+
+-- a K that was applied stays applied
+abbrev pub AppliedForGood : Type 0
+AppliedForGood = (old : Lists) (changes : List Change) (new : Lists) (s c : ℕ) (numbers : List ℕ)
+    → Kept old → Runs old changes new → AppliedClose old s c numbers → AppliedClose new s c numbers
+
+-- ---- one site
+
+-- what is kept of one site gives its log and its book
+pub record SiteBounds (n s : ℕ) (log : List EntryValue) (applied : ℕ → List EntryValue) : Type 0 where
+  -- above the last number of an ordinary entry, a log that is not closed has 15 take backs at most, so that
+  -- one more and the two moves of a closing entry fit
+  pub room : is_closed log ≡ false → end log ≤ LAST_APPEND + 15
+  -- it took back what it owes, nothing where it applied no K, and never more than it gave
+  pub taken : (c : ℕ) → back c (moves_of log) ≡ owed s c log (frontier (applied c))
+  pub none_taken : (c : ℕ) → is_closed (applied c) ≡ false → back c (moves_of log) ≡ 0
+  pub taken_given : (c : ℕ) → back c (moves_of log) ≤ to c (moves_of log)
+  -- what any K makes it owe is what it gave, or less, and is no more than one take back can say
+  pub owes_given : (c : ℕ) (k : Option (List ℕ)) → owed s c log k ≤ to c (moves_of log)
+  pub owes_total : (c : ℕ) (k : Option (List ℕ)) → owed s c log k ≤ MAX_TOTAL
+  pub received : received n s applied ≤ MAX_RECEIVED
+  pub holds : held n s log applied ≤ MAX_HELD_RIGHTS
+
+abbrev pub SiteIsBounded : Type 0
+SiteIsBounded = (n s : ℕ) (log : List EntryValue) (applied : ℕ → List EntryValue)
+    → MIN_SITES ≤ n → n ≤ MAX_SITES → IsOf n s → SiteKept n s log applied → SiteBounds n s log applied
