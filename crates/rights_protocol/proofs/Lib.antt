@@ -1,0 +1,10 @@
+pub mod Frontiers
+pub mod Takings
+pub mod Numbers
+pub mod Writes
+pub mod Sites
+pub mod Links
+pub mod Steps
+pub mod Promises
+pub mod Bounds
+pub mod Runs

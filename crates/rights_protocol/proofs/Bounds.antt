@@ -1,0 +1,56 @@
+-- What is kept of one site bounds what it holds, owes and writes.
+use Rattle.std.proofs.Common.{◌≡◌, ℕ, zero, suc, ◌+◌, ◌≤◌, false, List, arith, ap, ◌∙◌}
+use Rattle.rights_types.specs.Entries.{EntryValue}
+use Rattle.rights_types.specs.Chains.{end, moves_of}
+use Rattle.rights_types.specs.Rights.{sum_sites, out, to, taken_back, back, received, held}
+use Rattle.rights_types.proofs.Chains.{end_from-bound}
+use Rattle.rights_types.proofs.Sums.{rights_after_is, out_is, taken_back_is, log-issued}
+use Rattle.rights_protocol.specs.Lists.{IsOf}
+use Rattle.rights_protocol.specs.Retiring.{frontier, owed}
+use Rattle.rights_protocol.specs.Kept.{SiteKept}
+use Rattle.rights_protocol.specs.Laws.{SiteBounds}
+use Rattle.rights_protocol.proofs.Frontiers.{no_frontier, owed_less, owed_bound}
+use Rattle.rights_protocol.proofs.Takings.{taken_is}
+use Rattle.rights_protocol.proofs.Numbers.{known_few, received_bound}
+use Rattle.rights_protocol.proofs.Writes.{held_is}
+
+sum_le : (n : ℕ) (f g : ℕ → ℕ) → ((k : ℕ) → f k ≤ g k) → sum_sites n f ≤ sum_sites n g
+sum_le zero f g h = omega arith
+sum_le (suc n) f g h = omega (arith, sum_le n f g h, h (suc n))
+
+back_is : (n s c : ℕ) (log : List EntryValue) (applied : ℕ → List EntryValue) → SiteKept n s log applied → back c (moves_of log) ≡ owed s c log (frontier (applied c))
+back_is n s c log applied k = taken_is c (owed s c log (frontier (applied c))) log (k.taken c)
+
+-- no more is taken back from a site than was given to it
+back_within : (n s c : ℕ) (log : List EntryValue) (applied : ℕ → List EntryValue) → SiteKept n s log applied → back c (moves_of log) ≤ to c (moves_of log)
+back_within n s c log applied k = omega (arith, back_is n s c log applied k, owed_less s c log (frontier (applied c)))
+
+-- what a site took back it had given, so it holds what it received and issued, at most
+held_within : (n s : ℕ) (log : List EntryValue) (applied : ℕ → List EntryValue) → SiteKept n s log applied → held n s log applied ≤ received n s applied + 1000000000000000000
+held_within n s log applied k =
+    let ms = moves_of log in
+    let ends : end log ≤ 1000000000 = end_from-bound s false 0 log k.chain (omega arith) in
+    let back_out : taken_back ms ≤ out ms =
+    omega (arith, taken_back_is n ms k.within, out_is n ms k.within, sum_le n (λ c. back c ms) (λ c. to c ms) (λ c. back_within n s c log applied k)) in
+    omega (
+      arith,
+      held_is n s log applied k.within k.covered,
+      rights_after_is (received n s applied) ms k.covered,
+      back_out,
+      log-issued s log k.chain,
+      ends,
+    )
+
+pub site_bounds : (n s : ℕ) (log : List EntryValue) (applied : ℕ → List EntryValue) → 2 ≤ n → n ≤ 16 → IsOf n s → SiteKept n s log applied → SiteBounds n s log applied
+site_bounds n s log applied some few site k =
+    let received_few : received n s applied ≤ 15000000000000000000 = received_bound n s applied few site k.itself k.chains in
+    record {
+      room = λ unclosed. omega (arith, k.fits unclosed, known_few n s applied site k.itself);
+      taken = λ c. back_is n s c log applied k;
+      none_taken = λ c unclosed. back_is n s c log applied k ∙ ap (owed s c log) (no_frontier (applied c) unclosed);
+      taken_given = λ c. back_within n s c log applied k;
+      owes_given = λ c numbers. owed_less s c log numbers;
+      owes_total = λ c numbers. owed_bound s c s log numbers k.chain;
+      received = received_few;
+      holds = omega (arith, held_within n s log applied k, received_few);
+    }
