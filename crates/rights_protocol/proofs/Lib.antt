@@ -8,3 +8,5 @@ pub mod Steps
 pub mod Promises
 pub mod Bounds
 pub mod Runs
+pub mod TwoSites
+pub mod Worked

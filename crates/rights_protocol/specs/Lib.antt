@@ -8,3 +8,4 @@ pub mod Kept
 pub mod Headline
 pub mod Retirement
 pub mod Laws
+pub mod Examples
