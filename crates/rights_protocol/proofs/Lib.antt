@@ -6,7 +6,7 @@ pub mod Sites
 pub mod Links
 pub mod Steps
 pub mod Promises
-pub mod Bounds
+pub mod OneSite
 pub mod Runs
 pub mod TwoSites
 pub mod Worked

@@ -12,7 +12,7 @@ use Rattle.rights_types.specs.Rights.{sum_sites, to, received}
 use Rattle.rights_types.proofs.Chains.{closed-push, end_from-bound}
 use Rattle.rights_types.proofs.SiteSums.{sum_same, sum_risen, sum_bound}
 use Rattle.rights_types.proofs.Sums.{moves_of-nil, moves_of-push, to-append, to-nil, log-to}
-use Rattle.rights_protocol.specs.Lists.{IsOf}
+use Rattle.rights_protocol.specs.Lists.{IsSiteOf}
 use Rattle.rights_protocol.specs.Retiring.{own_frontier}
 use Rattle.rights_protocol.specs.Writing.{AppliesNext}
 use Rattle.rights_protocol.specs.Kept.{known_closed}
@@ -35,7 +35,7 @@ map_same f g same [] = refl
 map_same f g same (x ∷ xs) = ap (λ y. y ∷ map f xs) (same x) ∙ ap (λ ys. g x ∷ ys) (map_same f g same xs)
 
 -- the frontier's number for a site
-pub number_at : (n o : ℕ) (applied : ℕ → List EntryValue) → IsOf n o → slice_get (own_frontier n applied) (o - 1) ≡ Some (end (applied o))
+pub number_at : (n o : ℕ) (applied : ℕ → List EntryValue) → IsSiteOf n o → slice_get (own_frontier n applied) (o - 1) ≡ Some (end (applied o))
 number_at n o applied of =
     let e : 1 + (o - 1) ≡ o = omega (arith, of.0) in
     get_range (λ k. end (applied k)) 1 n (o - 1) (omega (arith, of.0, of.1)) ∙ ap (λ k. Some (end (applied k))) e
@@ -64,7 +64,7 @@ closed_one es = cond (is_closed es) 1 0
 pub known_kept : (n : ℕ) (old new : ℕ → List EntryValue) → ((o : ℕ) → new o ≡ old o) → known_closed n new ≡ known_closed n old
 known_kept n old new same = sum_same n (λ o. closed_one (new o)) (λ o. closed_one (old o)) (λ o low high. ap closed_one (same o))
 
-pub known_risen : (n o : ℕ) (e : EntryValue) (old new : ℕ → List EntryValue) → IsOf n o → is_closed (old o) ≡ false → AppliesNext old new o e
+pub known_risen : (n o : ℕ) (e : EntryValue) (old new : ℕ → List EntryValue) → IsSiteOf n o → is_closed (old o) ≡ false → AppliesNext old new o e
     → known_closed n new ≡ known_closed n old + cond (closes e) 1 0
 known_risen n o e old new of unclosed step =
     let was : closed_one (old o) ≡ 0 = ap (λ b. cond b 1 0) unclosed in
@@ -77,7 +77,7 @@ one_at_most true = omega arith
 one_at_most false = omega arith
 
 -- the sum of each term's bound, where one term is 0
-sum_but_one : (n s m : ℕ) (f : ℕ → ℕ) → IsOf n s → ((k : ℕ) → f k ≤ m) → f s ≡ 0 → sum_sites n f + m ≤ n * m
+sum_but_one : (n s m : ℕ) (f : ℕ → ℕ) → IsSiteOf n s → ((k : ℕ) → f k ≤ m) → f s ≡ 0 → sum_sites n f + m ≤ n * m
 sum_but_one zero s m f of h none = absurd (omega (arith, of.0, of.1))
 sum_but_one (suc n) s m f of h none =
     let grows : suc n * m ≡ n * m + m = omega arith in
@@ -89,7 +89,7 @@ sum_but_one (suc n) s m f of h none =
     ]
 
 -- all sites but itself, at most
-pub known_few : (n s : ℕ) (applied : ℕ → List EntryValue) → IsOf n s → applied s ≡ [] → known_closed n applied + 1 ≤ n
+pub known_few : (n s : ℕ) (applied : ℕ → List EntryValue) → IsSiteOf n s → applied s ≡ [] → known_closed n applied + 1 ≤ n
 known_few n s applied of itself =
     omega (arith, sum_but_one n s 1 (λ o. closed_one (applied o)) of (λ o. one_at_most (is_closed (applied o))) (ap closed_one itself))
 
@@ -99,14 +99,14 @@ pub received_kept : (n s : ℕ) (old new : ℕ → List EntryValue) → ((o : �
 unfolding received
 received_kept n s old new same = sum_same n (λ o. to s (moves_of (new o))) (λ o. to s (moves_of (old o))) (λ o low high. ap (λ es. to s (moves_of es)) (same o))
 
-pub received_risen : (n s o : ℕ) (e : EntryValue) (old new : ℕ → List EntryValue) → IsOf n o → AppliesNext old new o e → received n s new ≡ received n s old + to s e.moves
+pub received_risen : (n s o : ℕ) (e : EntryValue) (old new : ℕ → List EntryValue) → IsSiteOf n o → AppliesNext old new o e → received n s new ≡ received n s old + to s e.moves
 unfolding received
 received_risen n s o e old new of step =
     sum_risen n o (to s e.moves) (λ k. to s (moves_of (old k))) (λ k. to s (moves_of (new k))) of.0 of.1
     (λ k ne. ap (λ es. to s (moves_of es)) (step.others k ne))
     (ap (λ es. to s (moves_of es)) step.here ∙ ap (to s) (moves_of-push (old o) e) ∙ to-append s (moves_of (old o)) e.moves)
 
-pub received_bound : (n s : ℕ) (applied : ℕ → List EntryValue) → n ≤ 16 → IsOf n s → applied s ≡ [] → ((o : ℕ) → IsChain o (applied o)) → received n s applied ≤ 15000000000000000000
+pub received_bound : (n s : ℕ) (applied : ℕ → List EntryValue) → n ≤ 16 → IsSiteOf n s → applied s ≡ [] → ((o : ℕ) → IsChain o (applied o)) → received n s applied ≤ 15000000000000000000
 unfolding received
 received_bound n s applied few of itself chains =
     let each : (o : ℕ) → to s (moves_of (applied o)) ≤ 1000000000000000000 = λ o. omega (arith, log-to o s (applied o) (chains o), chain_ends o (applied o) (chains o)) in

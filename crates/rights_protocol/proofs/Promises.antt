@@ -7,7 +7,7 @@ use Rattle.rights_types.specs.Chains.{end, is_closed, IsChain, IsPrefix, moves_o
 use Rattle.rights_types.specs.Rights.{sum_sites, issued, spent, out, to, taken_back, back, received, way}
 use Rattle.rights_types.proofs.SiteSums.{sum_same, sum_add, sum_swap}
 use Rattle.rights_types.proofs.Sums.{moves_of-append, to-append, rights_after_is, out_is, taken_back_is, never_short}
-use Rattle.rights_protocol.specs.Lists.{Lists, IsAmong, held_at, on_way, received_at}
+use Rattle.rights_protocol.specs.Lists.{Lists, IsSiteOf, held_at, on_way, received_at}
 use Rattle.rights_protocol.specs.Retiring.{frontier, beyond, given_beyond, owed, own_frontier, one_taking}
 use Rattle.rights_protocol.specs.Kept.{Kept}
 use Rattle.rights_protocol.specs.Headline.{all_held, all_spent, all_issued, all_on_way, unapplied}
@@ -54,27 +54,27 @@ back_is : (w : Lists) (o s : ℕ) → Kept w → back s (moves_of (w.log o)) ≡
 back_is w o s kept = taken_is s (owed o s (w.log o) (frontier (w.applied o s))) (w.log o) ((kept.sites o).taken s)
 
 -- by a K of s that is what s did not apply
-owed_is : (w : Lists) (o s : ℕ) (numbers : List ℕ) → Kept w → IsAmong w o → AppliedClose w o s numbers → owed o s (w.log o) (Some numbers) ≡ to s (moves_of (unapplied w o s))
+owed_is : (w : Lists) (o s : ℕ) (numbers : List ℕ) → Kept w → IsSiteOf w.count o → AppliedClose w o s numbers → owed o s (w.log o) (Some numbers) ≡ to s (moves_of (unapplied w o s))
 owed_is w o s numbers kept among h =
     let is : numbers ≡ own_frontier w.count (w.applied s) = frontier_is w o s numbers kept h in
     let at : slice_get numbers (o - 1) ≡ Some (end (w.applied s o)) = ap (λ (fs : List ℕ). slice_get fs (o - 1)) is ∙ number_at w.count o (w.applied s) among in
     ap (given_beyond s (w.log o)) at ∙ ap (λ es. to s (moves_of es)) (beyond_is w o s kept)
 
-over_cases : (w : Lists) (o s : ℕ) (k : Option (List ℕ)) → Kept w → IsAmong w o → frontier (w.applied o s) ≡ k → owed o s (w.log o) k ≤ to s (moves_of (unapplied w o s))
+over_cases : (w : Lists) (o s : ℕ) (k : Option (List ℕ)) → Kept w → IsSiteOf w.count o → frontier (w.applied o s) ≡ k → owed o s (w.log o) k ≤ to s (moves_of (unapplied w o s))
 over_cases w o s None kept among h = omega arith
 over_cases w o s (Some numbers) kept among h = omega (arith, owed_is w o s numbers kept among h)
 
-never_over : (w : Lists) (o s : ℕ) → Kept w → IsAmong w o → back s (moves_of (w.log o)) ≤ to s (moves_of (unapplied w o s))
+never_over : (w : Lists) (o s : ℕ) → Kept w → IsSiteOf w.count o → back s (moves_of (w.log o)) ≤ to s (moves_of (unapplied w o s))
 never_over w o s kept among = omega (arith, back_is w o s kept, over_cases w o s (frontier (w.applied o s)) kept among refl)
 
-none_on_way : (w : Lists) (o s : ℕ) (numbers : List ℕ) → Kept w → IsAmong w o → AppliedClose w o s numbers → on_way w o s ≡ 0
+none_on_way : (w : Lists) (o s : ℕ) (numbers : List ℕ) → Kept w → IsSiteOf w.count o → AppliedClose w o s numbers → on_way w o s ≡ 0
 unfolding way
 none_on_way w o s numbers kept among h =
     let owes : owed o s (w.log o) (frontier (w.applied o s)) ≡ owed o s (w.log o) (Some numbers) = ap (owed o s (w.log o)) h in
     omega (arith, back_is w o s kept, owes, owed_is w o s numbers kept among h)
 
 -- what o gave to s was applied there, is on the way, or was taken back
-way_is : (w : Lists) (o s : ℕ) → Kept w → IsAmong w o → to s (moves_of (w.log o)) ≡ (to s (moves_of (w.applied s o)) + on_way w o s) + back s (moves_of (w.log o))
+way_is : (w : Lists) (o s : ℕ) → Kept w → IsSiteOf w.count o → to s (moves_of (w.log o)) ≡ (to s (moves_of (w.applied s o)) + on_way w o s) + back s (moves_of (w.log o))
 unfolding way
 way_is w o s kept among =
     let p = begins w s o kept in
@@ -87,7 +87,7 @@ way_is w o s kept among =
 
 -- ---- conservation
 
-given_is : (w : Lists) (o : ℕ) → Kept w → IsAmong w o
+given_is : (w : Lists) (o : ℕ) → Kept w → IsSiteOf w.count o
     → out (moves_of (w.log o)) ≡ (sum_sites w.count (λ s. to s (moves_of (w.applied s o))) + sum_sites w.count (λ s. on_way w o s)) + taken_back (moves_of (w.log o))
 given_is w o kept among =
     let n : ℕ = w.count in

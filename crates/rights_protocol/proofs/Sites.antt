@@ -12,7 +12,7 @@ use Rattle.rights_types.specs.declared.moves.Move.{Move}
 use Rattle.rights_types.specs.declared.moves.Move.TheVariants.{TakeBack}
 use Rattle.rights_types.proofs.Chains.{chain_push, end-push, closed-push}
 use Rattle.rights_types.proofs.Sums.{moves_of-nil, moves_of-push, covers-more, covers-append}
-use Rattle.rights_protocol.specs.Lists.{IsOf}
+use Rattle.rights_protocol.specs.Lists.{IsSiteOf}
 use Rattle.rights_protocol.specs.Retiring.{numbers_in, frontier, owed, own_frontier, entry_after, taking_back, takings, one_taking}
 use Rattle.rights_protocol.specs.Writing.{MayAppend, MayClose, closing_moves, AppliesNext}
 use Rattle.rights_protocol.specs.Kept.{SiteKept, known_closed}
@@ -40,7 +40,7 @@ site_same n s log now old new k e same = record {
 
 -- ---- one more entry of the log
 
-pub ready : (n s : ℕ) (log : List EntryValue) (applied : ℕ → List EntryValue) → 2 ≤ n → n ≤ 16 → IsOf n s → is_closed log ≡ false → SiteKept n s log applied → Ready n s log applied
+pub ready : (n s : ℕ) (log : List EntryValue) (applied : ℕ → List EntryValue) → 2 ≤ n → n ≤ 16 → IsSiteOf n s → is_closed log ≡ false → SiteKept n s log applied → Ready n s log applied
 ready n s log applied some few site unclosed k = record {
   some = some;
   few = few;
@@ -77,7 +77,7 @@ site_writes n s log applied ms k may keeps =
       fits = λ h. omega (arith, ends, keeps.fits (sym closed ∙ h));
     }
 
-pub site_appends : (n s : ℕ) (log : List EntryValue) (applied : ℕ → List EntryValue) (ms : List Move) → 2 ≤ n → n ≤ 16 → IsOf n s → SiteKept n s log applied → MayAppend n s log applied ms
+pub site_appends : (n s : ℕ) (log : List EntryValue) (applied : ℕ → List EntryValue) (ms : List Move) → 2 ≤ n → n ≤ 16 → IsSiteOf n s → SiteKept n s log applied → MayAppend n s log applied ms
     → SiteKept n s (log ++ entry_after s log ms ∷ []) applied
 site_appends n s log applied ms some few site k may =
     let r : Ready n s log applied = ready n s log applied some few site may.unclosed k in
@@ -89,7 +89,7 @@ site_appends n s log applied ms some few site k may =
       fits = λ _. omega (arith, may.fits);
     })
 
-pub site_closes : (n s : ℕ) (log : List EntryValue) (applied : ℕ → List EntryValue) (heir : Option ℕ) → 2 ≤ n → n ≤ 16 → IsOf n s → SiteKept n s log applied → MayClose n s log applied heir
+pub site_closes : (n s : ℕ) (log : List EntryValue) (applied : ℕ → List EntryValue) (heir : Option ℕ) → 2 ≤ n → n ≤ 16 → IsSiteOf n s → SiteKept n s log applied → MayClose n s log applied heir
     → SiteKept n s (log ++ entry_after s log (closing_moves n s log applied heir) ∷ []) applied
 site_closes n s log applied heir some few site k may =
     let ms : List Move = closing_moves n s log applied heir in
@@ -112,7 +112,7 @@ record Taking (n s o : ℕ) (log : List EntryValue) (old new : ℕ → List Entr
   pub now : frontier (new o) ≡ numbers_in e.moves
   pub known : known_closed n new ≡ known_closed n old + one_if (closes e)
 
-taking : (n s o : ℕ) (log : List EntryValue) (old new : ℕ → List EntryValue) (e : EntryValue) → SiteKept n s log old → Ready n s log old → IsOf n o → s ≢ o → IsChain o (old o ++ e ∷ []) → AppliesNext old new o e
+taking : (n s o : ℕ) (log : List EntryValue) (old new : ℕ → List EntryValue) (e : EntryValue) → SiteKept n s log old → Ready n s log old → IsSiteOf n o → s ≢ o → IsChain o (old o ++ e ∷ []) → AppliesNext old new o e
     → Taking n s o log old new e
 taking n s o log old new e k r from differ chain step =
     let was_open : is_closed (old o) ≡ false = front_open o (old o) e [] chain in
@@ -157,7 +157,7 @@ takes_plain n s o log old new e k t step none =
     }
 
 -- where something is owed
-takes_back : (n s o amount : ℕ) (log : List EntryValue) (old new : ℕ → List EntryValue) (e : EntryValue) → SiteKept n s log old → IsOf n o → s ≢ o → Taking n s o log old new e → AppliesNext old new o e
+takes_back : (n s o amount : ℕ) (log : List EntryValue) (old new : ℕ → List EntryValue) (e : EntryValue) → SiteKept n s log old → IsSiteOf n o → s ≢ o → Taking n s o log old new e → AppliesNext old new o e
     → amount ≡ owed s o log (numbers_in e.moves) → 1 ≤ amount → closes e ≡ true → SiteKept n s (log ++ entry_after s log (TakeBack o amount ∷ []) ∷ []) new
 takes_back n s o amount log old new e k from differ t step is positive shut =
     let ms : List Move = TakeBack o amount ∷ [] in
@@ -181,7 +181,7 @@ owed_closes : (s o : ℕ) (es : List EntryValue) (e : EntryValue) (k : Option (L
 owed_closes s o es e None h some = absurd (omega arith)
 owed_closes s o es e (Some numbers) h some = closes_by e numbers h
 
-pub site_takes : (n s o : ℕ) (log : List EntryValue) (old new : ℕ → List EntryValue) (e : EntryValue) → 2 ≤ n → n ≤ 16 → IsOf n s → IsOf n o → s ≢ o → SiteKept n s log old → is_closed log ≡ false
+pub site_takes : (n s o : ℕ) (log : List EntryValue) (old new : ℕ → List EntryValue) (e : EntryValue) → 2 ≤ n → n ≤ 16 → IsSiteOf n s → IsSiteOf n o → s ≢ o → SiteKept n s log old → is_closed log ≡ false
     → IsChain o (old o ++ e ∷ []) → AppliesNext old new o e → SiteKept n s (log ++ taking_back s o log e) new
 site_takes n s o log old new e some few site from differ k unclosed chain step =
     let amount : ℕ = owed s o log (numbers_in e.moves) in

@@ -12,7 +12,7 @@ use Rattle.rights_types.specs.Rights.{to, received, held, covers, rights_after}
 use Rattle.rights_types.specs.declared.moves.Move.{Move}
 use Rattle.rights_types.specs.declared.moves.Move.TheVariants.{Issue, Spend, Grant, Give, Close, CloseAt, TakeBack}
 use Rattle.rights_types.proofs.Sums.{nothing_to, covers_both, rights_after_is, taken_back_is}
-use Rattle.rights_protocol.specs.Lists.{IsOf}
+use Rattle.rights_protocol.specs.Lists.{IsSiteOf}
 use Rattle.rights_protocol.specs.Retiring.{numbers_in, frontier, own_frontier, entry_after, takes_from}
 use Rattle.rights_protocol.specs.Writing.{is_plain, MayAppend, MayInherit, heritage, closing_moves}
 use Rattle.rights_protocol.proofs.Frontiers.{has_closed}
@@ -22,7 +22,7 @@ use Rattle.rights_protocol.proofs.Numbers.{is_frontier, number_at}
 pub record Ready (n s : ℕ) (log : List EntryValue) (applied : ℕ → List EntryValue) : Type 0 where
   pub some : 2 ≤ n
   pub few : n ≤ 16
-  pub site : IsOf n s
+  pub site : IsSiteOf n s
   pub chain : IsChain s log
   pub unclosed : is_closed log ≡ false
   pub chains : (o : ℕ) → IsChain o (applied o)
@@ -46,7 +46,7 @@ held_is n s log applied within covered =
     let ms = moves_of log in
     omega (arith, rights_after_is (received n s applied) ms covered, taken_back_is n ms within)
 
-site_of : (n s : ℕ) → n ≤ 16 → IsOf n s → IsSite s
+site_of : (n s : ℕ) → n ≤ 16 → IsSiteOf n s → IsSite s
 site_of n s few is = (is.0, omega (arith, is.1))
 
 -- ---- an ordinary entry
@@ -112,7 +112,7 @@ pub back_gives_none : (c o n : ℕ) → to c (TakeBack o n ∷ []) ≡ 0
 unfolding to
 back_gives_none c o n = refl
 
-pub back_writable : (n s o amount : ℕ) (log : List EntryValue) (applied : ℕ → List EntryValue) → Ready n s log applied → IsOf n o → s ≢ o → 1 ≤ amount → amount ≤ 1000000000000000000
+pub back_writable : (n s o amount : ℕ) (log : List EntryValue) (applied : ℕ → List EntryValue) → Ready n s log applied → IsSiteOf n o → s ≢ o → 1 ≤ amount → amount ≤ 1000000000000000000
     → end log ≤ 999999999 → Writable n s log applied (TakeBack o amount ∷ [])
 back_writable n s o amount log applied k from differ low high fits =
     let other : eqb o s ≡ false = ne_eqb o s (λ e. differ (sym e)) in
@@ -139,7 +139,7 @@ pub record Closing (n s : ℕ) (log : List EntryValue) (applied : ℕ → List E
   pub numbers : numbers_in ms ≡ Some (own_frontier n applied)
   pub none_taken : (c : ℕ) → list_any (takes_from c) ms ≡ false
 
-own_place : (n s : ℕ) (applied : ℕ → List EntryValue) → IsOf n s → applied s ≡ [] → lacks_own_place s (CloseAt (own_frontier n applied)) ≡ false
+own_place : (n s : ℕ) (applied : ℕ → List EntryValue) → IsSiteOf n s → applied s ≡ [] → lacks_own_place s (CloseAt (own_frontier n applied)) ≡ false
 own_place n s applied site itself = rw (number_at n s applied site, itself) refl
 
 closing_alone : (n s : ℕ) (log : List EntryValue) (applied : ℕ → List EntryValue) → Ready n s log applied → end log ≤ 999999998 → Closing n s log applied (CloseAt (own_frontier n applied) ∷ [])

@@ -5,7 +5,7 @@ use Rattle.rights_types.specs.Entries.{EntryValue}
 use Rattle.rights_types.specs.Chains.{end, is_closed, IsLongest, IsFull}
 use Rattle.rights_types.specs.declared.limits.TheConstants.{MIN_SITES, MAX_SITES}
 use Rattle.rights_types.specs.declared.moves.Move.{Move}
-use Rattle.rights_protocol.specs.Lists.{Lists, IsAmong}
+use Rattle.rights_protocol.specs.Lists.{Lists, IsSiteOf}
 use Rattle.rights_protocol.specs.Retiring.{entry_after, taking_back}
 use Rattle.rights_protocol.specs.Writing.{MayAppend, MayClose, closing_moves, AppliesNext}
 
@@ -47,7 +47,7 @@ pub record OthersStay (old new : Lists) (s : ℕ) : Type 0 where
 -- ---- an ordinary entry
 
 pub record Appends (old new : Lists) (s : ℕ) (ms : List Move) : Type 0 where
-  pub site : IsAmong old s
+  pub site : IsSiteOf old.count s
   pub may : MayAppend old.count s (old.log s) (old.applied s) ms
   pub log : new.log s ≡ old.log s ++ entry_after s (old.log s) ms ∷ []
   pub links : (o : ℕ) → LinkStays old new s o
@@ -72,8 +72,8 @@ pub record TurnedAway (old new : Lists) (s o : ℕ) (e : EntryValue) : Type 0 wh
   pub all : Stays old new
 
 pub record Offers (old new : Lists) (s o : ℕ) (e : EntryValue) : Type 0 where
-  pub site : IsAmong old s
-  pub from : IsAmong old o
+  pub site : IsSiteOf old.count s
+  pub from : IsSiteOf old.count o
   pub differ : s ≢ o
   pub sent : Contains (old.log o) e
   pub comes : Reaches old new s o e ⊎ TurnedAway old new s o e
@@ -83,8 +83,8 @@ pub record Offers (old new : Lists) (s o : ℕ) (e : EntryValue) : Type 0 where
 -- s, not closed, applies the next entry of what it put; where that ends in a K of o, it takes back what it
 -- owes in the same change
 pub record Takes (old new : Lists) (s o : ℕ) : Type 0 where
-  pub site : IsAmong old s
-  pub from : IsAmong old o
+  pub site : IsSiteOf old.count s
+  pub from : IsSiteOf old.count o
   pub differ : s ≢ o
   pub unclosed : is_closed (old.log s) ≡ false
   pub entry : EntryValue
@@ -98,7 +98,7 @@ pub record Takes (old new : Lists) (s o : ℕ) : Type 0 where
 -- ---- a close
 
 pub record Closes (old new : Lists) (s : ℕ) (heir : Option ℕ) : Type 0 where
-  pub site : IsAmong old s
+  pub site : IsSiteOf old.count s
   pub may : MayClose old.count s (old.log s) (old.applied s) heir
   pub log : new.log s ≡ old.log s ++ entry_after s (old.log s) (closing_moves old.count s (old.log s) (old.applied s) heir) ∷ []
   pub links : (o : ℕ) → LinkStays old new s o

@@ -5,7 +5,7 @@ use Rattle.rights_types.specs.Entries.{EntryValue}
 use Rattle.rights_types.specs.Chains.{IsChain, IsPrefix, IsLongest, moves_of}
 use Rattle.rights_types.specs.Rights.{sum_sites, issued, spent, to, back, IsNeverShort}
 use Rattle.rights_types.specs.declared.limits.TheConstants.{MAX_HELD}
-use Rattle.rights_protocol.specs.Lists.{Lists, IsAmong, received_at, held_at, on_way}
+use Rattle.rights_protocol.specs.Lists.{Lists, IsSiteOf, received_at, held_at, on_way}
 
 -- what all sites spent, issued and hold, and what is on the way from any of them to any
 abbrev pub all_spent : Lists → ℕ
@@ -32,7 +32,7 @@ pub record Headline (w : Lists) : Type 0 where
   -- at no cut of its log had a site spent and given more than it had
   pub never_short : (s : ℕ) → IsNeverShort w.count (received_at w s) (moves_of (w.log s))
   -- no more was taken back from s than was on the way to it, so `on_way` is what is left of it
-  pub never_over : (o s : ℕ) → IsAmong w o → back s (moves_of (w.log o)) ≤ to s (moves_of (unapplied w o s))
+  pub never_over : (o s : ℕ) → IsSiteOf w.count o → back s (moves_of (w.log o)) ≤ to s (moves_of (unapplied w o s))
   -- a log is numbered without a gap, and nothing comes after its closing entry
   pub chains : (o : ℕ) → IsChain o (w.log o)
   -- what reached a site was sent, and is listed once

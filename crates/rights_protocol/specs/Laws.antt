@@ -1,11 +1,13 @@
 -- The laws of the protocol.
-use Rattle.std.specs.Prelude.{◌≡◌, ℕ, ◌+◌, ◌≤◌, true, false, List, [], ◌∷◌, Option}
+use Rattle.std.specs.Prelude.{◌≡◌, ◌≢◌, ℕ, ◌+◌, ◌<◌, ◌≤◌, true, false, List, [], ◌∷◌, ◌++◌, Option}
 use Rattle.rights_types.specs.Entries.{EntryValue}
-use Rattle.rights_types.specs.Chains.{end, is_closed, moves_of}
+use Rattle.rights_types.specs.Chains.{end, is_closed, IsChain, moves_of}
 use Rattle.rights_types.specs.Rights.{to, back, received, held}
 use Rattle.rights_types.specs.declared.limits.TheConstants.{MIN_SITES, MAX_SITES, LAST_APPEND, MAX_TOTAL, MAX_RECEIVED, MAX_HELD_RIGHTS}
-use Rattle.rights_protocol.specs.Lists.{Lists, IsOf}
-use Rattle.rights_protocol.specs.Retiring.{frontier, owed}
+use Rattle.rights_types.specs.declared.moves.Move.{Move}
+use Rattle.rights_protocol.specs.Lists.{Lists, IsSiteOf}
+use Rattle.rights_protocol.specs.Retiring.{frontier, owed, entry_after, taking_back}
+use Rattle.rights_protocol.specs.Writing.{MayAppend, MayClose, closing_moves, AppliesNext}
 use Rattle.rights_protocol.specs.Changes.{Change, Step, Runs, Start}
 use Rattle.rights_protocol.specs.Kept.{SiteKept, Kept}
 use Rattle.rights_protocol.specs.Retirement.{AppliedClose, Promised}
@@ -50,11 +52,18 @@ AppliedForGood = (old : Lists) (changes : List Change) (new : Lists) (s c : ℕ)
 
 -- ---- one site
 
--- what is kept of one site gives its log and its book
+-- what is kept of one site is kept by what the site does, and that names no other site's log
+pub record SiteGoesOn (n s : ℕ) (log : List EntryValue) (applied : ℕ → List EntryValue) : Type 0 where
+  pub appends : (ms : List Move) → MayAppend n s log applied ms → SiteKept n s (log ++ entry_after s log ms ∷ []) applied
+  pub takes : (o : ℕ) (e : EntryValue) (now : ℕ → List EntryValue) → IsSiteOf n o → s ≢ o → is_closed log ≡ false → IsChain o (applied o ++ e ∷ [])
+      → AppliesNext applied now o e → SiteKept n s (log ++ taking_back s o log e) now
+  pub closes : (heir : Option ℕ) → MayClose n s log applied heir → SiteKept n s (log ++ entry_after s log (closing_moves n s log applied heir) ∷ []) applied
+
+-- and it bounds the site's log and its book
 pub record SiteBounds (n s : ℕ) (log : List EntryValue) (applied : ℕ → List EntryValue) : Type 0 where
-  -- above the last number of an ordinary entry, a log that is not closed has 15 take backs at most, so that
-  -- one more and the two moves of a closing entry fit
-  pub room : is_closed log ≡ false → end log ≤ LAST_APPEND + 15
+  -- above the last number of an ordinary entry, a log that is not closed has a take back for each other
+  -- site, at most; so one more, and the two moves of a closing entry, always fit
+  pub room : is_closed log ≡ false → end log < LAST_APPEND + MAX_SITES
   -- it took back what it owes, nothing where it applied no K, and never more than it gave
   pub taken : (c : ℕ) → back c (moves_of log) ≡ owed s c log (frontier (applied c))
   pub none_taken : (c : ℕ) → is_closed (applied c) ≡ false → back c (moves_of log) ≡ 0
@@ -65,6 +74,6 @@ pub record SiteBounds (n s : ℕ) (log : List EntryValue) (applied : ℕ → Lis
   pub received : received n s applied ≤ MAX_RECEIVED
   pub holds : held n s log applied ≤ MAX_HELD_RIGHTS
 
-abbrev pub SiteIsBounded : Type 0
-SiteIsBounded = (n s : ℕ) (log : List EntryValue) (applied : ℕ → List EntryValue)
-    → MIN_SITES ≤ n → n ≤ MAX_SITES → IsOf n s → SiteKept n s log applied → SiteBounds n s log applied
+abbrev pub OneSite : Type 0
+OneSite = (n s : ℕ) (log : List EntryValue) (applied : ℕ → List EntryValue)
+    → MIN_SITES ≤ n → n ≤ MAX_SITES → IsSiteOf n s → SiteKept n s log applied → SiteGoesOn n s log applied × SiteBounds n s log applied

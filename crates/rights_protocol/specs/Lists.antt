@@ -14,11 +14,8 @@ pub record Lists : Type 0 where
   pub applied : ℕ → ℕ → List EntryValue
 
 -- s is one of n sites
-abbrev pub IsOf : ℕ → ℕ → Type 0
-IsOf n s = (1 ≤ s) × (s ≤ n)
-
-abbrev pub IsAmong : Lists → ℕ → Type 0
-IsAmong w s = IsOf w.count s
+abbrev pub IsSiteOf : ℕ → ℕ → Type 0
+IsSiteOf n s = (1 ≤ s) × (s ≤ n)
 
 -- the rights that s received and those that it holds
 abbrev pub received_at : Lists → ℕ → ℕ

@@ -2,7 +2,7 @@
 use Rattle.std.specs.Prelude.{◌≡◌, ℕ, true, false, List, [], Some}
 use Rattle.rights_types.specs.Chains.{is_closed, moves_of}
 use Rattle.rights_types.specs.Rights.{back}
-use Rattle.rights_protocol.specs.Lists.{Lists, IsAmong, on_way}
+use Rattle.rights_protocol.specs.Lists.{Lists, IsSiteOf, on_way}
 use Rattle.rights_protocol.specs.Retiring.{frontier, owed, own_frontier, takings, one_taking}
 use Rattle.rights_protocol.specs.Headline.{Headline}
 
@@ -18,7 +18,7 @@ pub record Retirement (w : Lists) : Type 0 where
   -- by one entry, or by none where that is nothing
   pub once : (s c : ℕ) (numbers : List ℕ) → AppliedClose w s c numbers → takings c (w.log s) ≡ one_taking c (owed s c (w.log s) (Some numbers))
   -- and nothing is on the way from there to the closed site any more
-  pub none_on_way : (s c : ℕ) (numbers : List ℕ) → IsAmong w s → AppliedClose w s c numbers → on_way w s c ≡ 0
+  pub none_on_way : (s c : ℕ) (numbers : List ℕ) → IsSiteOf w.count s → AppliedClose w s c numbers → on_way w s c ≡ 0
   -- nothing is taken back before
   pub none_before : (s c : ℕ) → is_closed (w.applied s c) ≡ false → takings c (w.log s) ≡ []
 

@@ -9,7 +9,7 @@ use Rattle.rights_types.specs.Rights.{covers, held}
 use Rattle.rights_types.specs.declared.limits.TheConstants.{MAX_MOVES, MAX_AMOUNT, LAST_APPEND}
 use Rattle.rights_types.specs.declared.moves.Move.{Move}
 use Rattle.rights_types.specs.declared.moves.Move.TheVariants.{Issue, Spend, Grant, Give, CloseAt}
-use Rattle.rights_protocol.specs.Lists.{IsOf}
+use Rattle.rights_protocol.specs.Lists.{IsSiteOf}
 use Rattle.rights_protocol.specs.Retiring.{own_frontier}
 
 -- a move of an ordinary entry: it issues, spends or gives
@@ -36,7 +36,7 @@ pub record MayAppend (n s : ℕ) (log : List EntryValue) (applied : ℕ → List
 
 -- the heir is another site, not closed as s knows, and one move can give it all that s holds
 pub record MayInherit (n s : ℕ) (log : List EntryValue) (applied : ℕ → List EntryValue) (heir : ℕ) : Type 0 where
-  pub site : IsOf n heir
+  pub site : IsSiteOf n heir
   pub differ : s ≢ heir
   pub unclosed : is_closed (applied heir) ≡ false
   pub amount : held n s log applied ≤ MAX_AMOUNT

@@ -1,5 +1,5 @@
 //! The laws, on functions that do nothing.
-ghost use Rattle.rights_protocol.specs.Laws.{EveryMoment, EveryRun, StartKept, StepKeeps, KeptPromises, ClosedForGood, AppliedForGood, SiteIsBounded};
+ghost use Rattle.rights_protocol.specs.Laws.{EveryMoment, EveryRun, StartKept, StepKeeps, KeptPromises, ClosedForGood, AppliedForGood, OneSite};
 
 /// The headline and retirement hold at each moment of every run from the start.
 pub fn every_moment()
@@ -36,7 +36,7 @@ pub fn applied_for_good()
     ensures { AppliedForGood }
 {}
 
-/// What is kept of one site bounds its log and its book.
-pub fn site_is_bounded()
-    ensures { SiteIsBounded }
+/// What is kept of one site is kept by what it does, and bounds its log and its book.
+pub fn one_site()
+    ensures { OneSite }
 {}

@@ -34,6 +34,6 @@ pub use examples::{
     both_close, full_is_turned_away, gap_fills, gift_is_taken_back, grant_is_spent, heir_inherits,
 };
 pub use laws::{
-    applied_for_good, closed_for_good, every_moment, every_run, kept_promises, site_is_bounded,
+    applied_for_good, closed_for_good, every_moment, every_run, kept_promises, one_site,
     start_is_kept, step_keeps,
 };

@@ -1,18 +1,19 @@
--- What is kept of one site bounds what it holds, owes and writes.
+-- What is kept of one site is kept by what it does, and bounds what it holds, owes and writes.
 use Rattle.std.proofs.Common.{◌≡◌, ℕ, zero, suc, ◌+◌, ◌≤◌, false, List, arith, ap, ◌∙◌}
 use Rattle.rights_types.specs.Entries.{EntryValue}
 use Rattle.rights_types.specs.Chains.{end, moves_of}
 use Rattle.rights_types.specs.Rights.{sum_sites, out, to, taken_back, back, received, held}
 use Rattle.rights_types.proofs.Chains.{end_from-bound}
 use Rattle.rights_types.proofs.Sums.{rights_after_is, out_is, taken_back_is, log-issued}
-use Rattle.rights_protocol.specs.Lists.{IsOf}
+use Rattle.rights_protocol.specs.Lists.{IsSiteOf}
 use Rattle.rights_protocol.specs.Retiring.{frontier, owed}
 use Rattle.rights_protocol.specs.Kept.{SiteKept}
-use Rattle.rights_protocol.specs.Laws.{SiteBounds}
+use Rattle.rights_protocol.specs.Laws.{SiteGoesOn, SiteBounds}
 use Rattle.rights_protocol.proofs.Frontiers.{no_frontier, owed_less, owed_bound}
 use Rattle.rights_protocol.proofs.Takings.{taken_is}
 use Rattle.rights_protocol.proofs.Numbers.{known_few, received_bound}
 use Rattle.rights_protocol.proofs.Writes.{held_is}
+use Rattle.rights_protocol.proofs.Sites.{site_appends, site_takes, site_closes}
 
 sum_le : (n : ℕ) (f g : ℕ → ℕ) → ((k : ℕ) → f k ≤ g k) → sum_sites n f ≤ sum_sites n g
 sum_le zero f g h = omega arith
@@ -41,11 +42,11 @@ held_within n s log applied k =
       ends,
     )
 
-pub site_bounds : (n s : ℕ) (log : List EntryValue) (applied : ℕ → List EntryValue) → 2 ≤ n → n ≤ 16 → IsOf n s → SiteKept n s log applied → SiteBounds n s log applied
+site_bounds : (n s : ℕ) (log : List EntryValue) (applied : ℕ → List EntryValue) → 2 ≤ n → n ≤ 16 → IsSiteOf n s → SiteKept n s log applied → SiteBounds n s log applied
 site_bounds n s log applied some few site k =
     let received_few : received n s applied ≤ 15000000000000000000 = received_bound n s applied few site k.itself k.chains in
     record {
-      room = λ unclosed. omega (arith, k.fits unclosed, known_few n s applied site k.itself);
+      room = λ unclosed. omega (arith, k.fits unclosed, known_few n s applied site k.itself, few);
       taken = λ c. back_is n s c log applied k;
       none_taken = λ c unclosed. back_is n s c log applied k ∙ ap (owed s c log) (no_frontier (applied c) unclosed);
       taken_given = λ c. back_within n s c log applied k;
@@ -54,3 +55,13 @@ site_bounds n s log applied some few site k =
       received = received_few;
       holds = omega (arith, held_within n s log applied k, received_few);
     }
+
+pub site_goes_on : (n s : ℕ) (log : List EntryValue) (applied : ℕ → List EntryValue) → 2 ≤ n → n ≤ 16 → IsSiteOf n s → SiteKept n s log applied → SiteGoesOn n s log applied
+site_goes_on n s log applied some few site k = record {
+  appends = λ ms may. site_appends n s log applied ms some few site k may;
+  takes = λ o e now from differ unclosed chain step. site_takes n s o log applied now e some few site from differ k unclosed chain step;
+  closes = λ heir may. site_closes n s log applied heir some few site k may;
+}
+
+pub one_site : (n s : ℕ) (log : List EntryValue) (applied : ℕ → List EntryValue) → 2 ≤ n → n ≤ 16 → IsSiteOf n s → SiteKept n s log applied → SiteGoesOn n s log applied × SiteBounds n s log applied
+one_site n s log applied some few site k = (site_goes_on n s log applied some few site k, site_bounds n s log applied some few site k)
