@@ -4,9 +4,16 @@ pub mod Numbers
 pub mod Writes
 pub mod Sites
 pub mod Links
+pub mod Untouched
 pub mod Steps
 pub mod Promises
 pub mod OneSite
 pub mod Runs
 pub mod TwoSites
 pub mod Worked
+pub mod CounterSums
+pub mod CounterRuns
+pub mod CounterLists
+pub mod CounterMoves
+pub mod CounterSteps
+pub mod CounterEvery

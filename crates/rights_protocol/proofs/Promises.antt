@@ -22,7 +22,7 @@ use Rattle.rights_protocol.proofs.Links.{applied_begins}
 begins : (w : Lists) (s o : ℕ) → Kept w → IsPrefix (w.applied s o) (w.log o)
 begins w s o kept = applied_begins (w.log o) (w.reached s o) (w.put s o) (w.applied s o) (kept.links s o)
 
-held_sum : (w : Lists) (s : ℕ) → Kept w → held_at w s + (out (moves_of (w.log s)) + spent (moves_of (w.log s))) ≡ (issued (moves_of (w.log s)) + received_at w s) + taken_back (moves_of (w.log s))
+pub held_sum : (w : Lists) (s : ℕ) → Kept w → held_at w s + (out (moves_of (w.log s)) + spent (moves_of (w.log s))) ≡ (issued (moves_of (w.log s)) + received_at w s) + taken_back (moves_of (w.log s))
 held_sum w s kept =
     let site = kept.sites s in
     omega (arith, held_is w.count s (w.log s) (w.applied s) site.within site.covered, rights_after_is (received_at w s) (moves_of (w.log s)) site.covered)
@@ -74,7 +74,7 @@ none_on_way w o s numbers kept among h =
     omega (arith, back_is w o s kept, owes, owed_is w o s numbers kept among h)
 
 -- what o gave to s was applied there, is on the way, or was taken back
-way_is : (w : Lists) (o s : ℕ) → Kept w → IsSiteOf w.count o → to s (moves_of (w.log o)) ≡ (to s (moves_of (w.applied s o)) + on_way w o s) + back s (moves_of (w.log o))
+pub way_is : (w : Lists) (o s : ℕ) → Kept w → IsSiteOf w.count o → to s (moves_of (w.log o)) ≡ (to s (moves_of (w.applied s o)) + on_way w o s) + back s (moves_of (w.log o))
 unfolding way
 way_is w o s kept among =
     let p = begins w s o kept in

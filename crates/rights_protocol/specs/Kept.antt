@@ -4,7 +4,7 @@ use Rattle.std.specs.List.{All, AllPairs, Contains}
 use Rattle.rights_types.specs.Entries.{EntryValue}
 use Rattle.rights_types.specs.Chains.{end, is_closed, IsChain, IsPrefix, IsLongest, moves_of}
 use Rattle.rights_types.specs.Moves.{NamesWithin}
-use Rattle.rights_types.specs.Rights.{covers, received, sum_sites}
+use Rattle.rights_types.specs.Rights.{covers, received, back, sum_sites}
 use Rattle.rights_types.specs.declared.limits.TheConstants.{MIN_SITES, MAX_SITES, MAX_HELD, LAST_APPEND}
 use Rattle.rights_protocol.specs.Lists.{Lists}
 use Rattle.rights_protocol.specs.Retiring.{frontier, own_frontier, owed, takings, one_taking}
@@ -42,3 +42,5 @@ pub record Kept (w : Lists) : Type 0 where
   pub few : w.count ≤ MAX_SITES
   pub sites : (s : ℕ) → SiteKept w.count s (w.log s) (w.applied s)
   pub links : (s o : ℕ) → LinkKept (w.log o) (w.reached s o) (w.put s o) (w.applied s o)
+  -- what a site applied takes nothing back from it
+  pub untouched : (s o : ℕ) → back s (moves_of (w.applied s o)) ≡ 0

@@ -1,5 +1,5 @@
 -- The protocol as laws, to be read in this order: the lists of a system of sites, what may happen to them,
--- what is kept, and what follows.
+-- what is kept, what follows, and the Bounded Counter that the lists make up.
 pub mod Lists
 pub mod Retiring
 pub mod Writing
@@ -9,3 +9,6 @@ pub mod Headline
 pub mod Retirement
 pub mod Laws
 pub mod Examples
+pub mod BoundedCounter
+pub mod CounterOfLists
+pub mod CounterLaws

@@ -23,13 +23,21 @@
 //! - **Retirement.** What a closed site had applied is its frontier for good. A site that applied it has
 //!   taken back exactly what it gave beyond it, once, and then nothing is on the way from there to the
 //!   closed site. Nothing is taken back before.
+//! - **Bounded Counter.** The lists make up a Bounded Counter, as its authors define it: a site holds
+//!   its local rights over what it has, and each change is operations of one site, each within its
+//!   guard. (`BoundedCounter` has the authors' definitions, and taking back beside them;
+//!   `CounterOfLists` reads the lists as such a counter; `CounterLaws` says what is proved.)
 //!
 //! The laws stand on empty functions, so that they are proved with the crate.
 #![tactic(auto)]
 
+mod counter;
 mod examples;
 mod laws;
 
+pub use counter::{
+    counter_is_safe, kept_counts, own_row_only, run_operates, small_counter, step_operates,
+};
 pub use examples::{
     both_close, full_is_turned_away, gap_fills, gift_is_taken_back, grant_is_spent, heir_inherits,
 };
