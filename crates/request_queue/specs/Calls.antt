@@ -1,6 +1,8 @@
 -- What each call of a queue answers and leaves.
 use Rattle.std.specs.Prelude.{◌≡◌, ℕ, ◌<◌, ◌≤◌, true, false, nat_lt, nat_le, ◌||◌, List, ◌∷◌, ◌++◌, Option, Some, None, Result, Ok, Err, if◌then◌else◌}
 use Rattle.std.specs.List.{All, slice_get, remove}
+use Rattle.rights_types.specs.declared.limits.TheConstants.{MAX_AMOUNT}
+use Rattle.request_queue.specs.declared.queue.TheConstants.{SLOTS, LAST_TICKET}
 use Rattle.request_queue.specs.Queues.{QueueValue, outcome_of, has_ticket, used, with_request, settled, without}
 use Rattle.request_queue.specs.declared.request.Request.{Request}
 use Rattle.request_queue.specs.declared.request.Outcome.{Outcome}
@@ -13,8 +15,8 @@ use Rattle.request_queue.specs.declared.fault.QueueError.TheVariants.{BadAmount,
 -- why no request of this amount is put
 abbrev pub put_fault : QueueValue → ℕ → Option QueueError
 put_fault q amount =
-    if nat_lt amount 1 || nat_lt 1000000000 amount then Some BadAmount
-    else (if nat_le 32 (used q) || nat_lt 1000000000000000000 q.next then Some QueueFull
+    if nat_lt amount 1 || nat_lt MAX_AMOUNT amount then Some BadAmount
+    else (if nat_le SLOTS (used q) || nat_lt LAST_TICKET q.next then Some QueueFull
     else None)
 
 abbrev pub Puts : QueueValue → ℕ → ℕ → Result ℕ QueueError → QueueValue → Type 0
@@ -42,8 +44,8 @@ Expires old now (Some ticket) new =
     × (new ≡ settled old (before ++ after) r Expired)
 
 -- an outcome is told once, and its slot is free then
-abbrev pub Reads : QueueValue → ℕ → Status → QueueValue → Type 0
-Reads old t Waiting new = (outcome_of old t ≡ None) × (has_ticket t old.waiting ≡ true) × (new ≡ old)
-Reads old t (SaysSpent number) new = (outcome_of old t ≡ Some (Spent number)) × (new ≡ without old t)
-Reads old t SaysExpired new = (outcome_of old t ≡ Some Expired) × (new ≡ without old t)
-Reads old t Unknown new = (outcome_of old t ≡ None) × (has_ticket t old.waiting ≡ false) × (new ≡ old)
+abbrev pub TellsOutcome : QueueValue → ℕ → Status → QueueValue → Type 0
+TellsOutcome old t Waiting new = (outcome_of old t ≡ None) × (has_ticket t old.waiting ≡ true) × (new ≡ old)
+TellsOutcome old t (SaysSpent number) new = (outcome_of old t ≡ Some (Spent number)) × (new ≡ without old t)
+TellsOutcome old t SaysExpired new = (outcome_of old t ≡ Some Expired) × (new ≡ without old t)
+TellsOutcome old t Unknown new = (outcome_of old t ≡ None) × (has_ticket t old.waiting ≡ false) × (new ≡ old)

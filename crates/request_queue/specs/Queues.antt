@@ -3,6 +3,7 @@ use Rattle.std.specs.Prelude.{ℕ, ◌+◌, ◌<◌, ◌≤◌, Bool, not, nat_l
 use Rattle.std.specs.List.{All, filter, list_any, sum_by}
 use Rattle.std.specs.Map.{lookup}
 use Rattle.rights_types.specs.Ranges.{IsAmount}
+use Rattle.request_queue.specs.declared.queue.TheConstants.{SLOTS, LAST_TICKET}
 use Rattle.request_queue.specs.declared.request.Request.{Request}
 use Rattle.request_queue.specs.declared.request.Outcome.{Outcome}
 
@@ -63,9 +64,9 @@ tickets q = map (λ (r : Request). r.ticket) q.waiting ++ map (λ (e : ℕ × Ou
 
 -- a queue that keeps its limits; no ticket stands in it twice
 pub record IsQueue (q : QueueValue) : Type 0 where
-  pub slots : used q ≤ 32
+  pub slots : used q ≤ SLOTS
   pub amounts : All (λ (r : Request). IsAmount r.amount) q.waiting
   pub first : 1 ≤ q.next
-  pub last : q.next ≤ 1000000000000000001
+  pub last : q.next ≤ LAST_TICKET + 1
   pub given : All (λ t. (1 ≤ t) × (t < q.next)) (tickets q)
   pub once : (t : ℕ) → count_by (λ k. k == t) (tickets q) ≤ 1

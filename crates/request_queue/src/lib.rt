@@ -5,8 +5,6 @@
 mod fault;
 mod queue;
 mod request;
-#[cfg(test)]
-mod tests;
 
 pub use fault::QueueError;
 pub use queue::{LAST_TICKET, RequestQueue, SLOTS};

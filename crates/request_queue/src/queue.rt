@@ -1,13 +1,13 @@
 //! The queue of short requests.
-ghost use Rattle.std.specs.Prelude.{◌≡◌, ℕ, ◌+◌, ◌<◌, ◌≤◌, ◌==◌, ◌↔◌, length, IfOk, IfSome, IsSome, position};
+ghost use Rattle.std.specs.Prelude.{◌≡◌, ℕ, ◌+◌, ◌*◌, ◌<◌, ◌≤◌, ◌==◌, ◌↔◌, length, IfOk, IfSome, IsSome, position};
 ghost use Rattle.request_queue.specs.Queues.{no_requests, front_of, total_of, has_ticket, is_late, IsQueue};
 ghost use Rattle.request_queue.specs.declared.request.Request.{Request};
 ghost use Rattle.request_queue.specs.declared.request.Outcome.{Outcome};
-ghost use Rattle.request_queue.specs.Calls.{Puts, Serves, Expires, Reads, Settles};
+ghost use Rattle.request_queue.specs.Calls.{Puts, Serves, Expires, TellsOutcome, Settles};
 
 use crate::fault::QueueError;
 use crate::request::{Outcome, Request, Status};
-use rights_types::{Amount, OutOfMemory};
+use rights_types::{Amount, MAX_AMOUNT, OutOfMemory};
 use std::alloc::{Allocator, Global};
 use std::marker::Model;
 
@@ -30,13 +30,14 @@ impl<A: Allocator> Model for RequestQueue<A> {
     ghost use Rattle.std.specs.Prelude.{◌≤◌};
     ghost use Rattle.std.specs.Vec.{vec_capacity};
     ghost use Rattle.request_queue.specs.Queues.{QueueValue, IsQueue};
+    ghost use Rattle.request_queue.specs.declared.queue.TheConstants.{SLOTS};
 
     ghost Value = { QueueValue };
 
     ghost view = { λ q. record { waiting = q.waiting.items; outcomes = q.outcomes.items; next = q.next } };
 
     ghost invariant = { λ q. IsQueue (record { waiting = q.waiting.items; outcomes = q.outcomes.items; next = q.next })
-        × (32 ≤ vec_capacity q.waiting) × (32 ≤ vec_capacity q.outcomes) };
+        × (SLOTS ≤ vec_capacity q.waiting) × (SLOTS ≤ vec_capacity q.outcomes) };
 }
 
 impl<A: Allocator + Copy> RequestQueue<A> {
@@ -107,7 +108,7 @@ impl<A: Allocator> RequestQueue<A> {
     /// The rights that all waiting requests are to spend.
     pub fn total(&self) -> u64
         ensures value { result ≡ total_of self.now.waiting }
-        ensures range { result ≤ 32000000000 }
+        ensures range { result ≤ SLOTS * MAX_AMOUNT }
         ensures valid { IsQueue self.now }
     {
         total_amount(&self.waiting)
@@ -124,7 +125,7 @@ impl<A: Allocator> RequestQueue<A> {
     /// What became of the request of this ticket. An outcome is read once: reading it frees its
     /// slot, and the ticket is then unknown.
     pub fn status(&mut self, ticket: u64) -> Status
-        ensures { Reads self.old ticket result self.new }
+        ensures { TellsOutcome self.old ticket result self.new }
     {
         if let Some(index) = place_of(&self.outcomes, ticket) {
             let (_, outcome) = self.outcomes.remove(index);
@@ -159,7 +160,7 @@ fn first_late(requests: &[Request], now: u64) -> Option<usize>
 }
 
 fn total_amount(requests: &[Request]) -> u64
-    requires { length requests.now ≤ 32 }
+    requires { length requests.now ≤ SLOTS }
     ensures { result ≡ total_of requests.now }
 {
     requests.iter().map(|request| request.amount.value()).sum()

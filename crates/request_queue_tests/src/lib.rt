@@ -1,5 +1,4 @@
-//! Tests of queues that are refused memory. They have their own crate, since they alone use the allocator
-//! that refuses a request.
+//! Tests of queues: requests from their tickets to their outcomes, and the memory that a queue takes.
 #![tactic(auto)]
 
 #[cfg(test)]

@@ -1,6 +1,6 @@
 use Rattle.std.proofs.Common.{◌≡◌, ℕ, List, Some, None, position, arith, refl, sym, ap, ◌∙◌, subst}
 use Rattle.request_queue.specs.Queues.{QueueValue, outcome_of, has_ticket}
-use Rattle.request_queue.specs.Calls.{Reads}
+use Rattle.request_queue.specs.Calls.{TellsOutcome}
 use Rattle.request_queue.specs.declared.request.Outcome.{Outcome}
 use Rattle.request_queue.proofs.Lists.{place_in, first_that}
 use Rattle.request_queue.proofs.Keeps.{keeps_read}
@@ -30,7 +30,7 @@ returns-in-Some g c =
     let found : position (is_of t) q.outcomes ≡ Some i = place_in (is_of t) c.deref.result.now q.outcomes (Some i) c.deref.ensures.value c.in-Some.ensures in
     let known : outcome_of q t ≡ Some e.1 = outcome_found q t i e found at in
     let left = ap (λ (os : List (ℕ × Outcome)). record { waiting = q.waiting; outcomes = os; next = q.next }) c.remove-outcome.ensures.items ∙ outcome_read q t i e c.self.invariant.0 found at in
-    subst (λ (v : QueueValue). Reads v t c.match-outcome.result new) c.self.view_is
+    subst (λ (v : QueueValue). TellsOutcome v t c.match-outcome.result new) c.self.view_is
     (elim c.match-outcome.branch [
       | in-Spent w ↦ rw w.result-is (known ∙ ap (λ (o : Outcome). Some o) w.in-Spent.is, left)
       | in-Expired w ↦ rw w.result-is (known ∙ ap (λ (o : Outcome). Some o) w.in-Expired.is, left)
@@ -43,7 +43,7 @@ returns g c =
     let missing : position (is_of t) q.outcomes ≡ None = place_in (is_of t) c.deref.result.now q.outcomes None c.deref.ensures.value c.in_default.ensures in
     let none = outcome_none q t missing in
     let waits : has_ticket t q.waiting ≡ c.has_ticket.result = sym (c.has_ticket.ensures ∙ ap (has_ticket t) c.deref-2.ensures.value) in
-    subst (λ (v : QueueValue). Reads v t c.if-has_ticket.result v) c.self.view_is
+    subst (λ (v : QueueValue). TellsOutcome v t c.if-has_ticket.result v) c.self.view_is
     (elim c.if-has_ticket.branch [
       | then-has_ticket w ↦ rw w.result-is (none, waits ∙ w.if-has_ticket.true, refl)
       | else-has_ticket w ↦ rw w.result-is (none, waits ∙ w.if-has_ticket.false, refl)

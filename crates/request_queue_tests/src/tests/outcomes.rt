@@ -1,5 +1,5 @@
 //! Requests from their tickets to their outcomes.
-use crate::{QueueError, RequestQueue, SLOTS, Status};
+use request_queue::{QueueError, RequestQueue, SLOTS, Status};
 use rights_types::{Amount, MAX_AMOUNT};
 use std::alloc::Global;
 use std::process::Abort;
