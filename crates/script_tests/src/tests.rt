@@ -3,6 +3,8 @@
 mod events;
 mod memory;
 mod script;
+mod session;
+mod sizes;
 mod writers;
 
 /// More requests than any run here makes.

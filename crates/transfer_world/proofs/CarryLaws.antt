@@ -4,7 +4,7 @@ use Rattle.std.proofs.lemmas.Bool.{cases_lt}
 use Rattle.std.proofs.lemmas.List.{take_at, drop_at, take_all, take-append-le, nil_from_length}
 use Rattle.transfer_world.specs.Values.{WorldValue}
 use Rattle.transfer_world.specs.Waiting.{Waiting}
-use Rattle.transfer_world.specs.Script.{Answers, LineAnswers}
+use Rattle.transfer_world.specs.Script.{CommandGets, LineGets}
 use Rattle.transfer_world.specs.Session.{LineEnds}
 use Rattle.transfer_world.specs.declared.script.commands.Command.{Command}
 use Rattle.transfer_world.proofs.CommandLaws.{cut_line}
@@ -42,5 +42,5 @@ pub carried_ends : (A : Type 0) (front text carry : List ℕ) (old new : Option 
     → carry ≡ take 16384 (take 16384 front ++ text) → LineEnds A [] carry old waits new waits' → LineEnds A front text old waits new waits'
 carried_ends A front text carry old new waits waits' e h =
     let same = ap (λ (l : List ℕ). l ++ 10 ∷ []) (e ∙ carry_more 16384 front text) in
-    let line : LineAnswers A old (take 16384 (front ++ text) ++ 10 ∷ []) h.0 new = subst (λ (l : List ℕ). LineAnswers A old l h.0 new) same h.1 in
-    (h.0, subst (λ (command : Option (Command A)). Answers {A = A} old command h.0 new) (cut_line {A = A} (front ++ text)) line, h.2)
+    let line : LineGets A old (take 16384 (front ++ text) ++ 10 ∷ []) h.0 new = subst (λ (l : List ℕ). LineGets A old l h.0 new) same h.1 in
+    (h.0, subst (λ (command : Option (Command A)). CommandGets {A = A} old command h.0 new) (cut_line {A = A} (front ++ text)) line, h.2)

@@ -9,7 +9,7 @@ use Rattle.entry_codec.specs.Pieces.{pieces, unfinished, pieces_after}
 use Rattle.entry_codec.proofs.Pieces.{pieces_append, rest_append, HasNoEnd, no_piece, one_piece}
 use Rattle.transfer_world.specs.Values.{WorldValue}
 use Rattle.transfer_world.specs.Waiting.{Waiting}
-use Rattle.transfer_world.specs.Script.{Replies}
+use Rattle.transfer_world.specs.Script.{LinesGet}
 use Rattle.transfer_world.specs.Session.{Talked, Going, LineEnds, Stopped}
 use Rattle.transfer_world.proofs.CarryLaws.{carry_more}
 use Rattle.transfer_world.proofs.ReplyLaws.{replies_append, replies_one}
@@ -49,14 +49,14 @@ module _ (A : Type 0) (input : List ℕ) (held now : Option (List ℕ)) (world :
       let reply : List ℕ = ends.0 ++ 10 ∷ [] in
       let lines : pieces (input ++ (text ++ 10 ∷ [])) ≡ pieces input ++ line ∷ [] = pieces_append [] input (text ++ 10 ∷ []) ∙ ap (λ (l : List (List ℕ)). pieces input ++ l) p.0 in
       let rest : unfinished (input ++ (text ++ 10 ∷ [])) ≡ [] = rest_append [] input (text ++ 10 ∷ []) ∙ p.1 in
-      let before : Replies A None (pieces input) h.talked.replies world = subst (λ (w : Option WorldValue). Replies A None (pieces input) h.talked.replies w) h.same h.talked.answers in
+      let before : LinesGet A None (pieces input) h.talked.replies world = subst (λ (w : Option WorldValue). LinesGet A None (pieces input) h.talked.replies w) h.same h.talked.answers in
       let answers = replies_append A None world new (pieces input) (line ∷ []) h.talked.replies reply before (replies_one A world new line ends.0 ends.1) in
       record {
         talked = record {
           replies = h.talked.replies ++ reply;
           written = h.talked.written;
           world = new;
-          answers = subst (λ (l : List (List ℕ)). Replies A None l (h.talked.replies ++ reply) new) (sym lines) answers;
+          answers = subst (λ (l : List (List ℕ)). LinesGet A None l (h.talked.replies ++ reply) new) (sym lines) answers;
           writes = h.talked.writes;
           rest = ap (λ (l : List ℕ). l ++ reply) h.talked.rest ∙ append_assoc h.talked.written waits.whole reply
               ∙ ap (λ (l : List ℕ). h.talked.written ++ l) (sym (ap (λ (w : Waiting). w.whole) ends.2));
@@ -77,7 +77,7 @@ module _ (A : Type 0) (input : List ℕ) (held now : Option (List ℕ)) (world :
           replies = h.talked.replies;
           written = h.talked.written;
           world = h.talked.world;
-          answers = subst (λ (l : List (List ℕ)). Replies A None l h.talked.replies h.talked.world) (sym lines) h.talked.answers;
+          answers = subst (λ (l : List (List ℕ)). LinesGet A None l h.talked.replies h.talked.world) (sym lines) h.talked.answers;
           writes = h.talked.writes;
           rest = h.talked.rest;
         };
@@ -110,6 +110,17 @@ module _ (A : Type 0) (input : List ℕ) (held now : Option (List ℕ)) (world :
     talked = subst (Talked A (pieces input) held now) (sym e) h.talked;
   }
 
+  -- some of what waited was written, where a write failed
+  pub talked_front : (after : Option (List ℕ)) (n : ℕ) → Appends now after (take n waits.whole) → Talked A (pieces input) held after (drop n waits.whole)
+  talked_front after n writes = record {
+    replies = h.talked.replies;
+    written = h.talked.written ++ take n waits.whole;
+    world = h.talked.world;
+    answers = h.talked.answers;
+    writes = Appends-trans held now after h.talked.written (take n waits.whole) h.talked.writes writes;
+    rest = h.talked.rest ∙ ap (λ (l : List ℕ). h.talked.written ++ l) (sym (take-append-drop n waits.whole)) ∙ sym (append_assoc h.talked.written (take n waits.whole) (drop n waits.whole));
+  }
+
   -- a stop at a failed write
   pub stopped_write : (more : List ℕ) (after : Option (List ℕ)) (n : ℕ) → Appends now after (take n waits.whole) → (rest : List ℕ) × Stopped A (pieces (input ++ more)) held after rest
   stopped_write more after n writes = (
@@ -117,14 +128,7 @@ module _ (A : Type 0) (input : List ℕ) (held now : Option (List ℕ)) (world :
     record {
       lines = pieces input;
       front = (pieces_after (unfinished input) more, pieces_append [] input more);
-      talked = record {
-        replies = h.talked.replies;
-        written = h.talked.written ++ take n waits.whole;
-        world = h.talked.world;
-        answers = h.talked.answers;
-        writes = Appends-trans held now after h.talked.written (take n waits.whole) h.talked.writes writes;
-        rest = h.talked.rest ∙ ap (λ (l : List ℕ). h.talked.written ++ l) (sym (take-append-drop n waits.whole)) ∙ sym (append_assoc h.talked.written (take n waits.whole) (drop n waits.whole));
-      };
+      talked = talked_front after n writes;
     },
   )
 

@@ -10,7 +10,6 @@ pub mod WorldLaws
 pub mod ReadEntry
 pub mod ReaderLaws
 pub mod WordLaws
-pub mod NumberLaws
 pub mod CommandLaws
 pub mod Writes
 pub mod ReportLaws

@@ -5,11 +5,13 @@ use Rattle.std.proofs.KnownBytes.{Appends-trans, Appends-nil, Consumes-nil, Cons
 use Rattle.entry_codec.specs.Pieces.{pieces, unfinished, pieces_after}
 use Rattle.entry_codec.proofs.Pieces.{pieces_append}
 use Rattle.transfer_world.specs.Values.{WorldValue}
-use Rattle.transfer_world.specs.Waiting.{Waiting}
+use Rattle.transfer_world.specs.Fronts.{AppendsFront}
+use Rattle.transfer_world.specs.Waiting.{Waiting, nothing}
 use Rattle.transfer_world.specs.Script.{last_line, lines_of}
-use Rattle.transfer_world.specs.Talk.{still, Parted, Talk, EndsBy, Begins}
+use Rattle.transfer_world.specs.Talk.{still, Parted, Talk, EndsBy, BeginsWith}
 use Rattle.transfer_world.specs.Session.{Talked, Going, IsNew, Stopped, Fed, Ran}
 use Rattle.transfer_world.proofs.CountLaws.{none_parted}
+use Rattle.transfer_world.proofs.FeedLaws.{going_written, talked_front}
 use Rattle.transfer_world.specs.declared.script.fault.ScriptFault.{ScriptFault}
 use Rattle.transfer_world.specs.declared.script.fault.ScriptFault.TheVariants.{ReadFailed, WriteFailed, OutOfMemory, TooManyLines}
 
@@ -27,6 +29,25 @@ going_new A held world waits carry count h = record {
   ready = ap (λ (w : Waiting). w.part) h.1;
   carried = h.2;
 }
+
+-- all that waited was written
+pub going_all : (A : Type 0) (input : List ℕ) (held now after : Option (List ℕ)) (world : Option WorldValue) (waits waits' : Waiting) (carry : List ℕ) → Going A input held now world waits carry
+    → Appends now after waits.whole → waits' ≡ nothing → Going A input held after world waits' carry
+going_all A input held now after world waits waits' carry h writes none =
+    going_written A input held now world waits carry h after waits' waits.whole writes
+    (sym (append-nil waits.whole) ∙ ap (λ (w : Waiting). waits.whole ++ w.whole) (sym none)) (ap (λ (w : Waiting). w.part) none)
+
+-- some of it was, where a write failed
+pub ran_written : (A : Type 0) (portions : List (List ℕ)) (input : List ℕ) (held now after : Option (List ℕ)) (world : Option WorldValue) (waits : Waiting) (carry rest : List ℕ) → Going A input held now world waits carry
+    → AppendsFront now after waits.whole → Ran A portions input held after (Err WriteFailed) rest
+ran_written A portions input held now after world waits carry rest h part = (
+  drop part.0 waits.whole,
+  record {
+    lines = pieces input;
+    front = (last_line (unfinished input), refl);
+    talked = talked_front A input held now world waits carry h after part.0 part.2;
+  },
+)
 
 last_some : (front : List ℕ) → 0 < length front → last_line front ≡ pieces_after front (10 ∷ [])
 last_some [] h = absurd (omega arith)
@@ -116,10 +137,10 @@ module _ (A : Type 0) (portions : List (List ℕ)) (input : List ℕ) (given lef
     writes = Appends-trans held now after t.written (take n waits) t.writes writes;
   }
 
-  part_begins : (n : ℕ) → Begins t.replies (t.written ++ take n waits)
+  part_begins : (n : ℕ) → BeginsWith t.replies (t.written ++ take n waits)
   part_begins n = (drop n waits, t.rest ∙ ap (λ (l : List ℕ). t.written ++ l) (sym (take-append-drop n waits)) ∙ sym (append_assoc t.written (take n waits) (drop n waits)))
 
-  pub cut_short : (n : ℕ) → Appends now after (take n waits) → Begins (lines_of input) lines → (talk : Talk A given left held after) × EndsBy (Err WriteFailed) talk
+  pub cut_short : (n : ℕ) → Appends now after (take n waits) → BeginsWith (lines_of input) lines → (talk : Talk A given left held after) × EndsBy (Err WriteFailed) talk
   unfolding talk_part
   cut_short n writes front = (talk_part n writes, (front, part_begins n))
 

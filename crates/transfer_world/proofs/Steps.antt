@@ -18,7 +18,7 @@ use Rattle.entry_codec.specs.Spelling.{Spells}
 use Rattle.transfer_world.specs.Values.{LinkValue, SiteValue, PacketValue, WorldValue}
 use Rattle.transfer_world.specs.Worlds.{no_site, site, log, link, with_world_link, count, packet, start}
 use Rattle.transfer_world.specs.Faults.{names_above, is_site, delivery_fault, place_fault, fault_of}
-use Rattle.transfer_world.specs.Step.{hold_room, next_entry, Posts, entry_packet, published, Publishes, Offered, Delivers, Arrives, applied_next, Takes, Happens, Step, Runs}
+use Rattle.transfer_world.specs.Step.{hold_room, next_entry, PostHappens, entry_packet, published, PublishHappens, LinkOffered, Delivers, ArriveHappens, applied_next, TakeHappens, Happens, Step, Runs}
 use Rattle.transfer_world.specs.Sound.{LinkSound, IsSent, Sound}
 use Rattle.transfer_world.specs.Headline.{Headline}
 use Rattle.transfer_world.specs.declared.event.Event.{Event}
@@ -45,7 +45,7 @@ SpelledOnce = (m n : MessageValue) (text : List ℕ) → Spells m text → Spell
 -- ---- an arrival
 
 pub offered_sound : (room : ℕ) (o : ℕ) (es : List EntryValue) (old new : LinkValue) (e : EntryValue) (verdicts : List Verdict) → IsChain o es → Contains es e → LinkSound es old
-    → Offered room es old e verdicts new → LinkSound es new × (new.applied ≡ old.applied)
+    → LinkOffered room es old e verdicts new → LinkSound es new × (new.applied ≡ old.applied)
 offered_sound room o es old new e (Repeat ∷ []) c h k a = (subst (LinkSound es) (sym a.1) k, ap (λ (l : LinkValue). l.applied) a.1)
 offered_sound room o es old new e (Full ∷ []) c h k a = (subst (LinkSound es) (sym a.3) k, ap (λ (l : LinkValue). l.applied) a.3)
 offered_sound room o es old new e (Held ∷ []) c h k a =
@@ -103,7 +103,7 @@ delivers_sound once w new s p verdicts sound low high sent (e, spells, l, offere
 
 -- ---- each event
 
-pub posts_sound : {A : Type 0} (w new : WorldValue) (s : ℕ) (ms : List Move) (outcome : Result (Reply A) WorldError) → Sound w → 1 ≤ s → s ≤ count w → Posts w s ms outcome new → Sound new
+pub posts_sound : {A : Type 0} (w new : WorldValue) (s : ℕ) (ms : List Move) (outcome : Result (Reply A) WorldError) → Sound w → 1 ≤ s → s ≤ count w → PostHappens w s ms outcome new → Sound new
 posts_sound w new s ms (Ok (Number n)) sound low high (none, is, number, e) =
     let x : SiteValue = site w s in
     let known : MayPost x ms = may_post x ms none in
@@ -114,7 +114,7 @@ posts_sound w new s ms (Ok (Number n)) sound low high (none, is, number, e) =
 posts_sound w new s ms (Err (Desk fault)) sound low high h = subst Sound (sym h.1) sound
 posts_sound w new s ms _ sound low high h = absurd h
 
-pub publishes_sound : {A : Type 0} (w new : WorldValue) (s p : ℕ) (outcome : Result (Reply A) WorldError) → Sound w → 1 ≤ s → s ≤ count w → 1 ≤ p → p ≤ count w → Publishes w s p outcome new → Sound new
+pub publishes_sound : {A : Type 0} (w new : WorldValue) (s p : ℕ) (outcome : Result (Reply A) WorldError) → Sound w → 1 ≤ s → s ≤ count w → 1 ≤ p → p ≤ count w → PublishHappens w s p outcome new → Sound new
 publishes_sound w new s p (Ok (Packet n)) sound low high plow phigh (e, at, number, is) =
     let was : LinkSound (log w p) (link w s p) = sound.links s p in
     let l : LinkValue = published (link w s p) in
@@ -126,7 +126,7 @@ publishes_sound w new s p (Ok (Packet n)) sound low high plow phigh (e, at, numb
 publishes_sound w new s p (Ok Nothing) sound low high plow phigh h = subst Sound (sym h.1) sound
 publishes_sound w new s p _ sound low high plow phigh h = absurd h
 
-pub takes_sound : {A : Type 0} (w new : WorldValue) (s o : ℕ) (outcome : Result (Reply A) WorldError) → Sound w → 1 ≤ s → s ≤ count w → 1 ≤ o → o ≤ count w → Takes w s o outcome new → Sound new
+pub takes_sound : {A : Type 0} (w new : WorldValue) (s o : ℕ) (outcome : Result (Reply A) WorldError) → Sound w → 1 ≤ s → s ≤ count w → 1 ≤ o → o ≤ count w → TakeHappens w s o outcome new → Sound new
 takes_sound w new s o (Ok (Taken n)) sound low high olow ohigh (e, unclosed, at, number, is) =
     let was : LinkSound (log w o) (link w s o) = sound.links s o in
     let old : LinkValue = link w s o in
@@ -147,7 +147,7 @@ arrive_cases : SpelledOnce → (w new : WorldValue) (s : ℕ) (p : Option Packet
 arrive_cases once w new s None verdicts sound low high sent h = absurd h
 arrive_cases once w new s (Some q) verdicts sound low high sent h = delivers_sound once w new s q verdicts sound low high (sent q refl) h
 
-arrives_sound : {A : Type 0} → SpelledOnce → (w new : WorldValue) (s p : ℕ) (outcome : Result (Reply A) WorldError) → Sound w → 1 ≤ s → s ≤ count w → Arrives w s p outcome new → Sound new
+arrives_sound : {A : Type 0} → SpelledOnce → (w new : WorldValue) (s p : ℕ) (outcome : Result (Reply A) WorldError) → Sound w → 1 ≤ s → s ≤ count w → ArriveHappens w s p outcome new → Sound new
 arrives_sound once w new s p (Ok (Verdicts verdicts)) sound low high h = arrive_cases once w new s (packet w p) verdicts sound low high (λ q e. packet_sent w p q sound e) h
 arrives_sound once w new s p _ sound low high h = absurd h
 

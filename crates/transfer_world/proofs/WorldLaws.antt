@@ -18,7 +18,7 @@ use Rattle.entry_codec.specs.Spelling.{Spells}
 use Rattle.transfer_world.specs.Values.{LinkValue, SiteValue, PacketValue, WorldValue}
 use Rattle.transfer_world.specs.Worlds.{no_site, link_of, with_link, site, log, link, with_site, with_world_link, ended, count, packet, new_site, start}
 use Rattle.transfer_world.specs.Faults.{post_fault, is_site, site_fault, link_fault, delivery_fault, arrive_fault, place_fault, fault_of}
-use Rattle.transfer_world.specs.Step.{hold_room, wants_memory, Posts, entry_packet, published, Publishes, Offered, Delivers, Arrives, Takes, Happens, Attempts, Step}
+use Rattle.transfer_world.specs.Step.{hold_room, wants_memory, PostHappens, entry_packet, published, PublishHappens, LinkOffered, Delivers, ArriveHappens, TakeHappens, Happens, Attempts, Step}
 use Rattle.transfer_world.specs.Sound.{SiteSound, LinkSound, IsSent, Sound, IsWorld}
 use Rattle.transfer_world.specs.Links.{Judged, LinksChain, PostedAt, TookAt, PublishedTo}
 use Rattle.transfer_world.specs.declared.event.Event.{Event}
@@ -105,7 +105,7 @@ count-with w s x = length-set_site w.sites s x
 -- ---- posts
 
 pub posts_ok : (A : Type 0) (w : WorldValue) (i s n : ℕ) (was x : SiteValue) (ms : List Move) → i + 1 ≡ s → s ≤ count w → was ≡ get_or w.sites i was → PostedAt was ms (Ok n) x
-    → Posts {A = A} w s ms (Ok (Number n)) (with_at w i x)
+    → PostHappens {A = A} w s ms (Ok (Number n)) (with_at w i x)
 posts_ok A w i s n was x ms e h is posted =
     let at : PostedAt (site w s) ms (Ok n) x = subst (λ y. PostedAt y ms (Ok n) x) (read_site w i s was e h is) posted in
     (at.0, at.1, at.2, with_at_is w i s x e ∙ ap (λ y. with_site w s y) at.3)
@@ -138,7 +138,7 @@ abbrev pub with_at_packet : WorldValue → ℕ → SiteValue → PacketValue →
 with_at_packet w i x p = record { sites = set w.sites i x; packets = w.packets ++ p ∷ []; ended = w.ended }
 
 pub publishes_ok : (A : Type 0) (w : WorldValue) (i s p n : ℕ) (was x : SiteValue) (q : PacketValue) → Sound w → i + 1 ≡ s → s ≤ count w → was ≡ get_or w.sites i was → PublishedTo was p (Some q) x
-    → n ≡ length w.packets + 1 → Publishes {A = A} w s p (Ok (Packet n)) (with_at_packet w i x q)
+    → n ≡ length w.packets + 1 → PublishHappens {A = A} w s p (Ok (Packet n)) (with_at_packet w i x q)
 publishes_ok A w i s p n was x q sound e h read done number =
     let at : PublishedTo (site w s) p (Some q) x = subst (λ y. PublishedTo y p (Some q) x) (read_site w i s was e h read) done in
     let me : (site w s).me ≡ s = ((sound.sites s).square (omega arith) h).0 in
@@ -155,19 +155,19 @@ publishes_world w i s p was x q is e h low high read done =
     world_with w (with_at_packet w i x q) is sound (length-set w.sites i x)
 
 pub publishes_none : (A : Type 0) (w : WorldValue) (i s p : ℕ) (was x : SiteValue) → i + 1 ≡ s → s ≤ count w → was ≡ get_or w.sites i was → PublishedTo was p None x
-    → Publishes {A = A} w s p (Ok Nothing) (with_at w i x)
+    → PublishHappens {A = A} w s p (Ok Nothing) (with_at w i x)
 publishes_none A w i s p was x e h read done =
     let at : PublishedTo (site w s) p None x = subst (λ y. PublishedTo y p None x) (read_site w i s was e h read) done in
     (at.0, same_site w i s was x e h read done.1)
 
 -- ---- takes
 
-pub takes_ok : (A : Type 0) (w : WorldValue) (i s o n : ℕ) (was x : SiteValue) → i + 1 ≡ s → s ≤ count w → was ≡ get_or w.sites i was → TookAt was o (Some n) x → Takes {A = A} w s o (Ok (Taken n)) (with_at w i x)
+pub takes_ok : (A : Type 0) (w : WorldValue) (i s o n : ℕ) (was x : SiteValue) → i + 1 ≡ s → s ≤ count w → was ≡ get_or w.sites i was → TookAt was o (Some n) x → TakeHappens {A = A} w s o (Ok (Taken n)) (with_at w i x)
 takes_ok A w i s o n was x e h read took =
     let at : TookAt (site w s) o (Some n) x = subst (λ y. TookAt y o (Some n) x) (read_site w i s was e h read) took in
     (at.0, at.1, at.2, at.3, with_at_is w i s x e ∙ ap (λ y. with_site w s y) at.4)
 
-pub takes_none : (A : Type 0) (w : WorldValue) (i s o : ℕ) (was x : SiteValue) → i + 1 ≡ s → s ≤ count w → was ≡ get_or w.sites i was → TookAt was o None x → Takes {A = A} w s o (Ok Nothing) (with_at w i x)
+pub takes_none : (A : Type 0) (w : WorldValue) (i s o : ℕ) (was x : SiteValue) → i + 1 ≡ s → s ≤ count w → was ≡ get_or w.sites i was → TookAt was o None x → TakeHappens {A = A} w s o (Ok Nothing) (with_at w i x)
 takes_none A w i s o was x e h read took =
     let at : TookAt (site w s) o None x = subst (λ y. TookAt y o None x) (read_site w i s was e h read) took in
     (at.0, same_site w i s was x e h read took.1)
@@ -208,7 +208,7 @@ unclosed_front o put (y ∷ ys) e c h = (chain_right o false 0 put (y ∷ ys) c)
 
 -- the table of a buffer with no room says what the definition of the verdicts says, of an entry of the log
 pub judged_offered : (o : ℕ) (es : List EntryValue) (old new : LinkValue) (e : EntryValue) (v : Verdict) → IsChain o es → Contains es e → LinkSound es old → old.reached ≡ old.put → Judged old e v new
-    → Offered hold_room es old e (v ∷ []) new
+    → LinkOffered hold_room es old e (v ∷ []) new
 judged_offered o es old new e Repeat c has k same h =
     let whole : IsChain o (old.put ++ k.longest.rest) = subst (IsChain o) (sym k.longest.whole) c in
     let here : Contains (old.put ++ k.longest.rest) e = subst (λ xs. Contains xs e) (sym k.longest.whole) has in
@@ -247,7 +247,7 @@ judged_offered o es old new e (Ready n) c has k same h =
 -- what a site's arrival says of the world
 pub record Arrived (w : WorldValue) (s o : ℕ) (e : EntryValue) (v : Verdict) (new : WorldValue) : Type 0 where
   pub link_is : LinkValue
-  pub offered : Offered hold_room (log w o) (link w s o) e (v ∷ []) link_is
+  pub offered : LinkOffered hold_room (log w o) (link w s o) e (v ∷ []) link_is
   pub new_is : new ≡ with_world_link w s o link_is
 
 pub arrived : (w : WorldValue) (i s o : ℕ) (was x : SiteValue) (e : EntryValue) (v : Verdict) → IsWorld w → i + 1 ≡ s → s ≤ count w → was ≡ get_or w.sites i was → Contains (log w o) e
@@ -272,7 +272,7 @@ arrived_world w new s o e v is low high has a =
     world_with w new is (subst Sound (sym a.new_is) sound) same
 
 pub arrives_ok : (A : Type 0) (w new : WorldValue) (s p : ℕ) (q : PacketValue) (e : EntryValue) (v : Verdict) → packet w p ≡ Some q → Spells (AnEntry e) q.text → Arrived w s q.from e v new
-    → Arrives {A = A} w s p (Ok (Verdicts (v ∷ []))) new
+    → ArriveHappens {A = A} w s p (Ok (Verdicts (v ∷ []))) new
 arrives_ok A w new s p q e v at spells a = subst (λ k. Delivers w s k (v ∷ []) new) (sym at) (e, spells, a.link_is, a.offered, a.new_is)
 
 -- the packet that a number names was sent

@@ -1,10 +1,11 @@
 -- The command of a line: its words, parted at each single space, and what they spell.
-use Rattle.std.specs.Prelude.{ℕ, ◌-◌, nat_le, List, [], ◌∷◌, length, take, Option, Some, None, ◌==◌, if◌then◌else◌, codes}
+use Rattle.std.specs.Prelude.{ℕ, ◌-◌, ◌^◌, nat_le, List, [], ◌∷◌, length, take, Option, Some, None, ◌==◌, if◌then◌else◌, codes}
 use Rattle.std.specs.Option.{option_map}
 use Rattle.std.specs.List.{slice_split}
 use Rattle.std.specs.Borrow.{Bor}
 use Rattle.std.specs.Str.{bytes_eq}
 use Rattle.rights_types.specs.declared.moves.Move.{Move}
+use Rattle.rights_types.specs.declared.limits.TheConstants.{MIN_SITES, MAX_SITES, MAX_LINE}
 use Rattle.entry_codec.specs.Moves.{number_of, move_of}
 use Rattle.transfer_world.specs.declared.event.Event.TheVariants.{Post, Publish, Arrive, Take}
 use Rattle.transfer_world.specs.declared.script.commands.Command.{Command}
@@ -39,12 +40,12 @@ only_number low high (word ∷ (more ∷ words)) = None
 abbrev pub site_and : ℕ → ℕ → List (List ℕ) → Option (ℕ × ℕ)
 site_and low high [] = None
 site_and low high (s ∷ []) = None
-site_and low high (s ∷ (n ∷ [])) = both (λ s n. (s, n)) (number_of 1 16 s) (number_of low high n)
+site_and low high (s ∷ (n ∷ [])) = both (λ s n. (s, n)) (number_of 1 MAX_SITES s) (number_of low high n)
 site_and low high (s ∷ (n ∷ (more ∷ words))) = None
 
 abbrev pub post_of : {A : Type 0} → List (List ℕ) → Option (Command A)
 post_of [] = None
-post_of (s ∷ words) = both (λ s moves. Act (Post s moves)) (number_of 1 16 s) (moves_in words)
+post_of (s ∷ words) = both (λ s moves. Act (Post s moves)) (number_of 1 MAX_SITES s) (moves_in words)
 
 abbrev pub report_of : {A : Type 0} → List (List ℕ) → Option (Command A)
 report_of [] = Some Report
@@ -53,11 +54,11 @@ report_of (word ∷ words) = None
 -- the command of a first word other than `post`, and its values
 abbrev pub short_command : {A : Type 0} → List ℕ → List (List ℕ) → Option (Command A)
 short_command word values =
-    if bytes_eq word (codes "publish") then option_map (λ p. Act (Publish p.0 p.1)) (site_and 1 16 values)
-    else (if bytes_eq word (codes "arrive") then option_map (λ p. Act (Arrive p.0 p.1)) (site_and 0 18446744073709551615 values)
-    else (if bytes_eq word (codes "take") then option_map (λ p. Act (Take p.0 p.1)) (site_and 1 16 values)
+    if bytes_eq word (codes "publish") then option_map (λ p. Act (Publish p.0 p.1)) (site_and 1 MAX_SITES values)
+    else (if bytes_eq word (codes "arrive") then option_map (λ p. Act (Arrive p.0 p.1)) (site_and 0 (2 ^ 64 - 1) values)
+    else (if bytes_eq word (codes "take") then option_map (λ p. Act (Take p.0 p.1)) (site_and 1 MAX_SITES values)
     else (if bytes_eq word (codes "report") then report_of values
-    else (if bytes_eq word (codes "sites") then option_map (λ n. Sites n) (only_number 2 16 values)
+    else (if bytes_eq word (codes "sites") then option_map (λ n. Sites n) (only_number MIN_SITES MAX_SITES values)
     else None))))
 
 -- the command of these words
@@ -69,6 +70,6 @@ command_by (word ∷ values) = if bytes_eq word (codes "post") then post_of valu
 unfoldable pub command_in : {A : Type 0} → List ℕ → Option (Command A)
 command_in text = command_by (words_of text)
 
--- the command of a line with its line feed, or none: no line is longer than 16384 bytes
+-- the command of a line with its line feed, or none: no line is longer than `MAX_LINE`
 unfoldable pub command_of : {A : Type 0} → List ℕ → Option (Command A)
-command_of line = if nat_le (length line) 16384 then command_in (take (length line - 1) line) else None
+command_of line = if nat_le (length line) MAX_LINE then command_in (take (length line - 1) line) else None

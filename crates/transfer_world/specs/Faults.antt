@@ -4,6 +4,7 @@ use Rattle.std.specs.List.{list_any}
 use Rattle.rights_types.specs.Moves.{names, peer_of}
 use Rattle.rights_types.specs.Chains.{end, is_closed}
 use Rattle.rights_types.specs.Rights.{held, covers}
+use Rattle.rights_types.specs.declared.limits.TheConstants.{LAST_APPEND, MAX_MOVES}
 use Rattle.rights_types.specs.declared.moves.Move.{Move}
 use Rattle.rights_types.specs.declared.moves.Move.TheVariants.{Issue, Spend, Give}
 use Rattle.transfer_world.specs.Values.{SiteValue, PacketValue, WorldValue}
@@ -46,12 +47,12 @@ rights_of x = held (length x.links) x.me x.log (λ o. (link_of x o).applied)
 unfoldable pub post_fault : SiteValue → List Move → Option DeskError
 post_fault x ms =
     if is_closed x.log then Some Closed
-    else (if nat_lt (length ms) 1 || nat_lt 16 (length ms) then Some BadCount
+    else (if nat_lt (length ms) 1 || nat_lt MAX_MOVES (length ms) then Some BadCount
     else (if list_any (λ m. not (can_post m)) ms then Some BadMove
     else (if list_any (names_above (length x.links)) ms then Some NoSuchPeer
     else (if list_any (names x.me) ms then Some SameSite
     else (if list_any (names_closed x) ms then Some PeerClosed
-    else (if nat_lt 999999900 (end x.log + length ms) then Some LogFull
+    else (if nat_lt LAST_APPEND (end x.log + length ms) then Some LogFull
     else (if not (covers (rights_of x) ms) then Some Short
     else None)))))))
 

@@ -5,6 +5,7 @@ pub mod Step
 pub mod Sound
 pub mod Links
 pub mod Headline
+pub mod Fronts
 pub mod Waiting
 pub mod Commands
 pub mod Replies

@@ -12,26 +12,26 @@ use Rattle.transfer_world.specs.Commands.{command_of}
 use Rattle.transfer_world.specs.Replies.{outcome_text, report_text}
 
 -- the reply to a command, and the world after it; there is none before `sites`
-abbrev pub Answers : {A : Type 0} → Option WorldValue → Option (Command A) → List ℕ → Option WorldValue → Type 0
-Answers old None text new = (text ≡ codes "error BadCommand") × (new ≡ old)
-Answers None (Some (Sites n)) text new = (text ≡ codes "ok") × (new ≡ Some (start n))
-Answers None (Some (Act event)) text new = (text ≡ codes "error NoWorld") × (new ≡ None)
-Answers None (Some Report) text new = (text ≡ codes "error NoWorld") × (new ≡ None)
-Answers (Some world) (Some (Sites n)) text new = (text ≡ codes "error BadCommand") × (new ≡ Some world)
-Answers {A} (Some world) (Some (Act event)) text new =
+abbrev pub CommandGets : {A : Type 0} → Option WorldValue → Option (Command A) → List ℕ → Option WorldValue → Type 0
+CommandGets old None text new = (text ≡ codes "error BadCommand") × (new ≡ old)
+CommandGets None (Some (Sites n)) text new = (text ≡ codes "ok") × (new ≡ Some (start n))
+CommandGets None (Some (Act event)) text new = (text ≡ codes "error NoWorld") × (new ≡ None)
+CommandGets None (Some Report) text new = (text ≡ codes "error NoWorld") × (new ≡ None)
+CommandGets (Some world) (Some (Sites n)) text new = (text ≡ codes "error BadCommand") × (new ≡ Some world)
+CommandGets {A} (Some world) (Some (Act event)) text new =
     (outcome : Result (Reply A) WorldError) × (next : WorldValue) × Step world event outcome next × (text ≡ outcome_text next outcome) × (new ≡ Some next)
-Answers (Some world) (Some Report) text new = (text ≡ report_text world) × (new ≡ Some world)
+CommandGets (Some world) (Some Report) text new = (text ≡ report_text world) × (new ≡ Some world)
 
 -- the reply to a line that is given with its line feed
-abbrev pub LineAnswers : Type 0 → Option WorldValue → List ℕ → List ℕ → Option WorldValue → Type 0
-LineAnswers A old line text new = Answers {A = A} old (command_of line) text new
+abbrev pub LineGets : Type 0 → Option WorldValue → List ℕ → List ℕ → Option WorldValue → Type 0
+LineGets A old line text new = CommandGets {A = A} old (command_of line) text new
 
 -- the replies to these lines, each with its line feed
-abbrev pub Replies : Type 0 → Option WorldValue → List (List ℕ) → List ℕ → Option WorldValue → Type 0
-Replies A old [] text new = (text ≡ []) × (new ≡ old)
-Replies A old (line ∷ lines) text new =
+abbrev pub LinesGet : Type 0 → Option WorldValue → List (List ℕ) → List ℕ → Option WorldValue → Type 0
+LinesGet A old [] text new = (text ≡ []) × (new ≡ old)
+LinesGet A old (line ∷ lines) text new =
     (reply : List ℕ) × (mid : Option WorldValue) × (more : List ℕ)
-    × LineAnswers A old line reply mid × Replies A mid lines more new × (text ≡ (reply ++ 10 ∷ []) ++ more)
+    × LineGets A old line reply mid × LinesGet A mid lines more new × (text ≡ (reply ++ 10 ∷ []) ++ more)
 
 -- an unfinished last line gets its line feed
 abbrev pub last_line : List ℕ → List (List ℕ)

@@ -2,10 +2,12 @@
 use Rattle.std.specs.Prelude.{◌≡◌, ℕ, ◌<◌, ◌≤◌, ◌+◌, List, [], ◌∷◌, ◌++◌, Option, None, Result, Ok, Err, take, length}
 use Rattle.std.specs.Io.KnownBytes.{Appends}
 use Rattle.entry_codec.specs.Pieces.{pieces, unfinished}
+use Rattle.rights_types.specs.declared.limits.TheConstants.{MAX_LINE}
+use Rattle.transfer_world.specs.declared.script.session.TheConstants.{LINE_LIMIT}
 use Rattle.transfer_world.specs.Values.{WorldValue}
 use Rattle.transfer_world.specs.Waiting.{Waiting, nothing}
-use Rattle.transfer_world.specs.Script.{LineAnswers, Replies, lines_of}
-use Rattle.transfer_world.specs.Talk.{still, Begins}
+use Rattle.transfer_world.specs.Script.{LineGets, LinesGet, lines_of}
+use Rattle.transfer_world.specs.Talk.{still, BeginsWith}
 use Rattle.transfer_world.specs.declared.script.fault.ScriptFault.{ScriptFault}
 use Rattle.transfer_world.specs.declared.script.fault.ScriptFault.TheVariants.{ReadFailed, WriteFailed, OutOfMemory, TooManyLines}
 
@@ -14,7 +16,7 @@ pub record Talked (A : Type 0) (lines : List (List ℕ)) (held now : Option (Lis
   pub replies : List ℕ
   pub written : List ℕ
   pub world : Option WorldValue
-  pub answers : Replies A None lines replies world
+  pub answers : LinesGet A None lines replies world
   pub writes : Appends held now written
   pub rest : replies ≡ written ++ waits
 
@@ -24,7 +26,7 @@ pub record Going (A : Type 0) (input : List ℕ) (held now : Option (List ℕ)) 
   pub talked : Talked A (pieces input) held now waits.whole
   pub same : talked.world ≡ world
   pub ready : waits.part ≡ []
-  pub carried : carry ≡ take 16384 (unfinished input)
+  pub carried : carry ≡ take MAX_LINE (unfinished input)
 
 -- a script that has done nothing yet
 abbrev pub IsNew : Option WorldValue → Waiting → List ℕ → ℕ → Type 0
@@ -37,13 +39,13 @@ counts_for bytes = length (pieces bytes) + still (bytes ∷ [])
 -- what a line came to, of which front was carried and text came last
 abbrev pub LineEnds : Type 0 → List ℕ → List ℕ → Option WorldValue → Waiting → Option WorldValue → Waiting → Type 0
 LineEnds A front text old waits new waits' =
-    (reply : List ℕ) × LineAnswers A old ((front ++ text) ++ 10 ∷ []) reply new
+    (reply : List ℕ) × LineGets A old ((front ++ text) ++ 10 ∷ []) reply new
     × (waits' ≡ record { whole = waits.whole ++ (reply ++ 10 ∷ []); part = [] })
 
 -- the first of these lines were answered
 pub record Stopped (A : Type 0) (all : List (List ℕ)) (held now : Option (List ℕ)) (waits : List ℕ) : Type 0 where
   pub lines : List (List ℕ)
-  pub front : Begins all lines
+  pub front : BeginsWith all lines
   pub talked : Talked A lines held now waits
 
 -- what taking the last bytes of this input came to; after a failed write it is not told what waits
@@ -56,8 +58,8 @@ Fed A input held now (Err TooManyLines) world waits carry = Stopped A (pieces in
 
 -- what these reads, which gave this input, came to, but for the last write
 abbrev pub Ran : Type 0 → List (List ℕ) → List ℕ → Option (List ℕ) → Option (List ℕ) → Result (Unit {0}) ScriptFault → List ℕ → Type 0
-Ran A portions input held now (Ok _) waits = Talked A (lines_of input) held now waits × (length (lines_of input) + still portions < 1000000000)
-Ran A portions input held now (Err ReadFailed) waits = Talked A (pieces input) held now waits × (length (pieces input) + still portions < 1000000000)
+Ran A portions input held now (Ok _) waits = Talked A (lines_of input) held now waits × (length (lines_of input) + still portions < LINE_LIMIT)
+Ran A portions input held now (Err ReadFailed) waits = Talked A (pieces input) held now waits × (length (pieces input) + still portions < LINE_LIMIT)
 Ran A portions input held now (Err WriteFailed) waits = (rest : List ℕ) × Stopped A (lines_of input) held now rest
 Ran A portions input held now (Err OutOfMemory) waits = Stopped A (lines_of input) held now waits
-Ran A portions input held now (Err TooManyLines) waits = Stopped A (lines_of input) held now waits × (1000000000 ≤ length (lines_of input) + still portions)
+Ran A portions input held now (Err TooManyLines) waits = Stopped A (lines_of input) held now waits × (LINE_LIMIT ≤ length (lines_of input) + still portions)

@@ -5,6 +5,7 @@ use Rattle.rights_types.specs.Entries.{EntryValue}
 use Rattle.rights_types.specs.Chains.{IsChain, IsPrefix, IsLongest, moves_of}
 use Rattle.rights_types.specs.Moves.{NamesWithin}
 use Rattle.rights_types.specs.Rights.{taken_back, received, covers}
+use Rattle.rights_types.specs.declared.limits.TheConstants.{MIN_SITES, MAX_SITES}
 use Rattle.rights_types.specs.Messages.MessageValue.{AnEntry}
 use Rattle.entry_codec.specs.Spelling.{Spells}
 use Rattle.transfer_world.specs.Values.{LinkValue, SiteValue, PacketValue, WorldValue}
@@ -40,5 +41,5 @@ pub record Sound (w : WorldValue) : Type 0 where
 -- of every world of the program: it has 2 to 16 sites
 pub record IsWorld (w : WorldValue) : Type 0 where
   pub sound : Sound w
-  pub some : 2 ≤ count w
-  pub few : count w ≤ 16
+  pub some : MIN_SITES ≤ count w
+  pub few : count w ≤ MAX_SITES

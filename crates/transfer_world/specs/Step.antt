@@ -29,12 +29,12 @@ next_entry x ms = record { origin = x.me; prev = end x.log; moves = ms }
 abbrev pub with_entry : SiteValue → List Move → SiteValue
 with_entry x ms = record { me = x.me; log = x.log ++ next_entry x ms ∷ []; links = x.links }
 
-abbrev pub Posts : {A : Type 0} → WorldValue → ℕ → List Move → Result (Reply A) WorldError → WorldValue → Type 0
-Posts old s ms (Ok (Number n)) new =
+abbrev pub PostHappens : {A : Type 0} → WorldValue → ℕ → List Move → Result (Reply A) WorldError → WorldValue → Type 0
+PostHappens old s ms (Ok (Number n)) new =
     (post_fault (site old s) ms ≡ None) × IsEntry (next_entry (site old s) ms) × (n ≡ end (log old s) + length ms)
     × (new ≡ with_site old s (with_entry (site old s) ms))
-Posts old s ms (Err (Desk fault)) new = (post_fault (site old s) ms ≡ Some fault) × (new ≡ old)
-Posts old s ms _ new = ⊥
+PostHappens old s ms (Err (Desk fault)) new = (post_fault (site old s) ms ≡ Some fault) × (new ≡ old)
+PostHappens old s ms _ new = ⊥
 
 -- the packet that carries an entry
 abbrev pub entry_packet : ℕ → ℕ → EntryValue → PacketValue
@@ -47,60 +47,60 @@ published l = record { cursor = l.cursor + 1; reached = l.reached; put = l.put; 
 abbrev pub with_packet : WorldValue → PacketValue → WorldValue
 with_packet w p = record { sites = w.sites; packets = w.packets ++ p ∷ []; ended = w.ended }
 
-abbrev pub Publishes : {A : Type 0} → WorldValue → ℕ → ℕ → Result (Reply A) WorldError → WorldValue → Type 0
-Publishes old s p (Ok (Packet n)) new =
+abbrev pub PublishHappens : {A : Type 0} → WorldValue → ℕ → ℕ → Result (Reply A) WorldError → WorldValue → Type 0
+PublishHappens old s p (Ok (Packet n)) new =
     (e : EntryValue) × (slice_get (log old s) (link old s p).cursor ≡ Some e) × (n ≡ length old.packets + 1)
     × (new ≡ with_packet (with_world_link old s p (published (link old s p))) (entry_packet s p e))
-Publishes old s p (Ok Nothing) new = (slice_get (log old s) (link old s p).cursor ≡ None) × (new ≡ old)
-Publishes old s p _ new = ⊥
+PublishHappens old s p (Ok Nothing) new = (slice_get (log old s) (link old s p).cursor ≡ None) × (new ≡ old)
+PublishHappens old s p _ new = ⊥
 
 -- entries beyond put take up all the room
-abbrev pub IsFull : ℕ → LinkValue → Type 0
-IsFull room l = length l.put + room ≤ length l.reached
+abbrev pub LinkIsFull : ℕ → LinkValue → Type 0
+LinkIsFull room l = length l.put + room ≤ length l.reached
 
 -- the entry e of the log es is offered to the buffer of a link: the verdict on it, then those on what it freed
-abbrev pub Offered : ℕ → List EntryValue → LinkValue → EntryValue → List Verdict → LinkValue → Type 0
-Offered room es old e (Repeat ∷ []) new = Contains old.reached e × (new ≡ old)
-Offered room es old e (Full ∷ []) new = (¬ Contains old.reached e) × (end old.put ≢ e.prev) × IsFull room old × (new ≡ old)
-Offered room es old e (Held ∷ []) new =
-    (¬ Contains old.reached e) × (end old.put ≢ e.prev) × (¬ IsFull room old)
+abbrev pub LinkOffered : ℕ → List EntryValue → LinkValue → EntryValue → List Verdict → LinkValue → Type 0
+LinkOffered room es old e (Repeat ∷ []) new = Contains old.reached e × (new ≡ old)
+LinkOffered room es old e (Full ∷ []) new = (¬ Contains old.reached e) × (end old.put ≢ e.prev) × LinkIsFull room old × (new ≡ old)
+LinkOffered room es old e (Held ∷ []) new =
+    (¬ Contains old.reached e) × (end old.put ≢ e.prev) × (¬ LinkIsFull room old)
     × (new ≡ record { cursor = old.cursor; reached = old.reached ++ e ∷ []; put = old.put; applied = old.applied })
-Offered room es old e (Ready n ∷ others) new =
+LinkOffered room es old e (Ready n ∷ others) new =
     (¬ Contains old.reached e) × (end old.put ≡ e.prev) × (n ≡ own e)
     × (freed : List EntryValue) × (others ≡ map (λ f. Ready (own f)) freed)
     × (new ≡ record { cursor = old.cursor; reached = old.reached ++ e ∷ []; put = old.put ++ e ∷ freed; applied = old.applied })
     × IsLongest new.reached es new.put
-Offered room es old e _ new = ⊥
+LinkOffered room es old e _ new = ⊥
 
 -- a packet with an entry of its sender's log arrives at s
 abbrev pub Delivers : WorldValue → ℕ → Option PacketValue → List Verdict → WorldValue → Type 0
 Delivers old s None verdicts new = ⊥
 Delivers old s (Some p) verdicts new =
     (e : EntryValue) × Spells (AnEntry e) p.text
-    × (l : LinkValue) × Offered hold_room (log old p.from) (link old s p.from) e verdicts l × (new ≡ with_world_link old s p.from l)
+    × (l : LinkValue) × LinkOffered hold_room (log old p.from) (link old s p.from) e verdicts l × (new ≡ with_world_link old s p.from l)
 
-abbrev pub Arrives : {A : Type 0} → WorldValue → ℕ → ℕ → Result (Reply A) WorldError → WorldValue → Type 0
-Arrives old s p (Ok (Verdicts verdicts)) new = Delivers old s (packet old p) verdicts new
-Arrives old s p _ new = ⊥
+abbrev pub ArriveHappens : {A : Type 0} → WorldValue → ℕ → ℕ → Result (Reply A) WorldError → WorldValue → Type 0
+ArriveHappens old s p (Ok (Verdicts verdicts)) new = Delivers old s (packet old p) verdicts new
+ArriveHappens old s p _ new = ⊥
 
 -- one more entry was applied
 abbrev pub applied_next : LinkValue → EntryValue → LinkValue
 applied_next l e = record { cursor = l.cursor; reached = l.reached; put = l.put; applied = l.applied ++ e ∷ [] }
 
-abbrev pub Takes : {A : Type 0} → WorldValue → ℕ → ℕ → Result (Reply A) WorldError → WorldValue → Type 0
-Takes old s o (Ok (Taken n)) new =
+abbrev pub TakeHappens : {A : Type 0} → WorldValue → ℕ → ℕ → Result (Reply A) WorldError → WorldValue → Type 0
+TakeHappens old s o (Ok (Taken n)) new =
     (e : EntryValue) × (is_closed (log old s) ≡ false) × (slice_get (link old s o).put (length (link old s o).applied) ≡ Some e)
     × (n ≡ own e) × (new ≡ with_world_link old s o (applied_next (link old s o) e))
-Takes old s o (Ok Nothing) new = (((link old s o).applied ≡ (link old s o).put) ⊎ (is_closed (log old s) ≡ true)) × (new ≡ old)
-Takes old s o _ new = ⊥
+TakeHappens old s o (Ok Nothing) new = (((link old s o).applied ≡ (link old s o).put) ⊎ (is_closed (log old s) ≡ true)) × (new ≡ old)
+TakeHappens old s o _ new = ⊥
 
 -- an event that the world does not refuse
 abbrev pub Happens : {A : Type 0} → WorldValue → Event A → Result (Reply A) WorldError → WorldValue → Type 0
 Happens old event (Err OutOfMemory) new = new ≡ ended old
-Happens old (Post s ms) outcome new = Posts old s ms outcome new
-Happens old (Publish s p) outcome new = Publishes old s p outcome new
-Happens old (Arrive s p) outcome new = Arrives old s p outcome new
-Happens old (Take s o) outcome new = Takes old s o outcome new
+Happens old (Post s ms) outcome new = PostHappens old s ms outcome new
+Happens old (Publish s p) outcome new = PublishHappens old s p outcome new
+Happens old (Arrive s p) outcome new = ArriveHappens old s p outcome new
+Happens old (Take s o) outcome new = TakeHappens old s o outcome new
 
 abbrev pub wants_memory : {A : Type 0} → Result (Reply A) WorldError → Bool
 wants_memory (Err OutOfMemory) = true

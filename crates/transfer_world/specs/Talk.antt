@@ -2,8 +2,9 @@
 use Rattle.std.specs.Prelude.{◌≡◌, ℕ, ◌<◌, ◌≤◌, ◌+◌, ◌==◌, Bool, List, ◌++◌, Option, None, Result, Ok, Err, All, count_by, flat_map, length}
 use Rattle.std.specs.Io.KnownBytes.{Consumes, Appends}
 use Rattle.entry_codec.specs.Pieces.{pieces}
+use Rattle.transfer_world.specs.declared.script.session.TheConstants.{LINE_LIMIT}
 use Rattle.transfer_world.specs.Values.{WorldValue}
-use Rattle.transfer_world.specs.Script.{Replies, lines_of}
+use Rattle.transfer_world.specs.Script.{LinesGet, lines_of}
 use Rattle.transfer_world.specs.declared.script.fault.ScriptFault.{ScriptFault}
 use Rattle.transfer_world.specs.declared.script.fault.ScriptFault.TheVariants.{ReadFailed, WriteFailed, OutOfMemory, TooManyLines}
 
@@ -30,21 +31,21 @@ pub record Talk (A : Type 0) (given left held holds : Option (List ℕ)) : Type 
   pub world : Option WorldValue
   pub reads : Consumes given left input
   pub parted : Parted portions input
-  pub answers : Replies A None lines replies world
+  pub answers : LinesGet A None lines replies world
   pub writes : Appends held holds text
 
 -- the list begins with front
-abbrev pub Begins : {X : Type 0} → List X → List X → Type 0
-Begins {X} xs front = (rest : List X) × (xs ≡ front ++ rest)
+abbrev pub BeginsWith : {X : Type 0} → List X → List X → Type 0
+BeginsWith {X} xs front = (rest : List X) × (xs ≡ front ++ rest)
 
 -- how a script ended: which lines were answered, and how much of their replies was written. Lines, and reads
--- that end none, are counted, and at 1000000000 it stops
+-- that end none, are counted, and at `LINE_LIMIT` it stops
 abbrev pub EndsBy : {A : Type 0} → {given left held holds : Option (List ℕ)} → Result (Unit {0}) ScriptFault → Talk A given left held holds → Type 0
 EndsBy (Ok _) talk =
-    (talk.lines ≡ lines_of talk.input) × (talk.text ≡ talk.replies) × (length talk.lines + still talk.portions < 1000000000)
+    (talk.lines ≡ lines_of talk.input) × (talk.text ≡ talk.replies) × (length talk.lines + still talk.portions < LINE_LIMIT)
 EndsBy (Err ReadFailed) talk =
-    (talk.lines ≡ pieces talk.input) × (talk.text ≡ talk.replies) × (length talk.lines + still talk.portions < 1000000000)
-EndsBy (Err WriteFailed) talk = Begins (lines_of talk.input) talk.lines × Begins talk.replies talk.text
-EndsBy (Err OutOfMemory) talk = Begins (lines_of talk.input) talk.lines × (talk.text ≡ talk.replies)
+    (talk.lines ≡ pieces talk.input) × (talk.text ≡ talk.replies) × (length talk.lines + still talk.portions < LINE_LIMIT)
+EndsBy (Err WriteFailed) talk = BeginsWith (lines_of talk.input) talk.lines × BeginsWith talk.replies talk.text
+EndsBy (Err OutOfMemory) talk = BeginsWith (lines_of talk.input) talk.lines × (talk.text ≡ talk.replies)
 EndsBy (Err TooManyLines) talk =
-    Begins (lines_of talk.input) talk.lines × (talk.text ≡ talk.replies) × (1000000000 ≤ length (lines_of talk.input) + still talk.portions)
+    BeginsWith (lines_of talk.input) talk.lines × (talk.text ≡ talk.replies) × (LINE_LIMIT ≤ length (lines_of talk.input) + still talk.portions)

@@ -11,6 +11,7 @@ mod reply;
 mod script;
 mod site;
 mod world;
+mod write;
 
 pub use event::{Event, Moves};
 pub use fault::{DeskError, WorldError};
@@ -18,6 +19,4 @@ pub use laws::every_run;
 pub use reply::{Reply, Verdict, Verdicts};
 pub use script::{ScriptFault, run_script};
 pub use world::{Totals, World};
-
-#[cfg(test)]
-mod tests;
+pub use write::{WriteFault, write_whole};

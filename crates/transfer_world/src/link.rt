@@ -1,5 +1,5 @@
 //! What a site keeps of a peer.
-ghost use Rattle.std.specs.Prelude.{◌≡◌, ◌+◌, ◌<◌, ◌≤◌, ◌^◌, IfOk, OnErr, IfSome, length};
+ghost use Rattle.std.specs.Prelude.{◌*◌, ◌≡◌, ◌+◌, ◌<◌, ◌≤◌, ◌^◌, IfOk, OnErr, IfSome, length};
 ghost use Rattle.rights_types.specs.Chains.{end, is_closed};
 ghost use Rattle.transfer_world.specs.Worlds.{no_link};
 ghost use Rattle.transfer_world.specs.Step.{published};
@@ -9,7 +9,7 @@ ghost use Rattle.rights_types.specs.Rights.{to};
 
 use crate::entries::is_closed;
 use crate::reply::Verdict;
-use rights_types::{Entry, Move, OutOfMemory, SiteId};
+use rights_types::{Entry, MAX_AMOUNT, MAX_MOVES, Move, OutOfMemory, SiteId};
 use std::alloc::Allocator;
 use std::marker::Model;
 
@@ -18,14 +18,14 @@ use std::marker::Model;
 #[derive(Drop)]
 pub(crate) struct Link<A: Allocator> {
     put: Vec<Entry<A>, A>,
-    put_number: u64,
+    put_end: u64,
     applied: usize,
-    applied_number: u64,
+    applied_end: u64,
     cursor: usize,
 }
 
 impl<A: Allocator> Model for Link<A> {
-    ghost use Rattle.std.specs.Prelude.{take};
+    ghost use Rattle.std.specs.Prelude.{◌*◌, take};
     ghost use Rattle.transfer_world.specs.Values.{LinkValue};
 
     ghost Value = { LinkValue };
@@ -34,7 +34,7 @@ impl<A: Allocator> Model for Link<A> {
 
     ghost view = { λ l. record { cursor = l.cursor; reached = l.put.items; put = l.put.items; applied = take l.applied l.put.items } };
 
-    ghost invariant = { λ l. LinkKeeps l.put.items l.put_number l.applied l.applied_number };
+    ghost invariant = { λ l. LinkKeeps l.put.items l.put_end l.applied l.applied_end };
 }
 
 impl<A: Allocator> Link<A> {
@@ -43,9 +43,9 @@ impl<A: Allocator> Link<A> {
     {
         Link {
             put: Vec::new(alloc),
-            put_number: 0,
+            put_end: 0,
             applied: 0,
-            applied_number: 0,
+            applied_end: 0,
             cursor: 0,
         }
     }
@@ -71,31 +71,31 @@ impl<A: Allocator> Link<A> {
         ensures put { self.old.reached ≡ self.old.put }
         ensures err { OnErr result (self.new ≡ self.old) }
     {
-        if entry.prev() < self.put_number {
+        if entry.prev() < self.put_end {
             return Ok(Verdict::Repeat);
         }
         if is_closed(&self.put) {
             return Ok(Verdict::AfterClose);
         }
-        if entry.prev() > self.put_number {
+        if entry.prev() > self.put_end {
             return Ok(Verdict::Full);
         }
         let number = entry.own();
         self.put.push(entry)?;
-        self.put_number = number;
+        self.put_end = number;
         Ok(Verdict::Ready(number))
     }
 
     /// Applies the next entry that was put: its own number, and what it gives to site `me`.
     pub(crate) fn take(&mut self, me: SiteId) -> Option<(u64, u64)>
         ensures took { TookNext me self.old result self.new }
-        ensures gift { IfSome result (λ t. t.1 ≤ 16000000000) }
+        ensures gift { IfSome result (λ t. t.1 ≤ MAX_MOVES * MAX_AMOUNT) }
     {
         let entry = self.put.get(self.applied)?;
         let number = entry.own();
-        let gift = gift_of(entry.moves(), me);
+        let gift = gift_among(entry.moves(), me);
         self.applied += 1;
-        self.applied_number = number;
+        self.applied_end = number;
         Some((number, gift))
     }
 
@@ -128,25 +128,25 @@ impl<A: Allocator> Link<A> {
     }
 
     /// The own number of the last entry that was put.
-    pub(crate) fn put_number(&self) -> u64
+    pub(crate) fn put_end(&self) -> u64
         ensures { result ≡ end self.now.put }
     {
-        self.put_number
+        self.put_end
     }
 
     /// The own number of the last entry that was applied.
-    pub(crate) fn applied_number(&self) -> u64
+    pub(crate) fn applied_end(&self) -> u64
         ensures { result ≡ end self.now.applied }
     {
-        self.applied_number
+        self.applied_end
     }
 }
 
 /// What these moves give to a site.
-pub(crate) fn gift_of(moves: &[Move], site: SiteId) -> u64
-    requires { length moves.now ≤ 16 }
+pub(crate) fn gift_among(moves: &[Move], site: SiteId) -> u64
+    requires { length moves.now ≤ MAX_MOVES }
     ensures value { result ≡ to site moves.now }
-    ensures range { result ≤ 16000000000 }
+    ensures range { result ≤ MAX_MOVES * MAX_AMOUNT }
 {
     let mut gift = 0;
     for m in moves {

@@ -19,7 +19,7 @@ use crate::reply::{Reply, Verdicts};
 use crate::site::Site;
 use entry_codec::read_line;
 pub use readers::Totals;
-use rights_types::{Entry, Message, OutOfMemory, SiteId};
+use rights_types::{Entry, MAX_SITES, MIN_SITES, Message, OutOfMemory, SiteId};
 use std::alloc::{Allocator, Global};
 use std::marker::Model;
 
@@ -46,7 +46,7 @@ impl<A: Allocator> Model for World<A> {
 impl<A: Allocator + Copy> World<A> {
     /// A world of so many sites, 2 to 16, at the start.
     pub fn new(alloc: A, sites: u64) -> Result<World<A>, OutOfMemory>
-        requires { (2 ≤ sites) × (sites ≤ 16) }
+        requires { (MIN_SITES ≤ sites) × (sites ≤ MAX_SITES) }
         ensures { IfOk result (λ world. world ≡ start sites) }
     {
         let mut all = Vec::with_capacity(alloc, sites as usize)?;
@@ -140,8 +140,8 @@ impl<A: Allocator + Copy> World<A> {
         requires { site_fault self.old site ≡ None }
         ensures { Attempts self.old (Event.Post site moves) result self.new }
     {
-        let place = &mut self.sites[site.index()];
-        let number = place.post(moves.into_items())?;
+        let site = &mut self.sites[site.index()];
+        let number = site.post(moves.into_items())?;
         Ok(Reply::Number(number))
     }
 
@@ -150,8 +150,8 @@ impl<A: Allocator + Copy> World<A> {
         ensures { Attempts self.old (Event.Publish site peer) result self.new }
     {
         self.packets.reserve(1)?;
-        let place = &mut self.sites[site.index()];
-        match place.publish(peer)? {
+        let site = &mut self.sites[site.index()];
+        match site.publish(peer)? {
             None => Ok(Reply::Nothing),
             Some(packet) => {
                 self.packets.push_reserved(packet);
@@ -169,8 +169,8 @@ impl<A: Allocator + Copy> World<A> {
         let packet = &self.packets[number as usize - 1];
         let entry = entry_in(alloc, packet.text())?;
         let from = packet.from();
-        let place = &mut self.sites[site.index()];
-        let verdict = place.arrive(from, entry)?;
+        let site = &mut self.sites[site.index()];
+        let verdict = site.arrive(from, entry)?;
         verdicts.push(verdict)?;
         Ok(Reply::Verdicts(Verdicts::new(verdicts)))
     }
@@ -179,8 +179,8 @@ impl<A: Allocator + Copy> World<A> {
         requires { link_fault self.old site origin ≡ None }
         ensures { Attempts self.old (Event.Take site origin) result self.new }
     {
-        let place = &mut self.sites[site.index()];
-        match place.take(origin) {
+        let site = &mut self.sites[site.index()];
+        match site.take(origin) {
             None => Ok(Reply::Nothing),
             Some(number) => Ok(Reply::Taken(number)),
         }

@@ -1,30 +1,7 @@
 //! Replies that are longer than one write, through writers that take more or fewer bytes at a time.
-use std::alloc::Allocator;
-use std::io;
-use std::io::{ErrorKind, Write};
 use std::test::Fail;
+use test_kit::Slow;
 use transfer_world::run_script;
-
-/// A writer that takes so many bytes at a time.
-#[derive(Drop)]
-struct Slow<A: Allocator> {
-    text: Vec<u8, A>,
-    step: usize,
-}
-
-impl<A: Allocator> Write for Slow<A> {
-    fn write(&mut self, buf: &[u8]) -> io::Result<usize> {
-        let count = buf.len().min(self.step);
-        if self.text.extend_from_slice(&buf[..count]).is_err() {
-            return Err(io::Error::from(ErrorKind::OutOfMemory));
-        }
-        Ok(count)
-    }
-
-    fn flush(&mut self) -> io::Result<()> {
-        Ok(())
-    }
-}
 
 /// So many reports are more than a run keeps before it writes.
 const REPORTS: usize = 25;

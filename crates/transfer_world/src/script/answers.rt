@@ -1,14 +1,14 @@
 //! What a command comes to, and its reply.
-ghost use Rattle.std.specs.Prelude.{◌≡◌, ℕ, List, [], ◌∷◌, ◌++◌, OnOk, OnErr};
+ghost use Rattle.std.specs.Prelude.{◌≡◌, ◌<◌, ℕ, List, [], ◌∷◌, ◌++◌, length, OnOk, OnErr};
 ghost use Rattle.transfer_world.specs.Replies.{desk_error_name, error_name, verdict_text, verdicts_text, packet_line, reply_text, outcome_text};
 ghost use Rattle.transfer_world.specs.Worlds.{packet};
-ghost use Rattle.transfer_world.specs.Script.{Answers, LineAnswers};
+ghost use Rattle.transfer_world.specs.Script.{CommandGets, LineGets};
 
 use crate::event::Event;
 use crate::fault::{DeskError, WorldError};
 use crate::reply::{Reply, Verdict};
 use crate::script::commands::{Command, read_command};
-use crate::script::output::Replies;
+use crate::script::output::{BLOCK, Replies};
 use crate::script::report::put_report;
 use crate::world::World;
 use rights_types::OutOfMemory;
@@ -49,7 +49,7 @@ fn put_verdict<A: Allocator>(replies: &mut Replies<A>, verdict: Verdict) -> Resu
     match verdict {
         Verdict::Ready(number) => {
             replies.put(b"ready ")?;
-            replies.put_number(number)
+            replies.put_decimal(number)
         }
         Verdict::Held => replies.put(b"held"),
         Verdict::Repeat => replies.put(b"repeat"),
@@ -89,18 +89,18 @@ fn put_reply<A: Allocator + Copy>(
     match reply {
         Reply::Number(number) => {
             replies.put(b"number ")?;
-            replies.put_number(number)
+            replies.put_decimal(number)
         }
         Reply::Packet(number) => {
             replies.put(b"packet ")?;
-            replies.put_number(number)?;
+            replies.put_decimal(number)?;
             replies.put(b" ")?;
             put_packet(replies, world, number)
         }
         Reply::Verdicts(verdicts) => put_verdicts(replies, verdicts.as_slice()),
         Reply::Taken(number) => {
             replies.put(b"taken ")?;
-            replies.put_number(number)
+            replies.put_decimal(number)
         }
         Reply::Nothing => replies.put(b"nothing"),
     }
@@ -138,14 +138,14 @@ fn put_outcome<A: Allocator + Copy>(
     }
 }
 
-/// Answers a command, but for the end of its reply.
+/// CommandGets a command, but for the end of its reply.
 fn answer<A: Allocator + Copy>(
     alloc: A,
     world: &mut Option<World<A>>,
     replies: &mut Replies<A>,
     command: Option<Command<A>>,
 ) -> Result<(), OutOfMemory>
-    ensures ok { OnOk result ((text : List ℕ) × Answers world.old command text world.new
+    ensures ok { OnOk result ((text : List ℕ) × CommandGets world.old command text world.new
         × (replies.new.part ≡ replies.old.part ++ text)) }
     ensures kept { replies.new.whole ≡ replies.old.whole }
 {
@@ -172,15 +172,17 @@ fn answer<A: Allocator + Copy>(
     }
 }
 
-/// Answers a line, given without its line feed.
+/// CommandGets a line, given without its line feed.
 pub(crate) fn answer_line<A: Allocator + Copy>(
     alloc: A,
     world: &mut Option<World<A>>,
     replies: &mut Replies<A>,
     text: &[u8],
 ) -> Result<(), OutOfMemory>
-    requires { replies.old.part ≡ [] }
-    ensures ok { OnOk result ((reply : List ℕ) × LineAnswers A world.old (text.now ++ 10 ∷ []) reply world.new
+    requires ready { replies.old.part ≡ [] }
+    // So at most a block and this reply are not yet written.
+    requires room { length replies.old.whole < BLOCK }
+    ensures ok { OnOk result ((reply : List ℕ) × LineGets A world.old (text.now ++ 10 ∷ []) reply world.new
         × (replies.new ≡ record { whole = replies.old.whole ++ (reply ++ 10 ∷ []); part = [] })) }
     ensures ready { OnOk result (replies.new.part ≡ []) }
     ensures kept { OnErr result (replies.new.whole ≡ replies.old.whole) }

@@ -1,11 +1,11 @@
 //! What the lines of a script ask for.
-ghost use Rattle.std.specs.Prelude.{◌≡◌, [], ◌∷◌, ◌++◌, ◌≤◌, IfOk, IfSome};
-ghost use Rattle.transfer_world.specs.Commands.{words_left, moves_in, post_of, report_of, only_number, site_and, short_command, command_in, command_of};
+ghost use Rattle.std.specs.Prelude.{◌≡◌, [], ◌∷◌, ◌++◌, ◌≤◌, length, vec_capacity, IfOk, IfSome};
+ghost use Rattle.transfer_world.specs.Commands.{words_of, words_left, moves_in, post_of, report_of, only_number, site_and, short_command, command_in, command_of};
 
 use crate::event::{Event, Moves};
-use crate::script::words::{number, site, split_word};
-use entry_codec::read_move;
-use rights_types::{MAX_LINE, OutOfMemory, SiteId};
+use crate::script::words::{site, split_word};
+use entry_codec::{read_decimal, read_move};
+use rights_types::{MAX_LINE, MAX_SITES, MIN_SITES, Move, OutOfMemory, SiteId};
 use std::alloc::Allocator;
 use std::marker::Model;
 
@@ -28,19 +28,20 @@ pub(crate) struct SiteCount {
 
 impl Model for SiteCount {
     ghost use Rattle.std.specs.Prelude.{ℕ, ◌≤◌};
+    ghost use Rattle.rights_types.specs.declared.limits.TheConstants.{MIN_SITES, MAX_SITES};
 
     ghost Value = { ℕ };
 
     ghost view = { λ s. s.count };
 
-    ghost invariant = { λ s. (2 ≤ s.count) × (s.count ≤ 16) };
+    ghost invariant = { λ s. (MIN_SITES ≤ s.count) × (s.count ≤ MAX_SITES) };
 
     ghost inverse = { λ n. record { count = n } };
 }
 
 impl SiteCount {
     fn known(count: u64) -> SiteCount
-        requires { (2 ≤ count) × (count ≤ 16) }
+        requires { (MIN_SITES ≤ count) × (count ≤ MAX_SITES) }
         ensures { result ≡ count }
     {
         SiteCount { count: count as u8 }
@@ -48,7 +49,7 @@ impl SiteCount {
 
     pub(crate) fn number(self) -> u64
         ensures value { result ≡ self }
-        ensures range { (2 ≤ result) × (result ≤ 16) }
+        ensures range { (MIN_SITES ≤ result) × (result ≤ MAX_SITES) }
     {
         self.count as u64
     }
@@ -58,7 +59,7 @@ impl SiteCount {
 fn read_moves<A: Allocator>(alloc: A, words: Option<&[u8]>) -> Result<Option<Moves<A>>, OutOfMemory>
     ensures { IfOk result (λ moves. moves ≡ moves_in (words_left words.entry)) }
 {
-    let mut moves = Vec::with_capacity(alloc, count_words(words))?;
+    let mut moves = move_room(alloc, words)?;
     let mut left = words;
     while let Some(text) = left {
         let (word, more) = split_word(text);
@@ -71,20 +72,28 @@ fn read_moves<A: Allocator>(alloc: A, words: Option<&[u8]>) -> Result<Option<Mov
     Ok(Some(Moves::new(moves)))
 }
 
-/// How many words there are; this only tells how much room to make.
-fn count_words(words: Option<&[u8]>) -> usize {
-    match words {
+/// Room for a move of each word, and for no more: a post keeps it.
+fn move_room<A: Allocator>(alloc: A, words: Option<&[u8]>) -> Result<Vec<Move, A>, OutOfMemory>
+    ensures empty { IfOk result (λ room. room.items ≡ []) }
+    ensures exact { IfOk result (λ room. vec_capacity room ≡ length (words_left words.entry)) }
+{
+    let count = match words {
         None => 0,
-        Some(text) => {
-            let mut count: usize = 1;
-            for byte in text {
-                if *byte == b' ' {
-                    count = count.saturating_add(1);
-                }
-            }
-            count
+        Some(text) => count_words(text),
+    };
+    Ok(Vec::with_capacity(alloc, count)?)
+}
+
+fn count_words(text: &[u8]) -> usize
+    ensures { result ≡ length (words_of text.now) }
+{
+    let mut count = 1;
+    for byte in text {
+        if *byte == b' ' {
+            count += 1;
         }
     }
+    count
 }
 
 fn read_post<A: Allocator>(
@@ -114,7 +123,7 @@ fn only_number(values: Option<&[u8]>, low: u64, high: u64) -> Option<u64>
     let (first, more) = split_word(values?);
     match more {
         Some(_) => None,
-        None => number(first, low, high),
+        None => read_decimal(first, low, high),
     }
 }
 
@@ -126,13 +135,13 @@ fn site_and_number(values: Option<&[u8]>, low: u64, high: u64) -> Option<(SiteId
     let (second, more) = split_word(rest?);
     match more {
         Some(_) => None,
-        None => Some((site(first)?, number(second, low, high)?)),
+        None => Some((site(first)?, read_decimal(second, low, high)?)),
     }
 }
 
 /// The two values, both sites.
 fn two_sites(values: Option<&[u8]>) -> Option<(SiteId, SiteId)>
-    ensures { result ≡ site_and 1 16 (words_left values.entry) }
+    ensures { result ≡ site_and 1 MAX_SITES (words_left values.entry) }
 {
     let (first, rest) = split_word(values?);
     let (second, more) = split_word(rest?);
@@ -167,7 +176,7 @@ fn read_short<A: Allocator>(word: &[u8], values: Option<&[u8]>) -> Option<Comman
     } else if word == b"report".as_slice() {
         read_report(values)
     } else if word == b"sites".as_slice() {
-        let count = only_number(values, 2, 16)?;
+        let count = only_number(values, MIN_SITES, MAX_SITES)?;
         Some(Command::Sites(SiteCount::known(count)))
     } else {
         None

@@ -1,19 +1,17 @@
 //! Replies on their way to a writer.
 ghost use Rattle.std.specs.Prelude.{◌≡◌, ℕ, List, ◌∷◌, [], ◌++◌, ◌<◌, ◌≤◌, length, take, decimal, OnOk, OnErr};
 ghost use Rattle.std.specs.Io.KnownBytes.{Appends};
+ghost use Rattle.transfer_world.specs.Fronts.{AppendsFront};
 
+use crate::write::{WriteFault, write_whole};
 use itoa::Buffer;
 use rights_types::OutOfMemory;
 use std::alloc::Allocator;
 use std::io::Write;
 use std::marker::Model;
 
-/// So many bytes of whole replies are worth a write.
-const WORTH_A_WRITE: usize = 65536;
-
-/// A write failed, or took no byte.
-#[derive(Clone, Copy, Debug, PartialEq, Eq)]
-pub(crate) struct WriteFault;
+/// Whole replies of so many bytes are written before the next line is answered.
+pub(crate) const BLOCK: usize = 65536;
 
 /// Replies that wait to be written: whole ones, and behind them what there is of the next one, so
 /// that no refused growth leaves a part of a reply among the whole ones.
@@ -55,7 +53,7 @@ impl<A: Allocator> Replies<A> {
         Ok(())
     }
 
-    pub(crate) fn put_number(&mut self, number: u64) -> Result<(), OutOfMemory>
+    pub(crate) fn put_decimal(&mut self, number: u64) -> Result<(), OutOfMemory>
         ensures ok { OnOk result (self.new.part ≡ self.old.part ++ decimal number) }
         ensures kept { self.new.whole ≡ self.old.whole }
     {
@@ -73,47 +71,32 @@ impl<A: Allocator> Replies<A> {
         Ok(())
     }
 
-    /// Writes the whole replies, and forgets all. After an `Err` the writer has taken a front of them.
+    /// Writes the whole replies, and forgets all. After an `Err` the writer has taken a front of
+    /// them.
     pub(crate) fn write_to<W: Write>(&mut self, writer: &mut W) -> Result<(), WriteFault>
         ensures whole { OnOk result (Appends (W.contents writer.old) (W.contents writer.new) self.old.whole) }
         ensures empty { OnOk result (self.new ≡ nothing) }
-        ensures part { OnErr result ((n : ℕ) × Appends (W.contents writer.old) (W.contents writer.new) (take n self.old.whole)) }
+        ensures front { OnErr result (AppendsFront (W.contents writer.old) (W.contents writer.new) self.old.whole) }
     {
-        write_all(writer, &self.bytes[..self.whole])?;
+        write_whole(writer, &self.bytes[..self.whole])?;
         self.bytes.clear();
         self.whole = 0;
         Ok(())
     }
 
-    /// Writes the whole replies once they are worth a write. After an `Err` the writer has taken a
-    /// front of them.
+    /// Writes the whole replies once they are a block. After an `Err` the writer has taken a front
+    /// of them.
     pub(crate) fn pass_on<W: Write>(&mut self, writer: &mut W) -> Result<(), WriteFault>
         requires { self.old.part ≡ [] }
         ensures whole { OnOk result ((text : List ℕ) × Appends (W.contents writer.old) (W.contents writer.new) text
             × (self.old.whole ≡ text ++ self.new.whole)) }
         ensures ready { OnOk result (self.new.part ≡ []) }
-        ensures part { OnErr result ((n : ℕ) × Appends (W.contents writer.old) (W.contents writer.new) (take n self.old.whole)) }
+        ensures room { OnOk result (length self.new.whole < BLOCK) }
+        ensures front { OnErr result (AppendsFront (W.contents writer.old) (W.contents writer.new) self.old.whole) }
     {
-        if self.whole < WORTH_A_WRITE {
+        if self.whole < BLOCK {
             return Ok(());
         }
         self.write_to(writer)
     }
-}
-
-#[tactic(auto, using(crate::proofs::Writes::wrote_more))]
-/// Writes the text, in as many writes as it takes. After an `Err` the writer has taken a front of it.
-fn write_all<W: Write>(writer: &mut W, text: &[u8]) -> Result<(), WriteFault>
-    ensures whole { OnOk result (Appends (W.contents writer.old) (W.contents writer.new) text.now) }
-    ensures part { OnErr result ((n : ℕ) × Appends (W.contents writer.old) (W.contents writer.new) (take n text.now)) }
-{
-    let mut done = 0;
-    while done < text.len() {
-        match writer.write(&text[done..]) {
-            Ok(0) => return Err(WriteFault),
-            Ok(count) => done += count,
-            Err(_) => return Err(WriteFault),
-        }
-    }
-    Ok(())
 }

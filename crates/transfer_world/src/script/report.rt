@@ -18,7 +18,7 @@ fn put_field<A: Allocator>(
     ensures kept { replies.new.whole ≡ replies.old.whole }
 {
     replies.put(name)?;
-    replies.put_number(number)
+    replies.put_decimal(number)
 }
 
 fn put_bit<A: Allocator>(replies: &mut Replies<A>, is_set: bool) -> Result<(), OutOfMemory>
@@ -59,8 +59,8 @@ fn put_pair<A: Allocator + Copy>(
 {
     put_field(replies, b"pair ", site.number())?;
     put_field(replies, b" ", origin.number())?;
-    put_field(replies, b" applied ", world.applied_number(site, origin))?;
-    put_field(replies, b" put ", world.put_number(site, origin))?;
+    put_field(replies, b" applied ", world.applied_end(site, origin))?;
+    put_field(replies, b" put ", world.put_end(site, origin))?;
     put_field(replies, b" way ", world.way(origin, site))?;
     replies.put(b"\n")
 }

@@ -1,12 +1,14 @@
 //! A script from its first read to its last write.
-ghost use Rattle.std.specs.Prelude.{◌≡◌, ℕ, ◌+◌, ◌<◌, ◌≤◌, List, [], ◌∷◌, ◌++◌, Option, length, take, ◌↔◌, IsTrue, OnOk, OnErr, IfOk, IsErrOf};
-ghost use Rattle.std.specs.Io.KnownBytes.{Consumes, IsAtEnd};
+ghost use Rattle.std.specs.Prelude.{◌≡◌, ℕ, ◌+◌, ◌<◌, ◌≤◌, List, [], ◌∷◌, ◌++◌, Option, length, take, ◌↔◌, IsTrue, OnOk, OnErr, IfOk, IfErr, IsErrOf};
+ghost use Rattle.std.specs.Io.{ReadsAtMost};
+ghost use Rattle.std.specs.Io.KnownBytes.{Consumes, IsAtEnd, ReadConsumes};
+ghost use Rattle.transfer_world.specs.Waiting.{nothing};
 ghost use Rattle.transfer_world.specs.Talk.{Parted, Talk, EndsBy};
 ghost use Rattle.transfer_world.specs.Session.{IsNew, LineEnds, Going, Fed, Ran, counts_for};
 
 use crate::script::answers::answer_line;
 use crate::script::fault::ScriptFault;
-use crate::script::output::Replies;
+use crate::script::output::{BLOCK, Replies};
 use crate::world::World;
 use memchr::memchr;
 use rights_types::{MAX_LINE, OutOfMemory};
@@ -14,7 +16,7 @@ use std::alloc::Allocator;
 use std::io::{Read, Write};
 
 /// At so many lines, and reads that end no line, a script stops.
-const MOST: u64 = 1_000_000_000;
+const LINE_LIMIT: u64 = 1_000_000_000;
 
 /// So many bytes are read at a time.
 const READ_SIZE: usize = 65536;
@@ -32,8 +34,8 @@ struct Session<A: Allocator> {
 
 /// Goes on with a line that has not ended.
 fn keep<A: Allocator>(carry: &mut Vec<u8, A>, bytes: &[u8]) -> Result<(), OutOfMemory>
-    requires { length carry.old.items ≤ 16384 }
-    ensures { OnOk result (carry.new.items ≡ take 16384 (carry.old.items ++ bytes.now)) }
+    requires { length carry.old.items ≤ MAX_LINE }
+    ensures { OnOk result (carry.new.items ≡ take MAX_LINE (carry.old.items ++ bytes.now)) }
 {
     let room = MAX_LINE - carry.len();
     if bytes.len() > room {
@@ -60,8 +62,9 @@ impl<A: Allocator + Copy> Session<A> {
     /// Answers the line that ends after this text.
     fn end_line(&mut self, text: &[u8]) -> Result<(), OutOfMemory>
         requires ready { self.old.replies.part ≡ [] }
-        requires short { length self.old.carry.items ≤ 16384 }
-        ensures line { OnOk result ((front : List ℕ) → self.old.carry.items ≡ take 16384 front
+        requires room { length self.old.replies.whole < BLOCK }
+        requires short { length self.old.carry.items ≤ MAX_LINE }
+        ensures line { OnOk result ((front : List ℕ) → self.old.carry.items ≡ take MAX_LINE front
             → LineEnds A front text.now self.old.world self.old.replies self.new.world self.new.replies) }
         ensures ended { OnOk result (self.new.carry.items ≡ []) }
         ensures ready { OnOk result (self.new.replies.part ≡ []) }
@@ -82,16 +85,16 @@ impl<A: Allocator + Copy> Session<A> {
         Ok(())
     }
 
-    /// Takes what was read, and answers each line that ends in it.
+    /// TakeHappens what was read, and answers each line that ends in it.
     fn feed<W: Write>(&mut self, writer: &mut W, bytes: &[u8]) -> Result<(), ScriptFault>
-        requires ready { self.old.replies.part ≡ [] }
-        requires short { length self.old.carry.items ≤ 16384 }
-        requires few { self.old.count < 1000000000 }
-        ensures ready { OnOk result (self.new.replies.part ≡ []) }
-        ensures short { OnOk result (length self.new.carry.items ≤ 16384) }
-        ensures few { OnOk result (self.new.count < 1000000000) }
+        requires written { self.old.replies ≡ nothing }
+        requires short { length self.old.carry.items ≤ MAX_LINE }
+        requires few { self.old.count < LINE_LIMIT }
+        ensures room { OnOk result (length self.new.replies.whole < BLOCK) }
+        ensures short { OnOk result (length self.new.carry.items ≤ MAX_LINE) }
+        ensures few { OnOk result (self.new.count < LINE_LIMIT) }
         ensures counts { OnOk result (0 < length bytes.now → self.new.count ≡ self.old.count + counts_for bytes.now) }
-        ensures many { IsErrOf result ScriptFault.TooManyLines → 1000000000 ≤ self.old.count + counts_for bytes.now }
+        ensures many { IsErrOf result ScriptFault.TooManyLines → LINE_LIMIT ≤ self.old.count + counts_for bytes.now }
         ensures fed { (input : List ℕ) (held : Option (List ℕ))
             → Going A input held (W.contents writer.old) self.old.world self.old.replies self.old.carry.items
             → Fed A (input ++ bytes.now) held (W.contents writer.new) result self.new.world self.new.replies self.new.carry.items }
@@ -101,7 +104,7 @@ impl<A: Allocator + Copy> Session<A> {
             self.end_line(&bytes[at..at + length])?;
             at += length + 1;
             self.count += 1;
-            if self.count == MOST {
+            if self.count == LINE_LIMIT {
                 return Err(ScriptFault::TooManyLines);
             }
             self.replies.pass_on(writer)?;
@@ -109,11 +112,24 @@ impl<A: Allocator + Copy> Session<A> {
         keep(&mut self.carry, &bytes[at..])?;
         if at == 0 && !bytes.is_empty() {
             self.count += 1;
-            if self.count == MOST {
+            if self.count == LINE_LIMIT {
                 return Err(ScriptFault::TooManyLines);
             }
         }
         Ok(())
+    }
+
+    /// Reads once. The read may wait, so no reply does.
+    fn read<R: Read>(&self, reader: &mut R, buffer: &mut [u8]) -> Result<usize, ScriptFault>
+        requires written { self.now.replies ≡ nothing }
+        ensures bound { ReadsAtMost result buffer.new }
+        ensures bytes { ReadConsumes (R.remaining reader.old) (R.remaining reader.new) result buffer.new }
+        ensures failed { IfErr result (λ fault. fault ≡ ScriptFault.ReadFailed) }
+    {
+        match reader.read(buffer) {
+            Ok(length) => Ok(length),
+            Err(_) => Err(ScriptFault::ReadFailed),
+        }
     }
 
     /// Reads to the end of the input, and answers each line.
@@ -130,13 +146,12 @@ impl<A: Allocator + Copy> Session<A> {
         ensures all { OnOk result (IsAtEnd (R.remaining reader.new)) }
     {
         'reads: loop {
-            let Ok(length) = reader.read(buffer) else {
-                return Err(ScriptFault::ReadFailed);
-            };
+            let length = self.read(reader, buffer)?;
             if length == 0 {
                 break;
             }
             self.feed(writer, &buffer[..length])?;
+            self.replies.write_to(writer)?;
         }
         if self.carry.is_empty() {
             return Ok(());
@@ -161,8 +176,8 @@ fn is_write_failure(ended: Result<(), ScriptFault>) -> bool
     }
 }
 
-/// Reads commands to the end of the input, and writes the reply to each. What was answered before a
-/// fault is still written.
+/// Reads commands to the end of the input, and writes the reply to each before the next read. What
+/// was answered before a fault is still written.
 pub fn run_script<A: Allocator + Copy, R: Read, W: Write>(
     alloc: A,
     reader: &mut R,

@@ -9,9 +9,9 @@ ghost use Rattle.transfer_world.specs.Faults.{rights_of};
 ghost use Rattle.transfer_world.specs.Sound.{SiteSound};
 
 use super::World;
-use crate::link::{Link, gift_of};
+use crate::link::{Link, gift_among};
 use crate::site::Site;
-use rights_types::{Entry, OutOfMemory, SiteId};
+use rights_types::{Entry, MAX_SITES, MAX_TOTAL, MIN_SITES, OutOfMemory, SiteId};
 use std::alloc::Allocator;
 
 /// The sums over all sites, and over all pairs of two.
@@ -28,29 +28,29 @@ impl<A: Allocator> World<A> {
     /// How many sites there are, 2 to 16.
     pub fn sites(&self) -> u64
         ensures value { result ≡ count self.now }
-        ensures range { (2 ≤ result) × (result ≤ 16) }
+        ensures range { (MIN_SITES ≤ result) × (result ≤ MAX_SITES) }
     {
         self.sites.len() as u64
     }
 
-    // The site of a number.
-    fn place(&self, number: SiteId) -> Option<&Site<A>>
-        ensures some { IfSome result (λ x. x.now ≡ site_of self.now number) }
-        ensures none { IfNone result (site_of self.now number ≡ no_site) }
+    // The site of this number.
+    fn site_at(&self, site: SiteId) -> Option<&Site<A>>
+        ensures some { IfSome result (λ x. x.now ≡ site_of self.now site) }
+        ensures none { IfNone result (site_of self.now site ≡ no_site) }
         ensures sound { IfSome result (λ x. SiteSound (length x.now.links) x.now.me x.now) }
-        ensures rights { IfSome result (λ x. rights_of x.now ≡ held_by self.now number) }
-        ensures no_rights { IfNone result (held_by self.now number ≡ 0) }
+        ensures rights { IfSome result (λ x. rights_of x.now ≡ held_by self.now site) }
+        ensures no_rights { IfNone result (held_by self.now site ≡ 0) }
     {
-        self.sites.get(number.index())
+        self.sites.get(site.index())
     }
 
     // The link of a site to a peer.
-    fn link(&self, number: SiteId, peer: SiteId) -> Option<&Link<A>>
-        ensures some { IfSome result (λ l. l.now ≡ link_of_world self.now number peer) }
-        ensures none { IfNone result (link_of_world self.now number peer ≡ no_link) }
+    fn link(&self, site: SiteId, peer: SiteId) -> Option<&Link<A>>
+        ensures some { IfSome result (λ l. l.now ≡ link_of_world self.now site peer) }
+        ensures none { IfNone result (link_of_world self.now site peer ≡ no_link) }
     {
-        let place = self.place(number)?;
-        place.links().get(peer.index())
+        let site = self.site_at(site)?;
+        site.links().get(peer.index())
     }
 
     /// The text of a packet, with its line feed. Packets are counted from 1.
@@ -67,130 +67,130 @@ impl<A: Allocator> World<A> {
     pub fn log<B: Allocator + Copy>(
         &self,
         alloc: B,
-        number: SiteId,
+        site: SiteId,
     ) -> Result<Vec<Entry<B>, B>, OutOfMemory>
-        ensures { IfOk result (λ copy. copy.items ≡ log self.now number) }
+        ensures { IfOk result (λ copy. copy.items ≡ log self.now site) }
     {
-        match self.place(number) {
-            Some(place) => copy_of(alloc, place.log()),
+        match self.site_at(site) {
+            Some(site) => copy_of(alloc, site.log()),
             None => Ok(Vec::new(alloc)),
         }
     }
 
     /// The number of a log's end.
-    pub fn number(&self, number: SiteId) -> u64
-        ensures { result ≡ end (log self.now number) }
+    pub fn number(&self, site: SiteId) -> u64
+        ensures { result ≡ end (log self.now site) }
     {
-        match self.place(number) {
-            Some(place) => place.number(),
+        match self.site_at(site) {
+            Some(site) => site.number(),
             None => 0,
         }
     }
 
     /// The rights that a site issued.
-    pub fn issued(&self, number: SiteId) -> u64
-        ensures { result ≡ issued (moves_of (log self.now number)) }
+    pub fn issued(&self, site: SiteId) -> u64
+        ensures { result ≡ issued (moves_of (log self.now site)) }
     {
-        match self.place(number) {
-            Some(place) => place.issued(),
+        match self.site_at(site) {
+            Some(site) => site.issued(),
             None => 0,
         }
     }
 
     /// The rights that a site spent.
-    pub fn spent(&self, number: SiteId) -> u64
-        ensures { result ≡ spent (moves_of (log self.now number)) }
+    pub fn spent(&self, site: SiteId) -> u64
+        ensures { result ≡ spent (moves_of (log self.now site)) }
     {
-        match self.place(number) {
-            Some(place) => place.spent(),
+        match self.site_at(site) {
+            Some(site) => site.spent(),
             None => 0,
         }
     }
 
     /// The rights that a site holds.
-    pub fn held(&self, number: SiteId) -> u64
-        ensures { result ≡ held_by self.now number }
+    pub fn held(&self, site: SiteId) -> u64
+        ensures { result ≡ held_by self.now site }
     {
-        match self.place(number) {
-            Some(place) => place.held(),
+        match self.site_at(site) {
+            Some(site) => site.held(),
             None => 0,
         }
     }
 
     /// Whether a site's log ends in a closing move.
-    pub fn closed(&self, number: SiteId) -> bool
-        ensures { result ≡ is_closed (log self.now number) }
+    pub fn closed(&self, site: SiteId) -> bool
+        ensures { result ≡ is_closed (log self.now site) }
     {
-        match self.place(number) {
-            Some(place) => crate::entries::is_closed(place.log()),
+        match self.site_at(site) {
+            Some(site) => crate::entries::is_closed(site.log()),
             None => false,
         }
     }
 
     /// The entries of the origin that reached a site's buffer, each once, in the order in which
     /// they first came.
-    pub fn reached(&self, number: SiteId, origin: SiteId) -> &[Entry<A>]
-        ensures { result.now ≡ reached self.now number origin }
+    pub fn reached(&self, site: SiteId, origin: SiteId) -> &[Entry<A>]
+        ensures { result.now ≡ reached self.now site origin }
     {
-        match self.link(number, origin) {
+        match self.link(site, origin) {
             Some(link) => link.reached(),
             None => &[],
         }
     }
 
     /// The entries of the origin that a site's buffer delivered.
-    pub fn put(&self, number: SiteId, origin: SiteId) -> &[Entry<A>]
-        ensures { result.now ≡ put self.now number origin }
+    pub fn put(&self, site: SiteId, origin: SiteId) -> &[Entry<A>]
+        ensures { result.now ≡ put self.now site origin }
     {
-        match self.link(number, origin) {
+        match self.link(site, origin) {
             Some(link) => link.put(),
             None => &[],
         }
     }
 
     /// The entries of the origin that a site applied.
-    pub fn applied(&self, number: SiteId, origin: SiteId) -> &[Entry<A>]
-        ensures { result.now ≡ applied self.now number origin }
+    pub fn applied(&self, site: SiteId, origin: SiteId) -> &[Entry<A>]
+        ensures { result.now ≡ applied self.now site origin }
     {
-        match self.link(number, origin) {
+        match self.link(site, origin) {
             Some(link) => link.applied(),
             None => &[],
         }
     }
 
     /// The own number of the last entry of the origin that a site's buffer delivered.
-    pub fn put_number(&self, number: SiteId, origin: SiteId) -> u64
-        ensures { result ≡ end (put self.now number origin) }
+    pub fn put_end(&self, site: SiteId, origin: SiteId) -> u64
+        ensures { result ≡ end (put self.now site origin) }
     {
-        match self.link(number, origin) {
-            Some(link) => link.put_number(),
+        match self.link(site, origin) {
+            Some(link) => link.put_end(),
             None => 0,
         }
     }
 
     /// The own number of the last entry of the origin that a site applied.
-    pub fn applied_number(&self, number: SiteId, origin: SiteId) -> u64
-        ensures { result ≡ end (applied self.now number origin) }
+    pub fn applied_end(&self, site: SiteId, origin: SiteId) -> u64
+        ensures { result ≡ end (applied self.now site origin) }
     {
-        match self.link(number, origin) {
-            Some(link) => link.applied_number(),
+        match self.link(site, origin) {
+            Some(link) => link.applied_end(),
             None => 0,
         }
     }
 
     /// The rights on the way from the origin to a site: given in entries that the site has not
     /// applied. It goes over these entries.
-    pub fn way(&self, origin: SiteId, number: SiteId) -> u64
-        ensures { result ≡ on_way self.now origin number }
+    pub fn way(&self, origin: SiteId, site: SiteId) -> u64
+        ensures { result ≡ on_way self.now origin site }
     {
         let _ = &self.sites;
         // Nothing is on the way from a site to itself.
-        if origin == number {
+        if origin == site {
             return 0;
         }
-        let applied = self.applied(number, origin).len();
-        match self.place(origin) {
-            Some(place) => gift_in(&place.log()[applied..], number),
+        let applied = self.applied(site, origin).len();
+        match self.site_at(origin) {
+            Some(from) => gift_in(&from.log()[applied..], site),
             None => 0,
         }
     }
@@ -249,12 +249,12 @@ fn copy_of<A: Allocator, B: Allocator + Copy>(
 
 // What these entries give to a site.
 fn gift_in<A: Allocator>(entries: &[Entry<A>], site: SiteId) -> u64
-    requires { to site (moves_of entries.now) ≤ 1000000000000000000 }
+    requires { to site (moves_of entries.now) ≤ MAX_TOTAL }
     ensures { result ≡ to site (moves_of entries.now) }
 {
     let mut gift = 0;
     for entry in entries {
-        gift += gift_of(entry.moves(), site);
+        gift += gift_among(entry.moves(), site);
     }
     gift
 }

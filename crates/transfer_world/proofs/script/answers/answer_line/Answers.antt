@@ -8,5 +8,5 @@ returns-clause-ok g c =
     on_ok_weaker c.finish.result (λ ended. (
       answer.0,
       rw (c.in_ok-command.ensures) at answer.1,
-      ended ∙ rw (c.in_ok-answer.ensures.kept, answer.2, c.requires) refl,
+      ended ∙ rw (c.in_ok-answer.ensures.kept, answer.2, c.requires.ready) refl,
     )) c.finish.ensures.ok

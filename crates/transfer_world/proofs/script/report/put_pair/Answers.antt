@@ -15,7 +15,7 @@ returns-clause-ok g c =
       c.in_ok-put_field.ensures.ok,
       c.number.ensures.value,
       c.number-2.ensures.value,
-      c.applied_number.ensures,
-      c.put_number.ensures,
+      c.applied_end.ensures,
+      c.put_end.ensures,
       c.way.ensures,
     ) (simp append_assoc)) c.put.ensures.ok

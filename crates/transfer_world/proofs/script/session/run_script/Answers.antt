@@ -23,8 +23,8 @@ pub returns-in_err-write_to-clause-ends : goal.returns-in_err-write_to-clause-en
 returns-in_err-write_to-clause-ends g c =
     let p = err_from_is_err_and c.from_residual-in_err-write_to.result c.from_residual-in_err-write_to.ensures.1 in
     let ran = c.run-result.ensures.ran in
-    let part = c.in_err-write_to.ensures.part in
-    rw (p.1, p.2) (ends_cut g.row.A.Denot ran.0 ran.1 _ _ _ _ _ ran.2 ran.3 _ c.run-result.result part.0 ran.4 (iff_false c.is_write_failure.ensures c.if-is_write_failure.false) part.1)
+    let part = c.in_err-write_to.ensures.front in
+    rw (p.1, p.2) (ends_cut g.row.A.Denot ran.0 ran.1 _ _ _ _ _ ran.2 ran.3 _ c.run-result.result part.0 ran.4 (iff_false c.is_write_failure.ensures c.if-is_write_failure.false) part.2)
 
 pub returns-clause-ends : goal.returns-clause-ends
 returns-clause-ends g c =

@@ -1,5 +1,5 @@
 use Rattle.std.proofs.Common.{◌==◌, sym}
-use Rattle.transfer_world.proofs.WordLaws.{uncut, cut}
+use Rattle.entry_codec.proofs.Cuts.{uncut, cut}
 use Rattle.transfer_world.proofs.script.words.split_word.Goals as goal
 
 pub returns-in-None : goal.returns-in-None

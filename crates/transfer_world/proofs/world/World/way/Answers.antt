@@ -14,7 +14,7 @@ pub returns-then-eq : goal.returns-then-eq
 returns-then-eq g c =
     let w = c.args.self.now in
     let sound : Sound w = subst Sound c.self.view_is c.self.invariant.sound in
-    let same : c.args.origin ≡ c.args.number = eqb-true c.args.origin c.args.number (sym c.eq.ensures ∙ c.if-eq.true) in
+    let same : c.args.origin ≡ c.args.site = eqb-true c.args.origin c.args.site (sym c.eq.ensures ∙ c.if-eq.true) in
     sym (subst (λ (s : ℕ). on_way w c.args.origin s ≡ 0) same (way_itself w c.args.origin sound))
 
 pub gift_in-requires : goal.gift_in-requires
@@ -22,7 +22,7 @@ gift_in-requires g c =
     let w = c.args.self.now in
     let sound : Sound w = subst Sound c.self.view_is c.self.invariant.sound in
     let entries : c.log.result.now ≡ log w c.args.origin = c.log.ensures ∙ ap (λ (x : SiteValue). x.log) c.in-Some.ensures.some in
-    rw (take_rest c.log.result.now (length c.applied-applied.result.now), entries) (way_small w c.args.origin c.args.number (length c.applied-applied.result.now) sound)
+    rw (take_rest c.log.result.now (length c.applied-applied.result.now), entries) (way_small w c.args.origin c.args.site (length c.applied-applied.result.now) sound)
 
 pub returns-in-Some : goal.returns-in-Some
 returns-in-Some g c =
@@ -30,11 +30,11 @@ returns-in-Some g c =
     let sound : Sound w = subst Sound c.self.view_is c.self.invariant.sound in
     let entries : c.log.result.now ≡ log w c.args.origin = c.log.ensures ∙ ap (λ (x : SiteValue). x.log) c.in-Some.ensures.some in
     let rest = take_rest c.log.result.now (length c.applied-applied.result.now) in
-    c.gift_in.ensures ∙ ap (λ es. to c.args.number (moves_of es)) rest ∙ ap (λ (es : List EntryValue). to c.args.number (moves_of (drop (length c.applied-applied.result.now) es))) entries
-    ∙ ap (λ (es : List EntryValue). to c.args.number (moves_of (drop (length es) (log w c.args.origin)))) c.applied-applied.ensures ∙ sym (way_value w c.args.origin c.args.number sound)
+    c.gift_in.ensures ∙ ap (λ es. to c.args.site (moves_of es)) rest ∙ ap (λ (es : List EntryValue). to c.args.site (moves_of (drop (length c.applied-applied.result.now) es))) entries
+    ∙ ap (λ (es : List EntryValue). to c.args.site (moves_of (drop (length es) (log w c.args.origin)))) c.applied-applied.ensures ∙ sym (way_value w c.args.origin c.args.site sound)
 
 pub returns-in-None : goal.returns-in-None
 returns-in-None g c =
     let w = c.args.self.now in
     let sound : Sound w = subst Sound c.self.view_is c.self.invariant.sound in
-    sym (way_none w c.args.origin c.args.number sound c.in-None.ensures.none)
+    sym (way_none w c.args.origin c.args.site sound c.in-None.ensures.none)

@@ -10,7 +10,7 @@ pub overflow_add-gift : goal.overflow_add-gift
 overflow_add-gift g c = omega (
   arith,
   c.loop-entry.invariant,
-  c.gift_of-gift.ensures.range,
+  c.gift_among-gift.ensures.range,
   gift_front c.args.site c.args.entries.now c.loop-entry.entry-index,
   c.requires,
 )
@@ -20,6 +20,6 @@ loop-entry-preserved g c =
     omega (
       arith,
       c.loop-entry.invariant,
-      c.gift_of-gift.ensures.value ∙ ap (to c.args.site) c.moves.ensures.value,
+      c.gift_among-gift.ensures.value ∙ ap (to c.args.site) c.moves.ensures.value,
       gift_more c.args.site c.args.entries.now c.loop-entry.entry-index c.entry-item.result c.loop-entry-test.true c.entry-item.is,
     )

@@ -1,7 +1,8 @@
-use Rattle.std.proofs.Common.{ℕ, ◌+◌, ◌≤◌, List, length, take, refl, ap, sym, arith, length-take}
+use Rattle.std.proofs.Common.{append-nil, ℕ, ◌+◌, ◌≤◌, List, length, take, refl, ap, sym, arith, length-take}
 use Rattle.std.proofs.lemmas.Bool.{eqb-true}
 use Rattle.std.proofs.lemmas.Result.{err_from_is_err_and}
 use Rattle.entry_codec.specs.Pieces.{pieces}
+use Rattle.transfer_world.specs.Waiting.{Waiting}
 use Rattle.transfer_world.proofs.CountLaws.{line_more, line_none, line_some, counts_lines, counts_still, counts_within}
 use Rattle.transfer_world.proofs.FeedLaws.{cut_found, cut_none, going_next, going_end, going_written, stopped_in, stopped_in_write}
 use Rattle.transfer_world.proofs.script.session.Session.feed.Goals.{else-at-eq0-via-then-at-eq0+else-not-is_empty, else-at-eq0-via-else-at-eq0}
@@ -9,6 +10,18 @@ use Rattle.transfer_world.proofs.script.session.Session.feed.Goals as goal
 
 short_front : (xs : List ℕ) → length (take 16384 xs) ≤ 16384
 short_front xs = simp length-take (omega arith)
+
+pub loop-length-init : goal.loop-length-init
+loop-length-init g c = record {
+  within = omega arith;
+  ready = ap (λ (w : Waiting). w.part) c.requires.written;
+  room = omega (arith, ap (λ (w : Waiting). length w.whole) c.requires.written);
+  short = c.requires.short;
+  few = c.requires.few;
+  counted = omega arith;
+  moves = λ some. absurd (omega arith);
+  going = λ input held h. rw append-nil h;
+}
 
 pub loop-length-preserved : goal.loop-length-preserved
 loop-length-preserved g c =
@@ -23,8 +36,9 @@ loop-length-preserved g c =
     record {
       within = omega (arith, cut.0);
       ready = write.ready;
+      room = write.room;
       short = omega (arith, ap length line.ended);
-      few = omega (arith, inv.few, line.count, c.if-self-eq-MOST.false);
+      few = omega (arith, inv.few, line.count, c.if-self-eq-LINE_LIMIT.false);
       counted = omega (arith, inv.counted, line.count, more);
       moves = λ some. omega (arith, more);
       going = λ input held h.
@@ -42,8 +56,8 @@ returns-in_err-keep-clause-fed g c = λ input held h.
     let p = err_from_is_err_and c.from_residual-in_err-keep.result c.from_residual-in_err-keep.ensures.1 in
     rw (p.1, p.2) (stopped_in g.row.A.Denot input c.args.bytes.now c.loop-length.at held _ _ _ _ (c.loop-length.invariant.going input held h) _ refl)
 
-pub returns-then-self-eq-MOST-clause-fed : goal.returns-then-self-eq-MOST-clause-fed
-returns-then-self-eq-MOST-clause-fed g c = λ input held h.
+pub returns-then-self-eq-LINE_LIMIT-clause-fed : goal.returns-then-self-eq-LINE_LIMIT-clause-fed
+returns-then-self-eq-LINE_LIMIT-clause-fed g c = λ input held h.
     let inv = c.loop-length.invariant in
     let line = c.in_ok-end_line.ensures in
     let next = going_next g.row.A.Denot input c.args.bytes.now c.loop-length.at held _ _ _ _ (inv.going input held h) c.in-Some.length _ _ _ inv.within c.in-Some.ensures line.line line.ended in
@@ -55,18 +69,18 @@ returns-in_err-pass_on-clause-fed g c = λ input held h.
     let inv = c.loop-length.invariant in
     let line = c.in_ok-end_line.ensures in
     let next = going_next g.row.A.Denot input c.args.bytes.now c.loop-length.at held _ _ _ _ (inv.going input held h) c.in-Some.length _ _ _ inv.within c.in-Some.ensures line.line line.ended in
-    let part = c.in_err-pass_on.ensures.part in
-    rw (p.1, p.2) (stopped_in_write g.row.A.Denot input c.args.bytes.now (c.loop-length.at + (c.in-Some.length + 1)) held _ _ _ _ next _ part.0 part.1)
+    let part = c.in_err-pass_on.ensures.front in
+    rw (p.1, p.2) (stopped_in_write g.row.A.Denot input c.args.bytes.now (c.loop-length.at + (c.in-Some.length + 1)) held _ _ _ _ next _ part.0 part.2)
 
-pub returns-then-self-eq-MOST-2-clause-fed : goal.returns-then-self-eq-MOST-2-clause-fed
-returns-then-self-eq-MOST-2-clause-fed g c = λ input held h.
+pub returns-then-self-eq-LINE_LIMIT-2-clause-fed : goal.returns-then-self-eq-LINE_LIMIT-2-clause-fed
+returns-then-self-eq-LINE_LIMIT-2-clause-fed g c = λ input held h.
     stopped_in g.row.A.Denot input c.args.bytes.now c.loop-length.at held _ _ _ _ (c.loop-length.invariant.going input held h) _ refl
 
-pub returns-else-self-eq-MOST-2-clause-short : goal.returns-else-self-eq-MOST-2-clause-short
-returns-else-self-eq-MOST-2-clause-short g c = rw (c.in_ok-keep.ensures) (short_front _)
+pub returns-else-self-eq-LINE_LIMIT-2-clause-short : goal.returns-else-self-eq-LINE_LIMIT-2-clause-short
+returns-else-self-eq-LINE_LIMIT-2-clause-short g c = rw (c.in_ok-keep.ensures) (short_front _)
 
-pub returns-else-self-eq-MOST-2-clause-fed : goal.returns-else-self-eq-MOST-2-clause-fed
-returns-else-self-eq-MOST-2-clause-fed g c = λ input held h.
+pub returns-else-self-eq-LINE_LIMIT-2-clause-fed : goal.returns-else-self-eq-LINE_LIMIT-2-clause-fed
+returns-else-self-eq-LINE_LIMIT-2-clause-fed g c = λ input held h.
     going_end g.row.A.Denot input c.args.bytes.now c.loop-length.at held _ _ _ _ (c.loop-length.invariant.going input held h) c.memchr.result _ c.in_default.not-Some c.memchr.ensures c.in_ok-keep.ensures
 
 pub returns-else-at-eq0-clause-short : goal.returns-else-at-eq0-clause-short
@@ -76,27 +90,27 @@ pub returns-else-at-eq0-clause-fed : goal.returns-else-at-eq0-clause-fed
 returns-else-at-eq0-clause-fed g c = λ input held h.
     going_end g.row.A.Denot input c.args.bytes.now c.loop-length.at held _ _ _ _ (c.loop-length.invariant.going input held h) c.memchr.result _ c.in_default.not-Some c.memchr.ensures c.in_ok-keep.ensures
 
-pub returns-then-self-eq-MOST-clause-many : goal.returns-then-self-eq-MOST-clause-many
-returns-then-self-eq-MOST-clause-many g c = λ e.
+pub returns-then-self-eq-LINE_LIMIT-clause-many : goal.returns-then-self-eq-LINE_LIMIT-clause-many
+returns-then-self-eq-LINE_LIMIT-clause-many g c = λ e.
     let inv = c.loop-length.invariant in
     let at = c.loop-length.at in
     let n = c.in-Some.length in
     let bytes = c.args.bytes.now in
     let cut = cut_found bytes at n inv.within c.in-Some.ensures in
     let more = line_more (take at bytes) _ (take (at + (n + 1)) bytes) cut.1 cut.2 in
-    omega (arith, inv.counted, c.in_ok-end_line.ensures.count, more, line_some bytes (at + (n + 1)), counts_within bytes, c.if-self-eq-MOST.true)
+    omega (arith, inv.counted, c.in_ok-end_line.ensures.count, more, line_some bytes (at + (n + 1)), counts_within bytes, c.if-self-eq-LINE_LIMIT.true)
 
-pub returns-then-self-eq-MOST-2-clause-many : goal.returns-then-self-eq-MOST-2-clause-many
-returns-then-self-eq-MOST-2-clause-many g c = λ e.
+pub returns-then-self-eq-LINE_LIMIT-2-clause-many : goal.returns-then-self-eq-LINE_LIMIT-2-clause-many
+returns-then-self-eq-LINE_LIMIT-2-clause-many g c = λ e.
     let inv = c.loop-length.invariant in
     let bytes = c.args.bytes.now in
     let none = cut_none bytes c.loop-length.at c.memchr.result c.in_default.not-Some c.memchr.ensures in
     let start = ap (λ (n : ℕ). length (pieces (take n bytes))) c.if-at-eq0.true in
     let still = counts_still bytes (omega (arith, line_none bytes c.loop-length.at none, start)) in
-    omega (arith, inv.counted, start, still, c.if-self-eq-MOST-2.true)
+    omega (arith, inv.counted, start, still, c.if-self-eq-LINE_LIMIT-2.true)
 
-pub returns-else-self-eq-MOST-2-clause-counts : goal.returns-else-self-eq-MOST-2-clause-counts
-returns-else-self-eq-MOST-2-clause-counts g c = λ some.
+pub returns-else-self-eq-LINE_LIMIT-2-clause-counts : goal.returns-else-self-eq-LINE_LIMIT-2-clause-counts
+returns-else-self-eq-LINE_LIMIT-2-clause-counts g c = λ some.
     let inv = c.loop-length.invariant in
     let bytes = c.args.bytes.now in
     let none = cut_none bytes c.loop-length.at c.memchr.result c.in_default.not-Some c.memchr.ensures in

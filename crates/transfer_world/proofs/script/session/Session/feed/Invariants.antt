@@ -7,6 +7,7 @@ abbrev pub invariant-loop-length : goal.invariant-loop-length
 invariant-loop-length g l = record {
   within : l.at ≤ length l.bytes;
   ready : l.self.replies.part ≡ [];
+  room : length l.self.replies.whole < 65536;
   short : length l.self.carry.items ≤ 16384;
   few : l.self.count < 1000000000;
   counted : l.self.count ≡ l.fn.self.count + length (pieces (take l.at l.bytes));

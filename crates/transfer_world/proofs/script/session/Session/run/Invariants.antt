@@ -1,13 +1,14 @@
-use Rattle.std.proofs.Common.{◌≡◌, ◌-◌, ◌+◌, ◌<◌, ◌≤◌, ℕ, List, [], length}
+use Rattle.std.proofs.Common.{◌≡◌, ◌-◌, ◌+◌, ◌<◌, ◌≤◌, ℕ, List, length}
 use Rattle.std.specs.Io.KnownBytes.{Consumes}
 use Rattle.entry_codec.specs.Pieces.{pieces}
 use Rattle.transfer_world.specs.Talk.{still, Parted}
+use Rattle.transfer_world.specs.Waiting.{nothing}
 use Rattle.transfer_world.specs.Session.{Going}
 use Rattle.transfer_world.proofs.script.session.Session.run.Given as goal
 
 abbrev pub invariant-reads : goal.invariant-reads
 invariant-reads g l = record {
-  ready : l.self.replies.part ≡ [];
+  written : l.self.replies ≡ nothing;
   short : length l.self.carry.items ≤ 16384;
   few : l.self.count < 1000000000;
   going : (portions : List (List ℕ)) × (input : List ℕ) × Consumes (g.R.Read.remaining l.fn.reader) (g.R.Read.remaining l.reader) input

@@ -1,25 +1,13 @@
-//! Scripts over readers that give a few bytes, and over streams that break.
-use crate::{ScriptFault, run_script};
+//! Scripts over readers that give a few bytes, over streams that break, and over a reader and a writer
+//! that know of one another.
+use memchr::memchr;
+use std::alloc::Global;
+use std::cell::Cell;
 use std::io;
 use std::io::{ErrorKind, Read, Write};
 use std::test::Fail;
-
-/// A reader that gives a few bytes at a time.
-#[derive(Drop)]
-struct Slow<'a> {
-    rest: &'a [u8],
-    step: usize,
-}
-
-impl Read for Slow<'_> {
-    fn read(&mut self, buf: &mut [u8]) -> io::Result<usize> {
-        let n = buf.len().min(self.step);
-        let mut rest = self.rest;
-        let count = rest.read(&mut buf[..n])?;
-        self.rest = rest;
-        Ok(count)
-    }
-}
+use test_kit::FewAtATime;
+use transfer_world::{ScriptFault, run_script};
 
 /// A reader that fails where its bytes end.
 #[derive(Drop)]
@@ -61,12 +49,24 @@ const SCRIPT: &[u8] =
 const REPLIES: &[u8] =
     b"error NoWorld\nerror NoWorld\nerror BadCommand\nerror BadCommand\nerror BadCommand\nerror BadCommand\nerror BadCommand\nerror BadCommand\nerror BadCommand\nerror BadCommand\nok\nerror BadCommand\nerror BadCommand\nerror NoSuchSite\nerror BadCommand\nerror BadCommand\nerror BadCommand\nerror BadCommand\nerror BadCommand\nerror BadCommand\nerror NoSuchSite\nerror NoSuchSite\nerror BadCommand\nerror BadCommand\nerror NoPacket\nerror BadCommand\nerror BadCommand\nerror NoPacket\nerror BadCommand\nerror NoSuchSite\nerror BadCommand\nerror BadCommand\nerror BadCommand\nerror BadCommand\nerror NoSuchSite\nerror BadCommand\nerror BadCommand\nsite 1 number 0 issued 0 spent 0 held 0 closed 0\nsite 2 number 0 issued 0 spent 0 held 0 closed 0\npair 1 2 applied 0 put 0 way 0\npair 2 1 applied 0 put 0 way 0\ntotal issued 0 spent 0 held 0 way 0\n";
 
+/// Runs a script of which each read gives at most so many bytes.
+fn run_slowly(
+    alloc: Global,
+    script: &[u8],
+    step: usize,
+    out: &mut Vec<u8>,
+) -> Result<(), ScriptFault> {
+    let mut reader = FewAtATime { rest: script, step };
+    let result = run_script(alloc, &mut reader, out);
+    let FewAtATime { rest: _, step: _ } = reader;
+    result
+}
+
 #[test]
 fn replies(rt: HostRuntime) -> Result<(), Fail> {
     for step in [1, 7, 100000] {
-        let mut reader = Slow { rest: SCRIPT, step };
         let mut out = Vec::new(rt.alloc());
-        let result = run_script(rt.alloc(), &mut reader, &mut out);
+        let result = run_slowly(rt.alloc(), SCRIPT, step, &mut out);
         assert_eq!(rt; result, Ok(()));
         assert_eq!(rt; out.as_slice(), REPLIES);
     }
@@ -90,12 +90,8 @@ fn long_lines(rt: HostRuntime) -> Result<(), Fail> {
     let expected =
         b"ok\nerror NoSuchSite\nerror NoSuchSite\nerror BadCommand\nerror NoSuchSite\nerror BadCommand\nerror NoSuchSite\nerror BadCommand\nerror NoSuchSite\nerror BadCommand\nerror NoSuchSite\n";
     for step in [16383, 16384, 16385, 65536] {
-        let mut reader = Slow {
-            rest: script.as_slice(),
-            step,
-        };
         let mut out = Vec::new(rt.alloc());
-        let result = run_script(rt.alloc(), &mut reader, &mut out);
+        let result = run_slowly(rt.alloc(), &script, step, &mut out);
         assert_eq!(rt; result, Ok(()));
         assert_eq!(rt; out.as_slice(), expected.as_slice());
     }
@@ -120,5 +116,108 @@ fn write_failed(rt: HostRuntime) -> Result<(), Fail> {
     let mut reader = b"sites 2\nreport".as_slice();
     let result = run_script(rt.alloc(), &mut reader, &mut Full(4));
     assert_eq!(rt; result, Err(ScriptFault::WriteFailed));
+    Ok(())
+}
+
+/// What was asked and answered between a reader and a writer.
+#[derive(Drop)]
+struct Talk {
+    asked: Cell<u64>,
+    answered: Cell<u64>,
+    /// Whether a read came before all replies to the lines of the reads before.
+    is_late: Cell<bool>,
+    /// The most bytes that were written at once.
+    longest: Cell<usize>,
+}
+
+impl Talk {
+    fn new() -> Talk {
+        Talk {
+            asked: Cell::new(0),
+            answered: Cell::new(0),
+            is_late: Cell::new(false),
+            longest: Cell::new(0),
+        }
+    }
+}
+
+/// A reader that gives so many lines at a time, each of which has a reply of one line.
+#[derive(Drop)]
+struct Asker<'a> {
+    rest: &'a [u8],
+    lines: u64,
+    talk: &'a Talk,
+}
+
+impl Read for Asker<'_> {
+    fn read(&mut self, buf: &mut [u8]) -> io::Result<usize> {
+        if self.talk.answered.get() < self.talk.asked.get() {
+            self.talk.is_late.set(true);
+        }
+        let mut text = self.rest;
+        let mut count = 0;
+        for _ in 0..self.lines {
+            let Some(length) = memchr(b'\n', text) else {
+                break;
+            };
+            if count + length + 1 > buf.len() {
+                break;
+            }
+            count += length + 1;
+            text = &text[length + 1..];
+            self.talk.asked.set(self.talk.asked.get().saturating_add(1));
+        }
+        buf[..count].copy_from_slice(&self.rest[..count]);
+        self.rest = text;
+        Ok(count)
+    }
+}
+
+/// A writer that takes all, and counts the lines.
+#[derive(Drop)]
+struct Listener<'a>(&'a Talk);
+
+impl Write for Listener<'_> {
+    fn write(&mut self, buf: &[u8]) -> io::Result<usize> {
+        let mut answered = self.0.answered.get();
+        for byte in buf {
+            if *byte == b'\n' {
+                answered = answered.saturating_add(1);
+            }
+        }
+        self.0.answered.set(answered);
+        self.0.longest.set(self.0.longest.get().max(buf.len()));
+        Ok(buf.len())
+    }
+
+    fn flush(&mut self) -> io::Result<()> {
+        Ok(())
+    }
+}
+
+/// So many lines have replies of some blocks.
+const LINES: u64 = 20_000;
+
+/// All replies to the lines of a read are written before the next read, however many lines a read gives,
+/// and at most a block and a reply at a time.
+#[test]
+fn replies_come_before_the_next_read(rt: HostRuntime) -> Result<(), Fail> {
+    let mut script = Vec::from_slice(rt.alloc(), b"sites 2\n")?;
+    for _ in 1..LINES {
+        script.extend_from_slice(b"x\n")?;
+    }
+    for lines in [1, 7, LINES] {
+        let talk = Talk::new();
+        let mut asker = Asker {
+            rest: script.as_slice(),
+            lines,
+            talk: &talk,
+        };
+        let result = run_script(rt.alloc(), &mut asker, &mut Listener(&talk));
+        assert_eq!(rt; result, Ok(()));
+        assert_eq!(rt; (talk.asked.get(), talk.answered.get()), (LINES, LINES));
+        assert!(rt; !talk.is_late.get(), "with {lines} lines at a time");
+        assert!(rt; talk.longest.get() < 65536 + b"error BadCommand\n".len());
+    }
     Ok(())
 }

@@ -1,7 +1,7 @@
 use Rattle.std.proofs.Common.{arith, sym, ap}
 use Rattle.rights_types.specs.Moves.{gift_to}
 use Rattle.rights_types.proofs.Sums.{to-nil, to-more}
-use Rattle.transfer_world.proofs.link.gift_of.Goals as goal
+use Rattle.transfer_world.proofs.link.gift_among.Goals as goal
 
 pub loop-m-init : goal.loop-m-init
 loop-m-init c = (sym (to-nil c.args.site), omega arith)

@@ -1,0 +1,144 @@
+//! Entries of each size, 1 to 16 moves, through events and through a script.
+use rights_types::{Entry, Move, OutOfMemory};
+use std::alloc::Global;
+use std::test::Fail;
+use test_kit::{give, is_entry, issue, site, spend};
+use transfer_world::{Event, Moves, Reply, Verdict, World, WorldError, run_script};
+
+/// The move at a place of an entry, and its text.
+fn move_at(place: usize) -> (Move, &'static [u8]) {
+    match place % 3 {
+        0 => (issue(20), b" I:20"),
+        1 => (spend(4), b" S:4"),
+        _ => (give(2, 3), b" R:2:3"),
+    }
+}
+
+fn moves(alloc: Global, count: usize) -> Result<Vec<Move>, OutOfMemory> {
+    let mut moves = Vec::with_capacity(alloc, count)?;
+    for place in 0..count {
+        moves.push(move_at(place).0)?;
+    }
+    Ok(moves)
+}
+
+/// An entry is posted, sent, arrives and is taken.
+fn add_events(
+    alloc: Global,
+    events: &mut Vec<Event>,
+    count: usize,
+    packet: u64,
+) -> Result<(), OutOfMemory> {
+    events.push(Event::Post(site(1), Moves::new(moves(alloc, count)?)))?;
+    events.push(Event::Publish(site(1), site(2)))?;
+    events.push(Event::Arrive(site(2), packet))?;
+    events.push(Event::Take(site(2), site(1)))?;
+    Ok(())
+}
+
+/// Whether these are the replies to such events.
+fn are_replies(outcomes: &[Result<Reply, WorldError>], end: u64, number: u64) -> bool {
+    let [
+        Ok(Reply::Number(posted)),
+        Ok(Reply::Packet(packet)),
+        Ok(Reply::Verdicts(verdicts)),
+        Ok(Reply::Taken(taken)),
+    ] = outcomes
+    else {
+        return false;
+    };
+    (*posted, *packet, *taken) == (end, number, end)
+        && verdicts.as_slice() == [Verdict::Ready(end)].as_slice()
+}
+
+/// Whether these are the entries of 1, 2 and so on to 16 moves.
+fn are_all_sizes(alloc: Global, entries: &[Entry]) -> Result<bool, OutOfMemory> {
+    let mut prev = 0u64;
+    let mut right = entries.len() == 16;
+    for (place, entry) in entries.iter().enumerate() {
+        right = right && is_entry(entry, 1, prev, moves(alloc, place + 1)?.as_slice());
+        prev = entry.own();
+    }
+    Ok(right)
+}
+
+/// Whether the world has all entries wherever it should.
+fn has_all(alloc: Global, world: &World) -> Result<bool, OutOfMemory> {
+    let log = world.log(alloc, site(1))?;
+    Ok(
+        are_all_sizes(alloc, &log)?
+            && are_all_sizes(alloc, world.reached(site(2), site(1)))?
+            && are_all_sizes(alloc, world.put(site(2), site(1)))?
+            && are_all_sizes(alloc, world.applied(site(2), site(1)))?,
+    )
+}
+
+#[test]
+fn steps_and_runs_with_entries_of_each_size(rt: HostRuntime) -> Result<(), Fail> {
+    let mut events = Vec::new(rt.alloc());
+    for count in 1..=16usize {
+        add_events(rt.alloc(), &mut events, count, count as u64)?;
+    }
+    let mut world = World::new(rt.alloc(), 2)?;
+    let outcomes = world.run(&events)?;
+    let mut stepped = World::new(rt.alloc(), 2)?;
+    let mut rest = outcomes.as_slice();
+    let mut next = events.as_slice();
+    let mut end = 0u64;
+    for count in 1..=16u64 {
+        end += count;
+        let (Some((replies, more)), Some((round, others))) = (
+            rest.split_at_checked(4),
+            next.split_at_checked(4),
+        ) else {
+            return Err(Fail::from("too few replies"));
+        };
+        assert!(rt; are_replies(replies, end, count), "with {count} moves");
+        let mut answers = Vec::new(rt.alloc());
+        for event in round {
+            answers.push(stepped.step(event.clone_in(rt.alloc())?))?;
+        }
+        assert!(rt; are_replies(&answers, end, count), "with {count} moves");
+        rest = more;
+        next = others;
+    }
+    assert!(rt; rest.is_empty());
+    assert!(rt; has_all(rt.alloc(), &world)?);
+    assert!(rt; has_all(rt.alloc(), &stepped)?);
+    Ok(())
+}
+
+#[test]
+fn scripts_with_entries_of_each_size(rt: HostRuntime) -> Result<(), Fail> {
+    for count in 1..=16usize {
+        let mut words = Vec::new(rt.alloc());
+        for place in 0..count {
+            words.extend_from_slice(move_at(place).1)?;
+        }
+        let mut script = Vec::from_slice(rt.alloc(), b"sites 2\npost 1")?;
+        script.extend_from_slice(&words)?;
+        script.extend_from_slice(b"\npublish 1 2\narrive 2 1\ntake 2 1\n")?;
+        let number = format!(in rt.alloc(); "{count}")?;
+        let number = number.as_bytes();
+        let mut expected = Vec::new(rt.alloc());
+        for part in [
+            b"ok\nnumber ".as_slice(),
+            number,
+            b"\npacket 1 E 1 0 ",
+            number,
+            &words,
+            b"\nready ",
+            number,
+            b"\ntaken ",
+            number,
+            b"\n",
+        ] {
+            expected.extend_from_slice(part)?;
+        }
+        let mut out = Vec::new(rt.alloc());
+        let result = run_script(rt.alloc(), &mut script.as_slice(), &mut out);
+        assert_eq!(rt; result, Ok(()));
+        assert_eq!(rt; out.as_slice(), expected.as_slice());
+    }
+    Ok(())
+}
