@@ -250,6 +250,7 @@ impl<A: Allocator> World<A> {
     pub fn headline(&self)
         ensures { Headline self.now }
     {
+        // For the proof: what is kept of the world.
         let _ = &self.sites;
     }
 }

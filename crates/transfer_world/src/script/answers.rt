@@ -138,7 +138,7 @@ fn put_outcome<A: Allocator + Copy>(
     }
 }
 
-/// CommandGets a command, but for the end of its reply.
+/// Answers a command, but for the end of its reply.
 fn answer<A: Allocator + Copy>(
     alloc: A,
     world: &mut Option<World<A>>,
@@ -172,7 +172,7 @@ fn answer<A: Allocator + Copy>(
     }
 }
 
-/// CommandGets a line, given without its line feed.
+/// Answers a line, given without its line feed.
 pub(crate) fn answer_line<A: Allocator + Copy>(
     alloc: A,
     world: &mut Option<World<A>>,

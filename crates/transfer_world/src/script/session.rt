@@ -85,7 +85,8 @@ impl<A: Allocator + Copy> Session<A> {
         Ok(())
     }
 
-    /// TakeHappens what was read, and answers each line that ends in it.
+    /// Takes what was read, and answers each line that ends in it. Then less than a block of replies
+    /// waits.
     fn feed<W: Write>(&mut self, writer: &mut W, bytes: &[u8]) -> Result<(), ScriptFault>
         requires written { self.old.replies ≡ nothing }
         requires short { length self.old.carry.items ≤ MAX_LINE }

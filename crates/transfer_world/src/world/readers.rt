@@ -183,6 +183,7 @@ impl<A: Allocator> World<A> {
     pub fn way(&self, origin: SiteId, site: SiteId) -> u64
         ensures { result ≡ on_way self.now origin site }
     {
+        // For the proof: what is kept of the world.
         let _ = &self.sites;
         // Nothing is on the way from a site to itself.
         if origin == site {
@@ -202,6 +203,7 @@ impl<A: Allocator> World<A> {
         ensures held { result.held ≡ sum_sites (count self.now) (held_by self.now) }
         ensures way { result.way ≡ sum_sites (count self.now) (λ o. sum_sites (count self.now) (λ s. on_way self.now o s)) }
     {
+        // For the proof: what is kept of the world.
         let _ = &self.sites;
         let mut totals = Totals {
             issued: 0,
@@ -224,6 +226,7 @@ impl<A: Allocator> World<A> {
         requires { origin ≤ count self.now }
         ensures { result ≡ sum_sites (count self.now) (λ s. on_way self.now origin s) }
     {
+        // For the proof: what is kept of the world, and the range of the origin.
         let _ = &self.sites;
         let _ = origin.number();
         let mut way = 0;
