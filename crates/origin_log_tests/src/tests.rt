@@ -5,3 +5,4 @@ mod helpers;
 mod longest;
 mod memory;
 mod room;
+mod sizes;

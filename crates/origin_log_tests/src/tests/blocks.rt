@@ -1,13 +1,14 @@
 //! Logs of many lines.
 ghost use Rattle.std.specs.Prelude.{◌<◌};
 
-use crate::tests::helpers::{append, gives, is_entry, issue, query, site};
+use crate::tests::helpers::{append, gives, query};
 use linked_list_allocator::LocalHeap;
 use origin_log::OriginLog;
 use rights_types::{Amount, AskNumber, Move};
 use std::alloc::{AllocGlobal, Allocator, Global};
 use std::process::Abort;
 use std::test::Fail;
+use test_kit::{is_entry, issue, site};
 
 const ENTRIES: usize = 3_000;
 
@@ -42,7 +43,7 @@ fn a_long_log_gives_each_entry_back(rt: HostRuntime) -> Result<(), Fail> {
         let found = log.answer(&query(own, own)?).expect(&rt, "an answer");
         assert_eq!(rt; found.len(), 1);
         for entry in &found {
-            assert!(rt; is_entry(entry, site(1), prev, &grants(index)));
+            assert!(rt; is_entry(entry, 1, prev, &grants(index)));
         }
     }
     Ok(())

@@ -1,12 +1,12 @@
 //! Worked examples.
 use crate::tests::helpers::{
-    append, close, close_for, frontier, give, gives, issue, query, site, spend, take_back,
-    three_entries,
+    append, close, close_for, frontier, gives, query, take_back, three_entries,
 };
 use origin_log::{LogError, OriginLog, ReadError};
 use rights_types::{Amount, Move, Query, Total};
 use std::alloc::Global;
 use std::test::Fail;
+use test_kit::{give, issue, site, spend};
 
 /// Each entry is numbered and published by its line.
 #[test]

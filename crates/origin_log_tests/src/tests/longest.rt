@@ -1,10 +1,11 @@
 //! Entries, closing entries and answers with the most moves and the greatest numbers, compared whole.
-use crate::tests::helpers::{append, close_for, frontier, gives, grant, is_entry, issue, site};
+use crate::tests::helpers::{append, close_for, frontier, gives};
 use origin_log::{LogError, OriginLog};
 use rights_types::{Amount, Move, Query};
 use std::alloc::{AllocError, AllocGlobal, Allocator, Global};
 use std::process::Abort;
 use std::test::Fail;
+use test_kit::{is_entry, issue, longest_grant, site};
 
 // How the lines of the first entries of site 15 begin, where each has 16 moves.
 const HEADS: [&[u8]; 16] = [
@@ -33,7 +34,7 @@ pub(crate) fn longest_log<A: Allocator + Copy>(
 ) -> Result<OriginLog<A>, LogError> {
     let mut log = OriginLog::new(alloc, site(15));
     for _ in 0..17u8 {
-        append(rt, &mut log, &[grant(16); 16])?;
+        append(rt, &mut log, &[longest_grant(); 16])?;
     }
     Ok(log)
 }
@@ -60,7 +61,7 @@ fn the_longest_entries(rt: HostRuntime) -> Result<(), Fail> {
         add_text(&mut wanted, head)?;
         wanted.push(b'\n')?;
         assert_eq!(rt; log.line(index), Some(wanted.as_slice()));
-        assert!(rt; gives(&log, index, index as u64 * 16, &[grant(16); 16]));
+        assert!(rt; gives(&log, index, index as u64 * 16, &[longest_grant(); 16]));
     }
     Ok(())
 }
@@ -72,7 +73,7 @@ fn the_longest_answer(rt: HostRuntime) -> Result<(), Fail> {
     let found = log.answer(&query).expect(&rt, "an answer");
     assert_eq!(rt; found.len(), 16);
     for (index, entry) in found.iter().enumerate() {
-        assert!(rt; is_entry(entry, site(15), index as u64 * 16, &[grant(16); 16]));
+        assert!(rt; is_entry(entry, 15, index as u64 * 16, &[longest_grant(); 16]));
     }
     let mut wanted = Vec::from_slice(rt.alloc(), b"A 15 16")?;
     for head in &HEADS {

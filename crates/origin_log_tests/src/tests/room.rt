@@ -1,13 +1,15 @@
 //! How much memory a log asks for. Requests are counted by an allocator that refuses the next one, and
 //! bytes by a heap of one block.
-use crate::tests::helpers::{append, issue, site};
+use crate::tests::helpers::append;
 use crate::tests::longest::{longest_log, query_for_all};
 use linked_list_allocator::LocalHeap;
 use origin_log::{LogError, OriginLog, ReadError};
 use refusing_allocator::Refusing;
+use rights_types::{Entry, MAX_ANSWER};
 use std::alloc::AllocGlobal;
 use std::process::Abort;
 use std::test::Fail;
+use test_kit::{issue, site};
 
 // More requests than any run here makes.
 const MANY: u64 = 1_000;
@@ -48,9 +50,29 @@ fn an_answer_makes_a_request_for_each_entry(rt: HostRuntime) -> Result<(), Fail>
     Ok(())
 }
 
-/// The room of an answer's line is that of its bytes, and an entry's that of its moves.
+/// The room of an answer is that of copies of its entries.
 #[test]
-fn answers_take_no_spare_bytes(rt: HostRuntime) -> Result<(), Fail> {
+fn an_answer_takes_no_spare_bytes(rt: HostRuntime) -> Result<(), Fail> {
+    let heap = LocalHeap::new(rt.alloc(), 1 << 18)?;
+    let log = longest_log(&rt, &heap).expect(&rt, "memory");
+    let kept = heap.used();
+    let found = log.answer(&query_for_all()?).expect(&rt, "an answer");
+    let answered = heap.used();
+    let mut copies: Vec<Entry<&LocalHeap>, &LocalHeap> = Vec::with_capacity(&heap, MAX_ANSWER)?;
+    for entry in &found {
+        copies.push(entry.clone_in(&heap)?)?;
+    }
+    assert_eq!(rt; copies.len(), MAX_ANSWER);
+    assert_eq!(rt;
+        answered.saturating_sub(kept),
+        heap.used().saturating_sub(answered)
+    );
+    Ok(())
+}
+
+/// The room of an answer's line is that of its bytes.
+#[test]
+fn an_answers_line_takes_no_spare_bytes(rt: HostRuntime) -> Result<(), Fail> {
     let heap = LocalHeap::new(rt.alloc(), 1 << 18)?;
     let log = longest_log(&rt, &heap).expect(&rt, "memory");
     let query = query_for_all()?;

@@ -4,9 +4,27 @@ use refusing_allocator::Refusing;
 use request_queue::{QueueError, RequestQueue, SLOTS, Status};
 use rights_types::OutOfMemory;
 use std::test::Fail;
+use test_kit::requests_of;
 
-// More requests for memory than a queue makes.
-const MANY: u64 = 10;
+// A new queue asks for the room of its waiting requests, and for that of its outcomes.
+const REQUESTS: u64 = 2;
+
+/// Each growth that a new queue needs is refused in turn, and then none is.
+#[test]
+fn each_growth_of_a_new_queue_refused(rt: HostRuntime) {
+    let requests = requests_of(rt.alloc(), |memory| {
+        match RequestQueue::new(memory) {
+            Ok(queue) => {
+                !memory.refused()
+                    && queue.waiting() == 0
+                    && queue.total() == 0
+                    && queue.front().is_none()
+            }
+            Err(OutOfMemory) => memory.refused(),
+        }
+    });
+    assert_eq!(rt; requests, Some(REQUESTS));
+}
 
 /// A queue takes room for as many requests as it has slots, and for as many outcomes: each has three
 /// numbers at most.
@@ -21,61 +39,25 @@ fn room_of_the_slots(rt: HostRuntime) -> Result<(), Fail> {
     Ok(())
 }
 
-/// Each growth that a new queue needs is refused in turn, and then none is.
-#[test]
-fn each_growth_of_a_new_queue_refused(rt: HostRuntime) -> Result<(), Fail> {
-    let mut wants_memory = false;
-    let mut whole = false;
-    for granted in 0..MANY {
-        let refusing = Refusing::new(rt.alloc(), granted);
-        match RequestQueue::new(&refusing) {
-            Ok(queue) => {
-                assert!(rt; !refusing.refused());
-                assert_eq!(rt; queue.waiting(), 0);
-                assert_eq!(rt; queue.total(), 0);
-                assert_eq!(rt; queue.front(), None);
-                whole = true;
-                break;
-            }
-            Err(error) => {
-                assert!(rt; refusing.refused());
-                assert_eq!(rt; error, OutOfMemory);
-                wants_memory = true;
-            }
-        }
-    }
-    assert!(rt; wants_memory);
-    assert!(rt; whole);
-    Ok(())
-}
-
 /// After `new` no call asks for memory: all slots fill, empty and fill again with none to be had.
 #[test]
 fn no_call_after_new_takes_memory(rt: HostRuntime) -> Result<(), Fail> {
-    let mut whole = false;
-    for granted in 0..MANY {
-        let refusing = Refusing::new(rt.alloc(), granted);
-        let Ok(mut queue) = RequestQueue::new(&refusing) else {
-            continue;
-        };
-        for ticket in 1..=SLOTS as u64 {
-            assert_eq!(rt; queue.put(1, ticket), Ok(ticket));
-        }
-        for ticket in 1..=SLOTS as u64 {
-            assert_eq!(rt; queue.expire_one(ticket + 1), Some(ticket));
-        }
-        assert_eq!(rt; queue.put(1, 0), Err(QueueError::QueueFull));
-        for ticket in 1..=SLOTS as u64 {
-            assert_eq!(rt; queue.status(ticket), Status::Expired);
-        }
-        assert_eq!(rt; queue.put(1, 0), Ok(33));
-        assert!(rt; queue.waiting() > 0);
-        queue.serve_front(1);
-        assert_eq!(rt; queue.status(33), Status::Spent(1));
-        assert!(rt; !refusing.refused());
-        whole = true;
-        break;
+    let refusing = Refusing::new(rt.alloc(), REQUESTS);
+    let mut queue = RequestQueue::new(&refusing)?;
+    for ticket in 1..=SLOTS as u64 {
+        assert_eq!(rt; queue.put(1, ticket), Ok(ticket));
     }
-    assert!(rt; whole);
+    for ticket in 1..=SLOTS as u64 {
+        assert_eq!(rt; queue.expire_one(ticket + 1), Some(ticket));
+    }
+    assert_eq!(rt; queue.put(1, 0), Err(QueueError::QueueFull));
+    for ticket in 1..=SLOTS as u64 {
+        assert_eq!(rt; queue.status(ticket), Status::Expired);
+    }
+    assert_eq!(rt; queue.put(1, 0), Ok(33));
+    assert!(rt; queue.waiting() > 0);
+    queue.serve_front(1);
+    assert_eq!(rt; queue.status(33), Status::Spent(1));
+    assert!(rt; !refusing.refused());
     Ok(())
 }
