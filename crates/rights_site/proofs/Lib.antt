@@ -1,3 +1,2 @@
 mod CommandWords
-mod Writes
 mod ScriptLaws

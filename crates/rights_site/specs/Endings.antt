@@ -1,5 +1,6 @@
 -- How the program ends.
-use Rattle.std.specs.Prelude.{ℕ, List, [], ⊤, Result, Ok, Err}
+use Rattle.std.specs.Prelude.{◌≡◌, ℕ, List, [], ⊤, Option, Result, Ok, Err}
+use Rattle.transfer_world.specs.Fronts.{AppendsFront}
 use Rattle.rights_site.specs.Asked.{Asked, help, nothing, script}
 use Rattle.rights_site.specs.Faults.{line_of, status_of}
 use Rattle.rights_site.specs.declared.fault.Fault.{Fault}
@@ -38,3 +39,8 @@ MayBeDone nothing = ⊥
 abbrev pub MayEnd : Asked → Ending → Type 0
 MayEnd asked (Ok done) = MayBeDone asked
 MayEnd asked (Err fault) = MayStop asked fault
+
+-- the status, and what was printed on standard error, are those of one ending
+abbrev pub EndsWith : ℕ → Option (List ℕ) → Option (List ℕ) → Type 0
+EndsWith status old new =
+    (ending : Ending) × (status ≡ status_of_ending ending) × AppendsFront old new (line_of_ending ending)

@@ -1,5 +1,7 @@
 -- What the program ends with where it is stopped.
 use Rattle.std.specs.Prelude.{ℕ, List, [], ◌∷◌, ◌++◌, codes}
+use Rattle.std.specs.declared.io.ErrorKind.{ErrorKind}
+use Rattle.std.specs.declared.io.ErrorKind.TheVariants.{InvalidData}
 use Rattle.rights_site.specs.declared.fault.Fault.{Fault}
 use Rattle.rights_site.specs.declared.fault.Fault.TheVariants.{BadCommandLine, OutOfMemory, ReadFailed, TooManyLines, WriteFailed}
 use Rattle.rights_site.specs.declared.words.WordsFault.{WordsFault}
@@ -25,6 +27,11 @@ text_of TooManyLines = codes "rights-site: too many lines"
 -- what is printed: the text and a line feed
 abbrev pub line_of : Fault → List ℕ
 line_of fault = text_of fault ++ 10 ∷ []
+
+-- why the words of the process cannot be told, by the kind of the error
+abbrev pub fault_of_given : ErrorKind → Fault
+fault_of_given InvalidData = BadCommandLine
+fault_of_given kind = OutOfMemory
 
 abbrev pub fault_of_words : WordsFault → Fault
 fault_of_words words.Refused = BadCommandLine

@@ -1,11 +1,11 @@
 //! Why the program ends with another status than 0, and what it says then.
 ghost use Rattle.std.specs.Prelude.{◌≡◌};
 ghost use Rattle.rights_site.specs.Faults.{line_of, status_of};
-ghost use Rattle.rights_site.specs.declared.fault.Fault.TheVariants.{OutOfMemory};
+ghost use Rattle.rights_site.specs.declared.fault.Fault.TheVariants.{OutOfMemory, WriteFailed};
 
 use crate::words::WordsFault;
 use std::alloc::AllocError;
-use transfer_world::ScriptFault;
+use transfer_world::{ScriptFault, WriteFault};
 
 /// Why the program ends with another status than 0.
 #[derive(Clone, Copy, Debug, PartialEq, Eq)]
@@ -52,6 +52,14 @@ impl From<AllocError> for Fault {
 
     fn from(_error: AllocError) -> Fault {
         Fault::OutOfMemory
+    }
+}
+
+impl From<WriteFault> for Fault {
+    ghost from_gives = { λ _ fault. fault ≡ WriteFailed };
+
+    fn from(_error: WriteFault) -> Fault {
+        Fault::WriteFailed
     }
 }
 

@@ -4,16 +4,15 @@ ghost use Rattle.clap.specs.Walk.{texts};
 ghost use Rattle.rights_site.specs.Asked.{asked_by, nothing, script};
 ghost use Rattle.rights_site.specs.Endings.{MayEnd, line_of_ending, status_of_ending};
 ghost use Rattle.rights_site.specs.Faults.{line_of, status_of};
-ghost use Rattle.rights_site.specs.Fronts.{AppendsFront};
+ghost use Rattle.transfer_world.specs.Fronts.{AppendsFront};
 ghost use Rattle.rights_site.specs.Scripts.{Answered};
 ghost use Rattle.rights_site.specs.declared.fault.Fault.{Fault};
 
 use crate::fault::Fault;
-use crate::output::write_whole;
 use crate::words::{Command, read_words};
 use std::alloc::Global;
 use std::io::{Read, Write};
-use transfer_world::run_script;
+use transfer_world::{run_script, write_whole};
 
 /// Says why the program stops, and answers the exit status. What cannot be said is left out.
 pub(crate) fn report<E: Write>(errors: &mut E, fault: Fault) -> u8
@@ -39,11 +38,7 @@ fn run_command<R: Read, W: Write>(
 {
     match read_words(alloc, words)? {
         Command::Sim => run_script(alloc, reader, writer)?,
-        Command::Help(text) => {
-            if write_whole(writer, text.as_bytes()).is_err() {
-                return Err(Fault::WriteFailed);
-            }
-        }
+        Command::Help(text) => write_whole(writer, text.as_bytes())?,
     }
     Ok(())
 }

@@ -1,11 +1,15 @@
 //! Words, help texts and statuses, with streams that break.
+use crate::given::run_given;
 use crate::run::run_words;
 use crate::words::{Command, WordsFault, read_words};
-use std::alloc::Allocator;
+use refusing_allocator::Refusing;
+use std::alloc::Global;
+use std::env::{Env, FillError};
 use std::io;
 use std::io::{ErrorKind, Read, Write};
 use std::process::Abort;
 use std::test::Fail;
+use test_kit::Slow;
 
 /// A reader and a writer that fail at once.
 #[derive(Drop)]
@@ -41,24 +45,28 @@ impl Write for Full {
     }
 }
 
-/// A writer that takes a few bytes at a time.
+/// The words of a process, its name among them.
 #[derive(Drop)]
-struct Slow<A: Allocator> {
-    text: Vec<u8, A>,
-    step: usize,
-}
+struct Words<'a>(&'a [&'a [u8]]);
 
-impl<A: Allocator> Write for Slow<A> {
-    fn write(&mut self, buf: &[u8]) -> io::Result<usize> {
-        let count = buf.len().min(self.step);
-        if self.text.extend_from_slice(&buf[..count]).is_err() {
-            return Err(io::Error::from(ErrorKind::OutOfMemory));
+impl Env for Words<'_> {
+    fn arg(&self, i: usize, buf: &mut [u8]) -> Result<usize, FillError> {
+        let Some(word) = self.0.get(i) else {
+            return Err(FillError::NotPresent);
+        };
+        if word.len() > buf.len() {
+            return Err(FillError::TooLong);
         }
-        Ok(count)
+        buf[..word.len()].copy_from_slice(word);
+        Ok(word.len())
     }
 
-    fn flush(&mut self) -> io::Result<()> {
-        Ok(())
+    fn var(&self, _name: &str, _buf: &mut [u8]) -> Result<usize, FillError> {
+        Err(FillError::NotPresent)
+    }
+
+    fn var_at(&self, _i: usize, _buf: &mut [u8]) -> Result<usize, FillError> {
+        Err(FillError::NotPresent)
     }
 }
 
@@ -218,4 +226,51 @@ fn unsaid_faults_keep_their_status(rt: HostRuntime) {
         run_words(&rt, &["x"], &mut Broken, &mut Broken, &mut Broken),
         2
     );
+}
+
+/// The status and the line that these words of a process end with, with a request for memory refused.
+fn ending<T: Abort + AllocGlobal>(
+    rt: &T,
+    words: &Words<'_>,
+    refusing: &Refusing<Global>,
+) -> (u8, Vec<u8>) {
+    let mut errors = Vec::new(rt.alloc());
+    let env = (words, refusing);
+    let status = run_given(rt, &env, &mut b"".as_slice(), &mut Full, &mut errors);
+    (status, errors)
+}
+
+/// Each request for memory that the words take is refused in turn: where they cannot do without it, it is
+/// want of memory that ends the program, and else what the words ask for.
+#[test]
+fn each_growth_for_the_words_refused(rt: HostRuntime) {
+    let refused = b"rights-site: bad command line\n".as_slice();
+    for (words, status, line) in [
+        (Words(&[b"rights-site", b"sim"]), 0, b"".as_slice()),
+        (Words(&[b"rights-site"]), 2, refused),
+        (Words(&[b"rights-site", b"sim", b"7"]), 2, refused),
+        (Words(&[b"rights-site", b"\xff"]), 2, refused),
+    ] {
+        let mut stopped = 0;
+        let mut whole = false;
+        for granted in 0..100 {
+            let refusing = Refusing::new(rt.alloc(), granted);
+            let (answer, said) = ending(&rt, &words, &refusing);
+            if answer == 1 {
+                stopped += 1;
+                assert!(rt; refusing.refused());
+                assert_eq!(rt; said.as_slice(), b"rights-site: out of memory\n".as_slice());
+                continue;
+            }
+            // It can do without some of the memory that it asks for.
+            assert_eq!(rt; answer, status, "with {granted} granted");
+            assert_eq!(rt; said.as_slice(), line);
+            whole = !refusing.refused();
+            if whole {
+                break;
+            }
+        }
+        assert!(rt; whole);
+        assert!(rt; stopped > 2, "at {status}");
+    }
 }

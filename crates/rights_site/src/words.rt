@@ -3,7 +3,7 @@ ghost use Rattle.std.specs.Prelude.{◌≡◌, IfOk};
 ghost use Rattle.clap.specs.Simple.{app_of};
 ghost use Rattle.clap.specs.Walk.{texts};
 ghost use Rattle.rights_site.specs.Asked.{asked_by};
-ghost use Rattle.rights_site.specs.Answers.{Answers};
+ghost use Rattle.rights_site.specs.Words.{MayAnswer};
 ghost use Rattle.rights_site.specs.CommandLine.{app};
 
 use clap::Command as Parser;
@@ -81,7 +81,7 @@ fn parser<'a>(alloc: Global) -> Result<Parser<'a>, AllocError>
 /// `clap` one `--` may end its flags. Which answer comes is decided by the words, and `OutOfMemory`
 /// may come in place of each. Of the help text, which `clap` makes, no contract speaks.
 pub fn read_words(alloc: Global, words: &[&str]) -> Result<Command, WordsFault>
-    ensures { Answers (asked_by (texts words.now)) result }
+    ensures { MayAnswer (asked_by (texts words.now)) result }
 {
     let error = match parser(alloc)?.try_get_matches_from(words) {
         Ok(_) => return Ok(Command::Sim),

@@ -160,7 +160,7 @@ impl Read for Asker<'_> {
             let Some(length) = memchr(b'\n', text) else {
                 break;
             };
-            if count + length + 1 > buf.len() {
+            if count.saturating_add(length + 1) > buf.len() {
                 break;
             }
             count += length + 1;

@@ -86,7 +86,7 @@ fn steps_and_runs_with_entries_of_each_size(rt: HostRuntime) -> Result<(), Fail>
     let mut next = events.as_slice();
     let mut end = 0u64;
     for count in 1..=16u64 {
-        end += count;
+        end = end.saturating_add(count);
         let (Some((replies, more)), Some((round, others))) = (
             rest.split_at_checked(4),
             next.split_at_checked(4),

@@ -1,4 +1,4 @@
-use Rattle.std.proofs.Common.{◌≡◌, ◌∙◌, sym, ap, subst, refl, Ok, Err, Global}
+use Rattle.std.proofs.Common.{◌∙◌, sym, ap, subst, refl, Ok, Err, Global}
 use Rattle.std.proofs.lemmas.Result.{err_from_is_err_and}
 use Rattle.clap.specs.Walk.{texts}
 use Rattle.rights_site.specs.Asked.{asked_by}

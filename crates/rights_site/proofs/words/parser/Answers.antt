@@ -1,6 +1,6 @@
 use Rattle.std.proofs.Common.{◌≡◌, ◌∙◌, ap, ap₂, codes, false, true}
 use Rattle.std.proofs.lemmas.Result.{IfOk-weaker}
-use Rattle.clap.specs.Simple.{App, Shape, app_of, app_of_fields, new_app, new_shape, on_top, shape_of, shape_of_fields, with_subcommand}
+use Rattle.clap.specs.Simple.{App, app_of, app_of_fields, new_app, new_shape, on_top, shape_of, shape_of_fields, with_subcommand}
 use Rattle.clap.specs.declared.builder.command.Command.TheViews.{out-Command}
 use Rattle.rights_site.proofs.words.parser.Goals as goal
 

@@ -7,8 +7,8 @@ use Rattle.rights_site.specs.declared.words.WordsFault.{WordsFault}
 use Rattle.rights_site.specs.declared.words.WordsFault.TheVariants.{OutOfMemory, Refused}
 
 -- the answer is what was asked for, and memory may run out at any words
-abbrev pub Answers : Asked → Result Command WordsFault → Type 0
-Answers asked (Ok Sim) = asked ≡ script
-Answers asked (Ok (Help text)) = asked ≡ help
-Answers asked (Err Refused) = asked ≡ nothing
-Answers asked (Err OutOfMemory) = ⊤
+abbrev pub MayAnswer : Asked → Result Command WordsFault → Type 0
+MayAnswer asked (Ok Sim) = asked ≡ script
+MayAnswer asked (Ok (Help text)) = asked ≡ help
+MayAnswer asked (Err Refused) = asked ≡ nothing
+MayAnswer asked (Err OutOfMemory) = ⊤
