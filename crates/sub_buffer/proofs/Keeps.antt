@@ -6,49 +6,58 @@ use Rattle.sub_buffer.specs.declared.buffer.State.TheVariants.{Normal, Buffering
 use Rattle.std.specs.List.{All, Contains}
 use Rattle.std.proofs.lemmas.List.{length-drop}
 use Rattle.std.proofs.lemmas.List.Elements.{All-drop, All-filter, All-contains}
-use Rattle.rights_types.specs.Entries.{EntryValue, own, IsEntry}
-use Rattle.rights_types.specs.Messages.{QueryValue}
+use Rattle.rights_types.specs.Entries.{EntryValue, own}
+use Rattle.rights_types.specs.Messages.{QueryValue, IsQuery}
 use Rattle.sub_buffer.specs.Buffers.{BufferValue, IsBuffer, HasPrev, InOrder, before, onward}
 use Rattle.sub_buffer.specs.Places.{IsPlace}
 use Rattle.sub_buffer.specs.Table.{IsAhead}
 use Rattle.sub_buffer.specs.Gaps.{GapOf, AsksGap, StateOf}
 use Rattle.sub_buffer.proofs.Orders.{order_onward, order_drop, order_held, all_held, length_onward, length_held, later_onward, first_least, place_none}
 
-pub keeps_deliver : (b : BufferValue) (e : EntryValue) (last : ℕ) (closed : Bool) (hs : List EntryValue) → IsBuffer b → IsEntry e → last ≡ own e → hs ≡ onward last b.held
+pub keeps_deliver : (b : BufferValue) (e : EntryValue) (last : ℕ) (closed : Bool) (hs : List EntryValue) → IsBuffer b → own e ≤ b.told → last ≡ own e → hs ≡ onward last b.held
     → IsBuffer (record b { last = last; closed = closed; held = hs })
-keeps_deliver b e last closed hs ok is at kept =
+keeps_deliver b e last closed hs ok heard at kept =
     subst (λ (ys : List EntryValue). IsBuffer (record b { last = last; closed = closed; held = ys })) (sym kept) (record {
+      me = ok.me;
+      origin = ok.origin;
       differ = ok.differ;
-      last = omega (arith, is.number);
+      last = omega arith;
       told = ok.told;
       few = omega (arith, ok.few, length_onward last b.held);
       in_order = order_onward last b.held ok.in_order;
       later = later_onward last b.held;
+      heard = All-filter _ (λ x. own x ≤ b.told) b.held ok.heard;
       of_origin = All-filter _ (λ x. x.origin ≡ b.origin) b.held ok.of_origin;
     })
 
 pub keeps_pop : (b : BufferValue) (hs : List EntryValue) → IsBuffer b → hs ≡ drop 1 b.held → IsBuffer (record b { held = hs })
 keeps_pop b hs ok rest =
     subst (λ (ys : List EntryValue). IsBuffer (record b { held = ys })) (sym rest) (record {
+      me = ok.me;
+      origin = ok.origin;
       differ = ok.differ;
       last = ok.last;
       told = ok.told;
       few = omega (arith, ok.few, length-drop 1 b.held);
       in_order = order_drop b.held ok.in_order;
       later = All-drop (λ x. b.last ≤ x.prev) 1 b.held ok.later;
+      heard = All-drop (λ x. own x ≤ b.told) 1 b.held ok.heard;
       of_origin = All-drop (λ x. x.origin ≡ b.origin) 1 b.held ok.of_origin;
     })
 
-pub keeps_hold : (b : BufferValue) (e : EntryValue) (k : ℕ) (hs : List EntryValue) → IsBuffer b → IsPlace e.prev b.held k → b.last ≤ e.prev → e.origin ≡ b.origin → length b.held < 64
+pub keeps_hold : (b : BufferValue) (e : EntryValue) (k : ℕ) (hs : List EntryValue) → IsBuffer b → IsPlace e.prev b.held k → b.last ≤ e.prev → own e ≤ b.told → e.origin ≡ b.origin → length b.held < 64
     → hs ≡ before e.prev b.held ++ e ∷ onward e.prev b.held → IsBuffer (record b { held = hs })
-keeps_hold b e k hs ok place later of room is =
+keeps_hold b e k hs ok place later heard of room is =
     subst (λ (ys : List EntryValue). IsBuffer (record b { held = ys })) (sym is) (record {
+      me = ok.me;
+      origin = ok.origin;
       differ = ok.differ;
       last = ok.last;
       told = ok.told;
       few = omega (arith, length_held e.prev b.held e);
       in_order = order_held b.held k e ok.in_order place;
       later = all_held (λ x. b.last ≤ x.prev) e.prev b.held e ok.later later;
+      heard = all_held (λ x. own x ≤ b.told) e.prev b.held e ok.heard heard;
       of_origin = all_held (λ x. x.origin ≡ b.origin) e.prev b.held e ok.of_origin of;
     })
 
@@ -72,6 +81,20 @@ none_held es len is none = elim (cases_lt 0 (length es)) [
 ]
 
 -- ---- gaps
+
+-- the numbers from the last one on to the end of the gap can be asked for
+pub can_ask : (b : BufferValue) (n : ℕ) → IsBuffer b → b.last < b.told → n ≤ b.told → IsQuery (record { asker = b.me; origin = b.origin; first = b.last + 1; last = n })
+can_ask b n ok more within = record {
+  asker = ok.me;
+  origin = ok.origin;
+  first = omega (arith, ok.told);
+  last = omega (arith, ok.told);
+  differ = ok.differ;
+}
+
+-- the first held entry begins at a number that was told of
+pub first_told : (b : BufferValue) (e : EntryValue) → IsBuffer b → 0 < length b.held → e ≡ get_or b.held 0 e → e.prev ≤ b.told
+first_told b e ok some is = let heard : own e ≤ b.told = subst (λ (y : EntryValue). own y ≤ b.told) (sym is) (ok.heard 0 e some) in omega arith
 
 pub buffering : (gap : Option QueryValue) → is_some gap ≡ true → StateOf gap Buffering
 buffering None some = absurd cc

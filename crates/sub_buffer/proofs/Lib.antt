@@ -4,3 +4,5 @@ pub mod Chained
 pub mod Offers
 pub mod Missing
 pub mod Keeps
+pub mod Growth
+pub mod Arriving

@@ -1,16 +1,16 @@
 -- What the table says of a buffer that follows a log.
-use Rattle.std.proofs.Common.{◌≡◌, ℕ, ◌+◌, ◌<◌, ◌≤◌, Bool, true, false, cond, List, [], ◌∷◌, ◌++◌, ◌⊎◌, inl, inr, length, get_or, Option, Some, None, Ok, arith, refl, sym, ap, ◌∙◌, subst}
+use Rattle.std.proofs.Common.{◌≡◌, ℕ, ◌+◌, ◌<◌, ◌≤◌, Bool, true, false, cond, List, [], ◌∷◌, ◌++◌, ◌⊎◌, inl, inr, length, get_or, Option, Some, None, arith, refl, sym, ap, ◌∙◌, subst}
 use Rattle.std.specs.Prelude.{max}
 use Rattle.std.specs.Option.{option_to_list, IfSome}
 use Rattle.std.specs.List.{All, Contains}
 use Rattle.std.proofs.lemmas.List.{length-append, append-nil}
 use Rattle.std.proofs.lemmas.List.Elements.{All-nil, All-push, All-weaker, All-contains, Contains-append_left, Contains-push, Contains-push_cases, Contains-get_or}
 use Rattle.rights_types.specs.Entries.{EntryValue, own, IsEntry}
-use Rattle.rights_types.specs.Chains.{end, IsChain, IsPrefix, IsLongest}
+use Rattle.rights_types.specs.Chains.{end, IsChain, IsPrefix, IsLongest, IsBeyond}
 use Rattle.rights_types.proofs.Chains.{not_in_nil, end-push, closed-push, chain_push, is_entry}
-use Rattle.sub_buffer.specs.Buffers.{BufferValue, HasPrev, before, onward, InOrder, IsBuffer, new_buffer, told_of, delivered, with_held}
-use Rattle.sub_buffer.specs.Table.{Offered, Popped, IsAhead, ready_of, after_beat, more_held}
-use Rattle.sub_buffer.specs.Follows.{Delivered, Follows, IsBeyond, VerdictIs, reached_after, put_after, StaysLongest, Reaches, PopFollows}
+use Rattle.sub_buffer.specs.Buffers.{BufferValue, HasPrev, before, onward, InOrder, IsBuffer, IsSettled, new_buffer, told_of, delivered, with_held}
+use Rattle.sub_buffer.specs.Table.{OfferLeaves, PopLeaves, IsAhead, after_beat, more_held}
+use Rattle.sub_buffer.specs.Follows.{HasPut, Follows, SettledVerdict, reached_after, put_after, StaysLongest, VerdictAdds, PopFollows}
 use Rattle.sub_buffer.specs.declared.verdict.Verdict.{Verdict}
 use Rattle.sub_buffer.specs.declared.verdict.Verdict.TheVariants.{Ready, Held, Repeat, AfterClose, Full}
 use Rattle.sub_buffer.proofs.Orders.{prev_cases, in_onward, into_onward, onward_all, onward_first, onward_fewer, in_held, into_held, held_itself, length_held, length_onward}
@@ -18,50 +18,45 @@ use Rattle.sub_buffer.proofs.Chained.{same_entry, in_front, not_in_front, beyond
 
 -- ---- what was delivered
 
-pub delivered_told : (put : List EntryValue) (b : BufferValue) (n : ℕ) → Delivered put b → Delivered put (told_of b n)
-delivered_told put b n d = record { chain = d.chain; last = d.last; closed = d.closed }
+pub put_told : (put : List EntryValue) (b : BufferValue) (n : ℕ) → HasPut put b → HasPut put (told_of b n)
+put_told put b n d = record { chain = d.chain; last = d.last; closed = d.closed }
 
-pub delivered_push : (put : List EntryValue) (b : BufferValue) (e : EntryValue) → Delivered put b → IsEntry e → e.origin ≡ b.origin → e.prev ≡ b.last → b.closed ≡ false
-    → Delivered (put ++ e ∷ []) (delivered b e)
-delivered_push put b e d is of at unclosed = record {
+pub put_push : (put : List EntryValue) (b : BufferValue) (e : EntryValue) → HasPut put b → IsEntry e → e.origin ≡ b.origin → e.prev ≡ b.last → b.closed ≡ false
+    → HasPut (put ++ e ∷ []) (delivered b e)
+put_push put b e d is of at unclosed = record {
   chain = chain_push b.origin false 0 put e d.chain (sym d.closed ∙ unclosed) of (at ∙ d.last) is;
   last = sym (end-push put e);
   closed = sym (closed-push false put e);
 }
 
--- nothing is delivered
-delivered_same : (put : List EntryValue) (old new : BufferValue) → new ≡ old → Delivered put old → Delivered (put ++ []) new
-delivered_same put old new is d = subst (λ xs. Delivered xs new) (sym (append-nil put)) (subst (Delivered put) (sym is) d)
+pub offer_chain : {A : Type 0} (old new : BufferValue) (e : EntryValue) (v : Verdict A) → IsEntry e → e.origin ≡ old.origin → OfferLeaves old e v new
+    → (put : List EntryValue) → HasPut put old → HasPut (put_after put v) new
+offer_chain old new e Repeat is of h put d = subst (HasPut put) (sym h.1) d
+offer_chain old new e AfterClose is of h put d = subst (HasPut put) (sym h.2) d
+offer_chain old new e (Ready x) is of h put d =
+    subst (λ y. HasPut (put ++ y ∷ []) new) (sym h.0)
+    (subst (HasPut (put ++ e ∷ [])) (sym h.3) (put_push put (told_of old (own e)) e (put_told put old (own e) d) is of h.1 h.2))
+offer_chain old new e Full is of h put d = subst (HasPut put) (sym h.2) (put_told put old (own e) d)
+offer_chain old new e Held is of h put d = subst (HasPut put) (sym h.2) (record { chain = d.chain; last = d.last; closed = d.closed })
 
-pub offer_delivers : {A : Type 0} (old new : BufferValue) (e : EntryValue) (v : Verdict A) → IsEntry e → e.origin ≡ old.origin → Offered old e v new
-    → (put : List EntryValue) → Delivered put old → Delivered (put ++ ready_of {A = A} {E = ℕ} (Ok v)) new
-offer_delivers old new e Repeat is of h put d = delivered_same put old new h.1 d
-offer_delivers old new e AfterClose is of h put d = delivered_same put old new h.2 d
-offer_delivers old new e (Ready x) is of h put d =
-    subst (λ y. Delivered (put ++ y ∷ []) new) (sym h.0)
-    (subst (Delivered (put ++ e ∷ [])) (sym h.3) (delivered_push put (told_of old (own e)) e (delivered_told put old (own e) d) is of h.1 h.2))
-offer_delivers old new e Full is of h put d = delivered_same put (told_of old (own e)) new h.2 (delivered_told put old (own e) d)
-offer_delivers old new e Held is of h put d =
-    subst (λ xs. Delivered xs new) (sym (append-nil put)) (subst (Delivered put) (sym h.2) (record { chain = d.chain; last = d.last; closed = d.closed }))
+pub pop_chain : (old new : BufferValue) (r : Option EntryValue) → IsBuffer old → IfSome r (λ e. IsEntry e) → PopLeaves old r new
+    → (put : List EntryValue) → HasPut put old → HasPut (put ++ option_to_list r) new
+pop_chain old new None ok is h put d = subst (λ xs. HasPut xs new) (sym (append-nil put)) (subst (HasPut put) (sym h.1) d)
+pop_chain old new (Some e) ok is h put d =
+    subst (HasPut (put ++ e ∷ [])) (sym h.3)
+    (put_push put old e d is (All-contains (λ x. x.origin ≡ old.origin) old.held e ok.of_origin h.0) h.1 h.2)
 
-pub pop_delivers : (old new : BufferValue) (r : Option EntryValue) → IsBuffer old → IfSome r (λ e. IsEntry e) → Popped old r new
-    → (put : List EntryValue) → Delivered put old → Delivered (put ++ option_to_list r) new
-pop_delivers old new None ok is h put d = delivered_same put old new h.1 d
-pop_delivers old new (Some e) ok is h put d =
-    subst (Delivered (put ++ e ∷ [])) (sym h.3)
-    (delivered_push put old e d is (All-contains (λ x. x.origin ≡ old.origin) old.held e ok.of_origin h.0) h.1 h.2)
-
-pub pop_fewer : (old new : BufferValue) (r : Option EntryValue) → IfSome r (λ e. IsEntry e) → Popped old r new → IfSome r (λ _. length new.held < length old.held)
+pub pop_fewer : (old new : BufferValue) (r : Option EntryValue) → IfSome r (λ e. IsEntry e) → PopLeaves old r new → IfSome r (λ _. length new.held < length old.held)
 pop_fewer old new None is h = tt
 pop_fewer old new (Some e) is h =
     subst (λ (b : BufferValue). length b.held < length old.held) (sym h.3) (onward_fewer (own e) old.held e h.0 (omega (arith, is.some)))
 
-pub delivered_beat : (b : BufferValue) (n : ℕ) (put : List EntryValue) → Delivered put b → Delivered put (after_beat b n)
-delivered_beat b n put d = beat b.closed
+pub put_beat : (b : BufferValue) (n : ℕ) (put : List EntryValue) → HasPut put b → HasPut put (after_beat b n)
+put_beat b n put d = beat b.closed
   where
-    beat : (closed : Bool) → Delivered put (cond closed b (told_of b n))
+    beat : (closed : Bool) → HasPut put (cond closed b (told_of b n))
     beat true = d
-    beat false = delivered_told put b n d
+    beat false = put_told put b n d
 
 -- ---- a buffer that goes on following
 
@@ -72,7 +67,7 @@ follows_new me o es c = (
     of_log = All-nil (Contains es);
     begins = (es, refl);
     came = All-nil (Contains []);
-    delivered = record { chain = tt; last = refl; closed = refl };
+    has_put = record { chain = tt; last = refl; closed = refl };
     held = λ e. (λ i. absurd (not_in_nil e i), λ (i, j). absurd (not_in_nil e i));
     count = refl;
     told = All-nil (λ e. own e ≤ 0);
@@ -86,7 +81,7 @@ follows_told es set put b n f = record {
   of_log = f.of_log;
   begins = f.begins;
   came = f.came;
-  delivered = delivered_told put b n f.delivered;
+  has_put = put_told put b n f.has_put;
   held = f.held;
   count = f.count;
   told = λ k d lt. omega (arith, f.told k d lt);
@@ -122,7 +117,7 @@ goes_on es set put b e order later f waits at unclosed =
     let was : IsBeyond set put e = (f.held e).0 waits in
     let of : Contains es e = of_log es set put b e f was.0 in
     let is : IsEntry e × (e.origin ≡ b.origin) = is_entry b.origin false 0 es e f.log of in
-    let next : e.prev ≡ end put = at ∙ f.delivered.last in
+    let next : e.prev ≡ end put = at ∙ f.has_put.last in
     let begins : IsPrefix (put ++ e ∷ []) es = longer b.origin es put e f.log f.begins of next in
     let rest : (g : EntryValue) → Contains b.held g → e.prev < g.prev → own e ≤ g.prev = λ g i lt.
     let beyond : IsBeyond set put g = (f.held g).0 i in
@@ -136,7 +131,7 @@ goes_on es set put b e order later f waits at unclosed =
       of_log = f.of_log;
       begins = begins;
       came = All-push (Contains set) put e f.came was.0;
-      delivered = delivered_push put b e f.delivered is.0 is.1 at unclosed;
+      has_put = put_push put b e f.has_put is.0 is.1 at unclosed;
       held = λ g. (
         λ i.
             let kept : Contains b.held g × (own e ≤ g.prev) = in_onward (own e) b.held g i in
@@ -164,7 +159,7 @@ pub goes_on_new : (es set put : List EntryValue) (b : BufferValue) (e : EntryVal
     → Follows es (set ++ e ∷ []) (put ++ e ∷ []) (delivered (told_of b (own e)) e)
 goes_on_new es set put b e f of new at unclosed =
     let is : IsEntry e × (e.origin ≡ b.origin) = is_entry b.origin false 0 es e f.log of in
-    let next : e.prev ≡ end put = at ∙ f.delivered.last in
+    let next : e.prev ≡ end put = at ∙ f.has_put.last in
     let begins : IsPrefix (put ++ e ∷ []) es = longer b.origin es put e f.log f.begins of next in
     let out : (g : EntryValue) → IsBeyond set put g → Contains (put ++ e ∷ []) g → ⊥ = λ g beyond j.
     elim (Contains-push_cases put e g j) [
@@ -179,7 +174,7 @@ goes_on_new es set put b e f of new at unclosed =
       of_log = All-push (Contains es) set e f.of_log of;
       begins = begins;
       came = All-push (Contains (set ++ e ∷ [])) put e (wider set put e f.came) (Contains-push set e);
-      delivered = delivered_push put (told_of b (own e)) e (delivered_told put b (own e) f.delivered) is.0 is.1 at unclosed;
+      has_put = put_push put (told_of b (own e)) e (put_told put b (own e) f.has_put) is.0 is.1 at unclosed;
       held = λ g. (
         λ i.
             let beyond : IsBeyond set put g = (f.held g).0 (in_onward (own e) b.held g i).0 in
@@ -204,7 +199,7 @@ holds_too es set put b e f of le = record {
   of_log = All-push (Contains es) set e f.of_log of;
   begins = f.begins;
   came = wider set put e f.came;
-  delivered = record { chain = f.delivered.chain; last = f.delivered.last; closed = f.delivered.closed };
+  has_put = record { chain = f.has_put.chain; last = f.has_put.last; closed = f.has_put.closed };
   held = λ g. (
     λ i. elim (in_held e.prev b.held e g i) [
       | inl p ↦ let beyond : IsBeyond set put g = (f.held g).0 p in (Contains-append_left set (e ∷ []) g beyond.0, beyond.1)
@@ -226,7 +221,7 @@ repeat_came : (es set put : List EntryValue) (b : BufferValue) (e : EntryValue) 
     → (e.prev < b.last) ⊎ ((b.last < e.prev) × (b.closed ≡ false) × HasPrev e.prev b.held) → Contains set e
 repeat_came es set put b e f of h =
     elim h [
-      | inl lt ↦ All-contains (Contains set) put e f.came (in_front b.origin es put e f.log f.begins of (omega (arith, lt, f.delivered.last)))
+      | inl lt ↦ All-contains (Contains set) put e f.came (in_front b.origin es put e f.log f.begins of (omega (arith, lt, f.has_put.last)))
       | inr (far, unclosed, (x, i, at)) ↦
           let was : IsBeyond set put x = (f.held x).0 i in
           let same : x ≡ e = same_entry b.origin false 0 es x e f.log (of_log es set put b x f was.0) of at in
@@ -235,14 +230,14 @@ repeat_came es set put b e f of h =
 
 -- an entry ahead had not come
 ahead_new : (es set put : List EntryValue) (b : BufferValue) (e : EntryValue) → Follows es set put b → IsAhead b e → Contains set e → ⊥
-ahead_new es set put b e f ahead i = ahead.new (e, must_hold es set put b e f i (omega (arith, ahead.later, f.delivered.last)), refl)
+ahead_new es set put b e f ahead i = ahead.new (e, must_hold es set put b e f i (omega (arith, ahead.later, f.has_put.last)), refl)
 
 never_after_close : (es set put : List EntryValue) (b : BufferValue) (e : EntryValue) → Follows es set put b → Contains es e → b.last ≤ e.prev → b.closed ≡ true → ⊥
 never_after_close es set put b e f of le closed =
-    closed_whole b.origin es put e f.log f.begins (sym f.delivered.closed ∙ closed) of (omega (arith, le, f.delivered.last))
+    closed_whole b.origin es put e f.log f.begins (sym f.has_put.closed ∙ closed) of (omega (arith, le, f.has_put.last))
 
-pub offer_follows : {A : Type 0} (es set put : List EntryValue) (old new : BufferValue) (e : EntryValue) (v : Verdict A) → IsBuffer old → Contains es e → Follows es set put old → Offered old e v new
-    → (later : List EntryValue) × Reaches set e v later × Follows es later (put_after put v) new
+pub offer_follows : {A : Type 0} (es set put : List EntryValue) (old new : BufferValue) (e : EntryValue) (v : Verdict A) → IsBuffer old → Contains es e → Follows es set put old → OfferLeaves old e v new
+    → (later : List EntryValue) × VerdictAdds set e v later × Follows es later (put_after put v) new
 offer_follows es set put old new e Repeat ok of f h = (set, (repeat_came es set put old e f of h.0, refl), subst (Follows es set put) (sym h.1) f)
 offer_follows es set put old new e AfterClose ok of f h = absurd (never_after_close es set put old e f of h.0 h.1)
 offer_follows es set put old new e (Ready x) ok of f h =
@@ -258,7 +253,7 @@ offer_follows es set put old new e (Ready x) ok of f h =
             subst (λ z. Follows es set (put ++ z ∷ []) new) (sym h.0) (subst (Follows es set (put ++ e ∷ [])) (sym h.3) (goes_on es set put b e ok.in_order ok.later g waits h.1 h.2)),
           )
       | inr none ↦
-          let new_here : Contains set e → ⊥ = λ i. none (e, must_hold es set put old e f i (omega (arith, h.1, f.delivered.last)), refl) in (
+          let new_here : Contains set e → ⊥ = λ i. none (e, must_hold es set put old e f i (omega (arith, h.1, f.has_put.last)), refl) in (
             set ++ e ∷ [],
             (h.0, inr (new_here, refl)),
             subst (λ z. Follows es (set ++ e ∷ []) (put ++ z ∷ []) new) (sym h.0) (subst (Follows es (set ++ e ∷ []) (put ++ e ∷ [])) (sym h.3) (goes_on_new es set put old e f of new_here h.1 h.2)),
@@ -268,10 +263,10 @@ offer_follows es set put old new e Full ok of f h = (set, (ahead_new es set put 
 offer_follows es set put old new e Held ok of f h = (
   set ++ e ∷ [],
   (ahead_new es set put old e f h.0, refl),
-  subst (Follows es (set ++ e ∷ []) put) (sym h.2) (holds_too es set put old e f of (omega (arith, h.0.later, f.delivered.last))),
+  subst (Follows es (set ++ e ∷ []) put) (sym h.2) (holds_too es set put old e f of (omega (arith, h.0.later, f.has_put.last))),
 )
 
-pub offer_told : {A : Type 0} (es set put : List EntryValue) (old new : BufferValue) (e : EntryValue) (v : Verdict A) → Contains es e → Follows es set put old → Offered old e v new
+pub offer_told : {A : Type 0} (es set put : List EntryValue) (old new : BufferValue) (e : EntryValue) (v : Verdict A) → Contains es e → Follows es set put old → OfferLeaves old e v new
     → new.told ≡ max old.told (own e)
 offer_told es set put old new e Repeat of f h =
     let low : own e ≤ old.told = All-contains (λ x. own x ≤ old.told) set e f.told (repeat_came es set put old e f of h.0) in
@@ -281,25 +276,25 @@ offer_told es set put old new e (Ready x) of f h = ap (λ (b : BufferValue). b.t
 offer_told es set put old new e Full of f h = ap (λ (b : BufferValue). b.told) h.2
 offer_told es set put old new e Held of f h = ap (λ (b : BufferValue). b.told) h.2
 
-pub offer_reaches : {A : Type 0} (es set put : List EntryValue) (old new : BufferValue) (e : EntryValue) (v : Verdict A) → Contains es e → Follows es set put old → IsLongest set es put → Offered old e v new
-    → VerdictIs set put e v × Follows es (reached_after set e v) (put_after put v) new × StaysLongest es (reached_after set e v) put v
-offer_reaches es set put old new e Repeat of f long h = (repeat_came es set put old e f of h.0, subst (Follows es set put) (sym h.1) f, long)
-offer_reaches es set put old new e AfterClose of f long h = absurd (never_after_close es set put old e f of h.0 h.1)
-offer_reaches es set put old new e (Ready x) of f long h =
-    let next : e.prev ≡ end put = h.1 ∙ f.delivered.last in
+pub offer_settled : {A : Type 0} (es set put : List EntryValue) (old new : BufferValue) (e : EntryValue) (v : Verdict A) → Contains es e → Follows es set put old → IsLongest set es put → OfferLeaves old e v new
+    → SettledVerdict set put e v × Follows es (reached_after set e v) (put_after put v) new × StaysLongest es (reached_after set e v) put v
+offer_settled es set put old new e Repeat of f long h = (repeat_came es set put old e f of h.0, subst (Follows es set put) (sym h.1) f, long)
+offer_settled es set put old new e AfterClose of f long h = absurd (never_after_close es set put old e f of h.0 h.1)
+offer_settled es set put old new e (Ready x) of f long h =
+    let next : e.prev ≡ end put = h.1 ∙ f.has_put.last in
     let new_here : Contains set e → ⊥ = λ i. longest_stops old.origin es set put e f.log long of i next in (
       (new_here, next, h.0),
       subst (λ z. Follows es (set ++ e ∷ []) (put ++ z ∷ []) new) (sym h.0) (subst (Follows es (set ++ e ∷ []) (put ++ e ∷ [])) (sym h.3) (goes_on_new es set put old e f of new_here h.1 h.2)),
       tt,
     )
-offer_reaches es set put old new e Full of f long h =
-    let far : end put < e.prev = omega (arith, h.0.later, f.delivered.last) in (
+offer_settled es set put old new e Full of f long h =
+    let far : end put < e.prev = omega (arith, h.0.later, f.has_put.last) in (
       (ahead_new es set put old e f h.0, omega arith, omega (arith, f.count, h.1)),
       subst (Follows es set put) (sym h.2) (follows_told es set put old (own e) f),
       long,
     )
-offer_reaches es set put old new e Held of f long h =
-    let far : end put < e.prev = omega (arith, h.0.later, f.delivered.last) in
+offer_settled es set put old new e Held of f long h =
+    let far : end put < e.prev = omega (arith, h.0.later, f.has_put.last) in
     let new_here : Contains set e → ⊥ = ahead_new es set put old e f h.0 in (
       (new_here, omega arith, λ full. omega (arith, f.count, h.1, full)),
       subst (Follows es (set ++ e ∷ []) put) (sym h.2) (holds_too es set put old e f of (omega arith)),
@@ -310,22 +305,49 @@ offer_reaches es set put old new e Held of f long h =
           ]),
     )
 
+-- ---- settled buffers
+
+pub settled_longest : (b : BufferValue) (es set put : List EntryValue) → Follows es set put b → IsSettled b → IsLongest set es put
+settled_longest b es set put f settled =
+    is_longest b.origin es set put f.log f.begins f.came (λ x i came at.
+    elim settled [
+      | inl closed ↦ closed_whole b.origin es put x f.log f.begins (sym f.has_put.closed ∙ closed) i (omega (arith, at))
+      | inr none ↦ none (x, must_hold es set put b x f came (omega (arith, at)), at ∙ sym f.has_put.last)
+    ])
+
+pub longest_settled : (b : BufferValue) (es set put : List EntryValue) → Follows es set put b → IsLongest set es put → IsSettled b
+longest_settled b es set put f long =
+    elim (prev_cases b.last b.held) [
+      | inl (x, i, at) ↦
+          let was : IsBeyond set put x = (f.held x).0 i in
+          absurd (longest_stops b.origin es set put x f.log long (of_log es set put b x f was.0) was.0 (at ∙ f.has_put.last))
+      | inr none ↦ inr none
+    ]
+
+-- a verdict that delivers nothing leaves a settled buffer settled
+pub stays_settled : {A : Type 0} (old new : BufferValue) (e : EntryValue) (v : Verdict A) → OfferLeaves old e v new → ((x : EntryValue) → v ≡ Ready x → ⊥) → IsSettled old → IsSettled new
+stays_settled old new e Repeat h other settled = subst IsSettled (sym h.1) settled
+stays_settled old new e AfterClose h other settled = subst IsSettled (sym h.2) settled
+stays_settled old new e (Ready x) h other settled = absurd (other x refl)
+stays_settled old new e Full h other settled = subst IsSettled (sym h.2) settled
+stays_settled old new e Held h other settled =
+    subst IsSettled (sym h.2) (elim settled [
+      | inl closed ↦ inl closed
+      | inr none ↦ inr (λ (x, i, at). elim (in_held e.prev old.held e x i) [
+        | inl among ↦ none (x, among, at)
+        | inr same ↦ let begins : e.prev ≡ x.prev = ap (λ (y : EntryValue). y.prev) same in omega (arith, h.0.later, at)
+      ])
+    ])
+
 -- ---- pops
 
-pub pop_follows : (old new : BufferValue) (r : Option EntryValue) → IsBuffer old → Popped old r new
+pub pop_follows : (old new : BufferValue) (r : Option EntryValue) → IsBuffer old → PopLeaves old r new
     → (es set put : List EntryValue) → Follows es set put old → PopFollows es set put r new
-pop_follows old new None ok h es set put f = (
-  is_longest old.origin es set put f.log f.begins f.came (λ x i came at.
-      elim h.0 [
-        | inl closed ↦ closed_whole old.origin es put x f.log f.begins (sym f.delivered.closed ∙ closed) i (omega (arith, at))
-        | inr none ↦ none (x, must_hold es set put old x f came (omega (arith, at)), at ∙ sym f.delivered.last)
-      ]),
-  subst (Follows es set put) (sym h.1) f,
-)
+pop_follows old new None ok h es set put f = (settled_longest old es set put f h.0, subst (Follows es set put) (sym h.1) f)
 pop_follows old new (Some e) ok h es set put f =
     let was : IsBeyond set put e = (f.held e).0 h.0 in
     let of : Contains es e = of_log es set put old e f was.0 in
-    let next : e.prev ≡ end put = h.1 ∙ f.delivered.last in (
+    let next : e.prev ≡ end put = h.1 ∙ f.has_put.last in (
       λ long. longest_stops old.origin es set put e f.log long of was.0 next,
       was,
       next,
@@ -336,9 +358,16 @@ pop_follows old new (Some e) ok h es set put f =
 pub of_this_origin : (es set put : List EntryValue) (b : BufferValue) (e : EntryValue) → Follows es set put b → Contains es e → e.origin ≡ b.origin
 of_this_origin es set put b e f of = (is_entry b.origin false 0 es e f.log of).1
 
-pub offer_count : {A : Type 0} (old new : BufferValue) (e : EntryValue) (v : Verdict A) → Offered old e v new → length new.held ≤ length old.held + more_held v
+pub offer_count : {A : Type 0} (old new : BufferValue) (e : EntryValue) (v : Verdict A) → OfferLeaves old e v new → length new.held ≤ length old.held + more_held v
 offer_count old new e Repeat h = omega (arith, ap (λ (b : BufferValue). length b.held) h.1)
 offer_count old new e AfterClose h = omega (arith, ap (λ (b : BufferValue). length b.held) h.2)
 offer_count old new e (Ready x) h = omega (arith, ap (λ (b : BufferValue). length b.held) h.3, length_onward (own e) old.held)
 offer_count old new e Full h = omega (arith, ap (λ (b : BufferValue). length b.held) h.2)
 offer_count old new e Held h = omega (arith, ap (λ (b : BufferValue). length b.held) h.2, length_held e.prev old.held e)
+
+pub offer_few : {A : Type 0} (old new : BufferValue) (e : EntryValue) (v : Verdict A) → length old.held ≤ 64 → OfferLeaves old e v new → length new.held ≤ 64
+offer_few old new e Repeat few h = omega (arith, few, ap (λ (b : BufferValue). length b.held) h.1)
+offer_few old new e AfterClose few h = omega (arith, few, ap (λ (b : BufferValue). length b.held) h.2)
+offer_few old new e (Ready x) few h = omega (arith, few, ap (λ (b : BufferValue). length b.held) h.3, length_onward (own e) old.held)
+offer_few old new e Full few h = omega (arith, few, ap (λ (b : BufferValue). length b.held) h.2)
+offer_few old new e Held few h = omega (arith, h.1, ap (λ (b : BufferValue). length b.held) h.2, length_held e.prev old.held e)

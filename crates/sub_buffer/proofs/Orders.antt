@@ -111,16 +111,16 @@ pub before_at : (n : ℕ) (es : List EntryValue) (k : ℕ) → IsPlace n es k �
 before_at n es k place =
     ap (before n) (sym (take-append-drop k es))
     ∙ filter-append (λ e. ltb e.prev n) (take k es) (drop k es)
-    ∙ ap (λ ys. before n (take k es) ++ ys) (before_none n (drop k es) place.back)
+    ∙ ap (λ ys. before n (take k es) ++ ys) (before_none n (drop k es) place.later)
     ∙ append-nil (before n (take k es))
-    ∙ before_all n (take k es) place.front
+    ∙ before_all n (take k es) place.earlier
 
 pub onward_at : (n : ℕ) (es : List EntryValue) (k : ℕ) → IsPlace n es k → onward n es ≡ drop k es
 onward_at n es k place =
     ap (onward n) (sym (take-append-drop k es))
     ∙ filter-append (λ e. not (ltb e.prev n)) (take k es) (drop k es)
-    ∙ ap (λ ys. ys ++ onward n (drop k es)) (onward_none n (take k es) place.front)
-    ∙ onward_all n (drop k es) (not_before n (drop k es) place.back)
+    ∙ ap (λ ys. ys ++ onward n (drop k es)) (onward_none n (take k es) place.earlier)
+    ∙ onward_all n (drop k es) (not_before n (drop k es) place.later)
 
 pub inserted : (n : ℕ) (es : List EntryValue) (k : ℕ) (e : EntryValue) → IsPlace n es k → insert es k e ≡ before n es ++ e ∷ onward n es
 inserted n es k e place =
@@ -131,8 +131,8 @@ pub place_none : (n : ℕ) (es : List EntryValue) (k : ℕ) → IsPlace n es k �
 place_none n es k place (e, i, q) =
     let i' : Contains (take k es ++ drop k es) e = subst (λ ys. Contains ys e) (sym (take-append-drop k es)) i in
     elim (Contains-append_cases (take k es) (drop k es) e i') [
-      | inl front ↦ omega (arith, All-contains (λ x. x.prev < n) (take k es) e place.front front)
-      | inr back ↦ omega (arith, All-contains (λ x. n < x.prev) (drop k es) e place.back back)
+      | inl front ↦ omega (arith, All-contains (λ x. x.prev < n) (take k es) e place.earlier front)
+      | inr back ↦ omega (arith, All-contains (λ x. n < x.prev) (drop k es) e place.later back)
     ]
 
 -- ---- an entry put in its place
@@ -153,8 +153,8 @@ order_held es k e order place =
     order_between (before e.prev es) e (onward e.prev es)
     (AllPairs-filter Before (λ x. ltb x.prev e.prev) es order)
     (order_onward e.prev es order)
-    (subst (All (λ x. x.prev < e.prev)) (sym (before_at e.prev es k place)) place.front)
-    (subst (All (Before e)) (sym (onward_at e.prev es k place)) place.back)
+    (subst (All (λ x. x.prev < e.prev)) (sym (before_at e.prev es k place)) place.earlier)
+    (subst (All (Before e)) (sym (onward_at e.prev es k place)) place.later)
 
 pub all_held : (P : EntryValue → Type 0) (n : ℕ) (es : List EntryValue) (e : EntryValue) → All P es → P e → All P (before n es ++ e ∷ onward n es)
 all_held P n es e all here =

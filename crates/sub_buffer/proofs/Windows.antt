@@ -11,15 +11,15 @@ use Rattle.sub_buffer.specs.Places.{IsPlace}
 pub record IsWindow (n : ℕ) (es : List EntryValue) (low high : ℕ) : Type 0 where
   pub order : low ≤ high
   pub within : high ≤ length es
-  pub front : (k : ℕ) (d : EntryValue) → k < low → (get_or es k d).prev < n
-  pub back : (k : ℕ) (d : EntryValue) → high ≤ k → k < length es → n ≤ (get_or es k d).prev
+  pub earlier : (k : ℕ) (d : EntryValue) → k < low → (get_or es k d).prev < n
+  pub later : (k : ℕ) (d : EntryValue) → high ≤ k → k < length es → n ≤ (get_or es k d).prev
 
 pub window_whole : (n : ℕ) (es : List EntryValue) (len : ℕ) → len ≡ length es → IsWindow n es 0 len
 window_whole n es len is = record {
   order = omega arith;
   within = omega arith;
-  front = λ k d lt. absurd (omega arith);
-  back = λ k d le lt. absurd (omega arith);
+  earlier = λ k d lt. absurd (omega arith);
+  later = λ k d le lt. absurd (omega arith);
 }
 
 pub window_up : (n : ℕ) (es : List EntryValue) (low high k : ℕ) (e : EntryValue) → InOrder es → IsWindow n es low high → k < high → e ≡ get_or es k e → e.prev < n
@@ -27,14 +27,14 @@ pub window_up : (n : ℕ) (es : List EntryValue) (low high k : ℕ) (e : EntryVa
 window_up n es low high k e order window lt is below = record {
   order = omega arith;
   within = window.within;
-  front = λ i d small.
+  earlier = λ i d small.
       let within : k < length es = omega (arith, window.within) in
       let here : (get_or es k d).prev < n = subst (λ (y : EntryValue). y.prev < n) (get_or_read es k e within is d) below in
       elim (cases_lt i k) [
         | inl before ↦ omega (arith, here, order i k d before within)
         | inr after ↦ let same : i ≡ k = omega arith in rw same here
       ];
-  back = window.back;
+  later = window.later;
 }
 
 pub window_down : (n : ℕ) (es : List EntryValue) (low high k : ℕ) (e : EntryValue) → InOrder es → IsWindow n es low high → low ≤ k → k < high → e ≡ get_or es k e → n ≤ e.prev
@@ -42,8 +42,8 @@ pub window_down : (n : ℕ) (es : List EntryValue) (low high k : ℕ) (e : Entry
 window_down n es low high k e order window le lt is above = record {
   order = le;
   within = omega (arith, window.within);
-  front = window.front;
-  back = λ i d from within.
+  earlier = window.earlier;
+  later = λ i d from within.
       let inside : k < length es = omega (arith, window.within) in
       let here : n ≤ (get_or es k d).prev = subst (λ (y : EntryValue). n ≤ y.prev) (get_or_read es k e inside is d) above in
       elim (cases_lt k i) [
@@ -52,17 +52,17 @@ window_down n es low high k e order window le lt is above = record {
       ];
 }
 
-front_of : (n : ℕ) (es : List EntryValue) (low high : ℕ) → IsWindow n es low high → All (λ e. e.prev < n) (take low es)
-front_of n es low high window = λ k d lt.
+earlier_of : (n : ℕ) (es : List EntryValue) (low high : ℕ) → IsWindow n es low high → All (λ e. e.prev < n) (take low es)
+earlier_of n es low high window = λ k d lt.
     let small : k < low = omega (arith, length-take low es) in
-    subst (λ (y : EntryValue). y.prev < n) (sym (get_or-take low es k d small)) (window.front k d small)
+    subst (λ (y : EntryValue). y.prev < n) (sym (get_or-take low es k d small)) (window.earlier k d small)
 
 -- the window has closed behind the last entry
 pub place_at_end : (n : ℕ) (es : List EntryValue) (low high : ℕ) → IsWindow n es low high → high ≤ low → length es ≤ low → IsPlace n es low
 place_at_end n es low high window closed past = record {
   within = omega (arith, window.within, window.order);
-  front = front_of n es low high window;
-  back = λ k d lt. absurd (omega (arith, length-drop low es));
+  earlier = earlier_of n es low high window;
+  later = λ k d lt. absurd (omega (arith, length-drop low es));
 }
 
 -- the window has closed before an entry that does not begin at n
@@ -70,11 +70,11 @@ pub place_here : (n : ℕ) (es : List EntryValue) (low high : ℕ) (e : EntryVal
     → IsPlace n es low
 place_here n es low high e order window closed inside is other = record {
   within = omega arith;
-  front = front_of n es low high window;
-  back = λ k d lt.
+  earlier = earlier_of n es low high window;
+  later = λ k d lt.
       let within : low + k < length es = omega (arith, length-drop low es) in
       let here : (get_or es low d).prev ≢ n = subst (λ (y : EntryValue). y.prev ≢ n) (get_or_read es low e inside is d) other in
-      let least : n ≤ (get_or es low d).prev = window.back low d closed inside in
+      let least : n ≤ (get_or es low d).prev = window.later low d closed inside in
       subst (λ (y : EntryValue). n < y.prev) (sym (get_or-drop low es k d)) (beyond d k within here least);
 }
   where

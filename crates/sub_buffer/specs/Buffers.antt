@@ -1,9 +1,10 @@
 -- A subscriber's buffer of one origin's entries, as plain data.
-use Rattle.std.specs.Prelude.{◌≡◌, ◌≢◌, ℕ, ◌<◌, ◌≤◌, Bool, false, not, nat_lt, List, [], ◌∷◌, ◌++◌, length, Option, None, max}
+use Rattle.std.specs.Prelude.{◌≡◌, ◌≢◌, ℕ, ◌<◌, ◌≤◌, ◌⊎◌, Bool, true, false, not, nat_lt, List, [], ◌∷◌, ◌++◌, length, Option, None, max}
 use Rattle.std.specs.List.{All, AllPairs, Contains, filter}
-use Rattle.rights_types.specs.Ranges.{IsNumber}
+use Rattle.rights_types.specs.Ranges.{IsSite, IsNumber}
 use Rattle.rights_types.specs.Entries.{EntryValue, own, closes}
 use Rattle.rights_types.specs.Messages.{QueryValue}
+use Rattle.rights_types.specs.declared.limits.TheConstants.{MAX_HELD}
 
 -- whose buffer it is, and of whose log; the last number delivered, the greatest number told of, and
 -- whether the closing entry was delivered; the entries held, in the order of their previous numbers; and
@@ -16,10 +17,6 @@ pub record BufferValue : Type 0 where
   pub closed : Bool
   pub held : List EntryValue
   pub asked : Option QueryValue
-
--- so many entries are held at most
-abbrev pub hold_room : ℕ
-hold_room = 64
 
 -- a buffer to which nothing came
 abbrev pub new_buffer : ℕ → ℕ → BufferValue
@@ -40,15 +37,28 @@ onward n es = filter (λ e. not (nat_lt e.prev n)) es
 abbrev pub InOrder : List EntryValue → Type 0
 InOrder es = AllPairs (λ e f. e.prev < f.prev) es
 
--- of every buffer: no two held entries begin alike, and none begins before the last number delivered
+-- of every buffer: no two held entries begin alike, none begins before the last number delivered, and what
+-- was delivered or is held was told of
 pub record IsBuffer (b : BufferValue) : Type 0 where
+  pub me : IsSite b.me
+  pub origin : IsSite b.origin
   pub differ : b.origin ≢ b.me
-  pub last : IsNumber b.last
+  pub last : b.last ≤ b.told
   pub told : IsNumber b.told
-  pub few : length b.held ≤ hold_room
+  pub few : length b.held ≤ MAX_HELD
   pub in_order : InOrder b.held
   pub later : All (λ e. b.last ≤ e.prev) b.held
+  pub heard : All (λ e. own e ≤ b.told) b.held
   pub of_origin : All (λ e. e.origin ≡ b.origin) b.held
+
+-- nothing that is held is next, or the closing entry was delivered
+abbrev pub IsSettled : BufferValue → Type 0
+IsSettled b = (b.closed ≡ true) ⊎ ¬ HasPrev b.last b.held
+
+-- both are buffers of one site for the log of one origin
+pub record SamePair (old new : BufferValue) : Type 0 where
+  pub me : new.me ≡ old.me
+  pub origin : new.origin ≡ old.origin
 
 -- the number n was told of
 abbrev pub told_of : BufferValue → ℕ → BufferValue

@@ -2,10 +2,9 @@
 use Rattle.std.specs.Prelude.{◌≡◌, ◌≢◌, ℕ, ◌+◌, ◌<◌, ◌≤◌, ◌⊎◌, true, false, List, Option, Some, None}
 use Rattle.std.specs.List.{Contains}
 use Rattle.rights_types.specs.Entries.{EntryValue}
-use Rattle.rights_types.specs.Chains.{end, is_closed}
+use Rattle.rights_types.specs.Chains.{end, is_closed, IsBeyond}
 use Rattle.rights_types.specs.Messages.{QueryValue}
 use Rattle.sub_buffer.specs.Buffers.{BufferValue, HasPrev}
-use Rattle.sub_buffer.specs.Follows.{IsBeyond}
 use Rattle.sub_buffer.specs.declared.buffer.State.{State}
 use Rattle.sub_buffer.specs.declared.buffer.State.TheVariants.{Normal, Buffering}
 

@@ -3,3 +3,5 @@ pub mod Places
 pub mod Table
 pub mod Follows
 pub mod Gaps
+pub mod Arrivals
+pub mod Laws

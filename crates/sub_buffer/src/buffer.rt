@@ -10,13 +10,10 @@ ghost use Rattle.sub_buffer.specs.Places.{IsPlace};
 
 use crate::held::{drop_before, place_for};
 use crate::verdict::{BufferError, Verdict};
-use rights_types::{Entry, OutOfMemory, Query, SiteId};
+use rights_types::{Entry, MAX_HELD, OutOfMemory, Query, SiteId};
 use std::alloc::{Allocator, Global};
 use std::collections::VecDeque;
 use std::marker::Model;
-
-/// So many entries are held at most.
-const HOLD_ROOM: usize = 64;
 
 /// Whether numbers are missing.
 #[derive(Clone, Copy, Debug, PartialEq, Eq)]
@@ -42,19 +39,20 @@ pub struct SubBuffer<A: Allocator = Global> {
 impl<A: Allocator> Model for SubBuffer<A> {
     ghost use Rattle.std.specs.Prelude.{◌≤◌};
     ghost use Rattle.std.specs.VecDeque.{deque_capacity};
-    ghost use Rattle.sub_buffer.specs.Buffers.{BufferValue, IsBuffer, hold_room};
+    ghost use Rattle.rights_types.specs.declared.limits.TheConstants.{MAX_HELD};
+    ghost use Rattle.sub_buffer.specs.Buffers.{BufferValue, IsBuffer};
 
     ghost Value = { BufferValue };
 
     ghost view = { λ b. record { me = b.me; origin = b.origin; last = b.last; told = b.told; closed = b.closed; held = b.held.items; asked = b.asked } };
 
-    ghost invariant = { λ b. IsBuffer (record { me = b.me; origin = b.origin; last = b.last; told = b.told; closed = b.closed; held = b.held.items; asked = b.asked }) × (hold_room ≤ deque_capacity b.held) };
+    ghost invariant = { λ b. IsBuffer (record { me = b.me; origin = b.origin; last = b.last; told = b.told; closed = b.closed; held = b.held.items; asked = b.asked }) × (MAX_HELD ≤ deque_capacity b.held) };
 }
 
 impl<A: Allocator> SubBuffer<A> {
-    ghost use Rattle.sub_buffer.specs.Buffers.{IsBuffer, new_buffer, told_of, delivered, with_held};
-    ghost use Rattle.sub_buffer.specs.Table.{Offered, Popped, after_beat, ready_of, more_held};
-    ghost use Rattle.sub_buffer.specs.Follows.{Delivered, Follows, OfferReaches, OfferFollows, PopFollows};
+    ghost use Rattle.sub_buffer.specs.Buffers.{IsBuffer, IsSettled, SamePair, new_buffer, told_of, delivered, with_held};
+    ghost use Rattle.sub_buffer.specs.Table.{OfferLeaves, PopLeaves, after_beat, more_held};
+    ghost use Rattle.sub_buffer.specs.Follows.{HasPut, Follows, put_after, SettledOffer, OfferFollows, PopFollows};
     ghost use Rattle.sub_buffer.specs.Gaps.{GapOf, GapIs, StateOf, Wants, asked_for};
     ghost use Rattle.sub_buffer.specs.declared.verdict.BufferError.TheVariants.{WrongOrigin};
 
@@ -62,11 +60,12 @@ impl<A: Allocator> SubBuffer<A> {
     pub fn new(alloc: A, me: SiteId, origin: SiteId) -> Result<SubBuffer<A>, OutOfMemory>
         requires { origin ≢ me }
         ensures buffer { IfOk result (λ b. b ≡ new_buffer me origin) }
-        ensures delivered { IfOk result (λ b. Delivered [] b) }
+        ensures chain { IfOk result (λ b. HasPut [] b) }
         ensures follows { IfOk result (λ b. (es : List EntryValue) → IsChain origin es → Follows es [] [] b × IsLongest [] es []) }
+        ensures settled { IfOk result (λ b. IsSettled b) }
     {
         Ok(SubBuffer {
-            held: VecDeque::with_capacity(alloc, HOLD_ROOM)?,
+            held: VecDeque::with_capacity(alloc, MAX_HELD)?,
             me,
             origin,
             last: 0,
@@ -76,17 +75,18 @@ impl<A: Allocator> SubBuffer<A> {
         })
     }
 
-    /// An entry arrives. After `Ready`, and before the next offer, call `pop_ready` until it answers `None`:
-    /// only then the verdicts are those of the log.
+    /// Offers an entry. After `Ready`, and before the next offer, call `pop_ready` until it answers `None`:
+    /// only then the verdicts are those of the log. `arrive` does both.
     pub fn offer(&mut self, entry: Entry<A>) -> Result<Verdict<A>, BufferError>
         ensures refused { MatchResult result (λ v. entry.origin ≡ self.old.origin) (λ fault. (fault ≡ WrongOrigin) × (entry.origin ≢ self.old.origin) × (self.new ≡ self.old)) }
-        ensures table { IfOk result (λ v. Offered self.old entry v self.new) }
-        ensures delivered { (put : List EntryValue) → Delivered put self.old → Delivered (put ++ ready_of result) self.new }
+        ensures table { IfOk result (λ v. OfferLeaves self.old entry v self.new) }
+        ensures pair { SamePair self.old self.new }
+        ensures chain { IfOk result (λ v. (put : List EntryValue) → HasPut put self.old → HasPut (put_after put v) self.new) }
         ensures count { IfOk result (λ v. length self.new.held ≤ length self.old.held + more_held v) }
 
-        // For an entry of the log es. The second is for where put is the longest prefix.
+        // For an entry of the log es. The second is for where put is the longest prefix of what reached the buffer.
         ensures follows { (es set put : List EntryValue) → Contains es entry → Follows es set put self.old → OfferFollows es set put entry result self.new × (self.new.told ≡ max self.old.told (own entry)) }
-        ensures reaches { (es set put : List EntryValue) → Contains es entry → Follows es set put self.old → IsLongest set es put → OfferReaches es set put entry result self.new }
+        ensures settled { (es set put : List EntryValue) → Contains es entry → Follows es set put self.old → IsLongest set es put → SettledOffer es set put entry result self.new }
     {
         if entry.origin() != self.origin {
             return Err(BufferError::WrongOrigin);
@@ -95,9 +95,9 @@ impl<A: Allocator> SubBuffer<A> {
     }
 
     // The verdict on an entry of the origin.
-    fn judge(&mut self, entry: Entry<A>) -> Verdict<A>
+    pub(crate) fn judge(&mut self, entry: Entry<A>) -> Verdict<A>
         requires { entry.origin ≡ self.old.origin }
-        ensures table { Offered self.old entry result self.new }
+        ensures table { OfferLeaves self.old entry result self.new }
         ensures valid { IsBuffer self.old }
         ensures entry { IsEntry entry }
     {
@@ -118,7 +118,7 @@ impl<A: Allocator> SubBuffer<A> {
             return Verdict::Repeat;
         };
         self.hear(own);
-        if self.held.len() == HOLD_ROOM {
+        if self.held.len() == MAX_HELD {
             return Verdict::Full;
         }
         self.hold(place, entry);
@@ -133,8 +133,9 @@ impl<A: Allocator> SubBuffer<A> {
         self.told = self.told.max(number);
     }
 
-    // Goes on behind the entry.
+    // Goes on behind the entry, which was told of.
     fn deliver(&mut self, entry: &Entry<A>)
+        requires { own entry.now ≤ self.old.told }
         ensures { self.new ≡ delivered self.old entry.now }
     {
         self.last = entry.own();
@@ -146,8 +147,9 @@ impl<A: Allocator> SubBuffer<A> {
     fn hold(&mut self, place: usize, entry: Entry<A>)
         requires place { IsPlace entry.prev self.old.held place }
         requires later { self.old.last ≤ entry.prev }
+        requires heard { own entry ≤ self.old.told }
         requires of_origin { entry.origin ≡ self.old.origin }
-        requires room { length self.old.held < 64 }
+        requires few { length self.old.held < MAX_HELD }
         ensures { self.new ≡ with_held self.old entry }
     {
         match self.held.insert(place, entry) {
@@ -158,8 +160,9 @@ impl<A: Allocator> SubBuffer<A> {
 
     /// The held entry that has become next, which is then delivered. There is none after the closing entry.
     pub fn pop_ready(&mut self) -> Option<Entry<A>>
-        ensures table { Popped self.old result self.new }
-        ensures delivered { (put : List EntryValue) → Delivered put self.old → Delivered (put ++ option_to_list result) self.new }
+        ensures table { PopLeaves self.old result self.new }
+        ensures pair { SamePair self.old self.new }
+        ensures chain { (put : List EntryValue) → HasPut put self.old → HasPut (put ++ option_to_list result) self.new }
         ensures follows { (es set put : List EntryValue) → Follows es set put self.old → PopFollows es set put result self.new }
         ensures fewer { IfSome result (λ _. length self.new.held < length self.old.held) }
     {
@@ -167,7 +170,7 @@ impl<A: Allocator> SubBuffer<A> {
     }
 
     fn pop_next(&mut self) -> Option<Entry<A>>
-        ensures table { Popped self.old result self.new }
+        ensures table { PopLeaves self.old result self.new }
         ensures valid { IsBuffer self.old }
         ensures entry { IfSome result (λ e. IsEntry e) }
     {
@@ -183,12 +186,14 @@ impl<A: Allocator> SubBuffer<A> {
         Some(entry)
     }
 
-    /// The origin says that its log ends at the number, which is at most 10^9. After the closing entry that
-    /// is ignored.
+    /// The origin says that its log ends at the number, which is at most 10^9. After the closing entry was
+    /// delivered that is ignored.
     pub fn beat(&mut self, number: u64)
         requires { IsNumber number }
         ensures table { self.new ≡ after_beat self.old number }
-        ensures delivered { (put : List EntryValue) → Delivered put self.old → Delivered put self.new }
+        ensures pair { SamePair self.old self.new }
+        ensures settled { IsSettled self.old → IsSettled self.new }
+        ensures chain { (put : List EntryValue) → HasPut put self.old → HasPut put self.new }
         ensures follows { (es set put : List EntryValue) → Follows es set put self.old → Follows es set put self.new }
     {
         if !self.closed {
@@ -229,17 +234,16 @@ impl<A: Allocator> SubBuffer<A> {
         if end == self.last {
             return None;
         }
-        match Query::new(self.me, self.origin, self.last + 1, end) {
-            Ok(query) => Some(query),
-            Err(_) => unreachable!(),
-        }
+        Some(Query::known(self.me, self.origin, self.last + 1, end))
     }
 
     /// The gap, where it differs from the one that was asked for last. Now it counts as asked for.
     pub fn want(&mut self) -> Option<Query>
         ensures table { (gap : Option QueryValue) × GapOf self.old gap × Wants gap self.old.asked result × (self.new ≡ asked_for self.old result) }
         ensures gap { (es set put : List EntryValue) → Follows es set put self.old → IsLongest set es put → (gap : Option QueryValue) × GapIs self.old.me self.old.origin set put self.old.told gap × Wants gap self.old.asked result }
-        ensures delivered { (put : List EntryValue) → Delivered put self.old → Delivered put self.new }
+        ensures pair { SamePair self.old self.new }
+        ensures settled { IsSettled self.old → IsSettled self.new }
+        ensures chain { (put : List EntryValue) → HasPut put self.old → HasPut put self.new }
         ensures follows { (es set put : List EntryValue) → Follows es set put self.old → Follows es set put self.new }
     {
         let gap = self.wanted();
@@ -280,14 +284,30 @@ impl<A: Allocator> SubBuffer<A> {
     pub fn want_again(&mut self) -> Option<Query>
         ensures table { GapOf self.old result × (self.new ≡ asked_for self.old result) }
         ensures gap { (es set put : List EntryValue) → Follows es set put self.old → IsLongest set es put → GapIs self.old.me self.old.origin set put self.old.told result }
-        ensures delivered { (put : List EntryValue) → Delivered put self.old → Delivered put self.new }
+        ensures pair { SamePair self.old self.new }
+        ensures settled { IsSettled self.old → IsSettled self.new }
+        ensures chain { (put : List EntryValue) → HasPut put self.old → HasPut put self.new }
         ensures follows { (es set put : List EntryValue) → Follows es set put self.old → Follows es set put self.new }
     {
         let gap = self.missing();
         self.note_asked(gap)
     }
 
-    /// The own number of the last entry that was delivered, 0 at first.
+    /// The site whose buffer it is.
+    pub fn me(&self) -> SiteId
+        ensures { result ≡ self.now.me }
+    {
+        self.me
+    }
+
+    /// The site whose log it takes.
+    pub fn origin(&self) -> SiteId
+        ensures { result ≡ self.now.origin }
+    {
+        self.origin
+    }
+
+    /// The own number of the last entry that was delivered, 0 at first. It is never above `told`.
     pub fn last(&self) -> u64
         ensures value { result ≡ self.now.last }
         ensures valid { IsBuffer self.now }

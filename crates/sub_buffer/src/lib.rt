@@ -3,12 +3,12 @@
 //! are missing.
 #![tactic(auto)]
 
+mod arrivals;
 mod buffer;
 mod held;
+pub mod laws;
 mod verdict;
 
+pub use arrivals::MAX_VERDICTS;
 pub use buffer::{State, SubBuffer};
 pub use verdict::{BufferError, Verdict};
-
-#[cfg(test)]
-mod tests;

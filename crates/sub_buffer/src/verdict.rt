@@ -15,7 +15,7 @@ pub enum Verdict<A: Allocator = Global> {
     Repeat,
     /// The log was closed before it.
     AfterClose,
-    /// It is later than the next entry, and as many entries as there is room for are held: it is dropped.
+    /// It is later than the next entry, and 64 entries are held: it is dropped.
     Full,
 }
 

@@ -1,7 +1,5 @@
-//! Tests of the subscriber buffer that need more than it: the allocator that refuses a request, and a caller
-//! that goes by the buffer's public contracts alone.
+//! Tests of the subscriber buffer, by its public calls.
 #![tactic(auto)]
 
-pub mod arrivals;
 #[cfg(test)]
 mod tests;

@@ -15,8 +15,8 @@ returns-in_default-clause-table g c =
     subst (λ (v : BufferValue). ((e.prev < v.last) ⊎ ((v.last < e.prev) × (v.closed ≡ false) × HasPrev e.prev v.held)) × (v ≡ v)) c.self.view_is
     (inr (far, c.if-self.false, waits), refl)
 
-pub returns-then-len-eq-HOLD_ROOM-clause-table : goal.returns-then-len-eq-HOLD_ROOM-clause-table
-returns-then-len-eq-HOLD_ROOM-clause-table g c =
+pub returns-then-len-eq-MAX_HELD-clause-table : goal.returns-then-len-eq-MAX_HELD-clause-table
+returns-then-len-eq-MAX_HELD-clause-table g c =
     let i = c.self.inside in
     let e : EntryValue = c.args.entry in
     let b : BufferValue = record { me = i.me; origin = i.origin; last = i.last; told = i.told; closed = i.closed; held = i.held.items; asked = i.asked } in
@@ -24,7 +24,7 @@ returns-then-len-eq-HOLD_ROOM-clause-table g c =
     let far : i.last < e.prev = omega (arith, c.prev-prev.ensures.value) in
     let same : length c.self-2.inside.held.items ≡ length c.args.self.now.held = ap (λ (v : BufferValue). length v.held) (c.self-2.view_is ∙ c.hear-2.ensures) in (
       subst (λ (v : BufferValue). IsAhead v e) c.self.view_is (is_ahead b e c.in-Some.place far c.if-self.false place),
-      omega (arith, same, c.self-2.inside.held.ok.0, c.len.ensures, c.if-len-eq-HOLD_ROOM.true),
+      omega (arith, same, c.self-2.inside.held.ok.0, c.len.ensures, c.if-len-eq-MAX_HELD.true),
       c.hear-2.ensures ∙ ap (told_of c.args.self.now) c.own-own.ensures.value,
     )
 
@@ -37,6 +37,6 @@ returns-clause-table g c =
     let far : i.last < e.prev = omega (arith, c.prev-prev.ensures.value) in
     let same : length c.self-2.inside.held.items ≡ length c.args.self.now.held = ap (λ (v : BufferValue). length v.held) (c.self-2.view_is ∙ c.hear-2.ensures) in (
       subst (λ (v : BufferValue). IsAhead v e) c.self.view_is (is_ahead b e c.in-Some.place far c.if-self.false place),
-      omega (arith, same, c.self-2.inside.held.ok.0, c.len.ensures, c.if-len-eq-HOLD_ROOM.false, c.self-2.invariant.0.few),
+      omega (arith, same, c.self-2.inside.held.ok.0, c.len.ensures, c.if-len-eq-MAX_HELD.false, c.self-2.invariant.0.few),
       c.hold.ensures ∙ ap (λ (v : BufferValue). with_held v e) (c.hear-2.ensures ∙ ap (told_of c.args.self.now) c.own-own.ensures.value),
     )

@@ -1,4 +1,4 @@
-use Rattle.std.proofs.Common.{◌∙◌, refl, inr, subst, arith}
+use Rattle.std.proofs.Common.{refl, inr, subst, arith}
 use Rattle.sub_buffer.specs.Buffers.{BufferValue, HasPrev}
 use Rattle.sub_buffer.proofs.Keeps.{not_first, keeps_pop}
 use Rattle.sub_buffer.proofs.buffer.SubBuffer.pop_next.Goals as goal
@@ -8,7 +8,7 @@ returns-then-prev-self-clause-table g c =
     let i = c.self.inside in
     let first = c.in_ok-first.first.now in
     let none : HasPrev i.last i.held.items → ⊥ =
-    not_first i.last i.held.items first c.self.invariant.0.in_order c.self.invariant.0.later c.in_ok-first.ensures.lookup (λ at. c.if-prev-self.true (c.prev.ensures.value ∙ at)) in
+    not_first i.last i.held.items first c.self.invariant.0.in_order c.self.invariant.0.later c.in_ok-first.ensures.lookup (λ at. omega (arith, at, c.prev.ensures.value, c.if-prev-self.true)) in
     (inr (subst (λ (v : BufferValue). HasPrev v.last v.held → ⊥) c.self.view_is none), refl)
 
 pub invariant_of-self-2 : goal.invariant_of-self-2

@@ -1,8 +1,8 @@
-use Rattle.sub_buffer.proofs.Offers.{pop_delivers, pop_follows, pop_fewer}
+use Rattle.sub_buffer.proofs.Offers.{pop_chain, pop_follows, pop_fewer}
 use Rattle.sub_buffer.proofs.buffer.SubBuffer.pop_ready.Goals as goal
 
-pub returns-clause-delivered : goal.returns-clause-delivered
-returns-clause-delivered g c = pop_delivers c.args.self.now c.pop_next.new.self c.pop_next.result c.pop_next.ensures.valid c.pop_next.ensures.entry c.pop_next.ensures.table
+pub returns-clause-chain : goal.returns-clause-chain
+returns-clause-chain g c = pop_chain c.args.self.now c.pop_next.new.self c.pop_next.result c.pop_next.ensures.valid c.pop_next.ensures.entry c.pop_next.ensures.table
 
 pub returns-clause-follows : goal.returns-clause-follows
 returns-clause-follows g c = pop_follows c.args.self.now c.pop_next.new.self c.pop_next.result c.pop_next.ensures.valid c.pop_next.ensures.table

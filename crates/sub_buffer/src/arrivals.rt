@@ -1,0 +1,65 @@
+//! Entries that arrive at a buffer, each with all that it frees.
+ghost use Rattle.std.specs.Prelude.{◌≡◌, ◌+◌, ◌<◌, ◌≤◌, ◌++◌, ◌∷◌, List, length, vec_capacity};
+ghost use Rattle.std.specs.List.{All};
+ghost use Rattle.rights_types.specs.Entries.{EntryValue};
+
+use crate::buffer::SubBuffer;
+use crate::verdict::Verdict;
+use rights_types::{Entry, MAX_ANSWER, MAX_HELD};
+use std::alloc::Allocator;
+
+/// The most verdicts on the entries of one answer: one for each, and one more for each that is freed. All
+/// held before can be freed by one of them, and then all others but one by the last.
+pub const MAX_VERDICTS: usize = MAX_ANSWER + MAX_HELD + MAX_ANSWER - 2;
+
+impl<A: Allocator> SubBuffer<A> {
+    ghost use Rattle.sub_buffer.specs.Buffers.{IsSettled};
+    ghost use Rattle.sub_buffer.specs.Arrivals.{all_ready, Frees, Arrives, ArriveAll};
+
+    /// Offers an entry of the origin, and delivers all that it frees: its verdict goes to the end of
+    /// `verdicts`, and after it `Ready` for each held entry that has become next. The buffer is to be settled
+    /// before, as a new one is and one after `arrive`: `pop_ready` would answer `None`.
+    pub fn arrive(&mut self, entry: Entry<A>, verdicts: &mut Vec<Verdict<A>, A>)
+        requires of_origin { entry.origin ≡ self.old.origin }
+        requires settled { IsSettled self.old }
+        requires room { length verdicts.old.items + length self.old.held < vec_capacity verdicts.old }
+        ensures arrives { (v : Verdict A) × (freed : List EntryValue) × (verdicts.new.items ≡ verdicts.old.items ++ v ∷ all_ready freed) × Arrives self.old entry v freed self.new }
+        ensures capacity { vec_capacity verdicts.new ≡ vec_capacity verdicts.old }
+    {
+        match self.judge(entry) {
+            Verdict::Ready(next) => {
+                verdicts.push_reserved(Verdict::Ready(next));
+                self.free_held(verdicts);
+            }
+            other => verdicts.push_reserved(other),
+        }
+    }
+
+    /// The entries of one answer arrive, in order.
+    pub fn arrive_all(&mut self, entries: Vec<Entry<A>, A>, verdicts: &mut Vec<Verdict<A>, A>)
+        requires of_origin { All (λ (e : EntryValue). e.origin ≡ self.old.origin) entries.items }
+        requires settled { IsSettled self.old }
+        requires few { length entries.items ≤ MAX_ANSWER }
+        requires room { length verdicts.old.items + MAX_VERDICTS ≤ vec_capacity verdicts.old }
+        ensures arrive { ArriveAll self.old verdicts.old.items entries.items self.new verdicts.new.items }
+        ensures settled { IsSettled self.new }
+        ensures capacity { vec_capacity verdicts.new ≡ vec_capacity verdicts.old }
+    {
+        // For the proof: at most 64 are held.
+        let _ = self.held_count();
+        for entry in entries {
+            self.arrive(entry, verdicts);
+        }
+    }
+
+    // Delivers the held entries that have become next, one after another.
+    fn free_held(&mut self, verdicts: &mut Vec<Verdict<A>, A>)
+        requires room { length verdicts.old.items + length self.old.held ≤ vec_capacity verdicts.old }
+        ensures freed { (freed : List EntryValue) × (verdicts.new.items ≡ verdicts.old.items ++ all_ready freed) × Frees self.old freed self.new }
+        ensures capacity { vec_capacity verdicts.new ≡ vec_capacity verdicts.old }
+    {
+        while let Some(held) = self.pop_ready() {
+            verdicts.push_reserved(Verdict::Ready(held));
+        }
+    }
+}
