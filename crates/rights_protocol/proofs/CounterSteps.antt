@@ -12,13 +12,13 @@ use Rattle.rights_types.specs.declared.moves.Move.{Move}
 use Rattle.rights_types.specs.declared.moves.Move.TheVariants.{Issue, Spend, Grant, Give, Close, CloseAt, TakeBack}
 use Rattle.rights_types.proofs.Sums.{moves_of-push, to-append, back-append, covers_both}
 use Rattle.rights_protocol.specs.Lists.{Lists, IsSiteOf, held_at, on_way}
-use Rattle.rights_protocol.specs.Retiring.{own_frontier, numbers_in, owed, entry_after}
+use Rattle.rights_protocol.specs.Retiring.{own_frontier, numbers_in, owed, entry_at_end}
 use Rattle.rights_protocol.specs.Writing.{is_plain, MayClose, closing_moves}
 use Rattle.rights_protocol.specs.Changes.{Change, LinkStays, OthersStay, Appends, Offers, Takes, Closes, Step}
 use Rattle.rights_protocol.specs.Changes.Change.{Append, Offer, Take, CloseSite, Nothing}
 use Rattle.rights_protocol.specs.Kept.{Kept}
 use Rattle.rights_protocol.specs.BoundedCounter.{SameCounter, TakesBack, Operate}
-use Rattle.rights_protocol.specs.CounterOfLists.{state_of, seen, view_of}
+use Rattle.rights_protocol.specs.CounterOfLists.{state_of, seen, state_at}
 use Rattle.rights_protocol.specs.CounterLaws.{OperatesBoth, ByOperations}
 use Rattle.rights_protocol.proofs.Takings.{taking_cases}
 use Rattle.rights_protocol.proofs.Steps.{step_keeps}
@@ -32,27 +32,27 @@ use Rattle.rights_protocol.proofs.CounterMoves.{Room, Fit, is_own, take_back_is,
 state_room : (w : Lists) (s : ℕ) → Kept w → IsSiteOf w.count s → Room w.count (state_of w) s (held_at w s)
 state_room w s kept among = omega (arith, held_parts w s (λ o. moves_of (w.log o)) kept among refl, incoming_is w s kept among)
 
-view_room : (w : Lists) (s : ℕ) → Kept w → IsSiteOf w.count s → Room w.count (view_of w s) s (held_at w s)
+view_room : (w : Lists) (s : ℕ) → Kept w → IsSiteOf w.count s → Room w.count (state_at w s) s (held_at w s)
 view_room w s kept among = omega (arith, held_parts w s (λ o. moves_of (seen w s o)) kept among (seen_own w s), seen_incoming w s kept among)
 
 -- ---- an entry of these moves
 
-writes_state : (old new : Lists) (s : ℕ) (ms : List Move) → Kept old → IsSiteOf old.count s → Fit old.count s (held_at old s) ms → new.log s ≡ old.log s ++ entry_after s (old.log s) ms ∷ []
+writes_state : (old new : Lists) (s : ℕ) (ms : List Move) → Kept old → IsSiteOf old.count s → Fit old.count s (held_at old s) ms → new.log s ≡ old.log s ++ entry_at_end s (old.log s) ms ∷ []
     → OthersStay old new s → Operate old.count s ms (state_of old) (state_of new)
 writes_state old new s ms kept among fit grown others =
     operates old.count s (held_at old s) ms (λ o. moves_of (old.log o)) (λ o. moves_of (new.log o)) fit (state_room old s kept among) (λ c. taken_given old s c kept among)
-    (ap moves_of grown ∙ moves_of-push (old.log s) (entry_after s (old.log s) ms)) (λ k ne. ap moves_of (others.sites k ne).log)
+    (ap moves_of grown ∙ moves_of-push (old.log s) (entry_at_end s (old.log s) ms)) (λ k ne. ap moves_of (others.sites k ne).log)
 
-writes_view : (old new : Lists) (s : ℕ) (ms : List Move) → Kept old → IsSiteOf old.count s → Fit old.count s (held_at old s) ms → new.log s ≡ old.log s ++ entry_after s (old.log s) ms ∷ []
-    → ((o : ℕ) → LinkStays old new s o) → Operate old.count s ms (view_of old s) (view_of new s)
+writes_view : (old new : Lists) (s : ℕ) (ms : List Move) → Kept old → IsSiteOf old.count s → Fit old.count s (held_at old s) ms → new.log s ≡ old.log s ++ entry_at_end s (old.log s) ms ∷ []
+    → ((o : ℕ) → LinkStays old new s o) → Operate old.count s ms (state_at old s) (state_at new s)
 writes_view old new s ms kept among fit grown links =
     let own : moves_of (seen old s s) ≡ moves_of (old.log s) = seen_own old s in
     operates old.count s (held_at old s) ms (λ o. moves_of (seen old s o)) (λ o. moves_of (seen new s o)) fit (view_room old s kept among)
     (λ c. subst (λ xs. back c xs ≤ to c xs) (sym own) (taken_given old s c kept among))
-    (seen_own new s ∙ ap moves_of grown ∙ moves_of-push (old.log s) (entry_after s (old.log s) ms) ∙ ap (λ (xs : List Move). xs ++ ms) (sym own))
+    (seen_own new s ∙ ap moves_of grown ∙ moves_of-push (old.log s) (entry_at_end s (old.log s) ms) ∙ ap (λ (xs : List Move). xs ++ ms) (sym own))
     (λ k ne. seen_other new s k ne ∙ ap moves_of (links k).applied ∙ sym (seen_other old s k ne))
 
-writes_both : (old new : Lists) (s : ℕ) (ms : List Move) → Kept old → IsSiteOf old.count s → Fit old.count s (held_at old s) ms → new.log s ≡ old.log s ++ entry_after s (old.log s) ms ∷ []
+writes_both : (old new : Lists) (s : ℕ) (ms : List Move) → Kept old → IsSiteOf old.count s → Fit old.count s (held_at old s) ms → new.log s ≡ old.log s ++ entry_at_end s (old.log s) ms ∷ []
     → ((o : ℕ) → LinkStays old new s o) → OthersStay old new s → OperatesBoth s ms old new
 writes_both old new s ms kept among fit grown links others = record {
   state = writes_state old new s ms kept among fit grown others;
@@ -145,11 +145,11 @@ taken_from_way old new s o amount kept kept_now step grown =
     ap (λ es. to o (moves_of es)) ((step.others.sites o (λ e. step.differ (sym e))).links s).applied in
     (omega (arith, was, now, given, taken, applied), omega (arith, was, now, given, taken, applied))
 
-takes_it_back : (old new : Lists) (s o amount : ℕ) → Kept old → Kept new → (step : Takes old new s o) → new.log s ≡ old.log s ++ entry_after s (old.log s) (TakeBack o amount ∷ []) ∷ []
+takes_it_back : (old new : Lists) (s o amount : ℕ) → Kept old → Kept new → (step : Takes old new s o) → new.log s ≡ old.log s ++ entry_at_end s (old.log s) (TakeBack o amount ∷ []) ∷ []
     → TakesBack old.count s o amount (state_of old) (state_of new)
 takes_it_back old new s o amount kept kept_now step grown =
     let on : moves_of (new.log s) ≡ moves_of (old.log s) ++ TakeBack o amount ∷ [] =
-    ap moves_of grown ∙ moves_of-push (old.log s) (entry_after s (old.log s) (TakeBack o amount ∷ [])) in
+    ap moves_of grown ∙ moves_of-push (old.log s) (entry_at_end s (old.log s) (TakeBack o amount ∷ [])) in
     let p = taken_from_way old new s o amount kept kept_now step on in
     take_back_is old.count s o amount (λ k. moves_of (old.log k)) (λ k. moves_of (new.log k)) (record { here = on; others = λ k ne. ap moves_of (step.others.sites k ne).log })
     step.from (λ e. step.differ (sym e)) p.1 (omega (arith, p.0, has_rights old o kept step.from, one_le old.count s (λ k. on_way old k o) step.site))

@@ -13,7 +13,7 @@ use Rattle.rights_types.specs.declared.moves.Move.TheVariants.{TakeBack}
 use Rattle.rights_types.proofs.Chains.{chain_push, end-push, closed-push}
 use Rattle.rights_types.proofs.Sums.{moves_of-nil, moves_of-push, covers-more, covers-append}
 use Rattle.rights_protocol.specs.Lists.{IsSiteOf}
-use Rattle.rights_protocol.specs.Retiring.{numbers_in, frontier, owed, own_frontier, entry_after, taking_back, takings, one_taking}
+use Rattle.rights_protocol.specs.Retiring.{numbers_in, frontier, owed, own_frontier, entry_at_end, taking_back, takings, one_taking}
 use Rattle.rights_protocol.specs.Writing.{MayAppend, MayClose, closing_moves, AppliesNext}
 use Rattle.rights_protocol.specs.Kept.{SiteKept, known_closed}
 use Rattle.rights_protocol.proofs.Frontiers.{no_frontier, closes_by, frontier-push, front_open, owed_bound}
@@ -56,13 +56,13 @@ ready n s log applied some few site unclosed k = record {
 -- what an entry of these moves has to keep, beside being one that the site may write
 record Keeps (n s : ℕ) (log : List EntryValue) (applied : ℕ → List EntryValue) (ms : List Move) : Type 0 where
   pub closing : list_any is_close ms ≡ true → numbers_in ms ≡ Some (own_frontier n applied)
-  pub taken : (c : ℕ) → takings c (log ++ entry_after s log ms ∷ []) ≡ one_taking c (owed s c (log ++ entry_after s log ms ∷ []) (frontier (applied c)))
+  pub taken : (c : ℕ) → takings c (log ++ entry_at_end s log ms ∷ []) ≡ one_taking c (owed s c (log ++ entry_at_end s log ms ∷ []) (frontier (applied c)))
   pub fits : list_any is_close ms ≡ false → end log + length ms ≤ 999999900 + known_closed n applied
 
 site_writes : (n s : ℕ) (log : List EntryValue) (applied : ℕ → List EntryValue) (ms : List Move) → Ready n s log applied → Writable n s log applied ms → Keeps n s log applied ms
-    → SiteKept n s (log ++ entry_after s log ms ∷ []) applied
+    → SiteKept n s (log ++ entry_at_end s log ms ∷ []) applied
 site_writes n s log applied ms k may keeps =
-    let e : EntryValue = entry_after s log ms in
+    let e : EntryValue = entry_at_end s log ms in
     let moves : moves_of (log ++ e ∷ []) ≡ moves_of log ++ ms = moves_of-push log e in
     let ends : end (log ++ e ∷ []) ≡ end log + length ms = end-push log e in
     let closed : is_closed (log ++ e ∷ []) ≡ list_any is_close ms = closed-push false log e in
@@ -78,28 +78,28 @@ site_writes n s log applied ms k may keeps =
     }
 
 pub site_appends : (n s : ℕ) (log : List EntryValue) (applied : ℕ → List EntryValue) (ms : List Move) → 2 ≤ n → n ≤ 16 → IsSiteOf n s → SiteKept n s log applied → MayAppend n s log applied ms
-    → SiteKept n s (log ++ entry_after s log ms ∷ []) applied
+    → SiteKept n s (log ++ entry_at_end s log ms ∷ []) applied
 site_appends n s log applied ms some few site k may =
     let r : Ready n s log applied = ready n s log applied some few site may.unclosed k in
     let writable : Writable n s log applied ms = append_writable n s log applied ms r may in
     let plain : Plain s ms = plain_moves s ms may.plain in
     site_writes n s log applied ms r writable (record {
       closing = λ h. absurd (both_ways (list_any is_close ms) plain.open_moves h);
-      taken = λ c. taken_push s c log (entry_after s log ms) (frontier (applied c)) (plain.taking c) (writable.given c) (k.taken c);
+      taken = λ c. taken_push s c log (entry_at_end s log ms) (frontier (applied c)) (plain.taking c) (writable.given c) (k.taken c);
       fits = λ _. omega (arith, may.fits);
     })
 
 pub site_closes : (n s : ℕ) (log : List EntryValue) (applied : ℕ → List EntryValue) (heir : Option ℕ) → 2 ≤ n → n ≤ 16 → IsSiteOf n s → SiteKept n s log applied → MayClose n s log applied heir
-    → SiteKept n s (log ++ entry_after s log (closing_moves n s log applied heir) ∷ []) applied
+    → SiteKept n s (log ++ entry_at_end s log (closing_moves n s log applied heir) ∷ []) applied
 site_closes n s log applied heir some few site k may =
     let ms : List Move = closing_moves n s log applied heir in
     let r : Ready n s log applied = ready n s log applied some few site may.unclosed k in
     let low : end log ≤ 999999998 = omega (arith, k.fits may.unclosed, known_few n s applied site k.itself) in
     let closing : Closing n s log applied ms = closing_writable n s heir log applied r low may.inherits in
-    let shuts : list_any is_close ms ≡ true = closes_by (entry_after s log ms) (own_frontier n applied) closing.numbers in
+    let shuts : list_any is_close ms ≡ true = closes_by (entry_at_end s log ms) (own_frontier n applied) closing.numbers in
     site_writes n s log applied ms r closing.may (record {
       closing = λ _. closing.numbers;
-      taken = λ c. taken_push s c log (entry_after s log ms) (frontier (applied c)) (closing.none_taken c) (closing.may.given c) (k.taken c);
+      taken = λ c. taken_push s c log (entry_at_end s log ms) (frontier (applied c)) (closing.none_taken c) (closing.may.given c) (k.taken c);
       fits = λ h. absurd (both_ways (list_any is_close ms) h shuts);
     })
 
@@ -158,10 +158,10 @@ takes_plain n s o log old new e k t step none =
 
 -- where something is owed
 takes_back : (n s o amount : ℕ) (log : List EntryValue) (old new : ℕ → List EntryValue) (e : EntryValue) → SiteKept n s log old → IsSiteOf n o → s ≢ o → Taking n s o log old new e → AppliesNext old new o e
-    → amount ≡ owed s o log (numbers_in e.moves) → 1 ≤ amount → closes e ≡ true → SiteKept n s (log ++ entry_after s log (TakeBack o amount ∷ []) ∷ []) new
+    → amount ≡ owed s o log (numbers_in e.moves) → 1 ≤ amount → closes e ≡ true → SiteKept n s (log ++ entry_at_end s log (TakeBack o amount ∷ []) ∷ []) new
 takes_back n s o amount log old new e k from differ t step is positive shut =
     let ms : List Move = TakeBack o amount ∷ [] in
-    let v : EntryValue = entry_after s log ms in
+    let v : EntryValue = entry_at_end s log ms in
     let one : one_if (closes e) ≡ 1 = ap one_if shut in
     let low : end log ≤ 999999999 = omega (arith, k.fits t.ready.unclosed, known_few n s old t.ready.site k.itself, t.ready.few) in
     let bound : amount ≤ 1000000000000000000 = omega (arith, is, owed_bound s o s log (numbers_in e.moves) k.chain) in
@@ -191,7 +191,7 @@ site_takes n s o log old new e some few site from differ k unclosed chain step =
           let same : log ++ taking_back s o log e ≡ log = ap (λ es. log ++ es) p.1 ∙ append-nil log in
           subst (λ es. SiteKept n s es new) (sym same) (takes_plain n s o log old new e k t step p.0)
       | inr p ↦
-          let grown : log ++ taking_back s o log e ≡ log ++ entry_after s log (TakeBack o amount ∷ []) ∷ [] = ap (λ es. log ++ es) p.1 in
+          let grown : log ++ taking_back s o log e ≡ log ++ entry_at_end s log (TakeBack o amount ∷ []) ∷ [] = ap (λ es. log ++ es) p.1 in
           subst (λ es. SiteKept n s es new) (sym grown)
           (takes_back n s o amount log old new e k from differ t step refl p.0 (owed_closes s o log e (numbers_in e.moves) refl p.0))
     ]

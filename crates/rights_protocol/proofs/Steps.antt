@@ -10,7 +10,7 @@ use Rattle.rights_types.specs.Rights.{back}
 use Rattle.rights_types.specs.declared.moves.Move.{Move}
 use Rattle.rights_types.proofs.Sums.{moves_of-nil}
 use Rattle.rights_protocol.specs.Lists.{Lists}
-use Rattle.rights_protocol.specs.Retiring.{entry_after, owed, numbers_in, taking_back}
+use Rattle.rights_protocol.specs.Retiring.{entry_at_end, owed, numbers_in, taking_back}
 use Rattle.rights_protocol.specs.Writing.{closing_moves}
 use Rattle.rights_protocol.specs.Changes.{Change, LinkStays, Stays, OthersStay, Appends, Reaches, Offers, Takes, Closes, Step, Start}
 use Rattle.rights_protocol.specs.Changes.Change.{Append, Offer, Take, CloseSite, Nothing}
@@ -92,12 +92,12 @@ writes_kept old new s e kept others grown links site =
 
 appends_kept : (old new : Lists) (s : ℕ) (ms : List Move) → Kept old → Appends old new s ms → Kept new
 appends_kept old new s ms kept step =
-    writes_kept old new s (entry_after s (old.log s) ms) kept step.others step.log step.links
+    writes_kept old new s (entry_at_end s (old.log s) ms) kept step.others step.log step.links
     (site_appends old.count s (old.log s) (old.applied s) ms kept.some kept.few step.site (kept.sites s) step.may)
 
 closes_kept : (old new : Lists) (s : ℕ) (heir : Option ℕ) → Kept old → Closes old new s heir → Kept new
 closes_kept old new s heir kept step =
-    writes_kept old new s (entry_after s (old.log s) (closing_moves old.count s (old.log s) (old.applied s) heir)) kept step.others step.log step.links
+    writes_kept old new s (entry_at_end s (old.log s) (closing_moves old.count s (old.log s) (old.applied s) heir)) kept step.others step.log step.links
     (site_closes old.count s (old.log s) (old.applied s) heir kept.some kept.few step.site (kept.sites s) step.may)
 
 -- ---- an offer

@@ -13,7 +13,7 @@ use Rattle.rights_types.specs.Rights.{to, back}
 use Rattle.rights_types.specs.declared.moves.Move.{Move}
 use Rattle.rights_types.specs.declared.moves.Move.TheVariants.{Issue, Spend, Grant, Give, Close, CloseAt, TakeBack}
 use Rattle.rights_types.proofs.Sums.{moves_of-nil, back-append}
-use Rattle.rights_protocol.specs.Retiring.{owed, entry_after, one_taking, takes_from, takings}
+use Rattle.rights_protocol.specs.Retiring.{owed, entry_at_end, one_taking, takes_from, takings}
 use Rattle.rights_protocol.proofs.Frontiers.{owed_push}
 
 abbrev moves_in : EntryValue → List Move
@@ -108,7 +108,7 @@ taken_is c n es h = each_taking c es ∙ ap (back_each c) h ∙ one_gives c n
 
 -- nothing is taken back, or by one entry
 pub taking_cases : (s o : ℕ) (log : List EntryValue) (n : ℕ)
-    → ((n ≡ 0) × (map (entry_after s log) (one_taking o n) ≡ [])) ⊎ ((1 ≤ n) × (map (entry_after s log) (one_taking o n) ≡ entry_after s log (TakeBack o n ∷ []) ∷ []))
+    → ((n ≡ 0) × (map (entry_at_end s log) (one_taking o n) ≡ [])) ⊎ ((1 ≤ n) × (map (entry_at_end s log) (one_taking o n) ≡ entry_at_end s log (TakeBack o n ∷ []) ∷ []))
 taking_cases s o log n = elim (cases_eq n 0) [
   | inl e ↦ let none : eqb n 0 ≡ true = eq-eqb n 0 e in inl (e, rw none refl)
   | inr ne ↦ let some : eqb n 0 ≡ false = ne_eqb n 0 ne in inr (omega (arith, ne), rw some refl)

@@ -7,7 +7,7 @@ use Rattle.rights_types.specs.Chains.{end, is_closed, IsLongest, IsFull}
 use Rattle.rights_types.specs.Moves.{names}
 use Rattle.rights_types.specs.declared.moves.Move.{Move}
 use Rattle.rights_types.proofs.Chains.{not_in_nil, contains_cases}
-use Rattle.rights_protocol.specs.Retiring.{entry_after, taking_back}
+use Rattle.rights_protocol.specs.Retiring.{entry_at_end, taking_back}
 use Rattle.rights_protocol.specs.Writing.{MayAppend}
 use Rattle.rights_protocol.specs.Changes.{Stays, OthersStay, Step}
 use Rattle.rights_protocol.specs.Changes.Change.{Append, Offer, Take}
@@ -38,13 +38,13 @@ only_2 a b y = others_stay a b a y 2 (λ k ne. let no : eqb k 2 ≡ false = ne_e
 
 -- ---- writes
 
-pub append_1 : (a b : Side) (ms : List Move) → MayAppend 2 1 a.log (λ o. from_other 1 o a.applied) ms → Step (two a b) (Append 1 ms) (two (record a { log = a.log ++ entry_after 1 a.log ms ∷ [] }) b)
+pub append_1 : (a b : Side) (ms : List Move) → MayAppend 2 1 a.log (λ o. from_other 1 o a.applied) ms → Step (two a b) (Append 1 ms) (two (record a { log = a.log ++ entry_at_end 1 a.log ms ∷ [] }) b)
 append_1 a b ms may = record {
   site = (omega arith, omega arith);
   may = may;
   log = refl;
   links = λ o. record { reached = refl; put = refl; applied = refl };
-  others = only_1 a (record a { log = a.log ++ entry_after 1 a.log ms ∷ [] }) b;
+  others = only_1 a (record a { log = a.log ++ entry_at_end 1 a.log ms ∷ [] }) b;
 }
 
 -- a site that has applied nothing knows no site as closed

@@ -9,11 +9,11 @@ use Rattle.rights_types.specs.Moves.{IsMove, NamesWithin, names}
 use Rattle.rights_types.specs.Rights.{held, way, issued, spent, out, to, back, received, covers}
 use Rattle.rights_types.specs.declared.moves.Move.{Move}
 use Rattle.rights_types.specs.declared.moves.Move.TheVariants.{Issue, Spend, Give}
-use Rattle.rights_protocol.specs.Retiring.{entry_after}
+use Rattle.rights_protocol.specs.Retiring.{entry_at_end}
 use Rattle.rights_protocol.specs.Writing.{is_plain}
 use Rattle.rights_protocol.specs.Changes.{Step}
 use Rattle.rights_protocol.specs.Changes.Change.{Append, Offer, Take, CloseSite}
-use Rattle.rights_protocol.specs.Examples.{nothing, from_other, two, in_order, opening, leaving, leaver, held_back, both_came, Inherits, issuing, giving, closing, regaining, giver, closer, regainer, told_late, TakesBack, BothClose, IsGranted, second, third, three, last_held, one_missing, all_came, GapFills, ones, holder, IsTurnedAway}
+use Rattle.rights_protocol.specs.Examples.{empty_side, from_other, two, in_order, opening, leaving, leaver, held_back, both_came, Inherits, issuing, giving, closing, regaining, giver, closer, regainer, told_late, GiftComesBack, BothClose, IsGranted, second, third, three, last_held, one_missing, all_came, GapFills, ones, holder, IsTurnedAway}
 use Rattle.rights_protocol.proofs.TwoSites.{same, only_1, only_2, append_1, knows_none, reaches_2, takes_2, absent}
 
 abbrev IsPlain : Move → Type 0
@@ -30,10 +30,10 @@ all_3 P x y z h k l = All-cons P x (y ∷ (z ∷ [])) h (all_2 P y z k l)
 
 -- ---- an heir
 
-open_it : Step (two nothing nothing) (Append 1 opening.moves) (two (in_order (opening ∷ []) [] []) nothing)
+open_it : Step (two empty_side empty_side) (Append 1 opening.moves) (two (in_order (opening ∷ []) [] []) empty_side)
 unfolding held received issued spent out to back moves_of
 open_it =
-    append_1 nothing nothing opening.moves (record {
+    append_1 empty_side empty_side opening.moves (record {
       unclosed = refl;
       some = omega arith;
       few = omega arith;
@@ -46,7 +46,7 @@ open_it =
       holds = refl;
     })
 
-leave : Step (two (in_order (opening ∷ []) [] []) nothing) (CloseSite 1 (Some 2)) (two leaver nothing)
+leave : Step (two (in_order (opening ∷ []) [] []) empty_side) (CloseSite 1 (Some 2)) (two leaver empty_side)
 unfolding held received issued spent out to back moves_of
 leave =
     let rest : held 2 1 (opening ∷ []) (λ o. from_other 1 o []) ≡ 3 = refl in
@@ -55,12 +55,12 @@ leave =
       may = record { unclosed = refl; inherits = record { site = (omega arith, omega arith); differ = omega arith; unclosed = refl; amount = omega (arith, rest) } };
       log = refl;
       links = λ o. record { reached = refl; put = refl; applied = refl };
-      others = only_1 (in_order (opening ∷ []) [] []) leaver nothing;
+      others = only_1 (in_order (opening ∷ []) [] []) leaver empty_side;
     }
 
-hold_back : Step (two leaver nothing) (Offer 2 1 leaving) (two leaver held_back)
+hold_back : Step (two leaver empty_side) (Offer 2 1 leaving) (two leaver held_back)
 hold_back =
-    reaches_2 leaver nothing leaving [] (1, omega arith, refl) (absent [] leaving refl) (inr (λ full. absurd (omega (arith, full))))
+    reaches_2 leaver empty_side leaving [] (1, omega arith, refl) (absent [] leaving refl) (inr (λ full. absurd (omega (arith, full))))
     (record { rest = opening ∷ (leaving ∷ []); whole = refl; inside = All-nil (Contains (leaving ∷ [])); no_longer = absent (leaving ∷ []) opening refl })
 
 both_come : Step (two leaver held_back) (Offer 2 1 opening) (two leaver (both_came []))
@@ -93,9 +93,9 @@ inherits = record {
 -- ---- taking back
 
 append_one : (log : List EntryValue) (m : Move) → is_closed log ≡ false → IsMove m → is_plain m ≡ true → NamesWithin 2 m → names 1 m ≡ false → end log + 1 ≤ 999999900
-    → covers (held 2 1 log (λ o. from_other 1 o [])) (m ∷ []) ≡ true → Step (two (in_order log [] []) nothing) (Append 1 (m ∷ [])) (two (in_order (log ++ entry_after 1 log (m ∷ []) ∷ []) [] []) nothing)
+    → covers (held 2 1 log (λ o. from_other 1 o [])) (m ∷ []) ≡ true → Step (two (in_order log [] []) empty_side) (Append 1 (m ∷ [])) (two (in_order (log ++ entry_at_end 1 log (m ∷ []) ∷ []) [] []) empty_side)
 append_one log m unclosed is plain within other fits holds =
-    append_1 (in_order log [] []) nothing (m ∷ []) (record {
+    append_1 (in_order log [] []) empty_side (m ∷ []) (record {
       unclosed = unclosed;
       some = omega arith;
       few = omega arith;
@@ -108,17 +108,17 @@ append_one log m unclosed is plain within other fits holds =
       holds = holds;
     })
 
-issue_it : Step (two nothing nothing) (Append 1 issuing.moves) (two (in_order (issuing ∷ []) [] []) nothing)
+issue_it : Step (two empty_side empty_side) (Append 1 issuing.moves) (two (in_order (issuing ∷ []) [] []) empty_side)
 unfolding held received issued spent out to back moves_of
 issue_it = append_one [] (Issue 10) refl (omega arith, omega arith) refl tt refl (omega arith) refl
 
-give_it : Step (two (in_order (issuing ∷ []) [] []) nothing) (Append 1 giving.moves) (two (in_order (issuing ∷ (giving ∷ [])) [] []) nothing)
+give_it : Step (two (in_order (issuing ∷ []) [] []) empty_side) (Append 1 giving.moves) (two (in_order (issuing ∷ (giving ∷ [])) [] []) empty_side)
 unfolding held received issued spent out to back moves_of
 give_it = append_one (issuing ∷ []) (Give 2 4) refl ((omega arith, omega arith), (omega arith, omega arith)) refl (omega arith, omega arith) refl (omega arith) refl
 
-first_comes : Step (two (in_order (issuing ∷ (giving ∷ [])) [] []) nothing) (Offer 2 1 issuing) (two (in_order (issuing ∷ (giving ∷ [])) [] []) (in_order [] (issuing ∷ []) []))
+first_comes : Step (two (in_order (issuing ∷ (giving ∷ [])) [] []) empty_side) (Offer 2 1 issuing) (two (in_order (issuing ∷ (giving ∷ [])) [] []) (in_order [] (issuing ∷ []) []))
 first_comes =
-    reaches_2 (in_order (issuing ∷ (giving ∷ [])) [] []) nothing issuing (issuing ∷ []) (0, omega arith, refl) (absent [] issuing refl) (inl refl)
+    reaches_2 (in_order (issuing ∷ (giving ∷ [])) [] []) empty_side issuing (issuing ∷ []) (0, omega arith, refl) (absent [] issuing refl) (inl refl)
     (record { rest = giving ∷ []; whole = refl; inside = all_1 (Contains (issuing ∷ [])) issuing (0, omega arith, refl); no_longer = absent (issuing ∷ []) giving refl })
 
 take_first : Step (two (in_order (issuing ∷ (giving ∷ [])) [] []) (in_order [] (issuing ∷ []) [])) (Take 2 1) (two (in_order (issuing ∷ (giving ∷ [])) [] []) (in_order [] (issuing ∷ []) (issuing ∷ [])))
@@ -177,7 +177,7 @@ gift_comes =
       no_longer = absent (issuing ∷ (giving ∷ [])) regaining refl;
     })
 
-pub takes_back : TakesBack
+pub takes_back : GiftComesBack
 unfolding held way received issued spent out to back moves_of
 takes_back = record {
   run = (
@@ -216,9 +216,9 @@ is_granted = record {
 
 -- ---- a gap
 
-hold_last : Step (two (in_order three [] []) nothing) (Offer 2 1 third) (two (in_order three [] []) last_held)
+hold_last : Step (two (in_order three [] []) empty_side) (Offer 2 1 third) (two (in_order three [] []) last_held)
 hold_last =
-    reaches_2 (in_order three [] []) nothing third [] (2, omega arith, refl) (absent [] third refl) (inr (λ full. absurd (omega (arith, full))))
+    reaches_2 (in_order three [] []) empty_side third [] (2, omega arith, refl) (absent [] third refl) (inr (λ full. absurd (omega (arith, full))))
     (record { rest = three; whole = refl; inside = All-nil (Contains (third ∷ [])); no_longer = absent (third ∷ []) issuing refl })
 
 first_of_three : Step (two (in_order three [] []) last_held) (Offer 2 1 issuing) (two (in_order three [] []) one_missing)

@@ -13,7 +13,7 @@ use Rattle.rights_types.specs.declared.moves.Move.{Move}
 use Rattle.rights_types.specs.declared.moves.Move.TheVariants.{Issue, Spend, Grant, Give, Close, CloseAt, TakeBack}
 use Rattle.rights_types.proofs.Sums.{nothing_to, covers_both, rights_after_is, taken_back_is}
 use Rattle.rights_protocol.specs.Lists.{IsSiteOf}
-use Rattle.rights_protocol.specs.Retiring.{numbers_in, frontier, own_frontier, entry_after, takes_from}
+use Rattle.rights_protocol.specs.Retiring.{numbers_in, frontier, own_frontier, entry_at_end, takes_from}
 use Rattle.rights_protocol.specs.Writing.{is_plain, MayAppend, MayInherit, heritage, closing_moves}
 use Rattle.rights_protocol.proofs.Frontiers.{has_closed}
 use Rattle.rights_protocol.proofs.Numbers.{is_frontier, number_at}
@@ -32,7 +32,7 @@ pub record Ready (n s : ℕ) (log : List EntryValue) (applied : ℕ → List Ent
 
 -- what is known of moves that it may write in one entry
 pub record Writable (n s : ℕ) (log : List EntryValue) (applied : ℕ → List EntryValue) (ms : List Move) : Type 0 where
-  pub is : IsEntry (entry_after s log ms)
+  pub is : IsEntry (entry_at_end s log ms)
   pub named : All (NamesWithin n) ms
   pub covered : covers (rights_after (received n s applied) (moves_of log)) ms ≡ true
   -- they give nothing to a site whose K it applied

@@ -6,7 +6,7 @@ use Rattle.rights_types.specs.Chains.{end, is_closed, IsLongest, IsFull}
 use Rattle.rights_types.specs.declared.limits.TheConstants.{MIN_SITES, MAX_SITES}
 use Rattle.rights_types.specs.declared.moves.Move.{Move}
 use Rattle.rights_protocol.specs.Lists.{Lists, IsSiteOf}
-use Rattle.rights_protocol.specs.Retiring.{entry_after, taking_back}
+use Rattle.rights_protocol.specs.Retiring.{entry_at_end, taking_back}
 use Rattle.rights_protocol.specs.Writing.{MayAppend, MayClose, closing_moves, AppliesNext}
 
 pub data Change : Type 0 where
@@ -49,7 +49,7 @@ pub record OthersStay (old new : Lists) (s : ℕ) : Type 0 where
 pub record Appends (old new : Lists) (s : ℕ) (ms : List Move) : Type 0 where
   pub site : IsSiteOf old.count s
   pub may : MayAppend old.count s (old.log s) (old.applied s) ms
-  pub log : new.log s ≡ old.log s ++ entry_after s (old.log s) ms ∷ []
+  pub log : new.log s ≡ old.log s ++ entry_at_end s (old.log s) ms ∷ []
   pub links : (o : ℕ) → LinkStays old new s o
   pub others : OthersStay old new s
 
@@ -100,7 +100,7 @@ pub record Takes (old new : Lists) (s o : ℕ) : Type 0 where
 pub record Closes (old new : Lists) (s : ℕ) (heir : Option ℕ) : Type 0 where
   pub site : IsSiteOf old.count s
   pub may : MayClose old.count s (old.log s) (old.applied s) heir
-  pub log : new.log s ≡ old.log s ++ entry_after s (old.log s) (closing_moves old.count s (old.log s) (old.applied s) heir) ∷ []
+  pub log : new.log s ≡ old.log s ++ entry_at_end s (old.log s) (closing_moves old.count s (old.log s) (old.applied s) heir) ∷ []
   pub links : (o : ℕ) → LinkStays old new s o
   pub others : OthersStay old new s
 

@@ -10,7 +10,7 @@ use Rattle.rights_protocol.specs.Changes.{Change, Append, Offer, Take, CloseSite
 use Rattle.rights_protocol.specs.Kept.{Kept}
 use Rattle.rights_protocol.specs.Headline.{all_spent, all_issued}
 use Rattle.rights_protocol.specs.BoundedCounter.{Counter, local_rights, value, SameCounter, TakesBack, Operate, Operation, CounterRun, EmptyCounter, IsSafe}
-use Rattle.rights_protocol.specs.CounterOfLists.{counter_of, state_of, view_of}
+use Rattle.rights_protocol.specs.CounterOfLists.{counter_of, state_of, state_at}
 
 -- ---- the counter alone
 
@@ -31,11 +31,11 @@ CounterIsSafe = (n : ℕ) (ops : List Operation) (start new : Counter) → Empty
 -- what the lists say of a site's rights
 pub record RightsCount (w : Lists) (s : ℕ) : Type 0 where
   -- what it holds are its local rights over what it has
-  pub holds : held_at w s ≡ local_rights w.count (view_of w s) s
+  pub holds : held_at w s ≡ local_rights w.count (state_at w s) s
   -- by all logs it has this, and what is on the way to it
   pub has : local_rights w.count (state_of w) s ≡ held_at w s + sum_sites w.count (λ o. on_way w o s)
   -- so it counts on no more than it has
-  pub no_more : local_rights w.count (view_of w s) s ≤ local_rights w.count (state_of w) s
+  pub no_more : local_rights w.count (state_at w s) s ≤ local_rights w.count (state_of w) s
 
 pub record ListsCount (w : Lists) : Type 0 where
   pub safe : IsSafe w.count (state_of w)
@@ -53,7 +53,7 @@ KeptCounts = (w : Lists) → Kept w → ListsCount w
 -- the moves that s writes, each of them allowed, by all logs and by what s has
 pub record OperatesBoth (s : ℕ) (moves : List Move) (old new : Lists) : Type 0 where
   pub state : Operate old.count s moves (state_of old) (state_of new)
-  pub view : Operate old.count s moves (view_of old s) (view_of new s)
+  pub view : Operate old.count s moves (state_at old s) (state_at new s)
 
 abbrev pub ByOperations : Lists → Change → Lists → Type 0
 ByOperations old (Append s moves) new = OperatesBoth s moves old new

@@ -25,5 +25,5 @@ abbrev pub seen : Lists → ℕ → ℕ → List EntryValue
 seen w s o = if o == s then w.log s else w.applied s o
 
 -- by what s has
-abbrev pub view_of : Lists → ℕ → Counter
-view_of w s = counter_of (λ o. moves_of (seen w s o))
+abbrev pub state_at : Lists → ℕ → Counter
+state_at w s = counter_of (λ o. moves_of (seen w s o))

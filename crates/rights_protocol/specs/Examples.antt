@@ -18,11 +18,11 @@ pub record Side : Type 0 where
   pub put : List EntryValue
   pub applied : List EntryValue
 
-abbrev pub nothing : Side
-nothing = record { log = []; reached = []; put = []; applied = [] }
+abbrev pub empty_side : Side
+empty_side = record { log = []; reached = []; put = []; applied = [] }
 
 abbrev pub side : Side → Side → ℕ → Side
-side a b s = if s == 1 then a else (if s == 2 then b else nothing)
+side a b s = if s == 1 then a else (if s == 2 then b else empty_side)
 
 abbrev pub from_other : ℕ → ℕ → List EntryValue → List EntryValue
 from_other s o es = if o == (3 - s) then es else []
@@ -69,11 +69,11 @@ abbrev pub both_came : List EntryValue → Side
 both_came applied = record { log = []; reached = leaving ∷ (opening ∷ []); put = opening ∷ (leaving ∷ []); applied = applied }
 
 pub record Inherits : Type 0 where
-  pub run : Runs (two nothing nothing)
+  pub run : Runs (two empty_side empty_side)
       (Append 1 opening.moves ∷ (CloseSite 1 (Some 2) ∷ (Offer 2 1 leaving ∷ (Offer 2 1 opening ∷ (Take 2 1 ∷ (Take 2 1 ∷ []))))))
       (two leaver (both_came (opening ∷ (leaving ∷ []))))
   -- the gift stands with its giver, on the way and with its taker; then the heritage
-  pub before : Stands (two (in_order (opening ∷ []) [] []) nothing) 3 0 3 0
+  pub before : Stands (two (in_order (opening ∷ []) [] []) empty_side) 3 0 3 0
   pub given : Stands (two (in_order (opening ∷ []) [] []) (in_order [] (opening ∷ []) (opening ∷ []))) 3 3 0 0
   pub closed : Stands (two leaver (both_came (opening ∷ []))) 0 3 3 0
   pub after : Stands (two leaver (both_came (opening ∷ (leaving ∷ [])))) 0 6 0 0
@@ -105,8 +105,8 @@ regainer = in_order (issuing ∷ (giving ∷ (regaining ∷ []))) (closing ∷ [
 abbrev pub told_late : Side
 told_late = in_order (closing ∷ []) (issuing ∷ (giving ∷ [])) (issuing ∷ [])
 
-pub record TakesBack : Type 0 where
-  pub run : Runs (two nothing nothing)
+pub record GiftComesBack : Type 0 where
+  pub run : Runs (two empty_side empty_side)
       (Append 1 issuing.moves ∷ (Append 1 giving.moves ∷ (Offer 2 1 issuing ∷ (Take 2 1 ∷ (CloseSite 2 None ∷ (Offer 1 2 closing ∷ (Take 1 2 ∷ (Offer 2 1 giving ∷ (Nothing ∷ [])))))))))
       (two regainer told_late)
   pub owes : owed 1 2 (issuing ∷ (giving ∷ [])) (frontier (closing ∷ [])) ≡ 4
@@ -156,7 +156,7 @@ abbrev pub all_came : Side
 all_came = record { log = []; reached = third ∷ (issuing ∷ (second ∷ [])); put = three; applied = [] }
 
 pub record GapFills : Type 0 where
-  pub run : Runs (two (in_order three [] []) nothing)
+  pub run : Runs (two (in_order three [] []) empty_side)
       (Offer 2 1 third ∷ (Offer 2 1 issuing ∷ (Offer 2 1 second ∷ (Offer 2 1 issuing ∷ []))))
       (two (in_order three [] []) all_came)
   pub stays : Stands (two (in_order three [] []) all_came) 5 0 0 0

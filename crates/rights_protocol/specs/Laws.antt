@@ -6,7 +6,7 @@ use Rattle.rights_types.specs.Rights.{to, back, received, held}
 use Rattle.rights_types.specs.declared.limits.TheConstants.{MIN_SITES, MAX_SITES, LAST_APPEND, MAX_TOTAL, MAX_RECEIVED, MAX_HELD_RIGHTS}
 use Rattle.rights_types.specs.declared.moves.Move.{Move}
 use Rattle.rights_protocol.specs.Lists.{Lists, IsSiteOf}
-use Rattle.rights_protocol.specs.Retiring.{frontier, owed, entry_after, taking_back}
+use Rattle.rights_protocol.specs.Retiring.{frontier, owed, entry_at_end, taking_back}
 use Rattle.rights_protocol.specs.Writing.{MayAppend, MayClose, closing_moves, AppliesNext}
 use Rattle.rights_protocol.specs.Changes.{Change, Step, Runs, Start}
 use Rattle.rights_protocol.specs.Kept.{SiteKept, Kept}
@@ -54,10 +54,10 @@ AppliedForGood = (old : Lists) (changes : List Change) (new : Lists) (s c : ℕ)
 
 -- what is kept of one site is kept by what the site does, and that names no other site's log
 pub record SiteGoesOn (n s : ℕ) (log : List EntryValue) (applied : ℕ → List EntryValue) : Type 0 where
-  pub appends : (ms : List Move) → MayAppend n s log applied ms → SiteKept n s (log ++ entry_after s log ms ∷ []) applied
+  pub appends : (ms : List Move) → MayAppend n s log applied ms → SiteKept n s (log ++ entry_at_end s log ms ∷ []) applied
   pub takes : (o : ℕ) (e : EntryValue) (now : ℕ → List EntryValue) → IsSiteOf n o → s ≢ o → is_closed log ≡ false → IsChain o (applied o ++ e ∷ [])
       → AppliesNext applied now o e → SiteKept n s (log ++ taking_back s o log e) now
-  pub closes : (heir : Option ℕ) → MayClose n s log applied heir → SiteKept n s (log ++ entry_after s log (closing_moves n s log applied heir) ∷ []) applied
+  pub closes : (heir : Option ℕ) → MayClose n s log applied heir → SiteKept n s (log ++ entry_at_end s log (closing_moves n s log applied heir) ∷ []) applied
 
 -- and it bounds the site's log and its book
 pub record SiteBounds (n s : ℕ) (log : List EntryValue) (applied : ℕ → List EntryValue) : Type 0 where

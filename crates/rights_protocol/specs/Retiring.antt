@@ -48,8 +48,8 @@ owed s c es (Some numbers) = given_beyond c es (slice_get numbers (s - 1))
 -- ---- the entry that takes back
 
 -- the entry of these moves that s writes at the end of its log
-abbrev pub entry_after : ℕ → List EntryValue → List Move → EntryValue
-entry_after s log ms = record { origin = s; prev = end log; moves = ms }
+abbrev pub entry_at_end : ℕ → List EntryValue → List Move → EntryValue
+entry_at_end s log ms = record { origin = s; prev = end log; moves = ms }
 
 -- n is taken back from c by the one move V of one entry; where n is 0, by none. (A list of the moves of
 -- each entry.)
@@ -58,7 +58,7 @@ one_taking c n = if n == 0 then [] else (TakeBack c n ∷ []) ∷ []
 
 -- what s writes as it applies the entry e of o: where e ends in a K, what it owes by that K
 abbrev pub taking_back : ℕ → ℕ → List EntryValue → EntryValue → List EntryValue
-taking_back s o log e = map (entry_after s log) (one_taking o (owed s o log (numbers_in e.moves)))
+taking_back s o log e = map (entry_at_end s log) (one_taking o (owed s o log (numbers_in e.moves)))
 
 abbrev pub takes_from : ℕ → Move → Bool
 takes_from c (TakeBack j n) = j == c

@@ -1,5 +1,5 @@
 //! Worked examples of two sites, by computation. The runs in them show that each change can happen.
-ghost use Rattle.rights_protocol.specs.Examples.{Inherits, TakesBack, BothClose, IsGranted, GapFills, IsTurnedAway};
+ghost use Rattle.rights_protocol.specs.Examples.{Inherits, GiftComesBack, BothClose, IsGranted, GapFills, IsTurnedAway};
 
 /// Site 1 issues 10, spends 4, gives 3 and closes. Site 2 inherits the other 3, though the closing
 /// entry comes first and is held.
@@ -10,7 +10,7 @@ pub fn heir_inherits()
 /// Site 1 issues 10 and gives 4 to site 2, which closes before the gift comes. Site 1 takes the 4 back
 /// as it applies the closing entry, and the gift that comes late is not applied.
 pub fn gift_is_taken_back()
-    ensures { TakesBack }
+    ensures { GiftComesBack }
 {}
 
 /// Two sites that close towards each other take nothing back; what was on the way stays there.

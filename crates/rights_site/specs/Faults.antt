@@ -17,16 +17,16 @@ status_of WriteFailed = 1
 status_of OutOfMemory = 1
 status_of TooManyLines = 1
 
-abbrev pub text_of : Fault → List ℕ
-text_of BadCommandLine = codes "rights-site: bad command line"
-text_of ReadFailed = codes "rights-site: read failed"
-text_of WriteFailed = codes "rights-site: write failed"
-text_of OutOfMemory = codes "rights-site: out of memory"
-text_of TooManyLines = codes "rights-site: too many lines"
+abbrev pub fault_text : Fault → List ℕ
+fault_text BadCommandLine = codes "rights-site: bad command line"
+fault_text ReadFailed = codes "rights-site: read failed"
+fault_text WriteFailed = codes "rights-site: write failed"
+fault_text OutOfMemory = codes "rights-site: out of memory"
+fault_text TooManyLines = codes "rights-site: too many lines"
 
 -- what is printed: the text and a line feed
 abbrev pub line_of : Fault → List ℕ
-line_of fault = text_of fault ++ 10 ∷ []
+line_of fault = fault_text fault ++ 10 ∷ []
 
 -- why the words of the process cannot be told, by the kind of the error
 abbrev pub fault_of_given : ErrorKind → Fault

@@ -10,7 +10,7 @@ use Rattle.transfer_manager.specs.declared.answer.AskAnswer.{AskAnswer}
 use Rattle.transfer_manager.specs.declared.answer.AskAnswer.TheVariants.{Grant, Deny, RepeatedDeny, Repeated, OldAsk}
 use Rattle.transfer_manager.specs.Managers.{ManagerValue, sites, asks, no_asks, with_ask, with_asks, with_ended, ended}
 use Rattle.transfer_manager.specs.Plans.{Knowledge, planned, Plans}
-use Rattle.transfer_manager.specs.AskAnswers.{grant_of, IsLate, IsSettled}
+use Rattle.transfer_manager.specs.AskAnswers.{grant_of, IsLate, IsAnswered}
 use Rattle.transfer_manager.proofs.ManagerLaws.{answered}
 
 -- the answer by the last number that was answered, and whether it was granted
@@ -32,9 +32,9 @@ same_answer p q ask available same h =
     subst (λ (l : ℕ). IsLate (answer_by l q.granted ask available)) (sym same.last)
     (subst (λ (g : Bool). IsLate (answer_by p.last_answered g ask available)) (sym same.granted) h)
 
-still_settled : (old new : ManagerValue) → ((k : ℕ) → IsAnsweredAs (asks old k) (asks new k)) → (past : AskValue) → IsSettled old past → IsSettled new past
-still_settled old new same past settled again available of_asker most =
-    same_answer (asks old again.asker) (asks new again.asker) again available (same again.asker) (settled again available of_asker most)
+still_answered : (old new : ManagerValue) → ((k : ℕ) → IsAnsweredAs (asks old k) (asks new k)) → (past : AskValue) → IsAnswered old past → IsAnswered new past
+still_answered old new same past answered again available of_asker most =
+    same_answer (asks old again.asker) (asks new again.asker) again available (same again.asker) (answered again available of_asker most)
 
 -- an ask that ended
 
@@ -51,8 +51,8 @@ ended_keeps m j ask low high k =
       | inr q ↦ answered_as_is (asks m k) (asks (ended m j ask) k) q.1
     ]
 
-pub ended_settled : (m : ManagerValue) (j ask : ℕ) → 1 ≤ j → j ≤ sites m → (past : AskValue) → IsSettled m past → IsSettled (ended m j ask) past
-ended_settled m j ask low high = still_settled m (ended m j ask) (ended_keeps m j ask low high)
+pub ended_answered : (m : ManagerValue) (j ask : ℕ) → 1 ≤ j → j ≤ sites m → (past : AskValue) → IsAnswered m past → IsAnswered (ended m j ask) past
+ended_answered m j ask low high = still_answered m (ended m j ask) (ended_keeps m j ask low high)
 
 -- a plan
 
@@ -70,9 +70,9 @@ planned_keeps m new k queued count p j =
       | inr out ↦ answered_as_is (asks m j) (asks new j) (out new.peers p.same.same_sites ∙ sym (out m.peers refl))
     ]
 
-pub planned_settled : (m new : ManagerValue) (k : Knowledge) (queued count : ℕ) → Plans m k queued count new
-    → (past : AskValue) → IsSettled m past → IsSettled new past
-planned_settled m new k queued count p = still_settled m new (planned_keeps m new k queued count p)
+pub planned_answered : (m new : ManagerValue) (k : Knowledge) (queued count : ℕ) → Plans m k queued count new
+    → (past : AskValue) → IsAnswered m past → IsAnswered new past
+planned_answered m new k queued count p = still_answered m new (planned_keeps m new k queued count p)
 
 -- an answer that was noted
 
@@ -97,19 +97,19 @@ older_late : (last : ℕ) (granted : Bool) (ask : AskValue) (available : ℕ) �
 older_late last granted ask available h = subst (λ (t : Bool). IsLate (cond t OldAsk (cond (eqb ask.ask last) (cond granted Repeated RepeatedDeny)
     (grant_of (min ask.amount available))))) (sym (lt-ltb ask.ask last h)) tt
 
-pub answered_settled : (m : ManagerValue) (ask : AskValue) (granted : Bool) → 1 ≤ ask.asker → ask.asker ≤ sites m → (asks m ask.asker).last_answered < ask.ask
-    → (past : AskValue) → IsSettled m past → IsSettled (with_asks m ask.asker (answered (asks m ask.asker) ask.ask granted)) past
-answered_settled m ask granted low high above past settled again available of_asker most =
+pub noted_answered : (m : ManagerValue) (ask : AskValue) (granted : Bool) → 1 ≤ ask.asker → ask.asker ≤ sites m → (asks m ask.asker).last_answered < ask.ask
+    → (past : AskValue) → IsAnswered m past → IsAnswered (with_asks m ask.asker (answered (asks m ask.asker) ask.ask granted)) past
+noted_answered m ask granted low high above past answered again available of_asker most =
     let j = ask.asker in
     let p : PeerAsks = answered (asks m j) ask.ask granted in
     let new : ManagerValue = with_asks m j p in
     elim (at_set_site m.peers j again.asker p no_asks low high) [
       | inl q ↦
-          let before = late_number (asks m past.asker).last_answered (asks m past.asker).granted past 0 (settled past 0 refl (omega arith)) in
+          let before = late_number (asks m past.asker).last_answered (asks m past.asker).granted past 0 (answered past 0 refl (omega arith)) in
           let before_here : past.ask ≤ (asks m j).last_answered = subst (λ i. past.ask ≤ (asks m i).last_answered) (sym of_asker ∙ q.0) before in
           let old : again.ask < ask.ask = omega (arith, most, before_here, above) in
           subst (λ (a : PeerAsks). IsLate (answer_by a.last_answered a.granted again available)) (sym q.1) (older_late ask.ask granted again available old)
       | inr q ↦
           same_answer (asks m again.asker) (asks new again.asker) again available (answered_as_is (asks m again.asker) (asks new again.asker) q.1)
-          (settled again available of_asker most)
+          (answered again available of_asker most)
     ]

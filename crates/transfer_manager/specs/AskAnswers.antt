@@ -41,5 +41,5 @@ IsLate Deny = ⊥
 IsLate _ = Unit {0}
 
 -- whatever is available, no ask of this asker with this number or a smaller one is granted any more
-abbrev pub IsSettled : ManagerValue → AskValue → Type 0
-IsSettled m ask = (again : AskValue) (available : ℕ) → again.asker ≡ ask.asker → again.ask ≤ ask.ask → IsLate (answer_to m again available)
+abbrev pub IsAnswered : ManagerValue → AskValue → Type 0
+IsAnswered m ask = (again : AskValue) (available : ℕ) → again.asker ≡ ask.asker → again.ask ≤ ask.ask → IsLate (answer_to m again available)

@@ -40,7 +40,7 @@ impl Manager {
     ghost use Rattle.request_queue.specs.Queues.{total_of};
     ghost use Rattle.transfer_manager.specs.Managers.{sites, asks, SameSystem, new_manager, outstanding_ask, ended};
     ghost use Rattle.transfer_manager.specs.Plans.{of_book, of_logs, Plans};
-    ghost use Rattle.transfer_manager.specs.AskAnswers.{answer_to, noted, IfNew, IsWithin, IsSettled};
+    ghost use Rattle.transfer_manager.specs.AskAnswers.{answer_to, noted, IfNew, IsWithin, IsAnswered};
 
     /// The manager of site `me` among so many sites, 2 to 16, where nothing was asked.
     pub fn new(me: SiteId, sites: u64) -> Manager
@@ -70,7 +70,7 @@ impl Manager {
         ensures plans_by_logs { (log : List EntryValue) (applied : ℕ → List EntryValue) → StandsFor log applied book.now
             → book_sites book.now ≡ sites self.old
             → Plans self.old (of_logs (sites self.old) book.now.me log applied) (total_of queue.now.waiting) result self.new }
-        ensures settled { (past : AskValue) → IsSettled self.old past → IsSettled self.new past }
+        ensures answered { (past : AskValue) → IsAnswered self.old past → IsAnswered self.new past }
         ensures range { result ≤ MAX_SITES }
     {
         let peers = &mut self.peers[..self.sites];
@@ -122,8 +122,8 @@ impl Manager {
         requires new { IfNew answer ((asks self.old ask.now.asker).last_answered < ask.now.ask) }
         ensures noted { self.new ≡ noted self.old ask.now answer }
         ensures same { SameSystem self.old self.new }
-        ensures once { IfNew answer (IsSettled self.new ask.now) }
-        ensures settled { (past : AskValue) → IsSettled self.old past → IsSettled self.new past }
+        ensures once { IfNew answer (IsAnswered self.new ask.now) }
+        ensures answered { (past : AskValue) → IsAnswered self.old past → IsAnswered self.new past }
     {
         let granted = match answer {
             AskAnswer::Grant(_) => true,
@@ -141,7 +141,7 @@ impl Manager {
         requires { peer ≤ sites self.old }
         ensures ended { self.new ≡ ended self.old peer ask }
         ensures same { SameSystem self.old self.new }
-        ensures settled { (past : AskValue) → IsSettled self.old past → IsSettled self.new past }
+        ensures answered { (past : AskValue) → IsAnswered self.old past → IsAnswered self.new past }
     {
         let granter = &mut self.peers[peer.index()];
         granter.end(ask);
@@ -152,7 +152,7 @@ impl Manager {
         requires { peer ≤ sites self.old }
         ensures ended { self.new ≡ ended self.old peer ask }
         ensures same { SameSystem self.old self.new }
-        ensures settled { (past : AskValue) → IsSettled self.old past → IsSettled self.new past }
+        ensures answered { (past : AskValue) → IsAnswered self.old past → IsAnswered self.new past }
     {
         let denier = &mut self.peers[peer.index()];
         denier.end(ask);

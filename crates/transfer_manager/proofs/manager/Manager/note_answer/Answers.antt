@@ -3,9 +3,9 @@ use Rattle.rights_types.specs.Messages.{AskValue}
 use Rattle.transfer_manager.specs.declared.answer.AskAnswer.{AskAnswer}
 use Rattle.transfer_manager.specs.declared.peer_asks.PeerAsks.{PeerAsks}
 use Rattle.transfer_manager.specs.Managers.{ManagerValue, sites, asks, with_asks, IsManager}
-use Rattle.transfer_manager.specs.AskAnswers.{noted, IfNew, IsSettled}
+use Rattle.transfer_manager.specs.AskAnswers.{noted, IfNew, IsAnswered}
 use Rattle.transfer_manager.proofs.ManagerLaws.{answered, answered_set, answered_is}
-use Rattle.transfer_manager.proofs.AnswerLaws.{answered_settled}
+use Rattle.transfer_manager.proofs.AnswerLaws.{noted_answered}
 use Rattle.transfer_manager.proofs.manager.Manager.note_answer.Goals.{in-Grant, in-Deny}
 use Rattle.transfer_manager.proofs.manager.Manager.note_answer.Goals as goal
 
@@ -40,8 +40,8 @@ returns-clause-noted c =
     ] in
     rw (← c.self.view_is) (same ∙ is)
 
-pub returns-clause-settled : goal.returns-clause-settled
-returns-clause-settled c =
+pub returns-clause-answered : goal.returns-clause-answered
+returns-clause-answered c =
     let me = c.self.inside.me in
     let n = c.self.inside.sites in
     let ps : List PeerAsks = c.self.inside.peers in
@@ -56,5 +56,5 @@ returns-clause-settled c =
       | in-Grant w ↦ subst (λ (a : AskAnswer). IfNew a ((asks x ask.asker).last_answered < ask.ask)) w.in-Grant.is new
       | in-Deny w ↦ subst (λ (a : AskAnswer). IfNew a ((asks x ask.asker).last_answered < ask.ask)) w.in-Deny.is new
     ] in
-    rw (← c.self.view_is) (subst (λ (m : ManagerValue). (past : AskValue) → IsSettled x past → IsSettled m past) (sym same)
-    (answered_settled x ask c.match-answer.granted (omega (arith, at)) high above))
+    rw (← c.self.view_is) (subst (λ (m : ManagerValue). (past : AskValue) → IsAnswered x past → IsAnswered m past) (sym same)
+    (noted_answered x ask c.match-answer.granted (omega (arith, at)) high above))

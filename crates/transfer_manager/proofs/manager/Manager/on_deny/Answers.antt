@@ -2,9 +2,9 @@ use Rattle.std.proofs.Common.{◌≤◌, List, take, sym, subst, arith}
 use Rattle.rights_types.specs.Messages.{AskValue}
 use Rattle.transfer_manager.specs.declared.peer_asks.PeerAsks.{PeerAsks}
 use Rattle.transfer_manager.specs.Managers.{ManagerValue, sites, IsManager}
-use Rattle.transfer_manager.specs.AskAnswers.{IsSettled}
+use Rattle.transfer_manager.specs.AskAnswers.{IsAnswered}
 use Rattle.transfer_manager.proofs.ManagerLaws.{ended_set, ended_is}
-use Rattle.transfer_manager.proofs.AnswerLaws.{ended_settled}
+use Rattle.transfer_manager.proofs.AnswerLaws.{ended_answered}
 use Rattle.transfer_manager.proofs.manager.Manager.on_deny.Goals as goal
 
 pub invariant_of-self : goal.invariant_of-self
@@ -27,13 +27,13 @@ returns-clause-ended c =
     let same = ended_set me n c.index.result c.args.peer c.args.ask ps c.index-self-index.result _ c.index.ensures.value high c.end.ensures in
     rw (← c.self.view_is) same
 
-pub returns-clause-settled : goal.returns-clause-settled
-returns-clause-settled c =
+pub returns-clause-answered : goal.returns-clause-answered
+returns-clause-answered c =
     let me = c.self.inside.me in
     let n = c.self.inside.sites in
     let ps : List PeerAsks = c.self.inside.peers in
     let x : ManagerValue = record { me = me; peers = take n ps } in
     let high : c.args.peer ≤ sites x = rw (← c.self.view_is) at c.requires in
     let same = ended_set me n c.index.result c.args.peer c.args.ask ps c.index-self-index.result _ c.index.ensures.value high c.end.ensures in
-    rw (← c.self.view_is) (subst (λ (m : ManagerValue). (past : AskValue) → IsSettled x past → IsSettled m past) (sym same)
-    (ended_settled x c.args.peer c.args.ask (omega (arith, c.index.ensures.value)) high))
+    rw (← c.self.view_is) (subst (λ (m : ManagerValue). (past : AskValue) → IsAnswered x past → IsAnswered m past) (sym same)
+    (ended_answered x c.args.peer c.args.ask (omega (arith, c.index.ensures.value)) high))

@@ -3,7 +3,7 @@ use Rattle.request_queue.specs.Queues.{total_of}
 use Rattle.transfer_manager.specs.Managers.{ManagerValue, sites}
 use Rattle.transfer_manager.specs.Plans.{Knowledge, of_book, of_logs}
 use Rattle.transfer_manager.proofs.PlanLaws.{is_opened, front_bounded, front_left, plans, planned_few, planned_is, plans_same, by_logs, front_written}
-use Rattle.transfer_manager.proofs.AnswerLaws.{planned_settled}
+use Rattle.transfer_manager.proofs.AnswerLaws.{planned_answered}
 use Rattle.transfer_manager.proofs.manager.Manager.plan.Goals as goal
 
 pub ask_each-requires-clause-bounded : goal.ask_each-requires-clause-bounded
@@ -72,6 +72,6 @@ returns g c =
       plans_by_logs = λ log applied s count.
           plans_same x new k (of_logs (sites x) c.args.book.now.me log applied) queued c.ask_each.result
           (by_logs c.args.book.now log applied (sites x) c.need-need.ensures.valid s count) made;
-      settled = planned_settled x new k queued c.ask_each.result made;
+      answered = planned_answered x new k queued c.ask_each.result made;
       range = planned_few x k queued c.ask_each.result new c.self.invariant.0 made;
     })
