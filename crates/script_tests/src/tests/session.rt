@@ -155,18 +155,19 @@ impl Read for Asker<'_> {
             self.talk.is_late.set(true);
         }
         let mut text = self.rest;
-        let mut count = 0;
+        let mut count = 0usize;
         for _ in 0..self.lines {
             let Some(length) = memchr(b'\n', text) else {
                 break;
             };
-            if count.saturating_add(length + 1) > buf.len() {
+            if count.saturating_add(length) >= buf.len() {
                 break;
             }
             count += length + 1;
             text = &text[length + 1..];
             self.talk.asked.set(self.talk.asked.get().saturating_add(1));
         }
+        let count = count.min(buf.len()).min(self.rest.len());
         buf[..count].copy_from_slice(&self.rest[..count]);
         self.rest = text;
         Ok(count)
