@@ -3,7 +3,7 @@
 use rights_types::MAX_LINE;
 
 /// Stands between the parts of a line.
-pub(crate) const PART_BREAK: u8 = b';';
+pub const PART_BREAK: u8 = b';';
 
 /// Stands between the fields of a part.
 pub(crate) const FIELD_BREAK: u8 = b' ';

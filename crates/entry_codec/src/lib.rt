@@ -19,6 +19,7 @@ mod writing;
 
 pub use cutter::{Cut, LineCutter};
 pub use fault::{LineError, Place};
+pub use format::PART_BREAK;
 pub use laws::{ends_once, no_prefix, read_is_spelled, reads_back, reads_on, spelled_once};
 pub use moves::read_move;
 pub use number::read_decimal;

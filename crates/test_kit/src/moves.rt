@@ -1,4 +1,5 @@
 //! Moves and entries by bare numbers.
+ghost use Rattle.std.specs.Prelude.{◌≡◌};
 ghost use Rattle.rights_types.specs.Ranges.{IsAmount, IsAskNumber, IsSite, IsTotal};
 
 use rights_types::{
@@ -11,6 +12,7 @@ use std::test::Fail;
 /// The site of a number.
 pub fn site(number: u64) -> SiteId
     requires { IsSite number }
+    ensures { result ≡ number }
 {
     SiteId::known(number)
 }
