@@ -99,17 +99,17 @@ older_late last granted ask available h = subst (λ (t : Bool). IsLate (cond t O
 
 pub noted_answered : (m : ManagerValue) (ask : AskValue) (granted : Bool) → 1 ≤ ask.asker → ask.asker ≤ sites m → (asks m ask.asker).last_answered < ask.ask
     → (past : AskValue) → IsAnswered m past → IsAnswered (with_asks m ask.asker (answered (asks m ask.asker) ask.ask granted)) past
-noted_answered m ask granted low high above past answered again available of_asker most =
+noted_answered m ask granted low high above past was_answered again available of_asker most =
     let j = ask.asker in
     let p : PeerAsks = answered (asks m j) ask.ask granted in
     let new : ManagerValue = with_asks m j p in
     elim (at_set_site m.peers j again.asker p no_asks low high) [
       | inl q ↦
-          let before = late_number (asks m past.asker).last_answered (asks m past.asker).granted past 0 (answered past 0 refl (omega arith)) in
+          let before = late_number (asks m past.asker).last_answered (asks m past.asker).granted past 0 (was_answered past 0 refl (omega arith)) in
           let before_here : past.ask ≤ (asks m j).last_answered = subst (λ i. past.ask ≤ (asks m i).last_answered) (sym of_asker ∙ q.0) before in
           let old : again.ask < ask.ask = omega (arith, most, before_here, above) in
           subst (λ (a : PeerAsks). IsLate (answer_by a.last_answered a.granted again available)) (sym q.1) (older_late ask.ask granted again available old)
       | inr q ↦
           same_answer (asks m again.asker) (asks new again.asker) again available (answered_as_is (asks m again.asker) (asks new again.asker) q.1)
-          (answered again available of_asker most)
+          (was_answered again available of_asker most)
     ]
