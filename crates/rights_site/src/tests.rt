@@ -251,13 +251,13 @@ fn each_growth_for_the_words_refused(rt: HostRuntime) {
         (Words(&[b"rights-site", b"sim", b"7"]), 2, refused),
         (Words(&[b"rights-site", b"\xff"]), 2, refused),
     ] {
-        let mut stopped = 0;
+        let mut stopped = 0u64;
         let mut whole = false;
         for granted in 0..100 {
             let refusing = Refusing::new(rt.alloc(), granted);
             let (answer, said) = ending(&rt, &words, &refusing);
             if answer == 1 {
-                stopped += 1;
+                stopped = stopped.saturating_add(1);
                 assert!(rt; refusing.refused());
                 assert_eq!(rt; said.as_slice(), b"rights-site: out of memory\n".as_slice());
                 continue;
