@@ -149,16 +149,6 @@ tells_fault view CountWrong read h = h
 tells_fault view TrailingBytes read h = h
 tells_fault view OutOfMemory read h = tt
 
-pub gives_told : {X Y : Type 0} (view : X → Y) (e : LineError) (read : Result Y LineError) → (e ≡ OutOfMemory → ⊥) → Tells view (Err e) read → Gives view (Err e) read
-gives_told view TooLong read other h = h
-gives_told view NoEnd read other h = h
-gives_told view BadKind read other h = h
-gives_told view (BadField p) read other h = h
-gives_told view (BadMove p) read other h = h
-gives_told view CountWrong read other h = h
-gives_told view TrailingBytes read other h = h
-gives_told view OutOfMemory read other h = absurd (other refl)
-
 -- ---- entries one after the other, as a loop reads them
 
 abbrev pub with_front : List EntryValue → Result (List EntryValue) LineError → Result (List EntryValue) LineError

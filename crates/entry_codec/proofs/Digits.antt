@@ -265,9 +265,6 @@ length_tenths (suc k) n h fits =
 pub length_least : (n : ℕ) → n < 2 ^ 64 → 1 ≤ length (decimal n)
 length_least n fits = decimal_nonempty n fits
 
-pub length_most : (n : ℕ) → n < 2 ^ 64 → length (decimal n) ≤ 20
-length_most n fits = length-decimal-le 20 n (omega arith) (omega (arith, fits)) fits
-
 -- ---- digits put from the right
 
 take_parts : (m n : ℕ) (xs : List ℕ) → m ≤ n → take n xs ≡ take m xs ++ take (n - m) (drop m xs)

@@ -8,7 +8,7 @@ use Rattle.rights_types.specs.Places.{at_site, set_site}
 use Rattle.rights_types.specs.Rights.{out, to, taken_back, back, sum_sites}
 use Rattle.rights_types.specs.declared.moves.Move.{Move}
 use Rattle.rights_types.proofs.Places.{at_site_past, at_site-replicate, at_site-index, set_site-index, length-set_site}
-use Rattle.rights_types.proofs.SiteSums.{sum_same, sum_add, sum_zero, sum_bound, sum_risen}
+use Rattle.rights_types.proofs.SiteSums.{sum_same, sum_add, sum_zero, sum_le, sum_term, sum_bound_but, sum_risen}
 use Rattle.rights_types.proofs.Sums.{to-bound, nothing_to, out_is, taken_back_is, rights_after_is}
 use Rattle.rights_book.specs.Accounts.{no_account, with_moves, IsAccount}
 use Rattle.rights_book.specs.Peers.{no_peer, with_own, with_gifts}
@@ -17,33 +17,6 @@ use Rattle.rights_book.specs.declared.account.Account.{Account}
 use Rattle.rights_book.specs.declared.peer.Peer.{Peer}
 use Rattle.rights_book.proofs.PeerLaws.{applied_peer, no_gift_here, applied_at}
 use Rattle.rights_book.proofs.CheckLaws.{IsChecked, named_within}
-
--- ---- sums over sites
-
--- a term is at most the sum
-pub sum_term : (n k : ℕ) (f : ℕ → ℕ) → 1 ≤ k → k ≤ n → f k ≤ sum_sites n f
-sum_term zero k f low high = absurd (omega arith)
-sum_term (suc n) k f low high =
-    elim (cases_eq k (suc n)) [
-      | inl e ↦ rw e (omega arith)
-      | inr ne ↦ omega (arith, sum_term n k f low (omega arith))
-    ]
-
-pub sum_le : (n : ℕ) (f g : ℕ → ℕ) → ((k : ℕ) → f k ≤ g k) → sum_sites n f ≤ sum_sites n g
-sum_le zero f g h = omega arith
-sum_le (suc n) f g h = omega (arith, sum_le n f g h, h (suc n))
-
--- one term is 0: the bound of the others
-pub sum_bound_but : (n s m : ℕ) (f : ℕ → ℕ) → 1 ≤ s → s ≤ n → f s ≡ 0 → ((k : ℕ) → f k ≤ m) → sum_sites n f + m ≤ n * m
-sum_bound_but n s m f low high none h =
-    let g : ℕ → ℕ = λ k. cond (eqb k s) m (f k) in
-    let here : g s ≡ f s + m = rw (eq-eqb s s refl) (omega (arith, none)) in
-    let others : (k : ℕ) → k ≢ s → g k ≡ f k = λ k ne. rw (ne_eqb k s ne) refl in
-    let within : (k : ℕ) → g k ≤ m = λ k. elim (cases_eq k s) [
-      | inl e ↦ rw (eq-eqb k s e) (omega arith)
-      | inr ne ↦ rw (ne_eqb k s ne) (h k)
-    ] in
-    omega (arith, sum_risen n s m f g low high others here, sum_bound n m g within)
 
 -- ---- sites of the system, and outside it
 
@@ -113,7 +86,7 @@ given_term b is j =
 
 -- no more is taken back than was given
 pub back_given : (b : BookValue) → IsBook b → b.own.back ≤ b.own.given
-back_given b is = omega (arith, is.given_is, is.back_is, sum_le (sites b) (λ j. (peer b j).back) (λ j. (peer b j).given) is.back_within)
+back_given b is = omega (arith, is.given_is, is.back_is, sum_le (sites b) (λ j. (peer b j).back) (λ j. (peer b j).given) (λ j low high. is.back_within j))
 
 pub bounded : (b : BookValue) → IsBook b → IsBounded b
 bounded b is =

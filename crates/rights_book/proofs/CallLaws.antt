@@ -1,5 +1,5 @@
 -- How a caller meets what a book requires, by what its readers answer.
-use Rattle.std.proofs.Common.{◌≡◌, ◌≢◌, ℕ, zero, suc, ◌-◌, ◌≤◌, true, false, None, cond, eqb, List, [], ◌∷◌, inl, inr, refl, arith}
+use Rattle.std.proofs.Common.{◌≡◌, ◌≢◌, ℕ, zero, suc, ◌-◌, ◌≤◌, true, false, None, List, [], ◌∷◌, inl, inr, refl, arith}
 use Rattle.std.specs.List.{All, list_any}
 use Rattle.std.proofs.lemmas.Bool.{eq-eqb, ne_eqb, cases_lt, le-ltb}
 use Rattle.std.proofs.lemmas.List.Elements.{All-head, All-tail}
@@ -54,7 +54,3 @@ unrefused b ms within others unclosed covered = rw (within, others, unclosed, co
 pub take_back_unrefused : (b : BookValue) (j n : ℕ) → j ≤ sites b → j ≢ b.me → check_fault b (TakeBack j n ∷ []) ≡ None
 take_back_unrefused b j n high ne =
     unrefused b (TakeBack j n ∷ []) (rw (le-ltb (sites b) j high) refl) (rw (ne_eqb j b.me ne) refl) refl (rw (le-ltb (held_by b) 0 (omega arith)) refl)
-
--- what is taken back by one move alone
-pub back-one : (i j n : ℕ) → back i (TakeBack j n ∷ []) ≡ cond (eqb j i) n 0
-back-one i j n = omega (arith, back-cons i (TakeBack j n) [], back-nil i)

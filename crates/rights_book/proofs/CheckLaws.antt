@@ -1,8 +1,7 @@
 -- What is known of moves that a book does not refuse.
 use Rattle.std.proofs.Common.{◌≡◌, ℕ, Bool, true, false, cond, not, List, [], ◌∷◌, Option, Some, None, refl}
-use Rattle.std.specs.Prelude.{◌||◌}
 use Rattle.std.specs.List.{All, list_any}
-use Rattle.std.proofs.lemmas.Bool.{ltb-false}
+use Rattle.std.proofs.lemmas.Bool.{ltb-false, not-false, or_parts}
 use Rattle.std.proofs.lemmas.List.Elements.{All-nil, All-cons, All-head, All-tail}
 use Rattle.rights_types.specs.Moves.{IsMove, NamesWithin, names}
 use Rattle.rights_types.specs.Rights.{covers}
@@ -15,14 +14,6 @@ use Rattle.rights_book.specs.Checks.{names_above, gives_to_closed, check_fault}
 no_cause : {E : Type 0} (b : Bool) (x : E) (others : Option E) → cond b (Some x) others ≡ None → (b ≡ false) × (others ≡ None)
 no_cause true x others h = absurd cc
 no_cause false x others h = (refl, h)
-
-neither : (a b : Bool) → (a || b) ≡ false → (a ≡ false) × (b ≡ false)
-neither true b h = absurd cc
-neither false b h = (refl, h)
-
-not_false : (b : Bool) → not b ≡ false → b ≡ true
-not_false true h = refl
-not_false false h = absurd cc
 
 -- moves that are not refused
 pub record IsChecked (b : BookValue) (ms : List Move) : Type 0 where
@@ -37,7 +28,7 @@ checked b ms h =
     let same = no_cause (list_any (names b.me) ms) _ _ above.1 in
     let closed = no_cause (list_any (gives_to_closed b) ms) _ _ same.1 in
     let short = no_cause (not (covers (held_by b) ms)) _ _ closed.1 in
-    record { within = above.0; others = same.0; covered = not_false (covers (held_by b) ms) short.0 }
+    record { within = above.0; others = same.0; covered = not-false (covers (held_by b) ms) short.0 }
 
 one_named : (n : ℕ) (m : Move) → IsMove m → names_above n m ≡ false → NamesWithin n m
 one_named n (Issue a) is h = tt
@@ -52,5 +43,5 @@ one_named n (TakeBack j a) is h = (is.0.0, ltb-false n j h)
 pub named_within : (n : ℕ) (ms : List Move) → All IsMove ms → list_any (names_above n) ms ≡ false → All (NamesWithin n) ms
 named_within n [] is h = All-nil (NamesWithin n)
 named_within n (m ∷ ms) is h =
-    let p = neither (names_above n m) (list_any (names_above n) ms) h in
+    let p = or_parts (names_above n m) (list_any (names_above n) ms) h in
     All-cons (NamesWithin n) m ms (one_named n m (All-head IsMove m ms is) p.0) (named_within n ms (All-tail IsMove m ms is) p.1)

@@ -1,17 +1,16 @@
 -- What booking an entry leaves.
-use Rattle.std.proofs.Common.{◌≡◌, ◌≢◌, ℕ, ◌+◌, ◌≤◌, false, cond, List, length, inl, inr, refl, sym, ap, ◌∙◌, subst, arith}
-use Rattle.std.specs.List.{list_any}
-use Rattle.std.proofs.lemmas.Bool.{eq-eqb, ne_eqb, cases_eq}
-use Rattle.rights_types.specs.Entries.{EntryValue, own, closes}
-use Rattle.rights_types.specs.Moves.{is_close}
-use Rattle.rights_types.specs.Rights.{out, to}
+use Rattle.std.proofs.Common.{◌≡◌, ◌≢◌, ℕ, ◌+◌, false, List, inl, inr, refl, sym, ap, ◌∙◌, arith}
+use Rattle.std.proofs.lemmas.Bool.{eq-eqb, cases_eq}
+use Rattle.rights_types.specs.Entries.{EntryValue}
+use Rattle.rights_types.specs.Rights.{to}
 use Rattle.rights_types.specs.declared.moves.Move.{Move}
 use Rattle.rights_types.proofs.Sums.{rights_after_is}
 use Rattle.rights_book.specs.Peers.{with_own}
-use Rattle.rights_book.specs.Books.{BookValue, sites, peer, account, received_by, held_by, Writes, Applies, IsBook}
+use Rattle.rights_book.specs.Books.{BookValue, peer, account, received_by, held_by, Writes, Applies, IsBook}
 use Rattle.rights_book.specs.Leaves.{OwnLeaves, ApplyLeaves}
 use Rattle.rights_book.specs.declared.account.Account.{Account}
 use Rattle.rights_book.specs.declared.peer.Peer.{Peer}
+use Rattle.rights_book.proofs.CallLaws.{other_account}
 use Rattle.rights_book.proofs.CheckLaws.{IsChecked}
 use Rattle.rights_book.proofs.BookLaws.{IsApplied, received_risen}
 
@@ -44,10 +43,6 @@ own_leaves old new ms is checked unclosed w =
       same_received_from = λ o. ap (λ (p : Peer). p.received) (w.each o);
     }
 
--- the account of another site than the book's own
-account_other : (b : BookValue) (k : ℕ) → k ≢ b.me → account b k ≡ (peer b k).log
-account_other b k ne = rw (ne_eqb k b.me ne) refl
-
 account_me : (b : BookValue) (k : ℕ) → k ≡ b.me → account b k ≡ b.own
 account_me b k e = rw (eq-eqb k b.me e) refl
 
@@ -62,7 +57,7 @@ apply_leaves old new o e is other unclosed next a f =
       same_given_to = f.given_same;
       same_back = f.back_same;
       applied = omega (arith, ap (λ (l : Account). l.end) f.log_here, next);
-      closed = ap (λ (l : Account). l.closed) (account_other new o (λ q. other (q ∙ a.same_me)) ∙ f.log_here) ∙ (rw unclosed refl);
+      closed = ap (λ (l : Account). l.closed) (other_account new o (λ q. other (q ∙ a.same_me)) ∙ f.log_here) ∙ (rw unclosed refl);
       received_from = f.received_here;
       receives = received;
       holds = omega (
@@ -77,7 +72,7 @@ apply_leaves old new o e is other unclosed next a f =
       same_applied = f.log_other;
       same_account = λ k ne. elim (cases_eq k old.me) [
         | inl here ↦ account_me new k (here ∙ sym a.same_me) ∙ a.same_own ∙ sym (account_me old k here)
-        | inr there ↦ account_other new k (λ q. there (q ∙ a.same_me)) ∙ f.log_other k ne ∙ sym (account_other old k there)
+        | inr there ↦ other_account new k (λ q. there (q ∙ a.same_me)) ∙ f.log_other k ne ∙ sym (other_account old k there)
       ];
       same_received_from = f.received_other;
     }

@@ -5,7 +5,7 @@ use Rattle.std.proofs.lemmas.Int.{ints}
 use Rattle.std.proofs.lemmas.Bool.{eq-eqb, eqb-true, ne_eqb, cases_eq}
 use Rattle.std.proofs.lemmas.List.Elements.{All-append, All-nil}
 use Rattle.rights_types.specs.Entries.{EntryValue}
-use Rattle.rights_types.specs.Chains.{moves_of}
+use Rattle.rights_types.specs.Chains.{moves_of, AddsEntry}
 use Rattle.rights_types.specs.Moves.{IsMove, NamesWithin}
 use Rattle.rights_types.specs.Rights.{issued, spent, out, to, taken_back, covers, rights_after, received, held, IsNeverShort}
 use Rattle.rights_types.specs.declared.moves.Move.{Move}
@@ -15,7 +15,7 @@ use Rattle.rights_book.specs.Accounts.{account_of}
 use Rattle.rights_book.specs.Peers.{no_peer, with_own}
 use Rattle.rights_book.specs.Books.{BookValue, sites, peer, account, received_by, held_by, known_by, new_book, Writes, Applies, IsBook}
 use Rattle.rights_book.specs.Known.{logs_at, known_gifts, known}
-use Rattle.rights_book.specs.StandsFor.{StandsForOwn, StandsForApplied, StandsFor, own_entry, AddsEntry}
+use Rattle.rights_book.specs.StandsFor.{StandsForOwn, StandsForApplied, StandsFor, own_entry}
 use Rattle.rights_book.specs.declared.account.Account.{Account}
 use Rattle.rights_book.specs.declared.peer.Peer.{Peer}
 use Rattle.rights_book.proofs.AccountLaws.{account_of-nil, account_of-push}

@@ -1,5 +1,5 @@
 -- The logs that a book stands for.
-use Rattle.std.specs.Prelude.{◌≡◌, ◌≢◌, ℕ, ◌≤◌, true, List, [], ◌∷◌, ◌++◌}
+use Rattle.std.specs.Prelude.{◌≡◌, ℕ, ◌≤◌, true, List, []}
 use Rattle.std.specs.List.{All}
 use Rattle.rights_types.specs.Entries.{EntryValue}
 use Rattle.rights_types.specs.Chains.{moves_of}
@@ -34,8 +34,3 @@ pub record StandsFor (log : List EntryValue) (applied : ℕ → List EntryValue)
 -- the entry that the book's site writes next
 abbrev pub own_entry : BookValue → List Move → EntryValue
 own_entry b ms = record { origin = b.me; prev = b.own.end; moves = ms }
-
--- the same logs, but that of o has an entry more
-pub record AddsEntry (old : ℕ → List EntryValue) (o : ℕ) (e : EntryValue) (new : ℕ → List EntryValue) : Type 0 where
-  pub there : new o ≡ old o ++ e ∷ []
-  pub elsewhere : (k : ℕ) → k ≢ o → new k ≡ old k

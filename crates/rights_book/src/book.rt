@@ -2,7 +2,7 @@
 ghost use Rattle.std.specs.Prelude.{◌≡◌, ◌≢◌, ℕ, ◌+◌, ◌*◌, ◌-◌, ◌≤◌, pos, neg_ℤ, ◌≤ℤ◌, false, List, [], ◌∷◌, ◌++◌, length, IfOk, MatchResult};
 ghost use Rattle.std.specs.List.{list_any};
 ghost use Rattle.rights_types.specs.Entries.{EntryValue};
-ghost use Rattle.rights_types.specs.Chains.{moves_of, end, is_closed};
+ghost use Rattle.rights_types.specs.Chains.{moves_of, end, is_closed, AddsEntry};
 ghost use Rattle.rights_types.specs.Rights.{issued, spent, out, to, taken_back, back, held, received, sum_sites, IsNeverShort};
 
 use crate::account::Account;
@@ -47,7 +47,7 @@ impl<A: Allocator> Book<A> {
     ghost use Rattle.rights_book.specs.Leaves.{OwnLeaves, ApplyLeaves};
     ghost use Rattle.rights_book.specs.Checks.{gives_to_closed, check_fault};
     ghost use Rattle.rights_book.specs.Known.{logs_at, known};
-    ghost use Rattle.rights_book.specs.StandsFor.{StandsForOwn, StandsForApplied, StandsFor, own_entry, AddsEntry};
+    ghost use Rattle.rights_book.specs.StandsFor.{StandsForOwn, StandsForApplied, StandsFor, own_entry};
 
     /// The book of site `me` among so many sites, 2 to 16, where nothing is written or applied.
     pub fn new(alloc: A, me: SiteId, sites: u64) -> Result<Book<A>, OutOfMemory>

@@ -8,13 +8,14 @@ use Rattle.rights_types.specs.Moves.{NamesWithin, names}
 use Rattle.rights_types.specs.Rights.{sum_sites, issued, spent, out, to, taken_back, back, received}
 use Rattle.rights_types.specs.declared.moves.Move.{Move}
 use Rattle.rights_types.proofs.SiteSums.{sum_same}
-use Rattle.rights_types.proofs.Sums.{moves_of-nil, to-nil, to-append, nothing_to, out_is, taken_back_is}
+use Rattle.rights_types.proofs.Sums.{moves_of-nil, to-nil, nothing_to, out_is, taken_back_is}
 use Rattle.rights_protocol.specs.Lists.{Lists, IsSiteOf, received_at, held_at, on_way}
 use Rattle.rights_protocol.specs.Kept.{Kept}
 use Rattle.rights_protocol.specs.Headline.{all_issued, all_spent}
 use Rattle.rights_protocol.specs.BoundedCounter.{sum_others, incoming, outgoing, local_rights, all_created, value, IsSafe}
 use Rattle.rights_protocol.specs.CounterOfLists.{counter_of, state_of, seen, state_at}
 use Rattle.rights_protocol.specs.CounterLaws.{ListsCount}
+use Rattle.rights_protocol.proofs.Frontiers.{to_one_more}
 use Rattle.rights_protocol.proofs.Promises.{held_sum, way_is}
 use Rattle.rights_protocol.proofs.OneSite.{one_site}
 use Rattle.rights_protocol.proofs.CounterSums.{others_same, others_add, others_and_one}
@@ -42,15 +43,11 @@ out_moved n s moves site within none given =
 
 -- ---- a site gives itself nothing
 
-to_split : (s : ℕ) (e : EntryValue) (es : List EntryValue) → to s (moves_of (e ∷ es)) ≡ to s e.moves + to s (moves_of es)
-unfolding moves_of
-to_split s e es = to-append s e.moves (moves_of es)
-
 none_to_itself : (s : ℕ) (b : Bool) (n : ℕ) (es : List EntryValue) → ChainFrom s b n es → to s (moves_of es) ≡ 0
 none_to_itself s b n [] c = ap (to s) moves_of-nil ∙ to-nil s
 none_to_itself s b n (e ∷ es) c =
     let first : to s e.moves ≡ 0 = nothing_to s e.moves (subst (λ (k : ℕ). list_any (names k) e.moves ≡ false) c.1 c.3.others) in
-    omega (arith, to_split s e es, first, none_to_itself s (closes e) (own e) es c.4)
+    omega (arith, to_one_more s e es, first, none_to_itself s (closes e) (own e) es c.4)
 
 pub gives_itself_none : (w : Lists) (s : ℕ) → Kept w → to s (moves_of (w.log s)) ≡ 0
 gives_itself_none w s kept = none_to_itself s false 0 (w.log s) (kept.sites s).chain

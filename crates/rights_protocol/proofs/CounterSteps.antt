@@ -10,6 +10,7 @@ use Rattle.rights_types.specs.Moves.{NamesWithin, cost_of, gain_of}
 use Rattle.rights_types.specs.Rights.{to, back, held}
 use Rattle.rights_types.specs.declared.moves.Move.{Move}
 use Rattle.rights_types.specs.declared.moves.Move.TheVariants.{Issue, Spend, Grant, Give, Close, CloseAt, TakeBack}
+use Rattle.rights_types.proofs.SiteSums.{sum_term}
 use Rattle.rights_types.proofs.Sums.{moves_of-push, to-append, back-append, covers_both}
 use Rattle.rights_protocol.specs.Lists.{Lists, IsSiteOf, held_at, on_way}
 use Rattle.rights_protocol.specs.Retiring.{own_frontier, numbers_in, owed, entry_at_end}
@@ -20,10 +21,9 @@ use Rattle.rights_protocol.specs.Kept.{Kept}
 use Rattle.rights_protocol.specs.BoundedCounter.{SameCounter, TakesBack, Operate}
 use Rattle.rights_protocol.specs.CounterOfLists.{state_of, seen, state_at}
 use Rattle.rights_protocol.specs.CounterLaws.{OperatesBoth, ByOperations}
-use Rattle.rights_protocol.proofs.Takings.{taking_cases}
+use Rattle.rights_protocol.proofs.Takings.{taking_cases, back_same}
 use Rattle.rights_protocol.proofs.Steps.{step_keeps}
 use Rattle.rights_protocol.proofs.Promises.{way_is}
-use Rattle.rights_protocol.proofs.CounterSums.{one_le}
 use Rattle.rights_protocol.proofs.CounterLists.{taken_given, held_parts, incoming_is, has_rights, seen_own, seen_other, seen_incoming}
 use Rattle.rights_protocol.proofs.CounterMoves.{Room, Fit, is_own, take_back_is, same_counter, operates}
 
@@ -126,10 +126,6 @@ to_none : (o n : ℕ) → to o (TakeBack o n ∷ []) ≡ 0
 unfolding to
 to_none o n = refl
 
-back_all : (o n : ℕ) → back o (TakeBack o n ∷ []) ≡ n
-unfolding back
-back_all o n = let at : eqb o o ≡ true = eq-eqb o o refl in rw at (omega arith)
-
 -- what is taken back was on the way
 taken_from_way : (old new : Lists) (s o amount : ℕ) → Kept old → Kept new → (step : Takes old new s o) → moves_of (new.log s) ≡ moves_of (old.log s) ++ TakeBack o amount ∷ []
     → (amount ≤ on_way old s o) × (back o (moves_of (old.log s)) + amount ≤ to o (moves_of (old.log s)))
@@ -140,7 +136,7 @@ taken_from_way old new s o amount kept kept_now step grown =
     let given : to o (moves_of (new.log s)) ≡ to o (moves_of (old.log s)) + 0 =
     ap (to o) grown ∙ to-append o (moves_of (old.log s)) (TakeBack o amount ∷ []) ∙ ap (λ k. to o (moves_of (old.log s)) + k) (to_none o amount) in
     let taken : back o (moves_of (new.log s)) ≡ back o (moves_of (old.log s)) + amount =
-    ap (back o) grown ∙ back-append o (moves_of (old.log s)) (TakeBack o amount ∷ []) ∙ ap (λ k. back o (moves_of (old.log s)) + k) (back_all o amount) in
+    ap (back o) grown ∙ back-append o (moves_of (old.log s)) (TakeBack o amount ∷ []) ∙ ap (λ k. back o (moves_of (old.log s)) + k) (back_same o amount) in
     let applied : to o (moves_of (new.applied o s)) ≡ to o (moves_of (old.applied o s)) =
     ap (λ es. to o (moves_of es)) ((step.others.sites o (λ e. step.differ (sym e))).links s).applied in
     (omega (arith, was, now, given, taken, applied), omega (arith, was, now, given, taken, applied))
@@ -152,7 +148,7 @@ takes_it_back old new s o amount kept kept_now step grown =
     ap moves_of grown ∙ moves_of-push (old.log s) (entry_at_end s (old.log s) (TakeBack o amount ∷ [])) in
     let p = taken_from_way old new s o amount kept kept_now step on in
     take_back_is old.count s o amount (λ k. moves_of (old.log k)) (λ k. moves_of (new.log k)) (record { here = on; others = λ k ne. ap moves_of (step.others.sites k ne).log })
-    step.from (λ e. step.differ (sym e)) p.1 (omega (arith, p.0, has_rights old o kept step.from, one_le old.count s (λ k. on_way old k o) step.site))
+    step.from (λ e. step.differ (sym e)) p.1 (omega (arith, p.0, has_rights old o kept step.from, sum_term old.count s (λ k. on_way old k o) step.site.0 step.site.1))
 
 takes_state : (old new : Lists) (s o : ℕ) → Kept old → Kept new → (step : Takes old new s o)
     → SameCounter (state_of old) (state_of new) ⊎ ((amount : ℕ) × TakesBack old.count s o amount (state_of old) (state_of new))

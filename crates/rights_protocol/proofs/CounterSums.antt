@@ -1,5 +1,5 @@
 -- Sums over all sites but one, and what they are of a counter.
-use Rattle.std.proofs.Common.{◌≡◌, ◌≢◌, ℕ, zero, suc, ◌+◌, ◌≤◌, inl, inr, Bool, true, false, cond, eqb, arith, refl, sym, ◌∙◌}
+use Rattle.std.proofs.Common.{◌≡◌, ◌≢◌, ℕ, ◌+◌, inl, inr, Bool, true, false, cond, eqb, arith, refl, sym, ◌∙◌}
 use Rattle.std.proofs.lemmas.Bool.{cases_eq, eq-eqb, ne_eqb}
 use Rattle.rights_types.specs.Rights.{sum_sites}
 use Rattle.rights_types.proofs.SiteSums.{sum_same, sum_add, sum_swap, sum_risen, sum_zero}
@@ -40,14 +40,6 @@ others_add n i f g =
       | inr ne ↦ let at : eqb j i ≡ false = ne_eqb j i ne in rw at refl
     ])
     ∙ sum_add n (λ j. cond (eqb j i) 0 (f j)) (λ j. cond (eqb j i) 0 (g j))
-
-pub sum_le : (n : ℕ) (f g : ℕ → ℕ) → ((k : ℕ) → IsSiteOf n k → f k ≤ g k) → sum_sites n f ≤ sum_sites n g
-sum_le zero f g h = omega arith
-sum_le (suc n) f g h = omega (arith, sum_le n f g (λ k of. h k (of.0, omega (arith, of))), h (suc n) (omega arith, omega arith))
-
--- one term is no more than the sum
-pub one_le : (n i : ℕ) (f : ℕ → ℕ) → IsSiteOf n i → f i ≤ sum_sites n f
-one_le n i f site = omega (arith, others_and_one n i f site)
 
 -- all that comes in went out
 pub all_moved : (n : ℕ) (c : Counter) → sum_sites n (incoming n c) ≡ sum_sites n (outgoing n c)

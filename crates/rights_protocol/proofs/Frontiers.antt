@@ -87,7 +87,7 @@ beyond_rest o front rest c =
 
 -- ---- what is owed
 
-to_one_more : (c : ℕ) (e : EntryValue) (es : List EntryValue) → to c (moves_of (e ∷ es)) ≡ to c e.moves + to c (moves_of es)
+pub to_one_more : (c : ℕ) (e : EntryValue) (es : List EntryValue) → to c (moves_of (e ∷ es)) ≡ to c e.moves + to c (moves_of es)
 unfolding moves_of
 to_one_more c e es = to-append c e.moves (moves_of es)
 

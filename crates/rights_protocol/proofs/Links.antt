@@ -7,7 +7,7 @@ use Rattle.std.proofs.lemmas.List.Quantifiers.{all_pairs_push}
 use Rattle.std.proofs.lemmas.Option.{get_or_from_slice_get, slice_get_within}
 use Rattle.rights_types.specs.Entries.{EntryValue}
 use Rattle.rights_types.specs.Chains.{end, closed_from, IsChain, IsPrefix, IsLongest, IsFull, HeadNotIn}
-use Rattle.rights_types.proofs.Chains.{chain_left, chain_right, not_before, prefix_next, next_entry}
+use Rattle.rights_types.proofs.Chains.{all_in_more, chain_left, chain_right, not_before, prefix_next, next_entry}
 use Rattle.rights_protocol.specs.Kept.{LinkKept}
 
 -- ---- the log grows
@@ -64,12 +64,9 @@ front_within set (x ∷ p) (y ∷ q) r t e a n =
 within_longest : (set es p r q : List EntryValue) → p ++ r ≡ es → All (Contains set) p → IsLongest set es q → IsPrefix p q
 within_longest set es p r q whole inside l = front_within set p q r l.rest (whole ∙ sym l.whole) inside l.no_longer
 
-wider : (set p : List EntryValue) (e : EntryValue) → All (Contains set) p → All (Contains (set ++ e ∷ [])) p
-wider set p e = All-weaker (Contains set) (Contains (set ++ e ∷ [])) (λ x h. Contains-append_left set (e ∷ []) x h) p
-
 -- what is longest only grows with the set
 longest_more : (set es p q : List EntryValue) (e : EntryValue) → IsLongest set es p → IsLongest (set ++ e ∷ []) es q → IsPrefix p q
-longest_more set es p q e k l = within_longest (set ++ e ∷ []) es p k.rest q k.whole (wider set p e k.inside) l
+longest_more set es p q e k l = within_longest (set ++ e ∷ []) es p k.rest q k.whole (all_in_more set p e k.inside) l
 
 pub prefix_of_prefix : (xs ys zs : List EntryValue) → IsPrefix xs ys → IsPrefix ys zs → IsPrefix xs zs
 prefix_of_prefix xs ys zs (a, p) (b, q) = (a ++ b, sym (append_assoc xs a b) ∙ ap (λ (ws : List EntryValue). ws ++ b) p ∙ q)
@@ -87,7 +84,7 @@ next_put o es set p q e c sent next k l =
     ] in
     let first = next_entry o (closed_from false p) (end p) k.rest e (chain_right o false 0 p k.rest chain) in_rest next in
     let whole : (p ++ e ∷ []) ++ first.0 ≡ es = append_assoc p (e ∷ []) first.0 ∙ ap (λ (xs : List EntryValue). p ++ xs) first.1 ∙ k.whole in
-    let inside : All (Contains (set ++ e ∷ [])) (p ++ e ∷ []) = All-push (Contains (set ++ e ∷ [])) p e (wider set p e k.inside) (Contains-push set e) in
+    let inside : All (Contains (set ++ e ∷ [])) (p ++ e ∷ []) = All-push (Contains (set ++ e ∷ [])) p e (all_in_more set p e k.inside) (Contains-push set e) in
     omega (arith, prefix_length (p ++ e ∷ []) q (within_longest (set ++ e ∷ []) es (p ++ e ∷ []) first.0 q whole inside l), length-append p (e ∷ []))
 
 -- one more entry of the log reaches
@@ -121,6 +118,3 @@ link_applies es reached put applied e k next = record {
 -- what was applied begins the log
 pub applied_begins : (es reached put applied : List EntryValue) → LinkKept es reached put applied → IsPrefix applied es
 applied_begins es reached put applied k = prefix_of_prefix applied put es k.begins (k.longest.rest, k.longest.whole)
-
-pub begins_chain : (o : ℕ) (xs es : List EntryValue) → IsPrefix xs es → IsChain o es → IsChain o xs
-begins_chain o xs es p c = chain_left o false 0 xs p.0 (subst (IsChain o) (sym p.1) c)

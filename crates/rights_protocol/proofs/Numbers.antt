@@ -1,20 +1,18 @@
 -- The frontier that a site writes, how many sites it knows as closed, and what it received.
-use Rattle.std.proofs.Common.{◌≡◌, ℕ, zero, suc, ◌+◌, ◌-◌, ◌*◌, ◌<◌, ◌≤◌, inl, inr, Bool, true, false, cond, List, [], ◌∷◌, length, Some, arith, refl, ap, ◌∙◌, subst}
+use Rattle.std.proofs.Common.{◌≡◌, ℕ, zero, suc, ◌+◌, ◌-◌, ◌<◌, ◌≤◌, Bool, true, false, cond, List, [], ◌∷◌, length, Some, arith, refl, ap, ◌∙◌}
 use Rattle.std.specs.Prelude.{map}
 use Rattle.std.specs.List.{slice_get, range_with_len}
-use Rattle.std.proofs.lemmas.Bool.{cases_eq}
 use Rattle.std.proofs.lemmas.List.{length-map}
 use Rattle.std.proofs.lemmas.List.Elements.{All-map}
 use Rattle.rights_types.specs.Ranges.{IsNumber, IsFrontier}
 use Rattle.rights_types.specs.Entries.{EntryValue, closes}
-use Rattle.rights_types.specs.Chains.{end, is_closed, IsChain, moves_of}
-use Rattle.rights_types.specs.Rights.{sum_sites, to, received}
+use Rattle.rights_types.specs.Chains.{end, is_closed, IsChain, moves_of, AddsEntry}
+use Rattle.rights_types.specs.Rights.{to, received}
 use Rattle.rights_types.proofs.Chains.{closed-push, end_from-bound}
-use Rattle.rights_types.proofs.SiteSums.{sum_same, sum_risen, sum_bound}
+use Rattle.rights_types.proofs.SiteSums.{sum_same, sum_bound_but, sum_risen}
 use Rattle.rights_types.proofs.Sums.{moves_of-nil, moves_of-push, to-append, to-nil, log-to}
 use Rattle.rights_protocol.specs.Lists.{IsSiteOf}
 use Rattle.rights_protocol.specs.Retiring.{own_frontier}
-use Rattle.rights_protocol.specs.Writing.{AppliesNext}
 use Rattle.rights_protocol.specs.Kept.{known_closed}
 
 -- ---- a frontier
@@ -64,34 +62,22 @@ closed_one es = cond (is_closed es) 1 0
 pub known_kept : (n : ℕ) (old new : ℕ → List EntryValue) → ((o : ℕ) → new o ≡ old o) → known_closed n new ≡ known_closed n old
 known_kept n old new same = sum_same n (λ o. closed_one (new o)) (λ o. closed_one (old o)) (λ o low high. ap closed_one (same o))
 
-pub known_risen : (n o : ℕ) (e : EntryValue) (old new : ℕ → List EntryValue) → IsSiteOf n o → is_closed (old o) ≡ false → AppliesNext old new o e
+pub known_risen : (n o : ℕ) (e : EntryValue) (old new : ℕ → List EntryValue) → IsSiteOf n o → is_closed (old o) ≡ false → AddsEntry old o e new
     → known_closed n new ≡ known_closed n old + cond (closes e) 1 0
 known_risen n o e old new of unclosed step =
     let was : closed_one (old o) ≡ 0 = ap (λ b. cond b 1 0) unclosed in
-    let now : closed_one (new o) ≡ cond (closes e) 1 0 = ap closed_one step.here ∙ ap (λ b. cond b 1 0) (closed-push false (old o) e) in
+    let now : closed_one (new o) ≡ cond (closes e) 1 0 = ap closed_one step.there ∙ ap (λ b. cond b 1 0) (closed-push false (old o) e) in
     sum_risen n o (cond (closes e) 1 0) (λ k. closed_one (old k)) (λ k. closed_one (new k)) of.0 of.1
-    (λ k ne. ap closed_one (step.others k ne)) (omega (arith, was, now))
+    (λ k ne. ap closed_one (step.elsewhere k ne)) (omega (arith, was, now))
 
 one_at_most : (b : Bool) → cond b 1 0 ≤ 1
 one_at_most true = omega arith
 one_at_most false = omega arith
 
--- the sum of each term's bound, where one term is 0
-sum_but_one : (n s m : ℕ) (f : ℕ → ℕ) → IsSiteOf n s → ((k : ℕ) → f k ≤ m) → f s ≡ 0 → sum_sites n f + m ≤ n * m
-sum_but_one zero s m f of h none = absurd (omega (arith, of.0, of.1))
-sum_but_one (suc n) s m f of h none =
-    let grows : suc n * m ≡ n * m + m = omega arith in
-    elim (cases_eq s (suc n)) [
-      | inl e ↦
-          let last : f (suc n) ≡ 0 = subst (λ k. f k ≡ 0) e none in
-          omega (arith, sum_bound n m f h, grows, last)
-      | inr ne ↦ omega (arith, sum_but_one n s m f (of.0, omega (arith, of.1, ne)) h none, grows, h (suc n))
-    ]
-
 -- all sites but itself, at most
 pub known_few : (n s : ℕ) (applied : ℕ → List EntryValue) → IsSiteOf n s → applied s ≡ [] → known_closed n applied + 1 ≤ n
 known_few n s applied of itself =
-    omega (arith, sum_but_one n s 1 (λ o. closed_one (applied o)) of (λ o. one_at_most (is_closed (applied o))) (ap closed_one itself))
+    omega (arith, sum_bound_but n s 1 (λ o. closed_one (applied o)) of.0 of.1 (ap closed_one itself) (λ o. one_at_most (is_closed (applied o))))
 
 -- ---- what a site received
 
@@ -99,16 +85,16 @@ pub received_kept : (n s : ℕ) (old new : ℕ → List EntryValue) → ((o : �
 unfolding received
 received_kept n s old new same = sum_same n (λ o. to s (moves_of (new o))) (λ o. to s (moves_of (old o))) (λ o low high. ap (λ es. to s (moves_of es)) (same o))
 
-pub received_risen : (n s o : ℕ) (e : EntryValue) (old new : ℕ → List EntryValue) → IsSiteOf n o → AppliesNext old new o e → received n s new ≡ received n s old + to s e.moves
+pub received_risen : (n s o : ℕ) (e : EntryValue) (old new : ℕ → List EntryValue) → IsSiteOf n o → AddsEntry old o e new → received n s new ≡ received n s old + to s e.moves
 unfolding received
 received_risen n s o e old new of step =
     sum_risen n o (to s e.moves) (λ k. to s (moves_of (old k))) (λ k. to s (moves_of (new k))) of.0 of.1
-    (λ k ne. ap (λ es. to s (moves_of es)) (step.others k ne))
-    (ap (λ es. to s (moves_of es)) step.here ∙ ap (to s) (moves_of-push (old o) e) ∙ to-append s (moves_of (old o)) e.moves)
+    (λ k ne. ap (λ es. to s (moves_of es)) (step.elsewhere k ne))
+    (ap (λ es. to s (moves_of es)) step.there ∙ ap (to s) (moves_of-push (old o) e) ∙ to-append s (moves_of (old o)) e.moves)
 
 pub received_bound : (n s : ℕ) (applied : ℕ → List EntryValue) → n ≤ 16 → IsSiteOf n s → applied s ≡ [] → ((o : ℕ) → IsChain o (applied o)) → received n s applied ≤ 15000000000000000000
 unfolding received
 received_bound n s applied few of itself chains =
     let each : (o : ℕ) → to s (moves_of (applied o)) ≤ 1000000000000000000 = λ o. omega (arith, log-to o s (applied o) (chains o), chain_ends o (applied o) (chains o)) in
     let none : to s (moves_of (applied s)) ≡ 0 = ap (λ es. to s (moves_of es)) itself ∙ ap (to s) moves_of-nil ∙ to-nil s in
-    omega (arith, sum_but_one n s 1000000000000000000 (λ o. to s (moves_of (applied o))) of each none)
+    omega (arith, sum_bound_but n s 1000000000000000000 (λ o. to s (moves_of (applied o))) of.0 of.1 none each)

@@ -1,9 +1,10 @@
 -- What is kept of one site is kept by what it does, and bounds what it holds, owes and writes.
-use Rattle.std.proofs.Common.{◌≡◌, ℕ, zero, suc, ◌+◌, ◌≤◌, false, List, arith, ap, ◌∙◌}
+use Rattle.std.proofs.Common.{◌≡◌, ℕ, ◌+◌, ◌≤◌, false, List, arith, ap, ◌∙◌}
 use Rattle.rights_types.specs.Entries.{EntryValue}
 use Rattle.rights_types.specs.Chains.{end, moves_of}
-use Rattle.rights_types.specs.Rights.{sum_sites, out, to, taken_back, back, received, held}
+use Rattle.rights_types.specs.Rights.{out, to, taken_back, back, received, held}
 use Rattle.rights_types.proofs.Chains.{end_from-bound}
+use Rattle.rights_types.proofs.SiteSums.{sum_le}
 use Rattle.rights_types.proofs.Sums.{rights_after_is, out_is, taken_back_is, log-issued}
 use Rattle.rights_protocol.specs.Lists.{IsSiteOf}
 use Rattle.rights_protocol.specs.Retiring.{frontier, owed}
@@ -14,10 +15,6 @@ use Rattle.rights_protocol.proofs.Takings.{taken_is}
 use Rattle.rights_protocol.proofs.Numbers.{known_few, received_bound}
 use Rattle.rights_protocol.proofs.Writes.{held_is}
 use Rattle.rights_protocol.proofs.Sites.{site_appends, site_takes, site_closes}
-
-sum_le : (n : ℕ) (f g : ℕ → ℕ) → ((k : ℕ) → f k ≤ g k) → sum_sites n f ≤ sum_sites n g
-sum_le zero f g h = omega arith
-sum_le (suc n) f g h = omega (arith, sum_le n f g h, h (suc n))
 
 back_is : (n s c : ℕ) (log : List EntryValue) (applied : ℕ → List EntryValue) → SiteKept n s log applied → back c (moves_of log) ≡ owed s c log (frontier (applied c))
 back_is n s c log applied k = taken_is c (owed s c log (frontier (applied c))) log (k.taken c)
@@ -32,7 +29,7 @@ held_within n s log applied k =
     let ms = moves_of log in
     let ends : end log ≤ 1000000000 = end_from-bound s false 0 log k.chain (omega arith) in
     let back_out : taken_back ms ≤ out ms =
-    omega (arith, taken_back_is n ms k.within, out_is n ms k.within, sum_le n (λ c. back c ms) (λ c. to c ms) (λ c. back_within n s c log applied k)) in
+    omega (arith, taken_back_is n ms k.within, out_is n ms k.within, sum_le n (λ c. back c ms) (λ c. to c ms) (λ c low high. back_within n s c log applied k)) in
     omega (
       arith,
       held_is n s log applied k.within k.covered,

@@ -96,7 +96,7 @@ step_applied old (Take s o) new a c kept step closed = applied_stays old new s a
   | inl q ↦ absurd
       (both_ways (is_closed (old.applied s o)) (front_open o (old.applied s o) step.entry [] (next_chain old new s o kept step))
       (subst (λ k. is_closed (old.applied s k) ≡ true) q (subst (λ k. is_closed (old.applied k c) ≡ true) p closed)))
-  | inr ne ↦ step.applied.others c ne
+  | inr ne ↦ step.applied.elsewhere c ne
 ])
 step_applied old (CloseSite s heir) new a c kept step closed = applied_stays old new s a c step.others (λ _. (step.links c).applied)
 step_applied old Nothing new a c kept step closed = ((step.sites a).links c).applied

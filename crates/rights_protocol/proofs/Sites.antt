@@ -5,7 +5,7 @@ use Rattle.std.proofs.lemmas.Bool.{cases_eq, both_ways}
 use Rattle.std.proofs.lemmas.List.{append-nil}
 use Rattle.std.proofs.lemmas.List.Elements.{All-nil, All-append}
 use Rattle.rights_types.specs.Entries.{EntryValue, closes}
-use Rattle.rights_types.specs.Chains.{end, is_closed, IsChain, moves_of}
+use Rattle.rights_types.specs.Chains.{end, is_closed, IsChain, moves_of, AddsEntry}
 use Rattle.rights_types.specs.Moves.{NamesWithin, is_close}
 use Rattle.rights_types.specs.Rights.{to, received}
 use Rattle.rights_types.specs.declared.moves.Move.{Move}
@@ -14,7 +14,7 @@ use Rattle.rights_types.proofs.Chains.{chain_push, end-push, closed-push}
 use Rattle.rights_types.proofs.Sums.{moves_of-nil, moves_of-push, covers-more, covers-append}
 use Rattle.rights_protocol.specs.Lists.{IsSiteOf}
 use Rattle.rights_protocol.specs.Retiring.{numbers_in, frontier, owed, own_frontier, entry_at_end, taking_back, takings, one_taking}
-use Rattle.rights_protocol.specs.Writing.{MayAppend, MayClose, closing_moves, AppliesNext}
+use Rattle.rights_protocol.specs.Writing.{MayAppend, MayClose, closing_moves}
 use Rattle.rights_protocol.specs.Kept.{SiteKept, known_closed}
 use Rattle.rights_protocol.proofs.Frontiers.{no_frontier, closes_by, frontier-push, front_open, owed_bound}
 use Rattle.rights_protocol.proofs.Takings.{taken_push, taken_now, taking_cases, takes_it, takes_no_other, is_one_taking}
@@ -112,7 +112,7 @@ record Taking (n s o : ℕ) (log : List EntryValue) (old new : ℕ → List Entr
   pub now : frontier (new o) ≡ numbers_in e.moves
   pub known : known_closed n new ≡ known_closed n old + one_if (closes e)
 
-taking : (n s o : ℕ) (log : List EntryValue) (old new : ℕ → List EntryValue) (e : EntryValue) → SiteKept n s log old → Ready n s log old → IsSiteOf n o → s ≢ o → IsChain o (old o ++ e ∷ []) → AppliesNext old new o e
+taking : (n s o : ℕ) (log : List EntryValue) (old new : ℕ → List EntryValue) (e : EntryValue) → SiteKept n s log old → Ready n s log old → IsSiteOf n o → s ≢ o → IsChain o (old o ++ e ∷ []) → AddsEntry old o e new
     → Taking n s o log old new e
 taking n s o log old new e k r from differ chain step =
     let was_open : is_closed (old o) ≡ false = front_open o (old o) e [] chain in
@@ -125,20 +125,20 @@ taking n s o log old new e k r from differ chain step =
         chain = k.chain;
         unclosed = r.unclosed;
         chains = λ c. elim (cases_eq c o) [
-          | inl p ↦ subst (λ j. IsChain j (new j)) (sym p) (rw step.here chain)
-          | inr ne ↦ rw (step.others c ne) (k.chains c)
+          | inl p ↦ subst (λ j. IsChain j (new j)) (sym p) (rw step.there chain)
+          | inr ne ↦ rw (step.elsewhere c ne) (k.chains c)
         ];
-        itself = step.others s differ ∙ k.itself;
+        itself = step.elsewhere s differ ∙ k.itself;
         within = k.within;
         covered = covers-more (received n s old) (received n s new) (moves_of log) (omega (arith, more)) k.covered;
       };
       none_before = k.taken o ∙ ap (λ f. one_taking o (owed s o log f)) (no_frontier (old o) was_open);
-      now = ap frontier step.here ∙ frontier-push (old o) e;
+      now = ap frontier step.there ∙ frontier-push (old o) e;
       known = known_risen n o e old new from was_open step;
     }
 
 -- where nothing is owed
-takes_plain : (n s o : ℕ) (log : List EntryValue) (old new : ℕ → List EntryValue) (e : EntryValue) → SiteKept n s log old → Taking n s o log old new e → AppliesNext old new o e
+takes_plain : (n s o : ℕ) (log : List EntryValue) (old new : ℕ → List EntryValue) (e : EntryValue) → SiteKept n s log old → Taking n s o log old new e → AddsEntry old o e new
     → owed s o log (numbers_in e.moves) ≡ 0 → SiteKept n s log new
 takes_plain n s o log old new e k t step none =
     let owes : owed s o log (frontier (new o)) ≡ 0 = ap (owed s o log) t.now ∙ none in
@@ -151,13 +151,13 @@ takes_plain n s o log old new e k t step none =
       closing = λ h. absurd (both_ways (is_closed log) t.ready.unclosed h);
       taken = λ c. elim (cases_eq c o) [
         | inl p ↦ subst (λ j. takings j log ≡ one_taking j (owed s j log (frontier (new j)))) (sym p) (t.none_before ∙ ap (one_taking o) (sym owes))
-        | inr ne ↦ rw (step.others c ne) (k.taken c)
+        | inr ne ↦ rw (step.elsewhere c ne) (k.taken c)
       ];
       fits = λ h. omega (arith, k.fits h, t.known);
     }
 
 -- where something is owed
-takes_back : (n s o amount : ℕ) (log : List EntryValue) (old new : ℕ → List EntryValue) (e : EntryValue) → SiteKept n s log old → IsSiteOf n o → s ≢ o → Taking n s o log old new e → AppliesNext old new o e
+takes_back : (n s o amount : ℕ) (log : List EntryValue) (old new : ℕ → List EntryValue) (e : EntryValue) → SiteKept n s log old → IsSiteOf n o → s ≢ o → Taking n s o log old new e → AddsEntry old o e new
     → amount ≡ owed s o log (numbers_in e.moves) → 1 ≤ amount → closes e ≡ true → SiteKept n s (log ++ entry_at_end s log (TakeBack o amount ∷ []) ∷ []) new
 takes_back n s o amount log old new e k from differ t step is positive shut =
     let ms : List Move = TakeBack o amount ∷ [] in
@@ -171,7 +171,7 @@ takes_back n s o amount log old new e k from differ t step is positive shut =
       taken = λ c. elim (cases_eq c o) [
         | inl p ↦ subst (λ j. takings j (log ++ v ∷ []) ≡ one_taking j (owed s j (log ++ v ∷ []) (frontier (new j)))) (sym p)
             (taken_now s o amount log v (frontier (new o)) t.none_before (back_gives_none o o amount) (takes_it o amount) (is_one_taking o amount positive) owes)
-        | inr ne ↦ rw (step.others c ne) (taken_push s c log v (frontier (old c)) (takes_no_other c o amount ne) (λ numbers _. back_gives_none c o amount) (k.taken c))
+        | inr ne ↦ rw (step.elsewhere c ne) (taken_push s c log v (frontier (old c)) (takes_no_other c o amount ne) (λ numbers _. back_gives_none c o amount) (k.taken c))
       ];
       fits = λ h. omega (arith, k.fits t.ready.unclosed, t.known, one);
     })
@@ -182,7 +182,7 @@ owed_closes s o es e None h some = absurd (omega arith)
 owed_closes s o es e (Some numbers) h some = closes_by e numbers h
 
 pub site_takes : (n s o : ℕ) (log : List EntryValue) (old new : ℕ → List EntryValue) (e : EntryValue) → 2 ≤ n → n ≤ 16 → IsSiteOf n s → IsSiteOf n o → s ≢ o → SiteKept n s log old → is_closed log ≡ false
-    → IsChain o (old o ++ e ∷ []) → AppliesNext old new o e → SiteKept n s (log ++ taking_back s o log e) new
+    → IsChain o (old o ++ e ∷ []) → AddsEntry old o e new → SiteKept n s (log ++ taking_back s o log e) new
 site_takes n s o log old new e some few site from differ k unclosed chain step =
     let amount : ℕ = owed s o log (numbers_in e.moves) in
     let t : Taking n s o log old new e = taking n s o log old new e k (ready n s log old some few site unclosed k) from differ chain step in

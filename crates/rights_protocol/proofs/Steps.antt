@@ -8,15 +8,16 @@ use Rattle.rights_types.specs.Entries.{EntryValue}
 use Rattle.rights_types.specs.Chains.{IsChain, IsLongest, moves_of}
 use Rattle.rights_types.specs.Rights.{back}
 use Rattle.rights_types.specs.declared.moves.Move.{Move}
-use Rattle.rights_types.proofs.Sums.{moves_of-nil}
+use Rattle.rights_types.proofs.Chains.{prefix_chain}
+use Rattle.rights_types.proofs.Sums.{moves_of-nil, back-nil}
 use Rattle.rights_protocol.specs.Lists.{Lists}
 use Rattle.rights_protocol.specs.Retiring.{entry_at_end, owed, numbers_in, taking_back}
 use Rattle.rights_protocol.specs.Writing.{closing_moves}
 use Rattle.rights_protocol.specs.Changes.{Change, LinkStays, Stays, OthersStay, Appends, Reaches, Offers, Takes, Closes, Step, Start}
 use Rattle.rights_protocol.specs.Changes.Change.{Append, Offer, Take, CloseSite, Nothing}
 use Rattle.rights_protocol.specs.Kept.{SiteKept, LinkKept, Kept}
-use Rattle.rights_protocol.proofs.Takings.{taking_cases, back_nil}
-use Rattle.rights_protocol.proofs.Links.{link_grows, link_reaches, link_applies, applied_begins, begins_chain}
+use Rattle.rights_protocol.proofs.Takings.{taking_cases}
+use Rattle.rights_protocol.proofs.Links.{link_grows, link_reaches, link_applies, applied_begins}
 use Rattle.rights_protocol.proofs.Untouched.{next_untouched}
 use Rattle.rights_protocol.proofs.Sites.{site_same, site_appends, site_closes, site_takes, site_starts}
 
@@ -133,7 +134,7 @@ offers_kept old new s o e kept offer = elim offer.comes [
 pub next_chain : (old new : Lists) (s o : ℕ) → Kept old → (step : Takes old new s o) → IsChain o (old.applied s o ++ step.entry ∷ [])
 next_chain old new s o kept step =
     let longer = link_applies (old.log o) (old.reached s o) (old.put s o) (old.applied s o) step.entry (kept.links s o) step.next in
-    begins_chain o (old.applied s o ++ step.entry ∷ []) (old.log o) (applied_begins (old.log o) (old.reached s o) (old.put s o) (old.applied s o ++ step.entry ∷ []) longer) (kept.sites o).chain
+    prefix_chain o (old.applied s o ++ step.entry ∷ []) (old.log o) (applied_begins (old.log o) (old.reached s o) (old.put s o) (old.applied s o ++ step.entry ∷ []) longer) (kept.sites o).chain
 
 taken_goes_on : (old new : Lists) (s o : ℕ) → (step : Takes old new s o) → IsChain s (new.log s) → GoesOn old new
 taken_goes_on old new s o step chain = elim (taking_cases s o (old.log s) (owed s o (old.log s) (numbers_in step.entry.moves))) [
@@ -151,12 +152,12 @@ takes_kept old new s o kept step =
     kept_by old new s kept step.others site (taken_goes_on old new s o step site.chain)
     (λ k. elim (cases_eq k o) [
       | inl p ↦ subst (λ j. LinkKept (old.log j) (new.reached s j) (new.put s j) (new.applied s j)) (sym p)
-          (rw (step.reached o, step.put o, step.applied.here) (link_applies (old.log o) (old.reached s o) (old.put s o) (old.applied s o) e (kept.links s o) step.next))
-      | inr ne ↦ same_link old new s k kept (record { reached = step.reached k; put = step.put k; applied = step.applied.others k ne })
+          (rw (step.reached o, step.put o, step.applied.there) (link_applies (old.log o) (old.reached s o) (old.put s o) (old.applied s o) e (kept.links s o) step.next))
+      | inr ne ↦ same_link old new s k kept (record { reached = step.reached k; put = step.put k; applied = step.applied.elsewhere k ne })
     ])
     (λ k. elim (cases_eq k o) [
       | inl p ↦ subst (λ j. back s (moves_of (new.applied s j)) ≡ 0) (sym p) (next_untouched old new s o kept step)
-      | inr ne ↦ same_untouched old new s k kept (step.applied.others k ne)
+      | inr ne ↦ same_untouched old new s k kept (step.applied.elsewhere k ne)
     ])
 
 -- ---- any change, and the start
@@ -183,5 +184,5 @@ start_kept n w start = record {
     held = omega arith;
     begins = ([], refl);
   });
-  untouched = λ s o. ap (λ es. back s (moves_of es)) (start.applied s o) ∙ ap (back s) moves_of-nil ∙ back_nil s;
+  untouched = λ s o. ap (λ es. back s (moves_of es)) (start.applied s o) ∙ ap (back s) moves_of-nil ∙ back-nil s;
 }

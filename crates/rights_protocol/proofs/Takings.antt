@@ -5,14 +5,13 @@ use Rattle.std.specs.List.{list_any, filter}
 use Rattle.std.proofs.lemmas.Bool.{cases_Bool, cases_eq, eq-eqb, ne_eqb, or_parts}
 use Rattle.std.proofs.lemmas.List.{append-nil, map-append}
 use Rattle.std.proofs.lemmas.List.Elements.{filter-append}
-use Rattle.std.proofs.lemmas.List.Sums.{sum_by-cons}
 use Rattle.rights_types.specs.Entries.{EntryValue}
 use Rattle.rights_types.specs.Chains.{moves_of}
 use Rattle.rights_types.specs.Moves.{take_back_from}
 use Rattle.rights_types.specs.Rights.{to, back}
 use Rattle.rights_types.specs.declared.moves.Move.{Move}
 use Rattle.rights_types.specs.declared.moves.Move.TheVariants.{Issue, Spend, Grant, Give, Close, CloseAt, TakeBack}
-use Rattle.rights_types.proofs.Sums.{moves_of-nil, back-append}
+use Rattle.rights_types.proofs.Sums.{moves_of-nil, back-append, back-nil, back-cons, back-one}
 use Rattle.rights_protocol.specs.Retiring.{owed, entry_at_end, one_taking, takes_from, takings}
 use Rattle.rights_protocol.proofs.Frontiers.{owed_push}
 
@@ -48,14 +47,6 @@ taken_now s c n es e k none given some one is =
 
 -- ---- what they take back
 
-pub back_nil : (c : ℕ) → back c [] ≡ 0
-unfolding back
-back_nil c = refl
-
-back_cons : (c : ℕ) (m : Move) (ms : List Move) → back c (m ∷ ms) ≡ take_back_from c m + back c ms
-unfolding back
-back_cons c m ms = sum_by-cons (take_back_from c) m ms
-
 back_split : (c : ℕ) (e : EntryValue) (es : List EntryValue) → back c (moves_of (e ∷ es)) ≡ back c e.moves + back c (moves_of es)
 unfolding moves_of
 back_split c e es = back-append c e.moves (moves_of es)
@@ -70,10 +61,10 @@ none_from c (CloseAt f) h = refl
 none_from c (TakeBack j n) h = rw h refl
 
 nothing_back : (c : ℕ) (ms : List Move) → list_any (takes_from c) ms ≡ false → back c ms ≡ 0
-nothing_back c [] h = back_nil c
+nothing_back c [] h = back-nil c
 nothing_back c (m ∷ ms) h =
     let p = or_parts (takes_from c m) (list_any (takes_from c) ms) h in
-    omega (arith, back_cons c m ms, none_from c m p.0, nothing_back c ms p.1)
+    omega (arith, back-cons c m ms, none_from c m p.0, nothing_back c ms p.1)
 
 -- what these entries take back, one after another
 back_each : ℕ → List (List Move) → ℕ
@@ -82,22 +73,20 @@ back_each c (ms ∷ rest) = back c ms + back_each c rest
 
 each_taking : (c : ℕ) (es : List EntryValue) → back c (moves_of es) ≡ back_each c (takings c es)
 unfolding back_each
-each_taking c [] = ap (back c) moves_of-nil ∙ back_nil c
+each_taking c [] = ap (back c) moves_of-nil ∙ back-nil c
 each_taking c (e ∷ es) = elim (cases_Bool (takes_one c e)) [
   | inl t ↦ rw t (omega (arith, back_split c e es, each_taking c es))
   | inr f ↦ rw f (omega (arith, back_split c e es, nothing_back c e.moves f, each_taking c es))
 ]
 
-back_one : (c n : ℕ) → back c (TakeBack c n ∷ []) ≡ n
-back_one c n =
-    let here : take_back_from c (TakeBack c n) ≡ n = rw (eq-eqb c c refl) refl in
-    omega (arith, back_cons c (TakeBack c n) [], back_nil c, here)
+pub back_same : (c n : ℕ) → back c (TakeBack c n ∷ []) ≡ n
+back_same c n = back-one c c n ∙ (rw (eq-eqb c c refl) refl)
 
 one_gives : (c n : ℕ) → back_each c (one_taking c n) ≡ n
 unfolding back_each
 one_gives c n = elim (cases_eq n 0) [
   | inl e ↦ let none : eqb n 0 ≡ true = eq-eqb n 0 e in rw none (sym e)
-  | inr ne ↦ let some : eqb n 0 ≡ false = ne_eqb n 0 ne in rw some (omega (arith, back_one c n))
+  | inr ne ↦ let some : eqb n 0 ≡ false = ne_eqb n 0 ne in rw some (omega (arith, back_same c n))
 ]
 
 -- where the entries that take back from c take n, n is taken back from c

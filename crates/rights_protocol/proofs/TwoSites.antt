@@ -87,7 +87,7 @@ takes_2 a b e log unclosed next grown = record {
   unclosed = unclosed;
   entry = e;
   next = next;
-  applied = record { here = refl; others = λ c ne. let no : eqb c 1 ≡ false = ne_eqb c 1 ne in rw no refl };
+  applied = record { there = refl; elsewhere = λ c ne. let no : eqb c 1 ≡ false = ne_eqb c 1 ne in rw no refl };
   log = grown;
   reached = λ k. refl;
   put = λ k. refl;

@@ -41,4 +41,4 @@ pub next_untouched : (old new : Lists) (s o : ℕ) → Kept old → Takes old ne
 next_untouched old new s o kept step =
     let longer = link_applies (old.log o) (old.reached s o) (old.put s o) (old.applied s o) step.entry (kept.links s o) step.next in
     let begins = applied_begins (old.log o) (old.reached s o) (old.put s o) (old.applied s o ++ step.entry ∷ []) longer in
-    ap (λ es. back s (moves_of es)) step.applied.here ∙ front_back s (old.applied s o ++ step.entry ∷ []) (old.log o) begins (none_back old o s kept step.unclosed)
+    ap (λ es. back s (moves_of es)) step.applied.there ∙ front_back s (old.applied s o ++ step.entry ∷ []) (old.log o) begins (none_back old o s kept step.unclosed)

@@ -160,7 +160,7 @@ regain_it = record {
   unclosed = refl;
   entry = closing;
   next = refl;
-  applied = record { here = refl; others = λ c ne. let no : eqb c 2 ≡ false = ne_eqb c 2 ne in rw no refl };
+  applied = record { there = refl; elsewhere = λ c ne. let no : eqb c 2 ≡ false = ne_eqb c 2 ne in rw no refl };
   log = refl;
   reached = λ k. refl;
   put = λ k. refl;

@@ -2,12 +2,12 @@
 use Rattle.std.specs.Prelude.{◌≡◌, ◌≢◌, ℕ, ◌≤◌, ◌⊎◌, false, List, [], ◌∷◌, ◌++◌, length, Option, Some}
 use Rattle.std.specs.List.{Contains, slice_get}
 use Rattle.rights_types.specs.Entries.{EntryValue}
-use Rattle.rights_types.specs.Chains.{end, is_closed, IsLongest, IsFull}
+use Rattle.rights_types.specs.Chains.{end, is_closed, IsLongest, IsFull, AddsEntry}
 use Rattle.rights_types.specs.declared.limits.TheConstants.{MIN_SITES, MAX_SITES}
 use Rattle.rights_types.specs.declared.moves.Move.{Move}
 use Rattle.rights_protocol.specs.Lists.{Lists, IsSiteOf}
 use Rattle.rights_protocol.specs.Retiring.{entry_at_end, taking_back}
-use Rattle.rights_protocol.specs.Writing.{MayAppend, MayClose, closing_moves, AppliesNext}
+use Rattle.rights_protocol.specs.Writing.{MayAppend, MayClose, closing_moves}
 
 pub data Change : Type 0 where
   -- s appends an ordinary entry of these moves: it issues, spends or gives
@@ -89,7 +89,7 @@ pub record Takes (old new : Lists) (s o : ℕ) : Type 0 where
   pub unclosed : is_closed (old.log s) ≡ false
   pub entry : EntryValue
   pub next : slice_get (old.put s o) (length (old.applied s o)) ≡ Some entry
-  pub applied : AppliesNext (old.applied s) (new.applied s) o entry
+  pub applied : AddsEntry (old.applied s) o entry (new.applied s)
   pub log : new.log s ≡ old.log s ++ taking_back s o (old.log s) entry
   pub reached : (k : ℕ) → new.reached s k ≡ old.reached s k
   pub put : (k : ℕ) → new.put s k ≡ old.put s k

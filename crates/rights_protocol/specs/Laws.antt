@@ -1,13 +1,13 @@
 -- The laws of the protocol.
 use Rattle.std.specs.Prelude.{◌≡◌, ◌≢◌, ℕ, ◌+◌, ◌<◌, ◌≤◌, true, false, List, [], ◌∷◌, ◌++◌, Option}
 use Rattle.rights_types.specs.Entries.{EntryValue}
-use Rattle.rights_types.specs.Chains.{end, is_closed, IsChain, moves_of}
+use Rattle.rights_types.specs.Chains.{end, is_closed, IsChain, moves_of, AddsEntry}
 use Rattle.rights_types.specs.Rights.{to, back, received, held}
 use Rattle.rights_types.specs.declared.limits.TheConstants.{MIN_SITES, MAX_SITES, LAST_APPEND, MAX_TOTAL, MAX_RECEIVED, MAX_HELD_RIGHTS}
 use Rattle.rights_types.specs.declared.moves.Move.{Move}
 use Rattle.rights_protocol.specs.Lists.{Lists, IsSiteOf}
 use Rattle.rights_protocol.specs.Retiring.{frontier, owed, entry_at_end, taking_back}
-use Rattle.rights_protocol.specs.Writing.{MayAppend, MayClose, closing_moves, AppliesNext}
+use Rattle.rights_protocol.specs.Writing.{MayAppend, MayClose, closing_moves}
 use Rattle.rights_protocol.specs.Changes.{Change, Step, Runs, Start}
 use Rattle.rights_protocol.specs.Kept.{SiteKept, Kept}
 use Rattle.rights_protocol.specs.Retirement.{AppliedClose, Promised}
@@ -56,7 +56,7 @@ AppliedForGood = (old : Lists) (changes : List Change) (new : Lists) (s c : ℕ)
 pub record SiteGoesOn (n s : ℕ) (log : List EntryValue) (applied : ℕ → List EntryValue) : Type 0 where
   pub appends : (ms : List Move) → MayAppend n s log applied ms → SiteKept n s (log ++ entry_at_end s log ms ∷ []) applied
   pub takes : (o : ℕ) (e : EntryValue) (now : ℕ → List EntryValue) → IsSiteOf n o → s ≢ o → is_closed log ≡ false → IsChain o (applied o ++ e ∷ [])
-      → AppliesNext applied now o e → SiteKept n s (log ++ taking_back s o log e) now
+      → AddsEntry applied o e now → SiteKept n s (log ++ taking_back s o log e) now
   pub closes : (heir : Option ℕ) → MayClose n s log applied heir → SiteKept n s (log ++ entry_at_end s log (closing_moves n s log applied heir) ∷ []) applied
 
 -- and it bounds the site's log and its book

@@ -55,8 +55,3 @@ heritage heir n = if n == 0 then [] else Give heir n ∷ []
 abbrev pub closing_moves : ℕ → ℕ → List EntryValue → (ℕ → List EntryValue) → Option ℕ → List Move
 closing_moves n s log applied None = CloseAt (own_frontier n applied) ∷ []
 closing_moves n s log applied (Some heir) = heritage heir (held n s log applied) ++ CloseAt (own_frontier n applied) ∷ []
-
--- one more entry of the log of o is applied
-pub record AppliesNext (old new : ℕ → List EntryValue) (o : ℕ) (e : EntryValue) : Type 0 where
-  pub here : new o ≡ old o ++ e ∷ []
-  pub others : (c : ℕ) → c ≢ o → new c ≡ old c

@@ -1,5 +1,5 @@
 -- Sums over the sites 1 to n.
-use Rattle.std.proofs.Common.{◌≡◌, ◌≢◌, ℕ, suc, zero, ◌+◌, ◌*◌, ◌<◌, ◌≤◌, inl, inr, arith, refl, sym, eqb, cond}
+use Rattle.std.proofs.Common.{◌≡◌, ◌≢◌, ℕ, suc, zero, ◌+◌, ◌*◌, ◌<◌, ◌≤◌, inl, inr, arith, refl, sym, eqb, cond, add-one}
 use Rattle.std.proofs.lemmas.Bool.{eq-eqb, ne_eqb, cases_eq}
 use Rattle.rights_types.specs.Rights.{sum_sites}
 
@@ -19,6 +19,23 @@ pub sum_swap : (n m : ℕ) (f : ℕ → ℕ → ℕ) → sum_sites n (λ a. sum_
 sum_swap zero m f = sym (sum_zero m)
 sum_swap (suc n) m f = omega (arith, sum_swap n m f, sum_add m (λ b. sum_sites n (λ a. f a b)) (λ b. f (suc n) b))
 
+-- one site more
+pub sum_next : (n : ℕ) (f : ℕ → ℕ) → sum_sites (n + 1) f ≡ sum_sites n f + f (n + 1)
+sum_next n f = rw add-one refl
+
+pub sum_le : (n : ℕ) (f g : ℕ → ℕ) → ((k : ℕ) → 1 ≤ k → k ≤ n → f k ≤ g k) → sum_sites n f ≤ sum_sites n g
+sum_le zero f g h = omega arith
+sum_le (suc n) f g h = omega (arith, sum_le n f g (λ k low high. h k low (omega arith)), h (suc n) (omega arith) (omega arith))
+
+-- a term is at most the sum
+pub sum_term : (n k : ℕ) (f : ℕ → ℕ) → 1 ≤ k → k ≤ n → f k ≤ sum_sites n f
+sum_term zero k f low high = absurd (omega arith)
+sum_term (suc n) k f low high =
+    elim (cases_eq k (suc n)) [
+      | inl e ↦ rw e (omega arith)
+      | inr ne ↦ omega (arith, sum_term n k f low (omega arith))
+    ]
+
 -- the sum of each term's bound
 pub sum_bound : (n m : ℕ) (f : ℕ → ℕ) → ((k : ℕ) → f k ≤ m) → sum_sites n f ≤ n * m
 sum_bound zero m f h = omega arith
@@ -26,6 +43,18 @@ sum_bound (suc n) m f h =
     let rest : sum_sites n f ≤ n * m = sum_bound n m f h in
     let grows : suc n * m ≡ n * m + m = omega arith in
     omega (arith, rest, grows, h (suc n))
+
+-- one term is 0: the bound of the others
+pub sum_bound_but : (n s m : ℕ) (f : ℕ → ℕ) → 1 ≤ s → s ≤ n → f s ≡ 0 → ((k : ℕ) → f k ≤ m) → sum_sites n f + m ≤ n * m
+sum_bound_but zero s m f low high none h = absurd (omega arith)
+sum_bound_but (suc n) s m f low high none h =
+    let grows : suc n * m ≡ n * m + m = omega arith in
+    elim (cases_eq s (suc n)) [
+      | inl e ↦
+          let last : f (suc n) ≡ 0 = rw e at none in
+          omega (arith, sum_bound n m f h, grows, last)
+      | inr ne ↦ omega (arith, sum_bound_but n s m f low (omega arith) none h, grows, h (suc n))
+    ]
 
 -- a sum over fewer sites
 pub sum_fewer : (n k : ℕ) (f : ℕ → ℕ) → k ≤ n → sum_sites k f ≤ sum_sites n f

@@ -95,6 +95,10 @@ pub to-nil : (s : ℕ) → to s [] ≡ 0
 unfolding to
 to-nil s = refl
 
+-- what is taken back by one move alone
+pub back-one : (c j n : ℕ) → back c (TakeBack j n ∷ []) ≡ cond (eqb j c) n 0
+back-one c j n = omega (arith, back-cons c (TakeBack j n) [], back-nil c)
+
 no_gift : (s : ℕ) (m : Move) → names s m ≡ false → gift_to s m ≡ 0
 no_gift s (Issue a) h = refl
 no_gift s (Spend a) h = refl
@@ -152,7 +156,7 @@ spend-bound Close h = omega arith
 spend-bound (CloseAt f) h = omega arith
 spend-bound (TakeBack j n) h = omega arith
 
-at_most : (b : Bool) (n m : ℕ) → n ≤ m → cond b n 0 ≤ m
+pub at_most : (b : Bool) (n m : ℕ) → n ≤ m → cond b n 0 ≤ m
 at_most true n m h = h
 at_most false n m h = omega arith
 

@@ -6,7 +6,7 @@ use Rattle.std.proofs.lemmas.List.{append_assoc}
 use Rattle.std.proofs.lemmas.List.Elements.{Contains-append_cases, Contains-append_right}
 use Rattle.rights_types.specs.Entries.{EntryValue, own, closes}
 use Rattle.rights_types.specs.Chains.{end, is_closed, ChainFrom, IsChain, IsPrefix, IsLongest, HeadNotIn}
-use Rattle.rights_types.proofs.Chains.{not_in_nil, contains_cases, chain_left, chain_right, prev_above, before_end, not_before, next_entry}
+use Rattle.rights_types.proofs.Chains.{not_in_nil, contains_cases, prefix_chain, chain_right, prev_above, before_end, not_before, next_entry}
 
 -- two entries of a chain that begin alike are one
 pub same_entry : (o : ℕ) (b : Bool) (n : ℕ) (es : List EntryValue) (e f : EntryValue) → ChainFrom o b n es → Contains es e → Contains es f → e.prev ≡ f.prev → e ≡ f
@@ -24,16 +24,13 @@ same_entry o b n (x ∷ xs) e f c h k q =
       ]
     ]
 
-pub prefix_chain : (o : ℕ) (es put : List EntryValue) → IsChain o es → IsPrefix put es → IsChain o put
-prefix_chain o es put c (rest, whole) = chain_left o false 0 put rest (subst (IsChain o) (sym whole) c)
-
 -- an entry of the log that begins before the end of a front is in it, and else it is not
 pub in_front : (o : ℕ) (es put : List EntryValue) (e : EntryValue) → IsChain o es → IsPrefix put es → Contains es e → e.prev < end put → Contains put e
 in_front o es put e c (rest, whole) h lt =
     before_end o put rest e (subst (IsChain o) (sym whole) c) (subst (λ ys. Contains ys e) (sym whole) h) lt
 
 pub not_in_front : (o : ℕ) (es put : List EntryValue) (e : EntryValue) → IsChain o es → IsPrefix put es → end put ≤ e.prev → Contains put e → ⊥
-not_in_front o es put e c p le h = not_before o put e (prefix_chain o es put c p) le h
+not_in_front o es put e c p le h = not_before o put e (prefix_chain o put es p c) le h
 
 pub beyond_front : (o : ℕ) (es put : List EntryValue) (e : EntryValue) → IsChain o es → IsPrefix put es → Contains es e → (Contains put e → ⊥) → end put ≤ e.prev
 beyond_front o es put e c p h out =

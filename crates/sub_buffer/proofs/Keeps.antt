@@ -1,5 +1,5 @@
 -- What holds of every buffer holds after a change, and what the code's tests say of a buffer.
-use Rattle.std.proofs.Common.{◌≡◌, ◌≢◌, ℕ, ◌+◌, ◌<◌, ◌≤◌, Bool, true, false, List, ◌∷◌, ◌++◌, inl, inr, length, get_or, drop, Option, Some, None, arith, refl, sym, ◌∙◌, subst}
+use Rattle.std.proofs.Common.{◌≡◌, ◌≢◌, ℕ, ◌+◌, ◌<◌, ◌≤◌, Bool, true, false, List, inl, inr, length, get_or, drop, Option, Some, None, arith, refl, sym, ◌∙◌, subst}
 use Rattle.std.specs.Option.{is_some}
 use Rattle.std.proofs.lemmas.Bool.{cases_lt}
 use Rattle.sub_buffer.specs.declared.buffer.State.TheVariants.{Normal, Buffering}
@@ -8,11 +8,11 @@ use Rattle.std.proofs.lemmas.List.{length-drop}
 use Rattle.std.proofs.lemmas.List.Elements.{All-drop, All-filter, All-contains}
 use Rattle.rights_types.specs.Entries.{EntryValue, own}
 use Rattle.rights_types.specs.Messages.{QueryValue, IsQuery}
-use Rattle.sub_buffer.specs.Buffers.{BufferValue, IsBuffer, HasPrev, InOrder, before, onward}
+use Rattle.sub_buffer.specs.Buffers.{BufferValue, IsBuffer, HasPrev, InOrder, onward}
 use Rattle.sub_buffer.specs.Places.{IsPlace}
 use Rattle.sub_buffer.specs.Table.{IsAhead}
 use Rattle.sub_buffer.specs.Gaps.{GapOf, AsksGap, StateOf}
-use Rattle.sub_buffer.proofs.Orders.{order_onward, order_drop, order_held, all_held, length_onward, length_held, later_onward, first_least, place_none}
+use Rattle.sub_buffer.proofs.Orders.{order_onward, order_drop, length_onward, later_onward, first_least, place_none}
 
 pub keeps_deliver : (b : BufferValue) (e : EntryValue) (last : ℕ) (closed : Bool) (hs : List EntryValue) → IsBuffer b → own e ≤ b.told → last ≡ own e → hs ≡ onward last b.held
     → IsBuffer (record b { last = last; closed = closed; held = hs })
@@ -43,22 +43,6 @@ keeps_pop b hs ok rest =
       later = All-drop (λ x. b.last ≤ x.prev) 1 b.held ok.later;
       heard = All-drop (λ x. own x ≤ b.told) 1 b.held ok.heard;
       of_origin = All-drop (λ x. x.origin ≡ b.origin) 1 b.held ok.of_origin;
-    })
-
-pub keeps_hold : (b : BufferValue) (e : EntryValue) (k : ℕ) (hs : List EntryValue) → IsBuffer b → IsPlace e.prev b.held k → b.last ≤ e.prev → own e ≤ b.told → e.origin ≡ b.origin → length b.held < 64
-    → hs ≡ before e.prev b.held ++ e ∷ onward e.prev b.held → IsBuffer (record b { held = hs })
-keeps_hold b e k hs ok place later heard of room is =
-    subst (λ (ys : List EntryValue). IsBuffer (record b { held = ys })) (sym is) (record {
-      me = ok.me;
-      origin = ok.origin;
-      differ = ok.differ;
-      last = ok.last;
-      told = ok.told;
-      few = omega (arith, length_held e.prev b.held e);
-      in_order = order_held b.held k e ok.in_order place;
-      later = all_held (λ x. b.last ≤ x.prev) e.prev b.held e ok.later later;
-      heard = all_held (λ x. own x ≤ b.told) e.prev b.held e ok.heard heard;
-      of_origin = all_held (λ x. x.origin ≡ b.origin) e.prev b.held e ok.of_origin of;
     })
 
 -- where the first held entry is not the next one, none is

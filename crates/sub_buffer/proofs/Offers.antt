@@ -4,10 +4,10 @@ use Rattle.std.specs.Prelude.{max}
 use Rattle.std.specs.Option.{option_to_list, IfSome}
 use Rattle.std.specs.List.{All, Contains}
 use Rattle.std.proofs.lemmas.List.{length-append, append-nil}
-use Rattle.std.proofs.lemmas.List.Elements.{All-nil, All-push, All-weaker, All-contains, Contains-append_left, Contains-push, Contains-push_cases, Contains-get_or}
+use Rattle.std.proofs.lemmas.List.Elements.{All-nil, All-push, All-contains, Contains-append_left, Contains-push, Contains-push_cases, Contains-get_or}
 use Rattle.rights_types.specs.Entries.{EntryValue, own, IsEntry}
 use Rattle.rights_types.specs.Chains.{end, IsChain, IsPrefix, IsLongest, IsBeyond}
-use Rattle.rights_types.proofs.Chains.{not_in_nil, end-push, closed-push, chain_push, is_entry}
+use Rattle.rights_types.proofs.Chains.{not_in_nil, all_in_more, end-push, closed-push, chain_push, is_entry}
 use Rattle.sub_buffer.specs.Buffers.{BufferValue, HasPrev, before, onward, InOrder, IsBuffer, IsSettled, new_buffer, told_of, delivered, with_held}
 use Rattle.sub_buffer.specs.Table.{OfferLeaves, PopLeaves, IsAhead, after_beat, more_held}
 use Rattle.sub_buffer.specs.Follows.{HasPut, Follows, SettledVerdict, reached_after, put_after, StaysLongest, VerdictAdds, PopFollows}
@@ -101,9 +101,6 @@ must_hold es set put b e f i le = (f.held e).1 (i, not_in_front b.origin es put 
 of_log : (es set put : List EntryValue) (b : BufferValue) (e : EntryValue) → Follows es set put b → Contains set e → Contains es e
 of_log es set put b e f i = All-contains (Contains es) set e f.of_log i
 
-wider : (set xs : List EntryValue) (e : EntryValue) → All (Contains set) xs → All (Contains (set ++ e ∷ [])) xs
-wider set xs e a = All-weaker (Contains set) (Contains (set ++ e ∷ [])) (λ x h. Contains-append_left set (e ∷ []) x h) xs a
-
 -- entries of the log behind a front that ends in e
 past : (o : ℕ) (es put : List EntryValue) (e g : EntryValue) → IsChain o es → IsPrefix (put ++ e ∷ []) es → Contains es g → (Contains (put ++ e ∷ []) g → ⊥) → own e ≤ g.prev
 past o es put e g c begins i out =
@@ -173,7 +170,7 @@ goes_on_new es set put b e f of new at unclosed =
       log = f.log;
       of_log = All-push (Contains es) set e f.of_log of;
       begins = begins;
-      came = All-push (Contains (set ++ e ∷ [])) put e (wider set put e f.came) (Contains-push set e);
+      came = All-push (Contains (set ++ e ∷ [])) put e (all_in_more set put e f.came) (Contains-push set e);
       has_put = put_push put (told_of b (own e)) e (put_told put b (own e) f.has_put) is.0 is.1 at unclosed;
       held = λ g. (
         λ i.
@@ -198,7 +195,7 @@ holds_too es set put b e f of le = record {
   log = f.log;
   of_log = All-push (Contains es) set e f.of_log of;
   begins = f.begins;
-  came = wider set put e f.came;
+  came = all_in_more set put e f.came;
   has_put = record { chain = f.has_put.chain; last = f.has_put.last; closed = f.has_put.closed };
   held = λ g. (
     λ i. elim (in_held e.prev b.held e g i) [
@@ -298,7 +295,7 @@ offer_settled es set put old new e Held of f long h =
     let new_here : Contains set e → ⊥ = ahead_new es set put old e f h.0 in (
       (new_here, omega arith, λ full. omega (arith, f.count, h.1, full)),
       subst (Follows es (set ++ e ∷ []) put) (sym h.2) (holds_too es set put old e f of (omega arith)),
-      is_longest old.origin es (set ++ e ∷ []) put f.log f.begins (wider set put e f.came) (λ x i came at.
+      is_longest old.origin es (set ++ e ∷ []) put f.log f.begins (all_in_more set put e f.came) (λ x i came at.
           elim (Contains-push_cases set e x came) [
             | inl p ↦ longest_stops old.origin es set put x f.log long i p at
             | inr p ↦ let same : e.prev ≡ x.prev = ap (λ (y : EntryValue). y.prev) p in omega (arith, far, at)

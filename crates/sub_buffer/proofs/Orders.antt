@@ -22,9 +22,6 @@ order_head e es h = λ k d lt. h 0 (suc k) d (omega arith) (omega arith)
 pub order_tail : (e : EntryValue) (es : List EntryValue) → InOrder (e ∷ es) → InOrder es
 order_tail e es h = λ i j d lt within. h (suc i) (suc j) d (omega arith) (omega arith)
 
-pub order_nil : InOrder []
-order_nil = λ i j d lt within. absurd (omega arith)
-
 -- whether an entry begins after the number n
 pub prev_cases : (n : ℕ) (es : List EntryValue) → HasPrev n es ⊎ (HasPrev n es → ⊥)
 prev_cases n [] = inr (λ (e, i, q). not_in_nil e i)

@@ -1,19 +1,11 @@
 -- Lists with an item for each site that are written from site 1 on, and sums over the sites so far.
-use Rattle.std.proofs.Common.{◌≡◌, ℕ, suc, ◌+◌, ◌<◌, ◌≤◌, Bool, true, false, cond, eqb, zero, take, inl, inr, List, length, set, refl, sym, ap, ◌∙◌, subst, arith, add-one}
+use Rattle.std.proofs.Common.{◌≡◌, ℕ, suc, ◌+◌, ◌<◌, ◌≤◌, Bool, true, false, cond, eqb, zero, take, inl, inr, List, length, set, refl, sym, ap, ◌∙◌, subst, arith}
 use Rattle.std.proofs.lemmas.Bool.{cases_eq, ne_eqb}
 use Rattle.std.proofs.lemmas.List.{get_or-take}
 use Rattle.rights_types.specs.Places.{at_site, set_site}
-use Rattle.rights_types.specs.Rights.{sum_sites}
 use Rattle.rights_types.proofs.Places.{set_site-index, at_set_site}
-use Rattle.rights_types.proofs.SiteSums.{sum_bound}
+use Rattle.rights_types.proofs.SiteSums.{sum_next, sum_bound}
 use Rattle.transfer_manager.specs.Plans.{count_asked}
-
-pub sum_next : (i : ℕ) (f : ℕ → ℕ) → sum_sites (i + 1) f ≡ sum_sites i f + f (i + 1)
-sum_next i f = rw add-one refl
-
-pub part_le : (b : Bool) (x m : ℕ) → x ≤ m → cond b x 0 ≤ m
-part_le true x m h = h
-part_le false x m h = omega arith
 
 abbrev one_unless : Bool → ℕ
 one_unless b = cond b 0 1
