@@ -1,0 +1,219 @@
+//! Want of memory, and how much memory lines take.
+
+use crate::tests::steps::{Came, Said, at_site_2, at_site_2_of_16, comes, is_outcome, is_query};
+use crate::tests::texts::{LONG_GRANT, answer_line};
+use linked_list_allocator::LocalHeap;
+use refusing_allocator::Refusing;
+use rights_types::{MAX_ANSWER, MAX_MOVES, Move, OutOfMemory};
+use site_core::{Inbound, InboundError};
+use std::alloc::{AllocError, Allocator};
+use std::test::Fail;
+use sub_buffer::{MAX_VERDICTS, State, Verdict};
+use test_kit::{longest_grant, requests_of};
+
+// What an inbound says of itself.
+fn readers<A: Allocator + Copy>(inbound: &Inbound<A>) -> (State, u64, usize) {
+    (inbound.state(), inbound.last(), inbound.held_count())
+}
+
+/// Whether the line comes to that. Where memory is refused to it, it says so and changes nothing, and comes
+/// to that when it is sent again.
+pub(crate) fn comes_at_last<A: Allocator + Copy>(
+    inbound: &mut Inbound<&Refusing<A>>,
+    memory: &Refusing<A>,
+    line: &[u8],
+    came: Came,
+) -> bool {
+    let before = readers(inbound);
+    let refused = memory.refused();
+    let first = inbound.on_line(line);
+    if memory.refused() == refused {
+        return is_outcome(&first, came);
+    }
+    is_outcome(&first, Came::Refused(InboundError::OutOfMemory))
+        && readers(inbound) == before
+        && comes(inbound, line, came)
+}
+
+const HELD: Came = Came::Entries(&[Said::Held]);
+
+/// Lines that come in this order, and what they come to.
+const LINES: [(&str, Came); 12] = [
+    ("E 1 4 5 S:2\n", HELD),
+    ("B 1 9\n", Came::Beat),
+    ("Q 1 2 1 4\n", Came::Query(1, 4)),
+    ("W 1 2 1 6\n", Came::Ask(1, 6)),
+    ("D 1 2 1\n", Came::Deny(1)),
+    ("H 1\n", Came::Hello),
+    (
+        "A 1 2;E 1 0 1 I:10;E 1 1 4 S:1 S:1 S:1\n",
+        Came::Entries(&[Said::Ready(1), Said::Ready(4), Said::Ready(5)]),
+    ),
+    ("A 1 2\n", Came::Entries(&[])),
+    ("E 1 0 1 I:10\n", Came::Entries(&[Said::Repeat])),
+    // What refuses these is looked for behind their own memory, and before room for verdicts.
+    ("E 2 0 1 I:1\n", Came::Refused(InboundError::WrongOrigin)),
+    ("E 1 5 6 R:3:1\n", Came::Refused(InboundError::BadSite)),
+    ("E 1 5 7 I:1 K:0:0\n", Came::Entries(&[Said::Ready(7)])),
+];
+
+fn all_come<A: Allocator + Copy>(memory: &Refusing<A>) -> bool {
+    let Ok(mut inbound) = at_site_2(memory) else {
+        return memory.refused();
+    };
+    for (line, came) in &LINES {
+        if !comes_at_last(&mut inbound, memory, line.as_bytes(), *came) {
+            return false;
+        }
+    }
+    true
+}
+
+/// Lines of each kind, with each of their requests refused in turn. `new` makes one, each entry one, an
+/// answer that has any one more, and each line of entries that is not refused one for its verdicts.
+#[test]
+fn lines_with_each_growth_refused(rt: HostRuntime) {
+    let made = requests_of(rt.alloc(), |memory| all_come(memory));
+    assert_eq!(rt; made, Some(1 + 7 + 1 + 5));
+}
+
+fn asks_nothing<A: Allocator + Copy>(inbound: &mut Inbound<A>) -> bool {
+    is_query(&inbound.query_line(false), None)
+}
+
+const QUERY: Option<&str> = Some("Q 2 1 1 4\n");
+
+// Whether the line asks for the numbers 1 to 4. Where memory is refused to it, that is told, the gap counts
+// as asked for and nothing else has changed, and the line can be asked for again.
+fn asks_at_last<A: Allocator + Copy>(
+    inbound: &mut Inbound<&Refusing<A>>,
+    memory: &Refusing<A>,
+    again: bool,
+) -> bool {
+    let before = readers(inbound);
+    let refused = memory.refused();
+    let first = inbound.query_line(again);
+    if memory.refused() == refused {
+        return is_query(&first, QUERY);
+    }
+    matches!(first, Err(OutOfMemory))
+        && readers(inbound) == before
+        && asks_nothing(inbound)
+        && is_query(&inbound.query_line(true), QUERY)
+}
+
+fn asks_for_a_gap<A: Allocator + Copy>(memory: &Refusing<A>) -> bool {
+    let Ok(mut inbound) = at_site_2(memory) else {
+        return memory.refused();
+    };
+    comes_at_last(&mut inbound, memory, b"E 1 4 5 S:2\n", HELD)
+        && asks_at_last(&mut inbound, memory, false)
+        && asks_nothing(&mut inbound)
+        && asks_at_last(&mut inbound, memory, true)
+        && asks_nothing(&mut inbound)
+}
+
+/// A query's line makes one request, and its gap counts as asked for where that is refused. Three more are
+/// those of `new` and of the entry.
+#[test]
+fn queries_with_each_growth_refused(rt: HostRuntime) {
+    let made = requests_of(rt.alloc(), |memory| asks_for_a_gap(memory));
+    assert_eq!(rt; made, Some(3 + 2));
+}
+
+// How many bytes 94 verdicts take, and the moves of 16 entries of 16 moves.
+fn room_of_an_answer(heap: &LocalHeap) -> Result<usize, AllocError> {
+    let before = heap.used();
+    let verdicts: Vec<Verdict<&LocalHeap>, &LocalHeap> = Vec::with_capacity(heap, MAX_VERDICTS)?;
+    let moves: Vec<Move, &LocalHeap> = Vec::with_capacity(heap, MAX_ANSWER * MAX_MOVES)?;
+    let room = heap.used().saturating_sub(before);
+    drop(moves);
+    drop(verdicts);
+    Ok(room)
+}
+
+/// The longest answer takes the room of 94 verdicts and of its moves, and gives it back. While it is read, it
+/// takes little more.
+#[test]
+fn bytes_of_the_longest_answer(rt: HostRuntime) -> Result<(), Fail> {
+    let line = answer_line(rt.alloc(), 16, 16, 0, LONG_GRANT)?;
+    let heap = LocalHeap::new(rt.alloc(), 40_000)?;
+    let room = room_of_an_answer(&heap)?;
+    let mut inbound = at_site_2_of_16(&heap)?;
+    let fresh = heap.used();
+    let arrival = inbound.on_line(&line);
+    assert!(rt; arrival.is_ok());
+    assert_eq!(rt; inbound.last(), 256);
+    assert_eq!(rt; heap.used().saturating_sub(fresh), room);
+    drop(arrival);
+    assert_eq!(rt; heap.used(), fresh);
+    Ok(())
+}
+
+// How many bytes are used once the line has come to that.
+fn used_after(
+    heap: &LocalHeap,
+    inbound: &mut Inbound<&LocalHeap>,
+    line: &str,
+    came: Came,
+) -> Option<usize> {
+    if comes(inbound, line.as_bytes(), came) {
+        Some(heap.used())
+    } else {
+        None
+    }
+}
+
+/// Lines, what they come to, and how many entries are held then.
+const KEPT: [(&str, Came, usize); 7] = [
+    ("E 2 0 1 I:1\n", Came::Refused(InboundError::WrongOrigin), 0),
+    (
+        "A 1 2;E 1 0 1 I:1;E 1 1 2 R:3:1\n",
+        Came::Refused(InboundError::BadSite),
+        0,
+    ),
+    ("E 1 4 5 S:2\n", HELD, 1),
+    ("E 1 4 5 S:2\n", Came::Entries(&[Said::Repeat]), 1),
+    ("E 1 5 7 S:2 S:1\n", HELD, 2),
+    (
+        "A 1 2;E 1 0 2 I:1 I:1;E 1 2 4 I:1 I:1\n",
+        Came::Entries(&[
+            Said::Ready(2),
+            Said::Ready(4),
+            Said::Ready(5),
+            Said::Ready(7),
+        ]),
+        0,
+    ),
+    ("E 1 0 1 I:1\n", Came::Entries(&[Said::Repeat]), 0),
+];
+
+/// Entries that are held keep their moves alone, and all others nothing.
+#[test]
+fn bytes_that_are_kept(rt: HostRuntime) -> Result<(), Fail> {
+    let heap = LocalHeap::new(rt.alloc(), 1 << 16)?;
+    let mut inbound = at_site_2(&heap)?;
+    let fresh = heap.used();
+    for (line, came, held) in &KEPT {
+        let used = used_after(&heap, &mut inbound, line, *came);
+        let most = fresh.saturating_add(held.saturating_mul(160));
+        assert!(rt; used >= Some(fresh) && used <= Some(most), "{line}");
+        assert_eq!(rt; inbound.held_count(), *held, "{line}");
+    }
+    Ok(())
+}
+
+/// A query's line takes the room of its bytes, to the heap's next 16.
+#[test]
+fn bytes_of_a_query(rt: HostRuntime) -> Result<(), Fail> {
+    let heap = LocalHeap::new(rt.alloc(), 1 << 16)?;
+    let mut inbound = at_site_2(&heap)?;
+    assert!(rt; comes(&mut inbound, b"B 1 1000000000\n", Came::Beat));
+    let fresh = heap.used();
+    let query = inbound.query_line(false);
+    assert!(rt; is_query(&query, Some("Q 2 1 1 1000000000\n")));
+    assert!(rt; heap.used() <= fresh.saturating_add(32));
+    drop(query);
+    assert_eq!(rt; heap.used(), fresh);
+    Ok(())
+}

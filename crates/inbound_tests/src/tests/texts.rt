@@ -1,0 +1,72 @@
+//! Lines of entries of site 1.
+
+use std::alloc::{AllocError, Allocator, Global};
+
+/// The text of the longest grant.
+pub(crate) const LONG_GRANT: &str = " G:16:1000000000:1000000000";
+
+// Adds a space and a number below 1,000.
+fn add_number<A: Allocator>(text: &mut Vec<u8, A>, number: u16) -> Result<(), AllocError> {
+    text.push(b' ')?;
+    if number >= 100 {
+        text.push(b'0' + (number / 100 % 10) as u8)?;
+    }
+    if number >= 10 {
+        text.push(b'0' + (number / 10 % 10) as u8)?;
+    }
+    text.push(b'0' + (number % 10) as u8)?;
+    Ok(())
+}
+
+/// Adds an entry after a number: so many moves, of which the last is another one.
+pub(crate) fn add_entry<A: Allocator>(
+    text: &mut Vec<u8, A>,
+    prev: u16,
+    count: u16,
+    each: &str,
+    last: &str,
+) -> Result<(), AllocError> {
+    text.extend_from_slice(b"E 1")?;
+    add_number(text, prev)?;
+    add_number(text, prev.saturating_add(count))?;
+    for _ in 1..count {
+        text.extend_from_slice(each.as_bytes())?;
+    }
+    text.extend_from_slice(last.as_bytes())
+}
+
+/// The line of an entry.
+pub(crate) fn entry_line(
+    alloc: Global,
+    prev: u16,
+    count: u16,
+    each: &str,
+    last: &str,
+) -> Result<Vec<u8>, AllocError> {
+    let mut line = Vec::new(alloc);
+    add_entry(&mut line, prev, count, each, last)?;
+    line.push(b'\n')?;
+    Ok(line)
+}
+
+/// The line that answers site 2 with entries of one log: the first has so many moves, and each further one
+/// so many more.
+pub(crate) fn answer_line(
+    alloc: Global,
+    entries: u16,
+    first: u16,
+    more: u16,
+    each: &str,
+) -> Result<Vec<u8>, AllocError> {
+    let mut line = Vec::from_slice(alloc, b"A 1 2")?;
+    let mut prev = 0u16;
+    let mut count = first;
+    for _ in 0..entries {
+        line.push(b';')?;
+        add_entry(&mut line, prev, count, each, each)?;
+        prev = prev.saturating_add(count);
+        count = count.saturating_add(more);
+    }
+    line.push(b'\n')?;
+    Ok(line)
+}

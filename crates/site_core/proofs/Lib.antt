@@ -1,0 +1,9 @@
+pub mod OwedLaws
+pub mod Closing
+pub mod LedgerLaws
+pub mod Protocol
+pub mod DeskLaws
+pub mod ExpiryLaws
+pub mod AskLaws
+pub mod RetiringLaws
+pub mod InboundLaws

@@ -1,0 +1,20 @@
+use Rattle.std.proofs.Common.{◌≤◌, length, arith}
+use Rattle.site_core.proofs.InboundLaws.{arrivals_pair, entries_come}
+use Rattle.site_core.proofs.inbound.Inbound.take_entries.Goals as goal
+
+pub invariant_of-self : goal.invariant_of-self
+invariant_of-self g c =
+    let p = arrivals_pair _ _ _ _ _ c.arrive_all.ensures.arrive in
+    record {
+      some = c.self.invariant.some;
+      few = c.self.invariant.few;
+      me = omega (arith, c.self.invariant.me, p.me);
+      origin = omega (arith, c.self.invariant.origin, p.origin);
+      settled = c.arrive_all.ensures.settled;
+    }
+
+pub returns-clause-ok : goal.returns-clause-ok
+returns-clause-ok g c =
+    let few : length c.arrive_all.new.verdicts.items ≤ 94 = omega (arith, c.arrive_all.new.verdicts.ok, c.arrive_all.ensures.capacity, c.in_ok-verdicts.ensures.exact) in
+    let come = rw c.in_ok-verdicts.ensures.items at c.arrive_all.ensures.arrive in
+    rw (← c.self.view_is) (entries_come _ c.args.entries.items _ _ come few)

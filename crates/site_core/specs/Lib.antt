@@ -1,0 +1,7 @@
+-- One site, to be read in this order: its log and book, the whole desk, why it refuses, what each call answers
+-- and leaves, and what comes in from one other site.
+pub mod Ledgers
+pub mod Desks
+pub mod Faults
+pub mod Calls
+pub mod Inbounds

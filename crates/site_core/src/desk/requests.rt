@@ -1,0 +1,109 @@
+//! Spends: those that are served at once, and those that wait.
+ghost use Rattle.std.specs.Prelude.{◌≡◌, true, IfOk, IfErr, OnOk, OnErr};
+ghost use Rattle.request_queue.specs.Queues.{front_of};
+ghost use Rattle.request_queue.specs.Calls.{TellsOutcome};
+ghost use Rattle.site_core.specs.Faults.{can_spend, can_serve, spend_fault, serve_fault, expire_fault, DeskRefuses};
+ghost use Rattle.site_core.specs.Calls.{DeskSpends, DeskServes, DeskExpires, ExpiresLate};
+ghost use Rattle.site_core.specs.declared.fault.DeskError.TheVariants.{OutOfMemory as NoMemory};
+
+use crate::desk::Desk;
+use crate::fault::DeskError;
+use request_queue::{RequestQueue, Status};
+use rights_types::{Amount, Move};
+use std::alloc::Allocator;
+
+/// What becomes of a spend.
+#[derive(Clone, Copy, Debug, PartialEq, Eq)]
+pub enum Spending {
+    /// The entry of this number spends it.
+    Spent(u64),
+    /// It waits, under this ticket.
+    Queued(u64),
+}
+
+impl<A: Allocator + Copy> Desk<A> {
+    /// Spends so many rights at once, where no spend waits and as many are held; else lets the spend wait
+    /// behind the others until its deadline, which may have passed already. Only an entry takes memory.
+    pub fn spend(&mut self, amount: u64, deadline: u64) -> Result<Spending, DeskError>
+        ensures refused { DeskRefuses (spend_fault self.old amount) result }
+        ensures ok { OnOk result (IfOk result (λ spending. DeskSpends self.old amount deadline spending self.new)) }
+        ensures err { OnErr result (self.new ≡ self.old) }
+        ensures memory { IfErr result (λ fault. fault ≡ NoMemory → can_spend self.old amount ≡ true) }
+    {
+        if self.ledger.log().closed() {
+            return Err(DeskError::Closed);
+        }
+        let Ok(rights) = Amount::new(amount) else {
+            return Err(DeskError::BadAmount);
+        };
+        if self.queue.waiting() == 0 && self.ledger.book().held() >= amount {
+            if !self.has_room(1) {
+                return Err(DeskError::LogFull);
+            }
+            let number = self.ledger.write(&[Move::Spend(rights)])?;
+            return Ok(Spending::Spent(number));
+        }
+        match self.queue.put(amount, deadline) {
+            Ok(ticket) => Ok(Spending::Queued(ticket)),
+            Err(_) => Err(DeskError::QueueFull),
+        }
+    }
+
+    /// Serves the spend that waits at the front, where as many rights are held, and answers its ticket and
+    /// the number of the entry that spends it. Only that entry takes memory.
+    pub fn serve(&mut self) -> Result<Option<(u64, u64)>, DeskError>
+        ensures refused { DeskRefuses (serve_fault self.old) result }
+        ensures ok { IfOk result (λ served. DeskServes self.old served self.new) }
+        ensures err { OnErr result (self.new ≡ self.old) }
+        ensures memory { IfErr result (λ fault. fault ≡ NoMemory → can_serve self.old (front_of self.old.queue.waiting) ≡ true) }
+    {
+        let Some((ticket, amount, _deadline)) = self.queue.front() else {
+            return Ok(None);
+        };
+        if self.ledger.book().held() < amount.value() {
+            return Ok(None);
+        }
+        if !self.has_room(1) {
+            return Err(DeskError::LogFull);
+        }
+        let number = self.ledger.write(&[Move::Spend(amount)])?;
+        self.queue.serve_front(number);
+        Ok(Some((ticket, number)))
+    }
+
+    /// Ends all waiting spends whose deadlines are less than this time, and answers how many they were. A
+    /// closed site has none.
+    pub fn expire(&mut self, time: u64) -> Result<u64, DeskError>
+        ensures refused { DeskRefuses (expire_fault self.old time) result }
+        ensures memory { IfErr result (λ fault. ¬ (fault ≡ NoMemory)) }
+        ensures ok { IfOk result (λ count. DeskExpires self.old time count self.new) }
+        ensures err { OnErr result (self.new ≡ self.old) }
+    {
+        if time < self.time {
+            return Err(DeskError::TimeWentBack);
+        }
+        let count = expire_late(&mut self.queue, time);
+        self.time = time;
+        Ok(count)
+    }
+
+    /// What became of the spend of this ticket. Its outcome is told once, which frees its slot.
+    pub fn status(&mut self, ticket: u64) -> Status
+        ensures outcome { TellsOutcome self.old.queue ticket result self.new.queue }
+        ensures rest { self.new ≡ record self.old { queue = self.new.queue } }
+    {
+        self.queue.status(ticket)
+    }
+}
+
+fn expire_late<A: Allocator>(queue: &mut RequestQueue<A>, time: u64) -> u64
+    ensures { ExpiresLate queue.old time result queue.new }
+{
+    // For the proof: how many may wait.
+    let _ = queue.waiting();
+    let mut count = 0;
+    while let Some(_ticket) = queue.expire_one(time) {
+        count += 1;
+    }
+    count
+}

@@ -1,0 +1,293 @@
+//! What comes in from one other site.
+ghost use Rattle.std.specs.Prelude.{◌≡◌, ◌≢◌, ◌≤◌, [], ◌∷◌, Ok, None, Some, IfOk, OnErr, MatchResult, IsSome, List, Option, length};
+ghost use Rattle.std.specs.List.{All, list_any};
+ghost use Rattle.std.specs.Option.{option_map};
+ghost use Rattle.rights_types.specs.Entries.{EntryValue};
+ghost use Rattle.rights_types.specs.Messages.{MessageValue, QueryValue};
+ghost use Rattle.rights_types.specs.Messages.MessageValue.{AQuery};
+ghost use Rattle.rights_types.specs.Values.{value_of};
+ghost use Rattle.rights_types.specs.declared.limits.TheConstants.{MIN_SITES, MAX_SITES, MAX_ANSWER};
+ghost use Rattle.entry_codec.specs.Reading.{reading};
+ghost use Rattle.sub_buffer.specs.Gaps.{GapOf, GapIs, StateOf};
+ghost use Rattle.sub_buffer.specs.Follows.{Follows};
+ghost use Rattle.site_core.specs.Calls.{LineOf};
+ghost use Rattle.site_core.specs.Inbounds.{sender, is_for, entries_of, is_foreign, has_foreign};
+
+use crate::fault::InboundError;
+use entry_codec::{LineError, read_line, write_line};
+use rights_types::{Ask, Deny, Entry, Message, Move, OutOfMemory, Query, SiteId};
+use std::alloc::{Allocator, Global};
+use std::marker::Model;
+use sub_buffer::{MAX_VERDICTS, State, SubBuffer, Verdict};
+
+/// The verdicts on the entries of one line, in order, each followed by Ready for each entry that it freed.
+/// They are 94 at most.
+#[derive(Drop)]
+pub struct Verdicts<A: Allocator = Global> {
+    verdicts: Vec<Verdict<A>, A>,
+}
+
+impl<A: Allocator> Model for Verdicts<A> {
+    ghost use Rattle.std.specs.Prelude.{List};
+    ghost use Rattle.sub_buffer.specs.declared.verdict.Verdict.{Verdict};
+
+    ghost Value = { List (Verdict A) };
+
+    ghost view = { λ v. v.verdicts.items };
+}
+
+impl<A: Allocator> Verdicts<A> {
+    /// The verdicts, lent.
+    pub fn as_slice(&self) -> &[Verdict<A>]
+        ensures { result.now ≡ self.now }
+    {
+        &self.verdicts
+    }
+
+    /// The verdicts, with the entries that are ready.
+    pub fn into_vec(self) -> Vec<Verdict<A>, A>
+        ensures { result.items ≡ self }
+    {
+        self.verdicts
+    }
+}
+
+/// What a line brought.
+#[derive(Drop)]
+pub enum Arrival<A: Allocator = Global> {
+    /// Entries, one or those of an answer.
+    Entries { verdicts: Verdicts<A> },
+    /// A beat, which the buffer has heard.
+    Beat,
+    /// The origin asks for entries of this site's log.
+    Query(Query),
+    /// The origin asks for rights.
+    Ask(Ask),
+    /// The origin denied an ask.
+    Deny(Deny),
+    /// The first line of a connection.
+    Hello,
+}
+
+/// The lines that one other site sends, and the buffer that puts its entries in order. It is lent no desk:
+/// what it says goes to an applier, or to the desk by its owner.
+#[derive(Drop)]
+pub struct Inbound<A: Allocator = Global> {
+    buffer: SubBuffer<A>,
+    sites: u64,
+    alloc: A,
+}
+
+impl<A: Allocator> Model for Inbound<A> {
+    ghost use Rattle.site_core.specs.Inbounds.{InboundValue, IsInbound};
+
+    ghost Value = { InboundValue };
+
+    ghost view = { λ i. record { buffer = i.buffer; sites = i.sites } };
+
+    ghost invariant = { λ i. IsInbound (record { buffer = i.buffer; sites = i.sites }) };
+}
+
+impl<A: Allocator + Copy> Inbound<A> {
+    ghost use Rattle.site_core.specs.Inbounds.{new_inbound, message_fault, InboundRefuses, BringsEntries, Arrives, QueryOf};
+
+    /// What site `me` gets from the origin, in a system of so many sites, 2 to 16.
+    pub fn new(alloc: A, me: SiteId, origin: SiteId, sites: u64) -> Result<Inbound<A>, OutOfMemory>
+        requires sites { (MIN_SITES ≤ sites) × (sites ≤ MAX_SITES) }
+        requires me { me ≤ sites }
+        requires origin { origin ≤ sites }
+        requires other { origin ≢ me }
+        ensures { IfOk result (λ i. i ≡ new_inbound me origin sites) }
+    {
+        Ok(Inbound {
+            buffer: SubBuffer::new(alloc, me, origin)?,
+            sites,
+            alloc,
+        })
+    }
+
+    /// Takes a line in. A line that is refused is to be skipped: it has changed nothing.
+    pub fn on_line(&mut self, line: &[u8]) -> Result<Arrival<A>, InboundError>
+        ensures refused { InboundRefuses self.old (reading line.now) result }
+        ensures ok { IfOk result (λ arrival. (m : MessageValue) × (reading line.now ≡ Ok m) × Arrives self.old m arrival self.new) }
+        ensures err { OnErr result (self.new ≡ self.old) }
+    {
+        let message = match read_line(self.alloc, line) {
+            Ok(message) => message,
+            Err(LineError::OutOfMemory) => return Err(InboundError::OutOfMemory),
+            Err(fault) => return Err(InboundError::Line(fault)),
+        };
+        self.check(&message)?;
+        Ok(self.take_in(message)?)
+    }
+
+    // Whose message it is, and of which system.
+    fn check(&self, message: &Message<A>) -> Result<(), InboundError>
+        ensures { MatchResult result
+            (λ _. message_fault self.now (value_of message.now) ≡ None)
+            (λ fault. message_fault self.now (value_of message.now) ≡ Some fault) }
+    {
+        if sender(message) != self.buffer.origin() {
+            return Err(InboundError::WrongOrigin);
+        }
+        if !is_for(message, self.buffer.me()) || has_foreign(message, self.sites) {
+            return Err(InboundError::BadSite);
+        }
+        Ok(())
+    }
+
+    // What a message brings that may come in.
+    fn take_in(&mut self, message: Message<A>) -> Result<Arrival<A>, OutOfMemory>
+        requires { message_fault self.old (value_of message) ≡ None }
+        ensures ok { IfOk result (λ arrival. Arrives self.old (value_of message) arrival self.new) }
+        ensures err { OnErr result (self.new ≡ self.old) }
+    {
+        match message {
+            Message::Push(entry) => self.take_entry(entry),
+            Message::Answer(answer) => self.take_entries(answer.into_entries()),
+            Message::Beat(beat) => {
+                self.buffer.beat(beat.number());
+                Ok(Arrival::Beat)
+            }
+            Message::Query(query) => Ok(Arrival::Query(query)),
+            Message::Ask(ask) => Ok(Arrival::Ask(ask)),
+            Message::Deny(deny) => Ok(Arrival::Deny(deny)),
+            Message::Hello(_) => Ok(Arrival::Hello),
+        }
+    }
+
+    fn take_entry(&mut self, entry: Entry<A>) -> Result<Arrival<A>, OutOfMemory>
+        requires { entry.origin ≡ self.old.buffer.origin }
+        ensures ok { IfOk result (λ arrival. BringsEntries self.old (entry ∷ []) arrival self.new) }
+        ensures err { OnErr result (self.new ≡ self.old) }
+    {
+        let mut verdicts = Vec::with_capacity(self.alloc, MAX_VERDICTS)?;
+        // For the proof: at most 64 are held.
+        let _ = self.buffer.held_count();
+        self.buffer.arrive(entry, &mut verdicts);
+        Ok(Arrival::Entries {
+            verdicts: Verdicts { verdicts },
+        })
+    }
+
+    fn take_entries(&mut self, entries: Vec<Entry<A>, A>) -> Result<Arrival<A>, OutOfMemory>
+        requires origin { All (λ (e : EntryValue). e.origin ≡ self.old.buffer.origin) entries.items }
+        requires few { length entries.items ≤ MAX_ANSWER }
+        ensures ok { IfOk result (λ arrival. BringsEntries self.old entries.items arrival self.new) }
+        ensures err { OnErr result (self.new ≡ self.old) }
+    {
+        let mut verdicts = Vec::with_capacity(self.alloc, MAX_VERDICTS)?;
+        self.buffer.arrive_all(entries, &mut verdicts);
+        Ok(Arrival::Entries {
+            verdicts: Verdicts { verdicts },
+        })
+    }
+
+    /// The line of the query for the gap, where there is one: always with `again`, else where it is not the
+    /// gap that was asked for last. It counts as asked for from then on, also where the line found no memory.
+    pub fn query_line(&mut self, again: bool) -> Result<Option<Vec<u8, A>>, OutOfMemory>
+        ensures { (q : Option QueryValue) × QueryOf self.old again q self.new
+            × MatchResult result (λ line. LineOf (λ l. l.items) (option_map (λ x. AQuery x) q) line) (λ _. IsSome q) }
+    {
+        let Some(query) = self.query(again) else {
+            return Ok(None);
+        };
+        let message: Message<A> = Message::Query(query);
+        Ok(Some(write_line(self.alloc, &message)?))
+    }
+
+    // The query for the gap, where there is one to be sent: the gap counts as asked for from then on.
+    fn query(&mut self, again: bool) -> Option<Query>
+        ensures { QueryOf self.old again result self.new }
+    {
+        if again {
+            self.buffer.want_again()
+        } else {
+            self.buffer.want()
+        }
+    }
+
+    /// Buffering where there is a gap.
+    pub fn state(&self) -> State
+        ensures table { (gap : Option QueryValue) × GapOf self.now.buffer gap × StateOf gap result }
+        ensures log { (es set put : List EntryValue) → Follows es set put self.now.buffer
+            → (gap : Option QueryValue) × GapIs self.now.buffer.me self.now.buffer.origin set put self.now.buffer.told gap × StateOf gap result }
+    {
+        self.buffer.state()
+    }
+
+    /// The own number of the last entry that was put, 0 at first.
+    pub fn last(&self) -> u64
+        ensures { result ≡ self.now.buffer.last }
+    {
+        self.buffer.last()
+    }
+
+    /// How many entries are held, at most 64.
+    pub fn held_count(&self) -> usize
+        ensures { result ≡ length self.now.buffer.held }
+    {
+        self.buffer.held_count()
+    }
+}
+
+// The site that sent the message.
+fn sender<A: Allocator>(message: &Message<A>) -> SiteId
+    ensures { result ≡ sender (value_of message.now) }
+{
+    match message {
+        Message::Push(entry) => entry.origin(),
+        Message::Query(query) => query.asker(),
+        Message::Answer(answer) => answer.origin(),
+        Message::Beat(beat) => beat.origin(),
+        Message::Ask(ask) => ask.asker(),
+        Message::Deny(deny) => deny.denier(),
+        Message::Hello(site) => *site,
+    }
+}
+
+// Whether the message is for the site, or for anybody.
+fn is_for<A: Allocator>(message: &Message<A>, me: SiteId) -> bool
+    ensures { result ≡ is_for me (value_of message.now) }
+{
+    match message {
+        Message::Query(query) => query.origin() == me,
+        Message::Answer(answer) => answer.asker() == me,
+        Message::Ask(ask) => ask.asked() == me,
+        Message::Deny(deny) => deny.asker() == me,
+        _ => true,
+    }
+}
+
+// Whether an entry of the message is of another system than one of so many sites.
+fn has_foreign<A: Allocator>(message: &Message<A>, sites: u64) -> bool
+    ensures { result ≡ has_foreign sites (entries_of (value_of message.now)) }
+{
+    match message {
+        Message::Push(entry) => any_foreign(entry.moves(), sites),
+        Message::Answer(answer) => answer
+            .entries()
+            .iter()
+            .any(|entry| any_foreign(entry.moves(), sites)),
+        _ => false,
+    }
+}
+
+fn any_foreign(moves: &[Move], sites: u64) -> bool
+    ensures { result ≡ list_any (is_foreign sites) moves.now }
+{
+    moves.iter().any(|m| is_foreign(m, sites))
+}
+
+// Whether the move names a site above the last one, or has another frontier.
+fn is_foreign(m: &Move, sites: u64) -> bool
+    ensures { result ≡ is_foreign sites m.now }
+{
+    match m {
+        Move::CloseAt(frontier) => frontier.count() as u64 != sites,
+        _ => match m.peer() {
+            Some(peer) => peer.number() > sites,
+            None => false,
+        },
+    }
+}

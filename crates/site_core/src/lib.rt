@@ -1,0 +1,16 @@
+//! The core of one site. `Desk` is its log, its book of rights, the spends that wait and its asks: every
+//! decision on rights is one call of it. `Inbound` is what comes in from one other site: the lines of its
+//! messages, and the buffer that puts its entries in order. Neither waits for anybody.
+#![tactic(auto)]
+
+mod desk;
+mod fault;
+mod inbound;
+mod ledger;
+mod line;
+mod owed;
+
+pub use desk::{AskReply, Desk, Spending};
+pub use fault::{DeskError, InboundError};
+pub use inbound::{Arrival, Inbound, Verdicts};
+pub use line::Line;

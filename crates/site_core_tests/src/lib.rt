@@ -1,0 +1,6 @@
+//! Tests of desks: worked examples, refusals, want of memory, closing and taking back. They have their own
+//! crate, since a crate with tests is proved twice.
+#![tactic(auto)]
+
+#[cfg(test)]
+mod tests;

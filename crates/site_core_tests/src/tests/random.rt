@@ -1,0 +1,130 @@
+//! Many calls, in an order that no hand wrote.
+use crate::tests::balance::Totals;
+use crate::tests::calls::Reply;
+use crate::tests::sites::Sites;
+use refusing_allocator::Refusing;
+use std::alloc::{AllocError, AllocGlobal, Global};
+use std::process::Abort;
+use std::test::Fail;
+
+const GAMES: u64 = 25;
+
+const CALLS: u64 = 200;
+
+/// Numbers that look drawn, the same in each run.
+#[derive(Clone, Copy)]
+struct Dice {
+    state: u64,
+}
+
+impl Dice {
+    // A number below the count of sides.
+    fn roll(&mut self, sides: u64) -> u64 {
+        self.state = self
+            .state
+            .wrapping_mul(6_364_136_223_846_793_005)
+            .wrapping_add(1_442_695_040_888_963_407);
+        (self.state >> 33).checked_rem(sides).unwrap_or(0)
+    }
+
+    // Two of three sites.
+    fn pair(&mut self) -> (u64, u64) {
+        let site = self.roll(3).saturating_add(1);
+        let next = site.saturating_add(self.roll(2));
+        (site, (next % 3).saturating_add(1))
+    }
+}
+
+// A call that concerns no line.
+fn command(alloc: Global, dice: &mut Dice) -> Reply {
+    let (site, peer) = dice.pair();
+    let amount = dice.roll(9).saturating_add(1);
+    let time = dice.roll(1_000);
+    match dice.roll(60) {
+        0..=9 => format!(in alloc; "issue {site} {amount}"),
+        10..=19 => format!(in alloc; "give {site} {peer} {amount}"),
+        20..=24 => format!(in alloc; "post {site} S:{amount} I:2 R:{peer}:1"),
+        25..=39 => format!(in alloc; "spend {site} {amount} {time}"),
+        40..=44 => format!(in alloc; "serve {site}"),
+        45..=47 => format!(in alloc; "expire {site} {time}"),
+        48..=57 => format!(in alloc; "plan {site}"),
+        58 => format!(in alloc; "close {site} {peer}"),
+        _ => format!(in alloc; "close {site}"),
+    }
+}
+
+// The site hears the line, or it is lost.
+fn pass(
+    rt: &(impl Abort + AllocGlobal),
+    sites: &mut Sites,
+    dice: &mut Dice,
+    site: u64,
+    line: &str,
+) -> Reply {
+    if dice.roll(4) == 0 {
+        return String::from_str(rt.alloc(), "lost");
+    }
+    let heard = format!(in rt.alloc(); "hear {site} {line}")?;
+    sites.say(rt, &heard)
+}
+
+// An entry, the entries of a gap, or an ask with its denial go from one site to another.
+fn exchange(
+    rt: &(impl Abort + AllocGlobal),
+    sites: &mut Sites,
+    dice: &mut Dice,
+) -> Result<(), AllocError> {
+    let (site, peer) = dice.pair();
+    match dice.roll(4) {
+        0 => {
+            let line = sites.say(rt, &format!(in rt.alloc(); "publish {site} {peer}")?)?;
+            let _ = pass(rt, sites, dice, peer, &line)?;
+        }
+        1 => {
+            let _ = sites.catch_up(rt, site, peer)?;
+        }
+        _ => {
+            let line = sites.say(rt, &format!(in rt.alloc(); "ask {site} {peer}")?)?;
+            let reply = pass(rt, sites, dice, peer, &line)?;
+            if let Some(denial) = reply.strip_prefix("denied ") {
+                let _ = pass(rt, sites, dice, site, denial)?;
+            }
+        }
+    }
+    Ok(())
+}
+
+// Plays a game from this seed on. After each call all rights are kept.
+fn game(rt: &(impl Abort + AllocGlobal), seed: u64) -> Result<Totals, AllocError> {
+    let memory = Refusing::new(rt.alloc(), u64::MAX);
+    let mut sites = Sites::new(rt, &memory, 3)?;
+    let mut dice = Dice { state: seed };
+    let mut totals = Totals::of(sites.desks()).expect(rt, "kept rights");
+    for call in 0..CALLS {
+        if dice.roll(2) == 0 {
+            let drawn = command(rt.alloc(), &mut dice)?;
+            let _ = sites.say(rt, &drawn)?;
+        } else {
+            exchange(rt, &mut sites, &mut dice)?;
+        }
+        totals = Totals::of(sites.desks()).expect(rt, "kept rights");
+        assert!(rt; totals.are_even(), "game {seed}, call {call}");
+    }
+    Ok(totals)
+}
+
+/// At each moment of some games each site's rights are those of its log and of what it applied, and those of
+/// all are those that were issued.
+#[test]
+fn rights_are_kept_in_random_games(rt: HostRuntime) -> Result<(), Fail> {
+    let mut received = 0u64;
+    let mut back = 0u64;
+    for seed in 0..GAMES {
+        let totals = game(&rt, seed)?;
+        received = received.saturating_add(totals.received);
+        back = back.saturating_add(totals.back);
+    }
+    // Rights went both ways, so the games were not idle.
+    assert!(rt; received > 0 && back > 0);
+    Ok(())
+}

@@ -1,0 +1,173 @@
+//! Scripts of calls of desks.
+use crate::tests::calls::{
+    Counted, Reply, ask_line, beat_line, close, expire, give, hear, issue, new_desk, numbered,
+    plan, post, publish, serve, spend, status,
+};
+use crate::tests::readers::{Told, peer_numbers, tell_peer, tell_site};
+use refusing_allocator::Refusing;
+use rights_types::SiteId;
+use std::alloc::{AllocError, AllocGlobal, Global};
+use std::process::Abort;
+use test_kit::requests_of;
+
+/// The desks of a system, whose requests for memory may be refused.
+#[derive(Drop)]
+pub(crate) struct Sites<'a> {
+    memory: &'a Refusing<Global>,
+    desks: Vec<Counted<'a>>,
+}
+
+// The text before the first space, and behind it.
+fn cut(text: &str) -> (&str, &str) {
+    text.split_once(' ').unwrap_or((text, ""))
+}
+
+// The first two numbers that these words spell, 0 where there is none.
+fn numbers(words: &str) -> [u64; 2] {
+    let mut numbers = [0; 2];
+    for (number, word) in numbers.iter_mut().zip(words.split(' ')) {
+        *number = word.parse().unwrap_or(0);
+    }
+    numbers
+}
+
+// Whether a command that is answered so may ask for memory: only entries, lines and frontiers do.
+fn may_ask_for_memory(command: &str, reply: &str) -> bool {
+    let writes = ["number ", "spent ", "served ", "granted ", "denied "]
+        .iter()
+        .any(|word| reply.starts_with(*word));
+    let sends = ["A ", "B ", "E ", "W "]
+        .iter()
+        .any(|word| reply.starts_with(*word));
+    writes && !command.starts_with("status ") || sends || command.contains(" K:")
+}
+
+impl<'a> Sites<'a> {
+    /// So many desks at the start. One that memory is refused to is made again.
+    pub(crate) fn new(
+        rt: &(impl Abort + AllocGlobal),
+        memory: &'a Refusing<Global>,
+        sites: u64,
+    ) -> Result<Sites<'a>, AllocError> {
+        let mut desks = Vec::new(rt.alloc());
+        for index in 0..sites {
+            let refused = memory.refused();
+            let desk = match new_desk(rt, memory, index + 1, sites) {
+                Some(desk) => {
+                    assert_eq!(rt; memory.refused(), refused);
+                    desk
+                }
+                None => {
+                    assert!(rt; memory.refused() && !refused);
+                    new_desk(rt, memory, index + 1, sites).expect(rt, "memory")
+                }
+            };
+            desks.push(desk)?;
+        }
+        Ok(Sites { memory, desks })
+    }
+
+    /// A command that is answered so. Where its memory is refused it says so, and is answered so when it
+    /// comes again. A call that answers an error leaves all that the desks tell as it was.
+    pub(crate) fn step(
+        &mut self,
+        rt: &(impl Abort + AllocGlobal),
+        command: &str,
+        expected: &str,
+    ) -> Result<(), AllocError> {
+        let before = Told::new(rt.alloc(), &self.desks)?;
+        let refused = self.memory.refused();
+        let mut reply = self.say(rt, command)?;
+        if reply.starts_with("error ") {
+            let after = Told::new(rt.alloc(), &self.desks)?;
+            assert!(rt; after.is(&before), "{command}");
+        }
+        if self.memory.refused() != refused {
+            assert_eq!(rt; reply.as_str(), "error OutOfMemory", "{command}");
+            assert!(rt; may_ask_for_memory(command, expected), "{command}");
+            reply = self.say(rt, command)?;
+        }
+        assert_eq!(rt; reply.as_str(), expected, "{command}");
+        Ok(())
+    }
+
+    /// The site hears the next entries of the origin's log, sixteen at most, and answers to them.
+    pub(crate) fn catch_up(
+        &mut self,
+        rt: &(impl Abort + AllocGlobal),
+        site: u64,
+        origin: u64,
+    ) -> Reply {
+        let first = self.applied(rt, site, origin).saturating_add(1);
+        let query = format!(in rt.alloc(); "hear {origin} Q {site} {origin} {first} 1000000000")?;
+        let answer = self.say(rt, &query)?;
+        let answer = format!(in rt.alloc(); "hear {site} {answer}")?;
+        self.say(rt, &answer)
+    }
+
+    fn applied(&self, rt: &impl Abort, site: u64, origin: u64) -> u64 {
+        let desk = self.desks.get(site.wrapping_sub(1) as usize);
+        let origin = SiteId::new(origin).ok().expect(rt, "an origin");
+        let [applied, ..] = peer_numbers(desk.expect(rt, "a desk"), origin);
+        applied
+    }
+
+    /// The desks, by number.
+    pub(crate) fn desks(&self) -> &[Counted<'a>] {
+        &self.desks
+    }
+
+    /// What a command is answered.
+    pub(crate) fn say(&mut self, rt: &(impl Abort + AllocGlobal), command: &str) -> Reply {
+        let alloc = rt.alloc();
+        let (verb, rest) = cut(command);
+        let (site, words) = cut(rest);
+        let index = site.parse::<usize>().unwrap_or(0);
+        let desk = self
+            .desks
+            .get_mut(index.wrapping_sub(1))
+            .expect(rt, "a desk");
+        let [first, second] = numbers(words);
+        let peer = SiteId::new(first).ok();
+        match (verb, peer) {
+            ("post", _) => post(alloc, desk, words),
+            ("issue", _) => numbered(alloc, "number", issue(desk, first)),
+            ("spend", _) => spend(alloc, desk, first, second),
+            ("serve", _) => serve(alloc, desk),
+            ("expire", _) => numbered(alloc, "expired", expire(desk, first)),
+            ("status", _) => status(alloc, desk, first),
+            ("plan", _) => numbered(alloc, "asks", plan(desk)),
+            ("close", _) => numbered(alloc, "number", close(desk, peer)),
+            ("hear", _) => hear(rt, alloc, desk, words),
+            ("site", _) => tell_site(alloc, desk),
+            ("give", Some(peer)) => numbered(alloc, "number", give(desk, peer, second)),
+            ("ask", Some(peer)) => ask_line(alloc, desk, peer),
+            ("publish", Some(peer)) => publish(alloc, desk, peer),
+            ("beat", Some(peer)) => beat_line(alloc, desk, peer),
+            ("peer", Some(peer)) => tell_peer(alloc, desk, peer),
+            _ => String::from_str(alloc, "no command"),
+        }
+    }
+}
+
+/// Plays a script with each request for memory refused in turn, and then with none refused. Answers how many
+/// requests the desks make.
+pub(crate) fn plays(rt: &(impl Abort + AllocGlobal), sites: u64, script: &str) -> u64 {
+    let requests = requests_of(rt.alloc(), |memory| play(rt, memory, sites, script).is_ok());
+    requests.expect(rt, "a script")
+}
+
+// Each line of a script is a command, and behind ` > ` what it is answered.
+fn play(
+    rt: &(impl Abort + AllocGlobal),
+    memory: &Refusing<Global>,
+    sites: u64,
+    script: &str,
+) -> Result<(), AllocError> {
+    let mut sites = Sites::new(rt, memory, sites)?;
+    for line in script.lines() {
+        let (command, reply) = line.split_once(" > ").unwrap_or((line, ""));
+        sites.step(rt, command, reply)?;
+    }
+    Ok(())
+}

@@ -1,0 +1,79 @@
+//! Sixteen sites that close one after the other.
+use crate::tests::balance::Totals;
+use crate::tests::sites::Sites;
+use refusing_allocator::Refusing;
+use std::alloc::{AllocError, AllocGlobal};
+use std::process::Abort;
+use std::test::Fail;
+
+// Each site issues rights, spends one and gives some to each other site. Some of these gifts arrive.
+fn give_all_round(rt: &(impl Abort + AllocGlobal), sites: &mut Sites) -> Result<(), AllocError> {
+    for site in 1..=16u64 {
+        say(rt, sites, format!(in rt.alloc(); "post {site} I:1000 S:1")?)?;
+        for peer in 1..=16u64 {
+            let amount = site.saturating_add(peer);
+            say(
+                rt,
+                sites,
+                format!(in rt.alloc(); "give {site} {peer} {amount}")?,
+            )?;
+        }
+    }
+    for site in 1..=16u64 {
+        for origin in 1..=16u64 {
+            if site != origin && site.saturating_add(origin) % 3 != 0 {
+                let _ = sites.catch_up(rt, site, origin)?;
+            }
+        }
+    }
+    Ok(())
+}
+
+fn say(
+    rt: &(impl Abort + AllocGlobal),
+    sites: &mut Sites,
+    command: String,
+) -> Result<(), AllocError> {
+    let _ = sites.say(rt, &command)?;
+    Ok(())
+}
+
+// The site closes, and every other one applies its whole log, if it has not closed itself.
+fn retire(rt: &(impl Abort + AllocGlobal), sites: &mut Sites, site: u64) -> Result<(), AllocError> {
+    let heir = site.saturating_add(1);
+    let command = if site % 2 == 1 {
+        format!(in rt.alloc(); "close {site} {heir}")
+    } else {
+        format!(in rt.alloc(); "close {site}")
+    }?;
+    let reply = sites.say(rt, &command)?;
+    assert!(rt; reply.starts_with("number "), "{command}");
+    for _ in 0..4u8 {
+        for other in 1..=16u64 {
+            if other != site {
+                let _ = sites.catch_up(rt, other, site)?;
+            }
+        }
+    }
+    Ok(())
+}
+
+/// Each gives what it holds to the next one, or keeps it, and the others take back what it did not receive.
+/// At each moment rights held, spent and on the way are those issued.
+#[test]
+fn sixteen_sites_close_in_turn(rt: HostRuntime) -> Result<(), Fail> {
+    let memory = Refusing::new(rt.alloc(), u64::MAX);
+    let mut sites = Sites::new(&rt, &memory, 16)?;
+    give_all_round(&rt, &mut sites)?;
+    for site in 1..=16u64 {
+        retire(&rt, &mut sites, site)?;
+        let totals = Totals::of(sites.desks()).expect(&rt, "kept rights");
+        assert!(rt; totals.are_even(), "site {site}");
+        assert_eq!(rt; (totals.issued, totals.spent), (16_000, 16), "site {site}");
+        // Each gift to a site that closes arrived before, or comes back.
+        assert!(rt; totals.back > 0);
+    }
+    let totals = Totals::of(sites.desks()).expect(&rt, "kept rights");
+    assert_eq!(rt; (totals.held, totals.way), (15_984, 0));
+    Ok(())
+}

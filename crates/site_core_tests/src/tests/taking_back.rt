@@ -1,0 +1,64 @@
+//! How much of its log a site reads to take back.
+use crate::tests::sites::Sites;
+use refusing_allocator::Refusing;
+use std::alloc::{AllocError, AllocGlobal};
+use std::process::Abort;
+use std::test::Fail;
+
+// Whether so many requests serve site 1, which gives a right to site 2 by each of its entries, and hears at
+// last that it closed, if it does.
+fn serve(
+    rt: &(impl Abort + AllocGlobal),
+    requests: u64,
+    entries: u64,
+    closing: Option<&str>,
+) -> Result<bool, AllocError> {
+    let memory = Refusing::new(rt.alloc(), requests);
+    let mut sites = Sites::new(rt, &memory, 2)?;
+    for _ in 0..entries {
+        let _ = sites.say(rt, "post 1 I:1 R:2:1")?;
+    }
+    if let Some(line) = closing {
+        let _ = sites.say(rt, line)?;
+    }
+    Ok(!memory.refused())
+}
+
+// How many requests serve it, which are fewer than 8,192.
+fn requests_for(
+    rt: &(impl Abort + AllocGlobal),
+    entries: u64,
+    closing: Option<&str>,
+) -> Result<u64, AllocError> {
+    let mut least = 0u64;
+    let mut step = 4096u64;
+    for _ in 0..13u8 {
+        if !serve(
+            rt,
+            least.saturating_add(step).saturating_sub(1),
+            entries,
+            closing,
+        )? {
+            least = least.saturating_add(step);
+        }
+        step /= 2;
+    }
+    Ok(least)
+}
+
+/// A site reads the entries beyond the frontier and one more, each by one request for memory, however many
+/// stand before. One request is for the entry that takes back.
+#[test]
+fn only_what_lies_beyond_is_read(rt: HostRuntime) -> Result<(), Fail> {
+    for entries in [5u64, 1000] {
+        let written = requests_for(&rt, entries, None)?;
+        for beyond in 1..=4u64 {
+            let number = entries.saturating_sub(beyond).saturating_mul(2);
+            let closing = format!(in rt.alloc(); "hear 1 E 2 0 1 K:{number}:0")?;
+            let requests = requests_for(&rt, entries, Some(&closing))?;
+            let wanted = written.saturating_add(beyond).saturating_add(2);
+            assert_eq!(rt; requests, wanted, "{beyond} of {entries}");
+        }
+    }
+    Ok(())
+}
