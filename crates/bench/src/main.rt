@@ -3,6 +3,7 @@
 
 mod buffer;
 mod codec;
+mod desk;
 mod lane;
 mod log;
 
@@ -14,6 +15,7 @@ fn main(rt: HostRuntime) -> io::Result<()> {
         Some(word) if word.as_str() == "buffer" => buffer::measure_all(&rt),
         Some(word) if word.as_str() == "log" => log::measure_all(&rt),
         Some(word) if word.as_str() == "lane" => lane::measure_all(&rt),
-        _ => println!(rt; "usage: bench codec|buffer|log|lane"),
+        Some(word) if word.as_str() == "desk" => desk::measure_all(&rt),
+        _ => println!(rt; "usage: bench codec|buffer|log|lane|desk"),
     }
 }
