@@ -1,0 +1,184 @@
+//! Steps of a script that belong together and lead to states that are rare otherwise.
+use crate::maker::{Maker, Wanted};
+use rights_types::OutOfMemory;
+
+type Added = Result<(), OutOfMemory>;
+
+impl Maker {
+    /// Adds a few commands that belong together.
+    pub(crate) fn story(&mut self) -> Added {
+        match self.numbers.below(18) {
+            0 => self.flood(),
+            1..=3 => self.drain(),
+            4..=8 => self.ask_round(),
+            9..=12 => self.heal(),
+            13 | 14 => self.crowd(),
+            _ => self.retire(),
+        }
+    }
+
+    // The last packet arrives where it should.
+    fn deliver_last(&mut self) -> Added {
+        let packet = self.sent();
+        self.arrive_at(self.addressee(packet), packet)
+    }
+
+    // More entries arrive than are held, as the first of them does not; then the gap is closed.
+    fn flood(&mut self) -> Added {
+        if self.left < 260 {
+            return self.heal();
+        }
+        let (s, p) = self.link_for(Wanted::Open);
+        let count = self.numbers.between(65, 72);
+        for _ in 0..count {
+            self.add(format!(in self.alloc; "issue {s} 1")?.as_bytes())?;
+        }
+        let before = self.sent();
+        for _ in 0..count.saturating_add(4) {
+            self.publish_to(s, p)?;
+        }
+        let lost = self.numbers.between(1, 2);
+        for packet in before.saturating_add(lost).saturating_add(1)..=self.sent() {
+            self.arrive_at(p, packet)?;
+        }
+        for _ in 0..self.numbers.between(1, 5) {
+            self.heal_link(p, s)?;
+        }
+        Ok(())
+    }
+
+    // What was not published is, what did not arrive does, and all is taken.
+    fn drain(&mut self) -> Added {
+        for _ in 0..self.numbers.between(2, 12) {
+            let Some((s, p)) = self.link_if(Wanted::Publishable) else {
+                break;
+            };
+            self.publish_to(s, p)?;
+        }
+        for _ in 0..self.numbers.between(2, 12) {
+            if self.fresh.is_empty() {
+                break;
+            }
+            let packet = self.fresh.remove(0);
+            self.arrive_at(self.addressee(packet), packet)?;
+        }
+        for _ in 0..self.numbers.between(2, 12) {
+            let Some((s, o)) = self.link_if(Wanted::Takeable) else {
+                break;
+            };
+            self.take_from(s, o)?;
+        }
+        Ok(())
+    }
+
+    // A site issues rights, and another one hears of it.
+    fn enrich(&mut self, s: u64, p: u64) -> Added {
+        let n = self.numbers.between(5, 40);
+        self.add(format!(in self.alloc; "issue {s} {n}")?.as_bytes())?;
+        self.publish_to(s, p)?;
+        self.deliver_last()?;
+        self.take_from(p, s)
+    }
+
+    // A site lacks rights, asks, and is given some or none.
+    fn ask_round(&mut self) -> Added {
+        let (s, p) = self.link_for(Wanted::Rich);
+        if self.numbers.hits(60) {
+            self.expire_all(p)?;
+        }
+        if self.numbers.hits(60) {
+            self.enrich(p, s)?;
+        }
+        self.queue(s)?;
+        if self.numbers.hits(15) {
+            self.queue(p)?;
+        }
+        self.plan_at(s)?;
+        self.ask_of(s, p)?;
+        for _ in 0..self.numbers.between(1, 2) {
+            let packet = self.packet_like(b'W');
+            self.arrive_at(self.addressee(packet), packet)?;
+        }
+        self.deliver_last()?;
+        for _ in 0..self.numbers.between(1, 3) {
+            self.publish_to(p, s)?;
+            self.deliver_last()?;
+        }
+        for _ in 0..self.numbers.between(1, 4) {
+            self.take_from(s, p)?;
+        }
+        self.serve_at(s)
+    }
+
+    fn heal_link(&mut self, s: u64, o: u64) -> Added {
+        if self.numbers.hits(50) {
+            self.add(format!(in self.alloc; "requery {s} {o}")?.as_bytes())?;
+        } else {
+            self.add(format!(in self.alloc; "query {s} {o}")?.as_bytes())?;
+        }
+        self.deliver_last()?;
+        self.deliver_last()
+    }
+
+    // A site hears how far a log goes, asks for what it lacks, and gets it.
+    fn heal(&mut self) -> Added {
+        let wanted = self.mostly(60, Wanted::Gapped);
+        let (s, o) = self.link_for(wanted);
+        self.add(format!(in self.alloc; "beat {o} {s}")?.as_bytes())?;
+        self.deliver_last()?;
+        self.heal_link(s, o)?;
+        for _ in 0..self.numbers.between(0, 6) {
+            self.take_from(s, o)?;
+        }
+        Ok(())
+    }
+
+    // More requests come than there are slots.
+    fn crowd(&mut self) -> Added {
+        if self.left < 100 {
+            return self.drain();
+        }
+        let s = self.site_for(Wanted::Open);
+        for _ in 0..self.numbers.between(24, 38) {
+            self.queue(s)?;
+        }
+        for _ in 0..self.numbers.between(0, 6) {
+            let p = self.peer_of(s);
+            self.enrich(p, s)?;
+            self.serve_at(s)?;
+        }
+        if self.numbers.hits(80) {
+            self.expire_all(s)?;
+        }
+        Ok(())
+    }
+
+    // A site closes with rights on their way to it, and what it did not apply is taken back.
+    fn retire(&mut self) -> Added {
+        if !self.may_close() {
+            return self.ask_round();
+        }
+        let (s, c) = self.link_for(Wanted::Open);
+        for _ in 0..self.numbers.between(1, 4) {
+            let n = self.numbers.between(1, 9);
+            self.add(format!(in self.alloc; "issue {s} {n}")?.as_bytes())?;
+            self.add(format!(in self.alloc; "give {s} {c} {n}")?.as_bytes())?;
+        }
+        for _ in 0..self.numbers.between(0, 5) {
+            self.publish_to(s, c)?;
+            self.deliver_last()?;
+            self.take_from(c, s)?;
+        }
+        self.expire_all(c)?;
+        if self.numbers.hits(40) {
+            let heir = self.peer_of(c);
+            self.add(format!(in self.alloc; "close {c} {heir}")?.as_bytes())?;
+        } else {
+            self.add(format!(in self.alloc; "close {c}")?.as_bytes())?;
+        }
+        for _ in 0..self.numbers.between(0, 3) {
+            self.publish_to(c, s)?;
+        }
+        self.drain()
+    }
+}

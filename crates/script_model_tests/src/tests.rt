@@ -1,0 +1,3 @@
+//! The model by its two calls alone.
+mod examples;
+mod made;
