@@ -5,3 +5,4 @@ mod checks;
 mod examples;
 mod memory;
 mod sites;
+mod told;

@@ -1,11 +1,13 @@
 //! Calls of a book that are made only where its own answers allow them.
 ghost use Rattle.std.specs.Prelude.{◌≡◌, ◌≤◌, length};
 ghost use Rattle.rights_types.specs.Moves.{take_back_from};
+ghost use Rattle.rights_types.specs.Ranges.{IsSite};
 ghost use Rattle.rights_types.specs.Rights.{back};
 
-use rights_book::Book;
+use rights_book::{Book, BookError};
 use rights_types::{Entry, MAX_MOVES, MAX_NUMBER, MAX_SITES, MAX_TOTAL, Move, SiteId};
-use std::alloc::Allocator;
+use std::alloc::{AllocGlobal, Allocator};
+use test_kit::site;
 
 /// Writes the moves as the next entry of the book's site, if it may.
 pub(crate) fn write<A: Allocator>(book: &mut Book<A>, moves: &[Move]) -> bool {
@@ -31,12 +33,8 @@ pub(crate) fn write<A: Allocator>(book: &mut Book<A>, moves: &[Move]) -> bool {
     true
 }
 
-/// Applies the entry as the origin's next one, if it is.
-pub(crate) fn apply<A: Allocator, B: Allocator>(
-    book: &mut Book<A>,
-    origin: SiteId,
-    entry: &Entry<B>,
-) -> bool {
+// Applies the entry as the origin's next one, if it is.
+fn apply<A: Allocator, B: Allocator>(book: &mut Book<A>, origin: SiteId, entry: &Entry<B>) -> bool {
     let me = book.me();
     if origin.number() > book.sites() || origin == me {
         return false;
@@ -46,6 +44,31 @@ pub(crate) fn apply<A: Allocator, B: Allocator>(
     }
     book.apply(origin, entry);
     true
+}
+
+/// Applies the entry of these moves behind a number as the origin's next one, if it is.
+pub(crate) fn applies<A: Allocator>(
+    rt: &impl AllocGlobal,
+    book: &mut Book<A>,
+    origin: u64,
+    prev: u64,
+    moves: &[Move],
+) -> bool
+    requires { IsSite origin }
+{
+    let origin = site(origin);
+    let Ok(moves) = Vec::from_slice(rt.alloc(), moves) else {
+        return false;
+    };
+    let Ok(entry) = Entry::new(origin, prev, moves) else {
+        return false;
+    };
+    apply(book, origin, &entry)
+}
+
+/// Why a book refuses these moves, if it does.
+pub(crate) fn refusal<A: Allocator>(book: &Book<A>, moves: &[Move]) -> Option<BookError> {
+    book.check(moves).err()
 }
 
 // What these moves take back from the site.

@@ -1,75 +1,57 @@
 //! What `check` refuses, and in which order.
-use crate::tests::calls::{apply, write};
-use rights_book::{Book, BookError};
-use rights_types::{Move, SiteId};
-use std::test::Fail;
-use test_kit::{entry, give, issue, spend, take_back};
+use crate::tests::calls::{applies, refusal, write};
+use crate::tests::told::{Told, UNTOLD, held, new_book, told_of};
+use rights_book::BookError;
+use rights_types::Move;
+use test_kit::{give, issue, spend, take_back};
 
 /// Each test goes over all moves before the next one begins.
 #[test]
-fn refuses_in_order(rt: HostRuntime) -> Result<(), Fail> {
-    let alloc = rt.alloc();
-    let (one, two, three) = (SiteId::new(1)?, SiteId::new(2)?, SiteId::new(3)?);
-    let mut book = Book::new(alloc, one, 2)?;
-    assert!(rt; apply(&mut book, two, &entry(alloc, 2, 0, &[Move::Close])?));
-    let short = spend(1);
-    let closed = give(2, 1);
-    let same = give(1, 1);
-    let none = take_back(3, 1);
-    assert_eq!(rt;
-        book.check(&[short, closed, same, none]),
-        Err(BookError::NoSuchSite)
-    );
-    assert_eq!(rt;
-        book.check(&[short, closed, same]),
-        Err(BookError::SameSite)
-    );
-    assert_eq!(rt; book.check(&[short, closed]), Err(BookError::PeerClosed));
-    assert_eq!(rt; book.check(&[short]), Err(BookError::Short));
-    assert_eq!(rt; book.check(&[issue(1), short]), Ok(()));
-    assert_eq!(rt; book.check(&[]), Ok(()));
-    Ok(())
+fn refuses_in_order(rt: HostRuntime) {
+    let mut book = new_book(&rt, 1, 2);
+    assert!(rt; applies(&rt, &mut book, 2, 0, &[Move::Close]));
+    let moves = [spend(1), give(2, 1), give(1, 1), take_back(3, 1)];
+    assert!(rt; refusal(&book, &moves) == Some(BookError::NoSuchSite));
+    assert!(rt; refusal(&book, &moves[..3]) == Some(BookError::SameSite));
+    assert!(rt; refusal(&book, &moves[..2]) == Some(BookError::PeerClosed));
+    assert!(rt; refusal(&book, &moves[..1]) == Some(BookError::Short));
+    assert!(rt; refusal(&book, &[issue(1), spend(1)]).is_none());
+    assert!(rt; refusal(&book, &[]).is_none());
 }
 
 /// Rights are counted move by move.
 #[test]
-fn counts_rights_in_order(rt: HostRuntime) -> Result<(), Fail> {
-    let (one, two) = (SiteId::new(1)?, SiteId::new(2)?);
-    let mut book = Book::new(rt.alloc(), one, 2)?;
+fn counts_rights_in_order(rt: HostRuntime) {
+    let mut book = new_book(&rt, 1, 2);
     assert!(rt; write(&mut book, &[issue(5), give(2, 2)]));
-    assert_eq!(rt; book.check(&[spend(3)]), Ok(()));
-    assert_eq!(rt; book.check(&[spend(4)]), Err(BookError::Short));
-    assert_eq!(rt; book.check(&[spend(2), give(2, 1)]), Ok(()));
-    assert_eq!(rt; book.check(&[spend(2), give(2, 2)]), Err(BookError::Short));
-    assert_eq!(rt; book.check(&[spend(4), issue(4)]), Err(BookError::Short));
-    assert_eq!(rt; book.check(&[take_back(2, 2), spend(5)]), Ok(()));
-    assert_eq!(rt; book.check(&[Move::Close, spend(3)]), Ok(()));
-    assert_eq!(rt; book.number(), 2);
-    assert_eq!(rt; book.held(), 3);
-    Ok(())
+    let covered: [&[Move]; 4] = [
+        &[spend(3)],
+        &[spend(2), give(2, 1)],
+        &[take_back(2, 2), spend(5)],
+        &[Move::Close, spend(3)],
+    ];
+    for moves in &covered {
+        assert!(rt; refusal(&book, moves).is_none());
+    }
+    let short: [&[Move]; 3] = [&[spend(4)], &[spend(2), give(2, 2)], &[spend(4), issue(4)]];
+    for moves in &short {
+        assert!(rt; refusal(&book, moves) == Some(BookError::Short));
+    }
+    assert!(rt; held(&book) == 3);
 }
 
 /// Of a site that the system does not have nothing is known.
 #[test]
-fn knows_nothing_of_other_systems(rt: HostRuntime) -> Result<(), Fail> {
-    let (two, nine) = (SiteId::new(2)?, SiteId::new(9)?);
-    let alloc = rt.alloc();
-    let mut book = Book::new(alloc, SiteId::new(1)?, 2)?;
-    assert!(rt;
-        apply(
-            &mut book,
-            two,
-            &entry(alloc, 2, 0, &[issue(5), give(9, 3)])?
-        )
-    );
-    assert_eq!(rt; book.me().number(), 1);
-    assert_eq!(rt; book.sites(), 2);
-    assert_eq!(rt; book.known(two), 2);
-    assert_eq!(rt; book.known(nine), 0);
-    assert_eq!(rt; book.applied(nine), 0);
-    assert_eq!(rt; book.received_from(nine), 0);
-    assert_eq!(rt; book.given_to(nine), 0);
-    assert_eq!(rt; book.back(nine), 0);
-    assert!(rt; !book.closed(nine));
-    Ok(())
+fn knows_nothing_of_other_systems(rt: HostRuntime) {
+    let mut book = new_book(&rt, 1, 2);
+    assert!(rt; applies(&rt, &mut book, 2, 0, &[issue(5), give(9, 3)]));
+    assert!(rt; book.me().number() == 1);
+    assert!(rt; book.sites() == 2);
+    let told = Told {
+        known: 2,
+        applied: 2,
+        ..UNTOLD
+    };
+    assert!(rt; told_of(&book, 2) == told);
+    assert!(rt; told_of(&book, 9) == UNTOLD);
 }

@@ -1,153 +1,213 @@
 //! Books of sites that issue, spend, give, close and take back.
-use crate::tests::calls::{apply, write};
-use rights_book::{Book, BookError};
-use rights_types::SiteId;
-use std::test::Fail;
-use test_kit::{close_at, entry, give, grant, issue, spend, take_back};
+use crate::tests::calls::{applies, refusal, write};
+use crate::tests::told::{
+    NO_TOTALS, Told, Totals, UNTOLD, held, known, new_book, told_of, totals_of,
+};
+use rights_book::BookError;
+use rights_types::TypeError;
+use test_kit::{close_at, give, grant, issue, spend, take_back};
 
 /// A site's spend may come before the gift that it used.
 #[test]
-fn known_of_gifts_not_yet_applied(rt: HostRuntime) -> Result<(), Fail> {
-    let alloc = rt.alloc();
-    let (one, two) = (SiteId::new(1)?, SiteId::new(2)?);
-    let mut book = Book::new(alloc, SiteId::new(3)?, 3)?;
-    assert!(rt; apply(&mut book, two, &entry(alloc, 2, 0, &[spend(6)])?));
-    assert_eq!(rt; book.known(two), -6);
-    assert_eq!(rt; book.known(one), 0);
-    assert!(rt;
-        apply(
-            &mut book,
-            one,
-            &entry(alloc, 1, 0, &[issue(10), give(2, 6)])?
-        )
-    );
-    assert_eq!(rt; book.known(one), 4);
-    assert_eq!(rt; book.known(two), 0);
-    assert_eq!(rt; book.held(), 0);
-    Ok(())
+fn known_of_gifts_not_yet_applied(rt: HostRuntime) {
+    let mut book = new_book(&rt, 3, 3);
+    assert!(rt; applies(&rt, &mut book, 2, 0, &[spend(6)]));
+    assert!(rt; known(&book, 2) == -6);
+    assert!(rt; known(&book, 1) == 0);
+    assert!(rt; applies(&rt, &mut book, 1, 0, &[issue(10), give(2, 6)]));
+    assert!(rt; known(&book, 1) == 4);
+    assert!(rt; known(&book, 2) == 0);
+    assert!(rt; held(&book) == 0);
 }
 
 /// One entry issues, spends and gives; the other site applies it.
 #[test]
-fn gives_what_is_held(rt: HostRuntime) -> Result<(), Fail> {
-    let alloc = rt.alloc();
-    let (one, two) = (SiteId::new(1)?, SiteId::new(2)?);
+fn gives_what_is_held(rt: HostRuntime) {
     let moves = [issue(10), spend(4), give(2, 3)];
-    let mut first = Book::new(alloc, one, 2)?;
+    let mut first = new_book(&rt, 1, 2);
     assert!(rt; write(&mut first, &moves));
-    assert_eq!(rt; first.number(), 3);
-    assert_eq!(rt; first.issued(), 10);
-    assert_eq!(rt; first.spent(), 4);
-    assert_eq!(rt; first.given_to(two), 3);
-    assert_eq!(rt; first.held(), 3);
-    assert_eq!(rt; first.known(one), 3);
-    assert_eq!(rt; first.known(two), 3);
-    let mut second = Book::new(alloc, two, 2)?;
-    assert!(rt; apply(&mut second, one, &entry(alloc, 1, 0, &moves)?));
-    assert_eq!(rt; second.applied(one), 3);
-    assert_eq!(rt; second.received_from(one), 3);
-    assert_eq!(rt; second.received(), 3);
-    assert_eq!(rt; second.held(), 3);
-    assert_eq!(rt; second.known(one), 3);
-    assert_eq!(rt; second.number(), 0);
-    Ok(())
+    let totals = Totals {
+        number: 3,
+        issued: 10,
+        spent: 4,
+        given: 3,
+        held: 3,
+        ..NO_TOTALS
+    };
+    assert!(rt; totals_of(&first) == totals);
+    assert!(rt; told_of(&first, 1) == Told { known: 3, ..UNTOLD });
+    assert!(rt;
+        told_of(&first, 2)
+            == Told {
+                known: 3,
+                given: 3,
+                ..UNTOLD
+            }
+    );
+    let mut second = new_book(&rt, 2, 2);
+    assert!(rt; applies(&rt, &mut second, 1, 0, &moves));
+    assert!(rt;
+        totals_of(&second)
+            == Totals {
+                received: 3,
+                held: 3,
+                ..NO_TOTALS
+            }
+    );
+    let told = Told {
+        known: 3,
+        applied: 3,
+        received: 3,
+        ..UNTOLD
+    };
+    assert!(rt; told_of(&second, 1) == told);
 }
 
 /// A site asks, is granted, and spends.
 #[test]
-fn spends_what_was_granted(rt: HostRuntime) -> Result<(), Fail> {
-    let alloc = rt.alloc();
-    let (one, two) = (SiteId::new(1)?, SiteId::new(2)?);
-    let mut second = Book::new(alloc, two, 2)?;
-    assert!(rt; apply(&mut second, one, &entry(alloc, 1, 0, &[issue(10)])?));
-    assert_eq!(rt; second.known(one), 10);
+fn spends_what_was_granted(rt: HostRuntime) {
+    let mut second = new_book(&rt, 2, 2);
+    assert!(rt; applies(&rt, &mut second, 1, 0, &[issue(10)]));
+    assert!(rt; known(&second, 1) == 10);
     assert!(rt; !write(&mut second, &[spend(6)]));
-    let first_grant = entry(alloc, 1, 1, &[grant(2, 6, 1)])?;
-    assert!(rt; apply(&mut second, one, &first_grant));
-    assert!(rt; !apply(&mut second, one, &first_grant));
-    assert_eq!(rt; second.applied(one), 2);
-    assert_eq!(rt; second.held(), 6);
+    let granted = [grant(2, 6, 1)];
+    assert!(rt; applies(&rt, &mut second, 1, 1, &granted));
+    assert!(rt; !applies(&rt, &mut second, 1, 1, &granted));
+    assert!(rt; held(&second) == 6);
     assert!(rt; write(&mut second, &[spend(6)]));
-    assert_eq!(rt; second.held(), 0);
-    assert_eq!(rt; second.known(two), 0);
-    assert_eq!(rt; second.known(one), 4);
-    let mut first = Book::new(alloc, one, 2)?;
+    let totals = Totals {
+        number: 1,
+        spent: 6,
+        received: 6,
+        ..NO_TOTALS
+    };
+    assert!(rt; totals_of(&second) == totals);
+    let told = Told {
+        known: 4,
+        applied: 2,
+        received: 6,
+        ..UNTOLD
+    };
+    assert!(rt; told_of(&second, 1) == told);
+    assert!(rt; told_of(&second, 2) == UNTOLD);
+}
+
+/// The site that grants keeps the rest.
+#[test]
+fn grants_what_is_held(rt: HostRuntime) {
+    let mut first = new_book(&rt, 1, 2);
     assert!(rt; write(&mut first, &[issue(10)]));
     assert!(rt; write(&mut first, &[grant(2, 6, 1)]));
-    assert_eq!(rt; first.held(), 4);
-    assert_eq!(rt; first.known(two), 6);
-    Ok(())
+    assert!(rt; held(&first) == 4);
+    assert!(rt; known(&first, 2) == 6);
 }
 
 /// Two sites have what a third one lacks.
 #[test]
-fn knows_what_others_hold(rt: HostRuntime) -> Result<(), Fail> {
-    let alloc = rt.alloc();
-    let (one, two, three) = (SiteId::new(1)?, SiteId::new(2)?, SiteId::new(3)?);
-    let mut book = Book::new(alloc, two, 3)?;
-    assert!(rt; apply(&mut book, one, &entry(alloc, 1, 0, &[issue(4)])?));
-    assert!(rt; apply(&mut book, three, &entry(alloc, 3, 0, &[issue(4)])?));
-    assert_eq!(rt; book.known(one), 4);
-    assert_eq!(rt; book.known(two), 0);
-    assert_eq!(rt; book.known(three), 4);
-    assert_eq!(rt; book.held(), 0);
-    let mut late = Book::new(alloc, three, 3)?;
-    assert!(rt; apply(&mut late, two, &entry(alloc, 2, 0, &[spend(6)])?));
-    assert_eq!(rt; late.known(two), -6);
-    assert_eq!(rt; late.known(one), 0);
+fn knows_what_others_hold(rt: HostRuntime) {
+    let mut book = new_book(&rt, 2, 3);
+    assert!(rt; applies(&rt, &mut book, 1, 0, &[issue(4)]));
+    assert!(rt; applies(&rt, &mut book, 3, 0, &[issue(4)]));
+    assert!(rt; known(&book, 1) == 4);
+    assert!(rt; known(&book, 2) == 0);
+    assert!(rt; known(&book, 3) == 4);
+    assert!(rt; held(&book) == 0);
+}
+
+/// A site closes with an heir: its log takes nothing more.
+#[test]
+fn closes_with_an_heir(rt: HostRuntime) -> Result<(), TypeError> {
+    let last = [give(2, 3), close_at(&[0, 0])?];
+    let mut first = new_book(&rt, 1, 2);
+    assert!(rt; write(&mut first, &[issue(10), spend(4), give(2, 3)]));
+    assert!(rt; write(&mut first, &last));
+    let totals = Totals {
+        number: 5,
+        issued: 10,
+        spent: 4,
+        given: 6,
+        ..NO_TOTALS
+    };
+    assert!(rt; totals_of(&first) == totals);
+    assert!(rt;
+        told_of(&first, 1)
+            == Told {
+                closed: true,
+                ..UNTOLD
+            }
+    );
+    assert!(rt; !write(&mut first, &[issue(1)]));
     Ok(())
 }
 
-/// A site closes with an heir: nothing more is applied of it, and nothing is given to it.
+/// Nothing more is applied of a site that closed, and nothing is given to it.
 #[test]
-fn nothing_is_given_to_a_closed_site(rt: HostRuntime) -> Result<(), Fail> {
-    let alloc = rt.alloc();
-    let (one, two) = (SiteId::new(1)?, SiteId::new(2)?);
-    let moves = [issue(10), spend(4), give(2, 3)];
+fn nothing_is_given_to_a_closed_site(rt: HostRuntime) -> Result<(), TypeError> {
     let last = [give(2, 3), close_at(&[0, 0])?];
-    let mut first = Book::new(alloc, one, 2)?;
-    assert!(rt; write(&mut first, &moves));
-    assert!(rt; write(&mut first, &last));
-    assert_eq!(rt; first.number(), 5);
-    assert_eq!(rt; first.held(), 0);
-    assert!(rt; first.closed(one));
-    assert!(rt; !write(&mut first, &[issue(1)]));
-    let mut second = Book::new(alloc, two, 2)?;
-    assert!(rt; apply(&mut second, one, &entry(alloc, 1, 0, &moves)?));
-    assert!(rt; !second.closed(one));
-    assert!(rt; apply(&mut second, one, &entry(alloc, 1, 3, &last)?));
-    assert!(rt; second.closed(one));
-    assert!(rt; !apply(&mut second, one, &entry(alloc, 1, 5, &[issue(1)])?));
-    assert_eq!(rt; second.applied(one), 5);
-    assert_eq!(rt; second.held(), 6);
-    assert_eq!(rt; second.check(&[give(1, 1)]), Err(BookError::PeerClosed));
-    assert_eq!(rt; second.check(&[take_back(1, 1)]), Ok(()));
+    let mut second = new_book(&rt, 2, 2);
+    assert!(rt; applies(&rt, &mut second, 1, 0, &[issue(10), spend(4), give(2, 3)]));
+    assert!(rt; !told_of(&second, 1).closed);
+    assert!(rt; applies(&rt, &mut second, 1, 3, &last));
+    assert!(rt; !applies(&rt, &mut second, 1, 5, &[issue(1)]));
+    let told = Told {
+        applied: 5,
+        received: 6,
+        closed: true,
+        ..UNTOLD
+    };
+    assert!(rt; told_of(&second, 1) == told);
+    assert!(rt; held(&second) == 6);
+    assert!(rt; refusal(&second, &[give(1, 1)]) == Some(BookError::PeerClosed));
+    assert!(rt; refusal(&second, &[take_back(1, 1)]).is_none());
     Ok(())
 }
 
 /// What was given to a site that closed before it applied the gift is taken back.
 #[test]
-fn takes_back_from_a_closed_site(rt: HostRuntime) -> Result<(), Fail> {
-    let alloc = rt.alloc();
-    let (one, two) = (SiteId::new(1)?, SiteId::new(2)?);
-    let closing = [close_at(&[1, 0])?];
-    let mut first = Book::new(alloc, one, 2)?;
+fn takes_back_from_a_closed_site(rt: HostRuntime) -> Result<(), TypeError> {
+    let mut first = new_book(&rt, 1, 2);
     assert!(rt; write(&mut first, &[issue(10)]));
     assert!(rt; write(&mut first, &[give(2, 4)]));
-    assert!(rt; apply(&mut first, two, &entry(alloc, 2, 0, &closing)?));
-    assert_eq!(rt; first.held(), 6);
+    assert!(rt; applies(&rt, &mut first, 2, 0, &[close_at(&[1, 0])?]));
+    assert!(rt; held(&first) == 6);
     assert!(rt; !write(&mut first, &[take_back(2, 5)]));
     assert!(rt; write(&mut first, &[take_back(2, 4)]));
-    assert_eq!(rt; first.number(), 3);
-    assert_eq!(rt; first.back(two), 4);
-    assert_eq!(rt; first.given_to(two), 4);
-    assert_eq!(rt; first.held(), 10);
-    assert_eq!(rt; first.known(one), 10);
-    let mut second = Book::new(alloc, two, 2)?;
-    assert!(rt; apply(&mut second, one, &entry(alloc, 1, 0, &[issue(10)])?));
-    assert!(rt; write(&mut second, &closing));
-    assert_eq!(rt; second.number(), 1);
-    assert!(rt; second.closed(two));
-    assert_eq!(rt; second.held(), 0);
+    let totals = Totals {
+        number: 3,
+        issued: 10,
+        given: 4,
+        taken_back: 4,
+        held: 10,
+        ..NO_TOTALS
+    };
+    assert!(rt; totals_of(&first) == totals);
+    assert!(rt; known(&first, 1) == 10);
+    // What was given to it counts still, though it was taken back.
+    let told = Told {
+        known: 4,
+        applied: 1,
+        given: 4,
+        back: 4,
+        closed: true,
+        ..UNTOLD
+    };
+    assert!(rt; told_of(&first, 2) == told);
+    Ok(())
+}
+
+/// A site closes with nothing, and no heir.
+#[test]
+fn closes_with_no_heir(rt: HostRuntime) -> Result<(), TypeError> {
+    let mut second = new_book(&rt, 2, 2);
+    assert!(rt; applies(&rt, &mut second, 1, 0, &[issue(10)]));
+    assert!(rt; write(&mut second, &[close_at(&[1, 0])?]));
+    assert!(rt;
+        totals_of(&second)
+            == Totals {
+                number: 1,
+                ..NO_TOTALS
+            }
+    );
+    assert!(rt; told_of(&second, 2).closed);
     Ok(())
 }

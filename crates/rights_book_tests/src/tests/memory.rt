@@ -1,70 +1,70 @@
 //! The book takes its memory once.
-use crate::tests::calls::{apply, write};
+ghost use Rattle.std.specs.Prelude.{◌≤◌};
+
+use crate::tests::calls::{applies, write};
+use crate::tests::told::{NO_TOTALS, UNTOLD, held, known, told_of, totals_of};
 use linked_list_allocator::LocalHeap;
 use refusing_allocator::Refusing;
 use rights_book::Book;
 use rights_types::{MAX_SITES, MIN_SITES, OutOfMemory, SiteId};
-use std::alloc::Allocator;
-use std::process::Abort;
+use std::alloc::{AllocGlobal, Allocator};
 use std::test::Fail;
-use test_kit::{entry, give, issue};
+use test_kit::{give, issue, site};
+
+// Whether no book is made where the first request for memory is refused.
+fn is_refused(rt: &impl AllocGlobal, me: SiteId, sites: u64) -> bool
+    requires system { (MIN_SITES ≤ sites) × (sites ≤ MAX_SITES) }
+    requires member { me ≤ sites }
+{
+    let refusing = Refusing::new(rt.alloc(), 0);
+    let made = Book::new(&refusing, me, sites);
+    made.is_err() && refusing.refused()
+}
+
+// Whether one request makes a book where nothing is booked.
+fn is_made_by_one_request(rt: &impl AllocGlobal, me: SiteId, sites: u64) -> bool
+    requires system { (MIN_SITES ≤ sites) × (sites ≤ MAX_SITES) }
+    requires member { me ≤ sites }
+{
+    let once = Refusing::new(rt.alloc(), 1);
+    let Ok(book) = Book::new(&once, me, sites) else {
+        return false;
+    };
+    !once.refused() && book.me() == me && book.sites() == sites && nothing_booked(&book)
+}
+
+// All that the book tells of its own log and of each site's is 0, and no site has closed.
+fn nothing_booked<A: Allocator>(book: &Book<A>) -> bool {
+    for index in 0..MAX_SITES {
+        if told_of(book, index + 1) != UNTOLD {
+            return false;
+        }
+    }
+    totals_of(book) == NO_TOTALS
+}
 
 /// In a system of each size, each site's book is made by one request for memory, and is refused
 /// where that is.
 #[test]
-fn each_new_book(rt: HostRuntime) -> Result<(), Fail> {
-    let alloc = rt.alloc();
+fn each_new_book(rt: HostRuntime) {
     for sites in MIN_SITES..=MAX_SITES {
         for index in 0..sites {
-            let me = SiteId::known(index + 1);
-            let refusing = Refusing::new(alloc, 0);
-            assert!(rt; Book::new(&refusing, me, sites).err() == Some(OutOfMemory));
-            assert!(rt; refusing.refused());
-            let once = Refusing::new(alloc, 1);
-            let book = Book::new(&once, me, sites)?;
-            assert!(rt; !once.refused());
-            assert_eq!(rt; book.me(), me);
-            assert_eq!(rt; book.sites(), sites);
-            nothing_booked(&rt, &book);
+            let me = site(index + 1);
+            assert!(rt; is_refused(&rt, me, sites));
+            assert!(rt; is_made_by_one_request(&rt, me, sites));
         }
-    }
-    Ok(())
-}
-
-// All that the book tells of its own log and of each site's is 0, and no site has closed.
-fn nothing_booked<A: Allocator>(rt: &impl Abort, book: &Book<A>) {
-    assert_eq!(rt; book.number(), 0);
-    assert_eq!(rt; book.held(), 0);
-    assert_eq!(rt; book.received(), 0);
-    assert_eq!(rt; book.issued(), 0);
-    assert_eq!(rt; book.spent(), 0);
-    assert_eq!(rt; book.given(), 0);
-    assert_eq!(rt; book.taken_back(), 0);
-    for index in 0..MAX_SITES {
-        let site = SiteId::known(index + 1);
-        assert_eq!(rt; book.applied(site), 0);
-        assert_eq!(rt; book.received_from(site), 0);
-        assert_eq!(rt; book.given_to(site), 0);
-        assert_eq!(rt; book.back(site), 0);
-        assert_eq!(rt; book.known(site), 0);
-        assert!(rt; !book.closed(site));
     }
 }
 
 /// A new book asks for memory once, and nothing else does.
 #[test]
-fn asks_for_memory_once(rt: HostRuntime) -> Result<(), Fail> {
-    let alloc = rt.alloc();
-    let (one, two) = (SiteId::new(1)?, SiteId::new(2)?);
-    let refusing = Refusing::new(alloc, 0);
-    assert!(rt; Book::new(&refusing, one, 16).err() == Some(OutOfMemory));
-    assert!(rt; refusing.refused());
-    let once = Refusing::new(alloc, 1);
-    let mut book = Book::new(&once, one, 16)?;
+fn asks_for_memory_once(rt: HostRuntime) -> Result<(), OutOfMemory> {
+    let once = Refusing::new(rt.alloc(), 1);
+    let mut book = Book::new(&once, site(1), 16)?;
     assert!(rt; write(&mut book, &[issue(10), give(2, 4)]));
-    assert!(rt; apply(&mut book, two, &entry(alloc, 2, 0, &[give(1, 1)])?));
-    assert_eq!(rt; book.held(), 7);
-    assert_eq!(rt; book.known(two), 3);
+    assert!(rt; applies(&rt, &mut book, 2, 0, &[give(1, 1)]));
+    assert!(rt; held(&book) == 7);
+    assert!(rt; known(&book, 2) == 3);
     assert!(rt; !once.refused());
     Ok(())
 }
@@ -77,10 +77,10 @@ fn memory_of_its_sites(rt: HostRuntime) -> Result<(), Fail> {
         let bytes: Vec<[u64; 12], &LocalHeap> = Vec::with_capacity(&heap, sites as usize)?;
         let wanted = heap.used();
         assert!(rt; wanted > 0);
-        let book = Book::new(&heap, SiteId::known(1), sites)?;
-        assert_eq!(rt; heap.used().saturating_sub(wanted), wanted);
+        let book = Book::new(&heap, site(1), sites)?;
+        assert!(rt; heap.used().saturating_sub(wanted) == wanted);
         drop(bytes);
-        assert_eq!(rt; book.held(), 0);
+        assert!(rt; held(&book) == 0);
     }
     Ok(())
 }

@@ -1,13 +1,13 @@
 //! A system of sixteen sites.
-use crate::tests::calls::{apply, write};
+use crate::tests::calls::{applies, write};
+use crate::tests::told::{NO_TOTALS, Told, Totals, UNTOLD, new_book, told_of, totals_of};
 use rights_book::Book;
 use rights_types::{MAX_SITES, Move, SiteId};
-use std::alloc::Allocator;
-use std::test::Fail;
-use test_kit::{entry, give, issue};
+use std::alloc::{AllocError, Allocator};
+use test_kit::{give, issue, site};
 
 /// An issue, and a gift of one to each other site.
-fn gifts<A: Allocator>(alloc: A, from: SiteId) -> Result<Vec<Move, A>, Fail> {
+fn gifts<A: Allocator>(alloc: A, from: SiteId) -> Result<Vec<Move, A>, AllocError> {
     let mut moves = Vec::new(alloc);
     moves.push(issue(20))?;
     for index in 0..MAX_SITES {
@@ -19,31 +19,45 @@ fn gifts<A: Allocator>(alloc: A, from: SiteId) -> Result<Vec<Move, A>, Fail> {
     Ok(moves)
 }
 
+// Whether the book knows that each site has 20, and of the others one gift each way.
+fn knows_all<A: Allocator>(book: &Book<A>, me: SiteId) -> bool {
+    for index in 0..MAX_SITES {
+        let gift = if index + 1 == me.number() { 0 } else { 1 };
+        let told = Told {
+            known: 20,
+            applied: 16 * gift,
+            received: gift,
+            given: gift,
+            ..UNTOLD
+        };
+        if told_of(book, index + 1) != told {
+            return false;
+        }
+    }
+    true
+}
+
 /// Sixteen sites give to each other, and each applies what the others gave.
 #[test]
-fn each_gives_to_each(rt: HostRuntime) -> Result<(), Fail> {
-    let alloc = rt.alloc();
+fn each_gives_to_each(rt: HostRuntime) -> Result<(), AllocError> {
+    let totals = Totals {
+        number: 16,
+        issued: 20,
+        given: 15,
+        received: 15,
+        held: 20,
+        ..NO_TOTALS
+    };
     for index in 0..MAX_SITES {
-        let me = SiteId::known(index + 1);
-        let mut book = Book::new(alloc, me, MAX_SITES)?;
-        assert!(rt; write(&mut book, &gifts(alloc, me)?));
+        let me = site(index + 1);
+        let mut book = new_book(&rt, index + 1, MAX_SITES);
+        assert!(rt; write(&mut book, &gifts(rt.alloc(), me)?));
         for other in 0..MAX_SITES {
-            let origin = SiteId::known(other + 1);
-            let next = entry(alloc, other + 1, 0, &gifts(alloc, origin)?)?;
-            assert_eq!(rt; apply(&mut book, origin, &next), origin != me);
+            let moves = gifts(rt.alloc(), site(other + 1))?;
+            assert!(rt; applies(&rt, &mut book, other + 1, 0, &moves) == (other != index));
         }
-        assert_eq!(rt; book.held(), 20);
-        assert_eq!(rt; book.received(), 15);
-        assert_eq!(rt; book.given(), 15);
-        assert_eq!(rt; book.taken_back(), 0);
-        for other in 0..MAX_SITES {
-            let site = SiteId::known(other + 1);
-            let gift = if site == me { 0 } else { 1 };
-            assert_eq!(rt; book.known(site), 20);
-            assert_eq!(rt; book.received_from(site), gift);
-            assert_eq!(rt; book.given_to(site), gift);
-            assert_eq!(rt; book.applied(site), 16 * gift);
-        }
+        assert!(rt; totals_of(&book) == totals);
+        assert!(rt; knows_all(&book, me));
     }
     Ok(())
 }
