@@ -3,6 +3,7 @@
 mod windows;
 
 use crate::buffer::windows::{Order, WINDOW_COUNT, window};
+use crate::rate::per_second;
 use rights_types::{Entry, SiteId};
 use std::io;
 use std::io::ErrorKind;
@@ -25,8 +26,8 @@ fn measure<R: Clock + Print + AllocGlobal>(rt: &R, name: &str, order: Order) -> 
     for _ in 0..RUNS {
         best = best.min(offer_time(rt, order)?);
     }
-    let count = order.offers_per_window() as u128 * WINDOW_COUNT as u128;
-    let rate = (count * 1_000_000_000).checked_div(best).unwrap_or(0);
+    let count = (order.offers_per_window() as u64).saturating_mul(WINDOW_COUNT as u64);
+    let rate = per_second(count, best);
     println!(rt; "buffer {name}: {rate} offers/s ({count} offers)")
 }
 

@@ -3,6 +3,7 @@
 mod lines;
 
 use crate::codec::lines::{Load, answers, entries, short_kinds};
+use crate::rate::per_second;
 use entry_codec::{read_line, write_line};
 use rights_types::Message;
 use std::alloc::Global;
@@ -64,21 +65,14 @@ fn write_time<R: Clock + AllocGlobal>(rt: &R, messages: &[Message]) -> io::Resul
     Ok(best.max(1))
 }
 
-fn per_second(count: usize, nanos: u128) -> u128 {
-    (count as u128)
-        .saturating_mul(ROUNDS as u128 * 1_000_000_000)
-        .checked_div(nanos)
-        .unwrap_or(0)
-}
-
 fn print_rates<R: Print>(rt: &R, verb: &str, load: &Load, nanos: u128) -> io::Result<()> {
     let mut bytes: usize = 0;
     for line in &load.lines {
         bytes = bytes.saturating_add(line.len());
     }
     let count = load.lines.len();
-    let line_rate = per_second(count, nanos);
-    let byte_rate = per_second(bytes, nanos);
+    let line_rate = per_second(ROUNDS.saturating_mul(count as u64), nanos);
+    let byte_rate = per_second(ROUNDS.saturating_mul(bytes as u64), nanos);
     let name = load.name;
     println!(rt;
         "codec {verb} {name}: {line_rate} lines/s, {byte_rate} bytes/s ({count} lines, {bytes} bytes)"

@@ -5,6 +5,7 @@ mod loads;
 use crate::desk::loads::{
     append_all, apply_all, closing, gifts, give_all, grant_all, opened, spend_all,
 };
+use crate::rate::per_second;
 use origin_log::OriginLog;
 use rights_types::SiteId;
 use std::io;
@@ -65,13 +66,6 @@ fn take_back_time<R: Clock + AllocGlobal>(rt: &R, beyond: u64) -> io::Result<u12
     let start = Instant::now(rt)?;
     apply_all(&mut desk, &close)?;
     Ok(start.elapsed(rt)?.as_nanos())
-}
-
-fn per_second(calls: u64, nanos: u128) -> u128 {
-    (calls as u128)
-        .saturating_mul(1_000_000_000)
-        .checked_div(nanos)
-        .unwrap_or(0)
 }
 
 /// Prints the rates. The log appends entries of one move, as each spend does.

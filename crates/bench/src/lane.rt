@@ -2,6 +2,7 @@
 ghost use Rattle.std.specs.Prelude.{◌≡◌, ◌+◌, [], false, IfSome};
 ghost use Rattle.rights_types.specs.Entries.{IsEntry, own, closes};
 
+use crate::rate::per_second;
 use apply_lanes::{Inlet, Item, Outlet, lane};
 use crossbeam_channel::{Receiver, Sender, bounded};
 use rights_types::{Amount, Entry, Move, SiteId};
@@ -120,9 +121,7 @@ fn channel_time<R: Clock + Threads + Wait + Sync + AllocGlobal>(rt: &R) -> io::R
 }
 
 fn print_rate<R: Print>(rt: &R, name: &str, nanos: u128) -> io::Result<()> {
-    let rate = (ENTRIES as u128 * 1_000_000_000)
-        .checked_div(nanos)
-        .unwrap_or(0);
+    let rate = per_second(ENTRIES, nanos);
     println!(rt; "{name} of {CAPACITY}: {rate} entries/s ({ENTRIES} entries)")
 }
 

@@ -3,6 +3,7 @@
 mod loads;
 
 use crate::log::loads::{MOVES, filled, next, query};
+use crate::rate::per_second;
 use origin_log::OriginLog;
 use std::io;
 use std::io::ErrorKind;
@@ -72,13 +73,6 @@ fn read_time<R: Clock>(rt: &R, log: &OriginLog, numbers: u64) -> io::Result<u128
         }
     }
     Ok(start.elapsed(rt)?.as_nanos())
-}
-
-fn per_second(calls: u64, nanos: u128) -> u128 {
-    (calls as u128)
-        .saturating_mul(1_000_000_000)
-        .checked_div(nanos)
-        .unwrap_or(0)
 }
 
 // The bytes of all lines.

@@ -6,6 +6,7 @@ mod codec;
 mod desk;
 mod lane;
 mod log;
+mod rate;
 
 use std::{env, io};
 

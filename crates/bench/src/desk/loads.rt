@@ -1,13 +1,11 @@
 //! Desks and what is done with them. The desk is that of site 1 of 2.
 
 use origin_log::OriginLog;
-use rights_types::{Amount, Ask, AskNumber, Entry, Frontier, Move, SiteId};
+use rights_types::{Amount, Ask, AskNumber, Entry, Frontier, MAX_AMOUNT, Move, SiteId};
 use site_core::{Desk, Spending};
 use std::alloc::Global;
 use std::io;
 use std::io::ErrorKind;
-
-const MOST: u64 = 1_000_000_000;
 
 fn refused() -> io::Error {
     io::Error::from(ErrorKind::InvalidData)
@@ -22,7 +20,7 @@ pub(crate) fn opened(alloc: Global) -> io::Result<Desk> {
     let Ok(mut desk) = Desk::new(alloc, SiteId::known(1), 2) else {
         return Err(refused());
     };
-    match desk.issue(MOST) {
+    match desk.issue(MAX_AMOUNT) {
         Ok(_) => Ok(desk),
         Err(_) => Err(refused()),
     }
