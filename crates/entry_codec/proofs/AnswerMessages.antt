@@ -1,5 +1,5 @@
 -- An answer and its parts: what is read is spelled so and keeps its limits, and what is spelled so is read.
-use Rattle.std.proofs.Common.{◌≡◌, ℕ, ◌+◌, ◌≤◌, ◌<◌, not, ltb, List, [], ◌∷◌, ◌++◌, length, take, map, Option, Some, None, Result, Ok, Err, refl, sym, ap, subst, ◌∙◌, arith, inl, inr, append_assoc}
+use Rattle.std.proofs.Common.{◌≡◌, ℕ, ◌+◌, ◌≤◌, ◌<◌, true, not, ltb, List, [], ◌∷◌, ◌++◌, length, take, map, Option, Some, None, Result, Ok, Err, refl, sym, ap, subst, ◌∙◌, arith, inl, inr, append_assoc}
 use Rattle.std.specs.Prelude.{◌==◌, decimal, codes, IfSome}
 use Rattle.std.specs.Borrow.{Bor}
 use Rattle.std.specs.List.{All}
@@ -14,7 +14,7 @@ use Rattle.entry_codec.specs.declared.fault.LineError.{LineError}
 use Rattle.entry_codec.specs.declared.fault.LineError.TheVariants.{TooLong, NoEnd, BadKind, BadField, BadMove, CountWrong, TrailingBytes, OutOfMemory}
 use Rattle.entry_codec.specs.Parts.{left, Tells, Gives}
 use Rattle.entry_codec.specs.Spelling.{entry_fields}
-use Rattle.entry_codec.specs.Reading.{◌>>=◌, place, fault_if, value_at, other_site_at, listed_entry_of, entries_of, answer_sites_of, answer_entries_of, answer_of}
+use Rattle.entry_codec.specs.Reading.{◌>>=◌, place, fault_if, value_at, other_site_at, listed_entry_of, entries_of, answer_sites_of, answer_entries_of, answer_of, has_entries}
 use Rattle.entry_codec.proofs.Cuts.{few_parts}
 use Rattle.entry_codec.proofs.MoveFields.{both_are}
 use Rattle.entry_codec.proofs.Entries.{bind_ok, ok_is, past, IsNoWant, bind_no_want, test_no_want, number_at_is, number_at_again, number_no_want, IsOf, entries_are, entries_again, entries_no_want}
@@ -68,6 +68,13 @@ answer_is fields others m h =
     let e = answer_entries_are a.0.0 others b.0 s.origin b.1 in
     let made : AnswerValue = record { origin = a.0.0; asker = a.0.1; entries = b.0 } in
     subst (AreParts ((codes "A" ∷ fields) ∷ others)) (ok_is (AnAnswer made) m b.2) (both_are (both_are refl s.fields-are) e.parts-are, made_answer a.0 fields others b.0 s e)
+
+pub answer_has : (fields : List (List ℕ)) (others : List (List (List ℕ))) (m : MessageValue) → answer_of fields others ≡ Ok m → has_entries m ≡ true
+unfolding answer_of
+answer_has fields others m h =
+    let a = bind_ok (answer_sites_of fields) _ m h in
+    let b = bind_ok (answer_entries_of a.0.0 others) _ m a.2 in
+    ap has_entries (sym (ok_is (AnAnswer (record { origin = a.0.0; asker = a.0.1; entries = b.0 })) m b.2))
 
 sites_again : (o s : ℕ) → IsSite o → IsSite s → (s ≡ o → ⊥) → answer_sites_of (decimal o ∷ decimal s ∷ []) ≡ Ok (o, s)
 unfolding answer_sites_of

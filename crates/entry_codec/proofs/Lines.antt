@@ -17,7 +17,7 @@ use Rattle.entry_codec.specs.declared.fault.LineError.TheVariants.{TooLong, NoEn
 use Rattle.entry_codec.specs.Parts.{split_at, parts_in, left, ReadsAs, Gives}
 use Rattle.entry_codec.specs.Spelling.{parts_of, part_text, text_of, line, Spells}
 use Rattle.entry_codec.specs.Pieces.{pieces, IsLine}
-use Rattle.entry_codec.specs.Reading.{fault_if, entry_of, push_of, answer_of, short_of, message_of, is_ended, reading}
+use Rattle.entry_codec.specs.Reading.{fault_if, entry_of, push_of, answer_of, short_of, message_of, is_ended, reading, has_entries, WantsRoom}
 use Rattle.entry_codec.proofs.Bytes.{Lacks, are_parts, all_back, text_lacks_end}
 use Rattle.entry_codec.proofs.MoveFields.{both_are, which}
 use Rattle.entry_codec.proofs.Entries.{bind_ok, ok_is, past, IsNoWant, bind_no_want, test_no_want, entry_is, entry_again, entry_no_want}
@@ -82,6 +82,14 @@ pub message_short : (letter : List ℕ) (fields : List (List ℕ)) (others : Lis
 unfolding message_of
 message_short letter fields others a b = rw (a, b) refl
 
+pub message_push : (letter : List ℕ) (fields : List (List ℕ)) (others : List (List (List ℕ))) → bytes_eq letter (codes "E") ≡ true → message_of ((letter ∷ fields) ∷ others) ≡ push_of fields others
+unfolding message_of
+message_push letter fields others a = rw a refl
+
+pub message_answer : (letter : List ℕ) (fields : List (List ℕ)) (others : List (List (List ℕ))) → bytes_eq letter (codes "E") ≡ false → bytes_eq letter (codes "A") ≡ true → message_of ((letter ∷ fields) ∷ others) ≡ answer_of fields others
+unfolding message_of
+message_answer letter fields others a b = rw (a, b) refl
+
 -- what a call that took memory answers after a fault
 pub gives_fault : {X Y : Type 0} (view : X → Y) (e : LineError) (read : Result Y LineError) → read ≡ Err e → IsNoWant read → Gives view (Err e) read
 gives_fault view TooLong read h none = h
@@ -96,6 +104,37 @@ gives_fault view OutOfMemory read h none = absurd (none h)
 pub reads_gives : {X Y : Type 0} (view : X → Y) (r : Result X LineError) (read : Result Y LineError) → ReadsAs view r read → IsNoWant read → Gives view r read
 reads_gives view (Ok x) read h none = h
 reads_gives view (Err e) read h none = gives_fault view e read h none
+
+-- a push has an entry, and an answer has entries
+pub push_has : (fields : List (List ℕ)) (others : List (List (List ℕ))) (m : MessageValue) → push_of fields others ≡ Ok m → has_entries m ≡ true
+unfolding push_of
+push_has fields others m h =
+    let a = bind_ok (entry_of 0 fields) _ m h in
+    let k = past TrailingBytes (not (length others == 0)) _ m a.2 in
+    ap has_entries (sym (ok_is (AnEntry a.0) m k.1))
+
+-- a call on such a message may want memory, and one on any other may not
+pub gives_wants : {X : Type 0} (view : X → MessageValue) (r : Result X LineError) (read : Result MessageValue LineError) → Gives view r read → ((m : MessageValue) → read ≡ Ok m → has_entries m ≡ true) → WantsRoom r read
+gives_wants view (Ok x) read h has = tt
+gives_wants view (Err TooLong) read h has = tt
+gives_wants view (Err NoEnd) read h has = tt
+gives_wants view (Err BadKind) read h has = tt
+gives_wants view (Err (BadField p)) read h has = tt
+gives_wants view (Err (BadMove p)) read h has = tt
+gives_wants view (Err CountWrong) read h has = tt
+gives_wants view (Err TrailingBytes) read h has = tt
+gives_wants view (Err OutOfMemory) read h has = (h.0, h.1, has h.0 h.1)
+
+pub reads_wants : {X : Type 0} (view : X → MessageValue) (r : Result X LineError) (read : Result MessageValue LineError) → ReadsAs view r read → IsNoWant read → WantsRoom r read
+reads_wants view (Ok x) read h none = tt
+reads_wants view (Err TooLong) read h none = tt
+reads_wants view (Err NoEnd) read h none = tt
+reads_wants view (Err BadKind) read h none = tt
+reads_wants view (Err (BadField p)) read h none = tt
+reads_wants view (Err (BadMove p)) read h none = tt
+reads_wants view (Err CountWrong) read h none = tt
+reads_wants view (Err TrailingBytes) read h none = tt
+reads_wants view (Err OutOfMemory) read h none = absurd (none h)
 
 -- the code's test for further parts is that of the definition
 pub no_others : (o : Option (Bor (List ℕ))) (r : Bool) → r ≡ is_some o → r ≡ false → map (split_at 32) (left 59 o) ≡ []

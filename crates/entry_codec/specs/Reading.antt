@@ -1,6 +1,6 @@
 -- Reading a line from left to right. The order of the steps is the order in which faults are looked
 -- for.
-use Rattle.std.specs.Prelude.{ℕ, ◌+◌, ◌-◌, Bool, ◌&&◌, ◌||◌, not, List, [], ◌∷◌, length, take, Option, Some, None, Result, Ok, Err, nat_lt, ◌==◌, if◌then◌else◌, slice_index}
+use Rattle.std.specs.Prelude.{◌≡◌, ℕ, ◌+◌, ◌-◌, Bool, true, false, ◌&&◌, ◌||◌, not, List, [], ◌∷◌, length, take, Option, Some, None, Result, Ok, Err, nat_lt, ◌==◌, if◌then◌else◌, slice_index}
 use Rattle.rights_types.specs.declared.moves.Move.{Move}
 use Rattle.rights_types.specs.Moves.{is_close, names, lacks_own_place}
 use Rattle.rights_types.specs.Entries.{EntryValue}
@@ -8,7 +8,7 @@ use Rattle.rights_types.specs.Messages.{MessageValue}
 use Rattle.rights_types.specs.Messages.MessageValue.{AnEntry, AQuery, AnAnswer, ABeat, AnAsk, ADenial, AHello}
 use Rattle.entry_codec.specs.declared.fault.Place.{Place}
 use Rattle.entry_codec.specs.declared.fault.LineError.{LineError}
-use Rattle.entry_codec.specs.declared.fault.LineError.TheVariants.{TooLong, NoEnd, BadKind, BadField, BadMove, CountWrong, TrailingBytes}
+use Rattle.entry_codec.specs.declared.fault.LineError.TheVariants.{TooLong, NoEnd, BadKind, BadField, BadMove, CountWrong, TrailingBytes, OutOfMemory}
 use Rattle.entry_codec.specs.Parts.{parts_in}
 use Rattle.entry_codec.specs.Moves.{first_number, move_of}
 use Rattle.rights_types.specs.declared.limits.TheConstants.{MAX_AMOUNT, MAX_ANSWER, MAX_ASK, MAX_LINE, MAX_MOVES, MAX_NUMBER, MAX_SITES}
@@ -206,3 +206,14 @@ reading line = do
   short ← fault_if TooLong (nat_lt MAX_LINE (length line))
   ended ← fault_if NoEnd (not (is_ended line))
   message_of (parts_in (take (length line - 1) line))
+
+-- a message that has entries: no other takes memory
+abbrev pub has_entries : MessageValue → Bool
+has_entries (AnEntry e) = true
+has_entries (AnAnswer a) = true
+has_entries m = false
+
+-- want of memory is answered of a message that has entries alone
+abbrev pub WantsRoom : {X : Type 0} → Result X LineError → Result MessageValue LineError → Type 0
+WantsRoom (Err OutOfMemory) read = (m : MessageValue) × (read ≡ Ok m) × (has_entries m ≡ true)
+WantsRoom result read = Unit {0}

@@ -1,10 +1,10 @@
 //! A message from its line.
-ghost use Rattle.std.specs.Prelude.{◌≡◌, ◌≤◌, length, IfOk, Ok};
+ghost use Rattle.std.specs.Prelude.{◌≡◌, ◌≤◌, length, IfOk, IfSome, Ok};
 ghost use Rattle.rights_types.specs.Messages.{MessageValue};
 ghost use Rattle.rights_types.specs.Values.{value_of};
 ghost use Rattle.entry_codec.specs.Spelling.{Spells};
 ghost use Rattle.entry_codec.specs.Parts.{parts_in, Gives, parts_left, fields_left};
-ghost use Rattle.entry_codec.specs.Reading.{push_of, message_of, reading};
+ghost use Rattle.entry_codec.specs.Reading.{push_of, answer_of, message_of, reading, WantsRoom};
 
 use crate::answer::answer_in;
 use crate::entry::{SLOTS, entry_in, entry_with};
@@ -31,17 +31,29 @@ fn push_in<A: Allocator>(
     Ok(Message::Push(entry_with(alloc, origin, prev, &kept[..count])?))
 }
 
+fn answer_message_in<A: Allocator + Copy>(
+    alloc: A,
+    fields: Option<&[u8]>,
+    others: Option<&[u8]>,
+) -> Result<Message<A>, LineError>
+    requires { IfSome others (λ text. length text.now ≤ MAX_LINE) }
+    ensures { Gives value_of result (answer_of (fields_left fields.entry) (parts_left others.entry)) }
+{
+    Ok(Message::Answer(answer_in(alloc, fields, others)?))
+}
+
 #[tactic(auto, unfolding(crate::specs::Reading::message_of))]
 fn message_in<A: Allocator + Copy>(alloc: A, text: &[u8]) -> Result<Message<A>, LineError>
     requires { length text.now ≤ MAX_LINE }
-    ensures { Gives value_of result (message_of (parts_in text.now)) }
+    ensures value { Gives value_of result (message_of (parts_in text.now)) }
+    ensures memory { WantsRoom result (message_of (parts_in text.now)) }
 {
     let (first, others) = split_far(text, PART_BREAK);
     let (letter, fields) = split_first(first, FIELD_BREAK);
     if is_letter(letter, ENTRY_LETTER) {
         push_in(alloc, fields, others)
     } else if is_letter(letter, ANSWER_LETTER) {
-        Ok(Message::Answer(answer_in(alloc, fields, others)?))
+        answer_message_in(alloc, fields, others)
     } else {
         short_in(letter, fields, others)
     }
@@ -49,7 +61,8 @@ fn message_in<A: Allocator + Copy>(alloc: A, text: &[u8]) -> Result<Message<A>, 
 
 #[tactic(auto, unfolding(crate::specs::Reading::reading))]
 fn message_of_line<A: Allocator + Copy>(alloc: A, line: &[u8]) -> Result<Message<A>, LineError>
-    ensures { Gives value_of result (reading line.now) }
+    ensures value { Gives value_of result (reading line.now) }
+    ensures memory { WantsRoom result (reading line.now) }
 {
     if line.len() > MAX_LINE {
         return Err(LineError::TooLong);
@@ -69,6 +82,8 @@ pub fn read_line<A: Allocator + Copy>(alloc: A, line: &[u8]) -> Result<Message<A
     ensures only { (m : MessageValue) → Spells m line.now → Gives value_of result (Ok m) }
     // Which fault it is.
     ensures exact { Gives value_of result (reading line.now) }
+    // Only entries take memory.
+    ensures memory { WantsRoom result (reading line.now) }
 {
     message_of_line(alloc, line)
 }
