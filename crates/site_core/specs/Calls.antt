@@ -85,6 +85,10 @@ LineOf bytes None None = Unit {0}
 LineOf bytes (Some m) (Some text) = Spells m (bytes text)
 LineOf bytes m text = ⊥
 
+-- the place of the next entry for the peer
+abbrev pub next_place : LogValue → ℕ → Option ℕ
+next_place log p = option_map (λ e. at_site log.cursors p 0) (slice_get log.entries (at_site log.cursors p 0))
+
 -- the next entry for the peer, as a message
 abbrev pub next_push : LogValue → ℕ → Option MessageValue
 next_push log p = option_map (λ e. AnEntry e) (slice_get log.entries (at_site log.cursors p 0))

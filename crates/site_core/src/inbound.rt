@@ -1,16 +1,21 @@
 //! What comes in from one other site.
-ghost use Rattle.std.specs.Prelude.{◌≡◌, ◌≢◌, ◌≤◌, [], ◌∷◌, Ok, None, Some, IfOk, OnErr, MatchResult, IsSome, List, Option, length};
+ghost use Rattle.std.specs.Prelude.{◌≡◌, ◌≢◌, ◌≤◌, ◌<◌, ◌+◌, true, [], ◌∷◌, ◌++◌, vec_capacity, Ok, None, Some, IfOk, IfErr, OnErr, MatchResult, IsSome, List, Option, length};
 ghost use Rattle.std.specs.List.{All, list_any};
 ghost use Rattle.std.specs.Option.{option_map};
 ghost use Rattle.rights_types.specs.Entries.{EntryValue};
 ghost use Rattle.rights_types.specs.Messages.{MessageValue, QueryValue};
 ghost use Rattle.rights_types.specs.Messages.MessageValue.{AQuery};
 ghost use Rattle.rights_types.specs.Values.{value_of};
+ghost use Rattle.rights_types.specs.Ranges.{IsNumber};
 ghost use Rattle.rights_types.specs.declared.limits.TheConstants.{MIN_SITES, MAX_SITES, MAX_ANSWER};
-ghost use Rattle.entry_codec.specs.Reading.{reading};
+ghost use Rattle.entry_codec.specs.Reading.{reading, has_entries};
 ghost use Rattle.sub_buffer.specs.Gaps.{GapOf, GapIs, StateOf};
 ghost use Rattle.sub_buffer.specs.Follows.{Follows};
+ghost use Rattle.sub_buffer.specs.Table.{after_beat};
+ghost use Rattle.sub_buffer.specs.Arrivals.{all_ready, Arrives as IsArrival};
+ghost use Rattle.sub_buffer.specs.declared.verdict.Verdict.{Verdict as AVerdict};
 ghost use Rattle.site_core.specs.Calls.{LineOf};
+ghost use Rattle.site_core.specs.declared.fault.InboundError.TheVariants.{OutOfMemory as NoMemory};
 ghost use Rattle.site_core.specs.Inbounds.{sender, is_for, entries_of, is_foreign, has_foreign};
 
 use crate::fault::InboundError;
@@ -112,13 +117,46 @@ impl<A: Allocator + Copy> Inbound<A> {
         ensures ok { IfOk result (λ arrival. (m : MessageValue) × (reading line.now ≡ Ok m) × Arrives self.old m arrival self.new) }
         ensures err { OnErr result (self.new ≡ self.old) }
     {
+        let message = self.read(line)?;
+        Ok(self.take_in(message)?)
+    }
+
+    /// The message of a line, where it is the origin's, for this site, and of this system. It has not come in
+    /// by that.
+    pub fn read(&self, line: &[u8]) -> Result<Message<A>, InboundError>
+        ensures refused { InboundRefuses self.now (reading line.now) result }
+        ensures ok { IfOk result (λ m. reading line.now ≡ Ok (value_of m)) }
+        // Only entries take memory.
+        ensures memory { IfErr result (λ fault. fault ≡ NoMemory → (m : MessageValue) × (reading line.now ≡ Ok m) × (has_entries m ≡ true)) }
+    {
         let message = match read_line(self.alloc, line) {
             Ok(message) => message,
             Err(LineError::OutOfMemory) => return Err(InboundError::OutOfMemory),
             Err(fault) => return Err(InboundError::Line(fault)),
         };
         self.check(&message)?;
-        Ok(self.take_in(message)?)
+        Ok(message)
+    }
+
+    /// Lets one entry of the origin come in, and adds its verdict, and those on the entries that it freed, to
+    /// the caller's. Their room is the caller's to make: one verdict, and one for each entry that is held.
+    pub fn arrive(&mut self, entry: Entry<A>, verdicts: &mut Vec<Verdict<A>, A>)
+        requires origin { entry.origin ≡ self.old.buffer.origin }
+        requires room { length verdicts.old.items + length self.old.buffer.held < vec_capacity verdicts.old }
+        ensures arrives { (v : AVerdict A) × (freed : List EntryValue)
+            × (verdicts.new.items ≡ verdicts.old.items ++ v ∷ all_ready freed) × IsArrival self.old.buffer entry v freed self.new.buffer }
+        ensures rest { self.new ≡ record self.old { buffer = self.new.buffer } }
+        ensures capacity { vec_capacity verdicts.new ≡ vec_capacity verdicts.old }
+    {
+        self.buffer.arrive(entry, verdicts);
+    }
+
+    /// Hears a beat of the origin.
+    pub fn hear(&mut self, number: u64)
+        requires { IsNumber number }
+        ensures { self.new ≡ record self.old { buffer = after_beat self.old.buffer number } }
+    {
+        self.buffer.beat(number);
     }
 
     // Whose message it is, and of which system.

@@ -19,7 +19,8 @@ impl<A: Allocator> Model for Line<A> {
 }
 
 impl<A: Allocator> Line<A> {
-    pub(crate) fn new(bytes: Vec<u8, A>) -> Line<A>
+    /// The line of these bytes, which end in its line feed.
+    pub fn new(bytes: Vec<u8, A>) -> Line<A>
         ensures { result ≡ bytes.items }
     {
         Line { bytes }

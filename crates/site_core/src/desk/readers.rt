@@ -2,7 +2,7 @@
 ghost use Rattle.std.specs.Prelude.{◌≡◌, ◌≢◌, ℕ, ◌+◌, ◌*◌, ◌≤◌, true, pos, List, []};
 ghost use Rattle.rights_types.specs.Entries.{EntryValue};
 ghost use Rattle.rights_types.specs.Chains.{end, is_closed, moves_of, IsChain};
-ghost use Rattle.rights_types.specs.Rights.{issued, spent, out, to, taken_back, held, received, sum_sites, IsNeverShort};
+ghost use Rattle.rights_types.specs.Rights.{issued, spent, out, to, back, taken_back, held, received, sum_sites, IsNeverShort};
 ghost use Rattle.rights_types.specs.declared.limits.TheConstants.{MIN_SITES, MAX_SITES, MAX_NUMBER, MAX_AMOUNT, MAX_TOTAL, MAX_RECEIVED, MAX_HELD_RIGHTS};
 ghost use Rattle.rights_book.specs.Books.{sites, peer, account, received_by, held_by, known_by};
 ghost use Rattle.rights_book.specs.Known.{logs_at, known};
@@ -139,6 +139,15 @@ impl<A: Allocator + Copy> Desk<A> {
         ensures range { result ≤ MAX_TOTAL }
     {
         self.ledger.book().given_to(site)
+    }
+
+    /// What this site took back from that one, which has closed.
+    pub fn back(&self, site: SiteId) -> u64
+        ensures value { result ≡ back site (moves_of self.now.ledger.log.entries) }
+        ensures booked { result ≡ (peer self.now.ledger.book site).back }
+        ensures range { result ≤ (peer self.now.ledger.book site).given }
+    {
+        self.ledger.book().back(site)
     }
 
     /// The rights that all waiting spends are for. At a closed site none waits.
