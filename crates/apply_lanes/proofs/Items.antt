@@ -91,7 +91,7 @@ module _ {A : Type 0} where
   pub begins_chain : (e : EntryValue) → MayBeFirst e → Continues {A = A} [] e
   begins_chain e first = (e.origin, [], refl, (refl, refl, first.prev, first.valid, tt))
 
-  same_entries : (fs es : List EntryValue) (b : Bool) → items_of {A = A} fs ≡ items_of es ++ end_if b → fs ≡ es
+  pub same_entries : (fs es : List EntryValue) (b : Bool) → items_of {A = A} fs ≡ items_of es ++ end_if b → fs ≡ es
   same_entries [] [] b is = refl
   same_entries [] (e ∷ es) b is = absurd cc
   same_entries (f ∷ fs) [] true is = absurd cc

@@ -2,3 +2,10 @@ pub mod Items
 pub mod Rule
 pub mod Ends
 pub mod Tallies
+pub mod Names
+pub mod Kepts
+pub mod Views
+pub mod Admissions
+pub mod Appliers
+pub mod Intakes
+pub mod Stops

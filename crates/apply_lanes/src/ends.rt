@@ -98,6 +98,13 @@ pub fn lane<A: Allocator + Copy>(
 }
 
 impl<A: Allocator> Inlet<A> {
+    /// Whether LaneClosed was answered.
+    pub(crate) fn is_dead(&self) -> bool
+        ensures { result ≡ self.now.dead }
+    {
+        self.dead
+    }
+
     /// Puts the next entry, and waits while the lane is full.
     pub fn put<R: Wait>(&mut self, rt: &R, entry: Entry<A>) -> Result<(), LaneClosed<A>>
         requires { Continues self.old.put entry }

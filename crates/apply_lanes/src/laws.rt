@@ -1,8 +1,12 @@
 //! What the two ends of one lane say of each other.
-ghost use Rattle.std.specs.Prelude.{◌≡◌};
+ghost use Rattle.std.specs.Prelude.{◌≡◌, true};
 ghost use Rattle.apply_lanes.specs.Items.{StartsWith, IsEnded};
 
+use crate::applier::Applier;
 use crate::ends::{Inlet, Outlet};
+use crate::gate::Gate;
+use crate::intake::Intake;
+use crate::names::DeskNames;
 use crate::rule::{Compared, Ends};
 use std::alloc::Allocator;
 
@@ -32,5 +36,39 @@ pub fn ends_taken_in<A: Allocator>(inlet: Inlet<A>, outlet: Outlet<A>) -> Outlet
         receiver,
         pass,
         dead,
+    }
+}
+
+/// Given the intake and the applier of one lane, what the applier took is a prefix of what the intake put,
+/// and all of it where End was taken. The applier comes back as it was.
+pub fn taken_in<D: DeskNames, G: Gate, A: Allocator>(
+    intake: Intake<A>,
+    applier: Applier<D, G, A>,
+) -> Applier<D, G, A>
+    requires { applier.outlet.lane ≡ intake.inlet.lane }
+    ensures same { result ≡ applier }
+    ensures prefix { StartsWith intake.inlet.put applier.outlet.taken }
+    ensures whole { applier.ended ≡ true → applier.outlet.taken ≡ intake.inlet.put }
+{
+    let Applier {
+        origin,
+        outlet,
+        gate,
+        hand,
+        ended,
+        dropping,
+        number,
+        received,
+    } = applier;
+    let outlet = ends_taken_in(intake.into_inlet(), outlet);
+    Applier {
+        origin,
+        outlet,
+        gate,
+        hand,
+        ended,
+        dropping,
+        number,
+        received,
     }
 }

@@ -1,0 +1,208 @@
+-- What an applier told, from item to item.
+use Rattle.std.proofs.Common.{◌≡◌, ◌≢◌, ℕ, ◌+◌, ◌≤◌, Bool, true, false, true≢false, ◌==◌, List, [], ◌∷◌, ◌++◌, length, Option, Some, None, IsSome, inl, inr, cond, nat_lt, refl, sym, ap, ◌∙◌, subst, arith, append-nil, append_assoc}
+use Rattle.std.proofs.lemmas.Bool.{eq-eqb, ltb-false}
+use Rattle.rights_types.specs.Entries.{EntryValue, own}
+use Rattle.rights_types.specs.Chains.{end, closed_from, moves_of, IsChain, ChainFrom}
+use Rattle.rights_types.specs.Rights.{to}
+use Rattle.rights_types.specs.declared.moves.Move.TheVariants.{TakeBack}
+use Rattle.rights_types.proofs.Chains.{chain_right, end-push}
+use Rattle.rights_types.proofs.Sums.{moves_of-nil, moves_of-push, to-append, to-cons, to-nil}
+use Rattle.rights_book.specs.Books.{BookValue, peer}
+use Rattle.site_core.specs.Ledgers.{owed_by, TakesBackIf}
+use Rattle.site_core.specs.Desks.{DeskValue}
+use Rattle.site_core.specs.Calls.{DeskApplies}
+use Rattle.apply_lanes.specs.declared.item.Item.{Item}
+use Rattle.apply_lanes.specs.declared.item.Item.TheVariants.{Entry, End}
+use Rattle.apply_lanes.specs.Ends.{OutletValue}
+use Rattle.apply_lanes.specs.Items.{items_of, end_if, IsItemChain}
+use Rattle.apply_lanes.specs.Names.{DeskId}
+use Rattle.apply_lanes.specs.Kepts.{KeptValue, IsKept}
+use Rattle.apply_lanes.specs.Appliers.{ApplierValue, IsCounted, new_applier, in_hand, MovesOn, HasNext, Steps}
+use Rattle.apply_lanes.specs.Admissions.{site_fault}
+use Rattle.apply_lanes.specs.declared.kept.AdmitFault.TheVariants.{NoSuchSite, SameSite}
+use Rattle.apply_lanes.proofs.Items.{items_of-push, same_entries, empty_chain}
+use Rattle.apply_lanes.proofs.KeptLaws.{tallied_taking}
+
+none_some : (e : EntryValue) → None ≡ Some e → ⊥
+none_some e is = cc
+
+pub none_of : (h : Option EntryValue) → ¬ IsSome h → h ≡ None
+none_of (Some e) n = absurd (n refl)
+none_of None n = refl
+
+pub same_some : (e f : EntryValue) → Some e ≡ Some f → e ≡ f
+same_some e f is = cc
+
+module _ {A : Type 0} where
+  not_ended : (a : ApplierValue A) (e : EntryValue) → (a.ended ≡ true → a.hand ≡ None) → a.hand ≡ Some e → (b : Bool) → a.ended ≡ b → b ≡ false
+  not_ended a e empty is true ended = absurd (none_some e (sym (empty ended) ∙ is))
+  not_ended a e empty is false ended = refl
+
+  -- what was taken by an applier that dropped nothing, with e in hand
+  taken_with : (id : DeskId) (a : ApplierValue A) (e : EntryValue) → (c : IsCounted id a) → a.hand ≡ Some e → a.dropping ≡ false
+      → a.outlet.taken ≡ items_of (c.applied ++ e ∷ [])
+  taken_with id a e c is free =
+      c.taken ∙ ap (λ b. items_of (c.applied ++ c.dropped ++ in_hand a.hand) ++ end_if b) (not_ended a e c.empty_hand is a.ended refl)
+      ∙ append-nil (items_of (c.applied ++ c.dropped ++ in_hand a.hand))
+      ∙ ap (λ l. items_of ((c.applied ++ l) ++ in_hand a.hand)) (c.none_dropped free) ∙ ap (λ l. items_of (l ++ in_hand a.hand)) (append-nil c.applied)
+      ∙ ap (λ h. items_of (c.applied ++ in_hand h)) is
+
+  -- the entry in hand begins where the last one that was applied ended
+  pub hand_follows : (id : DeskId) (a : ApplierValue A) (e : EntryValue) → IsCounted id a → a.hand ≡ Some e → a.dropping ≡ false → e.prev ≡ a.number
+  hand_follows id a e c is free =
+      let chain = c.chain in
+      let es = same_entries (c.applied ++ e ∷ []) chain.1 chain.2 (sym (taken_with id a e c is free) ∙ chain.4) in
+      let all : IsChain chain.0 (c.applied ++ e ∷ []) = subst (IsChain chain.0) (sym es) chain.3 in
+      let last = chain_right chain.0 false 0 c.applied (e ∷ []) all in
+      last.2 ∙ sym c.number
+
+  -- it was applied
+  pub counted_apply : (id : DeskId) (a : ApplierValue A) (e : EntryValue) (n r : ℕ) → IsCounted id a → a.hand ≡ Some e → a.dropping ≡ false
+      → n ≡ own e → r ≡ a.received + to id.site e.moves → IsCounted id (record a { hand = None; number = n; received = r })
+  counted_apply id a e n r c is free last gift = record {
+    applied = c.applied ++ e ∷ [];
+    dropped = [];
+    taken =
+        let now : List EntryValue = c.applied ++ e ∷ [] in
+        taken_with id a e c is free ∙ ap items_of (sym (append-nil (now ++ []) ∙ append-nil now)) ∙ sym (append-nil (items_of ((now ++ []) ++ [])))
+        ∙ ap (λ b. items_of ((now ++ []) ++ []) ++ end_if b) (sym (not_ended a e c.empty_hand is a.ended refl));
+    chain = c.chain;
+    none_dropped = λ _. refl;
+    number = last ∙ sym (end-push c.applied e);
+    received =
+        gift ∙ ap (λ n. n + to id.site e.moves) c.received ∙ sym (to-append id.site (moves_of c.applied) e.moves)
+        ∙ ap (to id.site) (sym (moves_of-push c.applied e));
+    empty_hand = λ _. refl;
+  }
+
+  -- it was dropped
+  pub counted_drop : (id : DeskId) (a : ApplierValue A) (e : EntryValue) → IsCounted id a → a.hand ≡ Some e
+      → IsCounted id (record a { hand = None; dropping = true })
+  counted_drop id a e c is = record {
+    applied = c.applied;
+    dropped = c.dropped ++ e ∷ [];
+    taken =
+        c.taken ∙ ap (λ h. items_of (c.applied ++ c.dropped ++ in_hand h) ++ end_if a.ended) is
+        ∙ ap (λ l. items_of l ++ end_if a.ended) (append_assoc c.applied c.dropped (e ∷ []) ∙ sym (append-nil (c.applied ++ (c.dropped ++ e ∷ []))));
+    chain = c.chain;
+    none_dropped = λ h. absurd (true≢false h);
+    number = c.number;
+    received = c.received;
+    empty_hand = λ _. refl;
+  }
+
+  -- all entries that were taken, where none is in hand
+  empty_taken : (id : DeskId) (a : ApplierValue A) → (c : IsCounted id a) → a.hand ≡ None → a.ended ≡ false
+      → a.outlet.taken ≡ items_of (c.applied ++ c.dropped)
+  empty_taken id a c none free =
+      c.taken ∙ ap (λ b. items_of (c.applied ++ c.dropped ++ in_hand a.hand) ++ end_if b) free
+      ∙ append-nil (items_of (c.applied ++ c.dropped ++ in_hand a.hand)) ∙ ap (λ h. items_of (c.applied ++ c.dropped ++ in_hand h)) none
+      ∙ ap items_of (append-nil (c.applied ++ c.dropped))
+
+  -- one more was taken
+  pub counted_take : (id : DeskId) (a : ApplierValue A) (e : EntryValue) (o : OutletValue A) → IsCounted id a → a.hand ≡ None → a.ended ≡ false
+      → o.taken ≡ a.outlet.taken ++ Entry e ∷ [] → IsItemChain o.taken → IsCounted id (record a { outlet = o; hand = Some e })
+  counted_take id a e o c none free more chain = record {
+    applied = c.applied;
+    dropped = c.dropped;
+    taken =
+        more ∙ ap (λ l. l ++ Entry e ∷ []) (empty_taken id a c none free) ∙ sym (items_of-push (c.applied ++ c.dropped) e)
+        ∙ sym (append-nil (items_of (c.applied ++ c.dropped ++ e ∷ [])))
+        ∙ ap (λ b. items_of (c.applied ++ c.dropped ++ e ∷ []) ++ end_if b) (sym free);
+    chain = chain;
+    none_dropped = c.none_dropped;
+    number = c.number;
+    received = c.received;
+    empty_hand = λ h. absurd (true≢false (sym h ∙ free));
+  }
+
+  -- End was taken
+  pub counted_end : (id : DeskId) (a : ApplierValue A) (o : OutletValue A) → IsCounted id a → a.hand ≡ None → a.ended ≡ false
+      → o.taken ≡ a.outlet.taken ++ End ∷ [] → IsItemChain o.taken → IsCounted id (record a { outlet = o; ended = true })
+  counted_end id a o c none free more chain = record {
+    applied = c.applied;
+    dropped = c.dropped;
+    taken =
+        more ∙ ap (λ l. l ++ End ∷ []) (empty_taken id a c none free)
+        ∙ ap (λ l. items_of l ++ End ∷ []) (sym (append-nil (c.applied ++ c.dropped)))
+        ∙ ap (λ h. items_of (c.applied ++ c.dropped ++ in_hand h) ++ End ∷ []) (sym none);
+    chain = chain;
+    none_dropped = c.none_dropped;
+    number = c.number;
+    received = c.received;
+    empty_hand = λ _. none;
+  }
+
+-- ---- steps
+
+module _ {A : Type 0} where
+  next_same : (h : Option EntryValue) (a b : ApplierValue A) (e : EntryValue) → HasNext h a e b → (b.origin ≡ a.origin) × (b.outlet.lane ≡ a.outlet.lane)
+  next_same None a b e is = (ap (λ (x : ApplierValue A). x.origin) is, ap (λ (x : ApplierValue A). x.outlet.lane) is)
+  next_same (Some f) a b e is = (ap (λ (x : ApplierValue A). x.origin) is.1, ap (λ (x : ApplierValue A). x.outlet.lane) is.1)
+
+  -- a step keeps origin and lane
+  pub step_same : (id : DeskId) (a b : ApplierValue A) → Steps id a true b → (b.origin ≡ a.origin) × (b.outlet.lane ≡ a.outlet.lane)
+  step_same id a b s =
+      let n = next_same a.hand a s.2 s.1 s.3 in
+      elim s.4 [
+        | inl x ↦ (ap (λ (y : ApplierValue A). y.origin) x.1 ∙ n.0, ap (λ (y : ApplierValue A). y.outlet.lane) x.1 ∙ n.1)
+        | inr x ↦ (ap (λ (y : ApplierValue A). y.origin) x ∙ n.0, ap (λ (y : ApplierValue A). y.outlet.lane) x ∙ n.1)
+      ]
+
+  -- a new applier
+  pub counted_new : (id : DeskId) (a : ApplierValue A) → a.outlet.taken ≡ [] → a.hand ≡ None → a.ended ≡ false → a.number ≡ 0 → a.received ≡ 0
+      → IsCounted id a
+  counted_new id a none empty free n r = record {
+    applied = [];
+    dropped = [];
+    taken = none ∙ sym (λ i. items_of {A = A} ([] ++ [] ++ in_hand (empty i)) ++ end_if (free i));
+    chain = subst IsItemChain (sym none) empty_chain;
+    none_dropped = λ _. refl;
+    number = n;
+    received = r ∙ sym (ap (to id.site) moves_of-nil ∙ to-nil id.site);
+    empty_hand = λ _. empty;
+  }
+
+-- the origin of an applier is another site of the system
+by_test : (id : DeskId) (o : ℕ) (b c : Bool) → cond b (Some NoSuchSite) (cond c (Some SameSite) None) ≡ None → (b ≡ false) × (c ≡ false)
+by_test id o true c h = absurd cc
+by_test id o false true h = absurd cc
+by_test id o false false h = (refl, refl)
+
+pub other_site : (id : DeskId) (o : ℕ) → site_fault id o ≡ None → (o ≤ id.sites) × (o ≢ id.site)
+other_site id o h =
+    let t = by_test id o (nat_lt id.sites o) (o == id.site) h in
+    (ltb-false id.sites o t.0, λ same. true≢false (sym (eq-eqb o id.site same) ∙ t.1))
+
+-- ---- the desk
+
+nothing_given : (j o n : ℕ) → to j (TakeBack o n ∷ []) ≡ 0
+nothing_given j o n = omega (arith, to-cons j (TakeBack o n) [], to-nil j)
+
+-- what was given and received is as before what a K takes back
+same_between : (b : Bool) (old mid : BookValue) (o n : ℕ) → TakesBackIf b old o n mid
+    → ((j : ℕ) → (peer mid j).given ≡ (peer old j).given) × ((j : ℕ) → (peer mid j).received ≡ (peer old j).received)
+same_between true old mid o n same = (λ j. ap (λ (x : BookValue). (peer x j).given) same, λ j. ap (λ (x : BookValue). (peer x j).received) same)
+same_between false old mid o n taken =
+    (λ j. omega (arith, taken.leaves.gives_to j, nothing_given j o n), taken.leaves.same_received_from)
+
+-- the desk's book moved on by the entry
+pub moves_on : (id : DeskId) (k : KeptValue) (d : DeskValue) (o : ℕ) (e : EntryValue) → IsKept id k → DeskApplies k.desk o e d
+    → e.prev ≡ (peer k.desk.ledger.book o).log.end → MovesOn id.site k.desk o e d
+moves_on id k d o e is applies next =
+    let a = applies.entry in
+    let l = a.leaves in
+    let owed = owed_by k.desk.ledger o e in
+    let t = tallied_taking (owed == 0) k.desk.ledger.book a.between o owed k.issued.sum k.spent.sum k.number.sum k.received.sum a.taken is.tallied in
+    let s = same_between (owed == 0) k.desk.ledger.book a.between o owed a.taken in
+    record {
+      applies = applies;
+      from = sym next;
+      up_to = l.applied;
+      received = l.received_from ∙ ap (λ n. n + to a.between.me e.moves) (s.1 o) ∙ ap (λ m. (peer k.desk.ledger.book o).received + to m e.moves) (t.1 ∙ is.same_me);
+      log = a.log;
+      same_queue = ap (λ (x : DeskValue). x.queue) applies.rest;
+      same_given = λ j. l.same_given_to j ∙ s.0 j;
+      others = λ j apart. l.same_applied j apart ∙ t.3 j;
+      others_received = λ j apart. l.same_received_from j apart ∙ s.1 j;
+    }

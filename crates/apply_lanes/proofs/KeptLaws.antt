@@ -1,0 +1,314 @@
+-- The invariant of the lock's value is kept by each change of its desk.
+use Rattle.std.proofs.Common.{◌≡◌, ◌≢◌, ℕ, ◌+◌, ◌-◌, ◌*◌, ◌≤◌, ◌<◌, inl, inr, Bool, true, false, ◌==◌, Option, Some, None, List, [], ◌∷◌, ◌++◌, length, get_or, set, cond, refl, sym, ap, ◌∙◌, subst, arith}
+use Rattle.std.specs.Prelude.{count_by, sum_by}
+use Rattle.std.proofs.lemmas.Bool.{cases_eq}
+use Rattle.std.proofs.lemmas.List.{length-set, get_or_default}
+use Rattle.std.proofs.lemmas.List.Sums.{sum_by-set, count_by-le-length}
+use Rattle.rights_types.specs.Entries.{EntryValue, own}
+use Rattle.rights_types.specs.Rights.{issued, spent, to, sum_sites}
+use Rattle.rights_types.specs.Messages.{AskValue}
+use Rattle.rights_types.specs.declared.moves.Move.{Move}
+use Rattle.rights_types.specs.declared.moves.Move.TheVariants.{Issue, Spend, Grant, Give, CloseAt, TakeBack}
+use Rattle.rights_types.specs.declared.limits.TheConstants.{MAX_NUMBER}
+use Rattle.rights_types.specs.Chains.{moves_of}
+use Rattle.rights_types.specs.Places.{at_site}
+use Rattle.rights_types.proofs.Places.{at_site-index}
+use Rattle.rights_types.proofs.SiteSums.{sum_same, sum_zero, sum_risen, sum_bound}
+use Rattle.rights_types.proofs.Sums.{moves_of-nil, issued-cons, issued-nil, spent-cons, spent-nil, to-nil}
+use Rattle.origin_log.specs.Logs.{LogValue}
+use Rattle.rights_book.specs.Books.{BookValue, sites, peer, applied_by, held_by, received_by}
+use Rattle.rights_book.specs.StandsFor.{StandsForApplied}
+use Rattle.rights_book.specs.Leaves.{OwnLeaves, ApplyLeaves}
+use Rattle.rights_book.specs.declared.account.Account.{Account}
+use Rattle.transfer_manager.specs.declared.answer.AskAnswer.{AskAnswer}
+use Rattle.transfer_manager.specs.declared.answer.AskAnswer.TheVariants.{Grant as Granted, Deny, RepeatedDeny, Repeated, OldAsk}
+use Rattle.site_core.specs.Calls.{DeskAnswers}
+use Rattle.site_core.specs.Ledgers.{LedgerValue, owed_by, frontier_of, TakesBack, TakesBackIf, AppliesEntry, closing_by}
+use Rattle.site_core.specs.Desks.{DeskValue}
+use Rattle.apply_lanes.specs.Tallies.{TallyValue}
+use Rattle.apply_lanes.specs.Names.{DeskId, IsUnused}
+use Rattle.apply_lanes.specs.Kepts.{KeptValue, IsKept, IsTallied, IsPortioned, admitted_count, raised}
+
+-- ---- tallies
+
+-- a tally to which nothing was added
+pub raised_none : (t : TallyValue) → t ≡ raised t 0
+raised_none t = let e : t.sum ≡ t.sum + 0 = omega arith in ap (λ n. record { sum = n; left = t.left; returned = t.returned }) e
+
+-- both have given out the same portions
+record SamePortions (t u : TallyValue) : Type 0 where
+  left : u.left ≡ t.left
+  returned : u.returned ≡ t.returned
+
+raised_portions : (t u : TallyValue) (n : ℕ) → u ≡ raised t n → SamePortions t u
+raised_portions t u n h = record { left = ap (λ (x : TallyValue). x.left) h; returned = ap (λ (x : TallyValue). x.returned) h }
+
+raised_sum : (t u : TallyValue) (n : ℕ) → u ≡ raised t n → u.sum ≡ t.sum + n
+raised_sum t u n h = ap (λ (x : TallyValue). x.sum) h
+
+portioned : (k : KeptValue) (d : DeskValue) (i s n r : TallyValue) → IsPortioned k → SamePortions k.issued i → SamePortions k.spent s
+    → SamePortions k.number n → SamePortions k.received r → IsPortioned (record k { desk = d; issued = i; spent = s; number = n; received = r })
+portioned k d i s n r p a b c e = record {
+  seats = omega (arith, p.seats, a.left);
+  both = b.left ∙ p.both ∙ sym a.left;
+  places = p.places;
+  appliers = omega (arith, p.appliers, c.left);
+  both_more = e.left ∙ p.both_more ∙ sym c.left;
+  no_issued_back = a.returned ∙ p.no_issued_back;
+  no_spent_back = b.returned ∙ p.no_spent_back;
+  no_number_back = c.returned ∙ p.no_number_back;
+  no_received_back = e.returned ∙ p.no_received_back;
+}
+
+-- ---- what the book adds up to
+
+same_numbers : (b c : BookValue) → sites c ≡ sites b → ((o : ℕ) → (peer c o).log ≡ (peer b o).log) → applied_by c ≡ applied_by b
+same_numbers b c same logs =
+    ap (λ n. sum_sites n (λ o. (peer c o).log.end)) same
+    ∙ sum_same (sites b) (λ o. (peer c o).log.end) (λ o. (peer b o).log.end) (λ o _ _. ap (λ (a : Account). a.end) (logs o))
+
+-- the site wrote an entry that issues and spends so much
+tallied_write : (b c : BookValue) (ms : List Move) (i s n r j t : ℕ) → IsTallied b i s n r → OwnLeaves b ms c → j ≡ i + issued ms → t ≡ s + spent ms
+    → IsTallied c j t n r
+tallied_write b c ms i s n r j t is l a e = record {
+  issued_is = omega (arith, is.issued_is, l.issues);
+  spent_is = omega (arith, is.spent_is, l.spends);
+  number_is = is.number_is ∙ sym (same_numbers b c l.same_sites l.same_applied);
+  received_is = is.received_is ∙ sym l.same_received;
+  numbers = λ o. subst (λ (x : Account). x.end ≤ MAX_NUMBER) (sym (l.same_applied o)) (is.numbers o);
+}
+
+-- the site applied the next entry of site o
+tallied_apply : (b c : BookValue) (o : ℕ) (e : EntryValue) (i s n r m g : ℕ) → IsTallied b i s n r → ApplyLeaves b o e c → 1 ≤ o → o ≤ sites b
+    → e.prev ≡ (peer b o).log.end → own e ≤ MAX_NUMBER → m ≡ n + length e.moves → g ≡ r + to b.me e.moves → IsTallied c i s m g
+tallied_apply b c o e i s n r m g is l low high next small more gift =
+    let risen : (peer c o).log.end ≡ (peer b o).log.end + length e.moves = omega (arith, l.applied, next) in
+    let sum : sum_sites (sites b) (λ k. (peer c k).log.end) ≡ applied_by b + length e.moves =
+    sum_risen (sites b) o (length e.moves) (λ k. (peer b k).log.end) (λ k. (peer c k).log.end) low high
+    (λ k apart. ap (λ (x : Account). x.end) (l.same_applied k apart)) risen in
+    let numbers : applied_by c ≡ applied_by b + length e.moves = ap (λ n. sum_sites n (λ k. (peer c k).log.end)) l.same_sites ∙ sum in
+    record {
+      issued_is = is.issued_is ∙ ap (λ (x : Account). x.issued) (sym l.same_own);
+      spent_is = is.spent_is ∙ ap (λ (x : Account). x.spent) (sym l.same_own);
+      number_is = omega (arith, is.number_is, numbers);
+      received_is = omega (arith, is.received_is, l.receives);
+      numbers = λ k. elim (cases_eq k o) [
+        | inl same ↦ subst (λ j. (peer c j).log.end ≤ MAX_NUMBER) (sym same) (omega (arith, l.applied))
+        | inr apart ↦ subst (λ (x : Account). x.end ≤ MAX_NUMBER) (sym (l.same_applied k apart)) (is.numbers k)
+      ];
+    }
+
+-- the numbers that were applied of all logs are small
+pub numbers_bound : (b : BookValue) (i s n r : ℕ) → IsTallied b i s n r → sites b ≤ 16 → n ≤ 16000000000
+numbers_bound b i s n r is few =
+    let each = sum_bound (sites b) 1000000000 (λ o. (peer b o).log.end) is.numbers in
+    omega (arith, is.number_is, each)
+
+-- ---- what moves issue and spend
+
+pub issued-issue : (n : ℕ) → issued (Issue n ∷ []) ≡ n
+issued-issue n = omega (arith, issued-cons (Issue n) [], issued-nil)
+
+pub spent-issue : (n : ℕ) → spent (Issue n ∷ []) ≡ 0
+spent-issue n = omega (arith, spent-cons (Issue n) [], spent-nil)
+
+pub issued-spend : (n : ℕ) → issued (Spend n ∷ []) ≡ 0
+issued-spend n = omega (arith, issued-cons (Spend n) [], issued-nil)
+
+pub spent-spend : (n : ℕ) → spent (Spend n ∷ []) ≡ n
+spent-spend n = omega (arith, spent-cons (Spend n) [], spent-nil)
+
+pub issued-give : (j n : ℕ) → issued (Give j n ∷ []) ≡ 0
+issued-give j n = omega (arith, issued-cons (Give j n) [], issued-nil)
+
+pub spent-give : (j n : ℕ) → spent (Give j n ∷ []) ≡ 0
+spent-give j n = omega (arith, spent-cons (Give j n) [], spent-nil)
+
+issued-grant : (j n a : ℕ) → issued (Grant j n a ∷ []) ≡ 0
+issued-grant j n a = omega (arith, issued-cons (Grant j n a) [], issued-nil)
+
+spent-grant : (j n a : ℕ) → spent (Grant j n a ∷ []) ≡ 0
+spent-grant j n a = omega (arith, spent-cons (Grant j n a) [], spent-nil)
+
+issued-take_back : (j n : ℕ) → issued (TakeBack j n ∷ []) ≡ 0
+issued-take_back j n = omega (arith, issued-cons (TakeBack j n) [], issued-nil)
+
+spent-take_back : (j n : ℕ) → spent (TakeBack j n ∷ []) ≡ 0
+spent-take_back j n = omega (arith, spent-cons (TakeBack j n) [], spent-nil)
+
+issued-frontier : (f : List ℕ) → issued (CloseAt f ∷ []) ≡ 0
+issued-frontier f = omega (arith, issued-cons (CloseAt f) [], issued-nil)
+
+spent-frontier : (f : List ℕ) → spent (CloseAt f ∷ []) ≡ 0
+spent-frontier f = omega (arith, spent-cons (CloseAt f) [], spent-nil)
+
+closes_without : (b : Bool) (j n : ℕ) (f : List ℕ)
+    → (issued (cond b [] (Give j n ∷ []) ++ CloseAt f ∷ []) ≡ 0) × (spent (cond b [] (Give j n ∷ []) ++ CloseAt f ∷ []) ≡ 0)
+closes_without true j n f = (issued-frontier f, spent-frontier f)
+closes_without false j n f =
+    (omega (arith, issued-cons (Give j n) (CloseAt f ∷ []), issued-frontier f), omega (arith, spent-cons (Give j n) (CloseAt f ∷ []), spent-frontier f))
+
+-- a closing entry issues and spends nothing
+pub nothing_closing : (b : BookValue) (heir : Option ℕ) → (issued (closing_by b heir) ≡ 0) × (spent (closing_by b heir) ≡ 0)
+nothing_closing b None = (issued-frontier (frontier_of b), spent-frontier (frontier_of b))
+nothing_closing b (Some j) = closes_without (held_by b == 0) j (held_by b) (frontier_of b)
+
+-- ---- the lock's value
+
+-- whatever the desk wrote and applied, as long as the tallies follow its book
+kept_by : (id : DeskId) (k : KeptValue) (d : DeskValue) (i s n r : TallyValue) → IsKept id k → d.ledger.log.site ≡ k.desk.ledger.log.site
+    → d.ledger.book.me ≡ k.desk.ledger.book.me → sites d.ledger.book ≡ sites k.desk.ledger.book → IsTallied d.ledger.book i.sum s.sum n.sum r.sum
+    → SamePortions k.issued i → SamePortions k.spent s → SamePortions k.number n → SamePortions k.received r
+    → IsKept id (record k { desk = d; issued = i; spent = s; number = n; received = r })
+kept_by id k d i s n r is site me count tallied a b c e = record {
+  site = site ∙ is.site;
+  same_me = me ∙ is.same_me;
+  same_sites = count ∙ is.same_sites;
+  few = is.few;
+  tallied = tallied;
+  portioned = portioned k d i s n r is.portioned a b c e;
+}
+
+all_same : (t : TallyValue) → SamePortions t t
+all_same t = record { left = refl; returned = refl }
+
+-- log and book are as before
+same_ledger : (id : DeskId) (k : KeptValue) (d : DeskValue) → IsKept id k → d.ledger ≡ k.desk.ledger → IsKept id (record k { desk = d })
+same_ledger id k d is same =
+    kept_by id k d k.issued k.spent k.number k.received is (ap (λ (l : LedgerValue). l.log.site) same) (ap (λ (l : LedgerValue). l.book.me) same)
+    (ap (λ (l : LedgerValue). sites l.book) same)
+    (subst (λ (l : LedgerValue). IsTallied l.book k.issued.sum k.spent.sum k.number.sum k.received.sum) (sym same) is.tallied) (all_same k.issued)
+    (all_same k.spent) (all_same k.number) (all_same k.received)
+
+-- the desk wrote an entry, by which so much was issued and spent
+pub kept_write : (id : DeskId) (k : KeptValue) (d : DeskValue) (ms : List Move) (a b : ℕ) (i s : TallyValue) → IsKept id k
+    → d.ledger.log.site ≡ k.desk.ledger.log.site → OwnLeaves k.desk.ledger.book ms d.ledger.book → issued ms ≡ a → spent ms ≡ b
+    → i ≡ raised k.issued a → s ≡ raised k.spent b → IsKept id (record k { desk = d; issued = i; spent = s })
+kept_write id k d ms a b i s is site l ia sb more used =
+    kept_by id k d i s k.number k.received is site l.same_me l.same_sites
+    (tallied_write k.desk.ledger.book d.ledger.book ms k.issued.sum k.spent.sum k.number.sum k.received.sum i.sum s.sum is.tallied l
+    (omega (arith, raised_sum k.issued i a more, ia)) (omega (arith, raised_sum k.spent s b used, sb)))
+    (raised_portions k.issued i a more) (raised_portions k.spent s b used) (all_same k.number) (all_same k.received)
+
+-- the book between what a K takes back and the K itself
+pub tallied_taking : (c : Bool) (b m : BookValue) (o x i s n r : ℕ) → TakesBackIf c b o x m → IsTallied b i s n r
+    → IsTallied m i s n r × (m.me ≡ b.me) × (sites m ≡ sites b) × ((k : ℕ) → (peer m k).log ≡ (peer b k).log)
+tallied_taking true b m o x i s n r same is =
+    (subst (λ (y : BookValue). IsTallied y i s n r) (sym same) is, ap (λ (y : BookValue). y.me) same, ap (λ (y : BookValue). sites y) same, λ k. ap (λ (y : BookValue). (peer y k).log) same)
+tallied_taking false b m o x i s n r taken is =
+    let l = taken.leaves in
+    (tallied_write b m (TakeBack o x ∷ []) i s n r i s is l (omega (arith, issued-take_back o x)) (omega (arith, spent-take_back o x)), l.same_me, l.same_sites, l.same_applied)
+
+-- the desk applied the next entry of site o
+pub kept_apply : (id : DeskId) (k : KeptValue) (d : DeskValue) (o : ℕ) (e : EntryValue) (n r : TallyValue) → IsKept id k
+    → AppliesEntry k.desk.ledger o e d.ledger → 1 ≤ o → o ≤ id.sites → e.prev ≡ (peer k.desk.ledger.book o).log.end → own e ≤ MAX_NUMBER
+    → n ≡ raised k.number (length e.moves) → r ≡ raised k.received (to id.site e.moves) → IsKept id (record k { desk = d; number = n; received = r })
+kept_apply id k d o e n r is applies low high next small more gift =
+    let old = k.desk.ledger.book in
+    let mid = applies.between in
+    let new = d.ledger.book in
+    let l = applies.leaves in
+    let t = tallied_taking (owed_by k.desk.ledger o e == 0) old mid o (owed_by k.desk.ledger o e) k.issued.sum k.spent.sum k.number.sum k.received.sum applies.taken is.tallied in
+    kept_by id k d k.issued k.spent n r is (ap (λ (log : LogValue). log.site) applies.log) (l.same_me ∙ t.1) (l.same_sites ∙ t.2)
+    (tallied_apply mid new o e k.issued.sum k.spent.sum k.number.sum k.received.sum n.sum r.sum t.0 l low
+    (omega (arith, high, t.2, is.same_sites)) (next ∙ ap (λ (x : Account). x.end) (sym (t.3 o))) small (raised_sum k.number n (length e.moves) more)
+    (raised_sum k.received r (to id.site e.moves) gift ∙ ap (λ s. k.received.sum + to s e.moves) (sym (t.1 ∙ is.same_me))))
+    (all_same k.issued) (all_same k.spent) (raised_portions k.number n (length e.moves) more) (raised_portions k.received r (to id.site e.moves) gift)
+
+-- what the desk received by that entry
+pub gift_is : (id : DeskId) (k : KeptValue) (d : DeskValue) (o : ℕ) (e : EntryValue) → IsKept id k → AppliesEntry k.desk.ledger o e d.ledger
+    → received_by d.ledger.book ≡ received_by k.desk.ledger.book + to id.site e.moves
+gift_is id k d o e is applies =
+    let mid = applies.between in
+    let t = tallied_taking (owed_by k.desk.ledger o e == 0) k.desk.ledger.book mid o (owed_by k.desk.ledger o e) k.issued.sum k.spent.sum k.number.sum k.received.sum applies.taken is.tallied in
+    applies.leaves.receives ∙ ap (λ n. n + to mid.me e.moves) (sym t.0.received_is ∙ is.tallied.received_is)
+    ∙ ap (λ s. received_by k.desk.ledger.book + to s e.moves) (t.1 ∙ is.same_me)
+
+-- ---- admitting
+
+-- one more was admitted
+pub admit_more : (bs : List Bool) (i : ℕ) (d : Bool) → i < length bs → get_or bs i d ≡ false → admitted_count (set bs i true) ≡ admitted_count bs + 1
+admit_more bs i d within free =
+    let h = sum_by-set (λ (b : Bool). cond b 1 0) bs i true d within in
+    omega (arith, h, ap {B = ℕ} (λ b. cond b 1 0) free)
+
+-- one that is free is not counted
+pub admit_left : (bs : List Bool) (i : ℕ) (d : Bool) → i < length bs → get_or bs i d ≡ false → admitted_count bs + 1 ≤ length bs
+admit_left bs i d within free =
+    let h = count_by-le-length (λ b. b) (set bs i true) in
+    omega (arith, admit_more bs i d within free, h, length-set bs i true)
+
+-- a portion is left for each site that was not admitted
+pub portion_left : (k : KeptValue) (i : ℕ) (d : Bool) → IsPortioned k → i < 16 → get_or k.admitted i d ≡ false → 1 ≤ k.number.left
+portion_left k i d p within free = omega (arith, admit_left k.admitted i d (omega (arith, p.places)) free, p.appliers, p.places)
+
+-- the same, by the site
+pub free_site : (bs : List Bool) (o : ℕ) → 1 ≤ o → o ≤ length bs → get_or bs (o - 1) false ≡ false → at_site bs o true ≡ false
+free_site bs o low high free =
+    at_site-index bs (o - 1) o true (omega arith) ∙ get_or_default bs (o - 1) true false (omega arith) ∙ free
+
+-- ---- the start
+
+nothing_numbered : (b : BookValue) → StandsForApplied (λ o. []) b → applied_by b ≡ 0
+nothing_numbered b h =
+    sum_same (sites b) (λ o. (peer b o).log.end) (λ o. 0) (λ o _ _. ap (λ (a : Account). a.end) (h.sums o)) ∙ sum_zero (sites b)
+
+nothing_received : (b : BookValue) → StandsForApplied (λ o. []) b → sum_sites (sites b) (λ o. (peer b o).received) ≡ 0
+nothing_received b h =
+    sum_same (sites b) (λ o. (peer b o).received) (λ o. 0) (λ o _ _. h.received_are o ∙ ap (to b.me) moves_of-nil ∙ to-nil b.me) ∙ sum_zero (sites b)
+
+-- a desk that wrote and applied nothing adds up to nothing
+pub nothing_tallied : (d : DeskValue) → IsUnused d → d.ledger.book.own.issued ≡ issued (moves_of d.ledger.log.entries)
+    → d.ledger.book.own.spent ≡ spent (moves_of d.ledger.log.entries)
+    → received_by d.ledger.book ≡ sum_sites (sites d.ledger.book) (λ o. (peer d.ledger.book o).received) → IsTallied d.ledger.book 0 0 0 0
+nothing_tallied d is i s r =
+    let none : moves_of d.ledger.log.entries ≡ [] = ap moves_of is.nothing_written ∙ moves_of-nil in
+    record {
+      issued_is = sym (i ∙ ap issued none ∙ issued-nil);
+      spent_is = sym (s ∙ ap spent none ∙ spent-nil);
+      number_is = sym (nothing_numbered d.ledger.book is.nothing_applied);
+      received_is = sym (r ∙ nothing_received d.ledger.book is.nothing_applied);
+      numbers = λ o. omega (arith, ap (λ (a : Account). a.end) (is.nothing_applied.sums o));
+    }
+
+pub opens : (id : DeskId) (d : DeskValue) (i s n r : TallyValue) (bs : List Bool) → id.site ≡ d.ledger.log.site → id.sites ≡ sites d.ledger.book
+    → sites d.ledger.book ≤ 16 → IsUnused d → IsTallied d.ledger.book 0 0 0 0 → i ≡ record { sum = 0; left = 64; returned = 0 }
+    → s ≡ record { sum = 0; left = 64; returned = 0 } → n ≡ record { sum = 0; left = 16; returned = 0 } → r ≡ record { sum = 0; left = 16; returned = 0 }
+    → length bs ≡ 16 → admitted_count bs ≡ 0 → IsKept id (record { desk = d; issued = i; spent = s; number = n; received = r; admitted = bs })
+opens id d i s n r bs site count few unused tallied hi hs hn hr places none = record {
+  site = sym site;
+  same_me = unused.same_site ∙ sym site;
+  same_sites = sym count;
+  few = omega (arith, count);
+  tallied = record {
+    issued_is = ap (λ (t : TallyValue). t.sum) hi ∙ tallied.issued_is;
+    spent_is = ap (λ (t : TallyValue). t.sum) hs ∙ tallied.spent_is;
+    number_is = ap (λ (t : TallyValue). t.sum) hn ∙ tallied.number_is;
+    received_is = ap (λ (t : TallyValue). t.sum) hr ∙ tallied.received_is;
+    numbers = tallied.numbers;
+  };
+  portioned = record {
+    seats = omega (arith, ap (λ (t : TallyValue). t.left) hi);
+    both = ap (λ (t : TallyValue). t.left) hs ∙ sym (ap (λ (t : TallyValue). t.left) hi);
+    places = places;
+    appliers = omega (arith, ap (λ (t : TallyValue). t.left) hn, none);
+    both_more = ap (λ (t : TallyValue). t.left) hr ∙ sym (ap (λ (t : TallyValue). t.left) hn);
+    no_issued_back = ap (λ (t : TallyValue). t.returned) hi;
+    no_spent_back = ap (λ (t : TallyValue). t.returned) hs;
+    no_number_back = ap (λ (t : TallyValue). t.returned) hn;
+    no_received_back = ap (λ (t : TallyValue). t.returned) hr;
+  };
+}
+
+-- ---- asks
+
+-- the desk answered an ask
+pub kept_answer : (id : DeskId) (k : KeptValue) (d : DeskValue) (ask : AskValue) (answer : AskAnswer) (number : Option ℕ) → IsKept id k
+    → DeskAnswers k.desk ask answer number d → IsKept id (record k { desk = d })
+kept_answer id k d ask (Granted n) number is a =
+    kept_write id k d (Grant ask.asker n ask.ask ∷ []) 0 0 k.issued k.spent is (ap (λ (l : LogValue). l.site) a.0.log) a.0.leaves
+    (issued-grant ask.asker n ask.ask) (spent-grant ask.asker n ask.ask) (raised_none k.issued) (raised_none k.spent)
+kept_answer id k d ask Deny number is a = same_ledger id k d is (ap (λ (x : DeskValue). x.ledger) a.1)
+kept_answer id k d ask RepeatedDeny number is a = same_ledger id k d is (ap (λ (x : DeskValue). x.ledger) a.1)
+kept_answer id k d ask Repeated number is a = same_ledger id k d is (ap (λ (x : DeskValue). x.ledger) a.1)
+kept_answer id k d ask OldAsk number is a = same_ledger id k d is (ap (λ (x : DeskValue). x.ledger) a.1)

@@ -1,0 +1,25 @@
+use Rattle.std.proofs.Common.{◌≡◌, ◌+◌, ◌-◌, arith, sym, ◌∙◌, subst, length}
+use Rattle.rights_types.specs.Rights.{to}
+use Rattle.rights_book.specs.Books.{peer}
+use Rattle.apply_lanes.specs.Kepts.{KeptValue, raised}
+use Rattle.apply_lanes.proofs.KeptLaws.{kept_apply, gift_is, numbers_bound}
+use Rattle.apply_lanes.proofs.kept.Kept.apply.Goals as goal
+
+pub add-requires : goal.add-requires
+add-requires g c =
+    let i = c.self.invariant in
+    let bound = numbers_bound c.self.inside.desk.ledger.book _ _ _ _ i.tallied (omega (arith, i.same_sites, i.few)) in
+    omega (arith, bound, c.own.ensures.value, c.prev.ensures.value, c.own.ensures.valid.few)
+
+pub invariant_of-self-2 : goal.invariant_of-self-2
+invariant_of-self-2 g c =
+    let i = c.self.invariant in
+    let e = c.args.entry.now in
+    let applies = c.in_ok-apply.ensures.ok.entry in
+    let next = subst (λ (k : KeptValue). e.prev ≡ (peer k.desk.ledger.book c.args.origin).log.end) (sym c.self.view_is) c.requires.next in
+    let count : c.own.result - c.prev.result ≡ length e.moves = omega (arith, c.own.ensures.value, c.prev.ensures.value) in
+    let gift : c.received.result - c.received-before.result ≡ to g.D.DeskNames.id.site e.moves =
+    omega (arith, c.received.ensures.value, c.received-before.ensures.value, gift_is _ _ c.apply.new.self _ _ i applies) in
+    kept_apply _ _ c.apply.new.self _ _ _ _ i applies c.number.ensures.range.0 c.requires.site next c.own.ensures.valid.number
+    (subst (λ n. c.add.new.self ≡ raised c.self.inside.number n) count c.add.ensures.sum)
+    (subst (λ n. c.add-2.new.self ≡ raised c.self.inside.received n) gift c.add-2.ensures.sum)

@@ -1,0 +1,24 @@
+use Rattle.std.proofs.Common.{sym, subst, ◌∙◌, arith}
+use Rattle.apply_lanes.specs.Kepts.{KeptValue, IsInBalance}
+use Rattle.apply_lanes.proofs.kept.Kept.desk.Goals as goal
+
+pub returns-clause-balance : goal.returns-clause-balance
+returns-clause-balance g c =
+    let t = c.self.invariant.tallied in
+    let inside : KeptValue = record {
+      desk = c.self.inside.desk;
+      issued = c.self.inside.issued;
+      spent = c.self.inside.spent;
+      number = c.self.inside.number;
+      received = c.self.inside.received;
+      admitted = c.self.inside.admitted;
+    } in
+    let balance : IsInBalance inside = record {
+      chain = c.log.ensures.chain;
+      issued_is = t.issued_is ∙ sym c.issued.ensures.booked ∙ c.issued.ensures.value;
+      spent_is = t.spent_is ∙ sym c.spent.ensures.booked ∙ c.spent.ensures.value;
+      number_is = t.number_is;
+      received_is = t.received_is ∙ sym c.received.ensures.value ∙ c.received.ensures.sum;
+      held_is = omega (arith, c.held.ensures.balance, c.held.ensures.value);
+    } in
+    subst (λ (k : KeptValue). IsInBalance k) c.self.view_is balance

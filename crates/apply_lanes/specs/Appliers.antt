@@ -1,0 +1,143 @@
+-- An applier: one thread's part in applying one log at a shared desk.
+use Rattle.std.specs.Prelude.{◌≡◌, ◌≢◌, ℕ, zero, suc, ◌+◌, ◌≤◌, ◌⊎◌, Bool, true, false, not, ◌==◌, ◌||◌, List, [], ◌∷◌, ◌++◌, length, Option, Some, None, Result, Ok, Err, if◌then◌else◌}
+use Rattle.rights_types.specs.Entries.{EntryValue, own}
+use Rattle.rights_types.specs.Chains.{end, moves_of}
+use Rattle.rights_types.specs.Rights.{to}
+use Rattle.rights_protocol.specs.Retiring.{one_taking}
+use Rattle.rights_book.specs.Books.{peer}
+use Rattle.site_core.specs.Ledgers.{owed_by, with_takings}
+use Rattle.site_core.specs.Desks.{DeskValue}
+use Rattle.site_core.specs.Faults.{has_closed}
+use Rattle.site_core.specs.Calls.{DeskApplies}
+use Rattle.apply_lanes.specs.declared.item.Item.{Item}
+use Rattle.apply_lanes.specs.declared.item.Item.TheVariants.{Entry, End}
+use Rattle.apply_lanes.specs.declared.applier.StepError.{StepError}
+use Rattle.apply_lanes.specs.declared.applier.StepError.TheVariants.{LaneClosed, OutOfStep, OutOfMemory}
+use Rattle.apply_lanes.specs.Ends.{OutletValue}
+use Rattle.apply_lanes.specs.Items.{items_of, end_if, IsItemChain}
+use Rattle.apply_lanes.specs.Kepts.{KeptValue, raised}
+use Rattle.apply_lanes.specs.Names.{DeskId}
+
+-- whose log it applies; the end of its lane; the entry that it took and has not applied; whether it took End; whether
+-- it has come to drop entries; and what it told the desk's tallies
+pub record ApplierValue (A : Type 0) : Type 0 where
+  pub origin : ℕ
+  pub outlet : OutletValue A
+  pub hand : Option EntryValue
+  pub ended : Bool
+  pub dropping : Bool
+  pub number : ℕ
+  pub received : ℕ
+
+-- what the shares of an applier told, once it is done
+pub record AppliedValue : Type 0 where
+  pub origin : ℕ
+  pub number : ℕ
+  pub received : ℕ
+
+abbrev pub in_hand : Option EntryValue → List EntryValue
+in_hand None = []
+in_hand (Some e) = e ∷ []
+
+module _ {A : Type 0} where
+  -- what was taken is what was applied, then what was dropped at a closed desk, then the entry in hand; number and
+  -- received are those of what was applied
+  pub record IsCounted (id : DeskId) (a : ApplierValue A) : Type 0 where
+    pub applied : List EntryValue
+    pub dropped : List EntryValue
+    pub taken : a.outlet.taken ≡ items_of (applied ++ dropped ++ in_hand a.hand) ++ end_if a.ended
+    pub chain : IsItemChain a.outlet.taken
+    pub none_dropped : a.dropping ≡ false → dropped ≡ []
+    pub number : a.number ≡ end applied
+    pub received : a.received ≡ to id.site (moves_of applied)
+    pub empty_hand : a.ended ≡ true → a.hand ≡ None
+
+  -- of every applier of the desk
+  pub record IsApplier (id : DeskId) (a : ApplierValue A) : Type 0 where
+    pub site : a.origin ≤ id.sites
+    pub other : a.origin ≢ id.site
+    pub counted : IsCounted id a
+
+  abbrev pub new_applier : ℕ → OutletValue A → ApplierValue A
+  new_applier o outlet = record { origin = o; outlet = outlet; hand = None; ended = false; dropping = false; number = 0; received = 0 }
+
+  -- ---- applying the entry in hand
+
+  -- the desk had closed when the applier came to it, now or before: the entry is dropped
+  abbrev pub is_late : ApplierValue A → DeskValue → Bool
+  is_late a d = a.dropping || has_closed d
+
+  -- the book has another number of that origin than the entry's previous one, or has its log closed
+  abbrev pub is_out_of_step : ApplierValue A → DeskValue → EntryValue → Bool
+  is_out_of_step a d e = let p = peer d.ledger.book a.origin in p.log.closed || not (p.log.end == e.prev)
+
+  abbrev pub step_fault : ApplierValue A → DeskValue → EntryValue → Option StepError
+  step_fault a d e = if is_late a d then None else (if is_out_of_step a d e then Some OutOfStep else None)
+
+  -- the entry was dropped, or applied: then the applier told its numbers and what it gives to the site
+  abbrev pub dropped : ApplierValue A → ApplierValue A
+  dropped a = record a { hand = None; dropping = true }
+
+  abbrev pub applied : DeskId → ApplierValue A → EntryValue → ApplierValue A
+  applied id a e = record a { hand = None; number = own e; received = a.received + to id.site e.moves }
+
+-- a refusal by this fault; where there is none, memory may be wanting
+abbrev pub StepRefuses : Option StepError → Result Unit StepError → Type 0
+StepRefuses fault (Ok x) = fault ≡ None
+StepRefuses fault (Err OutOfMemory) = fault ≡ None
+StepRefuses fault (Err e) = fault ≡ Some e
+
+-- under the lock: the book's number of the origin o and what it received from there moved on by the entry e, and all
+-- else stayed, but for one entry that takes back what a K leaves behind, and asks that e grants
+pub record MovesOn (site : ℕ) (old : DeskValue) (o : ℕ) (e : EntryValue) (new : DeskValue) : Type 0 where
+  pub applies : DeskApplies old o e new
+  pub from : (peer old.ledger.book o).log.end ≡ e.prev
+  pub up_to : (peer new.ledger.book o).log.end ≡ own e
+  pub received : (peer new.ledger.book o).received ≡ (peer old.ledger.book o).received + to site e.moves
+  pub log : new.ledger.log ≡ with_takings old.ledger.log (one_taking o (owed_by old.ledger o e))
+  pub same_queue : new.queue ≡ old.queue
+  pub same_given : (j : ℕ) → (peer new.ledger.book j).given ≡ (peer old.ledger.book j).given
+  pub others : (k : ℕ) → k ≢ o → (peer new.ledger.book k).log ≡ (peer old.ledger.book k).log
+  pub others_received : (k : ℕ) → k ≢ o → (peer new.ledger.book k).received ≡ (peer old.ledger.book k).received
+
+abbrev pub counted_on : DeskId → KeptValue → EntryValue → DeskValue → KeptValue
+counted_on id k e d = record k { desk = d; number = raised k.number (length e.moves); received = raised k.received (to id.site e.moves) }
+
+-- ---- a step
+
+module _ {A : Type 0} where
+  -- the lane's outlet after one item more
+  abbrev pub with_taken : OutletValue A → Item A → OutletValue A
+  with_taken o x = record o { taken = o.taken ++ x ∷ []; dead = false }
+
+  -- the entry e is in hand: the one that was, or the next that was taken
+  abbrev pub HasNext : Option EntryValue → ApplierValue A → EntryValue → ApplierValue A → Type 0
+  HasNext None old e new = new ≡ record old { outlet = with_taken old.outlet (Entry e); hand = Some e }
+  HasNext (Some f) old e new = (f ≡ e) × (new ≡ old)
+
+  -- End was taken, now or before
+  abbrev pub HasEnded : Bool → ApplierValue A → ApplierValue A → Type 0
+  HasEnded true old new = new ≡ old
+  HasEnded false old new = (old.hand ≡ None) × (new ≡ record old { outlet = with_taken old.outlet End; ended = true })
+
+  -- the next entry is in hand; or there is none after End
+  abbrev pub Fills : ApplierValue A → Bool → ApplierValue A → Type 0
+  Fills old true new = (old.ended ≡ false) × (e : EntryValue) × HasNext old.hand old e new
+  Fills old false new = HasEnded old.ended old new
+
+  -- one entry more was applied or dropped; or there is none after End
+  abbrev pub Steps : DeskId → ApplierValue A → Bool → ApplierValue A → Type 0
+  Steps id old true new =
+      (old.ended ≡ false) × (e : EntryValue) × (mid : ApplierValue A) × HasNext old.hand old e mid
+      × (((mid.dropping ≡ false) × (new ≡ applied id mid e)) ⊎ (new ≡ dropped mid))
+  Steps id old false new = HasEnded old.ended old new
+
+  -- a step that failed: nothing came; or the next entry is in hand
+  abbrev pub StepFails : ApplierValue A → StepError → ApplierValue A → Type 0
+  StepFails old LaneClosed new = (old.hand ≡ None) × (new ≡ record old { outlet = record old.outlet { dead = true } })
+  StepFails old fault new = (old.ended ≡ false) × (e : EntryValue) × HasNext old.hand old e new
+
+  -- so many entries were applied or dropped, and then came End
+  abbrev pub Runs : DeskId → ApplierValue A → ℕ → ApplierValue A → Type 0
+  Runs id old zero new = Steps id old false new
+  Runs id old (suc n) new = (mid : ApplierValue A) × Steps id old true mid × Runs id mid n new

@@ -1,0 +1,146 @@
+-- An intake: the lines of one other site, whose entries go to a lane as they become ready.
+use Rattle.std.specs.Prelude.{◌≡◌, ℕ, Bool, true, false, List, [], ◌∷◌, ◌++◌, count_by, Option, Some, None, Result, Ok, Err}
+use Rattle.rights_types.specs.Entries.{EntryValue}
+use Rattle.rights_types.specs.Chains.{is_closed, closed_from, IsChain}
+use Rattle.rights_types.specs.Messages.{MessageValue}
+use Rattle.entry_codec.specs.declared.fault.LineError.{LineError}
+use Rattle.sub_buffer.specs.Follows.{HasPut}
+use Rattle.sub_buffer.specs.declared.verdict.Verdict.{Verdict}
+use Rattle.sub_buffer.specs.declared.verdict.Verdict.TheVariants.{Ready, Held, Repeat, AfterClose, Full}
+use Rattle.site_core.specs.Inbounds.{InboundValue, line_fault, InboundRefuses, ready_in, Arrives}
+use Rattle.site_core.specs.declared.fault.InboundError.{InboundError}
+use Rattle.site_core.specs.declared.inbound.Arrival.{Arrival}
+use Rattle.site_core.specs.declared.inbound.Arrival.TheVariants.{Entries as ComesEntries, Beat as ComesBeat, Query as ComesQuery, Ask as ComesAsk, Deny as ComesDeny, Hello as ComesHello}
+use Rattle.apply_lanes.specs.declared.item.Item.{Item}
+use Rattle.apply_lanes.specs.declared.item.Item.TheVariants.{End}
+use Rattle.apply_lanes.specs.declared.intake.VerdictCounts.{VerdictCounts}
+use Rattle.apply_lanes.specs.declared.intake.Arrived.{Arrived}
+use Rattle.apply_lanes.specs.declared.intake.Arrived.TheVariants.{Entries, Beat, Query, Ask, Deny, Hello}
+use Rattle.apply_lanes.specs.declared.intake.IntakeError.{IntakeError}
+use Rattle.apply_lanes.specs.declared.intake.IntakeError.TheVariants.{Inbound, LaneClosed}
+use Rattle.apply_lanes.specs.Ends.{InletValue}
+use Rattle.apply_lanes.specs.Items.{items_of, end_if, IsOpen, IsEnded, StartsWith}
+
+-- ---- the verdicts of a line
+
+abbrev pub is_ready : {A : Type 0} → Verdict A → Bool
+is_ready (Ready e) = true
+is_ready v = false
+
+abbrev pub is_held : {A : Type 0} → Verdict A → Bool
+is_held Held = true
+is_held v = false
+
+abbrev pub is_repeat : {A : Type 0} → Verdict A → Bool
+is_repeat Repeat = true
+is_repeat v = false
+
+abbrev pub is_after_close : {A : Type 0} → Verdict A → Bool
+is_after_close AfterClose = true
+is_after_close v = false
+
+abbrev pub is_full : {A : Type 0} → Verdict A → Bool
+is_full Full = true
+is_full v = false
+
+-- how many verdicts there are of each kind
+abbrev pub counts_of : {A : Type 0} → List (Verdict A) → VerdictCounts
+counts_of vs = record {
+  ready = count_by is_ready vs;
+  held = count_by is_held vs;
+  repeat = count_by is_repeat vs;
+  after_close = count_by is_after_close vs;
+  full = count_by is_full vs;
+}
+
+-- what an intake says of what came
+abbrev pub arrived_of : {A : Type 0} → Arrival A → Arrived
+arrived_of (ComesEntries vs) = Entries (counts_of vs)
+arrived_of ComesBeat = Beat
+arrived_of (ComesQuery q) = Query q
+arrived_of (ComesAsk a) = Ask a
+arrived_of (ComesDeny d) = Deny d
+arrived_of ComesHello = Hello
+
+-- the entries that became ready by what came
+abbrev pub ready_of : {A : Type 0} → Arrival A → List EntryValue
+ready_of (ComesEntries vs) = ready_in vs
+ready_of arrival = []
+
+-- a line is refused by the inbound's cause, or else since the lane is closed
+abbrev pub IntakeRefuses : {X : Type 0} → InboundValue → Result MessageValue LineError → Result X IntakeError → Type 0
+IntakeRefuses i read (Ok x) = line_fault i read ≡ None
+IntakeRefuses i read (Err (Inbound fault)) = InboundRefuses {X = Unit {0}} i read (Err fault)
+IntakeRefuses i read (Err LaneClosed) = line_fault i read ≡ None
+
+-- what comes in; the end of its lane; whether End was put, and whether by finishing
+pub record IntakeValue (A : Type 0) : Type 0 where
+  pub inbound : InboundValue
+  pub inlet : InletValue A
+  pub ended : Bool
+  pub finished : Bool
+
+module _ {A : Type 0} where
+  -- entries as they are put: in order, with End after a closing one
+  abbrev pub sent : List EntryValue → List (Item A)
+  sent es = items_of es ++ end_if (is_closed es)
+
+  -- all that came in order was put
+  pub record IsInStep (i : IntakeValue A) : Type 0 where
+    pub entries : List EntryValue
+    pub delivered : HasPut entries i.inbound.buffer
+    pub put : i.inlet.put ≡ sent entries
+    pub ended : i.ended ≡ is_closed entries
+
+  -- of every intake
+  pub record IsIntake (i : IntakeValue A) : Type 0 where
+    pub no_end : i.ended ≡ false → IsOpen i.inlet.put
+    pub at_end : i.ended ≡ true → IsEnded i.inlet.put
+    pub in_step : i.inlet.dead ≡ false → i.finished ≡ false → IsInStep i
+
+  -- ---- a line
+
+  -- the message of a line came in by this arrival
+  pub record Brings (old : IntakeValue A) (read : Result MessageValue LineError) (arrival : Arrival A) (new : IntakeValue A) : Type 0 where
+    pub message : MessageValue
+    pub read_as : read ≡ Ok message
+    pub arrives : Arrives old.inbound message arrival new.inbound
+    pub lane : new.inlet.lane ≡ old.inlet.lane
+
+  -- all entries that became ready were put, in order, and End after a closing one
+  abbrev pub TakesIn : IntakeValue A → Result MessageValue LineError → Arrived → IntakeValue A → Type 0
+  TakesIn old read arrived new =
+      (arrival : Arrival A) × Brings old read arrival new × (arrived ≡ arrived_of arrival)
+      × (new.inlet.put ≡ old.inlet.put ++ sent (ready_of arrival)) × (new.inlet.dead ≡ false)
+
+  -- the lane is closed: only a front of these was put
+  abbrev pub FindsClosed : IntakeValue A → Result MessageValue LineError → IntakeValue A → Type 0
+  FindsClosed old read new =
+      (arrival : Arrival A) × Brings old read arrival new × (front : List (Item A)) × (rest : List (Item A))
+      × (front ++ rest ≡ sent (ready_of arrival)) × (new.inlet.put ≡ old.inlet.put ++ front) × (new.inlet.dead ≡ true)
+
+  abbrev pub LineLeaves : IntakeValue A → Result MessageValue LineError → Result Arrived IntakeError → IntakeValue A → Type 0
+  LineLeaves old read (Ok arrived) new = TakesIn old read arrived new
+  LineLeaves old read (Err LaneClosed) new = FindsClosed old read new
+  LineLeaves old read (Err (Inbound fault)) new = new ≡ old
+
+  -- ---- putting
+
+  -- these entries go on the chain of those that were put, and End was put where that has closed
+  abbrev pub CanPut : Bool → List (Item A) → List EntryValue → Type 0
+  CanPut ended put more = (o : ℕ) × (es : List EntryValue) × IsChain o (es ++ more) × (put ≡ sent es) × (ended ≡ is_closed es)
+
+  -- they were put, and End after a closing one
+  abbrev pub PutsAll : List (Item A) → Bool → List EntryValue → Bool → InletValue A → Type 0
+  PutsAll put was_ended more ended new = (new.put ≡ put ++ sent more) × (ended ≡ closed_from was_ended more) × (new.dead ≡ false)
+
+  -- only a front of these was put, and no End
+  abbrev pub PutsFront : List (Item A) → List EntryValue → Bool → InletValue A → Type 0
+  PutsFront put more ended new =
+      (front : List (Item A)) × (rest : List (Item A)) × (front ++ rest ≡ sent more) × (new.put ≡ put ++ front)
+      × (new.dead ≡ true) × (ended ≡ false) × IsOpen new.put
+
+  -- what was put once it ends in End, where that was put before or not
+  abbrev pub with_end : Bool → List (Item A) → List (Item A)
+  with_end true put = put
+  with_end false put = put ++ End ∷ []

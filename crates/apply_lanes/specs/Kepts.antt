@@ -1,0 +1,113 @@
+-- The value under the lock of a shared desk, and what its seats were told.
+use Rattle.std.specs.Prelude.{◌≡◌, ℕ, ◌+◌, ◌≤◌, Bool, List, [], length, Option, Some, None, count_by, sum_by}
+use Rattle.std.specs.List.{slice_index_or}
+use Rattle.rights_types.specs.Chains.{moves_of, IsChain}
+use Rattle.rights_types.specs.Rights.{issued, spent, out, taken_back, sum_sites}
+use Rattle.rights_types.specs.Places.{at_site, set_site}
+use Rattle.rights_types.specs.declared.limits.TheConstants.{MAX_NUMBER, MAX_SITES}
+use Rattle.rights_book.specs.Books.{BookValue, sites, peer, received_by, held_by, applied_by}
+use Rattle.site_core.specs.Desks.{DeskValue}
+use Rattle.site_core.specs.declared.desk.requests.Spending.{Spending}
+use Rattle.site_core.specs.declared.desk.requests.Spending.TheVariants.{Spent, Queued}
+use Rattle.apply_lanes.specs.declared.names.TheConstants.{SEATS, APPLIERS}
+use Rattle.apply_lanes.specs.Names.{DeskId}
+use Rattle.apply_lanes.specs.Tallies.{TallyValue}
+
+-- the desk, its four tallies, and which sites have an applier of their logs
+pub record KeptValue : Type 0 where
+  pub desk : DeskValue
+  pub issued : TallyValue
+  pub spent : TallyValue
+  pub number : TallyValue
+  pub received : TallyValue
+  pub admitted : List Bool
+
+-- ---- what the lock keeps
+
+-- the four sums are the book's, of which each number is in its range
+pub record IsTallied (b : BookValue) (issued spent number received : ℕ) : Type 0 where
+  pub issued_is : issued ≡ b.own.issued
+  pub spent_is : spent ≡ b.own.spent
+  pub number_is : number ≡ applied_by b
+  pub received_is : received ≡ received_by b
+  pub numbers : (o : ℕ) → (peer b o).log.end ≤ MAX_NUMBER
+
+-- how many appliers were given out
+abbrev pub admitted_count : List Bool → ℕ
+admitted_count bs = count_by (λ b. b) bs
+
+-- each seat has a portion of two tallies, each applier one of the two others, and none has come back
+pub record IsPortioned (k : KeptValue) : Type 0 where
+  pub seats : k.issued.left ≤ SEATS
+  pub both : k.spent.left ≡ k.issued.left
+  pub places : length k.admitted ≡ APPLIERS
+  pub appliers : k.number.left + admitted_count k.admitted ≡ APPLIERS
+  pub both_more : k.received.left ≡ k.number.left
+  pub no_issued_back : k.issued.returned ≡ 0
+  pub no_spent_back : k.spent.returned ≡ 0
+  pub no_number_back : k.number.returned ≡ 0
+  pub no_received_back : k.received.returned ≡ 0
+
+-- whenever the lock is free
+pub record IsKept (id : DeskId) (k : KeptValue) : Type 0 where
+  pub site : k.desk.ledger.log.site ≡ id.site
+  pub same_me : k.desk.ledger.book.me ≡ id.site
+  pub same_sites : sites k.desk.ledger.book ≡ id.sites
+  pub few : id.sites ≤ MAX_SITES
+  pub tallied : IsTallied k.desk.ledger.book k.issued.sum k.spent.sum k.number.sum k.received.sum
+  pub portioned : IsPortioned k
+
+-- the log is a chain; the sums are those of the log and of what was applied; and what is held is issued, received
+-- and taken back, less given and spent, so that this is not negative
+pub record IsInBalance (k : KeptValue) : Type 0 where
+  pub chain : IsChain k.desk.ledger.log.site k.desk.ledger.log.entries
+  pub issued_is : k.issued.sum ≡ issued (moves_of k.desk.ledger.log.entries)
+  pub spent_is : k.spent.sum ≡ spent (moves_of k.desk.ledger.log.entries)
+  pub number_is : k.number.sum ≡ sum_sites (sites k.desk.ledger.book) (λ o. (peer k.desk.ledger.book o).log.end)
+  pub received_is : k.received.sum ≡ sum_sites (sites k.desk.ledger.book) (λ o. (peer k.desk.ledger.book o).received)
+  pub held_is : held_by k.desk.ledger.book + out (moves_of k.desk.ledger.log.entries) + spent (moves_of k.desk.ledger.log.entries)
+      ≡ issued (moves_of k.desk.ledger.log.entries) + sum_sites (sites k.desk.ledger.book) (λ o. (peer k.desk.ledger.book o).received)
+      + taken_back (moves_of k.desk.ledger.log.entries)
+
+-- a tally to which so much was added
+abbrev pub raised : TallyValue → ℕ → TallyValue
+raised t n = record t { sum = t.sum + n }
+
+-- .. of which one portion more was given out
+abbrev pub one_less : TallyValue → TallyValue → Type 0
+one_less old new = (new ≡ record old { left = new.left }) × (new.left + 1 ≡ old.left)
+
+-- ---- seats
+
+-- what a seat was told
+pub record SeatValue : Type 0 where
+  pub issued : ℕ
+  pub spent : ℕ
+  pub served : ℕ
+
+abbrev pub told_nothing : SeatValue
+told_nothing = record { issued = 0; spent = 0; served = 0 }
+
+abbrev pub told_issued : SeatValue → ℕ → SeatValue
+told_issued s n = record s { issued = s.issued + n }
+
+abbrev pub told_served : SeatValue → ℕ → SeatValue
+told_served s n = record s { served = s.served + n }
+
+-- what is spent by a spend that got this answer
+abbrev pub spent_by : ℕ → Spending → ℕ
+spent_by n (Spent number) = n
+spent_by n (Queued ticket) = 0
+
+abbrev pub told_spent : SeatValue → ℕ → Spending → SeatValue
+told_spent s n answer = record s { spent = s.spent + spent_by n answer }
+
+-- ---- what a serve answers, with the amount
+
+abbrev pub without_amount : Option (ℕ × ℕ × ℕ) → Option (ℕ × ℕ)
+without_amount None = None
+without_amount (Some (ticket, number, amount)) = Some (ticket, number)
+
+abbrev pub amount_of : Option (ℕ × ℕ × ℕ) → ℕ
+amount_of None = 0
+amount_of (Some (ticket, number, amount)) = amount

@@ -1,0 +1,40 @@
+-- What a desk that threads share is known by.
+use Rattle.std.specs.Prelude.{◌≡◌, ℕ, ◌+◌, []}
+use Rattle.rights_book.specs.Books.{sites}
+use Rattle.rights_book.specs.StandsFor.{StandsForApplied}
+use Rattle.site_core.specs.Desks.{DeskValue}
+use Rattle.apply_lanes.specs.declared.names.Blanks.{Blanks}
+use Rattle.apply_lanes.specs.declared.names.TheConstants.{SEATS, APPLIERS}
+
+-- the names of its four ledgers, its site, and how many sites the system has
+pub record DeskId : Type 0 where
+  pub issued : ℕ
+  pub spent : ℕ
+  pub number : ℕ
+  pub received : ℕ
+  pub site : ℕ
+  pub sites : ℕ
+
+-- of a desk with these blanks
+abbrev pub id_of : DeskValue → Blanks → DeskId
+id_of d blanks = record {
+  issued = blanks.issued.name;
+  spent = blanks.spent.name;
+  number = blanks.number.name;
+  received = blanks.received.name;
+  site = d.ledger.log.site;
+  sites = sites d.ledger.book;
+}
+
+-- a part for each seat or applier, and one for the desk
+pub record AreBlank (blanks : Blanks) : Type 0 where
+  pub issued : blanks.issued.parts ≡ SEATS + 1
+  pub spent : blanks.spent.parts ≡ SEATS + 1
+  pub number : blanks.number.parts ≡ APPLIERS + 1
+  pub received : blanks.received.parts ≡ APPLIERS + 1
+
+-- it wrote nothing and applied nothing
+pub record IsUnused (d : DeskValue) : Type 0 where
+  pub same_site : d.ledger.book.me ≡ d.ledger.log.site
+  pub nothing_written : d.ledger.log.entries ≡ []
+  pub nothing_applied : StandsForApplied (λ o. []) d.ledger.book

@@ -1,0 +1,256 @@
+//! One thread's part in applying one log.
+ghost use Rattle.std.specs.Prelude.{◌≡◌, ◌≢◌, ℕ, ◌≤◌, true, false, [], Some, None, Ok, IsSome, IfOk, IfErr, OnOk, OnErr, length};
+ghost use Rattle.rights_types.specs.Entries.{EntryValue};
+ghost use Rattle.rights_protocol.specs.Retiring.{numbers_in};
+ghost use Rattle.apply_lanes.specs.Appliers.{IsApplier, new_applier};
+ghost use Rattle.apply_lanes.specs.declared.applier.StepError.TheVariants.{OutOfMemory as NoMemory};
+
+use crate::ends::Outlet;
+use crate::gate::Gate;
+use crate::item::Item;
+use crate::kept::Kept;
+use crate::names::{DeskNames, NumberOf, ReceivedBy};
+use crate::shared_desk::SharedDesk;
+use crate::tally::Portion;
+use rights_types::{Entry, SiteId};
+use std::alloc::{Allocator, Global};
+use std::marker::Model;
+use std::sync::Wait;
+use std::time::Clock;
+
+/// Why a step of an applier failed, in the order in which the causes are looked for.
+#[derive(Clone, Copy, Debug, PartialEq, Eq)]
+pub enum StepError {
+    /// The lane's other end is gone, and nothing waits on it.
+    LaneClosed,
+    /// The desk's number of this log is not the one before the entry, or the desk has this log closed. The
+    /// entry stays in hand.
+    OutOfStep,
+    /// A request for memory was refused. The entry stays in hand, and the next step tries it again.
+    OutOfMemory,
+}
+
+/// Takes the entries of one log from a lane, and applies them at a shared desk, one under each lock. Where
+/// the desk has closed it drops them, and all that come after.
+#[derive(Drop)]
+pub struct Applier<D: DeskNames, G: Gate, A: Allocator = Global> {
+    pub(crate) origin: SiteId,
+    pub(crate) outlet: Outlet<A>,
+    pub(crate) gate: G,
+    pub(crate) hand: Option<Entry<A>>,
+    pub(crate) ended: bool,
+    pub(crate) dropping: bool,
+    pub(crate) number: Portion<NumberOf<D>>,
+    pub(crate) received: Portion<ReceivedBy<D>>,
+}
+
+impl<D: DeskNames, G: Gate, A: Allocator> Model for Applier<D, G, A> {
+    ghost use Rattle.apply_lanes.specs.Appliers.{ApplierValue, IsApplier};
+
+    ghost Value = { ApplierValue A };
+
+    ghost view = { λ a. record { origin = a.origin; outlet = a.outlet; hand = a.hand; ended = a.ended; dropping = a.dropping; number = a.number; received = a.received } };
+
+    ghost invariant = { λ a. IsApplier D.id (record { origin = a.origin; outlet = a.outlet; hand = a.hand; ended = a.ended; dropping = a.dropping; number = a.number; received = a.received }) };
+}
+
+impl<D: DeskNames, G: Gate, A: Allocator> Applier<D, G, A> {
+    ghost use Rattle.apply_lanes.specs.Appliers.{ApplierValue, IsCounted, is_late, step_fault, StepRefuses, MovesOn, applied, dropped, counted_on, Fills, Steps, StepFails, Runs};
+
+    /// Applies the entry in hand, under the lock whose value this is; at a closed desk it is dropped. A
+    /// refusal leaves it in hand, and changes nothing.
+    pub fn apply_in<B: Allocator + Copy>(&mut self, kept: &mut Kept<D, B>) -> Result<(), StepError>
+        requires { IsSome self.old.hand }
+        ensures refused { (e : EntryValue) → self.old.hand ≡ Some e → StepRefuses (step_fault self.old kept.old.desk e) result }
+        ensures dropped { OnOk result (is_late self.old kept.old.desk ≡ true → (self.new ≡ dropped self.old) × (kept.new ≡ kept.old)) }
+        ensures applied { OnOk result (is_late self.old kept.old.desk ≡ false → (e : EntryValue) → self.old.hand ≡ Some e → self.new ≡ applied D.id self.old e) }
+        ensures desk { OnOk result (is_late self.old kept.old.desk ≡ false → (e : EntryValue) → self.old.hand ≡ Some e
+            → MovesOn D.id.site kept.old.desk self.old.origin e kept.new.desk × (kept.new ≡ counted_on D.id kept.old e kept.new.desk)) }
+        ensures same { (self.new.origin ≡ self.old.origin) × (self.new.outlet ≡ self.old.outlet) }
+        ensures before { IsCounted D.id self.old }
+        ensures after { IsCounted D.id self.new }
+        ensures err { OnErr result ((self.new ≡ self.old) × (kept.new ≡ kept.old)) }
+        ensures memory { (e : EntryValue) → self.old.hand ≡ Some e → numbers_in e.moves ≡ None → IfErr result (λ fault. ¬ (fault ≡ NoMemory)) }
+    {
+        let is_late = self.is_late(kept);
+        let Some(entry) = &self.hand else {
+            unreachable!()
+        };
+        if is_late {
+            self.hand = None;
+            self.dropping = true;
+            return Ok(());
+        }
+        if kept.desk.closed(self.origin) || kept.desk.applied(self.origin) != entry.prev() {
+            return Err(StepError::OutOfStep);
+        }
+        match kept.apply(self.origin, entry, &mut self.number, &mut self.received) {
+            Ok(()) => {
+                self.hand = None;
+                Ok(())
+            }
+            Err(_) => Err(StepError::OutOfMemory),
+        }
+    }
+
+    // Whether the desk had closed when the applier came to it, now or before.
+    fn is_late<B: Allocator + Copy>(&self, kept: &Kept<D, B>) -> bool
+        ensures { result ≡ is_late self.now kept.now.desk }
+    {
+        self.dropping || kept.desk.log().closed()
+    }
+
+    // Has the next entry in hand. False where End was taken.
+    fn fill<R: Wait>(&mut self, rt: &R) -> Result<bool, StepError>
+        ensures ok { IfOk result (λ more. Fills self.old more self.new) }
+        ensures hand { IfOk result (λ more. more ≡ true → IsSome self.new.hand) }
+        ensures counted { IsCounted D.id self.new }
+        ensures same { (self.new.origin ≡ self.old.origin) × (self.new.outlet.lane ≡ self.old.outlet.lane) }
+        ensures err { IfErr result (λ fault. StepFails self.old fault self.new) }
+        ensures ended { self.old.ended ≡ true → result ≡ Ok false }
+    {
+        if self.ended {
+            return Ok(false);
+        }
+        if self.hand.is_some() {
+            return Ok(true);
+        }
+        match self.outlet.take(rt) {
+            Ok(Item::Entry(entry)) => {
+                self.hand = Some(entry);
+                Ok(true)
+            }
+            Ok(Item::End) => {
+                self.ended = true;
+                Ok(false)
+            }
+            Err(_) => Err(StepError::LaneClosed),
+        }
+    }
+
+    // Passes the gate.
+    fn pass<R: Wait + Clock>(&mut self, rt: &R)
+        ensures { self.new ≡ self.old }
+    {
+        self.gate.before_apply(rt, self.origin);
+    }
+
+    /// Takes the next entry where none is in hand, passes the gate, and applies or drops it under the lock.
+    /// False where End was taken.
+    pub fn step<R: Wait + Clock, B: Allocator + Copy>(
+        &mut self,
+        rt: &R,
+        desk: &SharedDesk<D, B>,
+    ) -> Result<bool, StepError>
+        ensures ok { IfOk result (λ more. Steps D.id self.old more self.new) }
+        ensures ended { self.old.ended ≡ true → (result ≡ Ok false) × (self.new ≡ self.old) }
+        ensures counted { IsCounted D.id self.new }
+        ensures same { (self.new.origin ≡ self.old.origin) × (self.new.outlet.lane ≡ self.old.outlet.lane) }
+        ensures err { IfErr result (λ fault. StepFails self.old fault self.new) }
+    {
+        if !self.fill(rt)? {
+            return Ok(false);
+        }
+        self.pass(rt);
+        let mut kept = desk.lock(rt);
+        self.apply_in(&mut *kept)?;
+        Ok(true)
+    }
+
+    /// Steps until End was taken, and answers how many entries were applied or dropped.
+    pub fn run<R: Wait + Clock, B: Allocator + Copy>(
+        &mut self,
+        rt: &R,
+        desk: &SharedDesk<D, B>,
+    ) -> Result<u64, StepError>
+        ensures ok { IfOk result (λ n. Runs D.id self.old n self.new) }
+        ensures ended { OnOk result (self.new.ended ≡ true) }
+        ensures counted { IsCounted D.id self.new }
+        ensures same { (self.new.origin ≡ self.old.origin) × (self.new.outlet.lane ≡ self.old.outlet.lane) }
+    {
+        for count in 0..u64::MAX {
+            if !self.step(rt, desk)? {
+                return Ok(count);
+            }
+        }
+        // No log has as many entries.
+        for _ in rt.forever() {}
+        unreachable!()
+    }
+}
+
+/// What an applier told, once it is done.
+#[derive(Drop)]
+pub struct Applied<D: DeskNames> {
+    origin: SiteId,
+    number: Portion<NumberOf<D>>,
+    received: Portion<ReceivedBy<D>>,
+}
+
+impl<D: DeskNames> Model for Applied<D> {
+    ghost use Rattle.apply_lanes.specs.Appliers.{AppliedValue};
+
+    ghost Value = { AppliedValue };
+
+    ghost view = { λ a. record { origin = a.origin; number = a.number; received = a.received } };
+}
+
+impl<D: DeskNames> Applied<D> {
+    /// Whose log it applied.
+    pub fn origin(&self) -> SiteId
+        ensures { result ≡ self.now.origin }
+    {
+        self.origin
+    }
+
+    /// The number of the last entry that it applied, 0 where there was none.
+    pub fn number(&self) -> u64
+        ensures { result ≡ self.now.number }
+    {
+        self.number.told()
+    }
+
+    /// What the entries that it applied gave to the site.
+    pub fn received(&self) -> u64
+        ensures { result ≡ self.now.received }
+    {
+        self.received.told()
+    }
+
+    pub(crate) fn into_portions(self) -> (Portion<NumberOf<D>>, Portion<ReceivedBy<D>>)
+        ensures { (result.0 ≡ self.number) × (result.1 ≡ self.received) }
+    {
+        let Applied {
+            origin: _,
+            number,
+            received,
+        } = self;
+        (number, received)
+    }
+}
+
+impl<D: DeskNames, G: Gate + Drop, A: Allocator> Applier<D, G, A> {
+    ghost use Rattle.apply_lanes.specs.Appliers.{IsCounted};
+
+    /// Ends the applier. An entry in hand is dropped.
+    pub fn done(self) -> Applied<D>
+        ensures value { result ≡ record { origin = self.origin; number = self.number; received = self.received } }
+        ensures counted { IsCounted D.id self }
+    {
+        let Applier {
+            origin,
+            outlet: _,
+            gate: _,
+            hand: _,
+            ended: _,
+            dropping: _,
+            number,
+            received,
+        } = self;
+        Applied {
+            origin,
+            number,
+            received,
+        }
+    }
+}

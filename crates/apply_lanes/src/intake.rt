@@ -1,0 +1,271 @@
+//! What one other site sends: lines in, and entries out on a lane.
+ghost use Rattle.std.specs.Prelude.{◌≡◌, ◌≤◌, ◌++◌, [], ◌∷◌, true, false, List, Option, IfOk, IfErr, OnOk, OnErr, IsErr, MatchResult, IsSome, length};
+ghost use Rattle.std.specs.Option.{option_map};
+ghost use Rattle.rights_types.specs.Entries.{EntryValue};
+ghost use Rattle.rights_types.specs.Chains.{IsChain, is_closed};
+ghost use Rattle.rights_types.specs.Messages.{QueryValue};
+ghost use Rattle.rights_types.specs.Messages.MessageValue.{AQuery};
+ghost use Rattle.entry_codec.specs.Reading.{reading};
+ghost use Rattle.sub_buffer.specs.declared.arrivals.TheConstants.{MAX_VERDICTS};
+ghost use Rattle.sub_buffer.specs.Gaps.{GapOf, GapIs, StateOf};
+ghost use Rattle.sub_buffer.specs.Follows.{HasPut, Follows};
+ghost use Rattle.site_core.specs.Calls.{LineOf};
+ghost use Rattle.site_core.specs.Inbounds.{QueryOf, ready_in};
+ghost use Rattle.apply_lanes.specs.Items.{IsOpen, IsEnded};
+ghost use Rattle.apply_lanes.specs.Intakes.{counts_of, CanPut, PutsAll, PutsFront, with_end};
+ghost use Rattle.apply_lanes.specs.declared.intake.IntakeError.TheVariants.{LaneClosed as ClosedLane};
+
+use crate::ends::{Inlet, LaneClosed};
+use rights_types::{Ask, Deny, Entry, OutOfMemory, Query};
+use site_core::{Arrival, Inbound, InboundError};
+use std::alloc::{Allocator, Global};
+use std::marker::Model;
+use std::sync::Wait;
+use sub_buffer::{MAX_VERDICTS, State, Verdict};
+
+/// How many verdicts of each kind the entries of one line got.
+#[derive(Clone, Copy, Debug, PartialEq, Eq)]
+pub struct VerdictCounts {
+    pub ready: usize,
+    pub held: usize,
+    pub repeat: usize,
+    pub after_close: usize,
+    pub full: usize,
+}
+
+/// What a line brought. Entries that are ready have gone to the lane.
+#[derive(Clone, Copy, Debug, PartialEq, Eq)]
+pub enum Arrived {
+    /// Entries.
+    Entries(VerdictCounts),
+    /// A beat.
+    Beat,
+    /// The origin asks for entries of the desk's log.
+    Query(Query),
+    /// The origin asks for rights.
+    Ask(Ask),
+    /// The origin denied an ask of the desk.
+    Deny(Deny),
+    /// The first line of a connection.
+    Hello,
+}
+
+/// Why a line was not taken in, in the order in which the causes are looked for.
+#[derive(Clone, Copy, Debug, PartialEq, Eq)]
+pub enum IntakeError {
+    /// The line is to be skipped: it has changed nothing.
+    Inbound(InboundError),
+    /// The lane's other end is gone. The intake is dead: it takes no line in from then on.
+    LaneClosed,
+}
+
+/// The lines that one other site sends. What they bring in order goes to a lane; no call is lent a desk.
+#[derive(Drop)]
+pub struct Intake<A: Allocator = Global> {
+    inbound: Inbound<A>,
+    inlet: Inlet<A>,
+    ended: bool,
+    finished: bool,
+}
+
+impl<A: Allocator> Model for Intake<A> {
+    ghost use Rattle.apply_lanes.specs.Intakes.{IntakeValue, IsIntake};
+
+    ghost Value = { IntakeValue A };
+
+    ghost view = { λ i. record { inbound = i.inbound; inlet = i.inlet; ended = i.ended; finished = i.finished } };
+
+    ghost invariant = { λ i. IsIntake (record { inbound = i.inbound; inlet = i.inlet; ended = i.ended; finished = i.finished }) };
+}
+
+impl<A: Allocator> Intake<A> {
+    pub(crate) fn into_inlet(self) -> Inlet<A>
+        ensures { result ≡ self.inlet }
+    {
+        let Intake {
+            inbound: _,
+            inlet,
+            ended: _,
+            finished: _,
+        } = self;
+        inlet
+    }
+}
+
+impl<A: Allocator + Copy> Intake<A> {
+    ghost use Rattle.apply_lanes.specs.Intakes.{IntakeValue, IntakeRefuses, LineLeaves};
+    /// What comes in to an inbound to which nothing came, by a new lane.
+    pub fn new(inbound: Inbound<A>, inlet: Inlet<A>) -> Intake<A>
+        requires inbound { HasPut [] inbound.buffer }
+        requires inlet { (inlet.put ≡ []) × (inlet.dead ≡ false) }
+        ensures { result ≡ record { inbound = inbound; inlet = inlet; ended = false; finished = false } }
+    {
+        Intake {
+            inbound,
+            inlet,
+            ended: false,
+            finished: false,
+        }
+    }
+
+    /// Takes a line in, and puts the entries that are ready by it; after a closing one also End. It waits
+    /// while the lane is full. Not to be called after `finish`.
+    pub fn on_line<R: Wait>(&mut self, rt: &R, line: &[u8]) -> Result<Arrived, IntakeError>
+        requires { self.old.finished ≡ false }
+        ensures refused { IntakeRefuses self.old.inbound (reading line.now) result }
+        ensures leaves { LineLeaves self.old (reading line.now) result self.new }
+        ensures dead { self.old.inlet.dead ≡ true → IsErr result × (self.new.inlet ≡ self.old.inlet) }
+        ensures lane { self.new.inlet.lane ≡ self.old.inlet.lane }
+        ensures unfinished { self.new.finished ≡ false }
+    {
+        let arrival = match self.inbound.on_line(line) {
+            Ok(arrival) => arrival,
+            Err(fault) => return Err(IntakeError::Inbound(fault)),
+        };
+        if self.inlet.is_dead() {
+            return Err(IntakeError::LaneClosed);
+        }
+        match arrival {
+            Arrival::Entries { verdicts } => {
+                let verdicts = verdicts.into_vec();
+                let counts = count(&verdicts);
+                put_ready(rt, &mut self.inlet, &mut self.ended, verdicts)?;
+                Ok(Arrived::Entries(counts))
+            }
+            Arrival::Beat => Ok(Arrived::Beat),
+            Arrival::Query(query) => Ok(Arrived::Query(query)),
+            Arrival::Ask(ask) => Ok(Arrived::Ask(ask)),
+            Arrival::Deny(deny) => Ok(Arrived::Deny(deny)),
+            Arrival::Hello => Ok(Arrived::Hello),
+        }
+    }
+    /// The line of the query for the gap, where there is one: always with `again`, else where it is not the
+    /// gap that was asked for last. It counts as asked for from then on, also where the line found no memory.
+    pub fn query_line(&mut self, again: bool) -> Result<Option<Vec<u8, A>>, OutOfMemory>
+        ensures query { (q : Option QueryValue) × QueryOf self.old.inbound again q self.new.inbound
+            × MatchResult result (λ line. LineOf (λ l. l.items) (option_map (λ x. AQuery x) q) line) (λ _. IsSome q) }
+        ensures rest { self.new ≡ record self.old { inbound = self.new.inbound } }
+    {
+        self.inbound.query_line(again)
+    }
+
+    /// Puts End, where none was put. It waits while the lane is full.
+    pub fn finish<R: Wait>(&mut self, rt: &R) -> Result<(), LaneClosed<A>>
+        ensures ok { OnOk result ((self.new.ended ≡ true) × IsEnded self.new.inlet.put × (self.new.inlet.put ≡ with_end self.old.ended self.old.inlet.put)) }
+        ensures err { OnErr result ((self.old.ended ≡ false) × (self.new ≡ record self.old { inlet = record self.old.inlet { dead = true } })) }
+        ensures dead { self.old.ended ≡ false → self.old.inlet.dead ≡ true → IsErr result }
+        ensures rest { (self.new.inbound ≡ self.old.inbound) × (self.new.inlet.lane ≡ self.old.inlet.lane) }
+    {
+        if !self.ended {
+            self.inlet.end(rt)?;
+            self.ended = true;
+            self.finished = true;
+        }
+        Ok(())
+    }
+
+    /// Buffering where there is a gap.
+    pub fn state(&self) -> State
+        ensures table { (gap : Option QueryValue) × GapOf self.now.inbound.buffer gap × StateOf gap result }
+        ensures log { (es set put : List EntryValue) → Follows es set put self.now.inbound.buffer
+            → (gap : Option QueryValue) × GapIs self.now.inbound.buffer.me self.now.inbound.buffer.origin set put self.now.inbound.buffer.told gap × StateOf gap result }
+    {
+        self.inbound.state()
+    }
+
+    /// How many entries are held, at most 64.
+    pub fn held_count(&self) -> usize
+        ensures { result ≡ length self.now.inbound.buffer.held }
+    {
+        self.inbound.held_count()
+    }
+}
+
+// How many verdicts there are of each kind.
+fn count<A: Allocator>(verdicts: &[Verdict<A>]) -> VerdictCounts
+    requires { length verdicts.now ≤ MAX_VERDICTS }
+    ensures { result ≡ counts_of verdicts.now }
+{
+    let mut counts = VerdictCounts {
+        ready: 0,
+        held: 0,
+        repeat: 0,
+        after_close: 0,
+        full: 0,
+    };
+    for verdict in verdicts {
+        match verdict {
+            Verdict::Ready(_) => counts.ready += 1,
+            Verdict::Held => counts.held += 1,
+            Verdict::Repeat => counts.repeat += 1,
+            Verdict::AfterClose => counts.after_close += 1,
+            Verdict::Full => counts.full += 1,
+        }
+    }
+    counts
+}
+
+// Puts the entries that are ready, in order, and End after a closing one.
+fn put_ready<A: Allocator, R: Wait>(
+    rt: &R,
+    inlet: &mut Inlet<A>,
+    ended: &mut bool,
+    verdicts: Vec<Verdict<A>, A>,
+) -> Result<(), IntakeError>
+    requires entries { CanPut ended.old inlet.old.put (ready_in verdicts.items) }
+    requires live { inlet.old.dead ≡ false }
+    ensures lane { inlet.new.lane ≡ inlet.old.lane }
+    ensures ok { OnOk result (PutsAll inlet.old.put ended.old (ready_in verdicts.items) ended.new inlet.new) }
+    ensures err { IfErr result (λ fault. (fault ≡ ClosedLane) × PutsFront inlet.old.put (ready_in verdicts.items) ended.new inlet.new) }
+{
+    for verdict in verdicts {
+        if let Err(fault) = put_if_ready(rt, inlet, ended, verdict) {
+            return Err(fault);
+        }
+    }
+    Ok(())
+}
+
+// Puts the verdict's entry, if it has one, and End after it where it closes.
+fn put_if_ready<A: Allocator, R: Wait>(
+    rt: &R,
+    inlet: &mut Inlet<A>,
+    ended: &mut bool,
+    verdict: Verdict<A>,
+) -> Result<(), IntakeError>
+    requires entries { CanPut ended.old inlet.old.put (ready_in (verdict ∷ [])) }
+    requires live { inlet.old.dead ≡ false }
+    ensures lane { inlet.new.lane ≡ inlet.old.lane }
+    ensures ok { OnOk result (PutsAll inlet.old.put ended.old (ready_in (verdict ∷ [])) ended.new inlet.new) }
+    ensures err { IfErr result (λ fault. (fault ≡ ClosedLane) × PutsFront inlet.old.put (ready_in (verdict ∷ [])) ended.new inlet.new) }
+{
+    match verdict {
+        Verdict::Ready(entry) => put_next(rt, inlet, ended, entry),
+        Verdict::Held | Verdict::Repeat | Verdict::AfterClose | Verdict::Full => Ok(()),
+    }
+}
+
+// Puts the entry, and End after it where it closes.
+fn put_next<A: Allocator, R: Wait>(
+    rt: &R,
+    inlet: &mut Inlet<A>,
+    ended: &mut bool,
+    entry: Entry<A>,
+) -> Result<(), IntakeError>
+    requires { CanPut ended.old inlet.old.put (entry ∷ []) }
+    ensures lane { inlet.new.lane ≡ inlet.old.lane }
+    ensures ok { OnOk result (PutsAll inlet.old.put ended.old (entry ∷ []) ended.new inlet.new) }
+    ensures err { IfErr result (λ fault. (fault ≡ ClosedLane) × PutsFront inlet.old.put (entry ∷ []) ended.new inlet.new) }
+{
+    let closes = entry.closes();
+    let Ok(()) = inlet.put(rt, entry) else {
+        return Err(IntakeError::LaneClosed);
+    };
+    if closes {
+        let Ok(()) = inlet.end(rt) else {
+            return Err(IntakeError::LaneClosed);
+        };
+        *ended = true;
+    }
+    Ok(())
+}

@@ -1,0 +1,196 @@
+//! The value under the lock of a shared desk: a desk, with the four tallies of what it did.
+ghost use Rattle.std.specs.Prelude.{◌≡◌, ◌≢◌, ◌+◌, ◌≤◌, ◌<◌, true, false, [], List, Option, Some, None, IfOk, IfErr, IfSome, IfNone, IsOk, OnOk, OnErr, MatchResult, length};
+ghost use Rattle.rights_types.specs.Entries.{EntryValue};
+ghost use Rattle.rights_types.specs.Places.{at_site, set_site};
+ghost use Rattle.rights_types.specs.Rights.{to};
+ghost use Rattle.rights_protocol.specs.Retiring.{numbers_in};
+ghost use Rattle.rights_book.specs.Books.{sites, peer};
+ghost use Rattle.site_core.specs.Faults.{has_closed};
+ghost use Rattle.site_core.specs.Calls.{DeskApplies};
+ghost use Rattle.apply_lanes.specs.Names.{id_of, AreBlank, IsUnused};
+ghost use Rattle.apply_lanes.specs.Views.{IsViewOf};
+ghost use Rattle.apply_lanes.specs.Admissions.{Admits};
+
+use crate::names::{APPLIERS, Blanks, DeskNames, IssuedBy, NumberOf, ReceivedBy, SEATS, SpentBy};
+use crate::seat::Seat;
+use crate::tally::{Portion, Tally};
+use crate::view::DeskView;
+use rights_types::{Entry, OutOfMemory, SiteId};
+use site_core::Desk;
+use std::alloc::{Allocator, Global};
+use std::marker::Model;
+
+mod lines;
+mod requests;
+
+/// A desk under its lock. It is met behind the guard of `SharedDesk::lock` alone. Its calls are those of the
+/// desk, and answer as these do; what is issued and spent counts for a seat besides.
+#[derive(Drop)]
+pub struct Kept<D: DeskNames, A: Allocator = Global> {
+    pub(crate) desk: Desk<A>,
+    pub(crate) issued: Tally<IssuedBy<D>>,
+    pub(crate) spent: Tally<SpentBy<D>>,
+    pub(crate) number: Tally<NumberOf<D>>,
+    pub(crate) received: Tally<ReceivedBy<D>>,
+    // Whether an applier was given out, of each site's log.
+    pub(crate) admitted: [bool; 16],
+}
+
+impl<D: DeskNames, A: Allocator> Model for Kept<D, A> {
+    ghost use Rattle.apply_lanes.specs.Kepts.{KeptValue, IsKept};
+
+    ghost Value = { KeptValue };
+
+    ghost view = { λ k. record { desk = k.desk; issued = k.issued; spent = k.spent; number = k.number; received = k.received; admitted = k.admitted } };
+
+    ghost invariant = { λ k. IsKept D.id (record { desk = k.desk; issued = k.issued; spent = k.spent; number = k.number; received = k.received; admitted = k.admitted }) };
+}
+
+/// Why an origin gets no applier, in the order in which the causes are looked for.
+#[derive(Clone, Copy, Debug, PartialEq, Eq)]
+pub enum AdmitFault {
+    /// The system does not have that site.
+    NoSuchSite,
+    /// It is the desk's own site.
+    SameSite,
+    /// An applier of that origin was given out.
+    Taken,
+}
+
+/// The two portions of an applier: of the numbers applied, and of what was received.
+pub(crate) type Admission<D> = (Portion<NumberOf<D>>, Portion<ReceivedBy<D>>);
+
+impl<D: DeskNames, A: Allocator + Copy> Kept<D, A> {
+    ghost use Rattle.apply_lanes.specs.Kepts.{KeptValue, IsKept, IsInBalance, raised, one_less, told_nothing};
+
+    /// A fresh desk, which nobody has a seat at.
+    pub(crate) fn open(desk: Desk<A>, blanks: Blanks) -> Kept<D, A>
+        requires id { D.id ≡ id_of desk blanks }
+        requires blanks { AreBlank blanks }
+        requires unused { IsUnused desk }
+        ensures desk { result.desk ≡ desk }
+    {
+        // For the proof: what a desk with an empty log issued, spent and received.
+        let _ = (desk.sites(), desk.issued(), desk.spent(), desk.received());
+        let Blanks {
+            issued,
+            spent,
+            number,
+            received,
+        } = blanks;
+        Kept {
+            desk,
+            issued: Tally::open(issued, SEATS),
+            spent: Tally::open(spent, SEATS),
+            number: Tally::open(number, APPLIERS),
+            received: Tally::open(received, APPLIERS),
+            admitted: [false; 16],
+        }
+    }
+
+    /// The desk, lent for reading. Whenever the lock is free, it is in balance.
+    pub fn desk(&self) -> &Desk<A>
+        ensures value { result.now ≡ self.now.desk }
+        ensures balance { IsInBalance self.now }
+        ensures valid { IsKept D.id self.now }
+    {
+        let desk = &self.desk;
+        // For the proof: what the desk's readers say of its log.
+        let _ = desk.log();
+        let _ = (desk.issued(), desk.spent(), desk.received(), desk.held());
+        desk
+    }
+
+    /// What the desk looks like now.
+    pub fn view(&self) -> DeskView
+        ensures { IsViewOf self.now.desk result }
+    {
+        let desk = &self.desk;
+        DeskView {
+            site: desk.site(),
+            closed: desk.log().closed(),
+            number: desk.number(),
+            issued: desk.issued(),
+            spent: desk.spent(),
+            given: desk.given(),
+            back: desk.taken_back(),
+            received: desk.received(),
+            held: desk.held(),
+            queued: desk.queued(),
+        }
+    }
+
+    /// A new seat, if there is one left.
+    pub(crate) fn seat(&mut self) -> Option<Seat<D>>
+        ensures some { IfSome result (λ s. (s ≡ told_nothing) × one_less self.old.issued self.new.issued) }
+        ensures none { IfNone result ((self.old.issued.left ≡ 0) × (self.new ≡ self.old)) }
+        ensures rest { self.new ≡ record self.old { issued = self.new.issued; spent = self.new.spent } }
+    {
+        let issued = self.issued.split()?;
+        let Some(used) = self.spent.split() else {
+            unreachable!()
+        };
+        Some(Seat {
+            issued,
+            used,
+            spent: 0,
+            served: 0,
+        })
+    }
+
+    /// The portions of the applier of that origin.
+    pub(crate) fn admit(&mut self, origin: SiteId) -> Result<Admission<D>, AdmitFault>
+        ensures refused { MatchResult result (λ _. Admits D.id self.old.admitted origin None) (λ fault. Admits D.id self.old.admitted origin (Some fault)) }
+        ensures ok { IfOk result (λ p. (p.0 ≡ 0) × (p.1 ≡ 0) × (self.new.admitted ≡ set_site self.old.admitted origin true) × one_less self.old.number self.new.number) }
+        ensures err { OnErr result (self.new ≡ self.old) }
+        ensures rest { self.new ≡ record self.old { number = self.new.number; received = self.new.received; admitted = self.new.admitted } }
+    {
+        if origin.number() > self.desk.sites() {
+            return Err(AdmitFault::NoSuchSite);
+        }
+        if origin == self.desk.site() {
+            return Err(AdmitFault::SameSite);
+        }
+        let place = origin.number() as usize - 1;
+        if self.admitted[place] {
+            return Err(AdmitFault::Taken);
+        }
+        let Some(number) = self.number.split() else {
+            unreachable!()
+        };
+        let Some(received) = self.received.split() else {
+            unreachable!()
+        };
+        self.admitted[place] = true;
+        Ok((number, received))
+    }
+
+    /// Applies the origin's next entry, and counts it.
+    pub(crate) fn apply<B: Allocator>(
+        &mut self,
+        origin: SiteId,
+        entry: &Entry<B>,
+        number: &mut Portion<NumberOf<D>>,
+        received: &mut Portion<ReceivedBy<D>>,
+    ) -> Result<(), OutOfMemory>
+        requires site { origin ≤ D.id.sites }
+        requires other { origin ≢ D.id.site }
+        requires unclosed { (peer self.old.desk.ledger.book origin).log.closed ≡ false }
+        requires next { entry.now.prev ≡ (peer self.old.desk.ledger.book origin).log.end }
+        requires open { has_closed self.old.desk ≡ false }
+        ensures ok { OnOk result (DeskApplies self.old.desk origin entry.now self.new.desk) }
+        ensures tallies { OnOk result (self.new ≡ record self.old { desk = self.new.desk; number = raised self.old.number (length entry.now.moves); received = raised self.old.received (to D.id.site entry.now.moves) }) }
+        ensures told { OnOk result ((number.new ≡ number.old + length entry.now.moves) × (received.new ≡ received.old + to D.id.site entry.now.moves)) }
+        ensures err { OnErr result ((self.new ≡ self.old) × (number.new ≡ number.old) × (received.new ≡ received.old)) }
+        ensures memory { numbers_in entry.now.moves ≡ None → IsOk result }
+    {
+        // For the proof: the site's number is in its range.
+        let _ = origin.number();
+        let before = self.desk.received();
+        self.desk.apply(origin, entry)?;
+        let gift = self.desk.received() - before;
+        self.number.add(number, entry.own() - entry.prev());
+        self.received.add(received, gift);
+        Ok(())
+    }
+}

@@ -1,0 +1,50 @@
+//! Lines that a desk sends, under its lock.
+ghost use Rattle.std.specs.Prelude.{◌≡◌, None, IfOk, IsOk, OnOk, OnErr};
+ghost use Rattle.std.specs.Option.{option_map};
+ghost use Rattle.rights_types.specs.Messages.MessageValue.{AnAsk, AnAnswer};
+ghost use Rattle.entry_codec.specs.Spelling.{Spells};
+ghost use Rattle.origin_log.specs.Answering.{answer_to_query};
+ghost use Rattle.origin_log.specs.Faults.{query_fault, ReadRefuses};
+ghost use Rattle.transfer_manager.specs.Managers.{outstanding_ask};
+ghost use Rattle.site_core.specs.Calls.{LineOf, next_push, after_publish, beat_of};
+
+use crate::kept::Kept;
+use crate::names::DeskNames;
+use origin_log::ReadError;
+use rights_types::{OutOfMemory, Query, SiteId};
+use std::alloc::Allocator;
+
+impl<D: DeskNames, A: Allocator + Copy> Kept<D, A> {
+    /// The line of the outstanding ask to that peer.
+    pub fn ask_line(&self, peer: SiteId) -> Result<Option<Vec<u8, A>>, OutOfMemory>
+        ensures line { IfOk result (λ line. LineOf (λ l. l.items) (option_map (λ ask. AnAsk ask) (outstanding_ask self.now.desk.manager peer)) line) }
+        ensures memory { outstanding_ask self.now.desk.manager peer ≡ None → IsOk result }
+    {
+        self.desk.ask_line(peer)
+    }
+
+    /// The line of the next entry for that peer, which is published by it; None where all were.
+    pub fn publish(&mut self, peer: SiteId) -> Result<Option<Vec<u8, A>>, OutOfMemory>
+        ensures line { IfOk result (λ line. LineOf (λ l. l.items) (next_push self.old.desk.ledger.log peer) line) }
+        ensures ok { OnOk result (self.new ≡ record self.old { desk = after_publish self.old.desk peer }) }
+        ensures err { OnErr result (self.new ≡ self.old) }
+        ensures memory { next_push self.old.desk.ledger.log peer ≡ None → IsOk result }
+    {
+        self.desk.publish(peer)
+    }
+
+    /// The line of a beat: the log's end.
+    pub fn beat_line(&self, peer: SiteId) -> Result<Vec<u8, A>, OutOfMemory>
+        ensures { IfOk result (λ line. Spells (beat_of self.now.desk.ledger.log) line.items) }
+    {
+        self.desk.beat_line(peer)
+    }
+
+    /// The line of the answer to a query.
+    pub fn on_query(&self, query: &Query) -> Result<Vec<u8, A>, ReadError>
+        ensures refused { ReadRefuses (query_fault self.now.desk.ledger.log query.now) result }
+        ensures ok { IfOk result (λ line. Spells (AnAnswer (answer_to_query query.now self.now.desk.ledger.log)) line.items) }
+    {
+        self.desk.on_query(query)
+    }
+}

@@ -1,0 +1,156 @@
+//! Calls under the lock by which a desk changes: what seats issue and spend, and all others.
+ghost use Rattle.std.specs.Prelude.{◌≡◌, ℕ, ◌≤◌, ◌∷◌, [], true, None, Some, IfOk, IfErr, OnOk, OnErr, IsOk, List};
+ghost use Rattle.rights_types.specs.Chains.{end};
+ghost use Rattle.rights_types.specs.declared.moves.Move.TheVariants.{Issue as Issues, Give as Gives};
+ghost use Rattle.rights_book.specs.Books.{sites};
+ghost use Rattle.request_queue.specs.Queues.{front_of};
+ghost use Rattle.request_queue.specs.Calls.{TellsOutcome};
+ghost use Rattle.transfer_manager.specs.Managers.{ended};
+ghost use Rattle.site_core.specs.Faults.{can_spend, can_serve, issue_fault, give_fault, spend_fault, serve_fault, expire_fault, close_fault, DeskRefuses};
+ghost use Rattle.site_core.specs.Calls.{DeskWrites, DeskSpends, DeskServes, DeskExpires, DeskPlans, DeskCloses, answer_of, is_ignored, denial_of, LineOf, DeskAnswers};
+ghost use Rattle.site_core.specs.declared.fault.DeskError.TheVariants.{OutOfMemory as NoMemory};
+
+use crate::kept::Kept;
+use crate::names::DeskNames;
+use crate::seat::Seat;
+use request_queue::Status;
+use rights_types::{Ask, AskNumber, OutOfMemory, SiteId};
+use site_core::{AskReply, DeskError, Spending};
+use std::alloc::Allocator;
+
+impl<D: DeskNames, A: Allocator + Copy> Kept<D, A> {
+    ghost use Rattle.apply_lanes.specs.Kepts.{raised, told_issued, told_spent, told_served, spent_by, without_amount, amount_of};
+
+    /// Creates rights, by one entry whose number is answered.
+    pub fn issue(&mut self, seat: &mut Seat<D>, amount: u64) -> Result<u64, DeskError>
+        ensures refused { DeskRefuses (issue_fault self.old.desk amount) result }
+        ensures ok { OnOk result (DeskWrites self.old.desk (Issues amount ∷ []) self.new.desk) }
+        ensures number { IfOk result (λ n. n ≡ end self.new.desk.ledger.log.entries) }
+        ensures tallies { OnOk result (self.new ≡ record self.old { desk = self.new.desk; issued = raised self.old.issued amount }) }
+        ensures told { OnOk result (seat.new ≡ told_issued seat.old amount) }
+        ensures err { OnErr result ((self.new ≡ self.old) × (seat.new ≡ seat.old)) }
+    {
+        let number = self.desk.issue(amount)?;
+        // For the proof: the sum is in its range.
+        let _ = self.desk.issued();
+        self.issued.add(&mut seat.issued, amount);
+        Ok(number)
+    }
+
+    /// Spends so many rights at once, where no spend waits and as many are held; else lets the spend wait.
+    pub fn spend(
+        &mut self,
+        seat: &mut Seat<D>,
+        amount: u64,
+        deadline: u64,
+    ) -> Result<Spending, DeskError>
+        ensures refused { DeskRefuses (spend_fault self.old.desk amount) result }
+        ensures ok { OnOk result (IfOk result (λ spending. DeskSpends self.old.desk amount deadline spending self.new.desk)) }
+        ensures tallies { IfOk result (λ spending. self.new ≡ record self.old { desk = self.new.desk; spent = raised self.old.spent (spent_by amount spending) }) }
+        ensures told { IfOk result (λ spending. seat.new ≡ told_spent seat.old amount spending) }
+        ensures err { OnErr result ((self.new ≡ self.old) × (seat.new ≡ seat.old)) }
+        ensures memory { IfErr result (λ fault. fault ≡ NoMemory → can_spend self.old.desk amount ≡ true) }
+    {
+        let spending = self.desk.spend(amount, deadline)?;
+        if let Spending::Spent(_) = spending {
+            // For the proof: the sum is in its range.
+            let _ = self.desk.spent();
+            self.spent.add(&mut seat.used, amount);
+            seat.spent += amount;
+        }
+        Ok(spending)
+    }
+
+    /// Serves the spend that waits at the front, where as many rights are held, and answers its ticket, the
+    /// number of the entry that spends it, and its amount.
+    pub fn serve(&mut self, seat: &mut Seat<D>) -> Result<Option<(u64, u64, u64)>, DeskError>
+        ensures refused { DeskRefuses (serve_fault self.old.desk) result }
+        ensures ok { IfOk result (λ served. DeskServes self.old.desk (without_amount served) self.new.desk) }
+        ensures tallies { IfOk result (λ served. self.new ≡ record self.old { desk = self.new.desk; spent = raised self.old.spent (amount_of served) }) }
+        ensures told { IfOk result (λ served. seat.new ≡ told_served seat.old (amount_of served)) }
+        ensures err { OnErr result ((self.new ≡ self.old) × (seat.new ≡ seat.old)) }
+        ensures memory { IfErr result (λ fault. fault ≡ NoMemory → can_serve self.old.desk (front_of self.old.desk.queue.waiting) ≡ true) }
+    {
+        let before = self.desk.spent();
+        let Some((ticket, number)) = self.desk.serve()? else {
+            return Ok(None);
+        };
+        let amount = self.desk.spent() - before;
+        self.spent.add(&mut seat.used, amount);
+        seat.served += amount;
+        Ok(Some((ticket, number, amount)))
+    }
+
+    /// Gives rights to a peer that did not ask, by one entry whose number is answered.
+    pub fn give_back(&mut self, peer: SiteId, amount: u64) -> Result<u64, DeskError>
+        ensures refused { DeskRefuses (give_fault self.old.desk peer amount) result }
+        ensures ok { OnOk result (DeskWrites self.old.desk (Gives peer amount ∷ []) self.new.desk) }
+        ensures number { IfOk result (λ n. n ≡ end self.new.desk.ledger.log.entries) }
+        ensures err { OnErr result (self.new ≡ self.old) }
+        ensures rest { self.new ≡ record self.old { desk = self.new.desk } }
+    {
+        Ok(self.desk.give_back(peer, amount)?)
+    }
+
+    /// Ends all waiting spends whose deadlines are less than this time, and answers how many they were.
+    pub fn expire(&mut self, time: u64) -> Result<u64, DeskError>
+        ensures refused { DeskRefuses (expire_fault self.old.desk time) result }
+        ensures memory { IfErr result (λ fault. ¬ (fault ≡ NoMemory)) }
+        ensures ok { IfOk result (λ count. DeskExpires self.old.desk time count self.new.desk) }
+        ensures err { OnErr result (self.new ≡ self.old) }
+        ensures rest { self.new ≡ record self.old { desk = self.new.desk } }
+    {
+        self.desk.expire(time)
+    }
+
+    /// What became of the spend of this ticket. Its outcome is told once, which frees its slot.
+    pub fn status(&mut self, ticket: u64) -> Status
+        ensures outcome { TellsOutcome self.old.desk.queue ticket result self.new.desk.queue }
+        ensures rest { self.new ≡ record self.old { desk = record self.old.desk { queue = self.new.desk.queue } } }
+    {
+        self.desk.status(ticket)
+    }
+
+    /// Ends asks to peers that are known to have closed, and asks peers for the rights that waiting spends
+    /// lack. Answers how many were asked.
+    pub fn plan(&mut self) -> u64
+        ensures plans { DeskPlans self.old.desk result self.new.desk }
+        ensures rest { self.new ≡ record self.old { desk = self.new.desk } }
+    {
+        self.desk.plan()
+    }
+
+    /// Answers the ask of a peer. A grant is written at once.
+    pub fn on_ask(&mut self, ask: &Ask) -> Result<AskReply<A>, OutOfMemory>
+        requires site { ask.now.asker ≤ sites self.old.desk.ledger.book }
+        requires mine { ask.now.asked ≡ self.old.desk.ledger.log.site }
+        ensures answer { IfOk result (λ reply. reply.answer ≡ answer_of self.old.desk ask.now) }
+        ensures ok { IfOk result (λ reply. DeskAnswers self.old.desk ask.now reply.answer reply.number self.new.desk) }
+        ensures line { IfOk result (λ reply. LineOf (λ (l : List ℕ). l) (denial_of ask.now reply.answer) reply.line) }
+        ensures err { OnErr result (self.new ≡ self.old) }
+        ensures rest { self.new ≡ record self.old { desk = self.new.desk } }
+        ensures memory { is_ignored (answer_of self.old.desk ask.now) ≡ true → IsOk result }
+    {
+        Ok(self.desk.on_ask(ask)?)
+    }
+
+    /// That peer denied the ask of this number. Only the outstanding one ends by it.
+    pub fn on_deny(&mut self, peer: SiteId, ask: AskNumber)
+        requires site { peer ≤ sites self.old.desk.ledger.book }
+        ensures { self.new ≡ record self.old { desk = record self.old.desk { manager = ended self.old.desk.manager peer ask } } }
+    {
+        self.desk.on_deny(peer, ask);
+    }
+
+    /// Writes the closing entry, and answers its number. All that is held goes to the heir. From then on
+    /// appliers drop what they take.
+    pub fn close(&mut self, heir: Option<SiteId>) -> Result<u64, DeskError>
+        ensures refused { DeskRefuses (close_fault self.old.desk heir) result }
+        ensures ok { OnOk result (DeskCloses self.old.desk heir self.new.desk) }
+        ensures number { IfOk result (λ n. n ≡ end self.new.desk.ledger.log.entries) }
+        ensures err { OnErr result (self.new ≡ self.old) }
+        ensures rest { self.new ≡ record self.old { desk = self.new.desk } }
+    {
+        Ok(self.desk.close(heir)?)
+    }
+}

@@ -1,0 +1,83 @@
+//! What a shared desk is known by, and the names of its four ledgers.
+ghost use Rattle.apply_lanes.specs.Names.{DeskId};
+
+use std::marker::{Brand, PhantomData};
+use std::sync::ledger::{Blank, Ledger};
+
+/// Seats of one shared desk, at most.
+pub const SEATS: u64 = 64;
+
+/// Appliers of one shared desk, at most: one for each site that a system can have.
+pub const APPLIERS: u64 = 16;
+
+/// Names one shared desk: its seats and appliers are those of a type. A program picks it where it calls a
+/// function over all names with `Brand`, by the desk and the blanks that it passes.
+pub trait DeskNames {
+    ghost id: { DeskId };
+}
+
+impl DeskNames for Brand {
+    ghost id = { record { issued = 0; spent = 0; number = 0; received = 0; site = 0; sites = 0 } };
+}
+
+/// What the names of four ledgers are written on: of the rights issued, and spent, by seats, and of the
+/// numbers applied, and the rights received, by appliers.
+#[derive(Drop)]
+pub struct Blanks {
+    pub issued: Blank,
+    pub spent: Blank,
+    pub number: Blank,
+    pub received: Blank,
+}
+
+impl Blanks {
+    ghost use Rattle.apply_lanes.specs.Names.{AreBlank};
+
+    /// Blanks for one desk.
+    pub fn new() -> Blanks
+        ensures { AreBlank result }
+    {
+        Blanks {
+            issued: Blank::new(SEATS + 1),
+            spent: Blank::new(SEATS + 1),
+            number: Blank::new(APPLIERS + 1),
+            received: Blank::new(APPLIERS + 1),
+        }
+    }
+}
+
+/// The ledger of what was issued.
+pub struct IssuedBy<D: DeskNames>(PhantomData<D>);
+
+impl<D: DeskNames> Ledger for IssuedBy<D> {
+    ghost name = { D.id.issued };
+
+    ghost parts = { 65 };
+}
+
+/// The ledger of what was spent.
+pub struct SpentBy<D: DeskNames>(PhantomData<D>);
+
+impl<D: DeskNames> Ledger for SpentBy<D> {
+    ghost name = { D.id.spent };
+
+    ghost parts = { 65 };
+}
+
+/// The ledger of the numbers that were applied.
+pub struct NumberOf<D: DeskNames>(PhantomData<D>);
+
+impl<D: DeskNames> Ledger for NumberOf<D> {
+    ghost name = { D.id.number };
+
+    ghost parts = { 17 };
+}
+
+/// The ledger of what was received.
+pub struct ReceivedBy<D: DeskNames>(PhantomData<D>);
+
+impl<D: DeskNames> Ledger for ReceivedBy<D> {
+    ghost name = { D.id.received };
+
+    ghost parts = { 17 };
+}

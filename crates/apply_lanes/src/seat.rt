@@ -1,0 +1,51 @@
+//! A seat at a shared desk.
+
+use crate::names::{DeskNames, IssuedBy, SpentBy};
+use crate::tally::Portion;
+use std::marker::Model;
+
+/// One caller's place at a shared desk: what it issued and spent there is counted, and all seats together
+/// make the desk's sums.
+#[derive(Drop)]
+pub struct Seat<D: DeskNames> {
+    pub(crate) issued: Portion<IssuedBy<D>>,
+    pub(crate) used: Portion<SpentBy<D>>,
+    pub(crate) spent: u64,
+    pub(crate) served: u64,
+}
+
+impl<D: DeskNames> Model for Seat<D> {
+    ghost use Rattle.std.specs.Prelude.{◌≡◌, ◌+◌};
+    ghost use Rattle.apply_lanes.specs.Kepts.{SeatValue};
+
+    ghost Value = { SeatValue };
+
+    ghost view = { λ s. record { issued = s.issued; spent = s.spent; served = s.served } };
+
+    ghost invariant = { λ s. s.used ≡ s.spent + s.served };
+}
+
+impl<D: DeskNames> Seat<D> {
+    ghost use Rattle.std.specs.Prelude.{◌≡◌};
+
+    /// The rights that its calls of `issue` were told.
+    pub fn told_issued(&self) -> u64
+        ensures { result ≡ self.now.issued }
+    {
+        self.issued.told()
+    }
+
+    /// The rights that its calls of `spend` were told to be spent.
+    pub fn told_spent(&self) -> u64
+        ensures { result ≡ self.now.spent }
+    {
+        self.spent
+    }
+
+    /// The rights that its calls of `serve` were told to be spent.
+    pub fn told_served(&self) -> u64
+        ensures { result ≡ self.now.served }
+    {
+        self.served
+    }
+}

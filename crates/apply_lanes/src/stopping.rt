@@ -1,0 +1,160 @@
+//! The end of a shared desk.
+ghost use Rattle.std.specs.Prelude.{◌≡◌, ◌+◌, ◌<◌, ◌≤◌, ◌^◌, IfOk, IfErr, length};
+ghost use Rattle.apply_lanes.specs.Stops.{all_issued, all_spent, all_served, all_numbers, all_received, Reports, parts_of};
+ghost use Rattle.apply_lanes.specs.Tallies.{TallyValue};
+ghost use Rattle.apply_lanes.specs.declared.names.TheConstants.{SEATS, APPLIERS};
+
+use crate::applier::Applied;
+use crate::kept::Kept;
+use crate::names::{APPLIERS, DeskNames, IssuedBy, NumberOf, ReceivedBy, SEATS, SpentBy};
+use crate::seat::Seat;
+use crate::shared_desk::SharedDesk;
+use crate::tally::Tally;
+use site_core::Desk;
+use std::alloc::{Allocator, Global};
+use std::sync::Mutex;
+
+/// A shared desk, with all that was given out of it.
+#[derive(Drop)]
+pub struct Parts<D: DeskNames, A: Allocator = Global> {
+    pub desk: SharedDesk<D, A>,
+    pub seats: Vec<Seat<D>, A>,
+    pub applied: Vec<Applied<D>, A>,
+}
+
+/// Why a desk does not stop, in the order in which the causes are looked for. All parts come back.
+#[derive(Drop)]
+pub enum StopError<D: DeskNames, A: Allocator = Global> {
+    /// A seat was given out that is not among the parts.
+    SeatMissing(Parts<D, A>),
+    /// An applier was given out, and what it applied is not among the parts.
+    ApplierMissing(Parts<D, A>),
+}
+
+/// What a desk did, and what its seats and appliers were told.
+#[derive(Clone, Copy, Debug, PartialEq, Eq)]
+pub struct Report {
+    pub issued: u64,
+    pub spent: u64,
+    pub given: u64,
+    pub back: u64,
+    pub received: u64,
+    pub held: u64,
+    pub told_issued: u64,
+    pub told_spent: u64,
+    pub told_served: u64,
+    /// The sum of the numbers applied.
+    pub applied: u64,
+}
+
+/// Ends a desk whose seats and appliers are all there.
+pub fn stop<D: DeskNames, A: Allocator + Copy>(
+    parts: Parts<D, A>,
+) -> Result<Report, StopError<D, A>>
+    ensures ok { IfOk result (λ r. Reports parts.seats.items parts.applied.items r) }
+    ensures err { IfErr result (λ e. ((parts_of e).seats ≡ parts.seats) × ((parts_of e).applied ≡ parts.applied)) }
+{
+    let Parts {
+        desk,
+        seats,
+        applied,
+    } = parts;
+    let SharedDesk { lock } = desk;
+    let kept = lock.into_inner();
+    if kept.issued.left() + seats.len() as u64 != SEATS {
+        return Err(StopError::SeatMissing(again(kept, seats, applied)));
+    }
+    if kept.number.left() + applied.len() as u64 != APPLIERS {
+        return Err(StopError::ApplierMissing(again(kept, seats, applied)));
+    }
+    let Kept {
+        desk,
+        mut issued,
+        mut spent,
+        mut number,
+        mut received,
+        admitted: _,
+    } = kept;
+    let (told_issued, told_spent, told_served) = collect_seats(&mut issued, &mut spent, seats);
+    collect_applied(&mut number, &mut received, applied);
+    issued.settle();
+    spent.settle();
+    number.settle();
+    received.settle();
+    Ok(Report {
+        issued: desk.issued(),
+        spent: desk.spent(),
+        given: desk.given(),
+        back: desk.taken_back(),
+        received: desk.received(),
+        held: desk.held(),
+        told_issued,
+        told_spent,
+        told_served,
+        applied: number.sum(),
+    })
+}
+
+// The same parts.
+fn again<D: DeskNames, A: Allocator + Copy>(
+    kept: Kept<D, A>,
+    seats: Vec<Seat<D>, A>,
+    applied: Vec<Applied<D>, A>,
+) -> Parts<D, A>
+    ensures { (result.seats ≡ seats) × (result.applied ≡ applied) }
+{
+    Parts {
+        desk: SharedDesk {
+            lock: Mutex::new(kept),
+        },
+        seats,
+        applied,
+    }
+}
+
+// Takes in the portions of all seats, and answers what they were told: issued, spent and served.
+fn collect_seats<D: DeskNames, A: Allocator>(
+    issued: &mut Tally<IssuedBy<D>>,
+    spent: &mut Tally<SpentBy<D>>,
+    seats: Vec<Seat<D>, A>,
+) -> (u64, u64, u64)
+    requires room { (issued.old.left + length seats.items ≡ SEATS) × (spent.old.left + length seats.items ≡ SEATS) }
+    requires none { (issued.old.returned ≡ 0) × (spent.old.returned ≡ 0) }
+    requires fits { (issued.old.sum < 2 ^ 64) × (spent.old.sum < 2 ^ 64) }
+    ensures told { (result.0 ≡ all_issued seats.items) × (result.1 ≡ all_spent seats.items) × (result.2 ≡ all_served seats.items) }
+    ensures issued { issued.new ≡ record issued.old { left = SEATS; returned = all_issued seats.items } }
+    ensures spent { spent.new ≡ record spent.old { left = SEATS; returned = all_spent seats.items + all_served seats.items } }
+{
+    let (mut told_issued, mut told_spent, mut told_served) = (0u64, 0u64, 0u64);
+    for seat in seats {
+        let Seat {
+            issued: issued_by,
+            used,
+            spent: spent_by,
+            served,
+        } = seat;
+        told_issued += issued.collect(issued_by);
+        spent.collect(used);
+        told_spent += spent_by;
+        told_served += served;
+    }
+    (told_issued, told_spent, told_served)
+}
+
+// Takes in the portions of all appliers.
+fn collect_applied<D: DeskNames, A: Allocator>(
+    number: &mut Tally<NumberOf<D>>,
+    received: &mut Tally<ReceivedBy<D>>,
+    applied: Vec<Applied<D>, A>,
+)
+    requires room { (number.old.left + length applied.items ≡ APPLIERS) × (received.old.left + length applied.items ≡ APPLIERS) }
+    requires none { (number.old.returned ≡ 0) × (received.old.returned ≡ 0) }
+    ensures number { number.new ≡ record number.old { left = APPLIERS; returned = all_numbers applied.items } }
+    ensures received { received.new ≡ record received.old { left = APPLIERS; returned = all_received applied.items } }
+{
+    for one in applied {
+        let (of_number, of_received) = one.into_portions();
+        number.collect(of_number);
+        received.collect(of_received);
+    }
+}
