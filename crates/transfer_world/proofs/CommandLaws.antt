@@ -1,12 +1,14 @@
--- The moves of a line's words, one after another, and lines of too many words.
+-- The values of a line's words, and lines that are too long.
 use Rattle.std.proofs.Common.{◌≡◌, ◌==◌, ℕ, ◌<◌, List, [], ◌∷◌, ◌++◌, length, Option, Some, None, refl, sym, ap, ◌∙◌, arith, inl, inr, take, ◌-◌, ◌≤◌, length-append, length-take-le, append_assoc, append-nil}
 use Rattle.std.proofs.lemmas.Bool.{le-leb, lt-leb, cases_lt}
 use Rattle.std.proofs.lemmas.List.{take_at, take_all}
 use Rattle.std.specs.Option.{option_map}
 use Rattle.std.specs.Borrow.{Bor}
 use Rattle.rights_types.specs.declared.moves.Move.{Move}
-use Rattle.entry_codec.specs.Moves.{move_of}
-use Rattle.transfer_world.specs.Commands.{both, words_of, words_left, moves_in, only_number, site_and, command_in, command_of}
+use Rattle.entry_codec.specs.Moves.{◌>>=◌, move_of}
+use Rattle.std.specs.List.{join_with_byte}
+use Rattle.std.proofs.lemmas.List.Splits.{join_with_byte-slice_split}
+use Rattle.transfer_world.specs.Commands.{words_of, words_left, moves_in, only_site, heir_in, text_of, command_in, command_of}
 use Rattle.transfer_world.proofs.WordLaws.{split_some}
 
 -- these moves, and then those
@@ -17,7 +19,7 @@ pub no_moves_before : (more : Option (List Move)) → more ≡ after_moves [] mo
 no_moves_before None = refl
 no_moves_before (Some ms) = refl
 
-one_more : (done : List Move) (m : Move) (more : Option (List Move)) → after_moves done (both (λ m ms. m ∷ ms) (Some m) more) ≡ after_moves (done ++ m ∷ []) more
+one_more : (done : List Move) (m : Move) (more : Option (List Move)) → after_moves done (more >>= (λ ms. Some (m ∷ ms))) ≡ after_moves (done ++ m ∷ []) more
 one_more done m None = refl
 one_more done m (Some ms) = ap Some (sym (append_assoc done (m ∷ []) ms))
 
@@ -40,14 +42,14 @@ pub fewer_words : (left : Option (Bor (List ℕ))) (text : Bor (List ℕ)) (word
     → length (words_left rest) < length (words_left left)
 fewer_words left text word rest e w = rw (e, w) (omega arith)
 
--- a word too many
-pub second_word : (low high : ℕ) (text more : Bor (List ℕ)) (first : List ℕ) (rest : Option (Bor (List ℕ))) → words_of text.now ≡ first ∷ words_left rest → rest ≡ Some more
-    → only_number low high (words_of text.now) ≡ None
-second_word low high text more first rest w e = let third = split_some (λ (b : ℕ). b == 32) more.now in rw (w, e, third.2) refl
+-- a text has one word at least: what is read of any words is read of it
+pub text_whole : (text : Bor (List ℕ)) → text_of (words_of text.now) ≡ Some text.now
+text_whole text =
+    let words = split_some (λ (b : ℕ). b == 32) text.now in
+    rw words.2 (ap Some (ap (join_with_byte 32) (sym words.2) ∙ join_with_byte-slice_split 32 text.now))
 
-pub third_word : (low high : ℕ) (text other more : Bor (List ℕ)) (first second : List ℕ) (left rest : Option (Bor (List ℕ))) → words_of text.now ≡ first ∷ words_left left → left ≡ Some other
-    → words_of other.now ≡ second ∷ words_left rest → rest ≡ Some more → site_and low high (words_of text.now) ≡ None
-third_word low high text other more first second left rest w e x f = let third = split_some (λ (b : ℕ). b == 32) more.now in rw (w, e, x, f, third.2) refl
+pub heir_named : (text : Bor (List ℕ)) → heir_in (words_of text.now) ≡ (only_site (words_of text.now) >>= (λ heir. Some (Some heir)))
+heir_named text = let words = split_some (λ (b : ℕ). b == 32) text.now in rw words.2 refl
 
 module _ {A : Type 0} (text : List ℕ) where
   pub short_line : length text < 16384 → command_of {A = A} (text ++ 10 ∷ []) ≡ command_in text

@@ -1,112 +1,102 @@
 -- What the readers of a world say.
-use Rattle.std.proofs.Common.{◌≡◌, ℕ, zero, suc, ◌+◌, ◌*◌, ◌<◌, ◌≤◌, false, List, [], ◌∷◌, ◌++◌, length, get_or, take, drop, Option, Some, None, arith, refl, sym, ap, ◌∙◌, add-one, take-append-drop}
-use Rattle.std.specs.Prelude.{IfSome, IfNone}
-use Rattle.std.specs.Borrow.{Bor}
-use Rattle.std.specs.Slice.{IsItemAt}
-use Rattle.std.proofs.lemmas.List.{take_more, get_or_past, length-append}
+use Rattle.std.proofs.Common.{◌≡◌, ℕ, zero, suc, ◌+◌, ◌*◌, ◌<◌, ◌≤◌, false, List, [], length, get_or, drop, Option, Some, None, arith, refl, sym, ap, subst, ◌∙◌, add-one}
+use Rattle.std.proofs.Math.Seq.{drop-nil}
 use Rattle.rights_types.specs.Entries.{EntryValue}
 use Rattle.rights_types.specs.Chains.{IsChain, moves_of}
 use Rattle.rights_types.specs.Places.{at_site}
-use Rattle.rights_types.specs.Rights.{sum_sites, issued, spent, to, received, held, way, rights_after}
+use Rattle.rights_types.specs.Rights.{sum_sites, issued, spent, to, back, taken_back, received, held, way}
 use Rattle.rights_types.proofs.Chains.{end_from-bound}
-use Rattle.rights_types.proofs.Places.{at_site-index}
-use Rattle.rights_types.proofs.SiteSums.{sum_bound, sum_fewer}
-use Rattle.rights_types.proofs.Sums.{moves_of-nil, moves_of-append, moves_of-push, to-nil, to-append, log-to, log-issued, back-bound}
-use Rattle.transfer_world.specs.Values.{LinkValue, SiteValue, WorldValue}
-use Rattle.transfer_world.specs.Worlds.{no_link, no_site, site, log, applied, count, held_by, on_way}
-use Rattle.transfer_world.specs.Faults.{rights_of}
-use Rattle.transfer_world.specs.Sound.{applied_of, SiteSound, Sound, IsWorld}
-use Rattle.transfer_world.specs.Headline.{Headline}
-use Rattle.transfer_world.proofs.Keeps.{none_received}
-use Rattle.transfer_world.proofs.Whole.{held_is, applied_begins, headline_of}
-use Rattle.transfer_world.proofs.MoveLaws.{none_to_itself}
-use Rattle.transfer_world.proofs.WorldLaws.{read_site, site_ready}
+use Rattle.rights_types.proofs.Places.{at_site_past}
+use Rattle.rights_types.proofs.SiteSums.{sum_bound, sum_fewer, sum_term, sum_same, sum_zero}
+use Rattle.rights_types.proofs.Sums.{moves_of-nil, to-nil, issued-nil, spent-nil, taken_back-nil, log-issued}
+use Rattle.rights_protocol.specs.Lists.{IsSiteOf, received_at}
+use Rattle.rights_protocol.specs.Retirement.{Promised}
+use Rattle.rights_protocol.proofs.Promises.{held_sum, way_is, kept_promises}
+use Rattle.rights_book.specs.Books.{sites}
+use Rattle.rights_book.specs.StandsFor.{StandsForApplied}
+use Rattle.site_core.specs.Desks.{DeskValue, new_desk}
+use Rattle.transfer_world.specs.Values.{LinkValue, WorldValue}
+use Rattle.transfer_world.specs.Worlds.{count, desk, row, log, list_of, applied, lists_of, held_by, on_way}
+use Rattle.transfer_world.specs.Sound.{SiteSound, IsWorld}
+use Rattle.transfer_world.proofs.IndexLaws.{none_at}
 
--- ---- sites
+-- ---- what a desk says
 
-none_at : {X : Type 0} (o : ℕ) (d : X) → at_site [] o d ≡ d
-none_at zero d = refl
-none_at (suc i) d = refl
+-- a desk has applied what its site has
+pub stands : (w : WorldValue) (s : ℕ) (d : DeskValue) → IsWorld w → IsSiteOf (count w) s → d ≡ desk w s → StandsForApplied (applied w s) d.ledger.book
+stands w s d is among same = subst (λ (x : DeskValue). StandsForApplied (applied w s) x.ledger.book) (sym same) (is.sites s among).applied.in_book
 
-pub place_sound : (w : WorldValue) (i s : ℕ) (found : Option (Bor SiteValue)) → Sound w → i + 1 ≡ s → IsItemAt w.sites i found → IfSome found (λ x. SiteSound (length x.now.links) x.now.me x.now)
-place_sound w i s None sound e at = tt
-place_sound w i s (Some x) sound e at =
-    let lt : i < count w = at.3.0 in
-    (site_ready w s x.now sound (omega arith) (omega arith) (read_site w i s x.now e (omega arith) at.1)).1
+-- and so it holds the rights of its site
+pub held_value : (w : WorldValue) (s : ℕ) (d : DeskValue) → IsWorld w → IsSiteOf (count w) s → d ≡ desk w s
+    → held (sites d.ledger.book) d.ledger.log.site d.ledger.log.entries (applied w s) ≡ held_by w s
+held_value w s d is among same =
+    let sound : SiteSound w s = is.sites s among in
+    ap (λ (x : DeskValue). held (sites x.ledger.book) x.ledger.log.site x.ledger.log.entries (applied w s)) same
+    ∙ ap (λ n. held n (desk w s).ledger.log.site (log w s) (applied w s)) sound.system
+    ∙ ap (λ k. held (count w) k (log w s) (applied w s)) sound.me
 
-pub place_rights : (w : WorldValue) (i s : ℕ) (found : Option (Bor SiteValue)) → Sound w → i + 1 ≡ s → IsItemAt w.sites i found → IfSome found (λ x. rights_of x.now ≡ held_by w s)
-place_rights w i s None sound e at = tt
-place_rights w i s (Some x) sound e at =
-    let lt : i < count w = at.3.0 in
-    let y : SiteValue = site w s in
-    let square = (sound.sites s).square (omega arith) (omega arith) in
-    ap rights_of (read_site w i s x.now e (omega arith) at.1)
-    ∙ ap (λ k. held k y.me y.log (applied_of y)) square.1 ∙ ap (λ k. held (count w) k y.log (applied_of y)) square.0
+pub received_value : (w : WorldValue) (s o : ℕ) (d : DeskValue) → IsWorld w → IsSiteOf (count w) s → d ≡ desk w s
+    → to d.ledger.log.site (moves_of (applied w s o)) ≡ to s (moves_of (applied w s o))
+received_value w s o d is among same =
+    ap (λ (x : DeskValue). to x.ledger.log.site (moves_of (applied w s o))) same ∙ ap (λ k. to k (moves_of (applied w s o))) (is.sites s among).me
 
-held_none : (n s : ℕ) → rights_after (received n s (applied_of no_site)) (moves_of []) ≡ 0
-held_none n s = ap (λ ms. rights_after (received n s (applied_of no_site)) ms) moves_of-nil ∙ none_received n s no_site (λ o. ap (λ (l : LinkValue). l.applied) (none_at o no_link))
+-- ---- a site that is not there
 
-pub place_no_rights : (w : WorldValue) (i s : ℕ) (found : Option (Bor SiteValue)) → Sound w → i + 1 ≡ s → IsItemAt w.sites i found → IfNone found (held_by w s ≡ 0)
-place_no_rights w i s (Some x) sound e at = tt
-place_no_rights w i s None sound e at =
-    let past : count w ≤ i = at.3 in
-    let none : site w s ≡ no_site = at_site-index w.sites i s no_site e ∙ get_or_past w.sites i no_site past in
-    held_is (count w) s (site w s) (sound.sites s)
-    ∙ ap (λ (x : SiteValue). rights_after (received (count w) s (applied_of x)) (moves_of x.log)) none ∙ held_none (count w) s
+pub none_issued : issued (moves_of []) ≡ 0
+none_issued = ap issued moves_of-nil ∙ issued-nil
 
--- ---- what entries give
+pub none_spent : spent (moves_of []) ≡ 0
+none_spent = ap spent moves_of-nil ∙ spent-nil
 
-pub gift_more : (s : ℕ) (es : List EntryValue) (i : ℕ) (e : EntryValue) → i < length es → e ≡ get_or es i e → to s (moves_of (take (i + 1) es)) ≡ to s (moves_of (take i es)) + to s e.moves
-gift_more s es i e lt is =
-    ap (λ xs. to s (moves_of xs)) (take_more es i e lt ∙ ap (λ (x : EntryValue). take i es ++ x ∷ []) (sym is)) ∙ ap (to s) (moves_of-push (take i es) e) ∙ to-append s (moves_of (take i es)) e.moves
+pub none_to : (s : ℕ) → to s (moves_of []) ≡ 0
+none_to s = ap (to s) moves_of-nil ∙ to-nil s
 
-gift_split : (s : ℕ) (es : List EntryValue) (i : ℕ) → to s (moves_of es) ≡ to s (moves_of (take i es)) + to s (moves_of (drop i es))
-gift_split s es i = ap (λ xs. to s (moves_of xs)) (sym (take-append-drop i es)) ∙ ap (to s) (moves_of-append (take i es) (drop i es)) ∙ to-append s (moves_of (take i es)) (moves_of (drop i es))
+pub none_applied : (w : WorldValue) (s o : ℕ) → IsWorld w → count w < s → applied w s o ≡ []
+none_applied w s o is past =
+    let f : LinkValue → List EntryValue = λ l. l.applied in
+    let none : row w s ≡ [] = at_site_past w.links s [] (omega (arith, is.rows)) in
+    ap (λ r. list_of f (at_site r o None)) none ∙ ap (list_of f) (none_at o None)
 
-pub gift_front : (s : ℕ) (es : List EntryValue) (i : ℕ) → to s (moves_of (take i es)) ≤ to s (moves_of es)
-gift_front s es i = omega (arith, gift_split s es i)
+none_received : (w : WorldValue) (s : ℕ) → IsWorld w → count w < s → received_at (lists_of w) s ≡ 0
+unfolding received
+none_received w s is past =
+    sum_same (count w) (λ o. to s (moves_of (applied w s o))) (λ o. 0) (λ o low high. ap (λ es. to s (moves_of es)) (none_applied w s o is past) ∙ none_to s)
+    ∙ sum_zero (count w)
 
-pub gift_nil : (s : ℕ) → to s (moves_of []) ≡ 0
-gift_nil s = ap (to s) moves_of-nil ∙ to-nil s
+pub none_held : (w : WorldValue) (s : ℕ) → IsWorld w → count w < s → desk w s ≡ new_desk 0 0 → held_by w s ≡ 0
+none_held w s is past none =
+    let empty : moves_of (log w s) ≡ [] = ap (λ (d : DeskValue). moves_of d.ledger.log.entries) none ∙ moves_of-nil in
+    omega (arith, held_sum (lists_of w) s is.kept, none_received w s is past, ap issued empty ∙ issued-nil, ap taken_back empty ∙ taken_back-nil)
 
-log_small : (w : WorldValue) (o s : ℕ) → Sound w → to s (moves_of (log w o)) ≤ 1000000000000000000
-log_small w o s sound =
-    let chain : IsChain o (log w o) = (sound.sites o).chain in
-    omega (arith, log-to o s (log w o) chain, end_from-bound o false 0 (log w o) chain (omega arith))
+-- ---- rights on the way
 
-pub way_small : (w : WorldValue) (o s i : ℕ) → Sound w → to s (moves_of (drop i (log w o))) ≤ 1000000000000000000
-way_small w o s i sound = omega (arith, gift_split s (log w o) i, log_small w o s sound)
+-- what the desk of o gave to s has come there, is on the way, or was taken back
+pub way_left : (w : WorldValue) (o s : ℕ) (d : DeskValue) → IsWorld w → IsSiteOf (count w) o → d ≡ desk w o
+    → to s (moves_of d.ledger.log.entries) ≡ (to s (moves_of (applied w s o)) + on_way w o s) + back s (moves_of d.ledger.log.entries)
+way_left w o s d is among same =
+    subst (λ (x : DeskValue). to s (moves_of x.ledger.log.entries) ≡ (to s (moves_of (applied w s o)) + on_way w o s) + back s (moves_of x.ledger.log.entries)) (sym same)
+    (way_is (lists_of w) o s is.kept among)
 
-pub way_value : (w : WorldValue) (o s : ℕ) → Sound w → on_way w o s ≡ to s (moves_of (drop (length (applied w s o)) (log w o)))
+pub none_on_way : (w : WorldValue) (o s : ℕ) → desk w o ≡ new_desk 0 0 → on_way w o s ≡ 0
 unfolding way
-way_value w o s sound = omega (arith, back-bound s (moves_of (log w o)), (sound.sites o).none_back)
-
--- no rights are on the way from a site to itself
-pub way_itself : (w : WorldValue) (o : ℕ) → Sound w → on_way w o o ≡ 0
-way_itself w o sound =
-    omega (arith, way_value w o o sound, gift_split o (log w o) (length (applied w o o)), none_to_itself o false 0 (log w o) (sound.sites o).chain)
-
-pub way_none : (w : WorldValue) (o s : ℕ) → Sound w → site w o ≡ no_site → on_way w o s ≡ 0
-way_none w o s sound none =
-    let empty : log w o ≡ [] = ap (λ (x : SiteValue). x.log) none in
-    let e : to s (moves_of (log w o)) ≡ 0 = ap (λ es. to s (moves_of es)) empty ∙ gift_nil s in
-    omega (arith, way_value w o s sound, gift_split s (log w o) (length (applied w s o)), e)
-
--- what was applied is no longer than the log
-pub applied_within : (w : WorldValue) (s o : ℕ) → Sound w → length (applied w s o) ≤ length (log w o)
-applied_within w s o sound = let p = applied_begins w s o sound in omega (arith, ap length p.1, length-append (applied w s o) p.0)
+none_on_way w o s none =
+    let k : ℕ = length (applied w s o) in
+    let empty : log w o ≡ [] = ap (λ (d : DeskValue). d.ledger.log.entries) none in
+    let given : to s (moves_of (drop k (log w o))) ≡ 0 = ap (λ (es : List EntryValue). to s (moves_of (drop k es))) empty ∙ ap (λ es. to s (moves_of es)) (drop-nil {A = EntryValue} k) ∙ none_to s in
+    omega (arith, given)
 
 -- ---- sums
 
-one_issued : (w : WorldValue) (s : ℕ) → Sound w → issued (moves_of (log w s)) ≤ 1000000000000000000
-one_issued w s sound =
-    let chain : IsChain s (log w s) = (sound.sites s).chain in
+one_issued : (w : WorldValue) (s : ℕ) → IsWorld w → issued (moves_of (log w s)) ≤ 1000000000000000000
+one_issued w s is =
+    let chain : IsChain s (log w s) = (is.kept.sites s).chain in
     omega (arith, log-issued s (log w s) chain, end_from-bound s false 0 (log w s) chain (omega arith))
 
 all_issued : (w : WorldValue) → IsWorld w → sum_sites (count w) (λ s. issued (moves_of (log w s))) ≤ 16000000000000000000
 all_issued w is =
-    let most : count w * 1000000000000000000 ≤ 16000000000000000000 = omega (arith, is.few) in
-    omega (arith, sum_bound (count w) 1000000000000000000 (λ s. issued (moves_of (log w s))) (λ s. one_issued w s is.sound), most)
+    let few : count w ≤ 16 = is.kept.few in
+    let most : count w * 1000000000000000000 ≤ 16000000000000000000 = omega arith in
+    omega (arith, sum_bound (count w) 1000000000000000000 (λ s. issued (moves_of (log w s))) (λ s. one_issued w s is), most)
 
 -- the next term of a sum of at most m fits
 more_fits : (n k m : ℕ) (f : ℕ → ℕ) → k < n → sum_sites n f ≤ m → sum_sites k f + f (k + 1) ≤ m
@@ -114,22 +104,19 @@ more_fits n k m f lt le =
     let part : sum_sites (suc k) f ≤ sum_sites n f = sum_fewer n (suc k) f (omega arith) in
     rw add-one (omega (arith, part))
 
-one_part : (n o : ℕ) (f : ℕ → ℕ) → 1 ≤ o → o ≤ n → f o ≤ sum_sites n f
-one_part n zero f low high = absurd (omega arith)
-one_part n (suc i) f low high = let part : sum_sites (suc i) f ≤ sum_sites n f = sum_fewer n (suc i) f high in omega (arith, part)
-
 pub record SumsFit (w : WorldValue) (k : ℕ) : Type 0 where
   pub issued_fit : sum_sites k (λ s. issued (moves_of (log w s))) + issued (moves_of (log w (k + 1))) ≤ 16000000000000000000
   pub spent_fit : sum_sites k (λ s. spent (moves_of (log w s))) + spent (moves_of (log w (k + 1))) ≤ 16000000000000000000
   pub held_fit : sum_sites k (held_by w) + held_by w (k + 1) ≤ 16000000000000000000
   pub way_fit : sum_sites k (λ o. sum_sites (count w) (λ s. on_way w o s)) + sum_sites (count w) (λ s. on_way w (k + 1) s) ≤ 16000000000000000000
 
+-- rights held, spent and on the way are the rights issued, so that no sum over the sites wraps
 pub sums_fit : (w : WorldValue) (k : ℕ) → IsWorld w → k < count w → SumsFit w k
 sums_fit w k is lt =
     let n : ℕ = count w in
     let most = all_issued w is in
-    let whole : Headline w = headline_of w is.sound in
-    let equal = whole.equal in
+    let whole : Promised (lists_of w) = kept_promises (lists_of w) is.kept in
+    let equal = whole.headline.conserved in
     record {
       issued_fit = more_fits n k 16000000000000000000 (λ s. issued (moves_of (log w s))) lt most;
       spent_fit = more_fits n k 16000000000000000000 (λ s. spent (moves_of (log w s))) lt (omega (arith, equal, most));
@@ -137,9 +124,9 @@ sums_fit w k is lt =
       way_fit = more_fits n k 16000000000000000000 (λ o. sum_sites n (λ s. on_way w o s)) lt (omega (arith, equal, most));
     }
 
-pub row_fits : (w : WorldValue) (o k : ℕ) → IsWorld w → 1 ≤ o → o ≤ count w → k < count w → sum_sites k (λ s. on_way w o s) + on_way w o (k + 1) ≤ 16000000000000000000
-row_fits w o k is low high lt =
+pub row_fits : (w : WorldValue) (o k : ℕ) → IsWorld w → IsSiteOf (count w) o → k < count w → sum_sites k (λ s. on_way w o s) + on_way w o (k + 1) ≤ 16000000000000000000
+row_fits w o k is among lt =
     let n : ℕ = count w in
-    let whole : Headline w = headline_of w is.sound in
-    let part = one_part n o (λ j. sum_sites n (λ s. on_way w j s)) low high in
-    more_fits n k 16000000000000000000 (λ s. on_way w o s) lt (omega (arith, part, whole.equal, all_issued w is))
+    let whole : Promised (lists_of w) = kept_promises (lists_of w) is.kept in
+    let part = sum_term n o (λ j. sum_sites n (λ s. on_way w j s)) among.0 among.1 in
+    more_fits n k 16000000000000000000 (λ s. on_way w o s) lt (omega (arith, part, whole.headline.conserved, all_issued w is))

@@ -1,21 +1,24 @@
 -- The command of a line: its words, parted at each single space, and what they spell.
-use Rattle.std.specs.Prelude.{ℕ, ◌-◌, ◌^◌, nat_le, List, [], ◌∷◌, length, take, Option, Some, None, ◌==◌, if◌then◌else◌, codes}
+use Rattle.std.specs.Prelude.{ℕ, ◌-◌, ◌^◌, true, false, nat_le, List, [], ◌∷◌, ◌++◌, length, take, Option, Some, None, ◌==◌, if◌then◌else◌, codes}
+use Rattle.std.specs.List.{slice_split, join_with_byte}
 use Rattle.std.specs.Option.{option_map}
-use Rattle.std.specs.List.{slice_split}
 use Rattle.std.specs.Borrow.{Bor}
 use Rattle.std.specs.Str.{bytes_eq}
 use Rattle.rights_types.specs.declared.moves.Move.{Move}
 use Rattle.rights_types.specs.declared.limits.TheConstants.{MIN_SITES, MAX_SITES, MAX_LINE}
-use Rattle.entry_codec.specs.Moves.{number_of, move_of}
-use Rattle.transfer_world.specs.declared.event.Event.TheVariants.{Post, Publish, Arrive, Take}
+use Rattle.entry_codec.specs.Moves.{◌>>=◌, first_number as first_in, only_number as only_in, move_of}
+use Rattle.transfer_world.specs.declared.event.Event.{Event}
+use Rattle.transfer_world.specs.declared.event.Event.TheVariants.{Post, Issue, Give, Spend, Serve, Expire, Status, Plan, Ask, Publish, Beat, Query, Arrive, Noise, Take, Close}
+use Rattle.transfer_world.specs.declared.script.word.SiteWord.{SiteWord}
+use Rattle.transfer_world.specs.declared.script.word.SiteWord.TheVariants.{Issue as SaysIssue, Give as SaysGive, Spend as SaysSpend, Serve as SaysServe, Expire as SaysExpire, Status as SaysStatus, Plan as SaysPlan, Arrive as SaysArrive, Close as SaysClose}
+use Rattle.transfer_world.specs.declared.script.word.LinkWord.{LinkWord}
+use Rattle.transfer_world.specs.declared.script.word.LinkWord.TheVariants.{Ask as SaysAsk, Publish as SaysPublish, Beat as SaysBeat, Query as SaysQuery, Requery as SaysRequery, Take as SaysTake}
+use Rattle.transfer_world.specs.declared.script.word.Word.{Word}
+use Rattle.transfer_world.specs.declared.script.word.Word.TheVariants.{Sites as SaysSites, Post as SaysPost, AtSite, OnLink, Noise as SaysNoise, Report as SaysReport}
 use Rattle.transfer_world.specs.declared.script.commands.Command.{Command}
 use Rattle.transfer_world.specs.declared.script.commands.Command.TheVariants.{Sites, Act, Report}
 
--- what two values make, where there are both
-abbrev pub both : {X Y Z : Type 0} → (X → Y → Z) → Option X → Option Y → Option Z
-both f None y = None
-both f (Some x) None = None
-both f (Some x) (Some y) = Some (f x y)
+-- ---- words
 
 abbrev pub words_of : List ℕ → List (List ℕ)
 words_of text = slice_split (λ b. b == 32) text
@@ -25,50 +28,201 @@ abbrev pub words_left : Option (Bor (List ℕ)) → List (List ℕ)
 words_left None = []
 words_left (Some text) = words_of text.now
 
+-- the site or the number that the first word spells, and the words after it
+abbrev pub first_site : List (List ℕ) → Option (ℕ × List (List ℕ))
+first_site words = first_in 1 MAX_SITES words
+
+abbrev pub first_number : List (List ℕ) → Option (ℕ × List (List ℕ))
+first_number words = first_in 0 (2 ^ 64 - 1) words
+
+-- the site or the number that the only word spells
+abbrev pub only_site : List (List ℕ) → Option ℕ
+only_site words = only_in 1 MAX_SITES words
+
+abbrev pub only_number : List (List ℕ) → Option ℕ
+only_number words = only_in 0 (2 ^ 64 - 1) words
+
+-- what a name stands for, by a table
+abbrev pub named : {X : Type 0} → List (List ℕ × X) → List ℕ → Option X
+named [] text = None
+named (entry ∷ others) text = if bytes_eq text entry.0 then Some entry.1 else named others text
+
+abbrev pub first_some : {X : Type 0} → Option X → Option X → Option X
+first_some None other = other
+first_some (Some x) other = Some x
+
+unfoldable pub site_word : List ℕ → Option SiteWord
+site_word text =
+    named (
+    (codes "issue", SaysIssue)
+    ∷ (codes "give", SaysGive)
+    ∷ (codes "spend", SaysSpend)
+    ∷ (codes "serve", SaysServe)
+    ∷ (codes "expire", SaysExpire)
+    ∷ (codes "status", SaysStatus)
+    ∷ (codes "plan", SaysPlan)
+    ∷ (codes "arrive", SaysArrive)
+    ∷ (codes "close", SaysClose) ∷ []
+    ) text
+
+unfoldable pub link_word : List ℕ → Option LinkWord
+link_word text =
+    named (
+    (codes "ask", SaysAsk)
+    ∷ (codes "publish", SaysPublish)
+    ∷ (codes "beat", SaysBeat)
+    ∷ (codes "query", SaysQuery)
+    ∷ (codes "requery", SaysRequery)
+    ∷ (codes "take", SaysTake) ∷ []
+    ) text
+
+unfoldable pub plain_word : List ℕ → Option Word
+plain_word text =
+    named (
+    (codes "sites", SaysSites)
+    ∷ (codes "post", SaysPost)
+    ∷ (codes "noise", SaysNoise)
+    ∷ (codes "report", SaysReport) ∷ []
+    ) text
+
+unfoldable pub word_of : List ℕ → Option Word
+word_of text =
+    first_some (option_map (λ word. AtSite word) (site_word text))
+    (first_some (option_map (λ word. OnLink word) (link_word text)) (plain_word text))
+
+-- ---- values
+
+unfoldable pub site_and_number : List (List ℕ) → Option (ℕ × ℕ)
+site_and_number words = do
+  s ← first_site words
+  n ← only_number s.1
+  Some (s.0, n)
+
+unfoldable pub two_sites : List (List ℕ) → Option (ℕ × ℕ)
+two_sites words = do
+  s ← first_site words
+  o ← only_site s.1
+  Some (s.0, o)
+
+-- the heir, where one is named
+abbrev pub heir_in : List (List ℕ) → Option (Option ℕ)
+heir_in [] = Some None
+heir_in (word ∷ words) = do
+  heir ← only_site (word ∷ words)
+  Some (Some heir)
+
+-- an event at one site
+unfoldable pub site_event : {A : Type 0} → SiteWord → List (List ℕ) → Option (Event A)
+site_event SaysIssue words = do
+  v ← site_and_number words
+  Some (Issue v.0 v.1)
+site_event SaysGive words = do
+  s ← first_site words
+  v ← site_and_number s.1
+  Some (Give s.0 v.0 v.1)
+site_event SaysSpend words = do
+  s ← first_site words
+  n ← first_number s.1
+  deadline ← only_number n.1
+  Some (Spend s.0 n.0 deadline)
+site_event SaysServe words = do
+  s ← only_site words
+  Some (Serve s)
+site_event SaysExpire words = do
+  v ← site_and_number words
+  Some (Expire v.0 v.1)
+site_event SaysStatus words = do
+  v ← site_and_number words
+  Some (Status v.0 v.1)
+site_event SaysPlan words = do
+  s ← only_site words
+  Some (Plan s)
+site_event SaysArrive words = do
+  v ← site_and_number words
+  Some (Arrive v.0 v.1)
+site_event SaysClose words = do
+  s ← first_site words
+  heir ← heir_in s.1
+  Some (Close s.0 heir)
+
+-- an event between two sites
+abbrev pub link_event : {A : Type 0} → LinkWord → ℕ → ℕ → Event A
+link_event SaysAsk s o = Ask s o
+link_event SaysPublish s o = Publish s o
+link_event SaysBeat s o = Beat s o
+link_event SaysQuery s o = Query s o false
+link_event SaysRequery s o = Query s o true
+link_event SaysTake s o = Take s o
+
+unfoldable pub event_on_link : {A : Type 0} → LinkWord → List (List ℕ) → Option (Event A)
+event_on_link word words = do
+  v ← two_sites words
+  Some (link_event word v.0 v.1)
+
 -- the moves that words spell, one each
 abbrev pub moves_in : List (List ℕ) → Option (List Move)
 moves_in [] = Some []
-moves_in (word ∷ words) = both (λ m ms. m ∷ ms) (move_of word) (moves_in words)
+moves_in (word ∷ words) = do
+  m ← move_of word
+  ms ← moves_in words
+  Some (m ∷ ms)
 
--- the number that is the only value
-abbrev pub only_number : ℕ → ℕ → List (List ℕ) → Option ℕ
-only_number low high [] = None
-only_number low high (word ∷ []) = number_of low high word
-only_number low high (word ∷ (more ∷ words)) = None
+unfoldable pub post_of : {A : Type 0} → List (List ℕ) → Option (Event A)
+post_of words = do
+  s ← first_site words
+  moves ← moves_in s.1
+  Some (Post s.0 moves)
 
--- the values of a site and a number
-abbrev pub site_and : ℕ → ℕ → List (List ℕ) → Option (ℕ × ℕ)
-site_and low high [] = None
-site_and low high (s ∷ []) = None
-site_and low high (s ∷ (n ∷ [])) = both (λ s n. (s, n)) (number_of 1 MAX_SITES s) (number_of low high n)
-site_and low high (s ∷ (n ∷ (more ∷ words))) = None
+-- the text of words, one at least
+abbrev pub text_of : List (List ℕ) → Option (List ℕ)
+text_of [] = None
+text_of (word ∷ words) = Some (join_with_byte 32 (word ∷ words))
 
-abbrev pub post_of : {A : Type 0} → List (List ℕ) → Option (Command A)
-post_of [] = None
-post_of (s ∷ words) = both (λ s moves. Act (Post s moves)) (number_of 1 MAX_SITES s) (moves_in words)
+-- two sites, and the text behind them
+unfoldable pub noise_parts : List (List ℕ) → Option (ℕ × ℕ × List ℕ)
+noise_parts words = do
+  s ← first_site words
+  o ← first_site s.1
+  text ← text_of o.1
+  Some (s.0, o.0, text)
+
+-- the text gets its line feed
+unfoldable pub noise_of : {A : Type 0} → List (List ℕ) → Option (Event A)
+noise_of words = do
+  v ← noise_parts words
+  Some (Noise v.0 v.1 (v.2 ++ 10 ∷ []))
+
+-- ---- commands
+
+abbrev pub act : {A : Type 0} → Option (Event A) → Option (Command A)
+act event = event >>= (λ e. Some (Act e))
+
+unfoldable pub sites_of : {A : Type 0} → List (List ℕ) → Option (Command A)
+sites_of words = do
+  n ← only_in MIN_SITES MAX_SITES words
+  Some (Sites n)
 
 abbrev pub report_of : {A : Type 0} → List (List ℕ) → Option (Command A)
 report_of [] = Some Report
 report_of (word ∷ words) = None
 
--- the command of a first word other than `post`, and its values
-abbrev pub short_command : {A : Type 0} → List ℕ → List (List ℕ) → Option (Command A)
-short_command word values =
-    if bytes_eq word (codes "publish") then option_map (λ p. Act (Publish p.0 p.1)) (site_and 1 MAX_SITES values)
-    else (if bytes_eq word (codes "arrive") then option_map (λ p. Act (Arrive p.0 p.1)) (site_and 0 (2 ^ 64 - 1) values)
-    else (if bytes_eq word (codes "take") then option_map (λ p. Act (Take p.0 p.1)) (site_and 1 MAX_SITES values)
-    else (if bytes_eq word (codes "report") then report_of values
-    else (if bytes_eq word (codes "sites") then option_map (λ n. Sites n) (only_number MIN_SITES MAX_SITES values)
-    else None))))
+-- the command of a first word, and its values
+abbrev pub command_by : {A : Type 0} → Word → List (List ℕ) → Option (Command A)
+command_by SaysSites words = sites_of words
+command_by SaysPost words = act (post_of words)
+command_by (AtSite word) words = act (site_event word words)
+command_by (OnLink word) words = act (event_on_link word words)
+command_by SaysNoise words = act (noise_of words)
+command_by SaysReport words = report_of words
 
 -- the command of these words
-abbrev pub command_by : {A : Type 0} → List (List ℕ) → Option (Command A)
-command_by [] = None
-command_by (word ∷ values) = if bytes_eq word (codes "post") then post_of values else short_command word values
+abbrev pub command_with : {A : Type 0} → List (List ℕ) → Option (Command A)
+command_with [] = None
+command_with (first ∷ words) = word_of first >>= (λ word. command_by word words)
 
 -- the command of a line without its line feed
 unfoldable pub command_in : {A : Type 0} → List ℕ → Option (Command A)
-command_in text = command_by (words_of text)
+command_in text = command_with (words_of text)
 
 -- the command of a line with its line feed, or none: no line is longer than `MAX_LINE`
 unfoldable pub command_of : {A : Type 0} → List ℕ → Option (Command A)

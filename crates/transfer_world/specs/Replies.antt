@@ -1,34 +1,44 @@
 -- The text of each reply, without the line feed at its end.
 use Rattle.std.specs.Prelude.{ℕ, ◌-◌, ◌==◌, Bool, List, [], ◌∷◌, ◌++◌, length, take, Option, Some, None, Result, Ok, Err, if◌then◌else◌, decimal, codes}
 use Rattle.std.specs.List.{flat_map}
+use Rattle.std.specs.Option.{option_map}
+use Rattle.request_queue.specs.declared.request.Status.{Status}
+use Rattle.request_queue.specs.declared.request.Status.TheVariants.{Waiting, Spent as SpentAt, Expired as ExpiredUnserved, Unknown}
 use Rattle.rights_types.specs.Chains.{end, moves_of, is_closed}
 use Rattle.rights_types.specs.Rights.{sum_sites, issued, spent}
-use Rattle.transfer_world.specs.Values.{PacketValue, WorldValue}
-use Rattle.transfer_world.specs.Worlds.{log, put, applied, count, sites_of, packet, held_by, on_way}
+use Rattle.transfer_world.specs.Values.{WorldValue}
+use Rattle.transfer_world.specs.Worlds.{log, put, applied, count, sites_of, packet, packet_text, held_by, on_way}
 use Rattle.transfer_world.specs.declared.reply.Verdict.{Verdict}
 use Rattle.transfer_world.specs.declared.reply.Verdict.TheVariants.{Ready, Held, Repeat, AfterClose, Full}
 use Rattle.transfer_world.specs.declared.reply.Reply.{Reply}
-use Rattle.transfer_world.specs.declared.reply.Reply.TheVariants.{Number, Packet, Verdicts, Taken, Nothing}
-use Rattle.transfer_world.specs.declared.fault.DeskError.{DeskError}
-use Rattle.transfer_world.specs.declared.fault.DeskError.TheVariants.{Closed, BadCount, BadMove, NoSuchSite as NoSuchPeer, SameSite, PeerClosed, LogFull, Short}
+use Rattle.transfer_world.specs.declared.reply.Reply.TheVariants.{Number, Spent, Queued, Served, Expired, Tells, Asks, Packet, Verdicts, HeardBeat, Granted, Denied, GrantedBefore, Old, Noted, Refused, Taken, TakenBack, Nothing}
+use Rattle.site_core.specs.declared.fault.DeskError.{DeskError}
+use Rattle.site_core.specs.declared.fault.DeskError.TheVariants.{Closed, BadCount, BadMove, BadAmount, NoSuchSite as NoSuchPeer, SameSite, PeerClosed, LogFull, Short, OutOfMemory as NoMemory, QueueFull, QueueBusy, HeldTooMuch, TimeWentBack}
 use Rattle.transfer_world.specs.declared.fault.WorldError.{WorldError}
-use Rattle.transfer_world.specs.declared.fault.WorldError.TheVariants.{Ended, NoSuchSite, NoPacket, NotForSite, Desk, OutOfMemory}
+use Rattle.transfer_world.specs.declared.fault.WorldError.TheVariants.{Ended, NoSuchSite, NoPacket, NotForSite, Forged, Desk, OutOfMemory}
 
 abbrev pub desk_error_name : DeskError → List ℕ
 desk_error_name Closed = codes "Closed"
 desk_error_name BadCount = codes "BadCount"
 desk_error_name BadMove = codes "BadMove"
+desk_error_name BadAmount = codes "BadAmount"
 desk_error_name NoSuchPeer = codes "NoSuchSite"
 desk_error_name SameSite = codes "SameSite"
 desk_error_name PeerClosed = codes "PeerClosed"
 desk_error_name LogFull = codes "LogFull"
 desk_error_name Short = codes "Short"
+desk_error_name NoMemory = codes "OutOfMemory"
+desk_error_name QueueFull = codes "QueueFull"
+desk_error_name QueueBusy = codes "QueueBusy"
+desk_error_name HeldTooMuch = codes "HeldTooMuch"
+desk_error_name TimeWentBack = codes "TimeWentBack"
 
 abbrev pub error_name : WorldError → List ℕ
 error_name Ended = codes "Ended"
 error_name NoSuchSite = codes "NoSuchSite"
 error_name NoPacket = codes "NoPacket"
 error_name NotForSite = codes "NotForSite"
+error_name Forged = codes "Forged"
 error_name (Desk e) = desk_error_name e
 error_name OutOfMemory = codes "OutOfMemory"
 
@@ -44,17 +54,42 @@ abbrev pub verdicts_text : List Verdict → List ℕ
 verdicts_text [] = codes "empty"
 verdicts_text (v ∷ vs) = verdict_text v ++ flat_map (λ v. 32 ∷ verdict_text v) vs
 
--- a packet's text without its line feed
-abbrev pub packet_line : Option PacketValue → List ℕ
-packet_line None = []
-packet_line (Some p) = take (length p.text - 1) p.text
+-- what became of a spend
+abbrev pub status_text : Status → List ℕ
+status_text Waiting = codes "waiting"
+status_text (SpentAt n) = codes "spent " ++ decimal n
+status_text ExpiredUnserved = codes "expired"
+status_text Unknown = codes "unknown"
+
+-- a line without its line feed
+abbrev pub unended : Option (List ℕ) → List ℕ
+unended None = []
+unended (Some line) = take (length line - 1) line
+
+-- a packet's number and line
+abbrev pub packet_reply : WorldValue → ℕ → List ℕ
+packet_reply w n = codes "packet " ++ decimal n ++ codes " " ++ unended (option_map (packet_text w) (packet w n))
 
 -- a reply, which may name a packet of the world
 abbrev pub reply_text : {A : Type 0} → WorldValue → Reply A → List ℕ
 reply_text w (Number n) = codes "number " ++ decimal n
-reply_text w (Packet n) = codes "packet " ++ decimal n ++ codes " " ++ packet_line (packet w n)
+reply_text w (Spent n) = codes "spent " ++ decimal n
+reply_text w (Queued ticket) = codes "queued " ++ decimal ticket
+reply_text w (Served ticket n) = codes "served " ++ decimal ticket ++ codes " " ++ decimal n
+reply_text w (Expired n) = codes "expired " ++ decimal n
+reply_text w (Tells status) = status_text status
+reply_text w (Asks n) = codes "asks " ++ decimal n
+reply_text w (Packet n) = packet_reply w n
 reply_text w (Verdicts vs) = verdicts_text vs
+reply_text w HeardBeat = codes "beat"
+reply_text w (Granted n) = codes "granted " ++ decimal n
+reply_text w (Denied n) = codes "denied " ++ packet_reply w n
+reply_text w GrantedBefore = codes "repeated"
+reply_text w Old = codes "old"
+reply_text w Noted = codes "noted"
+reply_text w (Refused cause) = codes "refused " ++ decimal cause
 reply_text w (Taken n) = codes "taken " ++ decimal n
+reply_text w (TakenBack n back) = codes "taken " ++ decimal n ++ codes " back " ++ decimal back
 reply_text w Nothing = codes "nothing"
 
 abbrev pub outcome_text : {A : Type 0} → WorldValue → Result (Reply A) WorldError → List ℕ

@@ -1,28 +1,31 @@
--- A world as plain data: lists for each site and each pair, and all packets ever sent.
-use Rattle.std.specs.Prelude.{ℕ, Bool, List}
+-- A world as plain data: the desk of each site, what each site has of each other log, and all packets ever sent.
+use Rattle.std.specs.Prelude.{ℕ, Bool, List, Option}
 use Rattle.rights_types.specs.Entries.{EntryValue}
+use Rattle.site_core.specs.Desks.{DeskValue}
+use Rattle.site_core.specs.Inbounds.{InboundValue}
 
--- what a site keeps of a peer: how many of its own entries it published to it; and of the peer's log the
--- entries that reached it, those that its buffer put, and those that it applied
+-- what a site has of the log of an origin: what comes in from it; the entries that reached the site, each listed
+-- once, as it first came; those that its buffer put in order; and those that it applied
 pub record LinkValue : Type 0 where
-  pub cursor : ℕ
+  pub inbound : InboundValue
   pub reached : List EntryValue
   pub put : List EntryValue
   pub applied : List EntryValue
 
--- a site's number, its log, and its links by the peers' numbers
-pub record SiteValue : Type 0 where
-  pub me : ℕ
-  pub log : List EntryValue
-  pub links : List LinkValue
+-- what a packet carries: the line of the entry at a place of its sender's log, counted from 0, or a line of its own
+pub data BodyValue : Type 0 where
+  EntryAt : ℕ → BodyValue
+  Text : List ℕ → BodyValue
 
 -- a line that one site sent to another
 pub record PacketValue : Type 0 where
   pub from : ℕ
   pub to : ℕ
-  pub text : List ℕ
+  pub body : BodyValue
 
+-- the desks and, in a row for each site, the links, both by the sites' numbers; a site has no link to itself
 pub record WorldValue : Type 0 where
-  pub sites : List SiteValue
+  pub desks : List DeskValue
+  pub links : List (List (Option LinkValue))
   pub packets : List PacketValue
   pub ended : Bool

@@ -1,5 +1,6 @@
 //! What may happen in a world.
-use rights_types::{Move, OutOfMemory, SiteId};
+use rights_types::{Move, SiteId};
+use site_core::Line;
 use std::alloc::{Allocator, Global};
 use std::marker::Model;
 
@@ -32,42 +33,42 @@ impl<A: Allocator> Moves<A> {
     {
         &self.items
     }
-
-    /// The moves, to be kept.
-    pub fn into_items(self) -> Vec<Move, A>
-        ensures { result.items ≡ self }
-    {
-        self.items
-    }
 }
 
-/// What happens at a site, or on the link between two.
+/// What happens at a site, or on the link between two. The first site is the one where it happens.
 #[derive(Drop)]
 pub enum Event<A: Allocator = Global> {
     /// The site writes an entry of these moves.
     Post(SiteId, Moves<A>),
+    /// The site creates so many rights.
+    Issue(SiteId, u64),
+    /// The site gives the other one so many rights.
+    Give(SiteId, SiteId, u64),
+    /// The site spends so many rights, or lets the spend wait until this deadline.
+    Spend(SiteId, u64, u64),
+    /// The site serves the spend that waits at the front.
+    Serve(SiteId),
+    /// Spends whose deadlines are less than this time wait no longer.
+    Expire(SiteId, u64),
+    /// What became of the spend of this ticket is read.
+    Status(SiteId, u64),
+    /// The site plans whom it asks for the rights that waiting spends lack.
+    Plan(SiteId),
+    /// The site sends its outstanding ask to the peer.
+    Ask(SiteId, SiteId),
     /// The site sends its next entry to the peer.
     Publish(SiteId, SiteId),
+    /// The site sends the number of its log's end to the peer.
+    Beat(SiteId, SiteId),
+    /// The site asks the origin for the entries that it lacks: with `true` also where it asked for the same
+    /// last.
+    Query(SiteId, SiteId, bool),
     /// The packet of this number, counted from 1, arrives at the site.
     Arrive(SiteId, u64),
-    /// The site applies the next entry of the origin that its buffer has delivered.
+    /// Bytes that no site sent come in at the site, as a line of the origin.
+    Noise(SiteId, SiteId, Line<A>),
+    /// The site applies the next entry of the origin that its buffer has put.
     Take(SiteId, SiteId),
-}
-
-impl<A: Allocator + Copy> Event<A> {
-    ghost use Rattle.std.specs.Prelude.{◌≡◌, IfOk};
-
-    /// An equal event, whose moves lie in memory of this allocator.
-    pub fn clone_in(&self, alloc: A) -> Result<Event<A>, OutOfMemory>
-        ensures { IfOk result (λ copy. copy ≡ self.now) }
-    {
-        Ok(match self {
-            Event::Post(site, moves) => {
-                Event::Post(*site, Moves::new(Vec::from_slice(alloc, moves.as_slice())?))
-            }
-            Event::Publish(site, peer) => Event::Publish(*site, *peer),
-            Event::Arrive(site, packet) => Event::Arrive(*site, *packet),
-            Event::Take(site, origin) => Event::Take(*site, *origin),
-        })
-    }
+    /// The site closes; all that it holds goes to the heir, where one is named.
+    Close(SiteId, Option<SiteId>),
 }

@@ -2,28 +2,8 @@
 ghost use Rattle.transfer_world.specs.declared.fault.WorldError.TheVariants.{OutOfMemory as NoMemory};
 
 use rights_types::OutOfMemory;
+use site_core::DeskError;
 use std::alloc::{AllocError, AllocFailed};
-
-/// Why a site refuses what it was asked to write, in the order in which the causes are looked for.
-#[derive(Clone, Copy, Debug, PartialEq, Eq)]
-pub enum DeskError {
-    /// The site's log is closed.
-    Closed,
-    /// There are no moves, or more than 16.
-    BadCount,
-    /// A move is none that may be posted: a grant, a closing move or a take back.
-    BadMove,
-    /// A move names a site that the system does not have.
-    NoSuchSite,
-    /// A move names the site itself.
-    SameSite,
-    /// A move names a site whose closing entry was applied here.
-    PeerClosed,
-    /// The log's numbers would pass 999,999,900.
-    LogFull,
-    /// In order, a move spends or gives more than is held after the moves before it.
-    Short,
-}
 
 /// Why an event is refused, in the order in which the causes are looked for. A refusal changes
 /// nothing, but after `OutOfMemory` the world is ended.
@@ -37,10 +17,26 @@ pub enum WorldError {
     NoPacket,
     /// The packet was made for another site.
     NotForSite,
-    /// The site refuses.
+    /// The noise reads as a message: no site sent it.
+    Forged,
+    /// The site's desk refuses, for another cause than memory.
     Desk(DeskError),
     /// A request for memory was refused, and the world ends here.
     OutOfMemory,
+}
+
+impl From<DeskError> for WorldError {
+    ghost use Rattle.std.specs.Prelude.{◌≡◌};
+    ghost use Rattle.transfer_world.specs.Causes.{cause_of};
+
+    ghost from_gives = { λ error e. e ≡ cause_of error };
+
+    fn from(error: DeskError) -> WorldError {
+        match error {
+            DeskError::OutOfMemory => WorldError::OutOfMemory,
+            cause => WorldError::Desk(cause),
+        }
+    }
 }
 
 impl From<OutOfMemory> for WorldError {

@@ -1,5 +1,6 @@
 //! The headline as a law of the definitions, with no program in it. The function does nothing.
-ghost use Rattle.std.specs.Prelude.{ℕ, List, Result};
+ghost use Rattle.std.specs.Prelude.{ℕ, ◌≤◌, List, Result};
+ghost use Rattle.rights_types.specs.declared.limits.TheConstants.{MIN_SITES, MAX_SITES};
 ghost use Rattle.transfer_world.specs.Values.{WorldValue};
 ghost use Rattle.transfer_world.specs.Worlds.{start};
 ghost use Rattle.transfer_world.specs.Step.{Runs};
@@ -8,10 +9,10 @@ ghost use Rattle.transfer_world.specs.declared.event.Event.{Event};
 ghost use Rattle.transfer_world.specs.declared.reply.Reply.{Reply};
 ghost use Rattle.transfer_world.specs.declared.fault.WorldError.{WorldError};
 
-/// The headline holds of every world that a run of the step relation reaches from the start,
-/// whatever the events and their outcomes. (The values of events and replies say nothing of where
-/// they lie in memory, so the type that stands for that is any.)
+/// The headline and what retirement promises hold of every world that a run of the step relation reaches from the
+/// start, whatever the events and their outcomes. (The values of events and replies say nothing of where they lie in
+/// memory, so the type that stands for that is any.)
 pub fn every_run()
     ensures { (n : ℕ) (events : List (Event ℕ)) (outcomes : List (Result (Reply ℕ) WorldError)) (w : WorldValue)
-        → Runs (start n) events outcomes w → Headline w }
+        → MIN_SITES ≤ n → n ≤ MAX_SITES → Runs (start n) events outcomes w → Headline w }
 {}

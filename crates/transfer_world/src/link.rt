@@ -1,156 +1,176 @@
-//! What a site keeps of a peer.
-ghost use Rattle.std.specs.Prelude.{◌*◌, ◌≡◌, ◌+◌, ◌<◌, ◌≤◌, ◌^◌, IfOk, OnErr, IfSome, length};
-ghost use Rattle.rights_types.specs.Chains.{end, is_closed};
-ghost use Rattle.transfer_world.specs.Worlds.{no_link};
-ghost use Rattle.transfer_world.specs.Step.{published};
-ghost use Rattle.transfer_world.specs.Links.{Judged, TookNext};
-ghost use Rattle.rights_types.specs.Moves.{gift_to};
-ghost use Rattle.rights_types.specs.Rights.{to};
+//! What a site has of the log of one other site.
+ghost use Rattle.std.specs.Prelude.{◌≡◌, ◌≢◌, ◌≤◌, ◌∷◌, [], Ok, None, Some, true, IfOk, IfErr, OnErr, MatchResult, IsSome, List, Option, length};
+ghost use Rattle.std.specs.List.{All, Contains, slice_get};
+ghost use Rattle.std.specs.Option.{option_copied, option_map};
+ghost use Rattle.rights_types.specs.Entries.{EntryValue};
+ghost use Rattle.rights_types.specs.Ranges.{IsNumber};
+ghost use Rattle.rights_types.specs.Messages.{MessageValue, QueryValue};
+ghost use Rattle.rights_types.specs.Messages.MessageValue.{AQuery};
+ghost use Rattle.rights_types.specs.Values.{value_of};
+ghost use Rattle.rights_types.specs.declared.limits.TheConstants.{MIN_SITES, MAX_SITES, MAX_ANSWER};
+ghost use Rattle.entry_codec.specs.Reading.{reading, has_entries};
+ghost use Rattle.sub_buffer.specs.Follows.{Follows};
+ghost use Rattle.site_core.specs.declared.fault.InboundError.TheVariants.{OutOfMemory as NoMemory};
+ghost use Rattle.site_core.specs.Calls.{LineOf};
+ghost use Rattle.site_core.specs.Inbounds.{InboundRefuses, QueryOf};
+ghost use Rattle.transfer_world.specs.Values.{LinkValue};
+ghost use Rattle.transfer_world.specs.Worlds.{new_link};
+ghost use Rattle.transfer_world.specs.LinkEvents.{LinkTakesAll, heard, with_applied};
 
-use crate::entries::is_closed;
-use crate::reply::Verdict;
-use rights_types::{Entry, MAX_AMOUNT, MAX_MOVES, Move, OutOfMemory, SiteId};
+mod intake;
+
+use crate::reply::Verdicts;
+use intake::{Intake, none_ahead};
+use rights_types::{Entry, Message, OutOfMemory, SiteId};
+use site_core::{Inbound, InboundError};
 use std::alloc::Allocator;
 use std::marker::Model;
 
-/// How far a site published its log to a peer, and what it has of the peer's log. The buffer has
-/// no room for later entries, so all that reached it was put.
+/// What comes in of an origin's log at a site, and how many of the entries that were put in order were applied.
 #[derive(Drop)]
 pub(crate) struct Link<A: Allocator> {
-    put: Vec<Entry<A>, A>,
-    put_end: u64,
+    intake: Intake<A>,
     applied: usize,
-    applied_end: u64,
-    cursor: usize,
 }
 
 impl<A: Allocator> Model for Link<A> {
-    ghost use Rattle.std.specs.Prelude.{◌*◌, take};
     ghost use Rattle.transfer_world.specs.Values.{LinkValue};
+    ghost use Rattle.transfer_world.specs.Intakes.{link_of, IsIntake};
 
     ghost Value = { LinkValue };
 
-    ghost use Rattle.transfer_world.specs.Links.{LinkKeeps};
+    ghost view = { λ l. link_of l.intake l.applied };
 
-    ghost view = { λ l. record { cursor = l.cursor; reached = l.put.items; put = l.put.items; applied = take l.applied l.put.items } };
-
-    ghost invariant = { λ l. LinkKeeps l.put.items l.put_end l.applied l.applied_end };
+    ghost invariant = { λ l. IsIntake l.intake l.applied };
 }
 
-impl<A: Allocator> Link<A> {
-    pub(crate) fn new(alloc: A) -> Link<A>
-        ensures { result ≡ no_link }
+impl<A: Allocator + Copy> Link<A> {
+    pub(crate) fn new(
+        alloc: A,
+        me: SiteId,
+        origin: SiteId,
+        sites: u64,
+    ) -> Result<Link<A>, OutOfMemory>
+        requires sites { (MIN_SITES ≤ sites) × (sites ≤ MAX_SITES) }
+        requires me { me ≤ sites }
+        requires origin { origin ≤ sites }
+        requires other { origin ≢ me }
+        ensures { IfOk result (λ l. l ≡ new_link sites me origin) }
     {
-        Link {
-            put: Vec::new(alloc),
-            put_end: 0,
+        Ok(Link {
+            intake: Intake {
+                inbound: Inbound::new(alloc, me, origin, sites)?,
+                put: Vec::new(alloc),
+                apart: None,
+                verdicts: Vec::new(alloc),
+            },
             applied: 0,
-            applied_end: 0,
-            cursor: 0,
-        }
+        })
     }
 
-    /// How many entries of the site's own log were published to the peer.
-    pub(crate) fn cursor(&self) -> usize
-        ensures { result ≡ self.now.cursor }
+    /// The message of a line.
+    pub(crate) fn read(&self, line: &[u8]) -> Result<Message<A>, InboundError>
+        ensures refused { InboundRefuses self.now.inbound (reading line.now) result }
+        ensures ok { IfOk result (λ m. reading line.now ≡ Ok (value_of m)) }
+        ensures memory { IfErr result (λ fault. fault ≡ NoMemory → (m : MessageValue) × (reading line.now ≡ Ok m) × (has_entries m ≡ true)) }
     {
-        self.cursor
+        self.intake.inbound.read(line)
     }
 
-    /// One more entry was published.
-    pub(crate) fn advance(&mut self)
-        requires { self.old.cursor < 2 ^ 63 }
-        ensures { self.new ≡ published self.old }
-    {
-        self.cursor += 1;
-    }
-
-    /// Offers an entry of the peer's log to the buffer.
-    pub(crate) fn offer(&mut self, entry: Entry<A>) -> Result<Verdict, OutOfMemory>
-        ensures judged { IfOk result (λ verdict. Judged self.old entry verdict self.new) }
-        ensures put { self.old.reached ≡ self.old.put }
+    /// Takes in an entry.
+    pub(crate) fn take_entry(&mut self, entry: Entry<A>) -> Result<Verdicts<A>, OutOfMemory>
+        requires origin { entry.origin ≡ self.old.inbound.buffer.origin }
+        ensures ok { IfOk result (λ verdicts. (es : List EntryValue) → Contains es entry
+            → Follows es self.old.reached self.old.put self.old.inbound.buffer → LinkTakesAll A es self.old (entry ∷ []) verdicts self.new) }
         ensures err { OnErr result (self.new ≡ self.old) }
     {
-        if entry.prev() < self.put_end {
-            return Ok(Verdict::Repeat);
-        }
-        if is_closed(&self.put) {
-            return Ok(Verdict::AfterClose);
-        }
-        if entry.prev() > self.put_end {
-            return Ok(Verdict::Full);
-        }
-        let number = entry.own();
-        self.put.push(entry)?;
-        self.put_end = number;
-        Ok(Verdict::Ready(number))
+        let in_order = entry.prev() <= self.intake.inbound.last();
+        let mut told = self.intake.make_room(1, in_order)?;
+        let copy = self.intake.copy_of(&entry)?;
+        self.intake.take(entry, copy, &mut told);
+        Ok(Verdicts::new(told))
     }
 
-    /// Applies the next entry that was put: its own number, and what it gives to site `me`.
-    pub(crate) fn take(&mut self, me: SiteId) -> Option<(u64, u64)>
-        ensures took { TookNext me self.old result self.new }
-        ensures gift { IfSome result (λ t. t.1 ≤ MAX_MOVES * MAX_AMOUNT) }
+    /// Takes in the entries of an answer, in order.
+    pub(crate) fn take_answer(
+        &mut self,
+        entries: Vec<Entry<A>, A>,
+    ) -> Result<Verdicts<A>, OutOfMemory>
+        requires origin { All (λ (e : EntryValue). e.origin ≡ self.old.inbound.buffer.origin) entries.items }
+        requires few { length entries.items ≤ MAX_ANSWER }
+        ensures ok { IfOk result (λ verdicts. (es : List EntryValue) → All (Contains es) entries.items
+            → Follows es self.old.reached self.old.put self.old.inbound.buffer → LinkTakesAll A es self.old entries.items verdicts self.new) }
+        ensures err { OnErr result (self.new ≡ self.old) }
     {
-        let entry = self.put.get(self.applied)?;
-        let number = entry.own();
-        let gift = gift_among(entry.moves(), me);
+        let in_order = none_ahead(&entries, self.intake.inbound.last());
+        let mut told = self.intake.make_room(entries.len(), in_order)?;
+        let mut copies = self.intake.copies_of(&entries)?.into_iter();
+        for entry in entries {
+            self.intake.take(entry, copies.next(), &mut told);
+        }
+        Ok(Verdicts::new(told))
+    }
+
+    /// Hears a beat of the origin.
+    pub(crate) fn hear(&mut self, number: u64)
+        requires { IsNumber number }
+        ensures { self.new ≡ heard self.old number }
+    {
+        self.intake.inbound.hear(number);
+    }
+
+    /// The line of the query for the gap, as `Inbound::query_line` has it.
+    pub(crate) fn query_line(&mut self, again: bool) -> Result<Option<Vec<u8, A>>, OutOfMemory>
+        ensures asks { (q : Option QueryValue) × QueryOf self.old.inbound again q self.new.inbound
+            × MatchResult result (λ line. LineOf (λ l. l.items) (option_map (λ x. AQuery x) q) line) (λ _. IsSome q) }
+        ensures rest { self.new ≡ record self.old { inbound = self.new.inbound } }
+    {
+        self.intake.inbound.query_line(again)
+    }
+
+    /// The next entry to be applied.
+    pub(crate) fn next(&self) -> Option<&Entry<A>>
+        ensures { option_copied result ≡ slice_get self.now.put (length self.now.applied) }
+    {
+        self.intake.put.get(self.applied)
+    }
+
+    /// It was applied.
+    pub(crate) fn apply_next(&mut self)
+        requires { IsSome (slice_get self.old.put (length self.old.applied)) }
+        ensures { (e : EntryValue) → slice_get self.old.put (length self.old.applied) ≡ Some e → self.new ≡ with_applied self.old e }
+    {
         self.applied += 1;
-        self.applied_end = number;
-        Some((number, gift))
     }
 
-    /// Whether the peer's log is known to be closed: its closing entry was applied.
-    pub(crate) fn knows_closed(&self) -> bool
-        ensures { result ≡ is_closed self.now.applied }
-    {
-        is_closed(&self.put[..self.applied])
-    }
-
-    /// The entries that reached the buffer: without room for later ones, those that were put.
+    /// The entries that reached the site, each once, as they first came.
     pub(crate) fn reached(&self) -> &[Entry<A>]
         ensures { result.now ≡ self.now.reached }
     {
-        &self.put
+        match &self.intake.apart {
+            None => &self.intake.put,
+            Some(apart) => apart,
+        }
     }
 
-    /// The entries that were put.
+    /// The entries that were put in order.
     pub(crate) fn put(&self) -> &[Entry<A>]
         ensures { result.now ≡ self.now.put }
     {
-        &self.put
+        &self.intake.put
     }
 
     /// The entries that were applied.
     pub(crate) fn applied(&self) -> &[Entry<A>]
         ensures { result.now ≡ self.now.applied }
     {
-        &self.put[..self.applied]
+        &self.intake.put[..self.applied]
     }
 
     /// The own number of the last entry that was put.
-    pub(crate) fn put_end(&self) -> u64
-        ensures { result ≡ end self.now.put }
+    pub(crate) fn last(&self) -> u64
+        ensures { result ≡ self.now.inbound.buffer.last }
     {
-        self.put_end
+        self.intake.inbound.last()
     }
-
-    /// The own number of the last entry that was applied.
-    pub(crate) fn applied_end(&self) -> u64
-        ensures { result ≡ end self.now.applied }
-    {
-        self.applied_end
-    }
-}
-
-/// What these moves give to a site.
-pub(crate) fn gift_among(moves: &[Move], site: SiteId) -> u64
-    requires { length moves.now ≤ MAX_MOVES }
-    ensures value { result ≡ to site moves.now }
-    ensures range { result ≤ MAX_MOVES * MAX_AMOUNT }
-{
-    let mut gift = 0;
-    for m in moves {
-        gift += m.gift_to(site);
-    }
-    gift
 }

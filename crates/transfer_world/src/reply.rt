@@ -1,4 +1,5 @@
 //! What an event comes to.
+use request_queue::Status;
 use std::alloc::{Allocator, Global};
 use std::marker::Model;
 
@@ -53,12 +54,41 @@ impl<A: Allocator> Verdicts<A> {
 pub enum Reply<A: Allocator = Global> {
     /// The own number of the entry that was written.
     Number(u64),
-    /// The number of the packet that was made; `World::packet` lends its text.
+    /// The spend was served at once, by the entry of this number.
+    Spent(u64),
+    /// The spend waits under this ticket.
+    Queued(u64),
+    /// The spend of this ticket was served, by the entry of this number.
+    Served(u64, u64),
+    /// So many spends expired.
+    Expired(u64),
+    /// What became of a spend.
+    Tells(Status),
+    /// So many peers were asked.
+    Asks(u64),
+    /// The number of the packet that was made; `World::packet` lends its line.
     Packet(u64),
     /// The verdicts on the entries that arrived.
     Verdicts(Verdicts<A>),
+    /// A beat was heard.
+    HeardBeat,
+    /// The ask was granted, by the entry of this number.
+    Granted(u64),
+    /// The ask was denied; this is the number of the packet that says so.
+    Denied(u64),
+    /// The ask was granted before.
+    GrantedBefore,
+    /// A later ask was answered before.
+    Old,
+    /// The denial was noted.
+    Noted,
+    /// The noise is no line of a message, for this cause (`LineError::number`).
+    Refused(u64),
     /// The own number of the entry that was applied.
     Taken(u64),
-    /// There was nothing to send or to apply.
+    /// The own number of the closing entry that was applied, and that of the entry which takes back what its
+    /// site will never apply.
+    TakenBack(u64, u64),
+    /// There was nothing to serve, to send or to apply.
     Nothing,
 }

@@ -6,6 +6,7 @@ mod fault;
 mod output;
 mod report;
 mod session;
+mod word;
 mod words;
 
 pub use fault::ScriptFault;

@@ -97,7 +97,7 @@ fn many_rounds(rt: HostRuntime) -> Result<(), Fail> {
     assert!(rt; rest.is_empty());
     for (site, peer) in [(one, two), (two, one)] {
         let moves = largest(rt.alloc(), peer)?;
-        let log = world.log(rt.alloc(), site)?;
+        let log = world.log(site)?;
         assert_eq!(rt; log.len() as u64, ROUNDS);
         let mut prev = 0u64;
         for entry in &log {
@@ -135,7 +135,7 @@ fn a_run_of_events(rt: HostRuntime) -> Result<(), Fail> {
     assert!(rt; is_round(&outcomes, 2, 1));
     assert_eq!(rt; (world.held(one), world.held(two)), (7, 3));
     assert_eq!(rt; world.packet(1), Some(b"E 1 0 2 I:10 R:2:3\n".as_slice()));
-    let log = world.log(rt.alloc(), one)?;
+    let log = world.log(one)?;
     let [entry] = log.as_slice() else {
         return Err(Fail::from("the log"));
     };

@@ -2,14 +2,20 @@
 use crate::tests::MANY;
 use memchr::memchr;
 use refusing_allocator::Refusing;
+use std::alloc::Global;
 use std::test::Fail;
 use transfer_world::{ScriptFault, run_script};
 
-const SCRIPT: &[u8] =
-    b"sites 2\npost 1 I:10 S:4 R:2:3\npublish 1 2\narrive 2 1\nreport\ntake 2 1\nreport\n";
-
-const REPLIES: &[u8] =
-    b"ok\nnumber 3\npacket 1 E 1 0 3 I:10 S:4 R:2:3\nready 3\nsite 1 number 3 issued 10 spent 4 held 3 closed 0\nsite 2 number 0 issued 0 spent 0 held 0 closed 0\npair 1 2 applied 0 put 0 way 0\npair 2 1 applied 0 put 3 way 3\ntotal issued 10 spent 4 held 3 way 3\ntaken 3\nsite 1 number 3 issued 10 spent 4 held 3 closed 0\nsite 2 number 0 issued 0 spent 0 held 3 closed 0\npair 1 2 applied 0 put 0 way 0\npair 2 1 applied 3 put 3 way 0\ntotal issued 10 spent 4 held 6 way 0\n";
+/// Scripts that lead through all kinds of events: rights that travel, a gap and its answer, an ask that is granted, a
+/// denied one, an heir, and what is taken back.
+const SCRIPTS: [&[u8]; 6] = [
+    b"sites 2\npost 1 I:10 S:4 R:2:3\npublish 1 2\narrive 2 1\nreport\ntake 2 1\nreport\n",
+    b"sites 2\nissue 1 10\npost 1 S:1 S:1 S:1\npost 1 S:2\npublish 1 2\npublish 1 2\npublish 1 2\narrive 2 3\nquery 2 1\narrive 1 4\narrive 2 5\narrive 2 1\narrive 2 2\narrive 2 3\nreport\n",
+    b"sites 2\nissue 1 10\npublish 1 2\narrive 2 1\ntake 2 1\nspend 2 6 9\nplan 2\nask 2 1\narrive 1 2\narrive 1 2\npublish 1 2\narrive 2 3\ntake 2 1\nserve 2\npublish 2 1\nstatus 2 1\nreport\n",
+    b"sites 2\npost 1 I:10 S:4 R:2:3\nclose 1 2\npublish 1 2\npublish 1 2\narrive 2 2\nquery 2 1\narrive 1 3\narrive 2 4\ntake 2 1\ntake 2 1\nreport\n",
+    b"sites 2\nissue 1 10\npublish 1 2\narrive 2 1\ntake 2 1\nspend 1 10 0\nspend 2 6 0\nplan 2\nask 2 1\narrive 1 2\narrive 1 2\narrive 2 3\nbeat 1 2\narrive 2 5\nrequery 2 1\nreport\n",
+    b"sites 2\nissue 1 10\ngive 1 2 4\npublish 1 2\npublish 1 2\narrive 2 1\ntake 2 1\nclose 2\npublish 2 1\narrive 1 3\nreport\ntake 1 2\npublish 1 2\narrive 2 4\nreport\n",
+];
 
 const REFUSAL: &[u8] = b"error OutOfMemory\n";
 
@@ -55,49 +61,68 @@ fn are_after_end(text: &[u8]) -> bool {
 
 /// Whether the text is a front of the replies, a refusal for want of memory, and replies of an ended
 /// world.
-fn ends_the_world(text: &[u8]) -> bool {
+fn ends_the_world(text: &[u8], replies: &[u8]) -> bool {
     for length in 0..text.len() {
         let (front, rest) = text.split_at(length);
         if let Some(after) = rest_after(rest, REFUSAL) {
-            return begins_with(REPLIES, front) && are_after_end(after);
+            return begins_with(replies, front) && are_after_end(after);
         }
     }
     false
 }
 
-/// Each growth that a script needs is refused in turn: a front of the replies is written, and then the run
+/// Whether a script that met a refused growth ended as it should: a front of the replies is written, and then the run
 /// stops, or the event is refused and the world has ended.
-#[test]
-fn each_growth_of_a_script_refused(rt: HostRuntime) -> Result<(), Fail> {
-    let mut stopped = false;
-    let mut ended = false;
-    let mut whole = false;
+fn is_cut_short(outcome: Result<(), ScriptFault>, text: &[u8], replies: &[u8]) -> bool {
+    match outcome {
+        Ok(()) => ends_the_world(text, replies),
+        Err(fault) => fault == ScriptFault::OutOfMemory && begins_with(replies, text),
+    }
+}
+
+/// The replies to a script.
+fn replies_to(alloc: Global, script: &[u8]) -> Result<Vec<u8>, Fail> {
+    let mut out = Vec::new(alloc);
+    let mut reader = script;
+    run_script(alloc, &mut reader, &mut out)?;
+    Ok(out)
+}
+
+/// How many growths of the script were refused, one in each run. `None` where a run went wrong.
+fn refused_growths(alloc: Global, script: &[u8], replies: &[u8]) -> Option<u64> {
     for granted in 0..MANY {
-        let refusing = Refusing::new(rt.alloc(), granted);
-        let mut reader = SCRIPT;
-        let mut out = Vec::new(rt.alloc());
+        let refusing = Refusing::new(alloc, granted);
+        let mut reader = script;
+        let mut out = Vec::new(alloc);
         let result = run_script(&refusing, &mut reader, &mut out);
         if !refusing.refused() {
-            assert_eq!(rt; result, Ok(()));
-            assert_eq!(rt; out.as_slice(), REPLIES);
-            whole = true;
-            break;
+            return if result.is_ok() && out.as_slice() == replies {
+                Some(granted)
+            } else {
+                None
+            };
         }
-        match result {
-            Ok(()) => {
-                ended = true;
-                assert!(rt; ends_the_world(&out), "with {granted} granted");
-            }
-            Err(fault) => {
-                stopped = true;
-                assert_eq!(rt; fault, ScriptFault::OutOfMemory);
-                assert!(rt; begins_with(REPLIES, &out), "with {granted} granted");
-            }
+        if !is_cut_short(result, &out, replies) {
+            return None;
         }
     }
-    assert!(rt; stopped);
-    assert!(rt; ended);
-    assert!(rt; whole);
+    None
+}
+
+#[test]
+fn each_growth_of_a_script_refused(rt: HostRuntime) -> Result<(), Fail> {
+    for script in SCRIPTS {
+        let replies = replies_to(rt.alloc(), script)?;
+        assert!(rt;
+            !replies
+                .windows(5)
+                .any(|window| window == b"error".as_slice())
+        );
+        let Some(growths) = refused_growths(rt.alloc(), script, &replies) else {
+            return Err(Fail::from("a run that went wrong"));
+        };
+        assert!(rt; growths > 10);
+    }
     Ok(())
 }
 
@@ -115,6 +140,59 @@ fn bytes_that_are_no_text(rt: HostRuntime) -> Result<(), Fail> {
     assert_eq!(rt; result, Ok(()));
     let expected =
         b"error BadCommand\nerror BadCommand\nok\nerror BadCommand\nerror BadCommand\nerror BadCommand\n";
+    assert_eq!(rt; out.as_slice(), expected.as_slice());
+    Ok(())
+}
+
+/// Lines of a script, and the reply to each.
+const EDGES: [(&[u8], &[u8]); 30] = [
+    (b"report", b"error NoWorld"),
+    (b"report ", b"error BadCommand"),
+    (b"sites 17", b"error BadCommand"),
+    (b"sites 2", b"ok"),
+    (b"sites 2", b"error BadCommand"),
+    (b"post 1", b"error BadCount"),
+    (b"post 1 ", b"error BadCommand"),
+    (b"post 1 K:7:7", b"error BadMove"),
+    (b"issue 1 0", b"error BadAmount"),
+    (b"issue 1 18446744073709551615", b"error BadAmount"),
+    (b"issue 1 18446744073709551616", b"error BadCommand"),
+    (b"issue 3 1", b"error NoSuchSite"),
+    (b"issue 17 1", b"error BadCommand"),
+    (b"issue 1 10", b"number 1"),
+    (b"give 1 1 5", b"error SameSite"),
+    (b"give 1 2", b"error BadCommand"),
+    (b"spend 1 4 7", b"spent 2"),
+    (b"spend 1 4 7 ", b"error BadCommand"),
+    (b"spend 2 4 7", b"queued 1"),
+    (b"status 2 1", b"waiting"),
+    (b"expire 2 18446744073709551615", b"expired 1"),
+    (b"status 2 1", b"expired"),
+    (b"status 2 1", b"unknown"),
+    (b"query 1 1", b"error NoSuchSite"),
+    (b"requery 1 2", b"nothing"),
+    (b"noise 2 1", b"error BadCommand"),
+    (b"noise 2 1 ", b"refused 3"),
+    (b"noise 2 1 B 1 0", b"error Forged"),
+    (b"close 1 1", b"error SameSite"),
+    (b"close 2", b"number 1"),
+];
+
+/// Commands at the edges of their forms.
+#[test]
+fn edges_of_commands(rt: HostRuntime) -> Result<(), Fail> {
+    let mut script = Vec::new(rt.alloc());
+    let mut expected = Vec::new(rt.alloc());
+    for (line, reply) in EDGES {
+        script.extend_from_slice(line)?;
+        script.push(b'\n')?;
+        expected.extend_from_slice(reply)?;
+        expected.push(b'\n')?;
+    }
+    let mut reader = script.as_slice();
+    let mut out = Vec::new(rt.alloc());
+    let result = run_script(rt.alloc(), &mut reader, &mut out);
+    assert_eq!(rt; result, Ok(()));
     assert_eq!(rt; out.as_slice(), expected.as_slice());
     Ok(())
 }

@@ -64,13 +64,29 @@ fn are_all_sizes(alloc: Global, entries: &[Entry]) -> Result<bool, OutOfMemory> 
 
 /// Whether the world has all entries wherever it should.
 fn has_all(alloc: Global, world: &World) -> Result<bool, OutOfMemory> {
-    let log = world.log(alloc, site(1))?;
+    let log = world.log(site(1))?;
     Ok(
         are_all_sizes(alloc, &log)?
             && are_all_sizes(alloc, world.reached(site(2), site(1)))?
             && are_all_sizes(alloc, world.put(site(2), site(1)))?
             && are_all_sizes(alloc, world.applied(site(2), site(1)))?,
     )
+}
+
+/// The outcomes of the events of one entry, stepped one by one.
+fn step_all(
+    alloc: Global,
+    world: &mut World,
+    count: usize,
+    packet: u64,
+) -> Result<Vec<Result<Reply, WorldError>>, OutOfMemory> {
+    let mut events = Vec::new(alloc);
+    add_events(alloc, &mut events, count, packet)?;
+    let mut outcomes = Vec::new(alloc);
+    for event in events {
+        outcomes.push(world.step(event))?;
+    }
+    Ok(outcomes)
 }
 
 #[test]
@@ -83,24 +99,16 @@ fn steps_and_runs_with_entries_of_each_size(rt: HostRuntime) -> Result<(), Fail>
     let outcomes = world.run(&events)?;
     let mut stepped = World::new(rt.alloc(), 2)?;
     let mut rest = outcomes.as_slice();
-    let mut next = events.as_slice();
     let mut end = 0u64;
     for count in 1..=16u64 {
         end = end.saturating_add(count);
-        let (Some((replies, more)), Some((round, others))) = (
-            rest.split_at_checked(4),
-            next.split_at_checked(4),
-        ) else {
+        let Some((replies, more)) = rest.split_at_checked(4) else {
             return Err(Fail::from("too few replies"));
         };
         assert!(rt; are_replies(replies, end, count), "with {count} moves");
-        let mut answers = Vec::new(rt.alloc());
-        for event in round {
-            answers.push(stepped.step(event.clone_in(rt.alloc())?))?;
-        }
+        let answers = step_all(rt.alloc(), &mut stepped, count as usize, count)?;
         assert!(rt; are_replies(&answers, end, count), "with {count} moves");
         rest = more;
-        next = others;
     }
     assert!(rt; rest.is_empty());
     assert!(rt; has_all(rt.alloc(), &world)?);

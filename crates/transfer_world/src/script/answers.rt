@@ -1,17 +1,19 @@
 //! What a command comes to, and its reply.
-ghost use Rattle.std.specs.Prelude.{◌≡◌, ◌<◌, ℕ, List, [], ◌∷◌, ◌++◌, length, OnOk, OnErr};
-ghost use Rattle.transfer_world.specs.Replies.{desk_error_name, error_name, verdict_text, verdicts_text, packet_line, reply_text, outcome_text};
-ghost use Rattle.transfer_world.specs.Worlds.{packet};
+ghost use Rattle.std.specs.Prelude.{◌≡◌, ◌<◌, ℕ, List, [], ◌∷◌, ◌++◌, Some, None, length, OnOk, OnErr};
+ghost use Rattle.std.specs.Option.{option_copied};
+ghost use Rattle.transfer_world.specs.Replies.{desk_error_name, error_name, verdict_text, verdicts_text, status_text, unended, packet_reply, reply_text, outcome_text};
 ghost use Rattle.transfer_world.specs.Script.{CommandGets, LineGets};
 
 use crate::event::Event;
-use crate::fault::{DeskError, WorldError};
+use crate::fault::WorldError;
 use crate::reply::{Reply, Verdict};
 use crate::script::commands::{Command, read_command};
 use crate::script::output::{BLOCK, Replies};
 use crate::script::report::put_report;
 use crate::world::World;
+use request_queue::Status;
 use rights_types::OutOfMemory;
+use site_core::DeskError;
 use std::alloc::Allocator;
 
 fn desk_error_name(error: DeskError) -> &'static [u8]
@@ -21,11 +23,17 @@ fn desk_error_name(error: DeskError) -> &'static [u8]
         DeskError::Closed => b"Closed",
         DeskError::BadCount => b"BadCount",
         DeskError::BadMove => b"BadMove",
+        DeskError::BadAmount => b"BadAmount",
         DeskError::NoSuchSite => b"NoSuchSite",
         DeskError::SameSite => b"SameSite",
         DeskError::PeerClosed => b"PeerClosed",
         DeskError::LogFull => b"LogFull",
         DeskError::Short => b"Short",
+        DeskError::OutOfMemory => b"OutOfMemory",
+        DeskError::QueueFull => b"QueueFull",
+        DeskError::QueueBusy => b"QueueBusy",
+        DeskError::HeldTooMuch => b"HeldTooMuch",
+        DeskError::TimeWentBack => b"TimeWentBack",
     }
 }
 
@@ -37,6 +45,7 @@ fn error_name(error: WorldError) -> &'static [u8]
         WorldError::NoSuchSite => b"NoSuchSite",
         WorldError::NoPacket => b"NoPacket",
         WorldError::NotForSite => b"NotForSite",
+        WorldError::Forged => b"Forged",
         WorldError::Desk(error) => desk_error_name(error),
         WorldError::OutOfMemory => b"OutOfMemory",
     }
@@ -47,10 +56,7 @@ fn put_verdict<A: Allocator>(replies: &mut Replies<A>, verdict: Verdict) -> Resu
     ensures kept { replies.new.whole ≡ replies.old.whole }
 {
     match verdict {
-        Verdict::Ready(number) => {
-            replies.put(b"ready ")?;
-            replies.put_decimal(number)
-        }
+        Verdict::Ready(number) => replies.put_field(b"ready ", number),
         Verdict::Held => replies.put(b"held"),
         Verdict::Repeat => replies.put(b"repeat"),
         Verdict::AfterClose => replies.put(b"afterclose"),
@@ -78,6 +84,18 @@ fn put_verdicts<A: Allocator>(
     }
 }
 
+fn put_status<A: Allocator>(replies: &mut Replies<A>, status: Status) -> Result<(), OutOfMemory>
+    ensures ok { OnOk result (replies.new.part ≡ replies.old.part ++ status_text status) }
+    ensures kept { replies.new.whole ≡ replies.old.whole }
+{
+    match status {
+        Status::Waiting => replies.put(b"waiting"),
+        Status::Spent(number) => replies.put_field(b"spent ", number),
+        Status::Expired => replies.put(b"expired"),
+        Status::Unknown => replies.put(b"unknown"),
+    }
+}
+
 fn put_reply<A: Allocator + Copy>(
     replies: &mut Replies<A>,
     world: &World<A>,
@@ -87,36 +105,57 @@ fn put_reply<A: Allocator + Copy>(
     ensures kept { replies.new.whole ≡ replies.old.whole }
 {
     match reply {
-        Reply::Number(number) => {
-            replies.put(b"number ")?;
-            replies.put_decimal(number)
+        Reply::Number(number) => replies.put_field(b"number ", number),
+        Reply::Spent(number) => replies.put_field(b"spent ", number),
+        Reply::Queued(ticket) => replies.put_field(b"queued ", ticket),
+        Reply::Served(ticket, number) => {
+            replies.put_field(b"served ", ticket)?;
+            replies.put_field(b" ", number)
         }
-        Reply::Packet(number) => {
-            replies.put(b"packet ")?;
-            replies.put_decimal(number)?;
-            replies.put(b" ")?;
+        Reply::Expired(count) => replies.put_field(b"expired ", count),
+        Reply::Tells(status) => put_status(replies, status),
+        Reply::Asks(count) => replies.put_field(b"asks ", count),
+        Reply::Packet(number) => put_packet(replies, world, number),
+        Reply::Verdicts(verdicts) => put_verdicts(replies, verdicts.as_slice()),
+        Reply::HeardBeat => replies.put(b"beat"),
+        Reply::Granted(number) => replies.put_field(b"granted ", number),
+        Reply::Denied(number) => {
+            replies.put(b"denied ")?;
             put_packet(replies, world, number)
         }
-        Reply::Verdicts(verdicts) => put_verdicts(replies, verdicts.as_slice()),
-        Reply::Taken(number) => {
-            replies.put(b"taken ")?;
-            replies.put_decimal(number)
+        Reply::GrantedBefore => replies.put(b"repeated"),
+        Reply::Old => replies.put(b"old"),
+        Reply::Noted => replies.put(b"noted"),
+        Reply::Refused(cause) => replies.put_field(b"refused ", cause),
+        Reply::Taken(number) => replies.put_field(b"taken ", number),
+        Reply::TakenBack(number, back) => {
+            replies.put_field(b"taken ", number)?;
+            replies.put_field(b" back ", back)
         }
         Reply::Nothing => replies.put(b"nothing"),
     }
 }
 
-/// The packet's text without its line feed.
+/// A packet's number, and its line without the line feed.
 fn put_packet<A: Allocator + Copy>(
     replies: &mut Replies<A>,
     world: &World<A>,
     number: u64,
 ) -> Result<(), OutOfMemory>
-    ensures ok { OnOk result (replies.new.part ≡ replies.old.part ++ packet_line (packet world.now number)) }
+    ensures ok { OnOk result (replies.new.part ≡ replies.old.part ++ packet_reply world.now number) }
     ensures kept { replies.new.whole ≡ replies.old.whole }
 {
-    match world.packet(number) {
-        Some([line @ .., _end]) => replies.put(line),
+    replies.put_field(b"packet ", number)?;
+    replies.put(b" ")?;
+    put_line(replies, world.packet(number))
+}
+
+fn put_line<A: Allocator>(replies: &mut Replies<A>, line: Option<&[u8]>) -> Result<(), OutOfMemory>
+    ensures ok { OnOk result (replies.new.part ≡ replies.old.part ++ unended (option_copied line.entry)) }
+    ensures kept { replies.new.whole ≡ replies.old.whole }
+{
+    match line {
+        Some([text @ .., _end]) => replies.put(text),
         _ => Ok(()),
     }
 }
@@ -138,6 +177,45 @@ fn put_outcome<A: Allocator + Copy>(
     }
 }
 
+/// Answers a command where there is no world yet, but for the end of its reply.
+fn answer_first<A: Allocator + Copy>(
+    alloc: A,
+    world: &mut Option<World<A>>,
+    replies: &mut Replies<A>,
+    command: Command<A>,
+) -> Result<(), OutOfMemory>
+    requires { world.old ≡ None }
+    ensures ok { OnOk result ((text : List ℕ) × CommandGets None (Some command) text world.new
+        × (replies.new.part ≡ replies.old.part ++ text)) }
+    ensures kept { replies.new.whole ≡ replies.old.whole }
+{
+    let Command::Sites(count) = command else {
+        return replies.put(b"error NoWorld");
+    };
+    *world = Some(World::new(alloc, count.number())?);
+    replies.put(b"ok")
+}
+
+/// Answers a command in a world, but for the end of its reply.
+fn answer_in<A: Allocator + Copy>(
+    world: &mut World<A>,
+    replies: &mut Replies<A>,
+    command: Command<A>,
+) -> Result<(), OutOfMemory>
+    ensures ok { OnOk result ((text : List ℕ) × CommandGets (Some world.old) (Some command) text (Some world.new)
+        × (replies.new.part ≡ replies.old.part ++ text)) }
+    ensures kept { replies.new.whole ≡ replies.old.whole }
+{
+    match command {
+        Command::Sites(_) => replies.put(b"error BadCommand"),
+        Command::Act(event) => {
+            let outcome = world.step(event);
+            put_outcome(replies, world, outcome)
+        }
+        Command::Report => put_report(replies, world),
+    }
+}
+
 /// Answers a command, but for the end of its reply.
 fn answer<A: Allocator + Copy>(
     alloc: A,
@@ -153,22 +231,8 @@ fn answer<A: Allocator + Copy>(
         return replies.put(b"error BadCommand");
     };
     match world {
-        None => match command {
-            Command::Sites(count) => {
-                *world = Some(World::new(alloc, count.number())?);
-                replies.put(b"ok")
-            }
-            Command::Act(_) => replies.put(b"error NoWorld"),
-            Command::Report => replies.put(b"error NoWorld"),
-        },
-        Some(world) => match command {
-            Command::Sites(_) => replies.put(b"error BadCommand"),
-            Command::Act(event) => {
-                let outcome = world.step(event);
-                put_outcome(replies, world, outcome)
-            }
-            Command::Report => put_report(replies, world),
-        },
+        None => answer_first(alloc, world, replies, command),
+        Some(world) => answer_in(world, replies, command),
     }
 }
 

@@ -1,11 +1,14 @@
 //! What the lines of a script ask for.
-ghost use Rattle.std.specs.Prelude.{◌≡◌, [], ◌∷◌, ◌++◌, ◌≤◌, length, vec_capacity, IfOk, IfSome};
-ghost use Rattle.transfer_world.specs.Commands.{words_of, words_left, moves_in, post_of, report_of, only_number, site_and, short_command, command_in, command_of};
+ghost use Rattle.std.specs.Prelude.{◌≡◌, [], ◌∷◌, ◌++◌, ◌≤◌, length, vec_capacity, IfOk};
+ghost use Rattle.entry_codec.specs.Parts.{Finds};
+ghost use Rattle.transfer_world.specs.Commands.{words_of, words_left, moves_in, site_and_number, two_sites, heir_in, site_event, link_event, event_on_link, post_of, noise_parts, noise_of, sites_of, report_of, act, command_by, command_in, command_of};
 
 use crate::event::{Event, Moves};
-use crate::script::words::{site, split_word};
-use entry_codec::{read_decimal, read_move};
+use crate::script::word::{LinkWord, SiteWord, Word, word_of};
+use crate::script::words::{first_number, first_site, only_in, only_number, only_site, split_word};
+use entry_codec::read_move;
 use rights_types::{MAX_LINE, MAX_SITES, MIN_SITES, Move, OutOfMemory, SiteId};
+use site_core::Line;
 use std::alloc::Allocator;
 use std::marker::Model;
 
@@ -96,59 +99,145 @@ fn count_words(text: &[u8]) -> usize
     count
 }
 
-fn read_post<A: Allocator>(
-    alloc: A,
-    values: Option<&[u8]>,
-) -> Result<Option<Command<A>>, OutOfMemory>
-    ensures { IfOk result (λ command. command ≡ post_of (words_left values.entry)) }
+#[tactic(auto, unfolding(crate::specs::Commands::post_of))]
+fn read_post<A: Allocator>(alloc: A, values: Option<&[u8]>) -> Result<Option<Event<A>>, OutOfMemory>
+    ensures { IfOk result (λ event. event ≡ post_of (words_left values.entry)) }
 {
-    let Some(values) = values else {
-        return Ok(None);
-    };
-    let (first, words) = split_word(values);
-    let Some(at) = site(first) else {
+    let Some((site, words)) = first_site(values) else {
         return Ok(None);
     };
     match read_moves(alloc, words)? {
-        Some(moves) => Ok(Some(Command::Act(Event::Post(at, moves)))),
+        Some(moves) => Ok(Some(Event::Post(SiteId::known(site), moves))),
         None => Ok(None),
     }
 }
 
-/// The only value, a number in the range.
-fn only_number(values: Option<&[u8]>, low: u64, high: u64) -> Option<u64>
-    ensures value { result ≡ only_number low high (words_left values.entry) }
-    ensures range { IfSome result (λ n. (low ≤ n) × (n ≤ high)) }
+/// The two sites of noise, and its text: all that is behind the space after them.
+#[tactic(auto, unfolding(crate::specs::Commands::noise_parts))]
+fn noise_parts(values: Option<&[u8]>) -> Option<(SiteId, SiteId, &[u8])>
+    ensures { Finds (λ x. (x.0, x.1, x.2.now)) result (noise_parts (words_left values.entry)) }
 {
-    let (first, more) = split_word(values?);
-    match more {
-        Some(_) => None,
-        None => read_decimal(first, low, high),
-    }
+    let (site, rest) = first_site(values)?;
+    let (origin, text) = first_site(rest)?;
+    Some((SiteId::known(site), SiteId::known(origin), text?))
 }
 
-/// The two values, a site and a number in the range.
-fn site_and_number(values: Option<&[u8]>, low: u64, high: u64) -> Option<(SiteId, u64)>
-    ensures { result ≡ site_and low high (words_left values.entry) }
+#[tactic(auto, unfolding(crate::specs::Commands::noise_of))]
+fn read_noise<A: Allocator>(
+    alloc: A,
+    values: Option<&[u8]>,
+) -> Result<Option<Event<A>>, OutOfMemory>
+    ensures { IfOk result (λ event. event ≡ noise_of (words_left values.entry)) }
 {
-    let (first, rest) = split_word(values?);
-    let (second, more) = split_word(rest?);
-    match more {
-        Some(_) => None,
-        None => Some((site(first)?, read_decimal(second, low, high)?)),
-    }
+    let Some((site, origin, text)) = noise_parts(values) else {
+        return Ok(None);
+    };
+    let mut line = Vec::with_capacity(alloc, text.len() + 1)?;
+    line.extend_from_slice(text)?;
+    line.push(b'\n')?;
+    Ok(Some(Event::Noise(site, origin, Line::new(line))))
 }
 
-/// The two values, both sites.
+#[tactic(auto, unfolding(crate::specs::Commands::site_and_number))]
+fn site_and_number(values: Option<&[u8]>) -> Option<(SiteId, u64)>
+    ensures { result ≡ site_and_number (words_left values.entry) }
+{
+    let (site, rest) = first_site(values)?;
+    Some((SiteId::known(site), only_number(rest)?))
+}
+
+#[tactic(auto, unfolding(crate::specs::Commands::two_sites))]
 fn two_sites(values: Option<&[u8]>) -> Option<(SiteId, SiteId)>
-    ensures { result ≡ site_and 1 MAX_SITES (words_left values.entry) }
+    ensures { result ≡ two_sites (words_left values.entry) }
 {
-    let (first, rest) = split_word(values?);
-    let (second, more) = split_word(rest?);
-    match more {
-        Some(_) => None,
-        None => Some((site(first)?, site(second)?)),
+    let (site, rest) = first_site(values)?;
+    Some((SiteId::known(site), only_site(rest)?))
+}
+
+/// The heir, where one is named.
+fn heir_in(values: Option<&[u8]>) -> Option<Option<SiteId>>
+    ensures { result ≡ heir_in (words_left values.entry) }
+{
+    match values {
+        None => Some(None),
+        Some(_) => Some(Some(only_site(values)?)),
     }
+}
+
+#[tactic(auto, unfolding(crate::specs::Commands::site_event))]
+fn site_event<A: Allocator>(word: SiteWord, values: Option<&[u8]>) -> Option<Event<A>>
+    ensures { result ≡ site_event word (words_left values.entry) }
+{
+    match word {
+        SiteWord::Issue => {
+            let (site, amount) = site_and_number(values)?;
+            Some(Event::Issue(site, amount))
+        }
+        SiteWord::Give => {
+            let (site, rest) = first_site(values)?;
+            let (peer, amount) = site_and_number(rest)?;
+            Some(Event::Give(SiteId::known(site), peer, amount))
+        }
+        SiteWord::Spend => {
+            let (site, rest) = first_site(values)?;
+            let (amount, rest) = first_number(rest)?;
+            let deadline = only_number(rest)?;
+            Some(Event::Spend(SiteId::known(site), amount, deadline))
+        }
+        SiteWord::Serve => Some(Event::Serve(only_site(values)?)),
+        SiteWord::Expire => {
+            let (site, time) = site_and_number(values)?;
+            Some(Event::Expire(site, time))
+        }
+        SiteWord::Status => {
+            let (site, ticket) = site_and_number(values)?;
+            Some(Event::Status(site, ticket))
+        }
+        SiteWord::Plan => Some(Event::Plan(only_site(values)?)),
+        SiteWord::Arrive => {
+            let (site, packet) = site_and_number(values)?;
+            Some(Event::Arrive(site, packet))
+        }
+        SiteWord::Close => {
+            let (site, rest) = first_site(values)?;
+            Some(Event::Close(SiteId::known(site), heir_in(rest)?))
+        }
+    }
+}
+
+fn link_event<A: Allocator>(word: LinkWord, site: SiteId, other: SiteId) -> Event<A>
+    ensures { result ≡ link_event word site other }
+{
+    match word {
+        LinkWord::Ask => Event::Ask(site, other),
+        LinkWord::Publish => Event::Publish(site, other),
+        LinkWord::Beat => Event::Beat(site, other),
+        LinkWord::Query => Event::Query(site, other, false),
+        LinkWord::Requery => Event::Query(site, other, true),
+        LinkWord::Take => Event::Take(site, other),
+    }
+}
+
+#[tactic(auto, unfolding(crate::specs::Commands::event_on_link))]
+fn event_on_link<A: Allocator>(word: LinkWord, values: Option<&[u8]>) -> Option<Event<A>>
+    ensures { result ≡ event_on_link word (words_left values.entry) }
+{
+    let (site, other) = two_sites(values)?;
+    Some(link_event(word, site, other))
+}
+
+#[tactic(auto, unfolding(crate::specs::Commands::sites_of))]
+fn read_sites<A: Allocator>(values: Option<&[u8]>) -> Option<Command<A>>
+    ensures { result ≡ sites_of (words_left values.entry) }
+{
+    let count = only_in(values, MIN_SITES, MAX_SITES)?;
+    Some(Command::Sites(SiteCount::known(count)))
+}
+
+fn act<A: Allocator>(event: Option<Event<A>>) -> Option<Command<A>>
+    ensures { result ≡ act event }
+{
+    Some(Command::Act(event?))
 }
 
 fn read_report<A: Allocator>(values: Option<&[u8]>) -> Option<Command<A>>
@@ -160,39 +249,34 @@ fn read_report<A: Allocator>(values: Option<&[u8]>) -> Option<Command<A>>
     }
 }
 
-/// The command of a first word other than `post`.
-fn read_short<A: Allocator>(word: &[u8], values: Option<&[u8]>) -> Option<Command<A>>
-    ensures { result ≡ short_command word.now (words_left values.entry) }
+/// The command of a word, and its values.
+#[tactic(auto, unfolding(crate::specs::Commands::command_by))]
+fn read_values<A: Allocator>(
+    alloc: A,
+    word: Word,
+    values: Option<&[u8]>,
+) -> Result<Option<Command<A>>, OutOfMemory>
+    ensures { IfOk result (λ command. command ≡ command_by word (words_left values.entry)) }
 {
-    if word == b"publish".as_slice() {
-        let (site, peer) = two_sites(values)?;
-        Some(Command::Act(Event::Publish(site, peer)))
-    } else if word == b"arrive".as_slice() {
-        let (site, packet) = site_and_number(values, 0, u64::MAX)?;
-        Some(Command::Act(Event::Arrive(site, packet)))
-    } else if word == b"take".as_slice() {
-        let (site, origin) = two_sites(values)?;
-        Some(Command::Act(Event::Take(site, origin)))
-    } else if word == b"report".as_slice() {
-        read_report(values)
-    } else if word == b"sites".as_slice() {
-        let count = only_number(values, MIN_SITES, MAX_SITES)?;
-        Some(Command::Sites(SiteCount::known(count)))
-    } else {
-        None
-    }
+    Ok(match word {
+        Word::Sites => read_sites(values),
+        Word::Post => act(read_post(alloc, values)?),
+        Word::AtSite(word) => act(site_event(word, values)),
+        Word::OnLink(word) => act(event_on_link(word, values)),
+        Word::Noise => act(read_noise(alloc, values)?),
+        Word::Report => read_report(values),
+    })
 }
 
-#[tactic(auto, unfolding(crate::specs::Commands::command_in))]
 /// The command of a line that is not too long.
+#[tactic(auto, unfolding(crate::specs::Commands::command_in))]
 fn read_words<A: Allocator>(alloc: A, text: &[u8]) -> Result<Option<Command<A>>, OutOfMemory>
     ensures { IfOk result (λ command. command ≡ command_in text.now) }
 {
-    let (word, values) = split_word(text);
-    if word == b"post".as_slice() {
-        read_post(alloc, values)
-    } else {
-        Ok(read_short(word, values))
+    let (first, values) = split_word(text);
+    match word_of(first) {
+        Some(word) => read_values(alloc, word, values),
+        None => Ok(None),
     }
 }
 

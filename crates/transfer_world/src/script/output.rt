@@ -61,6 +61,15 @@ impl<A: Allocator> Replies<A> {
         self.put(digits.format(number).as_bytes())
     }
 
+    /// A word and its number.
+    pub(crate) fn put_field(&mut self, word: &[u8], number: u64) -> Result<(), OutOfMemory>
+        ensures ok { OnOk result (self.new.part ≡ self.old.part ++ word.now ++ decimal number) }
+        ensures kept { self.new.whole ≡ self.old.whole }
+    {
+        self.put(word)?;
+        self.put_decimal(number)
+    }
+
     /// Ends the reply at work.
     pub(crate) fn finish(&mut self) -> Result<(), OutOfMemory>
         ensures ok { OnOk result (self.new ≡ record { whole = self.old.whole ++ (self.old.part ++ 10 ∷ []); part = [] }) }

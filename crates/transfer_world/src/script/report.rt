@@ -1,5 +1,5 @@
 //! The report on all sites and pairs.
-ghost use Rattle.std.specs.Prelude.{◌≡◌, ◌++◌, ◌≤◌, Bool, OnOk, codes, decimal};
+ghost use Rattle.std.specs.Prelude.{◌≡◌, ◌++◌, ◌≤◌, Bool, OnOk, codes};
 ghost use Rattle.transfer_world.specs.Worlds.{count};
 ghost use Rattle.transfer_world.specs.Replies.{bit, site_line, pair_line, other_line, pair_lines, total_text, report_text};
 
@@ -7,19 +7,6 @@ use crate::script::output::Replies;
 use crate::world::World;
 use rights_types::{OutOfMemory, SiteId};
 use std::alloc::Allocator;
-
-/// A word and its number.
-fn put_field<A: Allocator>(
-    replies: &mut Replies<A>,
-    name: &[u8],
-    number: u64,
-) -> Result<(), OutOfMemory>
-    ensures ok { OnOk result (replies.new.part ≡ replies.old.part ++ name.now ++ decimal number) }
-    ensures kept { replies.new.whole ≡ replies.old.whole }
-{
-    replies.put(name)?;
-    replies.put_decimal(number)
-}
 
 fn put_bit<A: Allocator>(replies: &mut Replies<A>, is_set: bool) -> Result<(), OutOfMemory>
     ensures ok { OnOk result (replies.new.part ≡ replies.old.part ++ bit is_set) }
@@ -37,11 +24,11 @@ fn put_site<A: Allocator + Copy>(
     ensures ok { OnOk result (replies.new.part ≡ replies.old.part ++ site_line world.now site) }
     ensures kept { replies.new.whole ≡ replies.old.whole }
 {
-    put_field(replies, b"site ", site.number())?;
-    put_field(replies, b" number ", world.number(site))?;
-    put_field(replies, b" issued ", world.issued(site))?;
-    put_field(replies, b" spent ", world.spent(site))?;
-    put_field(replies, b" held ", world.held(site))?;
+    replies.put_field(b"site ", site.number())?;
+    replies.put_field(b" number ", world.number(site))?;
+    replies.put_field(b" issued ", world.issued(site))?;
+    replies.put_field(b" spent ", world.spent(site))?;
+    replies.put_field(b" held ", world.held(site))?;
     replies.put(b" closed ")?;
     put_bit(replies, world.closed(site))?;
     replies.put(b"\n")
@@ -57,11 +44,11 @@ fn put_pair<A: Allocator + Copy>(
     ensures ok { OnOk result (replies.new.part ≡ replies.old.part ++ pair_line world.now site origin) }
     ensures kept { replies.new.whole ≡ replies.old.whole }
 {
-    put_field(replies, b"pair ", site.number())?;
-    put_field(replies, b" ", origin.number())?;
-    put_field(replies, b" applied ", world.applied_end(site, origin))?;
-    put_field(replies, b" put ", world.put_end(site, origin))?;
-    put_field(replies, b" way ", world.way(origin, site))?;
+    replies.put_field(b"pair ", site.number())?;
+    replies.put_field(b" ", origin.number())?;
+    replies.put_field(b" applied ", world.applied_end(site, origin))?;
+    replies.put_field(b" put ", world.put_end(site, origin))?;
+    replies.put_field(b" way ", world.way(origin, site))?;
     replies.put(b"\n")
 }
 
@@ -105,10 +92,10 @@ fn put_total<A: Allocator + Copy>(
     ensures kept { replies.new.whole ≡ replies.old.whole }
 {
     let totals = world.totals();
-    put_field(replies, b"total issued ", totals.issued)?;
-    put_field(replies, b" spent ", totals.spent)?;
-    put_field(replies, b" held ", totals.held)?;
-    put_field(replies, b" way ", totals.way)
+    replies.put_field(b"total issued ", totals.issued)?;
+    replies.put_field(b" spent ", totals.spent)?;
+    replies.put_field(b" held ", totals.held)?;
+    replies.put_field(b" way ", totals.way)
 }
 
 /// The report, but for its last line feed.

@@ -1,8 +1,10 @@
-//! Words of a line, and the sites that they spell.
-ghost use Rattle.std.specs.Prelude.{◌≡◌, ◌∷◌, ◌==◌, position};
+//! Words of a line, read one after another.
+ghost use Rattle.std.specs.Prelude.{◌≡◌, ◌∷◌, ◌==◌, ◌≤◌, length, position, is_none, IfSome};
 ghost use Rattle.std.specs.List.{slice_split};
-ghost use Rattle.entry_codec.specs.Moves.{number_of};
-ghost use Rattle.transfer_world.specs.Commands.{words_left};
+ghost use Rattle.rights_types.specs.Ranges.{IsSite};
+ghost use Rattle.entry_codec.specs.Moves.{first_number as first_in, only_number as only_in};
+ghost use Rattle.entry_codec.specs.Parts.{Finds};
+ghost use Rattle.transfer_world.specs.Commands.{words_left, first_site, only_site, first_number, only_number};
 
 use entry_codec::read_decimal;
 use rights_types::{MAX_SITES, SiteId};
@@ -15,7 +17,8 @@ fn first_space(text: &[u8]) -> Option<usize>
 
 /// The first word, and the text of the words after it.
 pub(crate) fn split_word(text: &[u8]) -> (&[u8], Option<&[u8]>)
-    ensures { slice_split (λ b. b == 32) text.now ≡ result.0.now ∷ words_left result.1 }
+    ensures words { slice_split (λ b. b == 32) text.now ≡ result.0.now ∷ words_left result.1 }
+    ensures last { is_none result.1 ≡ (length (words_left result.1) == 0) }
 {
     match first_space(text) {
         None => (text, None),
@@ -23,12 +26,55 @@ pub(crate) fn split_word(text: &[u8]) -> (&[u8], Option<&[u8]>)
     }
 }
 
-/// The site that the text spells.
-pub(crate) fn site(text: &[u8]) -> Option<SiteId>
-    ensures { result ≡ number_of 1 MAX_SITES text.now }
+/// The number in the range that the first word spells, and the words after it.
+#[tactic(auto, unfolding(entry_codec::specs::Moves::first_number))]
+fn first_in(words: Option<&[u8]>, low: u64, high: u64) -> Option<(u64, Option<&[u8]>)>
+    ensures value { Finds (λ x. (x.0, words_left x.1)) result (first_in low high (words_left words.entry)) }
+    ensures range { IfSome result (λ x. (low ≤ x.0) × (x.0 ≤ high)) }
+    ensures last { IfSome result (λ x. is_none x.1 ≡ (length (words_left x.1) == 0)) }
 {
-    match read_decimal(text, 1, MAX_SITES) {
-        Some(number) => Some(SiteId::known(number)),
-        None => None,
+    let (word, rest) = split_word(words?);
+    Some((read_decimal(word, low, high)?, rest))
+}
+
+/// The number in the range that the only word spells.
+#[tactic(auto, unfolding(entry_codec::specs::Moves::only_number))]
+pub(crate) fn only_in(words: Option<&[u8]>, low: u64, high: u64) -> Option<u64>
+    ensures value { result ≡ only_in low high (words_left words.entry) }
+    ensures range { IfSome result (λ n. (low ≤ n) × (n ≤ high)) }
+{
+    let (number, rest) = first_in(words, low, high)?;
+    match rest {
+        None => Some(number),
+        Some(_) => None,
     }
+}
+
+/// The number of the site that the first word spells, and the words after it.
+pub(crate) fn first_site(words: Option<&[u8]>) -> Option<(u64, Option<&[u8]>)>
+    ensures value { Finds (λ x. (x.0, words_left x.1)) result (first_site (words_left words.entry)) }
+    ensures range { IfSome result (λ x. IsSite x.0) }
+{
+    first_in(words, 1, MAX_SITES)
+}
+
+/// The site that the only word spells.
+pub(crate) fn only_site(words: Option<&[u8]>) -> Option<SiteId>
+    ensures { result ≡ only_site (words_left words.entry) }
+{
+    Some(SiteId::known(only_in(words, 1, MAX_SITES)?))
+}
+
+/// The number that the first word spells, and the words after it.
+pub(crate) fn first_number(words: Option<&[u8]>) -> Option<(u64, Option<&[u8]>)>
+    ensures { Finds (λ x. (x.0, words_left x.1)) result (first_number (words_left words.entry)) }
+{
+    first_in(words, 0, u64::MAX)
+}
+
+/// The number that the only word spells.
+pub(crate) fn only_number(words: Option<&[u8]>) -> Option<u64>
+    ensures { result ≡ only_number (words_left words.entry) }
+{
+    only_in(words, 0, u64::MAX)
 }

@@ -1,17 +1,18 @@
 //! What a world's lists say, and the rights over them.
-ghost use Rattle.std.specs.Prelude.{◌≡◌, ℕ, ◌+◌, ◌<◌, ◌≤◌, length, IfOk, IfSome, IfNone};
+ghost use Rattle.std.specs.Prelude.{◌≡◌, ℕ, ◌+◌, ◌<◌, ◌≤◌, None, length, IfOk, IfSome, IfNone};
 ghost use Rattle.std.specs.Option.{option_copied, option_map};
 ghost use Rattle.rights_types.specs.Chains.{end, moves_of, is_closed};
 ghost use Rattle.rights_types.specs.Rights.{issued, spent, to, sum_sites};
-ghost use Rattle.transfer_world.specs.Values.{PacketValue};
-ghost use Rattle.transfer_world.specs.Worlds.{site as site_of, link as link_of_world, no_site, no_link, log, reached, put, applied, count, packet, held_by, on_way};
-ghost use Rattle.transfer_world.specs.Faults.{rights_of};
-ghost use Rattle.transfer_world.specs.Sound.{SiteSound};
+ghost use Rattle.rights_protocol.specs.Lists.{IsSiteOf};
+ghost use Rattle.site_core.specs.Desks.{new_desk};
+ghost use Rattle.transfer_world.specs.Sound.{LinkSound, IsWorld};
+ghost use Rattle.transfer_world.specs.Worlds.{desk, link as link_of, log, reached, put, applied, count, packet, packet_text, held_by, on_way};
 
 use super::World;
-use crate::link::{Link, gift_among};
-use crate::site::Site;
-use rights_types::{Entry, MAX_SITES, MAX_TOTAL, MIN_SITES, OutOfMemory, SiteId};
+use crate::link::Link;
+use origin_log::OriginLog;
+use rights_types::{Entry, MAX_SITES, MIN_SITES, OutOfMemory, SiteId};
+use site_core::Desk;
 use std::alloc::Allocator;
 
 /// The sums over all sites, and over all pairs of two.
@@ -24,55 +25,54 @@ pub struct Totals {
 }
 
 /// A site or a link that is not in the world has empty lists, and numbers 0.
-impl<A: Allocator> World<A> {
+impl<A: Allocator + Copy> World<A> {
     /// How many sites there are, 2 to 16.
     pub fn sites(&self) -> u64
         ensures value { result ≡ count self.now }
         ensures range { (MIN_SITES ≤ result) × (result ≤ MAX_SITES) }
     {
-        self.sites.len() as u64
+        self.system.desks.len() as u64
     }
 
-    // The site of this number.
-    fn site_at(&self, site: SiteId) -> Option<&Site<A>>
-        ensures some { IfSome result (λ x. x.now ≡ site_of self.now site) }
-        ensures none { IfNone result (site_of self.now site ≡ no_site) }
-        ensures sound { IfSome result (λ x. SiteSound (length x.now.links) x.now.me x.now) }
-        ensures rights { IfSome result (λ x. rights_of x.now ≡ held_by self.now site) }
-        ensures no_rights { IfNone result (held_by self.now site ≡ 0) }
+    // The desk of this site.
+    fn desk(&self, site: SiteId) -> Option<&Desk<A>>
+        ensures some { IfSome result (λ d. d.now ≡ desk self.now site) }
+        ensures none { IfNone result (desk self.now site ≡ new_desk 0 0) }
+        ensures site { IfSome result (λ d. IsSiteOf (count self.now) site) }
+        ensures past { IfNone result (count self.now < site) }
+        ensures kept { IsWorld self.now }
     {
-        self.sites.get(site.index())
+        self.system.desks.get(site.index())
     }
 
-    // The link of a site to a peer.
-    fn link(&self, site: SiteId, peer: SiteId) -> Option<&Link<A>>
-        ensures some { IfSome result (λ l. l.now ≡ link_of_world self.now site peer) }
-        ensures none { IfNone result (link_of_world self.now site peer ≡ no_link) }
+    // What a site has of the origin's log.
+    fn link(&self, site: SiteId, origin: SiteId) -> Option<&Link<A>>
+        ensures value { option_copied result ≡ link_of self.now site origin }
+        ensures sound { IfSome result (λ l. LinkSound self.now site origin l.now) }
     {
-        let site = self.site_at(site)?;
-        site.links().get(peer.index())
+        self.system.links.get(site.index())?.get(origin)
     }
 
-    /// The text of a packet, with its line feed. Packets are counted from 1.
+    /// The line of a packet, with its line feed. Packets are counted from 1.
     pub fn packet(&self, number: u64) -> Option<&[u8]>
-        ensures { option_copied result ≡ option_map (λ (p : PacketValue). p.text) (packet self.now number) }
+        ensures { option_copied result ≡ option_map (packet_text self.now) (packet self.now number) }
     {
-        if number == 0 || number > self.packets.len() as u64 {
+        if number == 0 || number > self.system.packets.len() as u64 {
             return None;
         }
-        Some(self.packets[number as usize - 1].text())
+        Some(
+            self.system
+                .line_of(&self.system.packets[number as usize - 1]),
+        )
     }
 
     /// A copy of a site's log.
-    pub fn log<B: Allocator + Copy>(
-        &self,
-        alloc: B,
-        site: SiteId,
-    ) -> Result<Vec<Entry<B>, B>, OutOfMemory>
+    pub fn log(&self, site: SiteId) -> Result<Vec<Entry<A>, A>, OutOfMemory>
         ensures { IfOk result (λ copy. copy.items ≡ log self.now site) }
     {
-        match self.site_at(site) {
-            Some(site) => copy_of(alloc, site.log()),
+        let alloc = self.system.allocator();
+        match self.desk(site) {
+            Some(desk) => copy_of(alloc, desk.log()),
             None => Ok(Vec::new(alloc)),
         }
     }
@@ -81,8 +81,8 @@ impl<A: Allocator> World<A> {
     pub fn number(&self, site: SiteId) -> u64
         ensures { result ≡ end (log self.now site) }
     {
-        match self.site_at(site) {
-            Some(site) => site.number(),
+        match self.desk(site) {
+            Some(desk) => desk.number(),
             None => 0,
         }
     }
@@ -91,8 +91,8 @@ impl<A: Allocator> World<A> {
     pub fn issued(&self, site: SiteId) -> u64
         ensures { result ≡ issued (moves_of (log self.now site)) }
     {
-        match self.site_at(site) {
-            Some(site) => site.issued(),
+        match self.desk(site) {
+            Some(desk) => desk.issued(),
             None => 0,
         }
     }
@@ -101,8 +101,8 @@ impl<A: Allocator> World<A> {
     pub fn spent(&self, site: SiteId) -> u64
         ensures { result ≡ spent (moves_of (log self.now site)) }
     {
-        match self.site_at(site) {
-            Some(site) => site.spent(),
+        match self.desk(site) {
+            Some(desk) => desk.spent(),
             None => 0,
         }
     }
@@ -111,8 +111,8 @@ impl<A: Allocator> World<A> {
     pub fn held(&self, site: SiteId) -> u64
         ensures { result ≡ held_by self.now site }
     {
-        match self.site_at(site) {
-            Some(site) => site.held(),
+        match self.desk(site) {
+            Some(desk) => desk.held(),
             None => 0,
         }
     }
@@ -121,8 +121,8 @@ impl<A: Allocator> World<A> {
     pub fn closed(&self, site: SiteId) -> bool
         ensures { result ≡ is_closed (log self.now site) }
     {
-        match self.site_at(site) {
-            Some(site) => crate::entries::is_closed(site.log()),
+        match self.desk(site) {
+            Some(desk) => desk.log().closed(),
             None => false,
         }
     }
@@ -163,7 +163,7 @@ impl<A: Allocator> World<A> {
         ensures { result ≡ end (put self.now site origin) }
     {
         match self.link(site, origin) {
-            Some(link) => link.put_end(),
+            Some(link) => link.last(),
             None => 0,
         }
     }
@@ -172,26 +172,29 @@ impl<A: Allocator> World<A> {
     pub fn applied_end(&self, site: SiteId, origin: SiteId) -> u64
         ensures { result ≡ end (applied self.now site origin) }
     {
-        match self.link(site, origin) {
-            Some(link) => link.applied_end(),
+        match self.desk(site) {
+            Some(desk) => desk.applied(origin),
             None => 0,
         }
     }
 
     /// The rights on the way from the origin to a site: given in entries that the site has not
-    /// applied. It goes over these entries.
+    /// applied, and not taken back.
     pub fn way(&self, origin: SiteId, site: SiteId) -> u64
         ensures { result ≡ on_way self.now origin site }
     {
-        // For the proof: what is kept of the world.
-        let _ = &self.sites;
-        // Nothing is on the way from a site to itself.
-        if origin == site {
-            return 0;
+        match self.desk(origin) {
+            Some(desk) => desk.given_to(site) - self.received(site, origin) - desk.back(site),
+            None => 0,
         }
-        let applied = self.applied(site, origin).len();
-        match self.site_at(origin) {
-            Some(from) => gift_in(&from.log()[applied..], site),
+    }
+
+    // What the origin gave to a site, in the entries that the site applied.
+    fn received(&self, site: SiteId, origin: SiteId) -> u64
+        ensures { result ≡ to site (moves_of (applied self.now site origin)) }
+    {
+        match self.desk(site) {
+            Some(desk) => desk.received_from(origin),
             None => 0,
         }
     }
@@ -204,7 +207,7 @@ impl<A: Allocator> World<A> {
         ensures way { result.way ≡ sum_sites (count self.now) (λ o. sum_sites (count self.now) (λ s. on_way self.now o s)) }
     {
         // For the proof: what is kept of the world.
-        let _ = &self.sites;
+        let _ = &self.system;
         let mut totals = Totals {
             issued: 0,
             spent: 0,
@@ -227,7 +230,7 @@ impl<A: Allocator> World<A> {
         ensures { result ≡ sum_sites (count self.now) (λ s. on_way self.now origin s) }
     {
         // For the proof: what is kept of the world, and the range of the origin.
-        let _ = &self.sites;
+        let _ = &self.system;
         let _ = origin.number();
         let mut way = 0;
         for index in 0..self.sites() {
@@ -237,27 +240,19 @@ impl<A: Allocator> World<A> {
     }
 }
 
-fn copy_of<A: Allocator, B: Allocator + Copy>(
-    alloc: B,
-    entries: &[Entry<A>],
-) -> Result<Vec<Entry<B>, B>, OutOfMemory>
-    ensures { IfOk result (λ copy. copy.items ≡ entries.now) }
+// The entries of a log.
+fn copy_of<A: Allocator + Copy>(
+    alloc: A,
+    log: &OriginLog<A>,
+) -> Result<Vec<Entry<A>, A>, OutOfMemory>
+    ensures { IfOk result (λ copy. copy.items ≡ log.now.entries) }
 {
-    let mut copy = Vec::with_capacity(alloc, entries.len())?;
-    for entry in entries {
-        copy.push(entry.clone_in(alloc)?)?;
+    let mut copy = Vec::with_capacity(alloc, log.len())?;
+    for index in 0..log.len() {
+        match log.get(index)? {
+            Some(entry) => copy.push(entry)?,
+            None => unreachable!(),
+        }
     }
     Ok(copy)
-}
-
-// What these entries give to a site.
-fn gift_in<A: Allocator>(entries: &[Entry<A>], site: SiteId) -> u64
-    requires { to site (moves_of entries.now) ≤ MAX_TOTAL }
-    ensures { result ≡ to site (moves_of entries.now) }
-{
-    let mut gift = 0;
-    for entry in entries {
-        gift += gift_among(entry.moves(), site);
-    }
-    gift
 }

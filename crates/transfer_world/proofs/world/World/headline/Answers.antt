@@ -1,5 +1,5 @@
-use Rattle.transfer_world.proofs.Whole.{headline_of}
+use Rattle.transfer_world.proofs.WorldLaws.{headline_of}
 use Rattle.transfer_world.proofs.world.World.headline.Goals as goal
 
 pub returns : goal.returns
-returns g c = rw (← c.self.view_is) (headline_of _ c.self.invariant.sound)
+returns g c = rw (← c.self.view_is) (headline_of _ c.self.invariant)

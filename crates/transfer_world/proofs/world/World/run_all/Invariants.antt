@@ -5,4 +5,5 @@ use Rattle.transfer_world.proofs.world.World.run_all.Given as goal
 
 abbrev pub invariant-loop-event : goal.invariant-loop-event
 invariant-loop-event g l =
-    (vec_len l.outcomes ≡ l.event-index) × (length l.events ≤ vec_capacity l.outcomes) × Runs l.fn.self (take l.event-index l.events) l.outcomes.items l.self
+    (vec_len l.outcomes ≡ l.event-index) × (length l.events ≤ vec_capacity l.outcomes)
+    × Runs l.fn.self (take l.event-index l.events) l.outcomes.items l.self

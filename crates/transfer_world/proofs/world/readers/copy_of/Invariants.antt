@@ -1,5 +1,5 @@
 use Rattle.std.proofs.Common.{◌≡◌, take}
 use Rattle.transfer_world.proofs.world.readers.copy_of.Given as goal
 
-abbrev pub invariant-loop-entry : goal.invariant-loop-entry
-invariant-loop-entry g l = l.copy.items ≡ take l.entry-index l.entries
+abbrev pub invariant-loop-index : goal.invariant-loop-index
+invariant-loop-index g l = l.copy.items ≡ take l.index l.log.entries

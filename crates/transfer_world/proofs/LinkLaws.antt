@@ -1,0 +1,229 @@
+-- What entries of a log leave of a link.
+use Rattle.std.proofs.Common.{◌≡◌, ◌+◌, ◌≤◌, ℕ, max, false, List, [], ◌∷◌, ◌++◌, length, length-append, take, ap, arith, refl, sym, subst, ◌∙◌, append-nil, append_assoc}
+use Rattle.std.specs.Prelude.{Option, Some, None}
+use Rattle.std.specs.Option.{option_map}
+use Rattle.std.specs.List.{All, Contains, slice_get}
+use Rattle.std.proofs.lemmas.Option.{get_or_from_slice_get, slice_get_within}
+use Rattle.std.proofs.lemmas.List.{take-append-le, take_more, length-take-le, nil_from_length}
+use Rattle.std.proofs.lemmas.List.Elements.{All-head, All-tail, All-contains_itself, Contains-append_right}
+use Rattle.rights_types.specs.Entries.{EntryValue, own}
+use Rattle.rights_types.specs.Chains.{end, closed_from, IsChain}
+use Rattle.rights_types.proofs.Chains.{own_below, end_from-append, end_from-le, chain_right}
+use Rattle.sub_buffer.specs.Arrivals.{MayFree, Arrives, SettledArrival}
+use Rattle.sub_buffer.specs.Buffers.{BufferValue}
+use Rattle.sub_buffer.specs.Follows.{Follows, SettledVerdict, put_after, reached_after}
+use Rattle.sub_buffer.specs.Table.{OfferLeaves}
+use Rattle.sub_buffer.specs.declared.verdict.Verdict.{Verdict as BufferVerdict}
+use Rattle.sub_buffer.specs.declared.verdict.Verdict.TheVariants.{Ready, Held, Repeat, AfterClose, Full}
+use Rattle.site_core.specs.Inbounds.{InboundValue}
+use Rattle.transfer_world.specs.Values.{LinkValue}
+use Rattle.transfer_world.specs.LinkEvents.{told_all, LinkTakes, LinkTakesAll, with_applied}
+use Rattle.transfer_world.specs.Intakes.{reached_by, reached_in, link_of, NoneAhead, SameLists, IntakeTakes, IsIntake}
+use Rattle.transfer_world.specs.declared.link.intake.Intake.{Intake}
+use Rattle.transfer_world.specs.declared.reply.Verdict.{Verdict}
+use Rattle.transfer_world.proofs.IntakeLaws.{some_is}
+
+-- ---- what is put
+
+-- what was put stays, and more comes behind it
+more_put : {A : Type 0} (put : List EntryValue) (v : BufferVerdict A) (freed : List EntryValue) → (more : List EntryValue) × (put_after put v ++ freed ≡ put ++ more)
+more_put put (Ready e) freed = (e ∷ freed, append_assoc put (e ∷ []) freed)
+more_put put Held freed = (freed, refl)
+more_put put Repeat freed = (freed, refl)
+more_put put AfterClose freed = (freed, refl)
+more_put put Full freed = (freed, refl)
+
+still_applied : {A : Type 0} (applied : ℕ) (put new : List EntryValue) (v : BufferVerdict A) (freed : List EntryValue) → applied ≤ length put → new ≡ put_after put v ++ freed → take applied new ≡ take applied put
+still_applied applied put new v freed within is =
+    let h = more_put put v freed in
+    ap (λ es. take applied es) (is ∙ h.1) ∙ take-append-le applied put h.0 within
+
+-- where all that reached the site was put, and the entry e is not ahead, this stays so
+all_put : {A : Type 0} (es put : List EntryValue) (old mid new : BufferValue) (e : EntryValue) (v : BufferVerdict A) (freed : List EntryValue)
+    → e.prev ≤ old.last → OfferLeaves old e v mid → MayFree v freed → SettledVerdict put put e v → Follows es (reached_after put e v) (put_after put v ++ freed) new
+    → put_after put v ++ freed ≡ reached_after put e v
+all_put es put old mid new e (Ready x) freed next table may verdict f =
+    let none : freed ≡ [] = nil_from_length freed (omega (arith, f.count, length-append put (e ∷ []), length-append (put ++ x ∷ []) freed, length-append put (x ∷ []))) in
+    ap (λ xs. (put ++ x ∷ []) ++ xs) none ∙ append-nil (put ++ x ∷ []) ∙ ap (λ y. put ++ y ∷ []) verdict.2
+all_put es put old mid new e Held freed next table may verdict f = absurd (omega (arith, next, table.0.later))
+all_put es put old mid new e Repeat freed next table may verdict f = ap (λ xs. put ++ xs) may ∙ append-nil put
+all_put es put old mid new e AfterClose freed next table may verdict f = absurd verdict
+all_put es put old mid new e Full freed next table may verdict f = absurd (omega (arith, next, table.0.later))
+
+-- such an entry is among them
+is_put : {A : Type 0} (put : List EntryValue) (old mid : BufferValue) (e : EntryValue) (v : BufferVerdict A) → e.prev ≤ old.last → OfferLeaves old e v mid → SettledVerdict put put e v → Contains (reached_after put e v) e
+is_put put old mid e (Ready x) next table verdict = Contains-append_right put (e ∷ []) e (All-head (Contains (e ∷ [])) e [] (All-contains_itself (e ∷ [])))
+is_put put old mid e Held next table verdict = absurd (omega (arith, next, table.0.later))
+is_put put old mid e Repeat next table verdict = verdict
+is_put put old mid e AfterClose next table verdict = absurd verdict
+is_put put old mid e Full next table verdict = absurd (omega (arith, next, table.0.later))
+
+-- ---- what reached the site
+
+reached_apart : {A V : Type 0} (items : V → List EntryValue) (old new : Option V) (put later : List EntryValue) (e : EntryValue) (v : BufferVerdict A)
+    → option_map items new ≡ option_map (λ l. reached_after (items l) e v) old → (old ≡ None → later ≡ reached_after put e v)
+    → reached_by items new later ≡ reached_after (reached_by items old put) e v
+reached_apart items None None put later e v lists h = h refl
+reached_apart items None (Some new) put later e v lists h = absurd (grind (arith, lists))
+reached_apart items (Some old) None put later e v lists h = absurd (grind (arith, lists))
+reached_apart items (Some old) (Some new) put later e v lists h = some_is (items new) (reached_after (items old) e v) lists
+
+-- an entry e of the log es comes, which is not ahead where nothing is listed apart
+pub record Coming {A : Type 0} (es : List EntryValue) (i : Intake A) (e : EntryValue) : Type 0 where
+  pub of_log : Contains es e
+  pub follows : Follows es (reached_in i) i.put.items i.inbound.buffer
+  pub next : i.apart ≡ None → e.prev ≤ i.inbound.buffer.last
+
+-- the arrival where nothing is listed apart
+arrival_in_order : {A : Type 0} (es : List EntryValue) (old new : Intake A) (before after : List Verdict) (e : EntryValue) (v : BufferVerdict A) (freed : List EntryValue)
+    → Coming es old e → IntakeTakes old before e v freed new after → old.apart ≡ None → SettledArrival es old.put.items old.put.items e v freed old.inbound.buffer.told new.inbound.buffer
+arrival_in_order es old new before after e v freed c t none =
+    let put_all : reached_in old ≡ old.put.items = ap (λ o. reached_by (λ l. l.items) o old.put.items) none in
+    t.arrives.log es old.put.items old.put.items c.of_log (subst (λ set. Follows es set old.put.items old.inbound.buffer) put_all c.follows)
+
+put_in_order : {A : Type 0} (es : List EntryValue) (old new : Intake A) (before after : List Verdict) (e : EntryValue) (v : BufferVerdict A) (freed : List EntryValue)
+    → Coming es old e → IntakeTakes old before e v freed new after → old.apart ≡ None → new.put.items ≡ reached_after old.put.items e v
+put_in_order es old new before after e v freed c t none =
+    let s = arrival_in_order es old new before after e v freed c t none in
+    let table = t.arrives.table in
+    t.put ∙ all_put es old.put.items old.inbound.buffer table.0 new.inbound.buffer e v freed (c.next none) table.1 t.arrives.frees s.0 s.1
+
+pub reached_is : {A : Type 0} (es : List EntryValue) (old new : Intake A) (before after : List Verdict) (e : EntryValue) (v : BufferVerdict A) (freed : List EntryValue)
+    → Coming es old e → IntakeTakes old before e v freed new after → reached_in new ≡ reached_after (reached_in old) e v
+reached_is es old new before after e v freed c t =
+    reached_apart (λ l. l.items) old.apart new.apart old.put.items new.put.items e v t.apart (put_in_order es old new before after e v freed c t)
+
+-- ---- one entry
+
+still_follows : {A : Type 0} (es : List EntryValue) (old new : Intake A) (before after : List Verdict) (e : EntryValue) (v : BufferVerdict A) (freed : List EntryValue)
+    → Coming es old e → IntakeTakes old before e v freed new after → Follows es (reached_in new) new.put.items new.inbound.buffer
+still_follows es old new before after e v freed c t =
+    let s = t.arrives.log es (reached_in old) old.put.items c.of_log c.follows in
+    rw (reached_is es old new before after e v freed c t) (rw t.put s.1)
+
+link_takes : {A : Type 0} (es : List EntryValue) (applied : ℕ) (old new : Intake A) (before after : List Verdict) (e : EntryValue) (v : BufferVerdict A) (freed : List EntryValue)
+    → applied ≤ length old.put.items → Coming es old e → IntakeTakes old before e v freed new after → LinkTakes es (link_of old applied) e v freed (link_of new applied)
+link_takes es applied old new before after e v freed within c t =
+    let s = t.arrives.log es (reached_in old) old.put.items c.of_log c.follows in
+    let r = reached_is es old new before after e v freed c t in
+    let with : InboundValue → List EntryValue → LinkValue = λ i xs. record { inbound = i; reached = reached_in new; put = new.put.items; applied = xs } in
+    record {
+      verdict = s.0;
+      reached = r;
+      put = t.put;
+      longest = rw r (rw t.put s.2);
+      told = s.3;
+      buffer = t.arrives;
+      rest = ap (λ i. with i (take applied new.put.items)) t.inbound
+          ∙ ap (λ xs. with (record old.inbound { buffer = new.inbound.buffer }) xs) (still_applied applied old.put.items new.put.items v freed within t.put);
+    }
+
+-- ---- none ahead
+
+none_ahead_of_more : (m n : ℕ) (es : List EntryValue) → m ≤ n → NoneAhead m es → NoneAhead n es
+none_ahead_of_more m n [] le h = tt
+none_ahead_of_more m n (e ∷ es) le h = (omega (arith, le, h.0), none_ahead_of_more (max m (own e)) (max n (own e)) es (omega (arith, le)) h.1)
+
+-- the last number that was put is no less than before, nor than that of the entry
+last_after : {A : Type 0} (es : List EntryValue) (old new : Intake A) (before after : List Verdict) (e : EntryValue) (v : BufferVerdict A) (freed : List EntryValue)
+    → Coming es old e → IntakeTakes old before e v freed new after → old.apart ≡ None → max old.inbound.buffer.last (own e) ≤ new.inbound.buffer.last
+last_after es old new before after e v freed c t none =
+    let f = still_follows es old new before after e v freed c t in
+    let s = arrival_in_order es old new before after e v freed c t none in
+    let more = more_put old.put.items v freed in
+    let table = t.arrives.table in
+    let longer : new.put.items ≡ old.put.items ++ more.0 = t.put ∙ more.1 in
+    let inside = is_put old.put.items old.inbound.buffer table.0 e v (c.next none) table.1 s.0 in
+    let own_in : Contains new.put.items e = subst (λ xs. Contains xs e) (sym (put_in_order es old new before after e v freed c t none)) inside in
+    let rest = chain_right new.inbound.buffer.origin false 0 old.put.items more.0 (subst (IsChain new.inbound.buffer.origin) longer f.has_put.chain) in
+    omega (
+      arith,
+      own_below new.inbound.buffer.origin false 0 new.put.items e f.has_put.chain own_in,
+      f.has_put.last,
+      c.follows.has_put.last,
+      ap (λ xs. end xs) longer,
+      end_from-append 0 old.put.items more.0,
+      end_from-le new.inbound.buffer.origin (closed_from false old.put.items) (end old.put.items) more.0 rest,
+    )
+
+-- ---- entries, one after another
+
+-- what becomes of a link from here becomes of it from the start: `rest` is still to come of `entries`, these verdicts
+-- were told, and where nothing is listed apart, none of the rest is ahead
+pub record GoesOn {A : Type 0} (es : List EntryValue) (start : LinkValue) (entries : List EntryValue) (i : Intake A) (applied : ℕ) (rest : List EntryValue) (list : List Verdict) : Type 0 where
+  pub of_log : All (Contains es) rest
+  pub follows : Follows es (reached_in i) i.put.items i.inbound.buffer
+  pub in_order : i.apart ≡ None → NoneAhead i.inbound.buffer.last rest
+  pub takes : (new : LinkValue) (more : List Verdict) → LinkTakesAll A es (link_of i applied) rest more new → LinkTakesAll A es start entries (list ++ more) new
+
+-- nothing came yet
+pub goes_on_first : {A : Type 0} (es entries : List EntryValue) (i : Intake A) (applied : ℕ) → All (Contains es) entries → Follows es (reached_in i) i.put.items i.inbound.buffer
+    → (i.apart ≡ None → NoneAhead i.inbound.buffer.last entries) → GoesOn es (link_of i applied) entries i applied entries []
+goes_on_first es entries i applied of_log follows in_order = record { of_log = of_log; follows = follows; in_order = in_order; takes = λ new more h. h }
+
+still_none : {A V : Type 0} (items : V → List EntryValue) (old new : Option V) (v : BufferVerdict A) (e : EntryValue) → option_map items new ≡ option_map (λ l. reached_after (items l) e v) old → new ≡ None → old ≡ None
+still_none items None new v e lists none = refl
+still_none items (Some l) new v e lists none = absurd (grind (arith, lists, none))
+
+-- one more came
+pub goes_on_next : {A : Type 0} (es : List EntryValue) (start : LinkValue) (entries : List EntryValue) (old new : Intake A) (applied : ℕ) (rest : List EntryValue) (before after : List Verdict)
+    (e : EntryValue) (v : BufferVerdict A) (freed : List EntryValue) → applied ≤ length old.put.items → IntakeTakes old before e v freed new after
+    → GoesOn es start entries old applied (e ∷ rest) before → GoesOn es start entries new applied rest after
+goes_on_next {A} es start entries old new applied rest before after e v freed within t g =
+    let c : Coming es old e = record { of_log = All-head (Contains es) e rest g.of_log; follows = g.follows; next = λ none. (g.in_order none).0 } in record {
+      of_log = All-tail (Contains es) e rest g.of_log;
+      follows = still_follows es old new before after e v freed c t;
+      in_order = λ none.
+          let was = still_none (λ l. l.items) old.apart new.apart v e t.apart none in
+          none_ahead_of_more (max old.inbound.buffer.last (own e)) new.inbound.buffer.last rest (last_after es old new before after e v freed c t was) (g.in_order was).1;
+      takes = λ last more h.
+          let takes = link_takes es applied old new before after e v freed within c t in
+          subst (λ vs. LinkTakesAll A es start entries vs last) (sym (ap (λ vs. vs ++ more) t.told ∙ append_assoc before (told_all v freed) more))
+          (g.takes last (told_all v freed ++ more) (v, freed, link_of new applied, more, takes, h, refl));
+    }
+
+-- all came
+pub goes_on_last : {A : Type 0} (es : List EntryValue) (start : LinkValue) (entries : List EntryValue) (i : Intake A) (applied : ℕ) (list : List Verdict)
+    → GoesOn es start entries i applied [] list → LinkTakesAll A es start entries list (link_of i applied)
+goes_on_last {A} es start entries i applied list g = subst (λ vs. LinkTakesAll A es start entries vs (link_of i applied)) (append-nil list) (g.takes (link_of i applied) [] (refl, refl))
+
+-- more room changes nothing of a link
+pub same_link : {A : Type 0} (old new : Intake A) (applied : ℕ) → SameLists old new → link_of new applied ≡ link_of old applied
+same_link old new applied same =
+    let with : InboundValue → List EntryValue → List EntryValue → LinkValue = λ i xs ys. record { inbound = i; reached = xs; put = ys; applied = take applied ys } in
+    ap (λ i. with i (reached_in new) new.put.items) same.inbound ∙ ap (λ xs. with old.inbound xs new.put.items) same.reached ∙ ap (λ ys. with old.inbound (reached_in old) ys) same.put
+
+-- room was made, and entries are to come
+pub goes_on_start : {A : Type 0} (es entries : List EntryValue) (link : LinkValue) (old room : Intake A) (applied : ℕ) (list : List Verdict)
+    → link_of old applied ≡ link → SameLists old room → list ≡ [] → All (Contains es) entries → Follows es link.reached link.put link.inbound.buffer
+    → (room.apart ≡ None → NoneAhead room.inbound.buffer.last entries) → GoesOn es link entries room applied entries list
+goes_on_start es entries link old room applied list is same none of_log follows in_order =
+    let at : link_of room applied ≡ link = same_link old room applied same ∙ is in
+    let f : Follows es (reached_in room) room.put.items room.inbound.buffer = subst (λ (l : LinkValue). Follows es l.reached l.put l.inbound.buffer) (sym at) follows in
+    subst (λ l. GoesOn es l entries room applied entries list) at (subst (GoesOn es (link_of room applied) entries room applied entries) (sym none) (goes_on_first es entries room applied of_log f in_order))
+
+-- a link's parts stay in order
+pub still_intake : {A : Type 0} (applied : ℕ) (old new : Intake A) (before after : List Verdict) (e : EntryValue) (v : BufferVerdict A) (freed : List EntryValue)
+    → IsIntake old applied → IntakeTakes old before e v freed new after → IsIntake new applied
+still_intake applied old new before after e v freed ok t =
+    let more = more_put old.put.items v freed in
+    let longer : new.put.items ≡ old.put.items ++ more.0 = t.put ∙ more.1 in
+    record { within = omega (arith, ok.within, ap (λ es. length es) longer, length-append old.put.items more.0); few = t.arrives.few; settled = t.verdicts }
+
+pub roomy_intake : {A : Type 0} (applied : ℕ) (old new : Intake A) → IsIntake old applied → SameLists old new → IsIntake new applied
+roomy_intake applied old new ok same = record {
+  within = omega (arith, ok.within, ap (λ es. length es) same.put);
+  few = omega (arith, ok.few, ap (λ (i : InboundValue). length i.buffer.held) same.inbound);
+  settled = same.verdicts ∙ ok.settled;
+}
+
+-- ---- applying
+
+pub one_applied : {A : Type 0} (i : Intake A) (applied : ℕ) (l : LinkValue) (e : EntryValue) → link_of i applied ≡ l → applied ≤ length i.put.items → slice_get l.put (length l.applied) ≡ Some e
+    → link_of i (applied + 1) ≡ with_applied l e
+one_applied i applied l e is within next =
+    let at : slice_get i.put.items (length (take applied i.put.items)) ≡ Some e = subst (λ (x : LinkValue). slice_get x.put (length x.applied) ≡ Some e) (sym is) next in
+    let there : slice_get i.put.items applied ≡ Some e = rw (length-take-le applied i.put.items within) at at in
+    let more : take (applied + 1) i.put.items ≡ take applied i.put.items ++ e ∷ [] =
+    take_more i.put.items applied e (slice_get_within i.put.items applied e there) ∙ ap (λ x. take applied i.put.items ++ x ∷ []) (get_or_from_slice_get i.put.items applied e e there) in
+    ap (λ (xs : List EntryValue). record (link_of i applied) { applied = xs }) more ∙ ap (λ (x : LinkValue). with_applied x e) is
