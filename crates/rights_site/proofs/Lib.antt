@@ -1,2 +1,11 @@
 mod CommandWords
+mod Endings
+mod Found
+mod HelloLaws
+mod LineLaws
+mod Peers
+mod QueueLaws
+mod ReadLaws
 mod ScriptLaws
+mod SentLines
+mod SettingsLaws

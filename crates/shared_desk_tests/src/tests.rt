@@ -1,0 +1,11 @@
+//! Shared desks by their public calls alone.
+mod failing;
+mod gates;
+mod growths;
+mod intakes;
+mod links;
+mod many;
+mod parts;
+mod replays;
+mod seats;
+mod sites;
