@@ -1,6 +1,6 @@
 -- The kinds of error that clap gives for the words are those of what they ask for.
-use Rattle.std.proofs.Common.{◌≡◌, ◌∙◌, ◌==◌, ◌||◌, ℕ, Bool, cond, codes, true, false, zero, suc, refl, sym, ap, ap₂, subst, arith, List, [], ◌∷◌, length, Option, Result, Ok, Err, inl, inr, ⊎_elim, Some, None, is_some, true≢false}
-use Rattle.std.specs.Prelude.{⊤, option_and_then, option_map, slice_get}
+use Rattle.std.proofs.Common.{◌≡◌, ◌∙◌, ◌==◌, ◌||◌, ℕ, Bool, cond, codes, true, false, zero, suc, refl, sym, ap, ap₂, subst, arith, List, [], ◌∷◌, length, Option, inl, inr, ⊎_elim, Some, None, is_some, true≢false}
+use Rattle.std.specs.Prelude.{option_and_then, slice_get}
 use Rattle.std.specs.List.{list_all}
 use Rattle.std.specs.Option.{option_map_or}
 use Rattle.std.specs.Str.{bytes_eq, chars}
@@ -8,9 +8,8 @@ use Rattle.std.proofs.lemmas.Slice.Eq.{bytes_eq-Decides}
 use Rattle.std.proofs.lemmas.Bool.{and_parts, eqb-true}
 use Rattle.std.proofs.lemmas.Bool.Decides.{nat_tests}
 use Rattle.clap.specs.Lexer.{has_byte, long_of, name_and_value, short_of}
-use Rattle.clap.specs.Walk.{Row, finished, settled, walk, Names, Rule, Text, Walk, idle, long_or_other, nothing_held, short_or_plain, plain, subcommand_met, subcommand_or_other, walk_from}
-use Rattle.clap.specs.Simple.{App, HasMatchesOf, Shape, built, entered, is_simple, names_of, subcommand_of, subcommand_rows_of}
-use Rattle.clap.specs.declared.parser.matches.ArgMatches.{ArgMatches}
+use Rattle.clap.specs.Walk.{finished, settled, walk, Names, Rule, Text, Walk, idle, long_or_other, nothing_held, short_or_plain, plain, subcommand_met, subcommand_or_other, walk_from}
+use Rattle.clap.specs.Simple.{App, Shape, built, entered, names_of}
 use Rattle.clap.specs.Kinds.{HasKind, IsAmong, Kinds, or_else}
 use Rattle.clap.specs.Values.{kind_of}
 use Rattle.clap.specs.Faults.{bundle_fault, stray_fault, check_fault, defaults_fault, entered_fault, fault_of, is_simple_and_free, flag_word_fault, flags_fault, level_fault, other_fault, settle_fault, step_fault, turn_fault, walk_fault}
@@ -22,15 +21,16 @@ use Rattle.clap.proofs.FaultLemmas.{fault_ends, stopped_fault}
 use Rattle.clap.proofs.LexerLemmas.{name_and_value-without}
 use Rattle.clap.proofs.OnLiterals.{clap_on_literals}
 use Rattle.clap.proofs.WalkLemmas.{bundle_ends, walk_stopped}
-use Rattle.rights_site.specs.Asked.{Asked, asked_behind_dashes, asked_behind_sim, asked_by, asked_of_site, asks_for_help, help, nothing, script, site}
+use Rattle.rights_site.specs.Asked.{Asked, asked_behind_sim, asked_by, asks_for_help, help, nothing, script}
 use Rattle.rights_site.specs.CommandLine.{app}
-use Rattle.rights_site.specs.Words.{AnswersMet, MayAnswer, MayRefuse, RunsBy, WantsHelp, is_refusal}
-use Rattle.rights_site.specs.declared.words.Command.{Command}
-use Rattle.rights_site.specs.declared.words.Command.TheVariants.{Sim, Run, Help}
-use Rattle.rights_site.specs.declared.words.WordsFault.{WordsFault}
-use Rattle.rights_site.specs.declared.words.WordsFault.TheVariants.{OutOfMemory, Refused}
 
 -- ---- what was asked for, by the kinds of error
+
+-- neither a call for help nor want of memory
+abbrev is_refusal : ErrorKind → Bool
+is_refusal kind.DisplayHelp = false
+is_refusal kind.OutOfMemory = false
+is_refusal other = true
 
 abbrev AreRefusals : Kinds → Type 0
 AreRefusals [] = ⊥
@@ -38,7 +38,6 @@ AreRefusals (k ∷ ks) = list_all is_refusal (k ∷ ks) ≡ true
 
 abbrev pub FaultsAs : Asked → Kinds → Type 0
 FaultsAs script kinds = kinds ≡ []
-FaultsAs (site known rows) kinds = kinds ≡ known
 FaultsAs help kinds = kinds ≡ kind.DisplayHelp ∷ []
 FaultsAs nothing kinds = AreRefusals kinds
 
@@ -280,104 +279,38 @@ unfolding clap_on_literals
 dashes_first [] = refl
 dashes_first (word ∷ rest) = refl
 
-run_named : (rest : List Text) → FaultsAs (asked_of_site (codes "run" ∷ rest)) (fault_of app (codes "run" ∷ rest))
-unfolding asked_of_site
-run_named rest = refl
-
 -- the kinds of error that clap gives are those of what the words ask for
 pub faults_as_asked : (words : List Text) → FaultsAs (asked_by words) (fault_of app words)
 unfolding clap_on_literals
 faults_as_asked [] = refl
-faults_as_asked (word ∷ rest) =
-    go (bytes_eq (codes "sim") word) (bytes_eq (codes "run") word) (bytes_eq word (codes "--")) refl refl refl
+faults_as_asked (word ∷ rest) = go (bytes_eq (codes "sim") word) (bytes_eq word (codes "--")) refl refl
   where
-    go : (names_sim names_run ends : Bool) → bytes_eq (codes "sim") word ≡ names_sim → bytes_eq (codes "run") word ≡ names_run
-        → bytes_eq word (codes "--") ≡ ends → FaultsAs (asked_by (word ∷ rest)) (fault_of app (word ∷ rest))
-    go true names_run ends e r f =
+    go : (names_sim ends : Bool) → bytes_eq (codes "sim") word ≡ names_sim → bytes_eq word (codes "--") ≡ ends
+        → FaultsAs (asked_by (word ∷ rest)) (fault_of app (word ∷ rest))
+    go true ends e f =
         let is : codes "sim" ≡ word = (bytes_eq-Decides (codes "sim") word).0 e in
         subst (λ w. FaultsAs (asked_by (w ∷ rest)) (fault_of app (w ∷ rest))) is (sim_named rest)
-    go false true ends e r f =
-        let is : codes "run" ≡ word = (bytes_eq-Decides (codes "run") word).0 r in
-        subst (λ w. FaultsAs (asked_by (w ∷ rest)) (fault_of app (w ∷ rest))) is (run_named rest)
-    go false false true e r f =
+    go false true e f =
         let is : word ≡ codes "--" = (bytes_eq-Decides word (codes "--")).0 f in
         subst (λ w. FaultsAs (asked_by (w ∷ rest)) (fault_of app (w ∷ rest))) (sym is) (dashes_first rest)
-    go false false false e r f =
+    go false false e f =
         let a = built app in
         let stop = (walk rules (names_of a) nothing_held (word ∷ rest)).stopped in
         let asks = asks_for_help word in
-        let none_met : subcommand_met (names_of a) idle word ≡ None = rw (e, r) refl in
+        let none_met : subcommand_met (names_of a) idle word ≡ None = rw e refl in
         let first : FaultsAs (help_or_nothing asks) (turn_fault a.top (names_of a) (walk_from nothing_held) word) =
         subst (λ o. FaultsAs (help_or_nothing asks) (turn (codes "rights-site") false true word o)) (sym none_met) (word_asks (codes "rights-site") false true word f) in
-        let asked_is : asked_by (word ∷ rest) ≡ help_or_nothing asks = rw (e, r) refl in
+        let asked_is : asked_by (word ∷ rest) ≡ help_or_nothing asks = rw e refl in
         subst (λ x. FaultsAs x (fault_of app (word ∷ rest))) (sym asked_is)
         (level_asks (codes "rights-site") false true word (names_of a) rest (is_some (entered a stop)) (entered_fault a stop) asks first)
 
--- ---- the command that the words name
-
-abbrev Met : Type 0
-Met = Option (Text × List Row)
-
--- a script is asked for by `sim`, and a site by `run`, with the values that clap finds
-abbrev pub MetAs : Asked → Met → Type 0
-MetAs script met = option_map (λ m. m.0) met ≡ Some (codes "sim")
-MetAs (site kinds rows) met = met ≡ Some (codes "run", rows)
-MetAs asked met = ⊤
-
-behind_sim_met : (rest : List Text) (met : Met) → option_map (λ m. m.0) met ≡ Some (codes "sim") → MetAs (asked_behind_sim rest) met
-behind_sim_met [] met h = h
-behind_sim_met (word ∷ rest) met h = go (bytes_eq word (codes "--")) (asks_for_help word) rest
-  where
-    go : (ends asks : Bool) (rest : List Text) → MetAs (cond ends (asked_behind_dashes rest) (help_or_nothing asks)) met
-    go true asks [] = h
-    go true asks (next ∷ rest) = tt
-    go false true rest = tt
-    go false false rest = tt
-
-sim_met : (rest : List Text) → option_map (λ m. m.0) (subcommand_of app (codes "sim" ∷ rest)) ≡ Some (codes "sim")
-unfolding clap_on_literals
-sim_met rest =
-    let stopped : walk rules (names_of (built app)) nothing_held (codes "sim" ∷ rest) ≡ at_sim rest =
-    sym (walk_stopped rules (names_of (built app)) (walk_from nothing_held) (codes "sim") [] rest) in
-    ap (λ (w : Walk). option_map (λ m. m.0) (entered (built app) w.stopped)) stopped
-
-run_rows : (rest : List Text) → (rows : List Row) × (subcommand_of app (codes "run" ∷ rest) ≡ Some (codes "run", rows))
-unfolding clap_on_literals
-run_rows rest =
-    let at_run : Walk = record (walk_from nothing_held) { stopped = Some (codes "run", rest) } in
-    let stopped : walk rules (names_of (built app)) nothing_held (codes "run" ∷ rest) ≡ at_run =
-    sym (walk_stopped rules (names_of (built app)) (walk_from nothing_held) (codes "run") [] rest) in
-    (_, ap (λ (w : Walk). entered (built app) w.stopped) stopped)
-
-run_met : (rest : List Text) → MetAs (asked_of_site (codes "run" ∷ rest)) (subcommand_of app (codes "run" ∷ rest))
-unfolding asked_of_site
-run_met rest =
-    let met = run_rows rest in
-    met.1 ∙ ap (λ (m : Met). Some (codes "run", option_map_or (λ m. m.1) m [])) (sym met.1)
-
-pub met_as_asked : (words : List Text) → MetAs (asked_by words) (subcommand_of app words)
-met_as_asked [] = tt
-met_as_asked (word ∷ rest) = go (bytes_eq (codes "sim") word) (bytes_eq (codes "run") word) refl refl
-  where
-    met : Met
-    met = subcommand_of app (word ∷ rest)
-
-    unmet : (asks : Bool) → MetAs (help_or_nothing asks) met
-    unmet true = tt
-    unmet false = tt
-
-    go : (names_sim names_run : Bool) → bytes_eq (codes "sim") word ≡ names_sim → bytes_eq (codes "run") word ≡ names_run → MetAs (asked_by (word ∷ rest)) met
-    go true names_run e r =
-        let is : codes "sim" ≡ word = (bytes_eq-Decides (codes "sim") word).0 e in
-        subst (λ w. MetAs (asked_by (w ∷ rest)) (subcommand_of app (w ∷ rest))) is (behind_sim_met rest _ (sim_met rest))
-    go false true e r =
-        let is : codes "run" ≡ word = (bytes_eq-Decides (codes "run") word).0 r in
-        subst (λ w. MetAs (asked_by (w ∷ rest)) (subcommand_of app (w ∷ rest))) is (run_met rest)
-    go false false e r =
-        let asked_is : asked_by (word ∷ rest) ≡ help_or_nothing (asks_for_help word) = rw (e, r) refl in
-        subst (λ x. MetAs x met) (sym asked_is) (unmet (asks_for_help word))
-
 -- ---- what a parse tells of the words
+
+script_asked : (a : Asked) (kinds : Kinds) → FaultsAs a kinds → kinds ≡ [] → a ≡ script
+script_asked script kinds h none = refl
+script_asked help kinds h none = cc
+script_asked nothing [] h none = absurd h
+script_asked nothing (k ∷ ks) h none = cc
 
 no_help_among : (kinds : Kinds) → list_all is_refusal kinds ≡ true → IsAmong kind.DisplayHelp kinds → ⊥
 no_help_among [] h among = among
@@ -386,60 +319,20 @@ no_help_among (k ∷ ks) h (inl is) =
     true≢false (sym bad)
 no_help_among (k ∷ ks) h (inr among) = no_help_among ks (and_parts (is_refusal k) _ h).1 among
 
-help_asked : (a : Asked) (kinds : Kinds) → FaultsAs a kinds → IsAmong kind.DisplayHelp kinds → WantsHelp a
+help_asked : (a : Asked) (kinds : Kinds) → FaultsAs a kinds → IsAmong kind.DisplayHelp kinds → a ≡ help
 help_asked script kinds h among = absurd (subst (IsAmong kind.DisplayHelp) h among)
-help_asked (site known rows) kinds h among = subst (IsAmong kind.DisplayHelp) h among
-help_asked help kinds h among = tt
+help_asked help kinds h among = refl
 help_asked nothing [] h among = absurd h
 help_asked nothing (k ∷ ks) h among = absurd (no_help_among (k ∷ ks) h among)
 
-refuses : (k : ErrorKind) → (k ≡ kind.DisplayHelp → ⊥) → (k ≡ kind.OutOfMemory → ⊥) → is_refusal k ≡ true
-refuses k = elim k as (λ k. (k ≡ kind.DisplayHelp → ⊥) → (k ≡ kind.OutOfMemory → ⊥) → is_refusal k ≡ true) [
-  | kind.DisplayHelp ↦ λ not_help not_memory. absurd (not_help refl)
-  | kind.OutOfMemory ↦ λ not_help not_memory. absurd (not_memory refl)
-  | _ ↦ λ not_help not_memory. refl
-]
-
-refusal_asked : (a : Asked) (kinds : Kinds) (k : ErrorKind) → FaultsAs a kinds → IsAmong k kinds
-    → (k ≡ kind.DisplayHelp → ⊥) → is_refusal k ≡ true → MayRefuse a
-refusal_asked script kinds k h among other refusal = absurd (subst (IsAmong k) h among)
-refusal_asked (site known rows) kinds k h among other refusal = inl (k, subst (IsAmong k) h among, refusal)
-refusal_asked help kinds k h among other refusal = absurd (⊎_elim other (λ none. absurd none) (subst (IsAmong k) h among))
-refusal_asked nothing kinds k h among other refusal = tt
+nothing_asked : (a : Asked) (kinds : Kinds) (k : ErrorKind) → FaultsAs a kinds → IsAmong k kinds → (k ≡ kind.DisplayHelp → ⊥) → a ≡ nothing
+nothing_asked script kinds k h among other = absurd (subst (IsAmong k) h among)
+nothing_asked help kinds k h among other = absurd (⊎_elim other (λ none. absurd none) (subst (IsAmong k) h among))
+nothing_asked nothing kinds k h among other = refl
 
 simple : is_simple_and_free app ≡ true
 unfolding clap_on_literals
 simple = refl
-
-is_simple_too : is_simple app ≡ true
-is_simple_too = (and_parts (is_simple app) _ simple).0
-
--- what a parse that met this command tells of what was asked for
-abbrev pub ParsedAs : Asked → Met → Type 0
-ParsedAs script met = option_map (λ m. m.0) met ≡ Some (codes "sim")
-ParsedAs (site kinds rows) met = (kinds ≡ []) × (met ≡ Some (codes "run", rows))
-ParsedAs asked met = ⊥
-
-parsed_as : (a : Asked) (met : Met) (kinds : Kinds) → FaultsAs a kinds → kinds ≡ [] → MetAs a met → ParsedAs a met
-parsed_as script met kinds h none m = m
-parsed_as (site known rows) met kinds h none m = (sym h ∙ none, m)
-parsed_as help met kinds h none m = cc
-parsed_as nothing met [] h none m = h
-parsed_as nothing met (k ∷ ks) h none m = cc
-
--- a command that was parsed answers what was asked for
-pub parsed_answers : (a : Asked) (met : Met) (r : Result Command WordsFault) → ParsedAs a met → AnswersMet met r → MayAnswer a r
-parsed_answers script met r parsed h = subst (MayAnswer script) (sym (h.0 parsed)) refl
-parsed_answers (site kinds rows) met r parsed h = go r (h.1 rows parsed.1)
-  where
-    go : (r : Result Command WordsFault) → RunsBy rows r → MayAnswer (site kinds rows) r
-    go (Ok (Run s)) runs = (parsed.0, runs)
-    go (Ok Sim) runs = absurd runs
-    go (Ok (Help text)) runs = absurd runs
-    go (Err Refused) runs = inr (parsed.0, runs)
-    go (Err OutOfMemory) runs = tt
-parsed_answers help met r parsed h = absurd parsed
-parsed_answers nothing met r parsed h = absurd parsed
 
 module _ (told : App) (words : List Text) (is : told ≡ app) where
   faults : FaultsAs (asked_by words) (fault_of told words)
@@ -448,13 +341,10 @@ module _ (told : App) (words : List Text) (is : told ≡ app) where
   told_simple : is_simple_and_free told ≡ true
   told_simple = ap is_simple_and_free is ∙ simple
 
-  pub parsed_asks : (m : ArgMatches) → (is_simple_and_free told ≡ true → fault_of told words ≡ []) → HasMatchesOf told words m
-      → ParsedAs (asked_by words) (subcommand_rows_of m)
-  parsed_asks m h found =
-      let met : subcommand_rows_of m ≡ subcommand_of app words = (found (ap is_simple is ∙ is_simple_too)).1 ∙ ap (λ a. subcommand_of a words) is in
-      subst (ParsedAs (asked_by words)) (sym met) (parsed_as (asked_by words) _ _ faults (h told_simple) (met_as_asked words))
+  pub parsed_asks : (is_simple_and_free told ≡ true → fault_of told words ≡ []) → asked_by words ≡ script
+  parsed_asks h = script_asked (asked_by words) _ faults (h told_simple)
 
-  pub help_error_asks : (e : Error) → (is_simple_and_free told ≡ true → HasKind (fault_of told words) e) → kind_of e ≡ kind.DisplayHelp → WantsHelp (asked_by words)
+  pub help_error_asks : (e : Error) → (is_simple_and_free told ≡ true → HasKind (fault_of told words) e) → kind_of e ≡ kind.DisplayHelp → asked_by words ≡ help
   help_error_asks e h shown = ⊎_elim
       (λ (memory : kind_of e ≡ kind.OutOfMemory). absurd (differ (sym shown ∙ memory)))
       (λ (among : IsAmong (kind_of e) (fault_of told words)). help_asked (asked_by words) _ faults (subst (λ k. IsAmong k (fault_of told words)) shown among))
@@ -464,8 +354,8 @@ module _ (told : App) (words : List Text) (is : told ≡ app) where
       differ same = cc
 
   pub other_error_asks : (e : Error) → (is_simple_and_free told ≡ true → HasKind (fault_of told words) e)
-      → (kind_of e ≡ kind.DisplayHelp → ⊥) → (kind_of e ≡ kind.OutOfMemory → ⊥) → MayRefuse (asked_by words)
+      → (kind_of e ≡ kind.DisplayHelp → ⊥) → (kind_of e ≡ kind.OutOfMemory → ⊥) → asked_by words ≡ nothing
   other_error_asks e h not_help not_memory = ⊎_elim
       (λ (memory : kind_of e ≡ kind.OutOfMemory). absurd (not_memory memory))
-      (λ (among : IsAmong (kind_of e) (fault_of told words)). refusal_asked (asked_by words) _ (kind_of e) faults among not_help (refuses (kind_of e) not_help not_memory))
+      (λ (among : IsAmong (kind_of e) (fault_of told words)). nothing_asked (asked_by words) _ (kind_of e) faults among not_help)
       (h told_simple)

@@ -1,11 +1,2 @@
 mod CommandWords
-mod Endings
-mod Found
-mod HelloLaws
-mod LineLaws
-mod Peers
-mod QueueLaws
-mod ReadLaws
 mod ScriptLaws
-mod SentLines
-mod SettingsLaws

@@ -1,11 +1,10 @@
 -- How the program ends.
-use Rattle.std.specs.Prelude.{◌≡◌, ◌==◌, ℕ, Bool, true, false, List, [], length, ⊤, Option, Result, Ok, Err}
+use Rattle.std.specs.Prelude.{◌≡◌, ℕ, List, [], ⊤, Option, Result, Ok, Err}
 use Rattle.transfer_world.specs.Fronts.{AppendsFront}
-use Rattle.rights_site.specs.Asked.{Asked, help, nothing, script, site}
+use Rattle.rights_site.specs.Asked.{Asked, help, nothing, script}
 use Rattle.rights_site.specs.Faults.{line_of, status_of}
-use Rattle.rights_site.specs.Words.{MayRefuse}
 use Rattle.rights_site.specs.declared.fault.Fault.{Fault}
-use Rattle.rights_site.specs.declared.fault.Fault.TheVariants.{BadCommandLine, CannotListen, OutOfMemory, WriteFailed}
+use Rattle.rights_site.specs.declared.fault.Fault.TheVariants.{BadCommandLine, OutOfMemory, WriteFailed}
 
 -- done, or stopped by a fault
 abbrev pub Ending : Type 0
@@ -20,19 +19,10 @@ abbrev pub line_of_ending : Ending → List ℕ
 line_of_ending (Ok done) = []
 line_of_ending (Err fault) = line_of fault
 
--- whether commands are read: those of a script, or of a site where clap takes the words
-abbrev pub reads : Asked → Bool
-reads script = true
-reads (site kinds rows) = length kinds == 0
-reads asked = false
-
 -- the faults that may stop the program, by what was asked for
 abbrev pub MayStop : Asked → Fault → Type 0
 MayStop script BadCommandLine = ⊥
-MayStop script CannotListen = ⊥
 MayStop script fault = ⊤
-MayStop (site kinds rows) BadCommandLine = MayRefuse (site kinds rows)
-MayStop (site kinds rows) fault = ⊤
 MayStop help WriteFailed = ⊤
 MayStop help OutOfMemory = ⊤
 MayStop help fault = ⊥
@@ -42,8 +32,9 @@ MayStop nothing fault = ⊥
 
 -- words that ask for nothing are never done
 abbrev pub MayBeDone : Asked → Type 0
+MayBeDone script = ⊤
+MayBeDone help = ⊤
 MayBeDone nothing = ⊥
-MayBeDone asked = ⊤
 
 abbrev pub MayEnd : Asked → Ending → Type 0
 MayEnd asked (Ok done) = MayBeDone asked

@@ -2,10 +2,5 @@ pub mod Asked
 pub mod CommandLine
 pub mod Endings
 pub mod Faults
-pub mod Lines
-pub mod Links
-pub mod Outboxes
 pub mod Scripts
-pub mod Settings
-pub mod Status
 pub mod Words

@@ -4,78 +4,14 @@ ghost use Rattle.rights_site.specs.Faults.{line_of, status_of};
 ghost use Rattle.rights_site.specs.declared.fault.Fault.TheVariants.{OutOfMemory, WriteFailed};
 
 use crate::words::WordsFault;
-use rights_types::OutOfMemory as NoMemory;
-use std::alloc::{AllocError, AllocFailed};
-use thiserror::Error;
+use std::alloc::AllocError;
 use transfer_world::{ScriptFault, WriteFault};
-
-/// Why a site that runs stops.
-#[derive(Clone, Copy, Debug, PartialEq, Eq, Error)]
-pub enum SiteFault {
-    /// The address is none that can be listened on.
-    #[error("cannot listen")]
-    CannotListen,
-    /// Reading the commands failed.
-    #[error("read failed")]
-    ReadFailed,
-    /// Writing the replies failed.
-    #[error("write failed")]
-    WriteFailed,
-    /// A request for memory was refused.
-    #[error("out of memory")]
-    OutOfMemory,
-    /// The commands are more lines than may be read.
-    #[error("too many lines")]
-    TooManyLines,
-}
-
-impl From<AllocError> for SiteFault {
-    ghost use Rattle.rights_site.specs.declared.fault.SiteFault.TheVariants.{OutOfMemory};
-
-    ghost from_gives = { λ _ fault. fault ≡ OutOfMemory };
-
-    fn from(_error: AllocError) -> SiteFault {
-        SiteFault::OutOfMemory
-    }
-}
-
-impl<T: Drop> From<AllocFailed<T>> for SiteFault {
-    ghost use Rattle.rights_site.specs.declared.fault.SiteFault.TheVariants.{OutOfMemory};
-
-    ghost from_gives = { λ _ fault. fault ≡ OutOfMemory };
-
-    fn from(_error: AllocFailed<T>) -> SiteFault {
-        SiteFault::OutOfMemory
-    }
-}
-
-impl From<NoMemory> for SiteFault {
-    ghost use Rattle.rights_site.specs.declared.fault.SiteFault.TheVariants.{OutOfMemory};
-
-    ghost from_gives = { λ _ fault. fault ≡ OutOfMemory };
-
-    fn from(_error: NoMemory) -> SiteFault {
-        SiteFault::OutOfMemory
-    }
-}
-
-impl From<WriteFault> for SiteFault {
-    ghost use Rattle.rights_site.specs.declared.fault.SiteFault.TheVariants.{WriteFailed};
-
-    ghost from_gives = { λ _ fault. fault ≡ WriteFailed };
-
-    fn from(_error: WriteFault) -> SiteFault {
-        SiteFault::WriteFailed
-    }
-}
 
 /// Why the program ends with another status than 0.
 #[derive(Clone, Copy, Debug, PartialEq, Eq)]
 pub(crate) enum Fault {
     /// The command line is refused.
     BadCommandLine,
-    /// The address of a site is none that can be listened on.
-    CannotListen,
     /// Reading the commands failed.
     ReadFailed,
     /// Writing the replies or the help text failed.
@@ -103,7 +39,6 @@ impl Fault {
     {
         match self {
             Fault::BadCommandLine => b"rights-site: bad command line\n",
-            Fault::CannotListen => b"rights-site: cannot listen\n",
             Fault::ReadFailed => b"rights-site: read failed\n",
             Fault::WriteFailed => b"rights-site: write failed\n",
             Fault::OutOfMemory => b"rights-site: out of memory\n",
@@ -152,22 +87,6 @@ impl From<ScriptFault> for Fault {
             ScriptFault::WriteFailed => Fault::WriteFailed,
             ScriptFault::OutOfMemory => Fault::OutOfMemory,
             ScriptFault::TooManyLines => Fault::TooManyLines,
-        }
-    }
-}
-
-impl From<SiteFault> for Fault {
-    ghost use Rattle.rights_site.specs.Faults.{fault_of_site};
-
-    ghost from_gives = { λ cause fault. fault ≡ fault_of_site cause };
-
-    fn from(cause: SiteFault) -> Fault {
-        match cause {
-            SiteFault::CannotListen => Fault::CannotListen,
-            SiteFault::ReadFailed => Fault::ReadFailed,
-            SiteFault::WriteFailed => Fault::WriteFailed,
-            SiteFault::OutOfMemory => Fault::OutOfMemory,
-            SiteFault::TooManyLines => Fault::TooManyLines,
         }
     }
 }

@@ -11,10 +11,6 @@ use crate::run::{report, run_words};
 use std::alloc::Allocator;
 use std::env::{Args, Env};
 use std::io::{ErrorKind, Read, Write};
-use std::net::{Net, TcpListener, TcpStream};
-use std::sync::Wait;
-use std::thread::Threads;
-use std::time::Clock;
 use std::{env, io};
 
 /// What it means that the words cannot be told: one is no text, or there is no memory for them.
@@ -56,18 +52,13 @@ fn given_words<V: Env + Alloc>(env: &V) -> Result<Vec<String<V::A>, V::A>, Fault
 
 /// Runs the program on the words that its process was given, and answers the exit status. Where they
 /// cannot be told, `errors` is told why.
-pub(crate) fn run_given<
-    T: Net<Listener = TcpListener, Stream = TcpStream>
-        + Threads
-        + Wait
-        + Clock
-        + AllocGlobal
-        + Sync,
-    V: Env + Alloc,
-    R: Read,
-    W: Write,
-    E: Write,
->(rt: &T, env: &V, reader: &mut R, writer: &mut W, errors: &mut E) -> u8
+pub(crate) fn run_given<T: AllocGlobal, V: Env + Alloc, R: Read, W: Write, E: Write>(
+    rt: &T,
+    env: &V,
+    reader: &mut R,
+    writer: &mut W,
+    errors: &mut E,
+) -> u8
     ensures { EndsWith result (E.contents errors.old) (E.contents errors.new) }
 {
     let words = match given_words(env) {

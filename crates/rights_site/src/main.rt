@@ -1,15 +1,9 @@
 //! The program `rights-site`: its command line, its commands and its exit status.
 #![tactic(auto)]
 
-mod config;
 mod fault;
 mod given;
-mod lines;
-mod link;
-mod outbox;
 mod run;
-mod site;
-mod status;
 #[cfg(test)]
 mod tests;
 mod words;

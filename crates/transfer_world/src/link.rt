@@ -63,7 +63,6 @@ impl<A: Allocator + Copy> Link<A> {
                 put: Vec::new(alloc),
                 apart: None,
                 verdicts: Vec::new(alloc),
-                spare: Vec::new(alloc),
             },
             applied: 0,
         })
@@ -89,7 +88,7 @@ impl<A: Allocator + Copy> Link<A> {
         let mut told = self.intake.make_room(1, in_order)?;
         let copy = self.intake.copy_of(&entry)?;
         self.intake.take(entry, copy, &mut told);
-        Ok(self.intake.verdicts(told))
+        Ok(Verdicts::new(told))
     }
 
     /// Takes in the entries of an answer, in order.
@@ -109,7 +108,7 @@ impl<A: Allocator + Copy> Link<A> {
         for entry in entries {
             self.intake.take(entry, copies.next(), &mut told);
         }
-        Ok(self.intake.verdicts(told))
+        Ok(Verdicts::new(told))
     }
 
     /// Hears a beat of the origin.

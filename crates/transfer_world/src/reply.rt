@@ -21,52 +21,31 @@ pub enum Verdict {
 /// The verdicts on the entries of one arrival, and after each those on the entries that it freed.
 #[derive(Drop)]
 pub struct Verdicts<A: Allocator = Global> {
-    told: Told<A>,
-}
-
-/// Most arrivals come to one verdict, which takes no memory.
-#[derive(Drop)]
-pub(crate) enum Told<A: Allocator> {
-    One([Verdict; 1]),
-    Many(Vec<Verdict, A>),
+    items: Vec<Verdict, A>,
 }
 
 impl<A: Allocator> Model for Verdicts<A> {
     ghost use Rattle.std.specs.Prelude.{List};
     ghost use Rattle.transfer_world.specs.declared.reply.Verdict.{Verdict};
-    ghost use Rattle.transfer_world.specs.Bodies.{told_of};
 
     ghost Value = { List Verdict };
 
-    ghost view = { λ v. told_of v.told };
+    ghost view = { λ v. v.items.items };
 }
 
 impl<A: Allocator> Verdicts<A> {
-    ghost use Rattle.std.specs.Prelude.{◌≡◌, ◌∷◌, []};
+    ghost use Rattle.std.specs.Prelude.{◌≡◌};
 
-    pub(crate) fn one(verdict: Verdict) -> Verdicts<A>
-        ensures { result ≡ verdict ∷ [] }
+    pub(crate) fn new(items: Vec<Verdict, A>) -> Verdicts<A>
+        ensures { result ≡ items.items }
     {
-        Verdicts {
-            told: Told::One([verdict]),
-        }
-    }
-
-    pub(crate) fn many(verdicts: Vec<Verdict, A>) -> Verdicts<A>
-        ensures { result ≡ verdicts.items }
-    {
-        Verdicts {
-            told: Told::Many(verdicts),
-        }
+        Verdicts { items }
     }
 
     pub fn as_slice(&self) -> &[Verdict]
         ensures { result.now ≡ self.now }
     {
-        match &self.told {
-            Told::One(verdict) => verdict,
-            Told::Many(verdicts) => verdicts,
-        }
+        &self.items
     }
 }
 

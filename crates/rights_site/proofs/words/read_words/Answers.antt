@@ -1,12 +1,10 @@
 use Rattle.std.proofs.Common.{◌∙◌, sym}
 use Rattle.clap.specs.Walk.{texts}
-use Rattle.rights_site.proofs.CommandWords.{help_error_asks, other_error_asks, parsed_answers, parsed_asks}
+use Rattle.rights_site.proofs.CommandWords.{help_error_asks, other_error_asks, parsed_asks}
 use Rattle.rights_site.proofs.words.read_words.Goals as goal
 
 pub returns-in-Ok : goal.returns-in-Ok
-returns-in-Ok c = parsed_answers _ _ c.command_of.result
-    (parsed_asks _ (texts c.args.words.now) c.in_ok-parser.ensures c.in-Ok.matches c.in-Ok.ensures.kinds c.in-Ok.ensures.matches)
-    c.command_of.ensures
+returns-in-Ok c = parsed_asks _ (texts c.args.words.now) c.in_ok-parser.ensures c.in-Ok.ensures.kinds
 
 pub returns-in-DisplayHelp : goal.returns-in-DisplayHelp
 returns-in-DisplayHelp c =

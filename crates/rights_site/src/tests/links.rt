@@ -1,6 +1,0 @@
-//! Connections without sockets: readers and writers that break, that are slow, or that are interrupted.
-mod hello;
-mod ports;
-mod reading;
-mod streams;
-mod writing;

@@ -1,5 +1,0 @@
-use Rattle.apply_lanes.specs.Names.{id_of}
-use Rattle.shared_desk_tests.proofs.tests.growths.tried.Given as goal
-
-abbrev pub ghosts-each_call : goal.ghosts-each_call
-ghosts-each_call g a = record { id = id_of a.desk a.blanks }
