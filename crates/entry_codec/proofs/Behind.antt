@@ -5,6 +5,7 @@ use Rattle.std.specs.List.{join_with_byte}
 use Rattle.std.proofs.lemmas.List.{append-nil, take_more, take-append-drop}
 use Rattle.rights_types.specs.Entries.{EntryValue, own}
 use Rattle.rights_types.specs.Messages.{AnswerValue, MessageValue}
+use Rattle.rights_types.specs.Messages.MessageValue.{AnEntry}
 use Rattle.entry_codec.specs.Spelling.{move_text, part_text, entry_fields, answer_fields, text_of, line}
 use Rattle.entry_codec.specs.Texts.{behind, frontier_text, entry_text, answer_head, answer_text}
 
@@ -36,6 +37,12 @@ pub entry_text_is : (e : EntryValue) → part_text (entry_fields e) ≡ entry_te
 entry_text_is e =
     let rest : List ℕ = behind 32 move_text e.moves in
     ap (λ (t : List ℕ). 69 ∷ 32 ∷ (decimal e.origin ++ 32 ∷ (decimal e.prev ++ 32 ∷ t))) (joined 32 move_text (decimal (own e)) e.moves) ∙ simp append_assoc refl
+
+pub entry_line_is : (e : EntryValue) → line (AnEntry e) ≡ entry_text e ++ 10 ∷ []
+entry_line_is e = ap (λ (t : List ℕ). t ++ 10 ∷ []) (entry_text_is e)
+
+pub entry_line_length : (e : EntryValue) → length (line (AnEntry e)) ≡ length (entry_text e) + 1
+entry_line_length e = ap length (entry_line_is e) ∙ length-append (entry_text e) (10 ∷ [])
 
 entries_text : (es : List EntryValue) → map part_text (map entry_fields es) ≡ map entry_text es
 entries_text [] = refl

@@ -1,8 +1,8 @@
 -- A text that is parted at a byte.
-use Rattle.std.proofs.Common.{◌≡◌, ℕ, suc, ◌+◌, ◌-◌, ◌≤◌, Bool, true, false, cond, ltb, eqb, ◌==◌, List, [], ◌∷◌, length, take, drop, get_or, Option, Some, None, refl, sym, ◌∙◌, arith, inl, inr, length-drop}
+use Rattle.std.proofs.Common.{◌≡◌, ℕ, suc, ◌+◌, ◌-◌, ◌<◌, ◌≤◌, Bool, true, false, cond, ltb, eqb, ◌==◌, List, [], ◌∷◌, length, take, drop, get_or, Option, Some, None, refl, sym, ◌∙◌, arith, inl, inr, length-drop}
 use Rattle.std.specs.List.{slice_split, position, position_or_len, before_first, after_first}
 use Rattle.std.specs.Prelude.{option_map}
-use Rattle.std.proofs.lemmas.Bool.{cases_Bool, cases_lt, ltb-true, ltb-false, lt-ltb, le-ltb, false_from_ne_true}
+use Rattle.std.proofs.lemmas.Bool.{cases_Bool, cases_lt, ltb-true, ltb-false, lt-ltb, le-ltb, eq-eqb, ne_eqb, false_from_ne_true}
 use Rattle.std.proofs.lemmas.Option.{cond_some}
 use Rattle.std.proofs.lemmas.List.{take_all}
 use Rattle.std.proofs.lemmas.List.Splits.{slice_split_none, slice_split_first, length-slice_split}
@@ -49,6 +49,17 @@ position-cons_yes p x xs h = rw (h, lt-ltb 0 (suc (length xs)) (omega arith)) re
 
 pub position-cons_no : (p : ℕ → Bool) (x : ℕ) (xs : List ℕ) → p x ≡ false → position p (x ∷ xs) ≡ option_map (λ (i : ℕ). 1 + i) (position p xs)
 position-cons_no p x xs h = rw (h, none_lt (position_or_len p xs) (length xs)) (one_on (ltb (position_or_len p xs) (length xs)) (position_or_len p xs))
+
+-- the place of the first such byte, before which there is none
+pub place_found : (at : ℕ) (text : List ℕ) (i : ℕ) → i < length text → ((k : ℕ) → k < i → get_or text k 0 ≡ at → ⊥) → get_or text i 0 ≡ at → Some i ≡ position (λ b. b == at) text
+place_found at text i lt before here =
+    let first : position_or_len (λ b. b == at) text ≡ i = position_or_len_is (λ b. b == at) text i 0 (omega (arith, lt)) (λ k h. ne_eqb (get_or text k 0) at (before k h)) (λ h. eq-eqb (get_or text i 0) at here) in
+    sym (rw (first, lt-ltb i (length text) lt) refl)
+
+pub place_none : (at : ℕ) (text : List ℕ) → ((k : ℕ) → k < length text → get_or text k 0 ≡ at → ⊥) → None ≡ position (λ b. b == at) text
+place_none at text none =
+    let past : position_or_len (λ b. b == at) text ≡ length text = position_or_len_is (λ b. b == at) text (length text) 0 (omega arith) (λ k h. ne_eqb (get_or text k 0) at (none k h)) (λ h. absurd (omega (arith, h))) in
+    sym (rw (past, le-ltb (length text) (length text) (omega arith)) refl)
 
 -- what memchr tells is the place of the first such byte
 pub first_is_position : (at : ℕ) (text : List ℕ) (r : Option ℕ) → IsFirstByte (is_byte at) text r → r ≡ position (λ b. b == at) text

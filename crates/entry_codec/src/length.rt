@@ -3,6 +3,7 @@
 ghost use Rattle.std.specs.Prelude.{◌≡◌, ◌+◌, ◌<◌, ◌≤◌, ◌^◌, nat_le, length, slice_index, decimal, if◌then◌else◌};
 ghost use Rattle.rights_types.specs.Entries.{IsEntry};
 ghost use Rattle.rights_types.specs.Messages.{IsAnswer, IsMessage};
+ghost use Rattle.rights_types.specs.Messages.MessageValue.{AnEntry};
 ghost use Rattle.rights_types.specs.Values.{value_of};
 ghost use Rattle.entry_codec.specs.Spelling.{move_text, line};
 ghost use Rattle.entry_codec.specs.Texts.{frontier_text, entry_text, answer_text};
@@ -84,19 +85,37 @@ fn move_len(m: &Move) -> usize
     }
 }
 
+/// The same for the entry of these values.
+pub(crate) fn entry_len_of(origin: SiteId, prev: u64, moves: &[Move]) -> usize
+    requires { IsEntry (record { origin = origin; prev = prev; moves = moves.now }) }
+    ensures value { result ≡ length (entry_text (record { origin = origin; prev = prev; moves = moves.now })) }
+    ensures small { result ≤ 10000 }
+{
+    let mut total = 4
+        + digit_count(origin.number())
+        + digit_count(prev)
+        + digit_count(prev + moves.len() as u64);
+    for m in moves {
+        total += 1 + move_len(m);
+    }
+    total
+}
+
+/// The same with the line feed.
+pub(crate) fn entry_line_len(origin: SiteId, prev: u64, moves: &[Move]) -> usize
+    requires { IsEntry (record { origin = origin; prev = prev; moves = moves.now }) }
+    ensures value { result ≡ length (line (AnEntry (record { origin = origin; prev = prev; moves = moves.now }))) }
+    ensures small { result ≤ 10001 }
+{
+    entry_len_of(origin, prev, moves) + 1
+}
+
 pub(crate) fn entry_len<B: Allocator>(entry: &Entry<B>) -> usize
     ensures value { result ≡ length (entry_text entry.now) }
     ensures small { result ≤ 10000 }
     ensures valid { IsEntry entry.now }
 {
-    let mut total = 4
-        + digit_count(entry.origin().number())
-        + digit_count(entry.prev())
-        + digit_count(entry.own());
-    for m in entry.moves() {
-        total += 1 + move_len(m);
-    }
-    total
+    entry_len_of(entry.origin(), entry.prev(), entry.moves())
 }
 
 fn answer_len<B: Allocator>(answer: &Answer<B>) -> usize

@@ -7,13 +7,18 @@ ghost use Rattle.entry_codec.specs.Reading.{value_at};
 
 use crate::fault::{LineError, Place};
 use crate::format::FIELD_BREAK;
-use crate::number::{SAFE_DIGITS, checked, leading_digits};
+use crate::number::{SAFE_DIGITS, checked, leading_digits, read_decimal};
 use memchr::memchr;
 
 fn position_of(text: &[u8], at: u8) -> Option<usize>
     ensures { result ≡ position (λ b. b == at) text.now }
 {
-    text.iter().position(|b| *b == at)
+    for (place, byte) in text.iter().enumerate() {
+        if *byte == at {
+            return Some(place);
+        }
+    }
+    None
 }
 
 /// Where the first such byte stands, in a text that is mostly long.
@@ -34,7 +39,8 @@ pub(crate) fn is_letter(field: &[u8], letter: u8) -> bool
 }
 
 /// The text before the first such byte, and what comes after it.
-pub(crate) fn split_first(text: &[u8], at: u8) -> (&[u8], Option<&[u8]>)
+#[inline(always)]
+pub fn split_first(text: &[u8], at: u8) -> (&[u8], Option<&[u8]>)
     ensures parts { split_at at text.now ≡ result.0.now ∷ left at result.1 }
     ensures last { is_none result.1 ≡ (length (left at result.1) == 0) }
     ensures within { length result.0.now ≤ length text.now }
@@ -86,6 +92,37 @@ pub(crate) fn first_number(
     }
     let value = checked(&text[..count], value, low, high)?;
     Some((value, Some(&text[count + 1..])))
+}
+
+/// The number in a range that the first part spells, and what comes after it: the same for any range, and for callers
+/// of other crates. The byte that parts is no digit.
+#[inline(always)]
+#[tactic(auto, unfolding(crate::specs::Moves::first_number))]
+pub fn first_decimal(
+    parts: Option<&[u8]>,
+    at: u8,
+    low: u64,
+    high: u64,
+) -> Option<(u64, Option<&[u8]>)>
+    requires apart { (at < 48) ⊎ (57 < at) }
+    ensures value { Finds (λ x. (x.0, left at x.1)) result
+        (first_number low high (left at parts.entry)) }
+    ensures range { IfSome result (λ x. (low ≤ x.0) × (x.0 ≤ high)) }
+    ensures last { IfSome result (λ x. is_none x.1 ≡ (length (left at x.1) == 0)) }
+{
+    let text = parts?;
+    let (value, count) = leading_digits(text);
+    if count == text.len() {
+        return Some((checked(text, value, low, high)?, None));
+    }
+    if text[count] == at {
+        let value = checked(&text[..count], value, low, high)?;
+        let rest = &text[count + 1..];
+        return Some((value, Some(rest)));
+    }
+    // More digits than are safe, or none that spell a number.
+    let (word, rest) = split_first(text, at);
+    Some((read_decimal(word, low, high)?, rest))
 }
 
 /// The number that the only part spells.

@@ -13,7 +13,20 @@ pub(crate) fn put_byte(buffer: &mut [u8], at: usize, byte: u8) -> usize
     at + 1
 }
 
+/// Many numbers have one digit, as those of sites, which then takes no counting of digits.
+#[tactic(auto, using(std::proofs::lemmas::Fmt::decimal_digit))]
 pub(crate) fn put_decimal(buffer: &mut [u8], at: usize, number: u64) -> usize
+    requires { at + length (decimal number) ≤ length buffer.old }
+    ensures end { result ≡ at + length (decimal number) }
+    ensures text { take result buffer.new ≡ take at buffer.old ++ decimal number }
+{
+    if number < 10 {
+        return put_byte(buffer, at, b'0' + number as u8);
+    }
+    put_digits(buffer, at, number)
+}
+
+fn put_digits(buffer: &mut [u8], at: usize, number: u64) -> usize
     requires { at + length (decimal number) ≤ length buffer.old }
     ensures end { result ≡ at + length (decimal number) }
     ensures text { take result buffer.new ≡ take at buffer.old ++ decimal number }

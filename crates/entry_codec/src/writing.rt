@@ -1,5 +1,6 @@
 //! A message's line.
 ghost use Rattle.std.specs.Prelude.{◌≡◌, ◌+◌, ◌≤◌, [], ◌∷◌, ◌++◌, length, take, decimal, IfOk, OnOk, OnErr};
+ghost use Rattle.rights_types.specs.Entries.{IsEntry};
 ghost use Rattle.rights_types.specs.Values.{value_of};
 ghost use Rattle.rights_types.specs.Messages.{IsMessage};
 ghost use Rattle.rights_types.specs.Messages.MessageValue.{AnEntry};
@@ -11,9 +12,11 @@ use crate::format::{
     ENTRY_LETTER, FIELD_BREAK, GIVE_LETTER, GRANT_LETTER, HELLO_LETTER, ISSUE_LETTER, LINE_END,
     PART_BREAK, QUERY_LETTER, SPEND_LETTER, TAKE_BACK_LETTER, VALUE_BREAK,
 };
-use crate::length::{entry_len, line_len, place_of};
+use crate::length::{entry_len, entry_line_len, line_len, place_of};
 use crate::put::{put_byte, put_decimal};
-use rights_types::{Answer, Ask, Beat, Deny, Entry, Frontier, Message, Move, OutOfMemory, Query};
+use rights_types::{
+    Answer, Ask, Beat, Deny, Entry, Frontier, Message, Move, OutOfMemory, Query, SiteId,
+};
 use std::alloc::Allocator;
 
 // A number behind a space.
@@ -83,20 +86,30 @@ fn put_move(buffer: &mut [u8], at: usize, m: &Move) -> usize
     }
 }
 
+fn put_entry_of(buffer: &mut [u8], start: usize, origin: SiteId, prev: u64, moves: &[Move]) -> usize
+    requires valid { IsEntry (record { origin = origin; prev = prev; moves = moves.now }) }
+    requires room { start + length (entry_text (record { origin = origin; prev = prev; moves = moves.now })) ≤ length buffer.old }
+    ensures end { result ≡ start + length (entry_text (record { origin = origin; prev = prev; moves = moves.now })) }
+    ensures text { take result buffer.new ≡ take start buffer.old
+        ++ entry_text (record { origin = origin; prev = prev; moves = moves.now }) }
+{
+    let at = put_byte(buffer, start, ENTRY_LETTER);
+    let at = put_field(buffer, at, origin.number());
+    let at = put_field(buffer, at, prev);
+    let mut at = put_field(buffer, at, prev + moves.len() as u64);
+    for m in moves {
+        at = put_byte(buffer, at, FIELD_BREAK);
+        at = put_move(buffer, at, m);
+    }
+    at
+}
+
 fn put_entry<B: Allocator>(buffer: &mut [u8], start: usize, entry: &Entry<B>) -> usize
     requires { start + length (entry_text entry.now) ≤ length buffer.old }
     ensures end { result ≡ start + length (entry_text entry.now) }
     ensures text { take result buffer.new ≡ take start buffer.old ++ entry_text entry.now }
 {
-    let at = put_byte(buffer, start, ENTRY_LETTER);
-    let at = put_field(buffer, at, entry.origin().number());
-    let at = put_field(buffer, at, entry.prev());
-    let mut at = put_field(buffer, at, entry.own());
-    for m in entry.moves() {
-        at = put_byte(buffer, at, FIELD_BREAK);
-        at = put_move(buffer, at, m);
-    }
-    at
+    put_entry_of(buffer, start, entry.origin(), entry.prev(), entry.moves())
 }
 
 fn put_answer<B: Allocator>(buffer: &mut [u8], start: usize, answer: &Answer<B>) -> usize
@@ -205,6 +218,36 @@ pub fn write_into<A: Allocator, B: Allocator>(
     out.resize(start + line_len(message), 0)?;
     put_line(out.as_mut_slice(), start, message);
     Ok(())
+}
+
+/// Appends the line of the message that pushes the entry of these values, which need not be made for it. Where memory
+/// is refused, nothing is appended.
+pub fn write_entry_of<A: Allocator>(
+    out: &mut Vec<u8, A>,
+    origin: SiteId,
+    prev: u64,
+    moves: &[Move],
+) -> Result<(), OutOfMemory>
+    requires { IsEntry (record { origin = origin; prev = prev; moves = moves.now }) }
+    ensures written { OnOk result (out.new.items ≡ out.old.items
+        ++ line (AnEntry (record { origin = origin; prev = prev; moves = moves.now }))) }
+    ensures unchanged { OnErr result (out.new.items ≡ out.old.items) }
+{
+    let start = out.len();
+    out.resize(start + entry_line_len(origin, prev, moves), 0)?;
+    put_line_of(out.as_mut_slice(), start, origin, prev, moves);
+    Ok(())
+}
+
+fn put_line_of(buffer: &mut [u8], start: usize, origin: SiteId, prev: u64, moves: &[Move]) -> usize
+    requires valid { IsEntry (record { origin = origin; prev = prev; moves = moves.now }) }
+    requires room { start + length (line (AnEntry (record { origin = origin; prev = prev; moves = moves.now }))) ≤ length buffer.old }
+    ensures end { result ≡ start + length (line (AnEntry (record { origin = origin; prev = prev; moves = moves.now }))) }
+    ensures text { take result buffer.new ≡ take start buffer.old
+        ++ line (AnEntry (record { origin = origin; prev = prev; moves = moves.now })) }
+{
+    let at = put_entry_of(buffer, start, origin, prev, moves);
+    put_byte(buffer, at, LINE_END)
 }
 
 /// The one line of a message.

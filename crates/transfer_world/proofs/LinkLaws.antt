@@ -9,7 +9,7 @@ use Rattle.std.proofs.lemmas.List.Elements.{All-head, All-tail, All-contains_its
 use Rattle.rights_types.specs.Entries.{EntryValue, own}
 use Rattle.rights_types.specs.Chains.{end, closed_from, IsChain}
 use Rattle.rights_types.proofs.Chains.{own_below, end_from-append, end_from-le, chain_right}
-use Rattle.sub_buffer.specs.Arrivals.{MayFree, Arrives, SettledArrival}
+use Rattle.sub_buffer.specs.Arrivals.{MayFree, SettledArrival}
 use Rattle.sub_buffer.specs.Buffers.{BufferValue}
 use Rattle.sub_buffer.specs.Follows.{Follows, SettledVerdict, put_after, reached_after}
 use Rattle.sub_buffer.specs.Table.{OfferLeaves}

@@ -63,6 +63,7 @@ impl<A: Allocator + Copy> Link<A> {
                 put: Vec::new(alloc),
                 apart: None,
                 verdicts: Vec::new(alloc),
+                spare: Vec::new(alloc),
             },
             applied: 0,
         })
@@ -88,7 +89,7 @@ impl<A: Allocator + Copy> Link<A> {
         let mut told = self.intake.make_room(1, in_order)?;
         let copy = self.intake.copy_of(&entry)?;
         self.intake.take(entry, copy, &mut told);
-        Ok(Verdicts::new(told))
+        Ok(self.intake.verdicts(told))
     }
 
     /// Takes in the entries of an answer, in order.
@@ -108,7 +109,7 @@ impl<A: Allocator + Copy> Link<A> {
         for entry in entries {
             self.intake.take(entry, copies.next(), &mut told);
         }
-        Ok(Verdicts::new(told))
+        Ok(self.intake.verdicts(told))
     }
 
     /// Hears a beat of the origin.

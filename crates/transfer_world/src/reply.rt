@@ -21,31 +21,52 @@ pub enum Verdict {
 /// The verdicts on the entries of one arrival, and after each those on the entries that it freed.
 #[derive(Drop)]
 pub struct Verdicts<A: Allocator = Global> {
-    items: Vec<Verdict, A>,
+    told: Told<A>,
+}
+
+/// Most arrivals come to one verdict, which takes no memory.
+#[derive(Drop)]
+pub(crate) enum Told<A: Allocator> {
+    One([Verdict; 1]),
+    Many(Vec<Verdict, A>),
 }
 
 impl<A: Allocator> Model for Verdicts<A> {
     ghost use Rattle.std.specs.Prelude.{List};
     ghost use Rattle.transfer_world.specs.declared.reply.Verdict.{Verdict};
+    ghost use Rattle.transfer_world.specs.Bodies.{told_of};
 
     ghost Value = { List Verdict };
 
-    ghost view = { λ v. v.items.items };
+    ghost view = { λ v. told_of v.told };
 }
 
 impl<A: Allocator> Verdicts<A> {
-    ghost use Rattle.std.specs.Prelude.{◌≡◌};
+    ghost use Rattle.std.specs.Prelude.{◌≡◌, ◌∷◌, []};
 
-    pub(crate) fn new(items: Vec<Verdict, A>) -> Verdicts<A>
-        ensures { result ≡ items.items }
+    pub(crate) fn one(verdict: Verdict) -> Verdicts<A>
+        ensures { result ≡ verdict ∷ [] }
     {
-        Verdicts { items }
+        Verdicts {
+            told: Told::One([verdict]),
+        }
+    }
+
+    pub(crate) fn many(verdicts: Vec<Verdict, A>) -> Verdicts<A>
+        ensures { result ≡ verdicts.items }
+    {
+        Verdicts {
+            told: Told::Many(verdicts),
+        }
     }
 
     pub fn as_slice(&self) -> &[Verdict]
         ensures { result.now ≡ self.now }
     {
-        &self.items
+        match &self.told {
+            Told::One(verdict) => verdict,
+            Told::Many(verdicts) => verdicts,
+        }
     }
 }
 

@@ -71,9 +71,6 @@ fn is_appended<A: Allocator + Copy>(
 // read.
 const REQUESTS: Option<u64> = Some(5);
 
-// One more, for a copy of the moves.
-const REQUESTS_WITH_COPY: Option<u64> = Some(6);
-
 /// Moves that are handed over, and moves that are copied.
 #[test]
 fn entries_of_every_size(rt: HostRuntime) -> Result<(), Fail> {
@@ -90,7 +87,7 @@ fn entries_of_every_size(rt: HostRuntime) -> Result<(), Fail> {
             let end = append_slice(&rt, &mut log, &moves);
             is_appended(&log, memory, end, &moves)
         });
-        assert_eq!(rt; copied, REQUESTS_WITH_COPY, "entry {index}");
+        assert_eq!(rt; copied, REQUESTS, "entry {index}");
     }
     Ok(())
 }
@@ -107,7 +104,7 @@ fn take_backs_of_every_size(rt: HostRuntime) -> Result<(), Fail> {
             let end = take_back(&rt, &mut log, peer, amount);
             is_appended(&log, memory, end, &[Move::TakeBack { peer, amount }])
         });
-        assert_eq!(rt; requests, REQUESTS_WITH_COPY, "{digits} digits");
+        assert_eq!(rt; requests, REQUESTS, "{digits} digits");
         total = total.saturating_mul(10);
     }
     Ok(())
@@ -143,7 +140,7 @@ fn closing_entries_of_every_size(rt: HostRuntime) -> Result<(), Fail> {
             let end = close(&rt, &mut log, applied);
             is_appended(&log, memory, end, &[Move::CloseAt(applied)]) && log.closed() == end.is_ok()
         });
-        assert_eq!(rt; alone, REQUESTS_WITH_COPY, "{count} sites");
+        assert_eq!(rt; alone, REQUESTS, "{count} sites");
         let gift = Move::Give { peer, amount };
         let with_heir = requests_of(rt.alloc(), |memory| {
             let mut log = OriginLog::new(memory, site(1));
@@ -151,7 +148,7 @@ fn closing_entries_of_every_size(rt: HostRuntime) -> Result<(), Fail> {
             is_appended(&log, memory, end, &[gift, Move::CloseAt(applied)])
                 && log.closed() == end.is_ok()
         });
-        assert_eq!(rt; with_heir, REQUESTS_WITH_COPY, "{count} sites");
+        assert_eq!(rt; with_heir, REQUESTS, "{count} sites");
     }
     Ok(())
 }

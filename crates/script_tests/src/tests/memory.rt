@@ -33,7 +33,7 @@ fn event<A: Allocator>(alloc: A, step: usize) -> Result<Event<A>, OutOfMemory> {
         7 => Event::Arrive(two(), 4),
         8 | 9 => Event::Take(two(), one()),
         10 => Event::Spend(two(), 2, 5),
-        11 => Event::Spend(two(), 6, 5),
+        11 => Event::Spend(two(), 16, 5),
         12 => Event::Plan(two()),
         13 => Event::Ask(two(), one()),
         14 => Event::Arrive(one(), 5),
@@ -44,7 +44,7 @@ fn event<A: Allocator>(alloc: A, step: usize) -> Result<Event<A>, OutOfMemory> {
         19 => Event::Status(two(), 1),
         20 => Event::Beat(one(), two()),
         21 => Event::Arrive(two(), 7),
-        22 => Event::Spend(one(), 21, 9),
+        22 => Event::Spend(one(), 11, 9),
         23 => Event::Spend(two(), 1, 8),
         24 => Event::Plan(two()),
         25 => Event::Ask(two(), one()),
@@ -71,9 +71,10 @@ fn takes_none(step: usize) -> bool {
     )
 }
 
-/// A world of two sites after the first of these events, if no growth was refused.
+/// A world of eight sites, two of which act, after the first of these events, if no growth was refused. A closing entry
+/// that tells of so many finds no room in what the entries before it took.
 fn after<A: Allocator + Copy>(alloc: A, steps: usize) -> Option<World<A>> {
-    let mut world = World::new(alloc, 2).ok()?;
+    let mut world = World::new(alloc, 8).ok()?;
     for step in 0..steps {
         let next = event(alloc, step).ok()?;
         if world.step(next).is_err() {

@@ -47,7 +47,7 @@ fn requests_for(
 }
 
 /// A site reads the entries beyond the frontier and one more, each by one request for memory, however many
-/// stand before. One request is for the entry that takes back.
+/// stand before. The entry that takes back fits where others were written.
 #[test]
 fn only_what_lies_beyond_is_read(rt: HostRuntime) -> Result<(), Fail> {
     for entries in [5u64, 1000] {
@@ -56,7 +56,7 @@ fn only_what_lies_beyond_is_read(rt: HostRuntime) -> Result<(), Fail> {
             let number = entries.saturating_sub(beyond).saturating_mul(2);
             let closing = format!(in rt.alloc(); "hear 1 E 2 0 1 K:{number}:0")?;
             let requests = requests_for(&rt, entries, Some(&closing))?;
-            let wanted = written.saturating_add(beyond).saturating_add(2);
+            let wanted = written.saturating_add(beyond).saturating_add(1);
             assert_eq!(rt; requests, wanted, "{beyond} of {entries}");
         }
     }

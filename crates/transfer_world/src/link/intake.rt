@@ -9,10 +9,11 @@ ghost use Rattle.site_core.specs.Inbounds.{ready_in};
 ghost use Rattle.transfer_world.specs.LinkEvents.{told as as_told};
 ghost use Rattle.transfer_world.specs.Intakes.{reached_in, NoneAhead, HasRoom, SameLists, IntakeTakes};
 
-use crate::reply::Verdict;
+use crate::reply::{Verdict, Verdicts};
 use rights_types::{Entry, OutOfMemory};
 use site_core::Inbound;
 use std::alloc::Allocator;
+use std::mem;
 use sub_buffer::Verdict as BufferVerdict;
 
 /// Entries lie in `put` once they are in order. What reached the site is listed apart only once something came that
@@ -24,6 +25,8 @@ pub(super) struct Intake<A: Allocator> {
     pub(super) apart: Option<Vec<Entry<A>, A>>,
     // Empty between arrivals: it is kept for its room.
     pub(super) verdicts: Vec<BufferVerdict<A>, A>,
+    // Room for the verdicts as they are told, so that an arrival with one of them takes no memory for it.
+    pub(super) spare: Vec<Verdict, A>,
 }
 
 impl<A: Allocator + Copy> Intake<A> {
@@ -49,7 +52,24 @@ impl<A: Allocator + Copy> Intake<A> {
         let room = entries + self.inbound.held_count();
         self.put.reserve(room)?;
         self.verdicts.reserve(room)?;
-        Ok(Vec::with_capacity(*self.put.allocator(), entries + room)?)
+        let alloc = *self.put.allocator();
+        let mut told = mem::replace(&mut self.spare, Vec::new(alloc));
+        told.clear();
+        told.reserve(entries + room)?;
+        Ok(told)
+    }
+
+    /// The verdicts that were told. Where it is one, their list stays here for its room.
+    pub(super) fn verdicts(&mut self, told: Vec<Verdict, A>) -> Verdicts<A>
+        ensures value { result ≡ told.items }
+        ensures rest { self.new ≡ record self.old { spare = self.new.spare } }
+    {
+        if told.len() != 1 {
+            return Verdicts::many(told);
+        }
+        let verdict = told[0];
+        self.spare = told;
+        Verdicts::one(verdict)
     }
 
     // Lists what reached the site apart.

@@ -138,6 +138,7 @@ fn read_noise<A: Allocator>(
     Ok(Some(Event::Noise(site, origin, Line::new(line))))
 }
 
+#[inline(always)]
 #[tactic(auto, unfolding(crate::specs::Commands::site_and_number))]
 fn site_and_number(values: Option<&[u8]>) -> Option<(SiteId, u64)>
     ensures { result ≡ site_and_number (words_left values.entry) }
@@ -146,6 +147,7 @@ fn site_and_number(values: Option<&[u8]>) -> Option<(SiteId, u64)>
     Some((SiteId::known(site), only_number(rest)?))
 }
 
+#[inline(always)]
 #[tactic(auto, unfolding(crate::specs::Commands::two_sites))]
 fn two_sites(values: Option<&[u8]>) -> Option<(SiteId, SiteId)>
     ensures { result ≡ two_sites (words_left values.entry) }

@@ -44,7 +44,9 @@ impl<A: Allocator> Replies<A> {
         }
     }
 
-    /// Goes on with the reply at work.
+    /// Goes on with the reply at work. The words of replies are known at each call, so that a call in line copies them
+    /// by a store or two.
+    #[inline(always)]
     pub(crate) fn put(&mut self, text: &[u8]) -> Result<(), OutOfMemory>
         ensures ok { OnOk result (self.new.part ≡ self.old.part ++ text.now) }
         ensures kept { self.new.whole ≡ self.old.whole }
@@ -53,6 +55,7 @@ impl<A: Allocator> Replies<A> {
         Ok(())
     }
 
+    #[inline(always)]
     pub(crate) fn put_decimal(&mut self, number: u64) -> Result<(), OutOfMemory>
         ensures ok { OnOk result (self.new.part ≡ self.old.part ++ decimal number) }
         ensures kept { self.new.whole ≡ self.old.whole }
@@ -62,6 +65,7 @@ impl<A: Allocator> Replies<A> {
     }
 
     /// A word and its number.
+    #[inline(always)]
     pub(crate) fn put_field(&mut self, word: &[u8], number: u64) -> Result<(), OutOfMemory>
         ensures ok { OnOk result (self.new.part ≡ self.old.part ++ word.now ++ decimal number) }
         ensures kept { self.new.whole ≡ self.old.whole }

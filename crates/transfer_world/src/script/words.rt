@@ -1,43 +1,35 @@
 //! Words of a line, read one after another.
-ghost use Rattle.std.specs.Prelude.{◌≡◌, ◌∷◌, ◌==◌, ◌≤◌, length, position, is_none, IfSome};
+ghost use Rattle.std.specs.Prelude.{◌≡◌, ◌∷◌, ◌==◌, ◌≤◌, length, is_none, IfSome};
 ghost use Rattle.std.specs.List.{slice_split};
 ghost use Rattle.rights_types.specs.Ranges.{IsSite};
 ghost use Rattle.entry_codec.specs.Moves.{first_number as first_in, only_number as only_in};
 ghost use Rattle.entry_codec.specs.Parts.{Finds};
 ghost use Rattle.transfer_world.specs.Commands.{words_left, first_site, only_site, first_number, only_number};
 
-use entry_codec::read_decimal;
+use entry_codec::{first_decimal, split_first};
 use rights_types::{MAX_SITES, SiteId};
 
-fn first_space(text: &[u8]) -> Option<usize>
-    ensures { result ≡ position (λ b. b == 32) text.now }
-{
-    text.iter().position(|b| *b == b' ')
-}
-
 /// The first word, and the text of the words after it.
+#[inline(always)]
 pub(crate) fn split_word(text: &[u8]) -> (&[u8], Option<&[u8]>)
     ensures words { slice_split (λ b. b == 32) text.now ≡ result.0.now ∷ words_left result.1 }
     ensures last { is_none result.1 ≡ (length (words_left result.1) == 0) }
 {
-    match first_space(text) {
-        None => (text, None),
-        Some(i) => (&text[..i], Some(&text[i + 1..])),
-    }
+    split_first(text, b' ')
 }
 
 /// The number in the range that the first word spells, and the words after it.
-#[tactic(auto, unfolding(entry_codec::specs::Moves::first_number))]
+#[inline(always)]
 fn first_in(words: Option<&[u8]>, low: u64, high: u64) -> Option<(u64, Option<&[u8]>)>
     ensures value { Finds (λ x. (x.0, words_left x.1)) result (first_in low high (words_left words.entry)) }
     ensures range { IfSome result (λ x. (low ≤ x.0) × (x.0 ≤ high)) }
     ensures last { IfSome result (λ x. is_none x.1 ≡ (length (words_left x.1) == 0)) }
 {
-    let (word, rest) = split_word(words?);
-    Some((read_decimal(word, low, high)?, rest))
+    first_decimal(words, b' ', low, high)
 }
 
 /// The number in the range that the only word spells.
+#[inline(always)]
 #[tactic(auto, unfolding(entry_codec::specs::Moves::only_number))]
 pub(crate) fn only_in(words: Option<&[u8]>, low: u64, high: u64) -> Option<u64>
     ensures value { result ≡ only_in low high (words_left words.entry) }
@@ -51,6 +43,7 @@ pub(crate) fn only_in(words: Option<&[u8]>, low: u64, high: u64) -> Option<u64>
 }
 
 /// The number of the site that the first word spells, and the words after it.
+#[inline(always)]
 pub(crate) fn first_site(words: Option<&[u8]>) -> Option<(u64, Option<&[u8]>)>
     ensures value { Finds (λ x. (x.0, words_left x.1)) result (first_site (words_left words.entry)) }
     ensures range { IfSome result (λ x. IsSite x.0) }
@@ -59,6 +52,7 @@ pub(crate) fn first_site(words: Option<&[u8]>) -> Option<(u64, Option<&[u8]>)>
 }
 
 /// The site that the only word spells.
+#[inline(always)]
 pub(crate) fn only_site(words: Option<&[u8]>) -> Option<SiteId>
     ensures { result ≡ only_site (words_left words.entry) }
 {
@@ -66,6 +60,7 @@ pub(crate) fn only_site(words: Option<&[u8]>) -> Option<SiteId>
 }
 
 /// The number that the first word spells, and the words after it.
+#[inline(always)]
 pub(crate) fn first_number(words: Option<&[u8]>) -> Option<(u64, Option<&[u8]>)>
     ensures { Finds (λ x. (x.0, words_left x.1)) result (first_number (words_left words.entry)) }
 {
@@ -73,6 +68,7 @@ pub(crate) fn first_number(words: Option<&[u8]>) -> Option<(u64, Option<&[u8]>)>
 }
 
 /// The number that the only word spells.
+#[inline(always)]
 pub(crate) fn only_number(words: Option<&[u8]>) -> Option<u64>
     ensures { result ≡ only_number (words_left words.entry) }
 {

@@ -1,14 +1,14 @@
-use Rattle.std.proofs.Common.{◌≡◌, ◌≤◌, ◌+◌, ◌∷◌, [], List, subst, sym, ap, arith, length, ◌∙◌, refl}
-use Rattle.std.specs.Prelude.{None, Some, IsSome, if◌then◌else◌}
-use Rattle.std.specs.List.{All, Contains}
+use Rattle.std.proofs.Common.{◌≡◌, ◌∷◌, [], List, subst, sym, ap, arith, length, ◌∙◌}
+use Rattle.std.specs.List.{All}
 use Rattle.std.proofs.lemmas.List.{nil_from_length}
 use Rattle.std.proofs.lemmas.List.Elements.{All-head, All-tail}
 use Rattle.rights_types.specs.Entries.{EntryValue}
 use Rattle.site_core.specs.Inbounds.{InboundValue}
 use Rattle.transfer_world.specs.Values.{LinkValue}
-use Rattle.transfer_world.specs.Intakes.{HasRoom, NoneAhead, IsIntake}
+use Rattle.transfer_world.specs.Intakes.{HasRoom, NoneAhead, link_of}
+use Rattle.transfer_world.specs.LinkEvents.{LinkTakesAll}
 use Rattle.transfer_world.proofs.IntakeLaws.{next_copy, still_some}
-use Rattle.transfer_world.proofs.LinkLaws.{GoesOn, goes_on_start, goes_on_next, goes_on_last, still_intake, roomy_intake}
+use Rattle.transfer_world.proofs.LinkLaws.{goes_on_start, goes_on_next, goes_on_last, still_intake, roomy_intake}
 use Rattle.transfer_world.proofs.link.Link.take_answer.Goals as goal
 
 pub loop-entry-init : goal.loop-entry-init
@@ -65,4 +65,8 @@ loop-entry-preserved g c =
 pub returns-clause-ok : goal.returns-clause-ok
 returns-clause-ok g c es of_log f =
     let none : c.loop-entry.entry-iterator.rest.items ≡ [] = nil_from_length _ (omega (arith, c.in-None.ensures.steps.0)) in
-    rw c.new.ensures (goes_on_last es c.args.self.now c.args.entries.items c.loop-entry.self-inside.intake c.loop-entry.self-inside.applied c.loop-entry.told.items (rw none at (c.loop-entry.invariant.goes_on es of_log f)))
+    let intake = c.loop-entry.self-inside.intake in
+    let applied = c.loop-entry.self-inside.applied in
+    let all = goes_on_last es c.args.self.now c.args.entries.items intake applied c.loop-entry.told.items (rw none at (c.loop-entry.invariant.goes_on es of_log f)) in
+    let same : link_of c.verdicts.new.self applied ≡ link_of intake applied = ap (λ i. link_of i applied) c.verdicts.ensures.rest in
+    rw c.verdicts.ensures.value (subst (λ (l : LinkValue). LinkTakesAll g.row.A.Denot es c.args.self.now c.args.entries.items c.loop-entry.told.items l) (sym same) all)

@@ -1,4 +1,4 @@
-use Rattle.std.proofs.Common.{◌∙◌, if◌then◌else◌, ap}
+use Rattle.std.proofs.Common.{◌∙◌}
 use Rattle.transfer_world.proofs.IntakeLaws.{lists_nothing, lists_copy}
 use Rattle.transfer_world.proofs.link.intake.Intake.list.Goals as goal
 

@@ -1,4 +1,4 @@
-use Rattle.std.proofs.Common.{◌≡◌, ◌+◌, ◌≤◌, ◌++◌, ℕ, length, map, reverse, vec_capacity, refl}
+use Rattle.std.proofs.Common.{◌≡◌, ◌+◌, ◌≤◌, ◌++◌, length, map, reverse, vec_capacity}
 use Rattle.site_core.specs.Inbounds.{ready_in}
 use Rattle.transfer_world.specs.LinkEvents.{told}
 use Rattle.transfer_world.proofs.link.intake.Intake.settle.Given as goal

@@ -1,8 +1,6 @@
-use Rattle.std.proofs.Common.{◌≡◌, ◌∙◌, ◌++◌, ◌∷◌, List, ap, sym, subst, map, vec_capacity}
+use Rattle.std.proofs.Common.{◌≡◌, ◌∙◌, ◌++◌, ◌∷◌, ap, sym, subst, map, vec_capacity}
 use Rattle.std.specs.Option.{option_map}
-use Rattle.rights_types.specs.Entries.{EntryValue}
 use Rattle.sub_buffer.specs.Arrivals.{Arrives, all_ready}
-use Rattle.sub_buffer.specs.declared.verdict.Verdict.{Verdict as BufferVerdict}
 use Rattle.site_core.specs.Inbounds.{ready_in}
 use Rattle.transfer_world.specs.LinkEvents.{told as as_told}
 use Rattle.transfer_world.proofs.IntakeLaws.{puts_one, tells_one, keeps_room}

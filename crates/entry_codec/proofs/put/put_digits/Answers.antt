@@ -1,6 +1,6 @@
 use Rattle.std.proofs.Common.{◌+◌, ◌-◌, ◌%◌, arith, length-set}
 use Rattle.entry_codec.proofs.Digits.{length_least, length_pair, puts_pair, all_put, all_put_pair}
-use Rattle.entry_codec.proofs.put.put_decimal.Goals as goal
+use Rattle.entry_codec.proofs.put.put_digits.Goals as goal
 
 pub overflow_sub-place : goal.overflow_sub-place
 overflow_sub-place c = omega (arith, c.loop-rest.invariant.begins, length_pair c.loop-rest.rest (omega (arith, c.loop-rest-test.true)) (omega (arith, c.loop-rest.auto.rest-fits)))
