@@ -175,6 +175,11 @@ module _ {A : Type 0} where
         q.6,
       )
 
+  -- one verdict more of those that are left
+  pub one_more : (y : List (Verdict A)) (v : Verdict A) (left rest all : List (Verdict A)) → left ≡ v ∷ rest → y ++ left ≡ all
+      → (y ++ v ∷ []) ++ rest ≡ all
+  one_more y v left rest all next is = append_assoc y (v ∷ []) rest ∙ ap (λ l. y ++ l) (sym next) ∙ is
+
   -- a verdict among others
   pub split_ready : (y : List (Verdict A)) (v : Verdict A) (rest all : List (Verdict A)) → (y ++ v ∷ []) ++ rest ≡ all
       → ready_in all ≡ (ready_in y ++ ready_in (v ∷ [])) ++ ready_in rest

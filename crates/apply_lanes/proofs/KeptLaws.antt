@@ -15,7 +15,7 @@ use Rattle.rights_types.specs.Places.{at_site}
 use Rattle.rights_types.proofs.Places.{at_site-index}
 use Rattle.rights_types.proofs.SiteSums.{sum_same, sum_zero, sum_risen, sum_bound}
 use Rattle.rights_types.proofs.Sums.{moves_of-nil, issued-cons, issued-nil, spent-cons, spent-nil, to-nil}
-use Rattle.origin_log.specs.Logs.{LogValue}
+use Rattle.origin_log.specs.Logs.{LogValue, with_entry}
 use Rattle.rights_book.specs.Books.{BookValue, sites, peer, applied_by, held_by, received_by}
 use Rattle.rights_book.specs.StandsFor.{StandsForApplied}
 use Rattle.rights_book.specs.Leaves.{OwnLeaves, ApplyLeaves}
@@ -182,10 +182,10 @@ same_ledger id k d is same =
 
 -- the desk wrote an entry, by which so much was issued and spent
 pub kept_write : (id : DeskId) (k : KeptValue) (d : DeskValue) (ms : List Move) (a b : ℕ) (i s : TallyValue) → IsKept id k
-    → d.ledger.log.site ≡ k.desk.ledger.log.site → OwnLeaves k.desk.ledger.book ms d.ledger.book → issued ms ≡ a → spent ms ≡ b
+    → d.ledger.log ≡ with_entry k.desk.ledger.log ms → OwnLeaves k.desk.ledger.book ms d.ledger.book → issued ms ≡ a → spent ms ≡ b
     → i ≡ raised k.issued a → s ≡ raised k.spent b → IsKept id (record k { desk = d; issued = i; spent = s })
-kept_write id k d ms a b i s is site l ia sb more used =
-    kept_by id k d i s k.number k.received is site l.same_me l.same_sites
+kept_write id k d ms a b i s is log l ia sb more used =
+    kept_by id k d i s k.number k.received is (ap (λ (x : LogValue). x.site) log) l.same_me l.same_sites
     (tallied_write k.desk.ledger.book d.ledger.book ms k.issued.sum k.spent.sum k.number.sum k.received.sum i.sum s.sum is.tallied l
     (omega (arith, raised_sum k.issued i a more, ia)) (omega (arith, raised_sum k.spent s b used, sb)))
     (raised_portions k.issued i a more) (raised_portions k.spent s b used) (all_same k.number) (all_same k.received)
@@ -272,12 +272,12 @@ nothing_tallied d is i s r =
     }
 
 pub opens : (id : DeskId) (d : DeskValue) (i s n r : TallyValue) (bs : List Bool) → id.site ≡ d.ledger.log.site → id.sites ≡ sites d.ledger.book
-    → sites d.ledger.book ≤ 16 → IsUnused d → IsTallied d.ledger.book 0 0 0 0 → i ≡ record { sum = 0; left = 64; returned = 0 }
+    → d.ledger.book.me ≡ d.ledger.log.site → sites d.ledger.book ≤ 16 → IsTallied d.ledger.book 0 0 0 0 → i ≡ record { sum = 0; left = 64; returned = 0 }
     → s ≡ record { sum = 0; left = 64; returned = 0 } → n ≡ record { sum = 0; left = 16; returned = 0 } → r ≡ record { sum = 0; left = 16; returned = 0 }
     → length bs ≡ 16 → admitted_count bs ≡ 0 → IsKept id (record { desk = d; issued = i; spent = s; number = n; received = r; admitted = bs })
-opens id d i s n r bs site count few unused tallied hi hs hn hr places none = record {
+opens id d i s n r bs site count me few tallied hi hs hn hr places none = record {
   site = sym site;
-  same_me = unused.same_site ∙ sym site;
+  same_me = me ∙ sym site;
   same_sites = sym count;
   few = omega (arith, count);
   tallied = record {
@@ -306,7 +306,7 @@ opens id d i s n r bs site count few unused tallied hi hs hn hr places none = re
 pub kept_answer : (id : DeskId) (k : KeptValue) (d : DeskValue) (ask : AskValue) (answer : AskAnswer) (number : Option ℕ) → IsKept id k
     → DeskAnswers k.desk ask answer number d → IsKept id (record k { desk = d })
 kept_answer id k d ask (Granted n) number is a =
-    kept_write id k d (Grant ask.asker n ask.ask ∷ []) 0 0 k.issued k.spent is (ap (λ (l : LogValue). l.site) a.0.log) a.0.leaves
+    kept_write id k d (Grant ask.asker n ask.ask ∷ []) 0 0 k.issued k.spent is a.0.log a.0.leaves
     (issued-grant ask.asker n ask.ask) (spent-grant ask.asker n ask.ask) (raised_none k.issued) (raised_none k.spent)
 kept_answer id k d ask Deny number is a = same_ledger id k d is (ap (λ (x : DeskValue). x.ledger) a.1)
 kept_answer id k d ask RepeatedDeny number is a = same_ledger id k d is (ap (λ (x : DeskValue). x.ledger) a.1)

@@ -35,6 +35,5 @@ pub record AreBlank (blanks : Blanks) : Type 0 where
 
 -- it wrote nothing and applied nothing
 pub record IsUnused (d : DeskValue) : Type 0 where
-  pub same_site : d.ledger.book.me ≡ d.ledger.log.site
   pub nothing_written : d.ledger.log.entries ≡ []
   pub nothing_applied : StandsForApplied (λ o. []) d.ledger.book

@@ -71,7 +71,8 @@ impl<D: DeskNames, A: Allocator + Copy> Kept<D, A> {
         ensures desk { result.desk ≡ desk }
     {
         // For the proof: what a desk with an empty log issued, spent and received.
-        let _ = (desk.sites(), desk.issued(), desk.spent(), desk.received());
+        let _ = (desk.site(), desk.sites());
+        let _ = (desk.issued(), desk.spent(), desk.received());
         let Blanks {
             issued,
             spent,

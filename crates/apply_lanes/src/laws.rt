@@ -13,7 +13,7 @@ use std::alloc::Allocator;
 /// Given the two ends of one lane, what was taken is a prefix of what was put, and all of it where End
 /// was taken. The outlet comes back as it was. (It joins the knowledge of both ends, which touches no
 /// item.)
-pub fn ends_taken_in<A: Allocator>(inlet: Inlet<A>, outlet: Outlet<A>) -> Outlet<A>
+pub fn ends_taken_in<A: Allocator>(inlet: Inlet<A>, mut outlet: Outlet<A>) -> Outlet<A>
     requires { outlet.lane ≡ inlet.lane }
     ensures same { result ≡ outlet }
     ensures prefix { StartsWith inlet.put outlet.taken }
@@ -24,51 +24,23 @@ pub fn ends_taken_in<A: Allocator>(inlet: Inlet<A>, outlet: Outlet<A>) -> Outlet
         pass: mut both,
         dead: _,
     } = inlet;
-    let Outlet {
-        receiver,
-        pass,
-        dead,
-    } = outlet;
-    sender.absorb::<Ends>(&mut both, pass);
+    sender.absorb::<Ends>(&mut both, outlet.pass);
     sender.learn_as::<Compared>(&mut both);
-    let pass = sender.another::<Ends>(&mut both);
-    Outlet {
-        receiver,
-        pass,
-        dead,
-    }
+    outlet.pass = sender.another::<Ends>(&mut both);
+    outlet
 }
 
 /// Given the intake and the applier of one lane, what the applier took is a prefix of what the intake put,
 /// and all of it where End was taken. The applier comes back as it was.
 pub fn taken_in<D: DeskNames, G: Gate, A: Allocator>(
     intake: Intake<A>,
-    applier: Applier<D, G, A>,
+    mut applier: Applier<D, G, A>,
 ) -> Applier<D, G, A>
     requires { applier.outlet.lane ≡ intake.inlet.lane }
     ensures same { result ≡ applier }
     ensures prefix { StartsWith intake.inlet.put applier.outlet.taken }
     ensures whole { applier.ended ≡ true → applier.outlet.taken ≡ intake.inlet.put }
 {
-    let Applier {
-        origin,
-        outlet,
-        gate,
-        hand,
-        ended,
-        dropping,
-        number,
-        received,
-    } = applier;
-    let outlet = ends_taken_in(intake.into_inlet(), outlet);
-    Applier {
-        origin,
-        outlet,
-        gate,
-        hand,
-        ended,
-        dropping,
-        number,
-        received,
-    }
+    applier.outlet = ends_taken_in(intake.into_inlet(), applier.outlet);
+    applier
 }

@@ -1,15 +1,19 @@
 //! How fast a desk spends, gives, grants, applies and takes back, beside a log alone.
 
 mod loads;
+mod threads;
 
 use crate::desk::loads::{
     append_all, apply_all, closing, gifts, give_all, grant_all, opened, spend_all,
 };
+use crate::desk::threads::measure_seats;
 use crate::rate::per_second;
 use origin_log::OriginLog;
 use rights_types::SiteId;
 use std::io;
 use std::rt::Clock;
+use std::sync::Wait;
+use std::thread::Threads;
 use std::time::Instant;
 
 // The best of so many runs is told.
@@ -69,7 +73,9 @@ fn take_back_time<R: Clock + AllocGlobal>(rt: &R, beyond: u64) -> io::Result<u12
 }
 
 /// Prints the rates. The log appends entries of one move, as each spend does.
-pub(crate) fn measure_all<R: Clock + Print + AllocGlobal>(rt: &R) -> io::Result<()> {
+pub(crate) fn measure_all<R: Clock + Print + Threads + Wait + Sync + AllocGlobal>(
+    rt: &R,
+) -> io::Result<()> {
     let (mut append, mut spend, mut give) = (u128::MAX, u128::MAX, u128::MAX);
     let (mut grant, mut apply) = (u128::MAX, u128::MAX);
     for _ in 0..RUNS {
@@ -94,5 +100,5 @@ pub(crate) fn measure_all<R: Clock + Print + AllocGlobal>(rt: &R) -> io::Result<
             "desk: {beyond} entries beyond the frontier: {rate} entries/s taken back, {took} ns in all"
         )?;
     }
-    Ok(())
+    measure_seats(rt)
 }

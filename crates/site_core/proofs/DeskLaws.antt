@@ -11,14 +11,14 @@ use Rattle.rights_types.specs.declared.moves.Move.{Move}
 use Rattle.rights_types.specs.declared.moves.Move.TheVariants.{Issue, Spend, Grant, Give, Close, CloseAt, TakeBack}
 use Rattle.rights_types.proofs.Chains.{closed-push}
 use Rattle.rights_types.proofs.Sums.{moves_of-nil, moves_of-push, covers_both}
-use Rattle.origin_log.specs.Logs.{LogValue, next_entry, with_entry, is_special}
+use Rattle.origin_log.specs.Logs.{LogValue, next_entry, with_entry, published, is_special}
 use Rattle.rights_book.specs.Books.{BookValue, sites, held_by}
 use Rattle.rights_book.specs.Checks.{check_fault}
 use Rattle.rights_book.specs.Peers.{no_peer}
 use Rattle.rights_book.proofs.CallLaws.{unrefused}
 use Rattle.transfer_manager.specs.Managers.{ManagerValue, SameSystem, no_asks}
 use Rattle.transfer_manager.specs.AskAnswers.{IsAnswered}
-use Rattle.site_core.specs.Ledgers.{WritesEntry}
+use Rattle.site_core.specs.Ledgers.{LedgerValue, WritesEntry}
 use Rattle.site_core.specs.Desks.{DeskValue, new_desk, grants, grant_count, IsDesk}
 use Rattle.site_core.specs.Faults.{is_postable}
 
@@ -129,6 +129,13 @@ wrote old new ms is w h same =
     (λ j a. no_grants j a ms h) w.book.same_sites
     (record { same_me = ap (λ (m : ManagerValue). m.me) same; same_sites = ap (λ (m : ManagerValue). length m.peers) same })
     (λ past s. subst (λ (m : ManagerValue). IsAnswered m past) (sym same) s) (λ closed. absurd cc)
+
+-- .. once an entry was published
+pub advanced : (d : DeskValue) (l : LedgerValue) (peer : ℕ) → IsDesk d → l ≡ record d.ledger { log = published d.ledger.log peer }
+    → IsDesk (record d { ledger = l })
+advanced d l peer is same =
+    subst (λ (x : LedgerValue). IsDesk (record d { ledger = x })) (sym same)
+    (record { same_site = is.same_site; same_sites = is.same_sites; idle = is.idle; once = is.once; answered = is.answered })
 
 -- ---- what a book lets a site write
 

@@ -28,6 +28,7 @@ impl<A: Allocator> Write for Slow<A> {
 }
 
 /// A reader that gives at most so many bytes at a time.
+#[derive(Drop)]
 pub struct FewAtATime<'a> {
     /// What is still to be read.
     pub rest: &'a [u8],

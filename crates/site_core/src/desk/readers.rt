@@ -25,6 +25,7 @@ impl<A: Allocator + Copy> Desk<A> {
     /// The site.
     pub fn site(&self) -> SiteId
         ensures value { result ≡ self.now.ledger.log.site }
+        ensures booked { result ≡ self.now.ledger.book.me }
         ensures range { (1 ≤ result) × (result ≤ sites self.now.ledger.book) }
     {
         self.ledger.book().me()

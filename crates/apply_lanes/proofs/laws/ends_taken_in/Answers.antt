@@ -13,12 +13,12 @@ absorb-requires-clause-rule g c =
 pub learn_as-requires-clause-rule : goal.learn_as-requires-clause-rule
 learn_as-requires-clause-rule g c = compares _ _ (search rules) (search rules)
 
-pub another-pass-requires-clause-rule : goal.another-pass-requires-clause-rule
-another-pass-requires-clause-rule g c = forks _ _ (search rules) (search rules)
+pub another-requires-clause-rule : goal.another-requires-clause-rule
+another-requires-clause-rule g c = forks _ _ (search rules) (search rules)
 
-pub invariant_of-result : goal.invariant_of-result
-invariant_of-result g c =
-    let taken_is = ap (λ (v : Hand _). v.taken) c.another-pass.ensures.rule.1 ∙ ap (λ (v : Hand _). v.taken) c.learn_as.ensures.channel.2
+pub invariant_of-outlet : goal.invariant_of-outlet
+invariant_of-outlet g c =
+    let taken_is = ap (λ (v : Hand _). v.taken) c.another.ensures.rule.1 ∙ ap (λ (v : Hand _). v.taken) c.learn_as.ensures.channel.2
     ∙ ap (λ (v : Hand _). v.taken) c.absorb.ensures.rule in
     ((search rules, search rules, search rules, search rules), search rules, subst IsItemChain (sym taken_is) c.outlet.invariant.2)
 

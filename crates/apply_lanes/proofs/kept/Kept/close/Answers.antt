@@ -1,5 +1,3 @@
-use Rattle.std.proofs.Common.{ap}
-use Rattle.origin_log.specs.Logs.{LogValue}
 use Rattle.apply_lanes.proofs.KeptLaws.{kept_write, raised_none, nothing_closing}
 use Rattle.apply_lanes.proofs.kept.Kept.close.Goals as goal
 
@@ -7,4 +5,4 @@ pub invariant_of-self-2 : goal.invariant_of-self-2
 invariant_of-self-2 g c =
     let wrote = c.in_ok-close.ensures.ok.entry in
     let nothing = nothing_closing _ c.args.heir in
-    kept_write _ _ _ _ _ _ _ _ c.self.invariant (ap (λ (l : LogValue). l.site) wrote.log) wrote.leaves nothing.0 nothing.1 (raised_none _) (raised_none _)
+    kept_write _ _ _ _ _ _ _ _ c.self.invariant wrote.log wrote.leaves nothing.0 nothing.1 (raised_none _) (raised_none _)

@@ -1,10 +1,8 @@
-use Rattle.std.proofs.Common.{ap}
-use Rattle.origin_log.specs.Logs.{LogValue}
 use Rattle.apply_lanes.proofs.KeptLaws.{kept_write, raised_none, issued-issue, spent-issue}
 use Rattle.apply_lanes.proofs.kept.Kept.issue.Goals as goal
 
 pub invariant_of-self-2 : goal.invariant_of-self-2
 invariant_of-self-2 g c =
     let wrote = c.in_ok-number.ensures.ok.entry in
-    kept_write _ _ _ _ _ _ _ _ c.self.invariant (ap (λ (l : LogValue). l.site) wrote.log) wrote.leaves (issued-issue _) (spent-issue _) c.add.ensures.sum
+    kept_write _ _ _ _ _ _ _ _ c.self.invariant wrote.log wrote.leaves (issued-issue _) (spent-issue _) c.add.ensures.sum
     (raised_none _)

@@ -1,5 +1,4 @@
-use Rattle.std.proofs.Common.{◌≡◌, ◌-◌, ap, subst, sym, ◌∙◌, arith}
-use Rattle.origin_log.specs.Logs.{LogValue}
+use Rattle.std.proofs.Common.{◌≡◌, ◌-◌, subst, sym, ◌∙◌, arith}
 use Rattle.site_core.specs.Calls.{DeskServes}
 use Rattle.apply_lanes.proofs.KeptLaws.{kept_write, raised_none, issued-spend, spent-spend}
 use Rattle.apply_lanes.proofs.kept.Kept.serve.Goals as goal
@@ -10,5 +9,5 @@ invariant_of-self-2 g c =
     let wrote = serves.entry in
     let amount : serves.amount ≡ c.spent.result - c.spent-before.result =
     omega (arith, wrote.leaves.spends, spent-spend serves.amount, c.spent.ensures.booked, c.spent-before.ensures.booked) in
-    kept_write _ _ _ _ _ _ _ _ c.self.invariant (ap (λ (l : LogValue). l.site) wrote.log) wrote.leaves (issued-spend _) (spent-spend _ ∙ amount) (raised_none _)
+    kept_write _ _ _ _ _ _ _ _ c.self.invariant wrote.log wrote.leaves (issued-spend _) (spent-spend _ ∙ amount) (raised_none _)
     c.add.ensures.sum

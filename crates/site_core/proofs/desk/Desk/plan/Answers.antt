@@ -5,9 +5,7 @@ use Rattle.site_core.proofs.AskLaws.{asks_changed, planned}
 use Rattle.site_core.proofs.desk.Desk.plan.Goals as goal
 
 pub invariant_of-self : goal.invariant_of-self
-invariant_of-self g c =
-    let old : DeskValue = record { ledger = c.self.inside.ledger; queue = c.self.inside.queue; manager = c.self.inside.manager; time = c.self.inside.time } in
-    asks_changed old c.plan.new.self c.self.invariant c.plan.ensures.plans.same c.plan.ensures.answered
+invariant_of-self g c = asks_changed _ c.plan.new.self c.self.invariant c.plan.ensures.plans.same c.plan.ensures.answered
 
 pub returns : goal.returns
 returns g c =

@@ -1,0 +1,253 @@
+//! How fast seats spend under one lock: one alone, and some on threads of their own beside an applier.
+ghost use Rattle.std.specs.Prelude.{◌≡◌, [], false, IfOk};
+ghost use Rattle.apply_lanes.specs.Names.{id_of, AreBlank, IsUnused};
+
+use crate::desk::RUNS;
+use crate::rate::per_second;
+use apply_lanes::{Applier, Blanks, DeskNames, Free, Intake, Outlet, Seat, SharedDesk, lane};
+use rights_types::{MAX_AMOUNT, OutOfMemory, SiteId};
+use site_core::{Desk, Inbound, Spending};
+use std::alloc::Global;
+use std::io::ErrorKind;
+use std::marker::Brand;
+use std::rt::Clock;
+use std::sync::Wait;
+use std::thread::Threads;
+use std::time::Instant;
+use std::{io, thread};
+
+// Spends of all seats together.
+const SPENDS: u64 = 1_000_000;
+
+// Entries that come in beside them.
+const ENTRIES: u64 = 100_000;
+
+fn failed() -> io::Error {
+    io::Error::from(ErrorKind::InvalidData)
+}
+
+fn unused(alloc: Global) -> Result<Desk, OutOfMemory>
+    ensures { IfOk result (λ d. IsUnused d) }
+{
+    Desk::new(alloc, SiteId::known(1), 2)
+}
+
+/// What comes from the other site.
+#[derive(Drop)]
+struct Feeder {
+    intake: Intake,
+    ghost open: { intake.finished ≡ false },
+}
+
+impl Feeder {
+    // Whether all lines were taken in.
+    fn feed<R: Wait>(self, rt: &R, lines: &[String]) -> bool {
+        let Feeder { intake } = self;
+        feed(rt, intake, lines)
+    }
+}
+
+fn link(alloc: Global) -> io::Result<(Feeder, Outlet)>
+    ensures { IfOk result (λ r. r.1.taken ≡ []) }
+{
+    let Ok(inbound) = Inbound::new(alloc, SiteId::known(1), SiteId::known(2), 2) else {
+        return Err(failed());
+    };
+    let Ok((inlet, outlet)) = lane(alloc, 32) else {
+        return Err(failed());
+    };
+    let intake = Intake::new(inbound, inlet);
+    Ok((Feeder { intake }, outlet))
+}
+
+// The lines of so many entries, each of which gives the desk a right.
+fn lines(alloc: Global) -> io::Result<Vec<String>> {
+    let mut lines = Vec::new(alloc);
+    for number in 0..ENTRIES {
+        let own = number.wrapping_add(1);
+        let Ok(line) = format!(in alloc; "E 2 {number} {own} R:1:1\n") else {
+            return Err(failed());
+        };
+        lines.push(line).map_err(|_| failed())?;
+    }
+    Ok(lines)
+}
+
+// The nanoseconds in which the seat spends so many rights, one at a time.
+fn spend_all<D: DeskNames, R: Wait + Clock>(
+    rt: &R,
+    desk: &SharedDesk<D>,
+    mut seat: Seat<D>,
+    count: u64,
+) -> Option<u128> {
+    let start = Instant::now(rt).ok()?;
+    for _ in 0..count {
+        let Ok(Spending::Spent(_)) = desk.lock(rt).spend(&mut seat, 1, 0) else {
+            return None;
+        };
+    }
+    Some(start.elapsed(rt).ok()?.as_nanos())
+}
+
+fn feed<R: Wait>(rt: &R, mut intake: Intake, lines: &[String]) -> bool
+    requires { intake.finished ≡ false }
+{
+    for line in lines {
+        if intake.on_line(rt, line.as_bytes()).is_err() {
+            return false;
+        }
+    }
+    intake.finish(rt).is_ok()
+}
+
+fn apply_all<D: DeskNames, R: Wait + Clock>(
+    rt: &R,
+    desk: &SharedDesk<D>,
+    mut applier: Applier<D, Free>,
+) -> Option<u128> {
+    let start = Instant::now(rt).ok()?;
+    if applier.run(rt, desk) != Ok(ENTRIES) {
+        return None;
+    }
+    Some(start.elapsed(rt).ok()?.as_nanos())
+}
+
+fn seats<D: DeskNames, R: Wait>(
+    rt: &R,
+    alloc: Global,
+    desk: &SharedDesk<D>,
+    count: u64,
+) -> io::Result<Vec<Seat<D>>> {
+    let mut seats = Vec::new(alloc);
+    for place in 0..count {
+        let Ok(mut seat) = desk.seat(rt) else {
+            return Err(failed());
+        };
+        if place == 0 && desk.lock(rt).issue(&mut seat, MAX_AMOUNT).is_err() {
+            return Err(failed());
+        }
+        seats.push(seat).map_err(|_| failed())?;
+    }
+    Ok(seats)
+}
+
+// The longest of these times, if none failed.
+fn longest(times: &[Option<u128>]) -> io::Result<u128> {
+    let mut longest = 0u128;
+    for time in times {
+        longest = longest.max(time.ok_or(failed())?);
+    }
+    Ok(longest)
+}
+
+// The nanoseconds of so many seats on as many threads, and of the applier beside them.
+fn game<D: DeskNames + Send + Sync, R: Threads + Wait + Clock + Sync>(
+    rt: &R,
+    alloc: Global,
+    count: u64,
+    lines: &[String],
+    desk: Desk,
+    blanks: Blanks,
+) -> io::Result<(u128, u128)>
+    requires id { D.id ≡ id_of desk blanks }
+    requires blanks { AreBlank blanks }
+    requires unused { IsUnused desk }
+{
+    let desk = SharedDesk::<D>::new(desk, blanks);
+    let seats = seats(rt, alloc, &desk, count)?;
+    let (feeder, outlet) = link(alloc)?;
+    let Ok(applier) = desk.applier(rt, SiteId::known(2), outlet, Free) else {
+        return Err(failed());
+    };
+    let each = SPENDS.checked_div(count).unwrap_or(0);
+    let shared = &desk;
+    let (spends, (fed, applied)) = thread::join(
+        rt,
+        move || {
+            thread::map_vec(
+                rt,
+                seats,
+                &|seat: Seat<D>| spend_all(rt, shared, seat, each),
+            )
+        },
+        move || {
+            thread::join(
+                rt,
+                move || feeder.feed(rt, lines),
+                move || apply_all(rt, shared, applier),
+            )
+        },
+    );
+    let Ok(spends) = spends else {
+        return Err(failed());
+    };
+    match (fed, applied) {
+        (true, Some(applied)) => Ok((longest(spends.as_slice())?, applied)),
+        _ => Err(failed()),
+    }
+}
+
+// The nanoseconds of one seat, with no other thread at the desk.
+fn alone<D: DeskNames, R: Wait + Clock>(
+    rt: &R,
+    alloc: Global,
+    desk: Desk,
+    blanks: Blanks,
+) -> io::Result<u128>
+    requires id { D.id ≡ id_of desk blanks }
+    requires blanks { AreBlank blanks }
+    requires unused { IsUnused desk }
+{
+    let desk = SharedDesk::<D>::new(desk, blanks);
+    let Some(seat) = seats(rt, alloc, &desk, 1)?.pop() else {
+        return Err(failed());
+    };
+    spend_all(rt, &desk, seat, SPENDS).ok_or(failed())
+}
+
+fn alone_time<R: Wait + Clock>(rt: &R, alloc: Global) -> io::Result<u128> {
+    let Ok(desk) = unused(alloc) else {
+        return Err(failed());
+    };
+    alone::<Brand, R>(rt, alloc, desk, Blanks::new())
+}
+
+fn game_time<R: Threads + Wait + Clock + Sync>(
+    rt: &R,
+    alloc: Global,
+    count: u64,
+    lines: &[String],
+) -> io::Result<(u128, u128)> {
+    let Ok(desk) = unused(alloc) else {
+        return Err(failed());
+    };
+    game::<Brand, R>(rt, alloc, count, lines, desk, Blanks::new())
+}
+
+/// Prints the rates of one seat alone, and of 1, 2 and 4 seats beside an applier.
+pub(crate) fn measure_seats<R: Clock + Print + Threads + Wait + Sync + AllocGlobal>(
+    rt: &R,
+) -> io::Result<()> {
+    let alloc = rt.alloc();
+    let mut spends = u128::MAX;
+    for _ in 0..RUNS {
+        spends = spends.min(alone_time(rt, alloc)?);
+    }
+    let spends = per_second(SPENDS, spends);
+    println!(rt; "shared desk, a seat alone: {spends} spends/s under the lock")?;
+    let lines = lines(alloc)?;
+    for count in [1u64, 2, 4] {
+        let (mut spends, mut applied) = (u128::MAX, u128::MAX);
+        for _ in 0..RUNS {
+            let (spending, applying) = game_time(rt, alloc, count, lines.as_slice())?;
+            spends = spends.min(spending);
+            applied = applied.min(applying);
+        }
+        let spends = per_second(SPENDS, spends);
+        let applied = per_second(ENTRIES, applied);
+        println!(rt;
+            "shared desk, {count} seats: {spends} spends/s under the lock, {applied} entries/s applied beside them"
+        )?;
+    }
+    Ok(())
+}

@@ -1,0 +1,122 @@
+//! Two appliers that meet at their gates, without the lock.
+ghost use Rattle.std.specs.Prelude.{◌≡◌, ◌≤◌, [], true, IsTrue};
+ghost use Rattle.apply_lanes.specs.Names.{id_of, AreBlank, IsUnused};
+
+use crate::tests::desks::{applier_at, desk_among, report_of};
+use crate::tests::links::{feed, link};
+use apply_lanes::laws::taken_in;
+use apply_lanes::{Applier, Blanks, DeskNames, Gate, Intake, Outlet, Parts, Report, SharedDesk};
+use rights_types::SiteId;
+use site_core::Desk;
+use std::alloc::Global;
+use std::marker::Brand;
+use std::process::Abort;
+use std::sync::atomic::{AtomicU64, Ordering};
+use std::sync::{Arc, Wait};
+use std::thread;
+use std::thread::Threads;
+use std::time::{Clock, Duration};
+
+/// A gate that waits for another one, and notes that it waited too long.
+#[derive(Drop)]
+struct Meeting {
+    come: Arc<AtomicU64>,
+    late: Arc<AtomicU64>,
+}
+
+impl Gate for Meeting {
+    fn before_apply<R: Wait + Clock>(&mut self, rt: &R, _origin: SiteId) {
+        self.come.fetch_add(1, Ordering::SeqCst);
+        for _ in 0..10_000 {
+            if self.come.load(Ordering::SeqCst) >= 2 {
+                return;
+            }
+            thread::sleep(rt, Duration::from_millis(1));
+        }
+        self.late.fetch_add(1, Ordering::SeqCst);
+    }
+}
+
+// A counter that starts at 0.
+fn counter<R: Abort>(rt: &R, alloc: Global) -> Arc<AtomicU64> {
+    Arc::new(alloc, AtomicU64::new(0)).ok().expect(rt, "memory")
+}
+
+fn same<R: Abort>(rt: &R, counter: &Arc<AtomicU64>) -> Arc<AtomicU64> {
+    Arc::try_clone(counter).ok().expect(rt, "memory")
+}
+
+// A lane on which the entry of that line waits, and then End.
+fn fed_link<R: Wait + Abort>(rt: &R, alloc: Global, origin: u64, line: &str) -> (Intake, Outlet)
+    requires { (2 ≤ origin) × (origin ≤ 3) }
+    ensures taken { result.1.taken ≡ [] }
+    ensures lane { result.1.lane ≡ result.0.inlet.lane }
+{
+    let (intake, outlet) = link(rt, alloc, origin, 3);
+    (feed(rt, intake, line), outlet)
+}
+
+// The applier, once it has applied one entry.
+fn apply_one<D: DeskNames, G: Gate, R: Wait + Clock + Abort>(
+    rt: &R,
+    desk: &SharedDesk<D>,
+    mut applier: Applier<D, G>,
+) -> Applier<D, G>
+    ensures { result.outlet.lane ≡ applier.outlet.lane }
+{
+    assert!(rt; applier.run(rt, desk) == Ok(1));
+    applier
+}
+
+fn two_appliers<D: DeskNames + Send + Sync, R: Threads + Wait + Clock + Abort + Sync>(
+    rt: &R,
+    alloc: Global,
+    desk: Desk,
+    blanks: Blanks,
+) -> Report
+    requires id { D.id ≡ id_of desk blanks }
+    requires blanks { AreBlank blanks }
+    requires unused { IsUnused desk }
+{
+    let desk = SharedDesk::<D>::new(desk, blanks);
+    let (come, late) = (counter(rt, alloc), counter(rt, alloc));
+    let gate = Meeting {
+        come: same(rt, &come),
+        late: same(rt, &late),
+    };
+    let other_gate = Meeting {
+        come,
+        late: same(rt, &late),
+    };
+    let (intake, outlet) = fed_link(rt, alloc, 2, "E 2 0 2 I:5 R:1:5\n");
+    let (other_intake, other_outlet) = fed_link(rt, alloc, 3, "E 3 0 2 I:7 R:1:7\n");
+    let one = applier_at(rt, &desk, 2, outlet, gate);
+    let other = applier_at(rt, &desk, 3, other_outlet, other_gate);
+    let shared = &desk;
+    let (one, other) = thread::join(
+        rt,
+        move || apply_one(rt, shared, one),
+        move || apply_one(rt, shared, other),
+    );
+    assert!(rt; late.load(Ordering::SeqCst) == 0, "a gate waited too long");
+    let one = taken_in(intake, one).done();
+    let other = taken_in(other_intake, other).done();
+    let parts = Parts {
+        desk,
+        seats: Vec::new(alloc),
+        applied: vec![in alloc; one, other].ok().expect(rt, "memory"),
+    };
+    report_of(rt, parts)
+}
+
+/// Each of two appliers comes to its gate before either has passed: none holds the lock there.
+#[test]
+fn two_appliers_meet(rt: HostRuntime) {
+    let desk = desk_among(&rt, rt.alloc(), 3);
+    let report = two_appliers::<Brand, HostRuntime>(&rt, rt.alloc(), desk, Blanks::new());
+    assert_eq!(rt; (report.received, report.held, report.applied), (12, 12, 4));
+    assert_eq!(rt;
+        (report.issued, report.spent, report.given, report.back),
+        (0, 0, 0, 0)
+    );
+}

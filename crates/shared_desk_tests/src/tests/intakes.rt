@@ -1,0 +1,103 @@
+//! An intake with each growth refused.
+ghost use Rattle.std.specs.Prelude.{◌≡◌, false};
+
+use crate::tests::links::link_in;
+use apply_lanes::{Arrived, Intake, IntakeError, VerdictCounts};
+use entry_codec::LineError;
+use refusing_allocator::Refusing;
+use rights_types::OutOfMemory;
+use site_core::InboundError;
+use std::alloc::Global;
+use std::process::Abort;
+use std::sync::Wait;
+use sub_buffer::State;
+use test_kit::requests_of;
+
+type Refused<'a> = &'a Refusing<Global>;
+
+fn is_want_of_memory(error: IntakeError) -> bool {
+    matches!(
+        error,
+        IntakeError::Inbound(InboundError::OutOfMemory | InboundError::Line(LineError::OutOfMemory))
+    )
+}
+
+// Takes the line in. Where it finds no memory it has changed nothing, and it is taken in when it comes again.
+fn heard<R: Wait>(rt: &R, intake: &mut Intake<Refused>, line: &str) -> Option<Arrived>
+    requires { intake.old.finished ≡ false }
+    ensures { intake.new.finished ≡ false }
+{
+    let before = (intake.state(), intake.held_count());
+    match intake.on_line(rt, line.as_bytes()) {
+        Ok(arrived) => Some(arrived),
+        Err(error) => {
+            if !is_want_of_memory(error) || (intake.state(), intake.held_count()) != before {
+                return None;
+            }
+            intake.on_line(rt, line.as_bytes()).ok()
+        }
+    }
+}
+
+fn counts(ready: usize, held: usize) -> Option<Arrived> {
+    Some(Arrived::Entries(VerdictCounts {
+        ready,
+        held,
+        repeat: 0,
+        after_close: 0,
+        full: 0,
+    }))
+}
+
+// The query for the gap. Where its line finds no memory the gap counts as asked for.
+fn asks_once(intake: &mut Intake<Refused>) -> bool
+    ensures { intake.new.finished ≡ intake.old.finished }
+{
+    let first = match intake.query_line(false) {
+        Ok(line) => line.is_some(),
+        Err(OutOfMemory) => true,
+    };
+    first && matches!(intake.query_line(false), Ok(None))
+}
+
+fn asks_again(intake: &mut Intake<Refused>) -> bool
+    ensures { intake.new.finished ≡ intake.old.finished }
+{
+    match intake.query_line(true) {
+        Ok(line) => line.is_some(),
+        Err(OutOfMemory) => matches!(intake.query_line(true), Ok(Some(_))),
+    }
+}
+
+// Each line does what it should, the second time where it found no memory.
+fn hear_each_line<R: Wait + Abort>(rt: &R, intake: &mut Intake<Refused>)
+    requires { intake.old.finished ≡ false }
+{
+    assert!(rt; heard(rt, intake, "E 2 0 1 I:10\n") == counts(1, 0));
+    assert!(rt; heard(rt, intake, "E 2 3 4 S:1\n") == counts(0, 1));
+    assert!(rt; heard(rt, intake, "B 2 5\n") == Some(Arrived::Beat));
+    assert!(rt; intake.state() == State::Buffering);
+    assert!(rt; asks_once(intake));
+    assert!(rt; asks_again(intake));
+    let answer = "A 2 1;E 2 1 2 S:1;E 2 2 3 S:1;E 2 4 5 S:1\n";
+    assert!(rt; heard(rt, intake, answer) == counts(4, 0));
+    assert!(rt; intake.state() == State::Normal);
+}
+
+fn tried<R: Wait + Abort>(rt: &R, memory: Refused) -> bool {
+    match link_in(memory, 2, 2) {
+        Ok((mut intake, _outlet)) => {
+            hear_each_line(rt, &mut intake);
+            true
+        }
+        Err(OutOfMemory) => memory.refused(),
+    }
+}
+
+/// A line that finds no memory has changed nothing, and is taken in when it comes again. A query that finds
+/// none has asked.
+#[test]
+fn each_growth_of_an_intake_refused(rt: HostRuntime) {
+    let requests = requests_of(rt.alloc(), |memory| tried(&rt, memory));
+    assert!(rt; requests.is_some_and(|count| count > 10));
+}

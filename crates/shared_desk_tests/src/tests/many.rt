@@ -1,0 +1,318 @@
+//! Many calls at once: eight seats and three appliers at one desk, in an order that no hand wrote.
+ghost use Rattle.std.specs.Prelude.{◌≡◌, ◌≤◌, false};
+ghost use Rattle.apply_lanes.specs.Names.{id_of, AreBlank, IsUnused};
+
+use crate::tests::desks::{applier_at, desk_among, report_of, seat_at};
+use crate::tests::links::link;
+use apply_lanes::{
+    Applied, Applier, Blanks, DeskNames, Free, Intake, Kept, Parts, Report, Seat, SharedDesk,
+};
+use request_queue::Status;
+use rights_types::SiteId;
+use site_core::{Desk, Spending};
+use std::alloc::Global;
+use std::marker::Brand;
+use std::process::Abort;
+use std::sync::Wait;
+use std::thread;
+use std::thread::Threads;
+use std::time::Clock;
+
+// Calls of each of eight seats.
+const CALLS: u64 = 12_500;
+
+// Entries of each of three origins. Each gives two rights to the desk's site.
+const ENTRIES: u64 = 1_000;
+
+/// Numbers that look drawn, the same in each run.
+#[derive(Clone, Copy)]
+struct Dice {
+    state: u64,
+}
+
+impl Dice {
+    // A number below the count of sides.
+    fn roll(&mut self, sides: u64) -> u64 {
+        self.state = self
+            .state
+            .wrapping_mul(6_364_136_223_846_793_005)
+            .wrapping_add(1_442_695_040_888_963_407);
+        (self.state >> 33).checked_rem(sides).unwrap_or(0)
+    }
+}
+
+/// The rights that a holder of a seat was told.
+#[derive(Clone, Copy)]
+struct Told {
+    issued: u64,
+    spent: u64,
+    served: u64,
+    given: u64,
+}
+
+const NOTHING: Told = Told {
+    issued: 0,
+    spent: 0,
+    served: 0,
+    given: 0,
+};
+
+/// A seat, and what its holder was told.
+#[derive(Drop)]
+struct Player<D: DeskNames> {
+    seat: Seat<D>,
+    seed: u64,
+    told: Told,
+}
+
+// Calls under the lock, and what they told: in functions of their own, as a check of many together takes long.
+
+fn issued<D: DeskNames>(kept: &mut Kept<D>, seat: &mut Seat<D>, amount: u64) -> u64 {
+    match kept.issue(seat, amount) {
+        Ok(_) => amount,
+        Err(_) => 0,
+    }
+}
+
+fn spent<D: DeskNames>(kept: &mut Kept<D>, seat: &mut Seat<D>, amount: u64) -> u64 {
+    match kept.spend(seat, amount, 0) {
+        Ok(Spending::Spent(_)) => amount,
+        _ => 0,
+    }
+}
+
+fn served<D: DeskNames>(kept: &mut Kept<D>, seat: &mut Seat<D>) -> u64 {
+    match kept.serve(seat) {
+        Ok(Some((ticket, number, amount))) => {
+            // Its slot is free again once its outcome is told.
+            let outcome = kept.status(ticket);
+            if outcome == Status::Spent(number) {
+                amount
+            } else {
+                0
+            }
+        }
+        _ => 0,
+    }
+}
+
+fn given<D: DeskNames>(kept: &mut Kept<D>, amount: u64) -> u64 {
+    match kept.give_back(SiteId::known(2), amount) {
+        Ok(_) => amount,
+        Err(_) => 0,
+    }
+}
+
+impl<D: DeskNames> Player<D> {
+    fn call<R: Wait>(&mut self, rt: &R, desk: &SharedDesk<D>, dice: &mut Dice) {
+        let amount = dice.roll(9).wrapping_add(1);
+        let kind = dice.roll(10);
+        let mut kept = desk.lock(rt);
+        let kept = &mut *kept;
+        let told = &mut self.told;
+        match kind {
+            0..=2 => told.issued = told
+                .issued
+                .wrapping_add(issued(kept, &mut self.seat, amount)),
+            3..=5 => told.spent = told.spent.wrapping_add(spent(kept, &mut self.seat, amount)),
+            6..=8 => told.served = told.served.wrapping_add(served(kept, &mut self.seat)),
+            _ => told.given = told.given.wrapping_add(given(kept, amount)),
+        }
+    }
+
+    fn play<R: Wait>(mut self, rt: &R, desk: &SharedDesk<D>) -> Player<D> {
+        let mut dice = Dice { state: self.seed };
+        for _ in 0..CALLS {
+            self.call(rt, desk, &mut dice);
+        }
+        self
+    }
+}
+
+/// What comes from an origin.
+#[derive(Drop)]
+struct Feeder {
+    intake: Intake,
+    origin: u64,
+    ghost open: { intake.finished ≡ false },
+}
+
+fn make_feeder(intake: Intake, origin: u64) -> Feeder
+    requires { intake.finished ≡ false }
+{
+    Feeder { intake, origin }
+}
+
+// The intake takes each line in, and End goes to the lane.
+fn feed<R: Wait + Abort>(rt: &R, alloc: Global, mut intake: Intake, origin: u64)
+    requires { intake.finished ≡ false }
+{
+    for number in 0..ENTRIES {
+        let own = number.wrapping_add(1);
+        let line = format!(in alloc; "E {origin} {number} {own} R:1:2\n").expect(rt, "memory");
+        assert!(rt; intake.on_line(rt, line.as_bytes()).is_ok());
+    }
+    intake.finish(rt).ok().expect(rt, "End is put");
+}
+
+impl Feeder {
+    fn feed<R: Wait + Abort>(self, rt: &R, alloc: Global) {
+        let Feeder { intake, origin } = self;
+        feed(rt, alloc, intake, origin);
+    }
+}
+
+// What the applier told, once it has applied its log.
+fn apply_all<D: DeskNames, R: Wait + Clock + Abort>(
+    rt: &R,
+    desk: &SharedDesk<D>,
+    mut applier: Applier<D, Free>,
+) -> Applied<D> {
+    assert!(rt; applier.run(rt, desk) == Ok(ENTRIES));
+    applier.done()
+}
+
+fn players_at<D: DeskNames, R: Wait + Abort>(
+    rt: &R,
+    alloc: Global,
+    desk: &SharedDesk<D>,
+) -> Vec<Player<D>> {
+    let mut players = Vec::new(alloc);
+    for seed in 0..8u64 {
+        let player = Player {
+            seat: seat_at(rt, desk),
+            seed,
+            told: NOTHING,
+        };
+        players.push(player).ok().expect(rt, "memory");
+    }
+    players
+}
+
+type Links<D> = (Vec<Feeder>, Vec<Applier<D, Free>>);
+
+// What comes from each of three origins, and their appliers.
+fn links_of<D: DeskNames, R: Wait + Abort>(
+    rt: &R,
+    alloc: Global,
+    desk: &SharedDesk<D>,
+) -> Links<D> {
+    let mut feeders = Vec::new(alloc);
+    let mut appliers = Vec::new(alloc);
+    for origin in 2..5u64 {
+        let (intake, outlet) = link(rt, alloc, origin, 4);
+        let feeder = make_feeder(intake, origin);
+        feeders.push(feeder).ok().expect(rt, "memory");
+        let applier = applier_at(rt, desk, origin, outlet, Free);
+        appliers.push(applier).ok().expect(rt, "memory");
+    }
+    (feeders, appliers)
+}
+
+// Their seats, and what all of them were told.
+fn seats_of<D: DeskNames, R: Abort>(
+    rt: &R,
+    alloc: Global,
+    players: Vec<Player<D>>,
+) -> (Vec<Seat<D>>, Told) {
+    let mut seats = Vec::new(alloc);
+    let mut sum = NOTHING;
+    for player in players {
+        let Player {
+            seat,
+            seed: _,
+            told,
+        } = player;
+        seats.push(seat).ok().expect(rt, "memory");
+        sum.issued = sum.issued.wrapping_add(told.issued);
+        sum.spent = sum.spent.wrapping_add(told.spent);
+        sum.served = sum.served.wrapping_add(told.served);
+        sum.given = sum.given.wrapping_add(told.given);
+    }
+    (seats, sum)
+}
+
+// All players, once each has made its calls on a thread of its own.
+fn played<D: DeskNames + Send + Sync, R: Threads + Wait + Abort + Sync>(
+    rt: &R,
+    desk: &SharedDesk<D>,
+    players: Vec<Player<D>>,
+) -> Vec<Player<D>> {
+    thread::map_vec(rt, players, &|player: Player<D>| player.play(rt, desk)).expect(rt, "memory")
+}
+
+// Each origin's lines are taken in, each on a thread of its own.
+fn feed_all<R: Threads + Wait + Abort + Sync>(rt: &R, alloc: Global, feeders: Vec<Feeder>) {
+    thread::map_vec(rt, feeders, &|feeder: Feeder| feeder.feed(rt, alloc)).expect(rt, "memory");
+}
+
+// What all appliers told, once each has applied its log on a thread of its own.
+fn applied<D: DeskNames + Send + Sync, R: Threads + Wait + Clock + Abort + Sync>(
+    rt: &R,
+    desk: &SharedDesk<D>,
+    appliers: Vec<Applier<D, Free>>,
+) -> Vec<Applied<D>> {
+    thread::map_vec(
+        rt,
+        appliers,
+        &|one: Applier<D, Free>| apply_all(rt, desk, one),
+    )
+    .expect(rt, "memory")
+}
+
+fn a_game<D: DeskNames + Send + Sync, R: Threads + Wait + Clock + Abort + Sync>(
+    rt: &R,
+    alloc: Global,
+    desk: Desk,
+    blanks: Blanks,
+) -> (Report, Told)
+    requires id { D.id ≡ id_of desk blanks }
+    requires blanks { AreBlank blanks }
+    requires unused { IsUnused desk }
+{
+    let desk = SharedDesk::<D>::new(desk, blanks);
+    let players = players_at(rt, alloc, &desk);
+    let (feeders, appliers) = links_of(rt, alloc, &desk);
+    let shared = &desk;
+    let (players, (applied, ())) = thread::join(
+        rt,
+        move || played(rt, shared, players),
+        move || {
+            thread::join(
+                rt,
+                move || applied(rt, shared, appliers),
+                move || feed_all(rt, alloc, feeders),
+            )
+        },
+    );
+    let (seats, told) = seats_of(rt, alloc, players);
+    let parts = Parts {
+        desk,
+        seats,
+        applied,
+    };
+    (report_of(rt, parts), told)
+}
+
+/// A hundred thousand calls of eight seats, beside three appliers: the desk's report is what they were told.
+#[test]
+fn a_hundred_thousand_calls(rt: HostRuntime) {
+    let desk = desk_among(&rt, rt.alloc(), 4);
+    let (report, told) = a_game::<Brand, HostRuntime>(&rt, rt.alloc(), desk, Blanks::new());
+    assert_eq!(rt;
+        (report.told_issued, report.told_spent, report.told_served),
+        (told.issued, told.spent, told.served)
+    );
+    assert_eq!(rt; (report.issued, report.given), (told.issued, told.given));
+    assert_eq!(rt; report.spent, told.spent.wrapping_add(told.served));
+    assert_eq!(rt;
+        (report.received, report.applied),
+        (6 * ENTRIES, 3 * ENTRIES)
+    );
+    let out = report
+        .held
+        .wrapping_add(report.spent)
+        .wrapping_add(report.given);
+    assert_eq!(rt; out, report.issued.wrapping_add(report.received));
+    assert!(rt; told.issued > 0 && told.spent > 0 && told.served > 0 && told.given > 0);
+}

@@ -1,0 +1,118 @@
+//! Appliers and the end of a desk: what is refused, and that it comes back.
+ghost use Rattle.std.specs.Prelude.{◌≡◌, ◌≤◌};
+ghost use Rattle.apply_lanes.specs.Names.{id_of, AreBlank, IsUnused};
+
+use crate::tests::desks::{applier_at, desk_among, issue, report_of, seat_at};
+use crate::tests::links::link;
+use apply_lanes::{
+    AdmitFault, Blanks, DeskNames, Free, Parts, Report, SharedDesk, StopError, stop,
+};
+use rights_types::SiteId;
+use site_core::Desk;
+use std::alloc::Global;
+use std::marker::Brand;
+use std::process::Abort;
+use std::sync::Wait;
+
+// The parts again, where a seat is missing among them.
+fn without_a_seat<D: DeskNames, R: Abort>(rt: &R, parts: Parts<D>) -> Parts<D> {
+    match stop(parts) {
+        Err(StopError::SeatMissing(parts)) => parts,
+        _ => panic!(rt; "no seat is missing"),
+    }
+}
+
+// The parts again, where all seats are there and an applier is missing among them.
+fn without_an_applier<D: DeskNames, R: Abort>(rt: &R, parts: Parts<D>) -> Parts<D> {
+    match stop(parts) {
+        Err(StopError::ApplierMissing(parts)) => parts,
+        _ => panic!(rt; "no applier is missing"),
+    }
+}
+
+fn a_missing_seat<D: DeskNames, R: Wait + Abort>(
+    rt: &R,
+    alloc: Global,
+    desk: Desk,
+    blanks: Blanks,
+) -> Report
+    requires id { D.id ≡ id_of desk blanks }
+    requires blanks { AreBlank blanks }
+    requires unused { IsUnused desk }
+{
+    let desk = SharedDesk::<D>::new(desk, blanks);
+    let mut first = seat_at(rt, &desk);
+    let second = seat_at(rt, &desk);
+    issue(rt, &desk, &mut first, 10);
+    let given = desk.lock(rt).give_back(SiteId::known(2), 3);
+    assert!(rt; given == Ok(2));
+    let parts = Parts {
+        desk,
+        seats: vec![in alloc; first].ok().expect(rt, "memory"),
+        applied: Vec::new(alloc),
+    };
+    let mut parts = without_a_seat(rt, parts);
+    parts.seats.push(second).ok().expect(rt, "memory");
+    report_of(rt, parts)
+}
+
+/// A desk stops once all seats are back.
+#[test]
+fn no_stop_without_a_seat(rt: HostRuntime) {
+    let desk = desk_among(&rt, rt.alloc(), 2);
+    let report = a_missing_seat::<Brand, HostRuntime>(&rt, rt.alloc(), desk, Blanks::new());
+    assert_eq!(rt;
+        (report.issued, report.spent, report.given, report.held),
+        (10, 0, 3, 7)
+    );
+}
+
+// Why an applier of that origin is refused, and that its lane comes back.
+fn refusal<D: DeskNames, R: Wait + Abort>(
+    rt: &R,
+    alloc: Global,
+    desk: &SharedDesk<D>,
+    origin: u64,
+) -> AdmitFault
+    requires { (1 ≤ origin) × (origin ≤ 16) }
+{
+    let (_intake, outlet) = link(rt, alloc, 2, 3);
+    match desk.applier(rt, SiteId::known(origin), outlet, Free) {
+        Ok(_) => panic!(rt; "an applier"),
+        Err(error) => error.fault,
+    }
+}
+
+fn a_missing_applier<D: DeskNames, R: Wait + Abort>(
+    rt: &R,
+    alloc: Global,
+    desk: Desk,
+    blanks: Blanks,
+) -> Report
+    requires id { D.id ≡ id_of desk blanks }
+    requires blanks { AreBlank blanks }
+    requires unused { IsUnused desk }
+{
+    let desk = SharedDesk::<D>::new(desk, blanks);
+    let (_intake, outlet) = link(rt, alloc, 2, 3);
+    let applier = applier_at(rt, &desk, 2, outlet, Free);
+    assert!(rt; refusal(rt, alloc, &desk, 4) == AdmitFault::NoSuchSite);
+    assert!(rt; refusal(rt, alloc, &desk, 1) == AdmitFault::SameSite);
+    assert!(rt; refusal(rt, alloc, &desk, 2) == AdmitFault::Taken);
+    let parts = Parts {
+        desk,
+        seats: Vec::new(alloc),
+        applied: Vec::new(alloc),
+    };
+    let mut parts = without_an_applier(rt, parts);
+    parts.applied.push(applier.done()).ok().expect(rt, "memory");
+    report_of(rt, parts)
+}
+
+/// An origin has one applier at most, and the desk stops once it is done.
+#[test]
+fn no_stop_without_an_applier(rt: HostRuntime) {
+    let desk = desk_among(&rt, rt.alloc(), 3);
+    let report = a_missing_applier::<Brand, HostRuntime>(&rt, rt.alloc(), desk, Blanks::new());
+    assert_eq!(rt; (report.applied, report.received), (0, 0));
+}

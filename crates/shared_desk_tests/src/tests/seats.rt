@@ -1,0 +1,101 @@
+//! Seats on threads of their own.
+ghost use Rattle.std.specs.Prelude.{◌≡◌};
+ghost use Rattle.apply_lanes.specs.Names.{id_of, AreBlank, IsUnused};
+
+use crate::tests::desks::{desk_among, issue, report_of, seat_at};
+use apply_lanes::{Blanks, DeskNames, Parts, Report, SEATS, Seat, SharedDesk};
+use site_core::{Desk, Spending};
+use std::alloc::Global;
+use std::marker::Brand;
+use std::process::Abort;
+use std::sync::Wait;
+use std::thread;
+use std::thread::Threads;
+
+// Spends one right so many times, and counts what was spent and what waits.
+fn spends<D: DeskNames, R: Wait>(
+    rt: &R,
+    desk: &SharedDesk<D>,
+    mut seat: Seat<D>,
+    times: u64,
+) -> (Seat<D>, u64, u64) {
+    let mut spent = 0u64;
+    let mut queued = 0u64;
+    for _ in 0..times {
+        match desk.lock(rt).spend(&mut seat, 1, 0) {
+            Ok(Spending::Spent(_)) => spent = spent.wrapping_add(1),
+            Ok(Spending::Queued(_)) => queued = queued.wrapping_add(1),
+            Err(_) => {}
+        }
+    }
+    (seat, spent, queued)
+}
+
+fn twenty_spends<D: DeskNames + Send + Sync, R: Threads + Wait + Abort + Sync>(
+    rt: &R,
+    alloc: Global,
+    desk: Desk,
+    blanks: Blanks,
+) -> Report
+    requires id { D.id ≡ id_of desk blanks }
+    requires blanks { AreBlank blanks }
+    requires unused { IsUnused desk }
+{
+    let desk = SharedDesk::<D>::new(desk, blanks);
+    let mut first = seat_at(rt, &desk);
+    let (second, third) = (seat_at(rt, &desk), seat_at(rt, &desk));
+    issue(rt, &desk, &mut first, 10);
+    let shared = &desk;
+    let ((second, spent, queued), (third, more_spent, more_queued)) = thread::join(
+        rt,
+        move || spends(rt, shared, second, 10),
+        move || spends(rt, shared, third, 10),
+    );
+    assert!(rt; second.told_spent() == spent && third.told_spent() == more_spent);
+    assert!(rt; spent.wrapping_add(more_spent) == 10);
+    assert!(rt; queued.wrapping_add(more_queued) == 10);
+    let view = desk.lock(rt).view();
+    assert!(rt; (view.queued, view.held) == (10, 0));
+    let parts = Parts {
+        desk,
+        seats: vec![in alloc; first, second, third]
+            .ok()
+            .expect(rt, "memory"),
+        applied: Vec::new(alloc),
+    };
+    report_of(rt, parts)
+}
+
+/// Twenty spends of one right from two threads, where ten rights are held: ten are spent, and ten wait.
+#[test]
+fn twenty_spends_of_ten_rights(rt: HostRuntime) {
+    let desk = desk_among(&rt, rt.alloc(), 3);
+    let report = twenty_spends::<Brand, HostRuntime>(&rt, rt.alloc(), desk, Blanks::new());
+    assert_eq!(rt;
+        (report.issued, report.spent, report.given, report.held),
+        (10, 10, 0, 0)
+    );
+    assert_eq!(rt;
+        (report.told_issued, report.told_spent, report.told_served),
+        (10, 10, 0)
+    );
+}
+
+fn take_all_seats<D: DeskNames, R: Wait + Abort>(rt: &R, desk: Desk, blanks: Blanks)
+    requires id { D.id ≡ id_of desk blanks }
+    requires blanks { AreBlank blanks }
+    requires unused { IsUnused desk }
+{
+    let desk = SharedDesk::<D>::new(desk, blanks);
+    for _ in 0..SEATS {
+        let _ = seat_at(rt, &desk);
+    }
+    assert!(rt; desk.seat(rt).is_err());
+}
+
+/// Sixty-four seats are given, and no more.
+#[test]
+fn sixty_four_seats(rt: HostRuntime) {
+    let desk = desk_among(&rt, rt.alloc(), 2);
+    take_all_seats::<Brand, HostRuntime>(&rt, desk, Blanks::new());
+}
