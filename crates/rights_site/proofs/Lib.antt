@@ -1,2 +1,2 @@
-mod CommandWords
+mod Endings
 mod ScriptLaws

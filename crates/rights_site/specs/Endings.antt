@@ -1,10 +1,12 @@
 -- How the program ends.
-use Rattle.std.specs.Prelude.{◌≡◌, ℕ, List, [], ⊤, Option, Result, Ok, Err}
+use Rattle.std.specs.Prelude.{◌≡◌, ◌==◌, ◌⊎◌, ℕ, Bool, true, false, List, [], length, ⊤, Option, Result, Ok, Err}
 use Rattle.transfer_world.specs.Fronts.{AppendsFront}
-use Rattle.rights_site.specs.Asked.{Asked, help, nothing, script}
+use Rattle.site_words.specs.Asked.{Asked, help, nothing, script, site}
 use Rattle.rights_site.specs.Faults.{line_of, status_of}
+use Rattle.site_words.specs.Settings.{Settings}
+use Rattle.site_words.specs.Words.{MayRefuse, RunsSite, WantsHelp}
 use Rattle.rights_site.specs.declared.fault.Fault.{Fault}
-use Rattle.rights_site.specs.declared.fault.Fault.TheVariants.{BadCommandLine, OutOfMemory, WriteFailed}
+use Rattle.rights_site.specs.declared.fault.Fault.TheVariants.{BadCommandLine, CannotListen, OutOfMemory, WriteFailed}
 
 -- done, or stopped by a fault
 abbrev pub Ending : Type 0
@@ -19,22 +21,37 @@ abbrev pub line_of_ending : Ending → List ℕ
 line_of_ending (Ok done) = []
 line_of_ending (Err fault) = line_of fault
 
+-- whether commands are read: those of a script, or of a site where clap takes the words
+abbrev pub reads : Asked → Bool
+reads script = true
+reads (site kinds rows) = length kinds == 0
+reads asked = false
+
+-- clap takes the words, and what it finds is a site's
+abbrev pub IsRun : Asked → Type 0
+IsRun asked = (s : Settings) × RunsSite asked s
+
+-- words that ask for nothing are never done, nor those of `run` that are refused
+abbrev pub MayBeDone : Asked → Type 0
+MayBeDone nothing = ⊥
+MayBeDone (site kinds rows) = IsRun (site kinds rows) ⊎ WantsHelp (site kinds rows)
+MayBeDone asked = ⊤
+
 -- the faults that may stop the program, by what was asked for
 abbrev pub MayStop : Asked → Fault → Type 0
 MayStop script BadCommandLine = ⊥
+MayStop script CannotListen = ⊥
 MayStop script fault = ⊤
+MayStop (site kinds rows) BadCommandLine = MayRefuse (site kinds rows)
+MayStop (site kinds rows) OutOfMemory = ⊤
+MayStop (site kinds rows) WriteFailed = MayBeDone (site kinds rows)
+MayStop (site kinds rows) fault = IsRun (site kinds rows)
 MayStop help WriteFailed = ⊤
 MayStop help OutOfMemory = ⊤
 MayStop help fault = ⊥
 MayStop nothing BadCommandLine = ⊤
 MayStop nothing OutOfMemory = ⊤
 MayStop nothing fault = ⊥
-
--- words that ask for nothing are never done
-abbrev pub MayBeDone : Asked → Type 0
-MayBeDone script = ⊤
-MayBeDone help = ⊤
-MayBeDone nothing = ⊥
 
 abbrev pub MayEnd : Asked → Ending → Type 0
 MayEnd asked (Ok done) = MayBeDone asked

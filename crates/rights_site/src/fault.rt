@@ -3,7 +3,8 @@ ghost use Rattle.std.specs.Prelude.{◌≡◌};
 ghost use Rattle.rights_site.specs.Faults.{line_of, status_of};
 ghost use Rattle.rights_site.specs.declared.fault.Fault.TheVariants.{OutOfMemory, WriteFailed};
 
-use crate::words::WordsFault;
+use site_server::SiteFault;
+use site_words::WordsFault;
 use std::alloc::AllocError;
 use transfer_world::{ScriptFault, WriteFault};
 
@@ -12,6 +13,8 @@ use transfer_world::{ScriptFault, WriteFault};
 pub(crate) enum Fault {
     /// The command line is refused.
     BadCommandLine,
+    /// The address of a site is none that can be listened on.
+    CannotListen,
     /// Reading the commands failed.
     ReadFailed,
     /// Writing the replies or the help text failed.
@@ -39,6 +42,7 @@ impl Fault {
     {
         match self {
             Fault::BadCommandLine => b"rights-site: bad command line\n",
+            Fault::CannotListen => b"rights-site: cannot listen\n",
             Fault::ReadFailed => b"rights-site: read failed\n",
             Fault::WriteFailed => b"rights-site: write failed\n",
             Fault::OutOfMemory => b"rights-site: out of memory\n",
@@ -87,6 +91,22 @@ impl From<ScriptFault> for Fault {
             ScriptFault::WriteFailed => Fault::WriteFailed,
             ScriptFault::OutOfMemory => Fault::OutOfMemory,
             ScriptFault::TooManyLines => Fault::TooManyLines,
+        }
+    }
+}
+
+impl From<SiteFault> for Fault {
+    ghost use Rattle.rights_site.specs.Faults.{fault_of_site};
+
+    ghost from_gives = { λ cause fault. fault ≡ fault_of_site cause };
+
+    fn from(cause: SiteFault) -> Fault {
+        match cause {
+            SiteFault::CannotListen => Fault::CannotListen,
+            SiteFault::ReadFailed => Fault::ReadFailed,
+            SiteFault::WriteFailed => Fault::WriteFailed,
+            SiteFault::OutOfMemory => Fault::OutOfMemory,
+            SiteFault::TooManyLines => Fault::TooManyLines,
         }
     }
 }

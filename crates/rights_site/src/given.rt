@@ -1,7 +1,7 @@
 //! The words that the process was given.
 ghost use Rattle.std.specs.Prelude.{◌≡◌, IfErr};
 ghost use Rattle.std.specs.IoError.{error_kind};
-ghost use Rattle.rights_site.specs.Asked.{nothing};
+ghost use Rattle.site_words.specs.Asked.{nothing};
 ghost use Rattle.rights_site.specs.Endings.{EndsWith, MayStop};
 ghost use Rattle.rights_site.specs.Faults.{fault_of_given};
 ghost use Rattle.rights_site.specs.declared.fault.Fault.{Fault};
@@ -11,6 +11,10 @@ use crate::run::{report, run_words};
 use std::alloc::Allocator;
 use std::env::{Args, Env};
 use std::io::{ErrorKind, Read, Write};
+use std::net::{Net, TcpListener, TcpStream};
+use std::sync::Wait;
+use std::thread::Threads;
+use std::time::Clock;
 use std::{env, io};
 
 /// What it means that the words cannot be told: one is no text, or there is no memory for them.
@@ -52,13 +56,18 @@ fn given_words<V: Env + Alloc>(env: &V) -> Result<Vec<String<V::A>, V::A>, Fault
 
 /// Runs the program on the words that its process was given, and answers the exit status. Where they
 /// cannot be told, `errors` is told why.
-pub(crate) fn run_given<T: AllocGlobal, V: Env + Alloc, R: Read, W: Write, E: Write>(
-    rt: &T,
-    env: &V,
-    reader: &mut R,
-    writer: &mut W,
-    errors: &mut E,
-) -> u8
+pub(crate) fn run_given<
+    T: Net<Listener = TcpListener, Stream = TcpStream>
+        + Threads
+        + Wait
+        + Clock
+        + AllocGlobal
+        + Sync,
+    V: Env + Alloc,
+    R: Read,
+    W: Write,
+    E: Write,
+>(rt: &T, env: &V, reader: &mut R, writer: &mut W, errors: &mut E) -> u8
     ensures { EndsWith result (E.contents errors.old) (E.contents errors.new) }
 {
     let words = match given_words(env) {

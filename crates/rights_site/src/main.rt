@@ -6,7 +6,6 @@ mod given;
 mod run;
 #[cfg(test)]
 mod tests;
-mod words;
 
 use crate::given::run_given;
 use std::process::ExitCode;

@@ -1,7 +1,7 @@
 use Rattle.std.proofs.Common.{◌∙◌, sym, ap, subst, refl, Ok, Err, Global}
 use Rattle.std.proofs.lemmas.Result.{err_from_is_err_and}
 use Rattle.clap.specs.Walk.{texts}
-use Rattle.rights_site.specs.Asked.{asked_by}
+use Rattle.site_words.specs.Asked.{asked_by}
 use Rattle.rights_site.specs.Endings.{Ending}
 use Rattle.rights_site.specs.Scripts.{Answered}
 use Rattle.rights_site.proofs.ScriptLaws.{none_answered}

@@ -1,0 +1,4 @@
+//! Outboxes, and connections without sockets.
+
+mod links;
+mod outbox;

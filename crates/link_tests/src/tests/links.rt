@@ -1,0 +1,7 @@
+//! Connections without sockets: readers and writers that break, that are slow, or that are interrupted.
+mod hello;
+mod pieces;
+mod ports;
+mod reading;
+mod streams;
+mod writing;

@@ -1,0 +1,4 @@
+mod HelloLaws
+mod LineLaws
+mod QueueLaws
+mod ReadLaws

@@ -1,0 +1,213 @@
+-- Whole lines, one after another, and the pieces of a stream that are given as they end.
+use Rattle.std.proofs.Common.{◌≡◌, ℕ, ◌+◌, ◌-◌, ◌<◌, ◌≤◌, Bool, true, false, cond, List, [], ◌∷◌, ◌++◌, length, take, get_or, Option, Some, None, IfSome, IfNone, IsTrue, ◌↔◌, refl, sym, ap, subst, ◌∙◌, arith, append-nil, length-append, length-take, get_or-take}
+use Rattle.std.specs.List.{All}
+use Rattle.std.specs.Io.BufRead.{take_through}
+use Rattle.std.proofs.lemmas.Bool.{eqb-true, eq-eqb}
+use Rattle.std.proofs.lemmas.List.{take_all, take_at, take_more, drop_at}
+use Rattle.std.proofs.lemmas.List.Elements.{All-nil, All-push, All-append, All-head, All-tail}
+use Rattle.std.proofs.lemmas.List.Concat.{flat_map-append}
+use Rattle.std.specs.Io.KnownBytes.{Appends}
+use Rattle.std.proofs.KnownBytes.{Appends-nil, Appends-trans}
+use Rattle.memchr.specs.Find.{IsFirstByte, is_byte}
+use Rattle.entry_codec.specs.Pieces.{pieces, unfinished, IsLine}
+use Rattle.entry_codec.specs.Cutter.{CutterView, Holds, IsFed, view_of}
+use Rattle.entry_codec.specs.Cuts.{IsGiven, IsCut}
+use Rattle.entry_codec.specs.declared.cutter.Cut.{Cut}
+use Rattle.entry_codec.proofs.Pieces.{HasNoEnd, pieces_append, rest_append, no_piece, one_piece}
+use Rattle.entry_codec.proofs.Cuts.{first_is_position}
+use Rattle.entry_codec.proofs.Streams.{through_found, through_missed}
+use Rattle.transfer_world.proofs.Writes.{take_both}
+use Rattle.transfer_world.specs.Fronts.{AppendsFront}
+use Rattle.peer_links.specs.Links.{IsFedAll}
+use Rattle.peer_links.specs.Outboxes.{AreLines, joined, front_in}
+
+-- ---- whole lines
+
+pub lines_none : AreLines []
+lines_none = ([], All-nil IsLine, refl)
+
+pub lines_more : (xs ys : List ℕ) → AreLines xs → AreLines ys → AreLines (xs ++ ys)
+lines_more xs ys a b = (
+  a.0 ++ b.0,
+  All-append IsLine a.0 b.0 a.1 b.1,
+  rw (a.2, b.2) (sym (flat_map-append (λ (l : List ℕ). l) a.0 b.0)),
+)
+
+pub line_alone : (line : List ℕ) → IsLine line → AreLines line
+line_alone line h = (line ∷ [], All-push IsLine [] line (All-nil IsLine) h, sym (append-nil line))
+
+fits_front : (b : Bool) (line : List ℕ) (rest : List (List ℕ)) → IsLine line → All IsLine rest → All IsLine (cond b (line ∷ rest) [])
+fits_front true line rest h all = All-append IsLine (line ∷ []) rest (All-push IsLine [] line (All-nil IsLine) h) all
+fits_front false line rest h all = All-nil IsLine
+
+all_front : (room : ℕ) (lines : List (List ℕ)) → All IsLine lines → All IsLine (front_in room lines)
+all_front room [] all = All-nil IsLine
+all_front room (line ∷ lines) all =
+    fits_front _ line (front_in (room - length line) lines) (All-head IsLine line lines all) (all_front (room - length line) lines (All-tail IsLine line lines all))
+
+pub front_lines : (room : ℕ) (lines : List (List ℕ)) (text : List ℕ) → All IsLine lines → text ≡ joined (front_in room lines) → AreLines text
+front_lines room lines text all is = (front_in room lines, all_front room lines all, is)
+
+-- ---- what was written
+
+pub wrote_lines : (a b c : Option (List ℕ)) (xs ys : List ℕ) → AreLines xs → AreLines ys → Appends a b xs → Appends b c ys
+    → (text : List ℕ) × AreLines text × Appends a c text
+wrote_lines a b c xs ys l m p q = (xs ++ ys, lines_more xs ys l m, Appends-trans a b c xs ys p q)
+
+-- the same, of a text that was written whole
+pub wrote_all : (a b c : Option (List ℕ)) (xs ys : List ℕ) (n : ℕ) → AreLines xs → AreLines ys → Appends a b xs → length ys ≤ n → Appends b c (take n ys)
+    → (text : List ℕ) × AreLines text × Appends a c text
+wrote_all a b c xs ys n l m p all q = wrote_lines a b c xs ys l m p (subst (Appends b c) (take_all n ys all) q)
+
+pub wrote_front : (a b c : Option (List ℕ)) (xs ys : List ℕ) (n : ℕ) → AreLines xs → AreLines ys → Appends a b xs → n ≤ length ys → Appends b c (take n ys)
+    → (text : List ℕ) × AreLines text × AppendsFront a c text
+wrote_front a b c xs ys n l m p within q =
+    let front : take (length xs + n) (xs ++ ys) ≡ xs ++ take n ys =
+    take_both (length xs) n (xs ++ ys) ∙ rw (take_at xs ys (length xs) refl, drop_at xs ys (length xs) refl) refl in (
+      xs ++ ys,
+      lines_more xs ys l m,
+      (length xs + n, omega (arith, length-append xs ys), subst (Appends a c) (sym front) (Appends-trans a b c xs (take n ys) p q)),
+    )
+
+pub wrote_none : (a b : Option (List ℕ)) (xs : List ℕ) → AreLines xs → Appends a b xs → (text : List ℕ) × AreLines text × AppendsFront a b text
+wrote_none a b xs l p = wrote_front a b b xs [] 0 l lines_none p (omega arith) (Appends-nil b)
+
+-- ---- a stream of which all pieces were given
+
+all_given : (b : Bool) (ps : List (List ℕ)) (piece : List ℕ) → ps ≡ ps ++ cond b (piece ∷ []) [] → b ≡ false
+all_given true ps piece e = absurd (omega (arith, ap length e, length-append ps (piece ∷ [])))
+all_given false ps piece e = refl
+
+pub not_finished : (c : CutterView) (stream : List ℕ) → IsFedAll c stream → c.is_finished ≡ false
+not_finished c stream h = all_given c.is_finished (pieces stream) h.0 h.2
+
+pub holds_rest : (c : CutterView) (stream : List ℕ) → IsFedAll c stream → Holds c (unfinished stream)
+holds_rest c stream h =
+    let rest : unfinished stream ≡ h.0 = h.3 ∙ rw (not_finished c stream h) refl in
+    subst (Holds c) (sym rest) h.1
+
+-- no piece ends in these bytes
+pub fed_none : (c : CutterView) (stream bytes : List ℕ) → HasNoEnd bytes → IsFed c (stream ++ bytes) (pieces stream)
+    → IsFedAll c (stream ++ bytes) × (pieces (stream ++ bytes) ≡ pieces stream)
+fed_none c stream bytes none h =
+    let p = no_piece (unfinished stream) bytes none in
+    let same : pieces (stream ++ bytes) ≡ pieces stream =
+    pieces_append [] stream bytes ∙ ap (λ (l : List (List ℕ)). pieces stream ++ l) p.0 ∙ append-nil (pieces stream) in
+    (subst (IsFed c (stream ++ bytes)) (sym same) h, same)
+
+-- one piece ends with these bytes
+pub one_more : (stream front : List ℕ) → HasNoEnd front
+    → (pieces (stream ++ (front ++ 10 ∷ [])) ≡ pieces stream ++ ((unfinished stream ++ front) ++ 10 ∷ []) ∷ []) × (unfinished (stream ++ (front ++ 10 ∷ [])) ≡ [])
+one_more stream front none =
+    let p = one_piece (unfinished stream) front none in (
+      pieces_append [] stream (front ++ 10 ∷ []) ∙ ap (λ (l : List (List ℕ)). pieces stream ++ l) p.0,
+      rest_append [] stream (front ++ 10 ∷ []) ∙ p.1,
+    )
+
+-- a line that was lent: the cutter had nothing, and has nothing
+pub fed_lent : (c : CutterView) (stream front text : List ℕ) → HasNoEnd front → text ≡ front ++ 10 ∷ [] → unfinished stream ≡ [] → IsFedAll c stream
+    → IsFedAll c (stream ++ text) × (pieces (stream ++ text) ≡ pieces stream ++ text ∷ [])
+fed_lent c stream front text none is nothing h =
+    let p = one_more stream front none in
+    let unended = not_finished c stream h in
+    let piece : pieces (stream ++ (front ++ 10 ∷ [])) ≡ pieces stream ++ (front ++ 10 ∷ []) ∷ [] =
+    p.0 ∙ ap (λ (l : List ℕ). pieces stream ++ ((l ++ front) ++ 10 ∷ []) ∷ []) nothing in
+    let empty : Holds c [] = subst (Holds c) nothing (holds_rest c stream h) in
+    let all : IsFedAll c (stream ++ (front ++ 10 ∷ [])) = (
+      [],
+      empty,
+      rw unended (sym (append-nil (pieces (stream ++ (front ++ 10 ∷ []))))),
+      p.1 ∙ rw unended refl,
+    ) in
+    rw is (all, piece)
+
+-- after a line feed a piece waits
+pub one_waits : (c : CutterView) (stream front text : List ℕ) → HasNoEnd front → text ≡ front ++ 10 ∷ [] → IsFed c (stream ++ text) (pieces stream) → c.is_finished ≡ false → ⊥
+one_waits c stream front text none is h unended =
+    let p = one_more stream front none in
+    let line : List ℕ = (unfinished stream ++ front) ++ 10 ∷ [] in
+    let last : pieces (stream ++ text) ≡ pieces stream = h.2 ∙ rw unended (append-nil (pieces stream)) in
+    let more : pieces stream ++ line ∷ [] ≡ pieces stream = sym p.0 ∙ ap (λ (l : List ℕ). pieces (stream ++ l)) (sym is) ∙ last in
+    omega (arith, ap length more, length-append (pieces stream) (line ∷ []))
+
+-- the piece that waited was given
+pub fed_kept : (c : CutterView) (stream text piece : List ℕ) → c ≡ view_of [] → IsFed c (stream ++ text) (pieces stream ++ piece ∷ [])
+    → IsFedAll c (stream ++ text) × (pieces (stream ++ text) ≡ pieces stream ++ piece ∷ [])
+fed_kept c stream text piece empty h =
+    let unended : c.is_finished ≡ false = ap (λ (v : CutterView). v.is_finished) empty in
+    let same : pieces (stream ++ text) ≡ pieces stream ++ piece ∷ [] = h.2 ∙ rw unended (append-nil (pieces stream ++ piece ∷ [])) in
+    (subst (IsFed c (stream ++ text)) (sym same) h, same)
+
+-- ---- the next piece
+
+pub none_is : {X P : Type 0} (o : Option X) → o ≡ None → IfNone o P → P
+none_is (Some x) e h = absurd cc
+none_is None e h = h
+
+-- the bytes up to the line feed that was found
+pub found_end : (s : List ℕ) (n : ℕ) → IsFirstByte (is_byte 10) s (Some n) → (n < length s) × HasNoEnd (take n s) × (take (n + 1) s ≡ take n s ++ 10 ∷ [])
+found_end s n here =
+    let last : get_or s n 0 ≡ 10 = eqb-true (get_or s n 0) 10 here.1 in (
+      here.0.high,
+      λ k h e.
+          let short : k < n = omega (arith, simp length-take at h) in
+          here.0.before k (omega arith) short (eq-eqb (get_or s k 0) 10 (sym (get_or-take n s k 0 short) ∙ e)),
+      take_more s n 0 here.0.high ∙ ap (λ (b : ℕ). take n s ++ b ∷ []) last,
+    )
+
+-- there are no bytes behind the last line feed
+pub no_rest : (b : Bool) (xs : List ℕ) → (IsTrue b ↔ (0 < length xs)) → b ≡ false → xs ≡ []
+no_rest true xs h e = absurd cc
+no_rest false [] h e = refl
+no_rest false (x ∷ xs) h e = let t : IsTrue false = h.1 (omega arith) in absurd cc
+
+module _ (c mid : CutterView) (stream bytes : List ℕ) (taken : ℕ) (h : IsFedAll c stream)
+    (count : taken ≡ cond c.is_finished 0 (length (take_through 10 bytes))) (fed : IsFed mid (stream ++ take taken bytes) (pieces stream)) where
+  through : taken ≡ length (take_through 10 bytes)
+  through = count ∙ rw (not_finished c stream h) refl
+
+  -- the bytes end no piece, and all were taken
+  pub push_none : (r : Option ℕ) → ((n : ℕ) → r ≡ Some n → ⊥) → IsFirstByte (is_byte 10) bytes r
+      → IsFedAll mid (stream ++ take (length bytes) bytes) × (pieces (stream ++ take (length bytes) bytes) ≡ pieces stream)
+  push_none (Some n) other found = absurd (other n refl)
+  push_none None other found =
+      let all : taken ≡ length bytes = through ∙ sym (through_missed bytes (first_is_position 10 bytes None found)) in
+      let whole : take (length bytes) bytes ≡ bytes = take_all (length bytes) bytes (omega arith) in
+      let none : HasNoEnd bytes = λ k low e. found k (omega arith) low (eq-eqb (get_or bytes k 0) 10 e) in
+      let fed' : IsFed mid (stream ++ bytes) (pieces stream) = subst (λ (l : List ℕ). IsFed mid (stream ++ l) (pieces stream)) (ap (λ (n : ℕ). take n bytes) all ∙ whole) fed in
+      rw whole (fed_none mid stream bytes none fed')
+
+  -- they were taken to their first line feed
+  pub push_some : (n : ℕ) → IsFirstByte (is_byte 10) bytes (Some n) → IsFed mid (stream ++ take (n + 1) bytes) (pieces stream)
+  push_some n found =
+      let all : taken ≡ n + 1 = through ∙ sym (through_found bytes n (first_is_position 10 bytes (Some n) found)) in
+      subst (λ (k : ℕ). IsFed mid (stream ++ take k bytes) (pieces stream)) all fed
+
+  -- then a piece waits
+  pub waits : (n : ℕ) → IsFirstByte (is_byte 10) bytes (Some n) → mid.is_finished ≡ false → ⊥
+  waits n found unended =
+      let end = found_end bytes n found in
+      one_waits mid stream (take n bytes) (take (n + 1) bytes) end.1 end.2 (push_some n found) unended
+
+  -- and it is given
+  pub kept : {A : Type 0} (n : ℕ) → IsFirstByte (is_byte 10) bytes (Some n) → (new : CutterView) (o : Option (Cut A)) (cut : Cut A) → o ≡ Some cut
+      → IfSome o (λ cut. IsTrue mid.is_finished × (new ≡ view_of []) × ((piece : List ℕ) → Holds mid piece → IsCut piece cut))
+      → IfSome o (λ cut. (stream : List ℕ) (given : List (List ℕ)) → IsFed mid stream given → IsGiven cut new stream given)
+      → (piece : List ℕ) × IsCut piece cut × IsFedAll new (stream ++ take (n + 1) bytes) × (pieces (stream ++ take (n + 1) bytes) ≡ pieces stream ++ piece ∷ [])
+  kept {A} n found new o cut is one given =
+      let one' : IsTrue mid.is_finished × (new ≡ view_of []) × ((piece : List ℕ) → Holds mid piece → IsCut piece cut) =
+      subst (λ (x : Option (Cut A)). IfSome x (λ cut. IsTrue mid.is_finished × (new ≡ view_of []) × ((piece : List ℕ) → Holds mid piece → IsCut piece cut))) is one in
+      let given' : (stream : List ℕ) (given : List (List ℕ)) → IsFed mid stream given → IsGiven cut new stream given =
+      subst (λ (x : Option (Cut A)). IfSome x (λ cut. (stream : List ℕ) (given : List (List ℕ)) → IsFed mid stream given → IsGiven cut new stream given)) is given in
+      let next = given' (stream ++ take (n + 1) bytes) (pieces stream) (push_some n found) in
+      let all = fed_kept new stream (take (n + 1) bytes) next.0 one'.1 next.2 in
+      (next.0, next.1, all.0, all.1)
+
+-- a line that is lent
+pub lent : (c : CutterView) (stream bytes : List ℕ) (n : ℕ) → IsFirstByte (is_byte 10) bytes (Some n) → unfinished stream ≡ [] → IsFedAll c stream
+    → IsFedAll c (stream ++ take (n + 1) bytes) × (pieces (stream ++ take (n + 1) bytes) ≡ pieces stream ++ take (n + 1) bytes ∷ []) × (length (take (n + 1) bytes) ≡ n + 1)
+lent c stream bytes n found nothing h =
+    let end = found_end bytes n found in
+    let fed = fed_lent c stream (take n bytes) (take (n + 1) bytes) end.1 end.2 nothing h in
+    let high = end.0 in
+    (fed.0, fed.1, simp length-take (omega arith))

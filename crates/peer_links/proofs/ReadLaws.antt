@@ -1,0 +1,122 @@
+-- What a connection gave, read by read, and what its lines came to.
+use Rattle.std.proofs.Common.{◌≡◌, ℕ, ◌+◌, ◌<◌, ◌≤◌, List, [], ◌∷◌, ◌++◌, length, take, drop, Vec, Option, Some, None, Result, Ok, Err, OnOk, IfNone, refl, sym, ap, subst, ◌∙◌, arith, inl, inr, append-nil, append_assoc, length-append, length-drop}
+use Rattle.std.specs.Prelude.{option_map}
+use Rattle.std.specs.Io.KnownBytes.{Consumes, Keeps}
+use Rattle.std.proofs.KnownBytes.{Consumes-nil, Consumes-kept, Consumes-trans}
+use Rattle.std.proofs.lemmas.List.{take_all}
+use Rattle.rights_types.specs.Messages.{QueryValue}
+use Rattle.rights_types.specs.Messages.MessageValue.{AQuery}
+use Rattle.entry_codec.specs.Cutter.{CutterView}
+use Rattle.entry_codec.specs.Pieces.{pieces, IsLine}
+use Rattle.entry_codec.proofs.Lines.{is_line}
+use Rattle.site_core.specs.Calls.{LineOf}
+use Rattle.transfer_world.specs.Session.{counts_for}
+use Rattle.transfer_world.proofs.CountLaws.{none_parted, parted_more, counted_more, lines_both}
+use Rattle.transfer_world.proofs.Writes.{take_both}
+use Rattle.peer_links.specs.Lines.{IsGivenFor}
+use Rattle.peer_links.specs.Links.{IsFedAll, LinkGave, LinkEnds, MayFail, counted}
+use Rattle.peer_links.specs.declared.lines.Piece.{Piece}
+use Rattle.peer_links.specs.declared.link.LinkFault.{LinkFault}
+use Rattle.peer_links.specs.declared.link.LinkFault.TheVariants.{ReadFailed, WriteFailed, TooManyLines, NoHello, LaneClosed, OutOfMemory}
+use Rattle.peer_links.specs.declared.link.reading.TheConstants.{LINE_LIMIT}
+
+pub gave_none : (a : Option (List ℕ)) → (gave : LinkGave a a) × (0 ≡ counted gave)
+gave_none a = (record { portions = []; input = []; reads = Consumes-nil a; parted = none_parted }, refl)
+
+-- one read more
+pub gave_more : (a b c : Option (List ℕ)) (gave : LinkGave a b) (old : ℕ) → old ≡ counted gave → (bytes : List ℕ) → 0 < length bytes → Consumes b c bytes
+    → (new : LinkGave a c) × (counted new ≡ old + counts_for bytes)
+gave_more a b c gave old count bytes some read = (
+  record {
+    portions = gave.portions ++ bytes ∷ [];
+    input = gave.input ++ bytes;
+    reads = Consumes-trans a b c gave.input bytes gave.reads read;
+    parted = parted_more gave.portions gave.input bytes gave.parted some;
+  },
+  omega (arith, count, counted_more gave.portions gave.input bytes),
+)
+
+-- nothing more
+pub gave_same : (a b c : Option (List ℕ)) (gave : LinkGave a b) → Consumes b c [] → (new : LinkGave a c) × (counted new ≡ counted gave)
+gave_same a b c gave read = (
+  record {
+    portions = gave.portions;
+    input = gave.input;
+    reads = subst (Consumes a c) (append-nil gave.input) (Consumes-trans a b c gave.input [] gave.reads read);
+    parted = gave.parted;
+  },
+  refl,
+)
+
+pub kept_none : (a b : Option (List ℕ)) → Keeps a b → Consumes a b []
+kept_none a b h = Consumes-kept a a b [] (Consumes-nil a) h
+
+-- why the lines of a block end their connection
+pub ends_block : {a b : Option (List ℕ)} (gave : LinkGave a b) (fault : LinkFault) → MayFail fault → (fault ≡ TooManyLines → LINE_LIMIT ≤ counted gave) → LinkEnds gave (Err fault)
+ends_block gave LaneClosed may many = tt
+ends_block gave OutOfMemory may many = tt
+ends_block gave TooManyLines may many = many refl
+ends_block gave ReadFailed may many = elim may [ inl i ↦ elim i [ inl e ↦ absurd cc | inr e ↦ absurd cc ] | inr e ↦ absurd cc ]
+ends_block gave WriteFailed may many = elim may [ inl i ↦ elim i [ inl e ↦ absurd cc | inr e ↦ absurd cc ] | inr e ↦ absurd cc ]
+ends_block gave NoHello may many = elim may [ inl i ↦ elim i [ inl e ↦ absurd cc | inr e ↦ absurd cc ] | inr e ↦ absurd cc ]
+
+-- ---- the pieces of one read
+
+pub on_ok : {X E P : Type 0} (r : Result X E) → P → OnOk r P
+on_ok (Ok x) p = p
+on_ok (Err e) p = tt
+
+pub is_none : {X P : Type 0} (o : Option X) → ((x : X) → o ≡ Some x → ⊥) → IfNone o P → P
+is_none (Some x) other h = absurd (other x refl)
+is_none None other h = h
+
+one_ended : {A : Type 0} (o : Option (Piece A)) (p : Piece A) (ended : List (List ℕ)) → o ≡ Some p → IsGivenFor o ended → length ended ≡ 1
+one_ended {A} o p ended is h =
+    let h' : IsGivenFor (Some p) ended = subst (λ (o : Option (Piece A)). IsGivenFor o ended) is h in
+    ap length h'.2
+
+none_ended : {A : Type 0} (o : Option (Piece A)) (ended : List (List ℕ)) → ((p : Piece A) → o ≡ Some p → ⊥) → IsGivenFor o ended → length ended ≡ 0
+none_ended (Some p) ended other h = absurd (other p refl)
+none_ended None ended other h = ap length h
+
+-- the bytes up to a place were taken, and then the next ones
+module _ (bytes rest : List ℕ) (at n : ℕ) (e : rest ≡ drop at bytes) (old mid new : CutterView)
+    (before : (stream : List ℕ) → IsFedAll old stream → IsFedAll mid (stream ++ take at bytes)) where
+  more : take (at + n) bytes ≡ take at bytes ++ take n rest
+  more = take_both at n bytes ∙ ap (λ (l : List ℕ). take at bytes ++ take n l) (sym e)
+
+  pub fed_more : ((stream : List ℕ) → IsFedAll mid stream → IsFedAll new (stream ++ take n rest)) → (stream : List ℕ) → IsFedAll old stream → IsFedAll new (stream ++ take (at + n) bytes)
+  fed_more next stream h =
+      subst (IsFedAll new) (append_assoc stream (take at bytes) (take n rest) ∙ ap (λ (l : List ℕ). stream ++ l) (sym more)) (next (stream ++ take at bytes) (before stream h))
+
+  -- so all were taken
+  pub fed_all : n ≡ length rest → at ≤ length bytes → ((stream : List ℕ) → IsFedAll mid stream → IsFedAll new (stream ++ take n rest)) → (stream : List ℕ) → IsFedAll old stream → IsFedAll new (stream ++ bytes)
+  fed_all all within next stream h =
+      let whole : take (at + n) bytes ≡ bytes = take_all (at + n) bytes (omega (arith, all, ap length e, length-drop at bytes, within)) in
+      subst (λ (l : List ℕ). IsFedAll new (stream ++ l)) whole (fed_more next stream h)
+
+  module _ {A : Type 0} (o : Option (Piece A)) (stream : List ℕ) (h : IsFedAll old stream)
+      (given : (stream : List ℕ) → IsFedAll mid stream → (ended : List (List ℕ)) × IsGivenFor o ended × (pieces (stream ++ take n rest) ≡ pieces stream ++ ended)) where
+    ended : (ended : List (List ℕ)) × IsGivenFor o ended × (length (pieces (take (at + n) bytes)) ≡ length (pieces (take at bytes)) + length ended)
+    ended =
+        let front : List ℕ = stream ++ take at bytes in
+        let g = given front (before stream h) in
+        let both = ap length g.2 in
+        let split = ap (λ (l : List ℕ). length (pieces l)) more in
+        (g.0, g.1, omega (arith, both, split, lines_both front (take n rest), lines_both (take at bytes) (take n rest), length-append (pieces front) g.0))
+
+    pub one_line : (p : Piece A) → o ≡ Some p → length (pieces (take (at + n) bytes)) ≡ length (pieces (take at bytes)) + 1
+    one_line p is = omega (arith, ended.2, one_ended o p ended.0 is ended.1)
+
+    pub no_line : ((p : Piece A) → o ≡ Some p → ⊥) → n ≡ length rest → at ≤ length bytes → length (pieces bytes) ≡ length (pieces (take at bytes))
+    no_line other all within =
+        let whole : take (at + n) bytes ≡ bytes = take_all (at + n) bytes (omega (arith, all, ap length e, length-drop at bytes, within)) in
+        omega (arith, ended.2, none_ended o ended.0 other ended.1, ap (λ (l : List ℕ). length (pieces l)) whole)
+
+-- a line that asks for the gap
+asks : {X : Type 0} (q : Option QueryValue) (line : Vec ℕ X) → LineOf (λ (l : Vec ℕ X). l.items) (option_map (λ x. AQuery x) q) (Some line) → IsLine line.items
+asks (Some q) line h = is_line (AQuery q) line.items h
+asks None line h = absurd h
+
+pub asks_line : {X : Type 0} (q : Option QueryValue) (o : Option (Vec ℕ X)) (line : Vec ℕ X) → o ≡ Some line → LineOf (λ (l : Vec ℕ X). l.items) (option_map (λ x. AQuery x) q) o → IsLine line.items
+asks_line {X} q o line is h = asks q line (subst (λ (o : Option (Vec ℕ X)). LineOf (λ (l : Vec ℕ X). l.items) (option_map (λ x. AQuery x) q) o) is h)

@@ -1,0 +1,14 @@
+use Rattle.std.proofs.Common.{◌≡◌, ◌+◌, ◌-◌, ◌<◌, ◌≤◌, ℕ, false, List, ◌++◌, length, take}
+use Rattle.entry_codec.specs.Pieces.{pieces}
+use Rattle.peer_links.specs.Links.{IsFedAll}
+use Rattle.peer_links.proofs.link.reading.take_block.Given as goal
+
+abbrev pub invariant-pieces : goal.invariant-pieces
+invariant-pieces g l =
+    (l.at ≤ length l.bytes) × (l.count < 1000000000) × (l.count ≡ l.fn.count + length (pieces (take l.at l.bytes)))
+    × (0 < l.at → 0 < length (pieces (take l.at l.bytes)))
+    × (l.intake.finished ≡ false) × (l.intake.inlet.lane ≡ l.fn.intake.inlet.lane)
+    × ((stream : List ℕ) → IsFedAll l.fn.cutter stream → IsFedAll l.cutter (stream ++ take l.at l.bytes))
+
+abbrev pub decreases-pieces : goal.decreases-pieces
+decreases-pieces g l = length l.bytes - l.at

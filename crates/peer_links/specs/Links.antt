@@ -1,0 +1,71 @@
+-- What was read from a connection, and what was written to it.
+use Rattle.std.specs.Prelude.{◌≡◌, ◌≢◌, ℕ, ◌+◌, ◌<◌, ◌≤◌, ◌⊎◌, List, [], length, Option, Result, Ok, Err}
+use Rattle.std.specs.List.{All}
+use Rattle.std.specs.Io.KnownBytes.{Consumes}
+use Rattle.rights_types.specs.Messages.MessageValue.{AHello}
+use Rattle.entry_codec.specs.Pieces.{pieces, IsLine}
+use Rattle.entry_codec.specs.Cutter.{CutterView, IsFed}
+use Rattle.entry_codec.specs.Spelling.{Spells}
+use Rattle.transfer_world.specs.Talk.{Parted, still}
+use Rattle.peer_links.specs.declared.lines.TheConstants.{LINE_END}
+use Rattle.peer_links.specs.declared.link.LinkFault.{LinkFault}
+use Rattle.peer_links.specs.declared.link.LinkFault.TheVariants.{ReadFailed, WriteFailed, TooManyLines, NoHello, LaneClosed, OutOfMemory}
+use Rattle.peer_links.specs.declared.link.reading.TheConstants.{LINE_LIMIT}
+
+-- ---- the first line
+
+-- no line feed
+abbrev pub IsOpen : List ℕ → Type 0
+IsOpen text = All (λ b. b ≢ LINE_END) text
+
+-- no line feed but at the end
+abbrev pub IsOneLine : List ℕ → Type 0
+IsOneLine text = IsOpen text ⊎ IsLine text
+
+-- what the first line of a connection comes to, of which this text was read
+abbrev pub Greets : List ℕ → Result ℕ LinkFault → Type 0
+Greets text (Ok site) = Spells (AHello site) text
+Greets text (Err NoHello) = (site : ℕ) → Spells (AHello site) text → ⊥
+Greets text (Err ReadFailed) = IsOpen text
+Greets text (Err OutOfMemory) = IsLine text
+Greets text (Err fault) = ⊥
+
+-- reading it came to its end, or stopped before
+abbrev pub HasRead : List ℕ → Result (Unit {0}) LinkFault → CutterView → Type 0
+HasRead text (Ok _) cutter = IsLine text × IsFed cutter text []
+HasRead text (Err fault) cutter = IsOpen text × ((fault ≡ NoHello) ⊎ (fault ≡ ReadFailed))
+
+-- ---- the lines behind it
+
+-- it took a stream, and gave all pieces of it
+abbrev pub IsFedAll : CutterView → List ℕ → Type 0
+IsFedAll cutter stream = IsFed cutter stream (pieces stream)
+
+-- so much a connection gave
+pub record LinkGave (given left : Option (List ℕ)) : Type 0 where
+  pub portions : List (List ℕ)
+  pub input : List ℕ
+  pub reads : Consumes given left input
+  pub parted : Parted portions input
+
+-- lines, and reads that end none
+abbrev pub counted : {given left : Option (List ℕ)} → LinkGave given left → ℕ
+counted gave = length (pieces gave.input) + still gave.portions
+
+-- why a connection that gave so much was given up
+abbrev pub LinkEnds : {given left : Option (List ℕ)} → LinkGave given left → Result (Unit {0}) LinkFault → Type 0
+LinkEnds gave (Ok _) = counted gave < LINE_LIMIT
+LinkEnds gave (Err ReadFailed) = counted gave < LINE_LIMIT
+LinkEnds gave (Err TooManyLines) = LINE_LIMIT ≤ counted gave
+LinkEnds gave (Err LaneClosed) = Unit {0}
+LinkEnds gave (Err OutOfMemory) = Unit {0}
+LinkEnds gave (Err WriteFailed) = ⊥
+LinkEnds gave (Err NoHello) = ⊥
+
+-- why a line ends its connection
+abbrev pub IsOfIntake : LinkFault → Type 0
+IsOfIntake fault = (fault ≡ LaneClosed) ⊎ (fault ≡ OutOfMemory)
+
+-- why the lines that were read end their connection
+abbrev pub MayFail : LinkFault → Type 0
+MayFail fault = IsOfIntake fault ⊎ (fault ≡ TooManyLines)

@@ -1,0 +1,11 @@
+//! One connection with a peer, over any reader and writer: its first line, the lines that come, and the lines that go,
+//! from the outbox in which they wait.
+#![tactic(auto)]
+
+mod lines;
+mod link;
+mod outbox;
+
+pub use lines::{Piece, next_piece};
+pub use link::{LinkFault, Port, read_hello, read_link, write_link};
+pub use outbox::{OUTBOX_LINES, Outbox, PutError};

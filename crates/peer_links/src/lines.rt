@@ -1,0 +1,60 @@
+//! The pieces of a stream that is read a block at a time: lent where they lie whole in a block, and
+//! copied only where they span two.
+ghost use Rattle.std.specs.Prelude.{◌≡◌, ℕ, ◌<◌, ◌≤◌, ◌++◌, List, length, take, IfOk, IfSome, IfNone};
+ghost use Rattle.entry_codec.specs.Pieces.{pieces};
+ghost use Rattle.peer_links.specs.Links.{IsFedAll};
+ghost use Rattle.peer_links.specs.Lines.{IsGivenFor};
+
+use entry_codec::{Cut, LineCutter};
+use memchr::memchr;
+use rights_types::{MAX_LINE, OutOfMemory};
+use std::alloc::Allocator;
+
+/// What ends a line.
+pub(crate) const LINE_END: u8 = b'\n';
+
+/// A piece of a stream.
+#[derive(Drop)]
+pub enum Piece<'a, A: Allocator> {
+    /// A whole line, with its line feed, in the block that was read.
+    Lent(&'a [u8]),
+    /// A whole line, with its line feed, whose beginning was read before.
+    Kept(Vec<u8, A>),
+    /// A line with too many bytes.
+    Long,
+}
+
+/// The next piece of a stream that goes on with these bytes, and how many of them it took. `None` where
+/// they end no piece: then all of them were taken.
+pub fn next_piece<'a, A: Allocator + Copy>(
+    cutter: &mut LineCutter<A>,
+    bytes: &'a [u8],
+) -> Result<(Option<Piece<'a, A>>, usize), OutOfMemory>
+    ensures within { IfOk result (λ r. r.1 ≤ length bytes.now) }
+    ensures some { IfOk result (λ r. IfSome r.0 (λ _. 0 < r.1)) }
+    ensures none { IfOk result (λ r. IfNone r.0 (r.1 ≡ length bytes.now)) }
+    ensures fed { IfOk result (λ r. (stream : List ℕ) → IsFedAll cutter.old stream
+        → IsFedAll cutter.new (stream ++ take r.1 bytes.now)) }
+    ensures piece { IfOk result (λ r. (stream : List ℕ) → IsFedAll cutter.old stream
+        → (ended : List (List ℕ)) × IsGivenFor r.0 ended
+        × (pieces (stream ++ take r.1 bytes.now) ≡ pieces stream ++ ended)) }
+{
+    let Some(length) = memchr(LINE_END, bytes) else {
+        cutter.push(bytes);
+        return Ok((None, bytes.len()));
+    };
+    let count = length + 1;
+    if cutter.unfinished() {
+        cutter.push(bytes);
+        return match cutter.next_line()? {
+            Some(Cut::Line(line)) => Ok((Some(Piece::Kept(line)), count)),
+            Some(Cut::Long) => Ok((Some(Piece::Long), count)),
+            // The line feed ended a piece, so this is not reached.
+            None => Ok((None, bytes.len())),
+        };
+    }
+    if count > MAX_LINE {
+        return Ok((Some(Piece::Long), count));
+    }
+    Ok((Some(Piece::Lent(&bytes[..count])), count))
+}

@@ -1,0 +1,61 @@
+//! One connection with a peer: its first line, the lines that come, and the lines that go.
+ghost use Rattle.std.specs.Prelude.{◌≡◌};
+ghost use Rattle.entry_codec.specs.Pieces.{IsLine};
+ghost use Rattle.peer_links.specs.declared.link.LinkFault.TheVariants.{OutOfMemory as NoMemory};
+
+mod hello;
+mod reading;
+mod writing;
+
+pub use hello::read_hello;
+pub use reading::read_link;
+use rights_types::{Message, OutOfMemory};
+use std::io;
+use std::io::ErrorKind;
+use std::sync::Wait;
+use sub_buffer::State;
+pub use writing::write_link;
+
+/// Why a connection is given up.
+#[derive(Clone, Copy, Debug, PartialEq, Eq)]
+pub enum LinkFault {
+    /// A read failed.
+    ReadFailed,
+    /// A write failed, or took no byte.
+    WriteFailed,
+    /// Lines, and reads that end no line, came to 1,000,000,000 together.
+    TooManyLines,
+    /// The first line does not say who speaks, or there is none.
+    NoHello,
+    /// Nobody applies the peer's entries any more.
+    LaneClosed,
+    /// A request for memory was refused.
+    OutOfMemory,
+}
+
+impl From<OutOfMemory> for LinkFault {
+    ghost from_gives = { λ _ fault. fault ≡ NoMemory };
+
+    fn from(_error: OutOfMemory) -> LinkFault {
+        LinkFault::OutOfMemory
+    }
+}
+
+/// What is done with what comes from a peer, entries aside, which go to a lane. It names no allocator: the
+/// check takes no impl of a trait that has one as a parameter.
+pub trait Port {
+    /// Takes a message for the desk: a query, an ask or a denial.
+    fn message<R: Wait>(&mut self, rt: &R, message: Message) -> Result<(), OutOfMemory>;
+
+    /// Takes a line for the peer, which asks for the entries that are missing.
+    fn line<R: Wait>(&mut self, rt: &R, line: Vec<u8>)
+        requires { IsLine line.items };
+
+    /// Is told after each line whether entries are missing, and how many are held until these come.
+    fn seen<R: Wait>(&mut self, rt: &R, state: State, held: usize);
+}
+
+/// Whether a read or a write was interrupted, and may be tried again.
+fn is_interrupted(error: &io::Error) -> bool {
+    error.kind() == ErrorKind::Interrupted
+}

@@ -1,0 +1,106 @@
+//! The first line of a connection.
+ghost use Rattle.std.specs.Prelude.{◌≡◌, ◌≤◌, ℕ, [], ◌∷◌, List, length, IfOk, IfErr, IfSome, IfNone, OnOk};
+ghost use Rattle.std.specs.Io.KnownBytes.{Consumes};
+ghost use Rattle.rights_types.specs.Messages.MessageValue.{AHello};
+ghost use Rattle.rights_types.specs.Values.{value_of};
+ghost use Rattle.rights_types.specs.declared.limits.TheConstants.{MAX_LINE as LONGEST};
+ghost use Rattle.entry_codec.specs.Cutter.{IsFed, view_of};
+ghost use Rattle.entry_codec.specs.Pieces.{IsLine};
+ghost use Rattle.peer_links.specs.Links.{Greets, HasRead, IsOneLine};
+ghost use Rattle.peer_links.specs.declared.link.LinkFault.{LinkFault};
+
+use crate::lines::LINE_END;
+use crate::link::{LinkFault, is_interrupted};
+use entry_codec::{Cut, LineCutter, read_line};
+use rights_types::{MAX_LINE, Message, SiteId};
+use std::alloc::Allocator;
+use std::io::Read;
+
+/// Reads the first line of a connection, and answers who speaks. It reads byte by byte, so that what
+/// follows the line is left to be read. The cutter is a new one.
+pub fn read_hello<I: Read, A: Allocator + Copy>(
+    reader: &mut I,
+    cutter: &mut LineCutter<A>,
+) -> Result<SiteId, LinkFault>
+    requires { IsFed cutter.old [] [] }
+    ensures read { (text : List ℕ) × Consumes (I.remaining reader.old) (I.remaining reader.new) text
+        × IsOneLine text × (length text ≤ LONGEST) × Greets text result }
+    // Nothing of the line is left in the cutter.
+    ensures empty { OnOk result (cutter.new ≡ view_of []) }
+{
+    read_first(reader, cutter)?;
+    match cutter.next_line()? {
+        Some(Cut::Line(line)) => speaker(&line),
+        Some(Cut::Long) => Err(LinkFault::NoHello),
+        None => unreachable!(),
+    }
+}
+
+/// Reads to the first line feed, which it finds within the longest line.
+fn read_first<I: Read, A: Allocator + Copy>(
+    reader: &mut I,
+    cutter: &mut LineCutter<A>,
+) -> Result<(), LinkFault>
+    requires { IsFed cutter.old [] [] }
+    ensures read { (text : List ℕ) × Consumes (I.remaining reader.old) (I.remaining reader.new) text
+        × (length text ≤ LONGEST) × HasRead text result cutter.new }
+{
+    'bytes: for _ in 0..MAX_LINE {
+        let Some(byte) = read_byte(reader)? else {
+            return Err(LinkFault::NoHello);
+        };
+        cutter.push(&[byte]);
+        if byte == LINE_END {
+            return Ok(());
+        }
+    }
+    Err(LinkFault::NoHello)
+}
+
+/// Reads one byte, again where it was interrupted. `None` at the end.
+fn read_byte<I: Read>(reader: &mut I) -> Result<Option<u8>, LinkFault>
+    ensures some { IfOk result (λ byte. IfSome byte (λ byte.
+        Consumes (I.remaining reader.old) (I.remaining reader.new) (byte ∷ []))) }
+    ensures none { IfOk result (λ byte. IfNone byte (Consumes (I.remaining reader.old) (I.remaining reader.new) [])) }
+    ensures failed { IfErr result (λ fault. (fault ≡ LinkFault.ReadFailed)
+        × Consumes (I.remaining reader.old) (I.remaining reader.new) []) }
+{
+    let mut byte = [0];
+    'tries: for _ in 0..u64::MAX {
+        match reader.read(&mut byte) {
+            Ok(0) => return Ok(None),
+            Ok(_) => return Ok(Some(byte[0])),
+            Err(error) => {
+                if !is_interrupted(&error) {
+                    return Err(LinkFault::ReadFailed);
+                }
+            }
+        }
+    }
+    Err(LinkFault::ReadFailed)
+}
+
+/// Who speaks, if the line says it.
+fn speaker<A: Allocator + Copy>(line: &Vec<u8, A>) -> Result<SiteId, LinkFault>
+    requires { IsLine line.now.items }
+    ensures { Greets line.now.items result }
+{
+    let Ok(message) = read_line(*line.allocator(), line) else {
+        return Err(LinkFault::NoHello);
+    };
+    match site_of(&message) {
+        Some(site) => Ok(site),
+        None => Err(LinkFault::NoHello),
+    }
+}
+
+/// The site that a first line names.
+fn site_of<A: Allocator>(message: &Message<A>) -> Option<SiteId>
+    ensures some { IfSome result (λ site. value_of message.now ≡ AHello site) }
+    ensures none { IfNone result ((site : ℕ) → value_of message.now ≡ AHello site → ⊥) }
+{
+    match message {
+        Message::Hello(site) => Some(*site),
+        _ => None,
+    }
+}

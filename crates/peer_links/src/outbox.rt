@@ -1,0 +1,233 @@
+//! The lines that wait to be sent to one peer.
+ghost use Rattle.std.specs.Prelude.{◌≡◌, ◌+◌, ◌≤◌, ◌==◌, ◌&&◌, not, false, true, [], ◌∷◌, ◌++◌, length, take, drop, IfOk, IfSome, IfNone};
+ghost use Rattle.entry_codec.specs.Pieces.{IsLine};
+ghost use Rattle.peer_links.specs.Outboxes.{Puts, Batches, IsBatch, AreLines, joined, front_in};
+
+use circular_buffer::HeapCircularBuffer;
+use rights_types::OutOfMemory;
+use std::alloc::{Allocator, Global};
+use std::marker::Model;
+use std::sync::{Condvar, Mutex, MutexGuard, Wait};
+
+/// Lines that may wait in an outbox.
+pub const OUTBOX_LINES: usize = 256;
+
+/// Why a line was dropped in place of being put, in the order in which the causes are looked for.
+#[derive(Clone, Copy, Debug, PartialEq, Eq)]
+pub enum PutError {
+    /// The outbox has ended.
+    Ended,
+    /// As many lines wait as may.
+    Full,
+}
+
+/// What is to be written next.
+#[derive(Drop)]
+pub(crate) enum Batch<A: Allocator> {
+    /// Nothing: the outbox has ended, and no line waits.
+    Over,
+    /// The lines that were copied to the front of the room, so many bytes. They wait on.
+    Copied(usize),
+    /// The oldest line, which is larger than the room. It was taken.
+    Large(Vec<u8, A>),
+}
+
+/// The lines that wait, the oldest first, and whether more may come.
+#[derive(Drop)]
+pub(crate) struct Queue<A: Allocator> {
+    lines: HeapCircularBuffer<Vec<u8, A>, A>,
+    ended: bool,
+}
+
+impl<A: Allocator> Model for Queue<A> {
+    ghost use Rattle.std.specs.Prelude.{◌≡◌, ◌≤◌, List, map, length};
+    ghost use Rattle.std.specs.List.{All};
+    ghost use Rattle.entry_codec.specs.Pieces.{IsLine};
+    ghost use Rattle.peer_links.specs.declared.outbox.TheConstants.{OUTBOX_LINES};
+    ghost use Rattle.peer_links.specs.Outboxes.{Waiting};
+
+    ghost Value = { Waiting };
+
+    ghost view = { λ q. record { lines = map (λ line. line.items) q.lines.items; ended = q.ended } };
+
+    ghost invariant = { λ q. (q.lines.capacity ≡ OUTBOX_LINES) × (length q.lines.items ≤ OUTBOX_LINES)
+        × All IsLine (map (λ line. line.items) q.lines.items) };
+}
+
+impl<A: Allocator> Queue<A> {
+    /// An empty one, with all the room that it will ever have.
+    fn new(alloc: A) -> Result<Queue<A>, OutOfMemory>
+        ensures { IfOk result (λ q. q ≡ record { lines = []; ended = false }) }
+    {
+        Ok(Queue {
+            lines: HeapCircularBuffer::with_capacity(alloc, OUTBOX_LINES)?,
+            ended: false,
+        })
+    }
+
+    /// Whether nothing waits, and something may still come.
+    fn is_idle(&self) -> bool
+        ensures { result ≡ (length self.now.lines == 0 && not self.now.ended) }
+    {
+        self.lines.is_empty() && !self.ended
+    }
+
+    fn put(&mut self, line: Vec<u8, A>) -> Result<(), PutError>
+        requires { IsLine line.items }
+        ensures { Puts self.old line.items result self.new }
+    {
+        if self.ended {
+            return Err(PutError::Ended);
+        }
+        if self.lines.try_push_back(line).is_err() {
+            return Err(PutError::Full);
+        }
+        Ok(())
+    }
+
+    /// The oldest line.
+    fn take(&mut self) -> Option<Vec<u8, A>>
+        ensures some { IfSome result (λ line. self.old ≡ record self.new { lines = line.items ∷ self.new.lines }) }
+        ensures line { IfSome result (λ line. IsLine line.items) }
+        ensures none { IfNone result ((self.old.lines ≡ []) × (self.new ≡ self.old)) }
+        ensures left { self.new ≡ record self.old { lines = drop 1 self.old.lines } }
+    {
+        self.lines.pop_front()
+    }
+
+    /// Drops so many of the oldest lines, or all.
+    fn drop_front(&mut self, count: usize)
+        ensures { self.new ≡ record self.old { lines = drop count self.old.lines } }
+    {
+        'lines: for _ in 0..count {
+            let _line = self.take();
+        }
+    }
+
+    /// Copies the longest front of the lines that finds room, and answers how many bytes that are.
+    fn copy_front(&self, room: &mut [u8]) -> usize
+        ensures within { result ≤ length room.old }
+        ensures same { length room.new ≡ length room.old }
+        ensures copied { take result room.new ≡ joined (front_in (length room.old) self.now.lines) }
+        ensures lines { AreLines (take result room.new) }
+    {
+        let mut filled = 0;
+        let mut count = 0;
+        'lines: while let Some(line) = self.lines.get(count) {
+            if line.len() > room.len() - filled {
+                break;
+            }
+            copy_at(room, filled, line);
+            filled += line.len();
+            count += 1;
+        }
+        filled
+    }
+
+    /// What is to be written next.
+    fn next_batch(&mut self, room: &mut [u8]) -> Batch<A>
+        ensures same { length room.new ≡ length room.old }
+        ensures batch { Batches self.old result room.new self.new }
+        ensures lines { IsBatch result room.new }
+    {
+        let filled = self.copy_front(room);
+        if filled > 0 {
+            return Batch::Copied(filled);
+        }
+        match self.take() {
+            Some(line) => Batch::Large(line),
+            None => Batch::Over,
+        }
+    }
+
+    fn end(&mut self)
+        ensures { self.new ≡ record self.old { ended = true } }
+    {
+        self.ended = true;
+    }
+
+    /// Drops what waits.
+    fn clear(&mut self)
+        ensures { self.new ≡ record self.old { lines = [] } }
+    {
+        self.lines.clear();
+    }
+}
+
+/// Copies the text to a place in the room.
+fn copy_at(room: &mut [u8], at: usize, text: &[u8])
+    requires { at + length text.now ≤ length room.old }
+    ensures same { length room.new ≡ length room.old }
+    ensures front { take (at + length text.now) room.new ≡ take at room.old ++ text.now }
+{
+    room[at..at + text.len()].copy_from_slice(text);
+}
+
+/// The lines that wait to be sent to one peer, at most `OUTBOX_LINES`. Many threads may put lines; one
+/// takes or writes them.
+#[derive(Drop)]
+pub struct Outbox<A: Allocator = Global> {
+    queue: Mutex<Queue<A>>,
+    /// Told of each line that was put, and of the end.
+    changed: Condvar,
+}
+
+impl<A: Allocator> Outbox<A> {
+    /// An empty outbox. All its room is made here.
+    pub fn new(alloc: A) -> Result<Outbox<A>, OutOfMemory> {
+        Ok(Outbox {
+            queue: Mutex::new(Queue::new(alloc)?),
+            changed: Condvar::new(),
+        })
+    }
+
+    /// Puts a line behind the others. A line that is refused is lost.
+    pub fn put<R: Wait>(&self, rt: &R, line: Vec<u8, A>) -> Result<(), PutError>
+        requires { IsLine line.items }
+    {
+        self.queue.lock(rt).put(line)?;
+        self.changed.notify_one();
+        Ok(())
+    }
+
+    /// The oldest line, and `None` once the outbox has ended and none waits. It waits for a line.
+    pub fn take<R: Wait>(&self, rt: &R) -> Option<Vec<u8, A>>
+        ensures { IfSome result (λ line. IsLine line.items) }
+    {
+        self.ready(rt).take()
+    }
+
+    /// Ends the outbox: no line is put from then on.
+    pub fn end<R: Wait>(&self, rt: &R) {
+        self.queue.lock(rt).end();
+        self.changed.notify_all();
+    }
+
+    /// Ends the outbox, and drops what waits.
+    pub fn abandon<R: Wait>(&self, rt: &R) {
+        let mut queue = self.queue.lock(rt);
+        queue.end();
+        queue.clear();
+        drop(queue);
+        self.changed.notify_all();
+    }
+
+    /// What is to be written next. It waits for a line.
+    pub(crate) fn next_batch<R: Wait>(&self, rt: &R, room: &mut [u8]) -> Batch<A>
+        ensures same { length room.new ≡ length room.old }
+        ensures lines { IsBatch result room.new }
+    {
+        self.ready(rt).next_batch(room)
+    }
+
+    /// Drops so many of the oldest lines, or all.
+    pub(crate) fn drop_front<R: Wait>(&self, rt: &R, count: usize) {
+        self.queue.lock(rt).drop_front(count);
+    }
+
+    /// The queue, once a line waits or the outbox has ended.
+    fn ready<'a, R: Wait>(&'a self, rt: &R) -> MutexGuard<'a, Queue<A>> {
+        self.changed
+            .wait_while(rt, self.queue.lock(rt), |queue| queue.is_idle())
+    }
+}

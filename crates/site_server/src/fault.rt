@@ -1,0 +1,67 @@
+//! Why a site that runs stops.
+ghost use Rattle.std.specs.Prelude.{◌≡◌};
+
+use rights_types::OutOfMemory as NoMemory;
+use std::alloc::{AllocError, AllocFailed};
+use thiserror::Error;
+use transfer_world::WriteFault;
+
+/// Why a site that runs stops.
+#[derive(Clone, Copy, Debug, PartialEq, Eq, Error)]
+pub enum SiteFault {
+    /// The address is none that can be listened on.
+    #[error("cannot listen")]
+    CannotListen,
+    /// Reading the commands failed.
+    #[error("read failed")]
+    ReadFailed,
+    /// Writing the replies failed.
+    #[error("write failed")]
+    WriteFailed,
+    /// A request for memory was refused.
+    #[error("out of memory")]
+    OutOfMemory,
+    /// The commands are more lines than may be read.
+    #[error("too many lines")]
+    TooManyLines,
+}
+
+impl From<AllocError> for SiteFault {
+    ghost use Rattle.site_server.specs.declared.fault.SiteFault.TheVariants.{OutOfMemory};
+
+    ghost from_gives = { λ _ fault. fault ≡ OutOfMemory };
+
+    fn from(_error: AllocError) -> SiteFault {
+        SiteFault::OutOfMemory
+    }
+}
+
+impl<T: Drop> From<AllocFailed<T>> for SiteFault {
+    ghost use Rattle.site_server.specs.declared.fault.SiteFault.TheVariants.{OutOfMemory};
+
+    ghost from_gives = { λ _ fault. fault ≡ OutOfMemory };
+
+    fn from(_error: AllocFailed<T>) -> SiteFault {
+        SiteFault::OutOfMemory
+    }
+}
+
+impl From<NoMemory> for SiteFault {
+    ghost use Rattle.site_server.specs.declared.fault.SiteFault.TheVariants.{OutOfMemory};
+
+    ghost from_gives = { λ _ fault. fault ≡ OutOfMemory };
+
+    fn from(_error: NoMemory) -> SiteFault {
+        SiteFault::OutOfMemory
+    }
+}
+
+impl From<WriteFault> for SiteFault {
+    ghost use Rattle.site_server.specs.declared.fault.SiteFault.TheVariants.{WriteFailed};
+
+    ghost from_gives = { λ _ fault. fault ≡ WriteFailed };
+
+    fn from(_error: WriteFault) -> SiteFault {
+        SiteFault::WriteFailed
+    }
+}

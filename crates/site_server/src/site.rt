@@ -1,0 +1,192 @@
+//! One site of a system as a process. Its commands come one after another from a reader; all that other
+//! sites have to say comes over TCP, and is taken in by threads of its own. The command thread waits for
+//! no peer: what it has to say goes into bounded outboxes.
+ghost use Rattle.std.specs.Prelude.{◌≡◌};
+ghost use Rattle.apply_lanes.specs.Names.{id_of, AreBlank, IsUnused};
+
+mod breaker;
+mod commands;
+mod console;
+mod door;
+mod mailbox;
+mod peer;
+mod receiving;
+mod sending;
+
+use crate::fault::SiteFault;
+use crate::site::console::Console;
+use crate::site::door::{Door, keep_door};
+use crate::site::peer::{Peer, peers_of};
+use crate::site::receiving::{Link, links_of};
+use crate::site::sending::{Senders, send_to};
+use apply_lanes::{Blanks, DeskNames, SharedDesk};
+use rights_types::SiteId;
+use site_core::Desk;
+use site_words::Config;
+use std::io::{Read, Write};
+use std::marker::Brand;
+use std::net::{Net, TcpListener, TcpStream};
+use std::sync::atomic::{AtomicBool, Ordering};
+use std::sync::{Arc, Wait};
+use std::thread;
+use std::thread::Threads;
+use std::time::{Clock, Duration};
+
+/// How many seconds an attempt to connect may take.
+pub(crate) const CONNECT_SECONDS: u64 = 1;
+
+/// How many seconds lines that wait are still written for after the last command.
+const LAST_LINES_SECONDS: u64 = 1;
+
+/// How many milliseconds the accepting thread rests where a connection could not be accepted.
+const REST_MILLISECONDS: u64 = 10;
+
+/// What the threads of a site share, beside its desk.
+#[derive(Drop)]
+pub(crate) struct Site {
+    id: SiteId,
+    listener: TcpListener,
+    /// The other sites, in order.
+    peers: Vec<Peer>,
+    door: Door,
+    senders: Senders,
+    /// An applier met a refused request for memory.
+    out_of_memory: AtomicBool,
+}
+
+impl Site {
+    /// The peer of that number, if the system has it.
+    fn peer(&self, site: SiteId) -> Option<&Peer> {
+        self.peers.iter().find(|peer| peer.site == site)
+    }
+
+    /// Notes that the program can't go on for want of memory. The command thread ends it at its next read.
+    fn fail(&self) {
+        self.out_of_memory.store(true, Ordering::SeqCst);
+    }
+
+    fn has_failed(&self) -> bool {
+        self.out_of_memory.load(Ordering::SeqCst)
+    }
+
+    /// The next connection that finds a place to wait for its first line at. None once the site ends.
+    fn next_caller<R: Wait + Clock>(&self, rt: &R) -> Option<(TcpStream, usize)> {
+        for stream in self.listener.incoming() {
+            if self.door.is_closed(rt) {
+                return None;
+            }
+            let Ok(stream) = stream else {
+                thread::sleep(rt, Duration::from_millis(REST_MILLISECONDS));
+                continue;
+            };
+            if let Some(place) = self.door.enter(rt, &stream) {
+                return Some((stream, place));
+            }
+        }
+        None
+    }
+
+    /// Ends all threads: lines that wait are still sent for a while, and then no stream is left open.
+    fn shut_down<R: Net<Stream = TcpStream> + Wait + Clock>(&self, rt: &R) {
+        for peer in &self.peers {
+            peer.outbox.end(rt);
+        }
+        self.senders
+            .wait_for_all(rt, Duration::from_secs(LAST_LINES_SECONDS));
+        self.door.close(rt);
+        for peer in &self.peers {
+            peer.outbox.abandon(rt);
+            peer.sending.close(rt);
+            peer.mailbox.close(rt);
+        }
+        // The accepting thread wakes by one more connection.
+        if let Ok(address) = self.listener.local_addr() {
+            let _ = TcpStream::connect_timeout(rt, &address, Duration::from_secs(CONNECT_SECONDS));
+        }
+    }
+}
+
+/// Runs one site till `quit` or the end of its commands. It listens before it reads the first one. Replies
+/// are written before each read, so they never wait for further commands.
+pub fn run_site<
+    R: Net<Listener = TcpListener, Stream = TcpStream>
+        + Threads
+        + Wait
+        + Clock
+        + AllocGlobal
+        + Sync,
+    I: Read,
+    W: Write,
+>(rt: &R, config: Config, reader: &mut I, writer: &mut W) -> Result<(), SiteFault> {
+    let Ok(listener) = TcpListener::bind(rt, config.listen()) else {
+        return Err(SiteFault::CannotListen);
+    };
+    let desk = Desk::new(rt.alloc(), config.id(), config.sites())?;
+    serve::<Brand, R, &mut I, &mut W>(rt, &config, listener, desk, Blanks::new(), reader, writer)
+}
+
+/// Starts the threads of a site, answers its commands, and ends the threads.
+fn serve<
+    D: DeskNames + Send + Sync,
+    R: Net<Listener = TcpListener, Stream = TcpStream>
+        + Threads
+        + Wait
+        + Clock
+        + AllocGlobal
+        + Sync,
+    I: Read + Drop,
+    W: Write + Drop,
+>(
+    rt: &R,
+    config: &Config,
+    listener: TcpListener,
+    desk: Desk,
+    blanks: Blanks,
+    reader: I,
+    writer: W,
+) -> Result<(), SiteFault>
+    requires id { D.id ≡ id_of desk blanks }
+    requires blanks { AreBlank blanks }
+    requires unused { IsUnused desk }
+{
+    let alloc = rt.alloc();
+    // Each thread owns its share of the desk: the check lends no thread a value of a type with a parameter.
+    let desk = Arc::new(alloc, SharedDesk::<D>::new(desk, blanks))?;
+    let links = links_of(rt, alloc, config, &desk)?;
+    let console = Console::new(rt, alloc, desk)?;
+    let site = &Site {
+        id: config.id(),
+        listener,
+        peers: peers_of(alloc, config)?,
+        door: Door::new(alloc)?,
+        senders: Senders::new(),
+        out_of_memory: AtomicBool::new(false),
+    };
+    thread::scope(thread::scope_env(), rt, |scope| {
+        let mut has_all = scope.spawn(move || keep_door(rt, site)).is_ok();
+        for link in links {
+            let Link {
+                origin,
+                receiver,
+                applier,
+            } = link;
+            let Some(peer) = site.peer(origin) else {
+                continue;
+            };
+            has_all &= scope.spawn(move || receiver.receive_all(rt, peer)).is_ok();
+            has_all &= scope.spawn(move || applier.apply_all(rt, site)).is_ok();
+            site.senders.begin(rt);
+            if scope.spawn(move || send_to(rt, site, peer)).is_err() {
+                site.senders.finish(rt);
+                has_all = false;
+            }
+        }
+        let ended = if has_all {
+            console.answer_all(rt, site, reader, writer)
+        } else {
+            Err(SiteFault::OutOfMemory)
+        };
+        site.shut_down(rt);
+        ended
+    })
+}

@@ -1,0 +1,70 @@
+//! A stream that one thread is at, and that another one may shut down.
+
+use std::net::{Shutdown, TcpStream};
+use std::sync::{Mutex, Wait};
+
+/// Lets a thread be woken that reads or writes a stream.
+#[derive(Drop)]
+pub(crate) struct Breaker {
+    state: Mutex<State>,
+}
+
+#[derive(Drop)]
+struct State {
+    is_closed: bool,
+    stream: Option<TcpStream>,
+}
+
+impl State {
+    fn break_off(&mut self) {
+        if let Some(stream) = &self.stream {
+            let _ = stream.shutdown(Shutdown::Both);
+        }
+        self.stream = None;
+    }
+}
+
+impl Breaker {
+    pub(crate) fn new() -> Breaker {
+        Breaker {
+            state: Mutex::new(State {
+                is_closed: false,
+                stream: None,
+            }),
+        }
+    }
+
+    /// The thread is at this stream from now on. False where it may not go to any, as after `close`, or
+    /// where the system gives no second handle of it.
+    pub(crate) fn hold<R: Wait>(&self, rt: &R, stream: &TcpStream) -> bool {
+        let mut state = self.state.lock(rt);
+        let state = &mut *state;
+        if state.is_closed {
+            return false;
+        }
+        let Ok(handle) = stream.try_clone() else {
+            return false;
+        };
+        state.stream = Some(handle);
+        true
+    }
+
+    /// The thread has left its stream.
+    pub(crate) fn release<R: Wait>(&self, rt: &R) {
+        let mut state = self.state.lock(rt);
+        state.stream = None;
+    }
+
+    /// Shuts the stream down, if there is one.
+    pub(crate) fn break_off<R: Wait>(&self, rt: &R) {
+        self.state.lock(rt).break_off();
+    }
+
+    /// Shuts the stream down, and lets the thread go to no other.
+    pub(crate) fn close<R: Wait>(&self, rt: &R) {
+        let mut state = self.state.lock(rt);
+        let state = &mut *state;
+        state.is_closed = true;
+        state.break_off();
+    }
+}

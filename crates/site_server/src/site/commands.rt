@@ -1,0 +1,82 @@
+//! The commands of a site.
+
+use entry_codec::read_decimal;
+use rights_types::{MAX_SITES, SiteId};
+
+/// What a line asks of a site.
+#[derive(Clone, Copy, Debug, PartialEq, Eq)]
+pub(crate) enum Command {
+    /// To create rights.
+    Issue(u64),
+    /// To give rights to a peer.
+    Give(SiteId, u64),
+    /// To spend rights, at once or before a deadline.
+    Spend(u64, u64),
+    /// To tell what became of a spend that waits.
+    Outcome(u64),
+    /// To do at this time all that is due: expire, serve, plan, and send to the peers.
+    Tick(u64),
+    /// To tell how the site and its links are.
+    Status,
+    /// To close the site, and to leave what it holds to an heir.
+    Close(Option<SiteId>),
+    /// To end the program.
+    Quit,
+}
+
+/// The words of a line, read one after another.
+#[derive(Drop)]
+struct Words<'a> {
+    rest: Option<&'a [u8]>,
+}
+
+impl<'a> Words<'a> {
+    fn next(&mut self) -> Option<&'a [u8]> {
+        let text = self.rest?;
+        match text.iter().position(|byte| *byte == b' ') {
+            Some(end) => {
+                self.rest = Some(&text[end + 1..]);
+                Some(&text[..end])
+            }
+            None => {
+                self.rest = None;
+                Some(text)
+            }
+        }
+    }
+
+    fn is_at_end(&self) -> bool {
+        self.rest.is_none()
+    }
+
+    fn number(&mut self) -> Option<u64> {
+        read_decimal(self.next()?, 0, u64::MAX)
+    }
+
+    fn site(&mut self) -> Option<SiteId> {
+        SiteId::new(read_decimal(self.next()?, 1, MAX_SITES)?).ok()
+    }
+}
+
+/// The command that a line spells, given without its line feed. Words are parted by one space each, and
+/// numbers are decimals with no sign and no leading zero.
+pub(crate) fn read_command(line: &[u8]) -> Option<Command> {
+    let mut words = Words { rest: Some(line) };
+    let command = match words.next()? {
+        b"issue" => Command::Issue(words.number()?),
+        b"give" => Command::Give(words.site()?, words.number()?),
+        b"spend" => Command::Spend(words.number()?, words.number()?),
+        b"outcome" => Command::Outcome(words.number()?),
+        b"tick" => Command::Tick(words.number()?),
+        b"status" => Command::Status,
+        b"close" if words.is_at_end() => Command::Close(None),
+        b"close" => Command::Close(Some(words.site()?)),
+        b"quit" => Command::Quit,
+        _ => return None,
+    };
+    if words.is_at_end() {
+        Some(command)
+    } else {
+        None
+    }
+}

@@ -1,0 +1,94 @@
+//! Connections of one peer on their way to the thread that reads them.
+ghost use Rattle.std.specs.Prelude.{◌≡◌, []};
+ghost use Rattle.entry_codec.specs.Cutter.{view_of};
+
+use crate::site::breaker::Breaker;
+use entry_codec::LineCutter;
+use std::net::TcpStream;
+use std::sync::{Condvar, Mutex, Wait};
+
+/// A connection whose first line was read, and what cuts the rest of it.
+#[derive(Drop)]
+pub(crate) struct Connection {
+    pub(crate) stream: TcpStream,
+    pub(crate) cutter: LineCutter,
+    ghost empty: { cutter ≡ view_of [] },
+}
+
+/// The newest connection of a peer. It waits till the reading thread comes for it, and the one that this
+/// thread reads is shut down by it: a peer that went away without a word and came back is heard.
+#[derive(Drop)]
+pub(crate) struct Mailbox {
+    waiting: Mutex<Waiting>,
+    came: Condvar,
+    reading: Breaker,
+}
+
+#[derive(Drop)]
+struct Waiting {
+    is_closed: bool,
+    next: Option<Connection>,
+}
+
+impl Mailbox {
+    pub(crate) fn new() -> Mailbox {
+        Mailbox {
+            waiting: Mutex::new(Waiting {
+                is_closed: false,
+                next: None,
+            }),
+            came: Condvar::new(),
+            reading: Breaker::new(),
+        }
+    }
+
+    /// Hands a connection over. One that still waits is closed, and so is the one that is read.
+    pub(crate) fn put<R: Wait>(&self, rt: &R, connection: Connection) {
+        let mut waiting = self.waiting.lock(rt);
+        let waiting = &mut *waiting;
+        if waiting.is_closed {
+            return;
+        }
+        waiting.next = Some(connection);
+        self.reading.break_off(rt);
+        self.came.notify_one();
+    }
+
+    /// Waits for the next connection to read. None once the mailbox is closed.
+    pub(crate) fn take<R: Wait>(&self, rt: &R) -> Option<Connection> {
+        for _ in rt.forever() {
+            let mut waiting = self.came.wait_while(
+                rt,
+                self.waiting.lock(rt),
+                |waiting| !waiting.is_closed && waiting.next.is_none(),
+            );
+            let waiting = &mut *waiting;
+            if waiting.is_closed {
+                return None;
+            }
+            let Some(connection) = waiting.next.take() else {
+                continue;
+            };
+            // Under the lock, so that no newer connection comes in between unseen.
+            if self.reading.hold(rt, &connection.stream) {
+                return Some(connection);
+            }
+        }
+        unreachable!()
+    }
+
+    /// The reading thread has left its connection.
+    pub(crate) fn finish<R: Wait>(&self, rt: &R) {
+        self.reading.release(rt);
+    }
+
+    /// Closes all connections, and takes no other.
+    pub(crate) fn close<R: Wait>(&self, rt: &R) {
+        let mut waiting = self.waiting.lock(rt);
+        let waiting = &mut *waiting;
+        waiting.is_closed = true;
+        waiting.next = None;
+        self.reading.close(rt);
+        self.came.notify_all();
+    }
+}

@@ -1,0 +1,83 @@
+//! What a site keeps of each other site.
+ghost use Rattle.entry_codec.specs.Pieces.{IsLine};
+
+use crate::site::breaker::Breaker;
+use crate::site::mailbox::Mailbox;
+use peer_links::Outbox;
+use rights_types::{OutOfMemory, SiteId};
+use site_words::{Config, PeerView};
+use std::alloc::Global;
+use std::sync::{Mutex, Wait};
+use sub_buffer::State;
+
+/// What the reading thread noted of its buffer after the last line.
+#[derive(Clone, Copy)]
+pub(crate) struct Seen {
+    buffering: bool,
+    held: usize,
+}
+
+/// Another site, as the threads that deal with it share it.
+#[derive(Drop)]
+pub(crate) struct Peer {
+    pub(crate) site: SiteId,
+    /// Where it listens.
+    pub(crate) address: String,
+    pub(crate) outbox: Outbox,
+    /// The connection that lines are sent by.
+    pub(crate) sending: Breaker,
+    pub(crate) mailbox: Mailbox,
+    seen: Mutex<Seen>,
+}
+
+impl Peer {
+    fn new(alloc: Global, site: SiteId, address: &str) -> Result<Peer, OutOfMemory> {
+        Ok(Peer {
+            site,
+            address: String::from_str(alloc, address)?,
+            outbox: Outbox::new(alloc)?,
+            sending: Breaker::new(),
+            mailbox: Mailbox::new(),
+            seen: Mutex::new(Seen {
+                buffering: false,
+                held: 0,
+            }),
+        })
+    }
+
+    /// Puts a line into the outbox. False where it finds no room there, and is lost.
+    pub(crate) fn send<R: Wait>(&self, rt: &R, line: Vec<u8>) -> bool
+        requires { IsLine line.items }
+    {
+        self.outbox.put(rt, line).is_ok()
+    }
+
+    /// Notes the state of the buffer after a line.
+    pub(crate) fn note<R: Wait>(&self, rt: &R, state: State, held: usize) {
+        let mut seen = self.seen.lock(rt);
+        *seen = Seen {
+            buffering: state == State::Buffering,
+            held,
+        };
+    }
+
+    /// What the status says of this peer, of which so much was applied.
+    pub(crate) fn view<R: Wait>(&self, rt: &R, applied: u64) -> PeerView {
+        let seen = *self.seen.lock(rt);
+        PeerView {
+            site: self.site,
+            applied,
+            buffering: seen.buffering,
+            held: seen.held,
+        }
+    }
+}
+
+/// All peers, in the order of the sites.
+pub(crate) fn peers_of(alloc: Global, config: &Config) -> Result<Vec<Peer>, OutOfMemory> {
+    let mut peers = Vec::new(alloc);
+    for peer in config.peers() {
+        peers.push(Peer::new(alloc, peer.site(), peer.address())?)?;
+    }
+    Ok(peers)
+}

@@ -1,0 +1,96 @@
+//! Sending to the peers what waits in their outboxes.
+
+use crate::site::peer::Peer;
+use crate::site::{CONNECT_SECONDS, Site};
+use entry_codec::write_line;
+use peer_links::write_link;
+use rights_types::{Message, SiteId};
+use std::alloc::Global;
+use std::net::{Net, TcpStream, ToSocketAddrs};
+use std::sync::{Condvar, CondvarTimeouts, Mutex, Wait};
+use std::time::{Clock, Duration, Instant};
+use transfer_world::write_whole;
+
+/// How many sending threads are at work.
+#[derive(Drop)]
+pub(crate) struct Senders {
+    running: Mutex<u64>,
+    ended: Condvar,
+}
+
+impl Senders {
+    pub(crate) fn new() -> Senders {
+        Senders {
+            running: Mutex::new(0),
+            ended: Condvar::new(),
+        }
+    }
+
+    pub(crate) fn begin<R: Wait>(&self, rt: &R) {
+        let mut running = self.running.lock(rt);
+        *running = running.saturating_add(1);
+    }
+
+    pub(crate) fn finish<R: Wait>(&self, rt: &R) {
+        let mut running = self.running.lock(rt);
+        *running = running.saturating_sub(1);
+        self.ended.notify_all();
+    }
+
+    /// Waits until none is at work, or the time is over.
+    pub(crate) fn wait_for_all<R: Wait + Clock>(&self, rt: &R, time: Duration) {
+        let _ = self
+            .ended
+            .wait_timeout_while(rt, self.running.lock(rt), time, |running| *running > 0);
+    }
+}
+
+/// Sends what waits for this peer, till its outbox has ended and is empty. A line that is taken while
+/// there is no connection makes one attempt to connect, and is lost where that fails.
+pub(crate) fn send_to<R: Net<Stream = TcpStream> + Wait + Clock + AllocGlobal>(
+    rt: &R,
+    site: &Site,
+    peer: &Peer,
+) {
+    for _ in rt.forever() {
+        let Some(line) = peer.outbox.take(rt) else {
+            break;
+        };
+        let Some(mut stream) = connect(rt, peer.address.as_str()) else {
+            continue;
+        };
+        if !peer.sending.hold(rt, &stream) {
+            continue;
+        }
+        let sent = introduce(rt.alloc(), site.id, &mut stream, line.as_slice())
+            && write_link(rt, &mut stream, &peer.outbox).is_ok();
+        peer.sending.release(rt);
+        if sent {
+            break;
+        }
+    }
+    site.senders.finish(rt);
+}
+
+/// Writes the first line of a connection, and the line that it was made for. False where that fails.
+fn introduce(alloc: Global, site: SiteId, stream: &mut TcpStream, line: &[u8]) -> bool {
+    let Ok(mut text) = write_line(alloc, &Message::<Global>::Hello(site)) else {
+        return false;
+    };
+    text.extend_from_slice(line).is_ok() && write_whole(stream, text.as_slice()).is_ok()
+}
+
+/// One attempt to connect. The names' addresses are tried in turn, as long as there is time.
+fn connect<R: Net<Stream = TcpStream> + Clock>(rt: &R, address: &str) -> Option<TcpStream> {
+    let addresses = address.to_socket_addrs(rt).ok()?;
+    let since = Instant::now(rt).ok()?;
+    for address in addresses {
+        let left = Duration::from_secs(CONNECT_SECONDS).checked_sub(since.elapsed(rt).ok()?)?;
+        if let Ok(stream) = TcpStream::connect_timeout(rt, &address, left) {
+            // Lines go out as they come.
+            let _ = stream.set_nodelay(true);
+            return Some(stream);
+        }
+    }
+    None
+}

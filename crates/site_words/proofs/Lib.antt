@@ -1,0 +1,4 @@
+mod CommandWords
+mod Found
+mod Peers
+mod SettingsLaws

@@ -1,0 +1,49 @@
+-- What the program's words ask for.
+use Rattle.std.specs.Prelude.{◌||◌, ◌==◌, ℕ, Bool, false, List, [], ◌∷◌, Option, if◌then◌else◌, bytes_eq, chars, codes, option_and_then, slice_get}
+use Rattle.std.specs.Option.{option_map_or}
+use Rattle.clap.specs.Faults.{fault_of}
+use Rattle.clap.specs.Kinds.{Kinds}
+use Rattle.clap.specs.Lexer.{short_of}
+use Rattle.clap.specs.Simple.{subcommand_of}
+use Rattle.clap.specs.Walk.{Row, Text}
+use Rattle.site_words.specs.CommandLine.{app}
+
+pub data Asked : Type 0 where
+  script : Asked
+  -- the words begin with `run`: the kinds of error that clap gives for them, and else the values that
+  -- it finds
+  site : Kinds → List Row → Asked
+  help : Asked
+  nothing : Asked
+
+-- the first flag of a word such as `-hx`
+abbrev pub first_flag : Text → Option ℕ
+first_flag word = option_and_then (λ flags. slice_get (chars flags) 0) (short_of word)
+
+-- `--help`, or `-h` (104) with any flags behind it
+abbrev pub asks_for_help : Text → Bool
+asks_for_help word =
+    bytes_eq word (codes "--help") || option_map_or (λ flag. 104 == flag) (first_flag word) false
+
+-- what the words behind `sim` ask for: they are none, or the one word `--`
+abbrev pub asked_behind_dashes : List Text → Asked
+asked_behind_dashes [] = script
+asked_behind_dashes (word ∷ rest) = nothing
+
+abbrev pub asked_behind_sim : List Text → Asked
+asked_behind_sim [] = script
+asked_behind_sim (word ∷ rest) =
+    if bytes_eq word (codes "--") then asked_behind_dashes rest
+    else (if asks_for_help word then help else nothing)
+
+-- what words that begin with `run` ask for
+unfoldable pub asked_of_site : List Text → Asked
+asked_of_site words = site (fault_of app words) (option_map_or (λ met. met.1) (subcommand_of app words) [])
+
+-- what all the words ask for
+abbrev pub asked_by : List Text → Asked
+asked_by [] = nothing
+asked_by (word ∷ rest) =
+    if bytes_eq (codes "sim") word then asked_behind_sim rest
+    else (if bytes_eq (codes "run") word then asked_of_site (word ∷ rest)
+    else (if asks_for_help word then help else nothing))

@@ -1,0 +1,42 @@
+-- The commands of the program, as clap's definitions see them.
+use Rattle.std.specs.Prelude.{ℕ, true, false, Some, [], ◌∷◌, codes}
+use Rattle.clap.specs.Lexer.{usize_max}
+use Rattle.clap.specs.Simple.{App, Shape, new_rule, new_shape}
+use Rattle.clap.specs.Walk.{Rule, Text}
+use Rattle.clap.specs.declared.builder.value_parser.ValueParser.TheVariants.{Unsigned}
+use Rattle.rights_types.specs.declared.limits.TheConstants.{MAX_SITES, MIN_SITES}
+
+-- an option that is required and takes one value
+abbrev pub option_rule : Text → Rule
+option_rule name = record (new_rule name) { long = Some name; value_names = 1; required = true }
+
+-- one that takes a whole number in a range
+abbrev pub number_rule : Text → ℕ → ℕ → Rule
+number_rule name least most = record (option_rule name) { parser = Some (Unsigned least most) }
+
+-- the peers: one at least
+abbrev pub peer_rule : Rule
+peer_rule = record (new_rule (codes "peer")) {
+  range = Some (record { start_inclusive = 1; end_inclusive = usize_max });
+  value_names = 1;
+  required = true;
+}
+
+abbrev pub run_shape : Shape
+run_shape = record (new_shape (codes "run")) {
+  rules = number_rule (codes "id") 1 MAX_SITES ∷ number_rule (codes "sites") MIN_SITES MAX_SITES
+      ∷ option_rule (codes "listen") ∷ peer_rule ∷ [];
+}
+
+-- the program's name is not among the words, one of its commands is required, and `help` is no
+-- command
+abbrev pub app : App
+app = record {
+  top = record (new_shape (codes "rights-site")) {
+    is_leaf = false;
+    no_binary_name = true;
+    disable_help_subcommand = true;
+    subcommand_required = true;
+  };
+  subs = new_shape (codes "sim") ∷ run_shape ∷ [];
+}

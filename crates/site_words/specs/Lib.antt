@@ -1,0 +1,5 @@
+pub mod Asked
+pub mod CommandLine
+pub mod Settings
+pub mod Status
+pub mod Words

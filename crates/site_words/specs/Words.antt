@@ -1,0 +1,59 @@
+-- What `read_words` answers.
+use Rattle.std.specs.Prelude.{◌≡◌, ◌⊎◌, ⊤, Bool, true, false, List, [], Option, Some, Result, Ok, Err, codes, option_map}
+use Rattle.clap.specs.Kinds.{IsAmong}
+use Rattle.clap.specs.Walk.{Row, Text}
+use Rattle.clap.specs.declared.error.kind.ErrorKind.{ErrorKind}
+use Rattle.clap.specs.declared.error.kind.ErrorKind.TheVariants as kind
+use Rattle.site_words.specs.Asked.{Asked, help, nothing, script, site}
+use Rattle.site_words.specs.Settings.{IsFound, IsSettings, Settings}
+use Rattle.site_words.specs.declared.words.Command.{Command}
+use Rattle.site_words.specs.declared.words.Command.TheVariants.{Sim, Run, Help}
+use Rattle.site_words.specs.declared.words.WordsFault.{WordsFault}
+use Rattle.site_words.specs.declared.words.WordsFault.TheVariants.{OutOfMemory, Refused}
+
+-- settings that are asked for, or none where none fit; memory may run out
+abbrev pub IsSetBy : (Settings → Type 0) → Result Settings WordsFault → Type 0
+IsSetBy Fits (Ok s) = IsSettings s × Fits s
+IsSetBy Fits (Err Refused) = (s : Settings) → IsSettings s → Fits s → ⊥
+IsSetBy Fits (Err OutOfMemory) = ⊤
+
+-- neither a call for help nor want of memory
+abbrev pub is_refusal : ErrorKind → Bool
+is_refusal kind.DisplayHelp = false
+is_refusal kind.OutOfMemory = false
+is_refusal other = true
+
+abbrev pub RunsSite : Asked → Settings → Type 0
+RunsSite (site kinds rows) s = (kinds ≡ []) × IsSetBy (IsFound rows) (Ok s)
+RunsSite asked s = ⊥
+
+abbrev pub WantsHelp : Asked → Type 0
+WantsHelp help = ⊤
+WantsHelp (site kinds rows) = IsAmong kind.DisplayHelp kinds
+WantsHelp asked = ⊥
+
+-- clap refuses the words, or what it finds is no site's
+abbrev pub MayRefuse : Asked → Type 0
+MayRefuse nothing = ⊤
+MayRefuse (site kinds rows) = ((k : ErrorKind) × IsAmong k kinds × (is_refusal k ≡ true))
+    ⊎ ((kinds ≡ []) × IsSetBy (IsFound rows) (Err Refused))
+MayRefuse asked = ⊥
+
+-- what is answered where clap found these values behind `run`
+abbrev pub RunsBy : List Row → Result Command WordsFault → Type 0
+RunsBy rows (Ok (Run config)) = IsSetBy (IsFound rows) (Ok config)
+RunsBy rows (Ok command) = ⊥
+RunsBy rows (Err fault) = IsSetBy (IsFound rows) (Err fault)
+
+-- what is answered where clap met a command: its name, and the values behind it
+abbrev pub AnswersMet : Option (Text × List Row) → Result Command WordsFault → Type 0
+AnswersMet met r = (option_map (λ m. m.0) met ≡ Some (codes "sim") → r ≡ Ok Sim)
+    × ((rows : List Row) → met ≡ Some (codes "run", rows) → RunsBy rows r)
+
+-- the answer is what was asked for, and memory may run out at any words
+abbrev pub MayAnswer : Asked → Result Command WordsFault → Type 0
+MayAnswer asked (Ok Sim) = asked ≡ script
+MayAnswer asked (Ok (Run config)) = RunsSite asked config
+MayAnswer asked (Ok (Help text)) = WantsHelp asked
+MayAnswer asked (Err Refused) = MayRefuse asked
+MayAnswer asked (Err OutOfMemory) = ⊤

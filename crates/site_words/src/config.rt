@@ -1,0 +1,189 @@
+//! What a site is told when it starts: its number, how many sites there are, and where they listen.
+ghost use Rattle.std.specs.Prelude.{◌≡◌, ◌≤◌, ℕ, List, MatchOption, MatchResult, map};
+ghost use Rattle.std.specs.List.{All};
+ghost use Rattle.clap.specs.Walk.{texts, Text};
+ghost use Rattle.rights_types.specs.Ranges.{IsSite};
+ghost use Rattle.rights_types.specs.declared.limits.TheConstants.{MAX_SITES};
+ghost use Rattle.site_words.specs.Settings.{HasValues, IsNamed, IsSettings, Lacks, others, peer_word};
+ghost use Rattle.site_words.specs.Words.{IsSetBy};
+ghost use Rattle.site_words.specs.declared.words.WordsFault.{WordsFault};
+
+use crate::words::WordsFault;
+use entry_codec::read_decimal;
+use rights_types::{MAX_SITES, MIN_SITES, SiteId};
+use std::alloc::Global;
+use std::marker::Model;
+
+/// Where a peer listens.
+#[derive(Drop)]
+pub struct PeerAddress {
+    site: SiteId,
+    address: String,
+}
+
+impl Model for PeerAddress {
+    ghost use Rattle.std.specs.String.{string_bytes};
+    ghost use Rattle.site_words.specs.Settings.{Peer};
+
+    ghost Value = { Peer };
+
+    ghost view = { λ peer. record { site = peer.site; address = string_bytes peer.address } };
+}
+
+impl PeerAddress {
+    /// The peer's number.
+    pub fn site(&self) -> SiteId
+        ensures { result ≡ self.now.site }
+    {
+        self.site
+    }
+
+    /// The address as the words gave it. It may be empty, or none that can be connected to.
+    pub fn address(&self) -> &str
+        ensures { result.now ≡ self.now.address }
+    {
+        self.address.as_str()
+    }
+}
+
+/// What one site is told when it starts.
+#[derive(Drop)]
+pub struct Config {
+    id: SiteId,
+    sites: u64,
+    listen: String,
+    peers: Vec<PeerAddress>,
+}
+
+impl Model for Config {
+    ghost use Rattle.std.specs.String.{string_bytes};
+    ghost use Rattle.site_words.specs.Settings.{Settings, IsSettings};
+
+    ghost Value = { Settings };
+
+    ghost view = { λ config. record {
+      id = config.id;
+      sites = config.sites;
+      listen = string_bytes config.listen;
+      peers = config.peers.items;
+    } };
+
+    ghost invariant = { λ config. IsSettings (record {
+      id = config.id;
+      sites = config.sites;
+      listen = string_bytes config.listen;
+      peers = config.peers.items;
+    }) };
+}
+
+impl Config {
+    /// Its number.
+    pub fn id(&self) -> SiteId
+        ensures value { result ≡ self.now.id }
+        ensures valid { IsSettings self.now }
+    {
+        self.id
+    }
+
+    /// How many sites there are.
+    pub fn sites(&self) -> u64
+        ensures value { result ≡ self.now.sites }
+        ensures valid { IsSettings self.now }
+    {
+        self.sites
+    }
+
+    /// The address that it listens on, as the words gave it.
+    pub fn listen(&self) -> &str
+        ensures value { result.now ≡ self.now.listen }
+        ensures valid { IsSettings self.now }
+    {
+        self.listen.as_str()
+    }
+
+    /// The other sites by number, each once.
+    pub fn peers(&self) -> &[PeerAddress]
+        ensures value { result.now ≡ self.now.peers }
+        ensures valid { IsSettings self.now }
+    {
+        self.peers.as_slice()
+    }
+
+    /// The configuration of these values, where each of the `words` names a peer. `Refused` where they
+    /// leave the limits, or the peers are not exactly the other sites.
+    pub(crate) fn of_words(
+        alloc: Global,
+        id: u64,
+        sites: u64,
+        listen: &str,
+        words: &[&str],
+    ) -> Result<Config, WordsFault>
+        ensures { IsSetBy (HasValues id sites listen.now (texts words.now)) result }
+    {
+        if id < 1 || id > sites || sites < MIN_SITES || sites > MAX_SITES {
+            return Err(WordsFault::Refused);
+        }
+        if words.len() as u64 != sites - 1 {
+            return Err(WordsFault::Refused);
+        }
+        Ok(Config {
+            id: SiteId::known(id),
+            sites,
+            listen: String::from_str(alloc, listen)?,
+            peers: other_peers(alloc, id, sites, words)?,
+        })
+    }
+}
+
+/// The sites but this one, each as the first word that names it says.
+fn other_peers(
+    alloc: Global,
+    id: u64,
+    sites: u64,
+    words: &[&str],
+) -> Result<Vec<PeerAddress>, WordsFault>
+    requires { sites ≤ MAX_SITES }
+    ensures { MatchResult result
+        (λ peers. (map (λ p. p.site) peers.items ≡ others id sites) × All (IsNamed (texts words.now)) peers.items)
+        (λ fault. fault ≡ WordsFault.Refused → Lacks id sites (texts words.now)) }
+{
+    let mut peers = Vec::new(alloc);
+    for index in 0..sites {
+        let number = index + 1;
+        if number == id {
+            continue;
+        }
+        let address = address_among(words, number).ok_or(WordsFault::Refused)?;
+        peers.push(PeerAddress {
+            site: SiteId::known(number),
+            address: String::from_str(alloc, address)?,
+        })?;
+    }
+    Ok(peers)
+}
+
+/// The address of the first word that names this site.
+fn address_among<'a>(words: &[&'a str], site: u64) -> Option<&'a str>
+    requires { IsSite site }
+    ensures { MatchOption result
+        ((address : Text) → IsNamed (texts words.now) (record { site = site; address = address }) → ⊥)
+        (λ found. IsNamed (texts words.now) (record { site = site; address = found.now })) }
+{
+    for word in words {
+        if let Some(address) = address_of(word, site) {
+            return Some(address);
+        }
+    }
+    None
+}
+
+/// The address of a word `J=ADDRESS`, if J is this site.
+fn address_of(word: &str, site: u64) -> Option<&str>
+    ensures { MatchOption result
+        ((address : Text) → word.now ≡ peer_word (record { site = site; address = address }) → ⊥)
+        (λ found. word.now ≡ peer_word (record { site = site; address = found.now })) }
+{
+    let (number, address) = word.split_once('=')?;
+    read_decimal(number.as_bytes(), site, site)?;
+    Some(address)
+}

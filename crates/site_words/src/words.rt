@@ -1,0 +1,187 @@
+//! The command line, which the crate `clap` reads.
+ghost use Rattle.std.specs.Prelude.{◌≡◌, ◌<◌, ◌^◌, ℕ, [], false, IfOk, MatchResult};
+ghost use Rattle.clap.specs.Matches.{found_of};
+ghost use Rattle.clap.specs.Simple.{app_of, subcommand_rows_of};
+ghost use Rattle.clap.specs.Walk.{rows_of, rule_of, texts};
+ghost use Rattle.clap.specs.declared.builder.command.Command.TheViews.{out-Command};
+ghost use Rattle.site_words.specs.Asked.{asked_by};
+ghost use Rattle.site_words.specs.CommandLine.{app, option_rule, run_shape};
+ghost use Rattle.site_words.specs.Settings.{HasNumber, IsFound};
+ghost use Rattle.site_words.specs.Words.{AnswersMet, IsSetBy, MayAnswer};
+ghost use Rattle.site_words.specs.declared.words.WordsFault.{WordsFault};
+
+use crate::config::Config;
+use clap::error::ErrorKind;
+use clap::{Arg, ArgMatches, Command as Parser, value_parser};
+use std::alloc::{AllocError, AllocFailed, Global};
+use std::marker::Model;
+
+/// What the program is asked to do.
+#[derive(Drop)]
+pub enum Command {
+    /// To run the script on its standard input.
+    Sim,
+    /// To run one site.
+    Run(Config),
+    /// To print this text.
+    Help(HelpText),
+}
+
+/// The text that `--help` prints.
+#[derive(Drop)]
+pub struct HelpText {
+    bytes: Vec<u8>,
+}
+
+impl Model for HelpText {
+    ghost use Rattle.std.specs.Prelude.{List, ℕ};
+
+    ghost Value = { List ℕ };
+
+    ghost view = { λ text. text.bytes.items };
+}
+
+impl HelpText {
+    pub fn as_bytes(&self) -> &[u8]
+        ensures { result.now ≡ self.now }
+    {
+        self.bytes.as_slice()
+    }
+}
+
+/// Why words are no command.
+#[derive(Clone, Copy, Debug, PartialEq, Eq)]
+pub enum WordsFault {
+    /// The words name no command, or leave something over.
+    Refused,
+    /// A request for memory was refused.
+    OutOfMemory,
+}
+
+impl From<AllocError> for WordsFault {
+    ghost use Rattle.site_words.specs.declared.words.WordsFault.TheVariants.{OutOfMemory};
+
+    ghost from_gives = { λ _ fault. fault ≡ OutOfMemory };
+
+    fn from(_error: AllocError) -> WordsFault {
+        WordsFault::OutOfMemory
+    }
+}
+
+impl<T: Drop> From<AllocFailed<T>> for WordsFault {
+    ghost use Rattle.site_words.specs.declared.words.WordsFault.TheVariants.{OutOfMemory};
+
+    ghost from_gives = { λ _ fault. fault ≡ OutOfMemory };
+
+    fn from(_error: AllocFailed<T>) -> WordsFault {
+        WordsFault::OutOfMemory
+    }
+}
+
+/// An option that is required and takes one value.
+fn option<'a>(alloc: Global, name: &'a str, value: &'a str, help: &'a str) -> Arg<'a>
+    ensures rule { rule_of result ≡ option_rule name.entry.now }
+    ensures local { result.global ≡ false }
+{
+    Arg::new(alloc, name)
+        .long(name)
+        .value_name(value)
+        .required(true)
+        .help(help)
+}
+
+/// The command that runs one site.
+fn run_parser<'a>(alloc: Global) -> Result<Parser<'a>, AllocError>
+    ensures { IfOk result (λ parser. (app_of parser ≡ record { top = run_shape; subs = [] })
+        × ((out-Command parser).has_globals ≡ false)) }
+{
+    let id = option(alloc, "id", "I", "The number of this site").value_parser(value_parser!(
+        u64
+    ).range(1..=16));
+    let sites = option(alloc, "sites", "N", "How many sites there are").value_parser(value_parser!(
+        u64
+    ).range(2..=16));
+    let listen = option(alloc, "listen", "ADDRESS", "Where this site listens");
+    let peers = Arg::new(alloc, "peer")
+        .value_name("PEER")
+        .num_args(1..)
+        .required(true)
+        .help("Each other site and where it listens, as J=ADDRESS");
+    Parser::new(alloc, "run")
+        .about("Runs one site, which talks with its peers over TCP")
+        .arg(id)?
+        .arg(sites)?
+        .arg(listen)?
+        .arg(peers)
+}
+
+/// The commands of the program, as `clap` is told of them.
+fn parser<'a>(alloc: Global) -> Result<Parser<'a>, AllocError>
+    ensures { IfOk result (λ parser. app_of parser ≡ app) }
+{
+    let sim = Parser::new(alloc, "sim").about(
+        "Runs the script on standard input over sites in memory",
+    );
+    let run = run_parser(alloc)?;
+    let program = Parser::new(alloc, "rights-site")
+        .bin_name("rights-site")?
+        .about("Keeps and moves the right to spend among replicated sites")
+        .no_binary_name(true)
+        .subcommand_required(true)
+        .disable_help_subcommand(true)
+        .subcommand(sim)?;
+    program.subcommand(run)
+}
+
+/// The number that `clap` found for an option. No clause of `clap` says that there is one.
+fn number_of(matches: &ArgMatches<'_>, option: &str) -> Result<u64, WordsFault>
+    ensures { MatchResult result (HasNumber (rows_of (found_of matches.now)) option.now)
+        (λ fault. (fault ≡ WordsFault.Refused)
+        × ((n : ℕ) → n < 2 ^ 64 → HasNumber (rows_of (found_of matches.now)) option.now n → ⊥)) }
+{
+    matches.get_one(option).ok_or(WordsFault::Refused)
+}
+
+/// The configuration that the words of `run` give.
+fn config_of(alloc: Global, matches: &ArgMatches<'_>) -> Result<Config, WordsFault>
+    ensures { IsSetBy (IsFound (rows_of (found_of matches.now))) result }
+{
+    let id = number_of(matches, "id")?;
+    let sites = number_of(matches, "sites")?;
+    let listen = matches.get_str("listen").ok_or(WordsFault::Refused)?;
+    let peers = matches.get_strs("peer").ok_or(WordsFault::Refused)?;
+    Config::of_words(alloc, id, sites, listen, peers)
+}
+
+/// The command that `clap` met.
+fn command_of(alloc: Global, matches: &ArgMatches<'_>) -> Result<Command, WordsFault>
+    ensures { AnswersMet (subcommand_rows_of matches.now) result }
+{
+    match matches.subcommand_matches("run") {
+        Some(values) => Ok(Command::Run(config_of(alloc, values)?)),
+        None => Ok(Command::Sim),
+    }
+}
+
+/// Reads the program's words, without its name. `sim` takes no further word, but as everywhere in
+/// `clap` one `--` may end its flags. `run` is refused where `clap` refuses its words, and where what
+/// it finds in them is no site's configuration. Which answer comes is decided by the words, and `OutOfMemory`
+/// may come in place of each. Of the help text, which `clap` makes, no contract speaks.
+pub fn read_words(alloc: Global, words: &[&str]) -> Result<Command, WordsFault>
+    ensures { MayAnswer (asked_by (texts words.now)) result }
+{
+    let error = match parser(alloc)?.try_get_matches_from(words) {
+        Ok(matches) => return command_of(alloc, &matches),
+        Err(error) => error,
+    };
+    match error.kind() {
+        ErrorKind::DisplayHelp => {
+            let text = error.to_string(alloc)?;
+            Ok(Command::Help(HelpText {
+                bytes: text.into_bytes(),
+            }))
+        }
+        ErrorKind::OutOfMemory => Err(WordsFault::OutOfMemory),
+        _ => Err(WordsFault::Refused),
+    }
+}

@@ -1,0 +1,4 @@
+//! Words, help texts and statuses.
+
+mod status;
+mod words;
