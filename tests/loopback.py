@@ -1,0 +1,367 @@
+#!/usr/bin/env python3
+"""Starts sites as processes on loopback, and drives them through their standard streams.
+
+    tests/loopback.py [PROGRAM]
+
+Each test binds to free ports, ends by itself, and says what it expected where it fails. The last line is
+'N passed, M failed'.
+"""
+
+import socket
+import subprocess
+import sys
+import threading
+import time
+
+from cluster import PROGRAM, Cluster, Proxy, Site, SiteEnded, at, expect, free_ports, sees, wait_for
+
+program = sys.argv[1] if len(sys.argv) > 1 else PROGRAM
+Cluster.program = program
+
+
+def connect(cluster, number, text=b""):
+    stream = socket.create_connection(("127.0.0.1", cluster.ports[number - 1]))
+    if text:
+        stream.sendall(text)
+    return stream
+
+
+# ---- what a stock needs
+
+
+def a_batch_travels():
+    with Cluster(2) as sites:
+        expect(sites[1].ask("issue 10"), "number 1")
+        expect(sites[1].ask("give 2 4"), "number 2")
+        expect(sites[1].ask("tick 1"), "tick expired 0 served 0 asks 0 sent 3")
+        wait_for("site 2 holds 4", sees(sites[2], None, held=4, received=4))
+
+
+def an_ask_is_granted_and_served():
+    with Cluster(2) as sites:
+        sites[1].ask_all(["issue 10", "tick 1"])
+        wait_for("site 2 knows of 10", sees(sites[2], 1, applied=1))
+        expect(sites[2].ask("spend 6 99"), "queued 1")
+        expect(sites[2].ask("outcome 1"), "waiting")
+        expect(sites[2].ask("tick 2"), "tick expired 0 served 0 asks 1 sent 2")
+        wait_for("site 1 granted 6", sees(sites[1], None, held=4))
+        sites[1].ask("tick 3")
+        wait_for("site 2 holds 6", sees(sites[2], None, held=6))
+        expect(sites[2].ask("tick 4"), "tick expired 0 served 1 asks 0 sent 2")
+        expect(sites[2].ask("outcome 1"), "spent 1")
+        expect(sites[2].ask("outcome 1"), "unknown")
+
+
+def an_ask_is_denied():
+    with Cluster(2) as sites:
+        sites[1].ask_all(["issue 5", "tick 1"])
+        wait_for("site 2 knows of 5", sees(sites[2], 1, applied=1))
+        sites[1].ask("spend 5 9")
+        expect(sites[2].ask_all(["spend 5 9", "tick 2"])[1], "tick expired 0 served 0 asks 1 sent 2")
+        # The denial ends the ask: the next plan asks again.
+        wait_for("the ask is denied", lambda: sites[2].ask("tick 3").startswith("tick expired 0 served 0 asks 1"))
+        expect(sites[2].ask("tick 10")[:31], "tick expired 1 served 0 asks 0 ", "at the deadline")
+        expect(sites[2].ask("outcome 1"), "expired")
+
+
+def a_lost_entry_is_asked_for():
+    """A proxy loses the first entry: the later one is held, and a query closes the gap."""
+    with Cluster(2, started=[2]) as sites:
+        lost = []
+
+        def drops(line):
+            if line.startswith(b"E 1 0 ") and not lost:
+                lost.append(line)
+                return True
+            return False
+
+        proxy = Proxy(at(sites.ports[1]), drops)
+        sites.routes[(1, 2)] = proxy.address
+        site = sites.start(1)
+        site.ask_all(["issue 10", "give 2 3", "tick 1"])
+        wait_for("the gap is closed", sees(sites[2], 1, applied=2, buffering=False, held=0))
+        expect(sites[2].status()["held"], 3)
+        expect(len(lost), 1)
+        expect(any(line.startswith(b"A 1 2") for line in proxy.lines), True, "an answer")
+
+
+def a_cut_connection_heals():
+    """All that was sent over a while is lost. The next beat shows the gap, and answers close it."""
+    cut = threading.Event()
+    with Cluster(2, started=[2]) as sites:
+        proxy = Proxy(at(sites.ports[1]), lambda line: cut.is_set() and not line.startswith(b"H"))
+        sites.routes[(1, 2)] = proxy.address
+        site = sites.start(1)
+        cut.set()
+        site.ask_all(["issue 1000"] + ["give 2 1"] * 100 + ["tick 1"])
+        time.sleep(0.2)
+        expect(sites[2].status()["held"], 0, "while it is cut")
+        cut.clear()
+
+        def healed():
+            site.ask("tick 2")
+            return sees(sites[2], 1, applied=101, buffering=False)()
+
+        wait_for("all came", healed)
+        expect(sites[2].status()["held"], 100)
+
+
+def a_closed_sites_rights_are_taken_back():
+    with Cluster(3, started=[2, 3]) as sites:
+        lost = threading.Event()
+        lost.set()
+        proxy = Proxy(at(sites.ports[2]), lambda line: lost.is_set() and line.startswith((b"E 1", b"A 1")))
+        sites.routes[(1, 3)] = proxy.address
+        sites.start(1)
+        sites[1].ask_all(["issue 10", "give 3 4", "tick 1"])
+        wait_for("site 2 applied both", sees(sites[2], 1, applied=2))
+        # Site 3 closes and never applied the gift; site 1 takes it back.
+        expect(sites[3].ask_all(["close", "tick 2"])[0], "number 1")
+        wait_for("site 1 took 4 back", sees(sites[1], None, held=10, number=3))
+        expect(sites[3].ask("issue 1"), "error Closed")
+        wait_for("site 2 knows that site 3 closed", sees(sites[2], 3, applied=1))
+        expect(sites[2].ask("give 3 1"), "error PeerClosed")
+
+
+def lines_of_the_last_tick_go_out():
+    """Rights that a closing site leaves to an heir arrive, though the site ends at once."""
+    with Cluster(2) as sites:
+        sites[1].ask("issue 7")
+        sites[1].process.stdin.write(b"close 2\ntick 1\nquit\n")
+        expect(sites[1].process.wait(5), 0)
+        wait_for("the heir holds 7", sees(sites[2], None, held=7))
+
+
+def a_site_ends_and_others_go_on():
+    with Cluster(3) as sites:
+        sites[1].kill()
+        sites[2].ask_all(["issue 5", "give 3 5", "tick 1"])
+        wait_for("site 3 holds 5", sees(sites[3], None, held=5))
+        expect(sites[2].ask("spend 1 1"), "queued 1")
+
+
+# ---- replies
+
+
+def replies_come_at_once():
+    with Cluster(2) as sites:
+        expect(sites[1].ask_all(["issue 10", "spend 1 1", "nonsense", "", "spend 0 1", "spend 01 1", "give 1 1"]), [
+            "number 1", "spent 2", "error BadCommand", "error BadCommand", "error BadAmount", "error BadCommand",
+            "error SameSite",
+        ])
+        expect(sites[1].ask("give 3 1"), "error NoSuchSite")
+        expect(sites[1].ask("give 2 10"), "error Short")
+        expect(sites[1].ask_all(["tick 5", "tick 4"])[1], "error TimeWentBack")
+        expect(sites[1].ask_all(["spend 100 9", "close"]), ["queued 1", "error QueueBusy"])
+        expect(sites[1].ask("x" * 20000), "error BadCommand")
+        expect(sites[1].ask("status"), '{"closed":false,"held":9,"issued":10,"number":2,"peers":'
+               '[{"applied":0,"buffering":false,"held":0,"site":2}],"queued":100,"received":0,"site":1,"spent":1}')
+
+
+def an_unfinished_last_line_is_a_command():
+    port, other = free_ports(2)
+    words = [program, "run", "--id", "1", "--sites", "2", "--listen", at(port), f"2={at(other)}"]
+    done = subprocess.run(words, input=b"issue 3\nspend 1 1", capture_output=True, timeout=10)
+    expect((done.returncode, done.stdout, done.stderr), (0, b"number 1\nspent 2\n", b""))
+
+
+def dead_peers_hold_nothing_up():
+    """Two thousand spends and ticks, with peers that refuse or never answer."""
+    deaf = socket.create_server(("127.0.0.1", 0), backlog=1)
+    with Cluster(3, started=[1], routes={(1, 2): at(deaf.getsockname()[1])}) as sites:
+        start = time.monotonic()
+        sites[1].ask("issue 100000")
+        for time_now in range(10):
+            replies = sites[1].ask_all(["spend 1 1"] * 2000 + [f"tick {time_now}"])
+            expect(all(reply.startswith("spent") for reply in replies[:-1]), True)
+        spent = time.monotonic() - start
+        # One attempt to connect for each line would take hours.
+        if spent > 60:
+            raise AssertionError(f"20,000 spends took {spent:.1f} seconds")
+        start = time.monotonic()
+        expect(sites[1].end(timeout=5), 0)
+        if time.monotonic() - start > 3.5:
+            raise AssertionError("the end took too long")
+    deaf.close()
+
+
+# ---- what others may do to a site
+
+
+def strangers_are_turned_away():
+    with Cluster(3, started=[1]) as sites:
+        for text in [b"B 1 5\n", b"H 9\n", b"H 1\n", b"H 17\n", b"\n", b"\xff\xfe\n", b"H 2 \n", b"x" * 20000]:
+            stream = connect(sites, 1, text)
+            stream.settimeout(3)
+            try:
+                expect(stream.recv(1), b"", f"after {text[:10]!r}")
+            except ConnectionResetError:
+                pass
+            stream.close()
+        expect(sites[1].ask("issue 1"), "number 1")
+
+
+def silence_is_cut_off():
+    """A connection that says nothing is closed after 5 seconds, and holds up nobody."""
+    with Cluster(3, started=[1]) as sites:
+        silent = [connect(sites, 1) for _ in range(40)]
+        half = connect(sites, 1, b"H ")
+        start = time.monotonic()
+        with connect(sites, 1, b"H 3\nE 3 0 2 I:9 R:1:7\n"):
+            wait_for("site 1 heard site 3", sees(sites[1], None, received=7), 3)
+        half.settimeout(8)
+        expect(half.recv(1), b"")
+        waited = time.monotonic() - start
+        if not 4 <= waited <= 7:
+            raise AssertionError(f"closed after {waited:.1f} seconds")
+        for stream in silent:
+            stream.close()
+
+
+def a_silent_peer_holds_up_nobody():
+    with Cluster(3, started=[1]) as sites:
+        with connect(sites, 1, b"H 2\n"), connect(sites, 1, b"H 3\nE 3 0 2 I:9 R:1:7\n"):
+            wait_for("site 1 heard site 3", sees(sites[1], None, received=7))
+
+
+def the_newest_connection_is_heard():
+    with Cluster(2, started=[1]) as sites:
+        with connect(sites, 1, b"H 2\n") as old:
+            time.sleep(0.1)
+            with connect(sites, 1, b"H 2\nE 2 0 2 I:9 R:1:7\n"):
+                wait_for("site 1 heard site 2", sees(sites[1], None, received=7))
+                old.settimeout(3)
+                try:
+                    expect(old.recv(1), b"")
+                except ConnectionResetError:
+                    pass
+
+
+def bad_lines_are_skipped():
+    with Cluster(2, started=[1]) as sites:
+        lines = b"H 2\nnonsense\nE 2 0 1 I:0\nE 3 0 1 I:1\n" + b"x" * 20000 + b"\nQ 2 1 0 0\nE 2 0 2 I:9 R:1:7\nE 2 2 3"
+        with connect(sites, 1, lines):
+            wait_for("site 1 heard site 2", sees(sites[1], None, received=7))
+        with connect(sites, 1, b"H 2\nE 2 2 3 R:1:1\n"):
+            wait_for("the torn line came again", sees(sites[1], None, received=8))
+
+
+def a_flood_grows_nothing():
+    """Megabytes of repeats, and of entries that can't be held."""
+    with Cluster(2, started=[1]) as sites:
+
+        def room():
+            with open(f"/proc/{sites[1].process.pid}/status") as status:
+                return next(int(line.split()[1]) for line in status if line.startswith("VmRSS"))
+
+        with connect(sites, 1, b"H 2\nE 2 0 1 I:9\n") as stream:
+            wait_for("site 1 heard site 2", sees(sites[1], 2, applied=1))
+            before = room()
+            block = b"".join(b"E 2 %d %d I:1\n" % (n, n + 1) for n in range(2, 20002)) + b"E 2 0 1 I:9\n" * 20000
+            for _ in range(10):
+                stream.sendall(block)
+            stream.sendall(b"E 2 1 2 R:1:1\n")
+            wait_for("the flood is over", sees(sites[1], None, received=1), 60)
+        if room() > before + 20000:
+            raise AssertionError(f"{room() - before} KiB more")
+
+
+def a_peer_that_reads_nothing():
+    """Its outbox fills, lines are lost, and the site goes on and ends in time."""
+    deaf = socket.create_server(("127.0.0.1", 0))
+    with Cluster(2, started=[1], routes={(1, 2): at(deaf.getsockname()[1])}) as sites:
+        sites[1].ask("issue 1000000000")
+        full = False
+        for time_now in range(400):
+            replies = sites[1].ask_all(["spend 1 1"] * 200 + [f"tick {time_now}"])
+            full = full or not replies[-1].endswith("sent 201")
+            if time_now == 0:
+                stream, _ = deaf.accept()
+        start = time.monotonic()
+        expect(sites[1].end(timeout=5), 0)
+        if time.monotonic() - start > 3.5:
+            raise AssertionError("the end took too long")
+        stream.close()
+    deaf.close()
+
+
+# ---- ends
+
+
+def the_end_of_input_ends_it():
+    with Cluster(2, started=[1]) as sites:
+        with connect(sites, 1), connect(sites, 1, b"H 2\n"):
+            time.sleep(0.1)
+            sites[1].process.stdin.close()
+            start = time.monotonic()
+            expect(sites[1].process.wait(5), 0)
+            if time.monotonic() - start > 3.5:
+                raise AssertionError("the end took too long")
+
+
+def an_address_in_use_is_refused():
+    with socket.create_server(("127.0.0.1", 0)) as taken:
+        for address in [at(taken.getsockname()[1]), "", "nowhere", "127.0.0.1:99999", "256.1.1.1:1"]:
+            words = [program, "run", "--id", "1", "--sites", "2", "--listen", address, "2=127.0.0.1:1"]
+            done = subprocess.run(words, input=b"issue 1\n", capture_output=True, timeout=30)
+            expect((done.returncode, done.stdout, done.stderr), (1, b"", b"rights-site: cannot listen\n"), address)
+
+
+def other_addresses():
+    """Names, and IPv6 where this machine has it."""
+    port, other = free_ports(2)
+    addresses = ["localhost"]
+    try:
+        socket.create_server(("::1", 0), family=socket.AF_INET6).close()
+        addresses.append("[::1]")
+    except OSError:
+        pass
+    for host in addresses:
+        one = Site(1, 2, f"{host}:{port}", {2: f"{host}:{other}"}, program)
+        two = Site(2, 2, f"{host}:{other}", {1: f"{host}:{port}"}, program)
+        try:
+            two.status()
+            one.ask_all(["issue 10", "give 2 4", "tick 1"])
+            wait_for(f"a gift by {host}", sees(two, None, held=4))
+        finally:
+            one.kill()
+            two.kill()
+
+
+def main():
+    tests = [
+        a_batch_travels,
+        an_ask_is_granted_and_served,
+        an_ask_is_denied,
+        a_lost_entry_is_asked_for,
+        a_cut_connection_heals,
+        a_closed_sites_rights_are_taken_back,
+        lines_of_the_last_tick_go_out,
+        a_site_ends_and_others_go_on,
+        replies_come_at_once,
+        an_unfinished_last_line_is_a_command,
+        dead_peers_hold_nothing_up,
+        strangers_are_turned_away,
+        silence_is_cut_off,
+        a_silent_peer_holds_up_nobody,
+        the_newest_connection_is_heard,
+        bad_lines_are_skipped,
+        a_flood_grows_nothing,
+        a_peer_that_reads_nothing,
+        the_end_of_input_ends_it,
+        an_address_in_use_is_refused,
+        other_addresses,
+    ]
+    failed = 0
+    for test in tests:
+        try:
+            test()
+        except (AssertionError, SiteEnded, OSError, subprocess.TimeoutExpired) as error:
+            failed += 1
+            print(f"{test.__name__}: FAILED: {type(error).__name__}: {error}", flush=True)
+    print(f"{len(tests) - failed} passed, {failed} failed")
+    return 1 if failed else 0
+
+
+if __name__ == "__main__":
+    sys.exit(main())

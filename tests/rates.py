@@ -1,0 +1,123 @@
+#!/usr/bin/env python3
+"""Measures sites that run as processes on loopback, for `./bench run`: each rate is the best of three runs."""
+
+import os
+import statistics
+import subprocess
+import sys
+import threading
+import time
+
+sys.path.insert(0, os.path.dirname(os.path.abspath(__file__)))
+
+from cluster import Cluster, at, free_ports  # noqa: E402
+
+RUNS = 3
+SPENDS = 2_000_000
+ENTRIES = 200_000
+MISSED = 100_000
+GIVES = 1_000
+# After so many spends comes a tick. An outbox has room for their entries.
+TICK_AFTER = 200
+# After so many seconds without what is waited for, one tick more.
+PATIENCE = 0.02
+
+
+def best(measure):
+    return max(measure() for _ in range(RUNS))
+
+
+def local_spends():
+    """Spends a second through the standard streams of one process, whose peer is not there."""
+    commands = b"issue 1000000000\n" + b"spend 1 0\n" * SPENDS + b"quit\n"
+    own, other = free_ports(2)
+    words = [Cluster.program, "run", "--id", "1", "--sites", "2", "--listen", at(own), f"2={at(other)}"]
+    site = subprocess.Popen(words, stdin=subprocess.PIPE, stdout=subprocess.PIPE)
+    begun = time.perf_counter()
+    feeder = threading.Thread(target=lambda: (site.stdin.write(commands), site.stdin.close()))
+    feeder.start()
+    lines = 0
+    while block := site.stdout.read1(1 << 16):
+        lines += block.count(b"\n")
+    took = time.perf_counter() - begun
+    feeder.join()
+    site.wait()
+    assert lines == SPENDS + 1, lines
+    return SPENDS / took
+
+
+def carried_entries():
+    """Entries a second from one process's spends to the book of another one."""
+    with Cluster(2) as sites:
+        sites[1].ask(f"issue {ENTRIES}")
+        batch = ["spend 1 0"] * TICK_AFTER + ["tick 1"]
+        begun = time.perf_counter()
+        written = 1
+        while written <= ENTRIES:
+            sites[1].ask_all(batch)
+            written += TICK_AFTER
+            # The next lines find room once most of these are gone.
+            wait_for_applied(sites, written - 40)
+        wait_for_applied(sites, written)
+        return ENTRIES / (time.perf_counter() - begun)
+
+
+def applied(sites):
+    return sites[2].status()["peers"][0]["applied"]
+
+
+def wait_for_applied(sites, number):
+    wait(sites, lambda: applied(sites) >= number)
+
+
+def wait(sites, condition):
+    """Asks again and again. Lines that found no room are told of by the beat of a further tick."""
+    until = time.perf_counter() + PATIENCE
+    while not condition():
+        if time.perf_counter() > until:
+            sites[1].ask("tick 1")
+            until = time.perf_counter() + PATIENCE
+
+
+def caught_up():
+    """Entries a second that a site catches up with by queries, after it missed so many."""
+    with Cluster(2, started=[1]) as sites:
+        sites[1].ask(f"issue {MISSED}")
+        sites[1].ask_all(["spend 1 0"] * (MISSED - 1))
+        # Nobody listens yet: what this tick sends is lost.
+        sites[1].ask("tick 1")
+        time.sleep(0.5)
+        sites.start(2)
+        begun = time.perf_counter()
+        while applied(sites) < MISSED:
+            sites[1].ask("tick 1")
+            time.sleep(0.01)
+        return MISSED / (time.perf_counter() - begun)
+
+
+def gives():
+    """The microseconds from each of many gives, with its tick, to its being held at the other site."""
+    with Cluster(2) as sites:
+        sites[1].ask(f"issue {GIVES}")
+        times = []
+        for held in range(1, GIVES + 1):
+            begun = time.perf_counter()
+            sites[1].ask_all(["give 2 1", "tick 1"])
+            wait(sites, lambda: sites[2].status()["held"] >= held)
+            times.append((time.perf_counter() - begun) * 1e6)
+        return sorted(times)
+
+
+def main():
+    print(f"run spends: {best(local_spends):,.0f} spends/s through one process ({SPENDS} spends)")
+    print(f"run entries: {best(carried_entries):,.0f} entries/s to another process ({ENTRIES} entries)")
+    rate = best(caught_up)
+    print(f"run catch-up: {rate:,.0f} entries/s by queries, {16e6 / rate:,.0f} us for each answer of 16 ({MISSED} entries)")
+    times = gives()
+    print(
+        f"run give: {statistics.median(times):,.0f} us till it is held at the other site (median), "
+        f"{times[len(times) * 99 // 100]:,.0f} us (99th of 100), of {GIVES}"
+    )
+
+
+main()
