@@ -18,7 +18,7 @@ use Rattle.peer_links.specs.Links.{IsFedAll, LinkGave, LinkEnds, MayFail, counte
 use Rattle.peer_links.specs.declared.lines.Piece.{Piece}
 use Rattle.peer_links.specs.declared.link.LinkFault.{LinkFault}
 use Rattle.peer_links.specs.declared.link.LinkFault.TheVariants.{ReadFailed, WriteFailed, TooManyLines, NoHello, LaneClosed, OutOfMemory}
-use Rattle.peer_links.specs.declared.link.reading.TheConstants.{LINE_LIMIT}
+use Rattle.transfer_world.specs.declared.script.session.TheConstants.{LINE_LIMIT}
 
 pub gave_none : (a : Option (List ℕ)) → (gave : LinkGave a a) × (0 ≡ counted gave)
 gave_none a = (record { portions = []; input = []; reads = Consumes-nil a; parted = none_parted }, refl)

@@ -10,7 +10,7 @@ use Rattle.transfer_world.specs.Talk.{Parted, still}
 use Rattle.peer_links.specs.declared.lines.TheConstants.{LINE_END}
 use Rattle.peer_links.specs.declared.link.LinkFault.{LinkFault}
 use Rattle.peer_links.specs.declared.link.LinkFault.TheVariants.{ReadFailed, WriteFailed, TooManyLines, NoHello, LaneClosed, OutOfMemory}
-use Rattle.peer_links.specs.declared.link.reading.TheConstants.{LINE_LIMIT}
+use Rattle.transfer_world.specs.declared.script.session.TheConstants.{LINE_LIMIT}
 
 -- ---- the first line
 

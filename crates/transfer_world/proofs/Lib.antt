@@ -24,6 +24,6 @@ pub mod IndexLaws
 pub mod ArrivalLaws
 pub mod MessageLaws
 pub mod ReaderLaws
-pub mod IntakeLaws
+pub mod IncomingLaws
 pub mod LinkLaws
 pub mod LinksLaws

@@ -18,10 +18,10 @@ use Rattle.sub_buffer.specs.declared.verdict.Verdict.TheVariants.{Ready, Held, R
 use Rattle.site_core.specs.Inbounds.{InboundValue}
 use Rattle.transfer_world.specs.Values.{LinkValue}
 use Rattle.transfer_world.specs.LinkEvents.{told_all, LinkTakes, LinkTakesAll, with_applied}
-use Rattle.transfer_world.specs.Intakes.{reached_by, reached_in, link_of, NoneAhead, SameLists, IntakeTakes, IsIntake}
-use Rattle.transfer_world.specs.declared.link.intake.Intake.{Intake}
+use Rattle.transfer_world.specs.IncomingLists.{reached_by, reached_in, link_of, NoneAhead, SameLists, IncomingTakes, IsIncoming}
+use Rattle.transfer_world.specs.declared.link.incoming.Incoming.{Incoming}
 use Rattle.transfer_world.specs.declared.reply.Verdict.{Verdict}
-use Rattle.transfer_world.proofs.IntakeLaws.{some_is}
+use Rattle.transfer_world.proofs.IncomingLaws.{some_is}
 
 -- ---- what is put
 
@@ -69,40 +69,40 @@ reached_apart items (Some old) None put later e v lists h = absurd (grind (arith
 reached_apart items (Some old) (Some new) put later e v lists h = some_is (items new) (reached_after (items old) e v) lists
 
 -- an entry e of the log es comes, which is not ahead where nothing is listed apart
-pub record Coming {A : Type 0} (es : List EntryValue) (i : Intake A) (e : EntryValue) : Type 0 where
+pub record Coming {A : Type 0} (es : List EntryValue) (i : Incoming A) (e : EntryValue) : Type 0 where
   pub of_log : Contains es e
   pub follows : Follows es (reached_in i) i.put.items i.inbound.buffer
   pub next : i.apart ≡ None → e.prev ≤ i.inbound.buffer.last
 
 -- the arrival where nothing is listed apart
-arrival_in_order : {A : Type 0} (es : List EntryValue) (old new : Intake A) (before after : List Verdict) (e : EntryValue) (v : BufferVerdict A) (freed : List EntryValue)
-    → Coming es old e → IntakeTakes old before e v freed new after → old.apart ≡ None → SettledArrival es old.put.items old.put.items e v freed old.inbound.buffer.told new.inbound.buffer
+arrival_in_order : {A : Type 0} (es : List EntryValue) (old new : Incoming A) (before after : List Verdict) (e : EntryValue) (v : BufferVerdict A) (freed : List EntryValue)
+    → Coming es old e → IncomingTakes old before e v freed new after → old.apart ≡ None → SettledArrival es old.put.items old.put.items e v freed old.inbound.buffer.told new.inbound.buffer
 arrival_in_order es old new before after e v freed c t none =
     let put_all : reached_in old ≡ old.put.items = ap (λ o. reached_by (λ l. l.items) o old.put.items) none in
     t.arrives.log es old.put.items old.put.items c.of_log (subst (λ set. Follows es set old.put.items old.inbound.buffer) put_all c.follows)
 
-put_in_order : {A : Type 0} (es : List EntryValue) (old new : Intake A) (before after : List Verdict) (e : EntryValue) (v : BufferVerdict A) (freed : List EntryValue)
-    → Coming es old e → IntakeTakes old before e v freed new after → old.apart ≡ None → new.put.items ≡ reached_after old.put.items e v
+put_in_order : {A : Type 0} (es : List EntryValue) (old new : Incoming A) (before after : List Verdict) (e : EntryValue) (v : BufferVerdict A) (freed : List EntryValue)
+    → Coming es old e → IncomingTakes old before e v freed new after → old.apart ≡ None → new.put.items ≡ reached_after old.put.items e v
 put_in_order es old new before after e v freed c t none =
     let s = arrival_in_order es old new before after e v freed c t none in
     let table = t.arrives.table in
     t.put ∙ all_put es old.put.items old.inbound.buffer table.0 new.inbound.buffer e v freed (c.next none) table.1 t.arrives.frees s.0 s.1
 
-pub reached_is : {A : Type 0} (es : List EntryValue) (old new : Intake A) (before after : List Verdict) (e : EntryValue) (v : BufferVerdict A) (freed : List EntryValue)
-    → Coming es old e → IntakeTakes old before e v freed new after → reached_in new ≡ reached_after (reached_in old) e v
+pub reached_is : {A : Type 0} (es : List EntryValue) (old new : Incoming A) (before after : List Verdict) (e : EntryValue) (v : BufferVerdict A) (freed : List EntryValue)
+    → Coming es old e → IncomingTakes old before e v freed new after → reached_in new ≡ reached_after (reached_in old) e v
 reached_is es old new before after e v freed c t =
     reached_apart (λ l. l.items) old.apart new.apart old.put.items new.put.items e v t.apart (put_in_order es old new before after e v freed c t)
 
 -- ---- one entry
 
-still_follows : {A : Type 0} (es : List EntryValue) (old new : Intake A) (before after : List Verdict) (e : EntryValue) (v : BufferVerdict A) (freed : List EntryValue)
-    → Coming es old e → IntakeTakes old before e v freed new after → Follows es (reached_in new) new.put.items new.inbound.buffer
+still_follows : {A : Type 0} (es : List EntryValue) (old new : Incoming A) (before after : List Verdict) (e : EntryValue) (v : BufferVerdict A) (freed : List EntryValue)
+    → Coming es old e → IncomingTakes old before e v freed new after → Follows es (reached_in new) new.put.items new.inbound.buffer
 still_follows es old new before after e v freed c t =
     let s = t.arrives.log es (reached_in old) old.put.items c.of_log c.follows in
     rw (reached_is es old new before after e v freed c t) (rw t.put s.1)
 
-link_takes : {A : Type 0} (es : List EntryValue) (applied : ℕ) (old new : Intake A) (before after : List Verdict) (e : EntryValue) (v : BufferVerdict A) (freed : List EntryValue)
-    → applied ≤ length old.put.items → Coming es old e → IntakeTakes old before e v freed new after → LinkTakes es (link_of old applied) e v freed (link_of new applied)
+link_takes : {A : Type 0} (es : List EntryValue) (applied : ℕ) (old new : Incoming A) (before after : List Verdict) (e : EntryValue) (v : BufferVerdict A) (freed : List EntryValue)
+    → applied ≤ length old.put.items → Coming es old e → IncomingTakes old before e v freed new after → LinkTakes es (link_of old applied) e v freed (link_of new applied)
 link_takes es applied old new before after e v freed within c t =
     let s = t.arrives.log es (reached_in old) old.put.items c.of_log c.follows in
     let r = reached_is es old new before after e v freed c t in
@@ -125,8 +125,8 @@ none_ahead_of_more m n [] le h = tt
 none_ahead_of_more m n (e ∷ es) le h = (omega (arith, le, h.0), none_ahead_of_more (max m (own e)) (max n (own e)) es (omega (arith, le)) h.1)
 
 -- the last number that was put is no less than before, nor than that of the entry
-last_after : {A : Type 0} (es : List EntryValue) (old new : Intake A) (before after : List Verdict) (e : EntryValue) (v : BufferVerdict A) (freed : List EntryValue)
-    → Coming es old e → IntakeTakes old before e v freed new after → old.apart ≡ None → max old.inbound.buffer.last (own e) ≤ new.inbound.buffer.last
+last_after : {A : Type 0} (es : List EntryValue) (old new : Incoming A) (before after : List Verdict) (e : EntryValue) (v : BufferVerdict A) (freed : List EntryValue)
+    → Coming es old e → IncomingTakes old before e v freed new after → old.apart ≡ None → max old.inbound.buffer.last (own e) ≤ new.inbound.buffer.last
 last_after es old new before after e v freed c t none =
     let f = still_follows es old new before after e v freed c t in
     let s = arrival_in_order es old new before after e v freed c t none in
@@ -150,14 +150,14 @@ last_after es old new before after e v freed c t none =
 
 -- what becomes of a link from here becomes of it from the start: `rest` is still to come of `entries`, these verdicts
 -- were told, and where nothing is listed apart, none of the rest is ahead
-pub record GoesOn {A : Type 0} (es : List EntryValue) (start : LinkValue) (entries : List EntryValue) (i : Intake A) (applied : ℕ) (rest : List EntryValue) (list : List Verdict) : Type 0 where
+pub record GoesOn {A : Type 0} (es : List EntryValue) (start : LinkValue) (entries : List EntryValue) (i : Incoming A) (applied : ℕ) (rest : List EntryValue) (list : List Verdict) : Type 0 where
   pub of_log : All (Contains es) rest
   pub follows : Follows es (reached_in i) i.put.items i.inbound.buffer
   pub in_order : i.apart ≡ None → NoneAhead i.inbound.buffer.last rest
   pub takes : (new : LinkValue) (more : List Verdict) → LinkTakesAll A es (link_of i applied) rest more new → LinkTakesAll A es start entries (list ++ more) new
 
 -- nothing came yet
-pub goes_on_first : {A : Type 0} (es entries : List EntryValue) (i : Intake A) (applied : ℕ) → All (Contains es) entries → Follows es (reached_in i) i.put.items i.inbound.buffer
+pub goes_on_first : {A : Type 0} (es entries : List EntryValue) (i : Incoming A) (applied : ℕ) → All (Contains es) entries → Follows es (reached_in i) i.put.items i.inbound.buffer
     → (i.apart ≡ None → NoneAhead i.inbound.buffer.last entries) → GoesOn es (link_of i applied) entries i applied entries []
 goes_on_first es entries i applied of_log follows in_order = record { of_log = of_log; follows = follows; in_order = in_order; takes = λ new more h. h }
 
@@ -166,8 +166,8 @@ still_none items None new v e lists none = refl
 still_none items (Some l) new v e lists none = absurd (grind (arith, lists, none))
 
 -- one more came
-pub goes_on_next : {A : Type 0} (es : List EntryValue) (start : LinkValue) (entries : List EntryValue) (old new : Intake A) (applied : ℕ) (rest : List EntryValue) (before after : List Verdict)
-    (e : EntryValue) (v : BufferVerdict A) (freed : List EntryValue) → applied ≤ length old.put.items → IntakeTakes old before e v freed new after
+pub goes_on_next : {A : Type 0} (es : List EntryValue) (start : LinkValue) (entries : List EntryValue) (old new : Incoming A) (applied : ℕ) (rest : List EntryValue) (before after : List Verdict)
+    (e : EntryValue) (v : BufferVerdict A) (freed : List EntryValue) → applied ≤ length old.put.items → IncomingTakes old before e v freed new after
     → GoesOn es start entries old applied (e ∷ rest) before → GoesOn es start entries new applied rest after
 goes_on_next {A} es start entries old new applied rest before after e v freed within t g =
     let c : Coming es old e = record { of_log = All-head (Contains es) e rest g.of_log; follows = g.follows; next = λ none. (g.in_order none).0 } in record {
@@ -183,18 +183,18 @@ goes_on_next {A} es start entries old new applied rest before after e v freed wi
     }
 
 -- all came
-pub goes_on_last : {A : Type 0} (es : List EntryValue) (start : LinkValue) (entries : List EntryValue) (i : Intake A) (applied : ℕ) (list : List Verdict)
+pub goes_on_last : {A : Type 0} (es : List EntryValue) (start : LinkValue) (entries : List EntryValue) (i : Incoming A) (applied : ℕ) (list : List Verdict)
     → GoesOn es start entries i applied [] list → LinkTakesAll A es start entries list (link_of i applied)
 goes_on_last {A} es start entries i applied list g = subst (λ vs. LinkTakesAll A es start entries vs (link_of i applied)) (append-nil list) (g.takes (link_of i applied) [] (refl, refl))
 
 -- more room changes nothing of a link
-pub same_link : {A : Type 0} (old new : Intake A) (applied : ℕ) → SameLists old new → link_of new applied ≡ link_of old applied
+pub same_link : {A : Type 0} (old new : Incoming A) (applied : ℕ) → SameLists old new → link_of new applied ≡ link_of old applied
 same_link old new applied same =
     let with : InboundValue → List EntryValue → List EntryValue → LinkValue = λ i xs ys. record { inbound = i; reached = xs; put = ys; applied = take applied ys } in
     ap (λ i. with i (reached_in new) new.put.items) same.inbound ∙ ap (λ xs. with old.inbound xs new.put.items) same.reached ∙ ap (λ ys. with old.inbound (reached_in old) ys) same.put
 
 -- room was made, and entries are to come
-pub goes_on_start : {A : Type 0} (es entries : List EntryValue) (link : LinkValue) (old room : Intake A) (applied : ℕ) (list : List Verdict)
+pub goes_on_start : {A : Type 0} (es entries : List EntryValue) (link : LinkValue) (old room : Incoming A) (applied : ℕ) (list : List Verdict)
     → link_of old applied ≡ link → SameLists old room → list ≡ [] → All (Contains es) entries → Follows es link.reached link.put link.inbound.buffer
     → (room.apart ≡ None → NoneAhead room.inbound.buffer.last entries) → GoesOn es link entries room applied entries list
 goes_on_start es entries link old room applied list is same none of_log follows in_order =
@@ -203,15 +203,15 @@ goes_on_start es entries link old room applied list is same none of_log follows 
     subst (λ l. GoesOn es l entries room applied entries list) at (subst (GoesOn es (link_of room applied) entries room applied entries) (sym none) (goes_on_first es entries room applied of_log f in_order))
 
 -- a link's parts stay in order
-pub still_intake : {A : Type 0} (applied : ℕ) (old new : Intake A) (before after : List Verdict) (e : EntryValue) (v : BufferVerdict A) (freed : List EntryValue)
-    → IsIntake old applied → IntakeTakes old before e v freed new after → IsIntake new applied
-still_intake applied old new before after e v freed ok t =
+pub still_incoming : {A : Type 0} (applied : ℕ) (old new : Incoming A) (before after : List Verdict) (e : EntryValue) (v : BufferVerdict A) (freed : List EntryValue)
+    → IsIncoming old applied → IncomingTakes old before e v freed new after → IsIncoming new applied
+still_incoming applied old new before after e v freed ok t =
     let more = more_put old.put.items v freed in
     let longer : new.put.items ≡ old.put.items ++ more.0 = t.put ∙ more.1 in
     record { within = omega (arith, ok.within, ap (λ es. length es) longer, length-append old.put.items more.0); few = t.arrives.few; settled = t.verdicts }
 
-pub roomy_intake : {A : Type 0} (applied : ℕ) (old new : Intake A) → IsIntake old applied → SameLists old new → IsIntake new applied
-roomy_intake applied old new ok same = record {
+pub roomy_incoming : {A : Type 0} (applied : ℕ) (old new : Incoming A) → IsIncoming old applied → SameLists old new → IsIncoming new applied
+roomy_incoming applied old new ok same = record {
   within = omega (arith, ok.within, ap (λ es. length es) same.put);
   few = omega (arith, ok.few, ap (λ (i : InboundValue). length i.buffer.held) same.inbound);
   settled = same.verdicts ∙ ok.settled;
@@ -219,7 +219,7 @@ roomy_intake applied old new ok same = record {
 
 -- ---- applying
 
-pub one_applied : {A : Type 0} (i : Intake A) (applied : ℕ) (l : LinkValue) (e : EntryValue) → link_of i applied ≡ l → applied ≤ length i.put.items → slice_get l.put (length l.applied) ≡ Some e
+pub one_applied : {A : Type 0} (i : Incoming A) (applied : ℕ) (l : LinkValue) (e : EntryValue) → link_of i applied ≡ l → applied ≤ length i.put.items → slice_get l.put (length l.applied) ≡ Some e
     → link_of i (applied + 1) ≡ with_applied l e
 one_applied i applied l e is within next =
     let at : slice_get i.put.items (length (take applied i.put.items)) ≡ Some e = subst (λ (x : LinkValue). slice_get x.put (length x.applied) ≡ Some e) (sym is) next in

@@ -8,7 +8,7 @@ pub mod Causes
 pub mod Faults
 pub mod DeskEvents
 pub mod LinkEvents
-pub mod Intakes
+pub mod IncomingLists
 pub mod Step
 pub mod Sound
 pub mod Headline

@@ -17,10 +17,10 @@ ghost use Rattle.transfer_world.specs.Values.{LinkValue};
 ghost use Rattle.transfer_world.specs.Worlds.{new_link};
 ghost use Rattle.transfer_world.specs.LinkEvents.{LinkTakesAll, heard, with_applied};
 
-mod intake;
+mod incoming;
 
 use crate::reply::Verdicts;
-use intake::{Intake, none_ahead};
+use incoming::{Incoming, none_ahead};
 use rights_types::{Entry, Message, OutOfMemory, SiteId};
 use site_core::{Inbound, InboundError};
 use std::alloc::Allocator;
@@ -29,19 +29,19 @@ use std::marker::Model;
 /// What comes in of an origin's log at a site, and how many of the entries that were put in order were applied.
 #[derive(Drop)]
 pub(crate) struct Link<A: Allocator> {
-    intake: Intake<A>,
+    incoming: Incoming<A>,
     applied: usize,
 }
 
 impl<A: Allocator> Model for Link<A> {
     ghost use Rattle.transfer_world.specs.Values.{LinkValue};
-    ghost use Rattle.transfer_world.specs.Intakes.{link_of, IsIntake};
+    ghost use Rattle.transfer_world.specs.IncomingLists.{link_of, IsIncoming};
 
     ghost Value = { LinkValue };
 
-    ghost view = { λ l. link_of l.intake l.applied };
+    ghost view = { λ l. link_of l.incoming l.applied };
 
-    ghost invariant = { λ l. IsIntake l.intake l.applied };
+    ghost invariant = { λ l. IsIncoming l.incoming l.applied };
 }
 
 impl<A: Allocator + Copy> Link<A> {
@@ -58,7 +58,7 @@ impl<A: Allocator + Copy> Link<A> {
         ensures { IfOk result (λ l. l ≡ new_link sites me origin) }
     {
         Ok(Link {
-            intake: Intake {
+            incoming: Incoming {
                 inbound: Inbound::new(alloc, me, origin, sites)?,
                 put: Vec::new(alloc),
                 apart: None,
@@ -75,7 +75,7 @@ impl<A: Allocator + Copy> Link<A> {
         ensures ok { IfOk result (λ m. reading line.now ≡ Ok (value_of m)) }
         ensures memory { IfErr result (λ fault. fault ≡ NoMemory → (m : MessageValue) × (reading line.now ≡ Ok m) × (has_entries m ≡ true)) }
     {
-        self.intake.inbound.read(line)
+        self.incoming.inbound.read(line)
     }
 
     /// Takes in an entry.
@@ -85,11 +85,11 @@ impl<A: Allocator + Copy> Link<A> {
             → Follows es self.old.reached self.old.put self.old.inbound.buffer → LinkTakesAll A es self.old (entry ∷ []) verdicts self.new) }
         ensures err { OnErr result (self.new ≡ self.old) }
     {
-        let in_order = entry.prev() <= self.intake.inbound.last();
-        let mut told = self.intake.make_room(1, in_order)?;
-        let copy = self.intake.copy_of(&entry)?;
-        self.intake.take(entry, copy, &mut told);
-        Ok(self.intake.verdicts(told))
+        let in_order = entry.prev() <= self.incoming.inbound.last();
+        let mut told = self.incoming.make_room(1, in_order)?;
+        let copy = self.incoming.copy_of(&entry)?;
+        self.incoming.take(entry, copy, &mut told);
+        Ok(self.incoming.verdicts(told))
     }
 
     /// Takes in the entries of an answer, in order.
@@ -103,13 +103,13 @@ impl<A: Allocator + Copy> Link<A> {
             → Follows es self.old.reached self.old.put self.old.inbound.buffer → LinkTakesAll A es self.old entries.items verdicts self.new) }
         ensures err { OnErr result (self.new ≡ self.old) }
     {
-        let in_order = none_ahead(&entries, self.intake.inbound.last());
-        let mut told = self.intake.make_room(entries.len(), in_order)?;
-        let mut copies = self.intake.copies_of(&entries)?.into_iter();
+        let in_order = none_ahead(&entries, self.incoming.inbound.last());
+        let mut told = self.incoming.make_room(entries.len(), in_order)?;
+        let mut copies = self.incoming.copies_of(&entries)?.into_iter();
         for entry in entries {
-            self.intake.take(entry, copies.next(), &mut told);
+            self.incoming.take(entry, copies.next(), &mut told);
         }
-        Ok(self.intake.verdicts(told))
+        Ok(self.incoming.verdicts(told))
     }
 
     /// Hears a beat of the origin.
@@ -117,7 +117,7 @@ impl<A: Allocator + Copy> Link<A> {
         requires { IsNumber number }
         ensures { self.new ≡ heard self.old number }
     {
-        self.intake.inbound.hear(number);
+        self.incoming.inbound.hear(number);
     }
 
     /// The line of the query for the gap, as `Inbound::query_line` has it.
@@ -126,14 +126,14 @@ impl<A: Allocator + Copy> Link<A> {
             × MatchResult result (λ line. LineOf (λ l. l.items) (option_map (λ x. AQuery x) q) line) (λ _. IsSome q) }
         ensures rest { self.new ≡ record self.old { inbound = self.new.inbound } }
     {
-        self.intake.inbound.query_line(again)
+        self.incoming.inbound.query_line(again)
     }
 
     /// The next entry to be applied.
     pub(crate) fn next(&self) -> Option<&Entry<A>>
         ensures { option_copied result ≡ slice_get self.now.put (length self.now.applied) }
     {
-        self.intake.put.get(self.applied)
+        self.incoming.put.get(self.applied)
     }
 
     /// It was applied.
@@ -148,8 +148,8 @@ impl<A: Allocator + Copy> Link<A> {
     pub(crate) fn reached(&self) -> &[Entry<A>]
         ensures { result.now ≡ self.now.reached }
     {
-        match &self.intake.apart {
-            None => &self.intake.put,
+        match &self.incoming.apart {
+            None => &self.incoming.put,
             Some(apart) => apart,
         }
     }
@@ -158,20 +158,20 @@ impl<A: Allocator + Copy> Link<A> {
     pub(crate) fn put(&self) -> &[Entry<A>]
         ensures { result.now ≡ self.now.put }
     {
-        &self.intake.put
+        &self.incoming.put
     }
 
     /// The entries that were applied.
     pub(crate) fn applied(&self) -> &[Entry<A>]
         ensures { result.now ≡ self.now.applied }
     {
-        &self.intake.put[..self.applied]
+        &self.incoming.put[..self.applied]
     }
 
     /// The own number of the last entry that was put.
     pub(crate) fn last(&self) -> u64
         ensures { result ≡ self.now.inbound.buffer.last }
     {
-        self.intake.inbound.last()
+        self.incoming.inbound.last()
     }
 }

@@ -15,9 +15,7 @@ use site_core::InboundError;
 use std::alloc::Global;
 use std::io::Read;
 use std::sync::Wait;
-
-/// At so many lines, and reads that end no line, a connection is given up.
-const LINE_LIMIT: u64 = 1_000_000_000;
+use transfer_world::LINE_LIMIT;
 
 /// So many bytes are read at a time.
 const READ_SIZE: usize = 16_384;

@@ -1,6 +1,6 @@
 //! The commands of a site.
 
-use entry_codec::read_decimal;
+use entry_codec::{first_decimal, split_first};
 use rights_types::{MAX_SITES, SiteId};
 
 /// What a line asks of a site.
@@ -32,29 +32,27 @@ struct Words<'a> {
 
 impl<'a> Words<'a> {
     fn next(&mut self) -> Option<&'a [u8]> {
-        let text = self.rest?;
-        match text.iter().position(|byte| *byte == b' ') {
-            Some(end) => {
-                self.rest = Some(&text[end + 1..]);
-                Some(&text[..end])
-            }
-            None => {
-                self.rest = None;
-                Some(text)
-            }
-        }
+        let (word, rest) = split_first(self.rest?, b' ');
+        self.rest = rest;
+        Some(word)
     }
 
     fn is_at_end(&self) -> bool {
         self.rest.is_none()
     }
 
+    fn number_in(&mut self, low: u64, high: u64) -> Option<u64> {
+        let (number, rest) = first_decimal(self.rest, b' ', low, high)?;
+        self.rest = rest;
+        Some(number)
+    }
+
     fn number(&mut self) -> Option<u64> {
-        read_decimal(self.next()?, 0, u64::MAX)
+        self.number_in(0, u64::MAX)
     }
 
     fn site(&mut self) -> Option<SiteId> {
-        SiteId::new(read_decimal(self.next()?, 1, MAX_SITES)?).ok()
+        SiteId::new(self.number_in(1, MAX_SITES)?).ok()
     }
 }
 

@@ -15,16 +15,13 @@ use site_words::status;
 use std::alloc::Global;
 use std::io::{Read, Write};
 use std::sync::{Arc, Wait};
-use transfer_world::write_whole;
+use transfer_world::{LINE_LIMIT, write_whole};
 
 /// So many bytes are read at a time, and replies of so many bytes are written before the next line.
 const BLOCK: usize = 65536;
 
 /// More than any reply has: a status has at most some 70 bytes for each peer.
 const REPLY_ROOM: usize = 4096;
-
-/// At so many lines, and reads that end no line, the program stops.
-const LINE_LIMIT: u64 = 1_000_000_000;
 
 /// What answers the commands of a site.
 #[derive(Drop)]

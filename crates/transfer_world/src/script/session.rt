@@ -15,8 +15,8 @@ use rights_types::{MAX_LINE, OutOfMemory};
 use std::alloc::Allocator;
 use std::io::{Read, Write};
 
-/// At so many lines, and reads that end no line, a script stops.
-const LINE_LIMIT: u64 = 1_000_000_000;
+/// At so many lines, and reads that end no line, a stream of lines is given up.
+pub const LINE_LIMIT: u64 = 1_000_000_000;
 
 /// So many bytes are read at a time.
 const READ_SIZE: usize = 65536;

@@ -5,10 +5,10 @@ use Rattle.std.proofs.lemmas.List.Elements.{All-head, All-tail}
 use Rattle.rights_types.specs.Entries.{EntryValue}
 use Rattle.site_core.specs.Inbounds.{InboundValue}
 use Rattle.transfer_world.specs.Values.{LinkValue}
-use Rattle.transfer_world.specs.Intakes.{HasRoom, NoneAhead, link_of}
+use Rattle.transfer_world.specs.IncomingLists.{HasRoom, NoneAhead, link_of}
 use Rattle.transfer_world.specs.LinkEvents.{LinkTakesAll}
-use Rattle.transfer_world.proofs.IntakeLaws.{next_copy, still_some}
-use Rattle.transfer_world.proofs.LinkLaws.{goes_on_start, goes_on_next, goes_on_last, still_intake, roomy_intake}
+use Rattle.transfer_world.proofs.IncomingLaws.{next_copy, still_some}
+use Rattle.transfer_world.proofs.LinkLaws.{goes_on_start, goes_on_next, goes_on_last, still_incoming, roomy_incoming}
 use Rattle.transfer_world.proofs.link.Link.take_answer.Goals as goal
 
 pub loop-entry-init : goal.loop-entry-init
@@ -19,9 +19,9 @@ loop-entry-init g c =
     let origin : c.make_room.new.self.inbound.buffer.origin ≡ c.args.self.now.inbound.buffer.origin =
     ap (λ (x : InboundValue). x.buffer.origin) same.inbound ∙ ap (λ (l : LinkValue). l.inbound.buffer.origin) c.self.view_is in
     record {
-      intake = roomy_intake c.self.inside.applied c.self.inside.intake c.make_room.new.self c.self.invariant same;
+      incoming = roomy_incoming c.self.inside.applied c.self.inside.incoming c.make_room.new.self c.self.invariant same;
       goes_on = λ es of_log f.
-          rw entries (goes_on_start es c.args.entries.items c.args.self.now c.self.inside.intake c.make_room.new.self c.self.inside.applied c.in_ok-told.told.items c.self.view_is same c.in_ok-told.ensures.ok.0 of_log f
+          rw entries (goes_on_start es c.args.entries.items c.args.self.now c.self.inside.incoming c.make_room.new.self c.self.inside.applied c.in_ok-told.told.items c.self.view_is same c.in_ok-told.ensures.ok.0 of_log f
           (λ none. subst (λ n. NoneAhead n c.args.entries.items) last (subst (NoneAhead c.last.result) c.deref.ensures.value (c.none_ahead-in_order.ensures.0 (c.in_ok-told.ensures.apart none)))));
       origin = rw entries (subst (λ o. All (λ (e : EntryValue). e.origin ≡ o) c.args.entries.items) (sym origin) c.requires.origin);
       copies = λ some. c.into_iter-copies.ensures.rest ∙ (rw some at c.in_ok-copies_of.ensures) ∙ c.deref-2.ensures.value ∙ sym entries;
@@ -33,8 +33,8 @@ take-requires-clause-origin g c =
     let e : EntryValue = c.in-Some.entry in
     let rest : List EntryValue = c.next.new.self.rest.items in
     let next = c.in-Some.ensures.steps.0 in
-    let all : All (λ (x : EntryValue). x.origin ≡ c.loop-entry.self-inside.intake.inbound.buffer.origin) (e ∷ rest) = rw next at c.loop-entry.invariant.origin in
-    All-head (λ (x : EntryValue). x.origin ≡ c.loop-entry.self-inside.intake.inbound.buffer.origin) e rest all
+    let all : All (λ (x : EntryValue). x.origin ≡ c.loop-entry.self-inside.incoming.inbound.buffer.origin) (e ∷ rest) = rw next at c.loop-entry.invariant.origin in
+    All-head (λ (x : EntryValue). x.origin ≡ c.loop-entry.self-inside.incoming.inbound.buffer.origin) e rest all
 
 pub take-requires-clause-copy : goal.take-requires-clause-copy
 take-requires-clause-copy g c some =
@@ -46,14 +46,14 @@ loop-entry-preserved g c =
     let e : EntryValue = c.in-Some.entry in
     let rest : List EntryValue = c.next.new.self.rest.items in
     let next = c.in-Some.ensures.steps.0 in
-    let old = c.loop-entry.self-inside.intake in
+    let old = c.loop-entry.self-inside.incoming in
     let applied = c.loop-entry.self-inside.applied in
     let t = c.take.ensures.takes in
     let all : All (λ (x : EntryValue). x.origin ≡ old.inbound.buffer.origin) (e ∷ rest) = rw next at c.loop-entry.invariant.origin in
     record {
-      intake = still_intake applied old c.take.new.self c.loop-entry.told.items c.take.new.told.items e t.0 t.1 c.loop-entry.invariant.intake t.2;
+      incoming = still_incoming applied old c.take.new.self c.loop-entry.told.items c.take.new.told.items e t.0 t.1 c.loop-entry.invariant.incoming t.2;
       goes_on = λ es of_log f.
-          goes_on_next es c.args.self.now c.args.entries.items old c.take.new.self applied rest c.loop-entry.told.items c.take.new.told.items e t.0 t.1 c.loop-entry.invariant.intake.within t.2
+          goes_on_next es c.args.self.now c.args.entries.items old c.take.new.self applied rest c.loop-entry.told.items c.take.new.told.items e t.0 t.1 c.loop-entry.invariant.incoming.within t.2
           (rw next at (c.loop-entry.invariant.goes_on es of_log f));
       origin = rw t.2.arrives.pair.origin (All-tail (λ (x : EntryValue). x.origin ≡ old.inbound.buffer.origin) e rest all);
       copies = λ some.
@@ -65,8 +65,8 @@ loop-entry-preserved g c =
 pub returns-clause-ok : goal.returns-clause-ok
 returns-clause-ok g c es of_log f =
     let none : c.loop-entry.entry-iterator.rest.items ≡ [] = nil_from_length _ (omega (arith, c.in-None.ensures.steps.0)) in
-    let intake = c.loop-entry.self-inside.intake in
+    let incoming = c.loop-entry.self-inside.incoming in
     let applied = c.loop-entry.self-inside.applied in
-    let all = goes_on_last es c.args.self.now c.args.entries.items intake applied c.loop-entry.told.items (rw none at (c.loop-entry.invariant.goes_on es of_log f)) in
-    let same : link_of c.verdicts.new.self applied ≡ link_of intake applied = ap (λ i. link_of i applied) c.verdicts.ensures.rest in
+    let all = goes_on_last es c.args.self.now c.args.entries.items incoming applied c.loop-entry.told.items (rw none at (c.loop-entry.invariant.goes_on es of_log f)) in
+    let same : link_of c.verdicts.new.self applied ≡ link_of incoming applied = ap (λ i. link_of i applied) c.verdicts.ensures.rest in
     rw c.verdicts.ensures.value (subst (λ (l : LinkValue). LinkTakesAll g.row.A.Denot es c.args.self.now c.args.entries.items c.loop-entry.told.items l) (sym same) all)

@@ -3,16 +3,16 @@ use Rattle.std.specs.Prelude.{IsSome}
 use Rattle.std.specs.List.{All, Contains}
 use Rattle.rights_types.specs.Entries.{EntryValue}
 use Rattle.sub_buffer.specs.Follows.{Follows}
-use Rattle.transfer_world.specs.Intakes.{HasRoom, IsIntake}
+use Rattle.transfer_world.specs.IncomingLists.{HasRoom, IsIncoming}
 use Rattle.transfer_world.proofs.LinkLaws.{GoesOn}
 use Rattle.transfer_world.proofs.link.Link.take_answer.Given as goal
 
 abbrev pub invariant-loop-entry : goal.invariant-loop-entry
 invariant-loop-entry g l = record {
-  intake : IsIntake l.self-inside.intake l.self-inside.applied;
+  incoming : IsIncoming l.self-inside.incoming l.self-inside.applied;
   goes_on : (es : List EntryValue) → All (Contains es) l.fn.entries.items → Follows es l.fn.self.reached l.fn.self.put l.fn.self.inbound.buffer
-      → GoesOn es l.fn.self l.fn.entries.items l.self-inside.intake l.self-inside.applied l.entry-iterator.rest.items l.told.items;
-  origin : All (λ (e : EntryValue). e.origin ≡ l.self-inside.intake.inbound.buffer.origin) l.entry-iterator.rest.items;
-  copies : IsSome l.self-inside.intake.apart → l.copies.rest.items ≡ l.entry-iterator.rest.items;
-  room : HasRoom (length l.entry-iterator.rest.items) l.self-inside.intake l.told;
+      → GoesOn es l.fn.self l.fn.entries.items l.self-inside.incoming l.self-inside.applied l.entry-iterator.rest.items l.told.items;
+  origin : All (λ (e : EntryValue). e.origin ≡ l.self-inside.incoming.inbound.buffer.origin) l.entry-iterator.rest.items;
+  copies : IsSome l.self-inside.incoming.apart → l.copies.rest.items ≡ l.entry-iterator.rest.items;
+  room : HasRoom (length l.entry-iterator.rest.items) l.self-inside.incoming l.told;
 }

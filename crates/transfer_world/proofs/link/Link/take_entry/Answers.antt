@@ -5,7 +5,7 @@ use Rattle.std.proofs.lemmas.Bool.{leb-true}
 use Rattle.std.proofs.lemmas.List.Elements.{All-cons, All-nil}
 use Rattle.site_core.specs.Inbounds.{InboundValue}
 use Rattle.transfer_world.specs.Values.{LinkValue}
-use Rattle.transfer_world.specs.Intakes.{link_of}
+use Rattle.transfer_world.specs.IncomingLists.{link_of}
 use Rattle.transfer_world.specs.LinkEvents.{LinkTakesAll}
 use Rattle.transfer_world.proofs.LinkLaws.{goes_on_start, goes_on_next, goes_on_last}
 use Rattle.transfer_world.proofs.link.Link.take_entry.Goals as goal
@@ -13,7 +13,7 @@ use Rattle.transfer_world.proofs.link.Link.take_entry.Goals as goal
 pub returns-clause-ok : goal.returns-clause-ok
 returns-clause-ok g c es i f =
     let e = c.args.entry in
-    let old = c.self.inside.intake in
+    let old = c.self.inside.incoming in
     let room = c.make_room.new.self in
     let applied = c.self.inside.applied in
     let same = c.in_ok-told.ensures.same in

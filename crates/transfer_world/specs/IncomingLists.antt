@@ -9,7 +9,7 @@ use Rattle.sub_buffer.specs.Follows.{put_after, reached_after}
 use Rattle.sub_buffer.specs.declared.verdict.Verdict.{Verdict as BufferVerdict}
 use Rattle.transfer_world.specs.Values.{LinkValue}
 use Rattle.transfer_world.specs.LinkEvents.{told_all}
-use Rattle.transfer_world.specs.declared.link.intake.Intake.{Intake}
+use Rattle.transfer_world.specs.declared.link.incoming.Incoming.{Incoming}
 use Rattle.transfer_world.specs.declared.reply.Verdict.{Verdict}
 
 -- what reached a site: listed apart, or what was put, where nothing came out of its order
@@ -17,15 +17,15 @@ abbrev pub reached_by : {V : Type 0} → (V → List EntryValue) → Option V �
 reached_by items None put = put
 reached_by items (Some apart) put = items apart
 
-abbrev pub reached_in : {A : Type 0} → Intake A → List EntryValue
+abbrev pub reached_in : {A : Type 0} → Incoming A → List EntryValue
 reached_in i = reached_by (λ v. v.items) i.apart i.put.items
 
 -- a link of these parts, where so many entries were applied
-abbrev pub link_of : {A : Type 0} → Intake A → ℕ → LinkValue
+abbrev pub link_of : {A : Type 0} → Incoming A → ℕ → LinkValue
 link_of i applied = record { inbound = i.inbound; reached = reached_in i; put = i.put.items; applied = take applied i.put.items }
 
 -- of every link: so many were applied of what was put, at most 64 entries are held, and all verdicts were told
-pub record IsIntake {A : Type 0} (i : Intake A) (applied : ℕ) : Type 0 where
+pub record IsIncoming {A : Type 0} (i : Incoming A) (applied : ℕ) : Type 0 where
   pub within : applied ≤ length i.put.items
   pub few : length i.inbound.buffer.held ≤ MAX_HELD
   pub settled : i.verdicts.items ≡ []
@@ -37,21 +37,21 @@ NoneAhead n (e ∷ es) = (e.prev ≤ n) × NoneAhead (max n (own e)) es
 
 -- room for n entries that are to come, and for the verdicts on them: each that comes can be held and freed again,
 -- but the last
-pub record HasRoom {A : Type 0} (n : ℕ) (i : Intake A) (list : Vec Verdict A) : Type 0 where
+pub record HasRoom {A : Type 0} (n : ℕ) (i : Incoming A) (list : Vec Verdict A) : Type 0 where
   pub put : length i.put.items + length i.inbound.buffer.held + n ≤ vec_capacity i.put
   pub apart : IfSome i.apart (λ v. length v.items + n ≤ vec_capacity v)
   pub verdicts : length i.inbound.buffer.held + n ≤ vec_capacity i.verdicts
   pub told : length list.items + length i.inbound.buffer.held + 2 * n ≤ vec_capacity list + 1
 
 -- only the room changed, and where the entries that reached the site are listed
-pub record SameLists {A : Type 0} (old new : Intake A) : Type 0 where
+pub record SameLists {A : Type 0} (old new : Incoming A) : Type 0 where
   pub inbound : new.inbound ≡ old.inbound
   pub put : new.put.items ≡ old.put.items
   pub reached : reached_in new ≡ reached_in old
   pub verdicts : new.verdicts.items ≡ old.verdicts.items
 
 -- an entry came: the verdict v on it, and the held entries that it freed, which are told behind what was told before
-pub record IntakeTakes {A : Type 0} (old : Intake A) (before : List Verdict) (e : EntryValue) (v : BufferVerdict A) (freed : List EntryValue) (new : Intake A) (after : List Verdict) : Type 0 where
+pub record IncomingTakes {A : Type 0} (old : Incoming A) (before : List Verdict) (e : EntryValue) (v : BufferVerdict A) (freed : List EntryValue) (new : Incoming A) (after : List Verdict) : Type 0 where
   pub arrives : Arrives old.inbound.buffer e v freed new.inbound.buffer
   pub inbound : new.inbound ≡ record old.inbound { buffer = new.inbound.buffer }
   pub put : new.put.items ≡ put_after old.put.items v ++ freed

@@ -12,8 +12,8 @@ use Rattle.sub_buffer.specs.declared.verdict.Verdict.{Verdict as BufferVerdict}
 use Rattle.sub_buffer.specs.declared.verdict.Verdict.TheVariants.{Ready, Held, Repeat, AfterClose, Full}
 use Rattle.site_core.specs.Inbounds.{ready_in}
 use Rattle.transfer_world.specs.LinkEvents.{told, told_all}
-use Rattle.transfer_world.specs.Intakes.{HasRoom, IntakeTakes}
-use Rattle.transfer_world.specs.declared.link.intake.Intake.{Intake}
+use Rattle.transfer_world.specs.IncomingLists.{HasRoom, IncomingTakes}
+use Rattle.transfer_world.specs.declared.link.incoming.Incoming.{Incoming}
 use Rattle.transfer_world.specs.declared.reply.Verdict.{Verdict}
 use Rattle.transfer_world.specs.declared.reply.Verdict.TheVariants.{Ready as IsReady}
 
@@ -106,8 +106,8 @@ room_apart n (Some old) (Some new) items capacity v e lists same room =
     omega (arith, room, ap (λ es. length es) listed, longer_apart v e (items old), some_is _ _ same)
 
 -- an entry came: there is room for one less
-pub keeps_room : {A : Type 0} (n : ℕ) (old new : Intake A) (list later : Vec Verdict A) (e : EntryValue) (v : BufferVerdict A) (freed : List EntryValue)
-    → HasRoom (n + 1) old list → IntakeTakes old list.items e v freed new later.items
+pub keeps_room : {A : Type 0} (n : ℕ) (old new : Incoming A) (list later : Vec Verdict A) (e : EntryValue) (v : BufferVerdict A) (freed : List EntryValue)
+    → HasRoom (n + 1) old list → IncomingTakes old list.items e v freed new later.items
     → vec_capacity new.put ≡ vec_capacity old.put → option_map (λ l. vec_capacity l) new.apart ≡ option_map (λ l. vec_capacity l) old.apart
     → vec_capacity new.verdicts ≡ vec_capacity old.verdicts → vec_capacity later ≡ vec_capacity list → HasRoom n new later
 keeps_room n old new list later e v freed room t put apart verdicts told_room = record {

@@ -3,8 +3,8 @@ use Rattle.std.specs.Option.{option_map}
 use Rattle.sub_buffer.specs.Arrivals.{Arrives, all_ready}
 use Rattle.site_core.specs.Inbounds.{ready_in}
 use Rattle.transfer_world.specs.LinkEvents.{told as as_told}
-use Rattle.transfer_world.proofs.IntakeLaws.{puts_one, tells_one, keeps_room}
-use Rattle.transfer_world.proofs.link.intake.Intake.take.Goals as goal
+use Rattle.transfer_world.proofs.IncomingLaws.{puts_one, tells_one, keeps_room}
+use Rattle.transfer_world.proofs.link.incoming.Incoming.take.Goals as goal
 
 pub returns-clause-takes : goal.returns-clause-takes
 returns-clause-takes g c =

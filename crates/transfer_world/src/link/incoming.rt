@@ -7,7 +7,7 @@ ghost use Rattle.sub_buffer.specs.Follows.{reached_after};
 ghost use Rattle.sub_buffer.specs.declared.verdict.Verdict.{Verdict as AVerdict};
 ghost use Rattle.site_core.specs.Inbounds.{ready_in};
 ghost use Rattle.transfer_world.specs.LinkEvents.{told as as_told};
-ghost use Rattle.transfer_world.specs.Intakes.{reached_in, NoneAhead, HasRoom, SameLists, IntakeTakes};
+ghost use Rattle.transfer_world.specs.IncomingLists.{reached_in, NoneAhead, HasRoom, SameLists, IncomingTakes};
 
 use crate::reply::{Verdict, Verdicts};
 use rights_types::{Entry, OutOfMemory};
@@ -19,7 +19,7 @@ use sub_buffer::Verdict as BufferVerdict;
 /// Entries lie in `put` once they are in order. What reached the site is listed apart only once something came that
 /// was not next: until then it is what was put. It has no Model, so that the room in its lists can be spoken of.
 #[derive(Drop)]
-pub(super) struct Intake<A: Allocator> {
+pub(super) struct Incoming<A: Allocator> {
     pub(super) inbound: Inbound<A>,
     pub(super) put: Vec<Entry<A>, A>,
     pub(super) apart: Option<Vec<Entry<A>, A>>,
@@ -29,7 +29,7 @@ pub(super) struct Intake<A: Allocator> {
     pub(super) spare: Vec<Verdict, A>,
 }
 
-impl<A: Allocator + Copy> Intake<A> {
+impl<A: Allocator + Copy> Incoming<A> {
     /// Makes room for so many entries that are to come, and a list in which their verdicts can be told: on each, and
     /// again where it was held and is freed. Unless all come in order, what reached the site is listed apart.
     pub(super) fn make_room(
@@ -116,7 +116,7 @@ impl<A: Allocator + Copy> Intake<A> {
         requires empty { self.old.verdicts.items ≡ [] }
         requires room { HasRoom 1 self.old told.old }
         requires copy { IsSome self.old.apart → copy ≡ Some entry }
-        ensures takes { (v : AVerdict A) × (freed : List EntryValue) × IntakeTakes self.old told.old.items entry v freed self.new told.new.items }
+        ensures takes { (v : AVerdict A) × (freed : List EntryValue) × IncomingTakes self.old told.old.items entry v freed self.new told.new.items }
         ensures room { (n : ℕ) → HasRoom (n + 1) self.old told.old → HasRoom n self.new told.new }
     {
         self.inbound.arrive(entry, &mut self.verdicts);

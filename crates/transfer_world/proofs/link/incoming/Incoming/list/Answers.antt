@@ -1,6 +1,6 @@
 use Rattle.std.proofs.Common.{◌∙◌}
-use Rattle.transfer_world.proofs.IntakeLaws.{lists_nothing, lists_copy}
-use Rattle.transfer_world.proofs.link.intake.Intake.list.Goals as goal
+use Rattle.transfer_world.proofs.IncomingLaws.{lists_nothing, lists_copy}
+use Rattle.transfer_world.proofs.link.incoming.Incoming.list.Goals as goal
 
 pub returns-then-not-reaches-clause-lists : goal.returns-then-not-reaches-clause-lists
 returns-then-not-reaches-clause-lists g c v rest e is copied =
