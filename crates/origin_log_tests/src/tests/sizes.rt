@@ -71,7 +71,7 @@ fn is_appended<A: Allocator + Copy>(
 // read.
 const REQUESTS: Option<u64> = Some(5);
 
-/// Moves that are handed over, and moves that are copied.
+/// Moves that are handed over, and moves that are lent.
 #[test]
 fn entries_of_every_size(rt: HostRuntime) -> Result<(), Fail> {
     for index in 0..ENTRIES {
@@ -82,12 +82,12 @@ fn entries_of_every_size(rt: HostRuntime) -> Result<(), Fail> {
             is_appended(&log, memory, end, &moves)
         });
         assert_eq!(rt; listed, REQUESTS, "entry {index}");
-        let copied = requests_of(rt.alloc(), |memory| {
+        let lent = requests_of(rt.alloc(), |memory| {
             let mut log = OriginLog::new(memory, site(1));
             let end = append_slice(&rt, &mut log, &moves);
             is_appended(&log, memory, end, &moves)
         });
-        assert_eq!(rt; copied, REQUESTS, "entry {index}");
+        assert_eq!(rt; lent, REQUESTS, "entry {index}");
     }
     Ok(())
 }

@@ -17,29 +17,13 @@ use std::sync::Wait;
 use std::thread;
 use std::thread::Threads;
 use std::time::Clock;
+use test_kit::Dice;
 
 // Calls of each of eight seats.
 const CALLS: u64 = 12_500;
 
 // Entries of each of three origins. Each gives two rights to the desk's site.
 const ENTRIES: u64 = 1_000;
-
-/// Numbers that look drawn, the same in each run.
-#[derive(Clone, Copy)]
-struct Dice {
-    state: u64,
-}
-
-impl Dice {
-    // A number below the count of sides.
-    fn roll(&mut self, sides: u64) -> u64 {
-        self.state = self
-            .state
-            .wrapping_mul(6_364_136_223_846_793_005)
-            .wrapping_add(1_442_695_040_888_963_407);
-        (self.state >> 33).checked_rem(sides).unwrap_or(0)
-    }
-}
 
 /// The rights that a holder of a seat was told.
 #[derive(Clone, Copy)]
@@ -121,7 +105,7 @@ impl<D: DeskNames> Player<D> {
     }
 
     fn play<R: Wait>(mut self, rt: &R, desk: &SharedDesk<D>) -> Player<D> {
-        let mut dice = Dice { state: self.seed };
+        let mut dice = Dice::new(self.seed);
         for _ in 0..CALLS {
             self.call(rt, desk, &mut dice);
         }

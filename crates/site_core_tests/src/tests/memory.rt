@@ -15,8 +15,10 @@ fn asks(rt: &(impl Abort + AllocGlobal), before: &str, call: &str) -> Result<boo
 #[test]
 fn calls_that_ask_for_memory(rt: HostRuntime) -> Result<(), Fail> {
     // A fifth entry finds no room that the four before it have made.
-    let issued = "issue 1 2 > number 1\nissue 1 1 > number 2\nissue 1 1 > number 3\nissue 1 1 > number 4\n";
-    let waiting = "spend 1 5 0 > queued 1\nissue 1 2 > number 1\nissue 1 1 > number 2\nissue 1 1 > number 3\nissue 1 1 > number 4\n";
+    let issued =
+        "issue 1 2 > number 1\nissue 1 1 > number 2\nissue 1 1 > number 3\nissue 1 1 > number 4\n";
+    let waiting =
+        "spend 1 5 0 > queued 1\nissue 1 2 > number 1\nissue 1 1 > number 2\nissue 1 1 > number 3\nissue 1 1 > number 4\n";
     let asked = "spend 2 9 0 > queued 1\nhear 2 E 1 0 1 I:5 > taken 1\nplan 2 > asks 1\n";
     let denied = "hear 1 W 2 1 1 1 > denied D 1 2 1\n";
     let given = "issue 1 5 > number 1\ngive 1 2 3 > number 2\n";

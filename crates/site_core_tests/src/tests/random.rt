@@ -6,38 +6,22 @@ use refusing_allocator::Refusing;
 use std::alloc::{AllocError, AllocGlobal, Global};
 use std::process::Abort;
 use std::test::Fail;
+use test_kit::Dice;
 
 const GAMES: u64 = 25;
 
 const CALLS: u64 = 200;
 
-/// Numbers that look drawn, the same in each run.
-#[derive(Clone, Copy)]
-struct Dice {
-    state: u64,
-}
-
-impl Dice {
-    // A number below the count of sides.
-    fn roll(&mut self, sides: u64) -> u64 {
-        self.state = self
-            .state
-            .wrapping_mul(6_364_136_223_846_793_005)
-            .wrapping_add(1_442_695_040_888_963_407);
-        (self.state >> 33).checked_rem(sides).unwrap_or(0)
-    }
-
-    // Two of three sites.
-    fn pair(&mut self) -> (u64, u64) {
-        let site = self.roll(3).saturating_add(1);
-        let next = site.saturating_add(self.roll(2));
-        (site, (next % 3).saturating_add(1))
-    }
+// Two of three sites.
+fn pair(dice: &mut Dice) -> (u64, u64) {
+    let site = dice.roll(3).saturating_add(1);
+    let next = site.saturating_add(dice.roll(2));
+    (site, (next % 3).saturating_add(1))
 }
 
 // A call that concerns no line.
 fn command(alloc: Global, dice: &mut Dice) -> Reply {
-    let (site, peer) = dice.pair();
+    let (site, peer) = pair(dice);
     let amount = dice.roll(9).saturating_add(1);
     let time = dice.roll(1_000);
     match dice.roll(60) {
@@ -74,7 +58,7 @@ fn exchange(
     sites: &mut Sites,
     dice: &mut Dice,
 ) -> Result<(), AllocError> {
-    let (site, peer) = dice.pair();
+    let (site, peer) = pair(dice);
     match dice.roll(4) {
         0 => {
             let line = sites.say(rt, &format!(in rt.alloc(); "publish {site} {peer}")?)?;
@@ -98,7 +82,7 @@ fn exchange(
 fn game(rt: &(impl Abort + AllocGlobal), seed: u64) -> Result<Totals, AllocError> {
     let memory = Refusing::new(rt.alloc(), u64::MAX);
     let mut sites = Sites::new(rt, &memory, 3)?;
-    let mut dice = Dice { state: seed };
+    let mut dice = Dice::new(seed);
     let mut totals = Totals::of(sites.desks()).expect(rt, "kept rights");
     for call in 0..CALLS {
         if dice.roll(2) == 0 {
