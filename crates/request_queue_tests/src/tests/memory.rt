@@ -23,7 +23,7 @@ fn each_growth_of_a_new_queue_refused(rt: HostRuntime) {
             Err(OutOfMemory) => memory.refused(),
         }
     });
-    assert_eq!(rt; requests, Some(REQUESTS));
+    assert!(rt; requests == Some(REQUESTS));
 }
 
 /// A queue takes room for as many requests as it has slots, and for as many outcomes: each has three
@@ -33,9 +33,9 @@ fn room_of_the_slots(rt: HostRuntime) -> Result<(), Fail> {
     let heap = LocalHeap::new(rt.alloc(), 1 << 16)?;
     let queue = RequestQueue::new(&heap)?;
     assert!(rt; heap.used() <= 2 * SLOTS * 24);
-    assert_eq!(rt; queue.waiting(), 0);
+    assert!(rt; queue.waiting() == 0);
     drop(queue);
-    assert_eq!(rt; heap.used(), 0);
+    assert!(rt; heap.used() == 0);
     Ok(())
 }
 
@@ -45,19 +45,19 @@ fn no_call_after_new_takes_memory(rt: HostRuntime) -> Result<(), Fail> {
     let refusing = Refusing::new(rt.alloc(), REQUESTS);
     let mut queue = RequestQueue::new(&refusing)?;
     for ticket in 1..=SLOTS as u64 {
-        assert_eq!(rt; queue.put(1, ticket), Ok(ticket));
+        assert!(rt; queue.put(1, ticket) == Ok(ticket));
     }
     for ticket in 1..=SLOTS as u64 {
-        assert_eq!(rt; queue.expire_one(ticket + 1), Some(ticket));
+        assert!(rt; queue.expire_one(ticket + 1) == Some(ticket));
     }
-    assert_eq!(rt; queue.put(1, 0), Err(QueueError::QueueFull));
+    assert!(rt; queue.put(1, 0) == Err(QueueError::QueueFull));
     for ticket in 1..=SLOTS as u64 {
-        assert_eq!(rt; queue.status(ticket), Status::Expired);
+        assert!(rt; queue.status(ticket) == Status::Expired);
     }
-    assert_eq!(rt; queue.put(1, 0), Ok(33));
+    assert!(rt; queue.put(1, 0) == Ok(33));
     assert!(rt; queue.waiting() > 0);
     queue.serve_front(1);
-    assert_eq!(rt; queue.status(33), Status::Spent(1));
+    assert!(rt; queue.status(33) == Status::Spent(1));
     assert!(rt; !refusing.refused());
     Ok(())
 }

@@ -9,7 +9,7 @@ use std::test::Fail;
 fn full_queue(rt: &impl Abort, alloc: Global, amount: u64) -> Result<RequestQueue, Fail> {
     let mut queue = RequestQueue::new(alloc)?;
     for ticket in 1..=SLOTS as u64 {
-        assert_eq!(rt; queue.put(amount, 0), Ok(ticket));
+        assert!(rt; queue.put(amount, 0) == Ok(ticket));
     }
     Ok(queue)
 }
@@ -18,18 +18,18 @@ fn full_queue(rt: &impl Abort, alloc: Global, amount: u64) -> Result<RequestQueu
 #[test]
 fn requests_expire_or_are_served(rt: HostRuntime) -> Result<(), Fail> {
     let mut queue = RequestQueue::new(rt.alloc())?;
-    assert_eq!(rt; queue.put(0, 9), Err(QueueError::BadAmount));
-    assert_eq!(rt; queue.put(6, 9), Ok(1));
-    assert_eq!(rt; queue.put(1, 3), Ok(2));
-    assert_eq!(rt; queue.total(), 7);
-    assert_eq!(rt; queue.expire_one(4), Some(2));
-    assert_eq!(rt; queue.expire_one(4), None);
-    assert_eq!(rt; queue.status(2), Status::Expired);
-    assert_eq!(rt; queue.status(2), Status::Unknown);
+    assert!(rt; queue.put(0, 9) == Err(QueueError::BadAmount));
+    assert!(rt; queue.put(6, 9) == Ok(1));
+    assert!(rt; queue.put(1, 3) == Ok(2));
+    assert!(rt; queue.total() == 7);
+    assert!(rt; queue.expire_one(4) == Some(2));
+    assert!(rt; queue.expire_one(4) == None);
+    assert!(rt; queue.status(2) == Status::Expired);
+    assert!(rt; queue.status(2) == Status::Unknown);
     assert!(rt; queue.waiting() > 0);
     queue.serve_front(5);
-    assert_eq!(rt; queue.status(1), Status::Spent(5));
-    assert_eq!(rt; queue.status(1), Status::Unknown);
+    assert!(rt; queue.status(1) == Status::Spent(5));
+    assert!(rt; queue.status(1) == Status::Unknown);
     Ok(())
 }
 
@@ -37,11 +37,11 @@ fn requests_expire_or_are_served(rt: HostRuntime) -> Result<(), Fail> {
 #[test]
 fn an_outcome_keeps_its_slot(rt: HostRuntime) -> Result<(), Fail> {
     let mut queue = full_queue(&rt, rt.alloc(), 1)?;
-    assert_eq!(rt; queue.put(1, 0), Err(QueueError::QueueFull));
-    assert_eq!(rt; queue.expire_one(1), Some(1));
-    assert_eq!(rt; queue.put(1, 0), Err(QueueError::QueueFull));
-    assert_eq!(rt; queue.status(1), Status::Expired);
-    assert_eq!(rt; queue.put(1, 0), Ok(33));
+    assert!(rt; queue.put(1, 0) == Err(QueueError::QueueFull));
+    assert!(rt; queue.expire_one(1) == Some(1));
+    assert!(rt; queue.put(1, 0) == Err(QueueError::QueueFull));
+    assert!(rt; queue.status(1) == Status::Expired);
+    assert!(rt; queue.put(1, 0) == Ok(33));
     Ok(())
 }
 
@@ -49,14 +49,14 @@ fn an_outcome_keeps_its_slot(rt: HostRuntime) -> Result<(), Fail> {
 #[test]
 fn a_served_request_keeps_its_slot(rt: HostRuntime) -> Result<(), Fail> {
     let mut queue = full_queue(&rt, rt.alloc(), MAX_AMOUNT)?;
-    assert_eq!(rt; queue.total(), 32 * MAX_AMOUNT);
-    assert_eq!(rt; queue.put(MAX_AMOUNT + 1, 0), Err(QueueError::BadAmount));
+    assert!(rt; queue.total() == 32 * MAX_AMOUNT);
+    assert!(rt; queue.put(MAX_AMOUNT + 1, 0) == Err(QueueError::BadAmount));
     assert!(rt; queue.waiting() > 0);
     queue.serve_front(7);
-    assert_eq!(rt; queue.waiting(), 31);
-    assert_eq!(rt; queue.put(1, 0), Err(QueueError::QueueFull));
-    assert_eq!(rt; queue.status(1), Status::Spent(7));
-    assert_eq!(rt; queue.put(1, 0), Ok(33));
+    assert!(rt; queue.waiting() == 31);
+    assert!(rt; queue.put(1, 0) == Err(QueueError::QueueFull));
+    assert!(rt; queue.status(1) == Status::Spent(7));
+    assert!(rt; queue.put(1, 0) == Ok(33));
     Ok(())
 }
 
@@ -64,12 +64,12 @@ fn a_served_request_keeps_its_slot(rt: HostRuntime) -> Result<(), Fail> {
 #[test]
 fn an_equal_deadline_waits(rt: HostRuntime) -> Result<(), Fail> {
     let mut queue = RequestQueue::new(rt.alloc())?;
-    assert_eq!(rt; queue.put(1, 9), Ok(1));
-    assert_eq!(rt; queue.expire_one(9), None);
-    assert_eq!(rt; queue.status(1), Status::Waiting);
-    assert_eq!(rt; queue.expire_one(10), Some(1));
-    assert_eq!(rt; queue.status(1), Status::Expired);
-    assert_eq!(rt; queue.status(1), Status::Unknown);
+    assert!(rt; queue.put(1, 9) == Ok(1));
+    assert!(rt; queue.expire_one(9) == None);
+    assert!(rt; queue.status(1) == Status::Waiting);
+    assert!(rt; queue.expire_one(10) == Some(1));
+    assert!(rt; queue.status(1) == Status::Expired);
+    assert!(rt; queue.status(1) == Status::Unknown);
     Ok(())
 }
 
@@ -77,16 +77,16 @@ fn an_equal_deadline_waits(rt: HostRuntime) -> Result<(), Fail> {
 #[test]
 fn the_front_is_the_oldest(rt: HostRuntime) -> Result<(), Fail> {
     let mut queue = RequestQueue::new(rt.alloc())?;
-    assert_eq!(rt; queue.front(), None);
-    assert_eq!(rt; queue.put(6, u64::MAX), Ok(1));
-    assert_eq!(rt; queue.put(5, 0), Ok(2));
-    assert_eq!(rt; queue.status(1), Status::Waiting);
-    assert_eq!(rt; queue.front(), Some((1, Amount::new(6)?, u64::MAX)));
+    assert!(rt; queue.front() == None);
+    assert!(rt; queue.put(6, u64::MAX) == Ok(1));
+    assert!(rt; queue.put(5, 0) == Ok(2));
+    assert!(rt; queue.status(1) == Status::Waiting);
+    assert!(rt; queue.front() == Some((1, Amount::new(6)?, u64::MAX)));
     assert!(rt; queue.waiting() > 0);
     queue.serve_front(2);
-    assert_eq!(rt; queue.front(), Some((2, Amount::new(5)?, 0)));
-    assert_eq!(rt; queue.total(), 5);
-    assert_eq!(rt; queue.expire_one(0), None);
+    assert!(rt; queue.front() == Some((2, Amount::new(5)?, 0)));
+    assert!(rt; queue.total() == 5);
+    assert!(rt; queue.expire_one(0) == None);
     Ok(())
 }
 
@@ -94,14 +94,14 @@ fn the_front_is_the_oldest(rt: HostRuntime) -> Result<(), Fail> {
 #[test]
 fn late_requests_expire_in_order(rt: HostRuntime) -> Result<(), Fail> {
     let mut queue = RequestQueue::new(rt.alloc())?;
-    assert_eq!(rt; queue.put(1, 5), Ok(1));
-    assert_eq!(rt; queue.put(2, 3), Ok(2));
-    assert_eq!(rt; queue.put(3, 2), Ok(3));
-    assert_eq!(rt; queue.expire_one(4), Some(2));
-    assert_eq!(rt; queue.expire_one(4), Some(3));
-    assert_eq!(rt; queue.expire_one(4), None);
-    assert_eq!(rt; queue.front(), Some((1, Amount::new(1)?, 5)));
-    assert_eq!(rt; queue.total(), 1);
+    assert!(rt; queue.put(1, 5) == Ok(1));
+    assert!(rt; queue.put(2, 3) == Ok(2));
+    assert!(rt; queue.put(3, 2) == Ok(3));
+    assert!(rt; queue.expire_one(4) == Some(2));
+    assert!(rt; queue.expire_one(4) == Some(3));
+    assert!(rt; queue.expire_one(4) == None);
+    assert!(rt; queue.front() == Some((1, Amount::new(1)?, 5)));
+    assert!(rt; queue.total() == 1);
     Ok(())
 }
 
@@ -109,15 +109,15 @@ fn late_requests_expire_in_order(rt: HostRuntime) -> Result<(), Fail> {
 #[test]
 fn a_request_waits_until_it_is_served(rt: HostRuntime) -> Result<(), Fail> {
     let mut queue = RequestQueue::new(rt.alloc())?;
-    assert_eq!(rt; queue.put(6, 0), Ok(1));
-    assert_eq!(rt; queue.total(), 6);
-    assert_eq!(rt; queue.expire_one(0), None);
-    assert_eq!(rt; queue.status(1), Status::Waiting);
+    assert!(rt; queue.put(6, 0) == Ok(1));
+    assert!(rt; queue.total() == 6);
+    assert!(rt; queue.expire_one(0) == None);
+    assert!(rt; queue.status(1) == Status::Waiting);
     assert!(rt; queue.waiting() > 0);
     queue.serve_front(1);
-    assert_eq!(rt; queue.total(), 0);
-    assert_eq!(rt; queue.front(), None);
-    assert_eq!(rt; queue.status(1), Status::Spent(1));
-    assert_eq!(rt; queue.status(1), Status::Unknown);
+    assert!(rt; queue.total() == 0);
+    assert!(rt; queue.front() == None);
+    assert!(rt; queue.status(1) == Status::Spent(1));
+    assert!(rt; queue.status(1) == Status::Unknown);
     Ok(())
 }

@@ -9,23 +9,14 @@ use transfer_manager::{AskAnswer, Manager};
 fn each_number_is_answered_once(rt: HostRuntime) -> Result<(), Fail> {
     let mut manager = Manager::new(SiteId::new(1)?, 3);
     let first = ask(2, 1, 1, 6)?;
-    assert_eq!(rt;
-        manager.on_ask(&first, 4),
-        AskAnswer::Grant(Amount::new(4)?)
-    );
-    assert_eq!(rt;
-        answer(&mut manager, &first, 4),
-        AskAnswer::Grant(Amount::new(4)?)
-    );
-    assert_eq!(rt; manager.on_ask(&first, 4), AskAnswer::Repeated);
+    assert!(rt; manager.on_ask(&first, 4) == AskAnswer::Grant(Amount::new(4)?));
+    assert!(rt; answer(&mut manager, &first, 4) == AskAnswer::Grant(Amount::new(4)?));
+    assert!(rt; manager.on_ask(&first, 4) == AskAnswer::Repeated);
     let second = ask(2, 1, 2, 6)?;
-    assert_eq!(rt; answer(&mut manager, &second, 0), AskAnswer::Deny);
-    assert_eq!(rt; manager.on_ask(&second, 0), AskAnswer::RepeatedDeny);
-    assert_eq!(rt;
-        answer(&mut manager, &ask(2, 1, 3, 6)?, 9),
-        AskAnswer::Grant(Amount::new(6)?)
-    );
-    assert_eq!(rt; manager.on_ask(&second, 9), AskAnswer::OldAsk);
+    assert!(rt; answer(&mut manager, &second, 0) == AskAnswer::Deny);
+    assert!(rt; manager.on_ask(&second, 0) == AskAnswer::RepeatedDeny);
+    assert!(rt; answer(&mut manager, &ask(2, 1, 3, 6)?, 9) == AskAnswer::Grant(Amount::new(6)?));
+    assert!(rt; manager.on_ask(&second, 9) == AskAnswer::OldAsk);
     Ok(())
 }
 
@@ -34,15 +25,12 @@ fn each_number_is_answered_once(rt: HostRuntime) -> Result<(), Fail> {
 fn repeats_come_before_availability(rt: HostRuntime) -> Result<(), Fail> {
     let mut manager = Manager::new(SiteId::new(1)?, 3);
     let first = ask(2, 1, 1, 6)?;
-    assert_eq!(rt;
-        answer(&mut manager, &first, 10),
-        AskAnswer::Grant(Amount::new(6)?)
-    );
-    assert_eq!(rt; answer(&mut manager, &first, 0), AskAnswer::Repeated);
+    assert!(rt; answer(&mut manager, &first, 10) == AskAnswer::Grant(Amount::new(6)?));
+    assert!(rt; answer(&mut manager, &first, 0) == AskAnswer::Repeated);
     let second = ask(2, 1, 2, 6)?;
-    assert_eq!(rt; answer(&mut manager, &second, 0), AskAnswer::Deny);
-    assert_eq!(rt; answer(&mut manager, &second, 10), AskAnswer::RepeatedDeny);
-    assert_eq!(rt; manager.on_ask(&first, 0), AskAnswer::OldAsk);
+    assert!(rt; answer(&mut manager, &second, 0) == AskAnswer::Deny);
+    assert!(rt; answer(&mut manager, &second, 10) == AskAnswer::RepeatedDeny);
+    assert!(rt; manager.on_ask(&first, 0) == AskAnswer::OldAsk);
     Ok(())
 }
 
@@ -52,10 +40,10 @@ fn denials_in_turn(rt: HostRuntime) -> Result<(), Fail> {
     let mut manager = Manager::new(SiteId::new(1)?, 3);
     let first = ask(2, 1, 1, 6)?;
     let second = ask(2, 1, 2, 6)?;
-    assert_eq!(rt; answer(&mut manager, &first, 0), AskAnswer::Deny);
-    assert_eq!(rt; answer(&mut manager, &first, 0), AskAnswer::RepeatedDeny);
-    assert_eq!(rt; answer(&mut manager, &second, 0), AskAnswer::Deny);
-    assert_eq!(rt; answer(&mut manager, &first, 0), AskAnswer::OldAsk);
+    assert!(rt; answer(&mut manager, &first, 0) == AskAnswer::Deny);
+    assert!(rt; answer(&mut manager, &first, 0) == AskAnswer::RepeatedDeny);
+    assert!(rt; answer(&mut manager, &second, 0) == AskAnswer::Deny);
+    assert!(rt; answer(&mut manager, &first, 0) == AskAnswer::OldAsk);
     Ok(())
 }
 
@@ -63,15 +51,9 @@ fn denials_in_turn(rt: HostRuntime) -> Result<(), Fail> {
 #[test]
 fn askers_count_apart(rt: HostRuntime) -> Result<(), Fail> {
     let mut manager = Manager::new(SiteId::new(1)?, 3);
-    assert_eq!(rt;
-        answer(&mut manager, &ask(2, 1, 7, 6)?, 9),
-        AskAnswer::Grant(Amount::new(6)?)
-    );
-    assert_eq!(rt;
-        answer(&mut manager, &ask(3, 1, 1, 6)?, 3),
-        AskAnswer::Grant(Amount::new(3)?)
-    );
-    assert_eq!(rt; manager.on_ask(&ask(2, 1, 6, 6)?, 9), AskAnswer::OldAsk);
-    assert_eq!(rt; manager.on_ask(&ask(3, 1, 2, 6)?, 0), AskAnswer::Deny);
+    assert!(rt; answer(&mut manager, &ask(2, 1, 7, 6)?, 9) == AskAnswer::Grant(Amount::new(6)?));
+    assert!(rt; answer(&mut manager, &ask(3, 1, 1, 6)?, 3) == AskAnswer::Grant(Amount::new(3)?));
+    assert!(rt; manager.on_ask(&ask(2, 1, 6, 6)?, 9) == AskAnswer::OldAsk);
+    assert!(rt; manager.on_ask(&ask(3, 1, 2, 6)?, 0) == AskAnswer::Deny);
     Ok(())
 }

@@ -16,13 +16,13 @@ fn two_peers_are_asked(rt: HostRuntime) -> Result<(), Fail> {
     assert!(rt; apply(alloc, &mut book, one, &[issue(4)])?);
     assert!(rt; apply(alloc, &mut book, three, &[issue(4)])?);
     let mut queue = RequestQueue::new(alloc)?;
-    assert_eq!(rt; queue.put(10, 0), Ok(1));
+    assert!(rt; queue.put(10, 0) == Ok(1));
     let mut manager = Manager::new(two, 3);
-    assert_eq!(rt; manager.plan(&book, &queue), 2);
-    assert_eq!(rt; manager.outstanding(one), Some(ask(2, 1, 1, 4)?));
-    assert_eq!(rt; manager.outstanding(three), Some(ask(2, 3, 1, 4)?));
-    assert_eq!(rt; manager.outstanding(two), None);
-    assert_eq!(rt; manager.plan(&book, &queue), 0);
+    assert!(rt; manager.plan(&book, &queue) == 2);
+    assert!(rt; manager.outstanding(one) == Some(ask(2, 1, 1, 4)?));
+    assert!(rt; manager.outstanding(three) == Some(ask(2, 3, 1, 4)?));
+    assert!(rt; manager.outstanding(two) == None);
+    assert!(rt; manager.plan(&book, &queue) == 0);
     Ok(())
 }
 
@@ -34,16 +34,16 @@ fn a_grant_ends_its_ask(rt: HostRuntime) -> Result<(), Fail> {
     let mut book = Book::new(alloc, two, 2)?;
     assert!(rt; apply(alloc, &mut book, one, &[issue(10)])?);
     let mut queue = RequestQueue::new(alloc)?;
-    assert_eq!(rt; queue.put(6, 9), Ok(1));
+    assert!(rt; queue.put(6, 9) == Ok(1));
     let mut manager = Manager::new(two, 2);
-    assert_eq!(rt; manager.plan(&book, &queue), 1);
-    assert_eq!(rt; manager.outstanding(one), Some(ask(2, 1, 1, 6)?));
+    assert!(rt; manager.plan(&book, &queue) == 1);
+    assert!(rt; manager.outstanding(one) == Some(ask(2, 1, 1, 6)?));
     manager.on_grant(one, AskNumber::new(2)?);
-    assert_eq!(rt; manager.outstanding(one), Some(ask(2, 1, 1, 6)?));
+    assert!(rt; manager.outstanding(one) == Some(ask(2, 1, 1, 6)?));
     manager.on_grant(one, AskNumber::new(1)?);
-    assert_eq!(rt; manager.outstanding(one), None);
+    assert!(rt; manager.outstanding(one) == None);
     assert!(rt; apply(alloc, &mut book, one, &[grant(2, 6, 1)])?);
-    assert_eq!(rt; manager.plan(&book, &queue), 0);
+    assert!(rt; manager.plan(&book, &queue) == 0);
     Ok(())
 }
 
@@ -55,14 +55,14 @@ fn a_denied_peer_is_asked_again(rt: HostRuntime) -> Result<(), Fail> {
     let mut book = Book::new(alloc, two, 2)?;
     assert!(rt; apply(alloc, &mut book, one, &[issue(10)])?);
     let mut queue = RequestQueue::new(alloc)?;
-    assert_eq!(rt; queue.put(6, 0), Ok(1));
+    assert!(rt; queue.put(6, 0) == Ok(1));
     let mut manager = Manager::new(two, 2);
-    assert_eq!(rt; manager.plan(&book, &queue), 1);
+    assert!(rt; manager.plan(&book, &queue) == 1);
     manager.on_deny(one, AskNumber::new(1)?);
     manager.on_deny(one, AskNumber::new(1)?);
-    assert_eq!(rt; manager.outstanding(one), None);
-    assert_eq!(rt; manager.plan(&book, &queue), 1);
-    assert_eq!(rt; manager.outstanding(one), Some(ask(2, 1, 2, 6)?));
+    assert!(rt; manager.outstanding(one) == None);
+    assert!(rt; manager.plan(&book, &queue) == 1);
+    assert!(rt; manager.outstanding(one) == Some(ask(2, 1, 2, 6)?));
     Ok(())
 }
 
@@ -73,14 +73,14 @@ fn no_peer_with_rights(rt: HostRuntime) -> Result<(), Fail> {
     let (one, two, three) = (SiteId::new(1)?, SiteId::new(2)?, SiteId::new(3)?);
     let mut book = Book::new(alloc, three, 3)?;
     assert!(rt; apply(alloc, &mut book, two, &[spend(6)])?);
-    assert_eq!(rt; book.known(two), -6);
-    assert_eq!(rt; book.known(one), 0);
+    assert!(rt; book.known(two) == -6);
+    assert!(rt; book.known(one) == 0);
     let mut queue = RequestQueue::new(alloc)?;
-    assert_eq!(rt; queue.put(1, 0), Ok(1));
+    assert!(rt; queue.put(1, 0) == Ok(1));
     let mut manager = Manager::new(three, 3);
-    assert_eq!(rt; manager.plan(&book, &queue), 0);
-    assert_eq!(rt; manager.outstanding(one), None);
-    assert_eq!(rt; manager.outstanding(two), None);
+    assert!(rt; manager.plan(&book, &queue) == 0);
+    assert!(rt; manager.outstanding(one) == None);
+    assert!(rt; manager.outstanding(two) == None);
     Ok(())
 }
 
@@ -95,14 +95,14 @@ fn an_ask_has_a_greatest_amount(rt: HostRuntime) -> Result<(), Fail> {
     assert!(rt; apply(alloc, &mut book, three, &[most, most, most])?);
     let mut queue = RequestQueue::new(alloc)?;
     for ticket in 1..=3u64 {
-        assert_eq!(rt; queue.put(MAX_AMOUNT, 0), Ok(ticket));
+        assert!(rt; queue.put(MAX_AMOUNT, 0) == Ok(ticket));
     }
     let mut manager = Manager::new(two, 3);
-    assert_eq!(rt; manager.plan(&book, &queue), 1);
-    assert_eq!(rt; manager.outstanding(three), Some(ask(2, 3, 1, MAX_AMOUNT)?));
-    assert_eq!(rt; manager.outstanding(one), None);
-    assert_eq!(rt; manager.plan(&book, &queue), 1);
-    assert_eq!(rt; manager.outstanding(one), Some(ask(2, 1, 1, MAX_AMOUNT)?));
+    assert!(rt; manager.plan(&book, &queue) == 1);
+    assert!(rt; manager.outstanding(three) == Some(ask(2, 3, 1, MAX_AMOUNT)?));
+    assert!(rt; manager.outstanding(one) == None);
+    assert!(rt; manager.plan(&book, &queue) == 1);
+    assert!(rt; manager.outstanding(one) == Some(ask(2, 1, 1, MAX_AMOUNT)?));
     Ok(())
 }
 
@@ -115,14 +115,14 @@ fn a_closed_peer_is_not_asked(rt: HostRuntime) -> Result<(), Fail> {
     assert!(rt; apply(alloc, &mut book, one, &[issue(8)])?);
     assert!(rt; apply(alloc, &mut book, three, &[issue(5)])?);
     let mut queue = RequestQueue::new(alloc)?;
-    assert_eq!(rt; queue.put(4, 0), Ok(1));
+    assert!(rt; queue.put(4, 0) == Ok(1));
     let mut manager = Manager::new(two, 3);
-    assert_eq!(rt; manager.plan(&book, &queue), 1);
-    assert_eq!(rt; manager.outstanding(one), Some(ask(2, 1, 1, 4)?));
+    assert!(rt; manager.plan(&book, &queue) == 1);
+    assert!(rt; manager.outstanding(one) == Some(ask(2, 1, 1, 4)?));
     assert!(rt; apply(alloc, &mut book, one, &[Move::Close])?);
-    assert_eq!(rt; manager.outstanding(one), Some(ask(2, 1, 1, 4)?));
-    assert_eq!(rt; manager.plan(&book, &queue), 1);
-    assert_eq!(rt; manager.outstanding(one), None);
-    assert_eq!(rt; manager.outstanding(three), Some(ask(2, 3, 1, 4)?));
+    assert!(rt; manager.outstanding(one) == Some(ask(2, 1, 1, 4)?));
+    assert!(rt; manager.plan(&book, &queue) == 1);
+    assert!(rt; manager.outstanding(one) == None);
+    assert!(rt; manager.outstanding(three) == Some(ask(2, 3, 1, 4)?));
     Ok(())
 }
