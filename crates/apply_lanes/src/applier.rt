@@ -166,6 +166,8 @@ impl<D: DeskNames, G: Gate, A: Allocator> Applier<D, G, A> {
         ensures ok { IfOk result (λ n. Runs D.id self.old n self.new) }
         ensures ended { OnOk result (self.new.ended ≡ true) }
         ensures counted { IsCounted D.id self.new }
+        // What a failed step leaves, the last one.
+        ensures err { IfErr result (λ fault. (last : ApplierValue A) × StepFails last fault self.new) }
         ensures same { (self.new.origin ≡ self.old.origin) × (self.new.outlet.lane ≡ self.old.outlet.lane) }
     {
         for count in 0..u64::MAX {
