@@ -7,6 +7,7 @@ Each test binds to free ports, ends by itself, and says what it expected where i
 'N passed, M failed'.
 """
 
+import os
 import socket
 import subprocess
 import sys
@@ -17,6 +18,9 @@ from cluster import PROGRAM, Cluster, Proxy, Site, SiteEnded, at, expect, free_p
 
 program = sys.argv[1] if len(sys.argv) > 1 else PROGRAM
 Cluster.program = program
+
+# What the script of that name runs, once it has built it.
+BUILT = os.path.join(os.path.dirname(PROGRAM), "crates", "rights_site", "out", "rights_site")
 
 
 def connect(cluster, number, text=b""):
@@ -285,6 +289,45 @@ def a_peer_that_reads_nothing():
     deaf.close()
 
 
+# ---- memory that is refused
+
+
+def limited(kibibytes):
+    """The program, and no script before it, where it gets no more address space than that: in words."""
+    limited_program = BUILT if program == PROGRAM and os.path.exists(BUILT) else program
+    return ["sh", "-c", f'ulimit -v {kibibytes}; exec "$0" "$@"', limited_program, "run"]
+
+
+def a_start_without_memory():
+    """It runs, or says why not and ends."""
+    starts = 0
+    for kibibytes in range(4000, 64001, 4000):
+        words = limited(kibibytes) + ["--id", "1", "--sites", "2", "--listen", "127.0.0.1:0", "2=127.0.0.1:1"]
+        done = subprocess.run(words, input=b"issue 10\nspend 3 9\n", capture_output=True, timeout=30)
+        if done.returncode == 0:
+            starts += 1
+            expect((done.stdout, done.stderr), (b"number 1\nspent 2\n", b""), kibibytes)
+        else:
+            expect((done.returncode, done.stderr), (1, b"rights-site: out of memory\n"), kibibytes)
+    if starts == 0:
+        raise AssertionError("it never started")
+
+
+def memory_runs_out():
+    """A spend that gets none changes nothing, and the site goes on with what it has."""
+    with Cluster(2, started=[1], programs={1: limited(60000)}) as sites:
+        expect(sites[1].ask("issue 1000000000"), "number 1")
+        spent = 0
+        replies = []
+        while "error OutOfMemory" not in replies:
+            replies = sites[1].ask_all(["spend 1 9"] * 500)
+            spent += sum(reply.startswith("spent ") for reply in replies)
+        expect(sites[1].ask("spend 1 9"), "error OutOfMemory")
+        status = sites[1].status()
+        expect((status["spent"], status["number"], status["held"]), (spent, spent + 1, 10**9 - spent))
+        expect(sites[1].end(), 0)
+
+
 # ---- ends
 
 
@@ -348,6 +391,8 @@ def main():
         bad_lines_are_skipped,
         a_flood_grows_nothing,
         a_peer_that_reads_nothing,
+        a_start_without_memory,
+        memory_runs_out,
         the_end_of_input_ends_it,
         an_address_in_use_is_refused,
         other_addresses,
