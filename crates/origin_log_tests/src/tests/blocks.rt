@@ -40,7 +40,7 @@ fn a_long_log_gives_each_entry_back(rt: HostRuntime) -> Result<(), Fail> {
         let own = index as u64 * 16 + 16;
         let prev = index as u64 * 16;
         assert!(rt; gives(&log, index, prev, &grants(index)));
-        let found = log.answer(&query(own, own)?).expect(&rt, "an answer");
+        let found = log.answer(&query(&rt, own, own)).expect(&rt, "an answer");
         assert_eq!(rt; found.len(), 1);
         for entry in &found {
             assert!(rt; is_entry(entry, 1, prev, &grants(index)));

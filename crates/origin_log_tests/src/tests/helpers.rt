@@ -7,12 +7,11 @@ use origin_log::{LogError, OriginLog};
 use rights_types::{Amount, Frontier, MAX_NUMBER, Move, Query, SiteId, Total};
 use std::alloc::{AllocGlobal, Allocator};
 use std::process::Abort;
-use std::test::Fail;
-use test_kit::{is_entry, issue, site, spend};
+use test_kit::{give, is_entry, issue, site, spend};
 
 /// Site 2 asks site 1 for these numbers.
-pub(crate) fn query(first: u64, last: u64) -> Result<Query, Fail> {
-    Ok(Query::new(site(2), site(1), first, last)?)
+pub(crate) fn query(rt: &impl Abort, first: u64, last: u64) -> Query {
+    Query::new(site(2), site(1), first, last).expect(rt, "a query")
 }
 
 fn is_special(m: &Move) -> bool
@@ -113,6 +112,39 @@ pub(crate) fn three_entries<A: Allocator + Copy>(
     append(rt, &mut log, &[spend(1); 3])?;
     append(rt, &mut log, &[spend(2)])?;
     Ok(log)
+}
+
+/// A log of two entries: one that gives 3 to site 2, and one that gives it 3 more and closes.
+pub(crate) fn closed_for_its_heir<A: Allocator + Copy>(
+    rt: &(impl Abort + AllocGlobal),
+    alloc: A,
+) -> Result<OriginLog<A>, LogError> {
+    let mut log = OriginLog::new(alloc, site(1));
+    append(rt, &mut log, &[issue(10), spend(4), give(2, 3)])?;
+    close_for(
+        rt,
+        &mut log,
+        site(2),
+        Amount::known(3),
+        frontier(rt, &[0, 0]),
+    )?;
+    Ok(log)
+}
+
+/// Whether the query of a gap is answered by this line.
+pub(crate) fn is_answered<A: Allocator + Copy>(
+    log: &OriginLog<A>,
+    first: u64,
+    last: u64,
+    wanted: &[u8],
+) -> bool {
+    let Ok(query) = Query::new(site(2), site(1), first, last) else {
+        return false;
+    };
+    match log.answer_line(&query) {
+        Ok(line) => line.as_slice() == wanted,
+        Err(_) => false,
+    }
 }
 
 /// Whether the entry at an index is read again whole.

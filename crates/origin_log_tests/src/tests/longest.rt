@@ -40,17 +40,28 @@ pub(crate) fn longest_log<A: Allocator + Copy>(
 }
 
 /// Site 16 asks for all of them, and gets 16.
-pub(crate) fn query_for_all() -> Result<Query, Fail> {
-    Ok(Query::new(site(16), site(15), 1, 272)?)
+pub(crate) fn query_for_all(rt: &impl Abort) -> Query {
+    Query::new(site(16), site(15), 1, 272).expect(rt, "a query")
 }
 
 /// An entry's text behind this one, without its line feed.
-fn add_text(text: &mut Vec<u8>, head: &[u8]) -> Result<(), AllocError> {
+fn add_text<A: Allocator>(text: &mut Vec<u8, A>, head: &[u8]) -> Result<(), AllocError> {
     text.extend_from_slice(head)?;
     for _ in 0..16u8 {
         text.extend_from_slice(b" G:16:1000000000:1000000000")?;
     }
     Ok(())
+}
+
+/// The line of the longest answer.
+fn answers_text<A: Allocator>(alloc: A) -> Result<Vec<u8, A>, AllocError> {
+    let mut text = Vec::from_slice(alloc, b"A 15 16")?;
+    for head in &HEADS {
+        text.push(b';')?;
+        add_text(&mut text, head)?;
+    }
+    text.push(b'\n')?;
+    Ok(text)
 }
 
 #[test]
@@ -67,23 +78,17 @@ fn the_longest_entries(rt: HostRuntime) -> Result<(), Fail> {
 }
 
 #[test]
-fn the_longest_answer(rt: HostRuntime) -> Result<(), Fail> {
+fn the_longest_answer(rt: HostRuntime) {
     let log = longest_log(&rt, rt.alloc()).expect(&rt, "memory");
-    let query = query_for_all()?;
+    let query = query_for_all(&rt);
+    let wanted = answers_text(rt.alloc()).expect(&rt, "memory");
+    let line = log.answer_line(&query).expect(&rt, "an answer");
+    assert_eq!(rt; line.as_slice(), wanted.as_slice());
     let found = log.answer(&query).expect(&rt, "an answer");
     assert_eq!(rt; found.len(), 16);
     for (index, entry) in found.iter().enumerate() {
         assert!(rt; is_entry(entry, 15, index as u64 * 16, &[longest_grant(); 16]));
     }
-    let mut wanted = Vec::from_slice(rt.alloc(), b"A 15 16")?;
-    for head in &HEADS {
-        wanted.push(b';')?;
-        add_text(&mut wanted, head)?;
-    }
-    wanted.push(b'\n')?;
-    let line = log.answer_line(&query).expect(&rt, "an answer");
-    assert_eq!(rt; line.as_slice(), wanted.as_slice());
-    Ok(())
 }
 
 /// A gift to an heir, and a frontier of sixteen sites.

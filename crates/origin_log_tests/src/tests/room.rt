@@ -28,7 +28,7 @@ fn requests_of_log(rt: &(impl Abort + AllocGlobal)) -> u64 {
 /// The line of an answer of 16 entries is made in one piece.
 #[test]
 fn an_answers_line_makes_one_request(rt: HostRuntime) -> Result<(), Fail> {
-    let query = query_for_all()?;
+    let query = query_for_all(&rt);
     let refusing = Refusing::new(rt.alloc(), requests_of_log(&rt).saturating_add(1));
     let log = longest_log(&rt, &refusing).expect(&rt, "memory");
     assert!(rt; log.answer_line(&query).is_ok());
@@ -41,7 +41,7 @@ fn an_answers_line_makes_one_request(rt: HostRuntime) -> Result<(), Fail> {
 /// An answer of 16 entries makes a request for the list, and one for each entry.
 #[test]
 fn an_answer_makes_a_request_for_each_entry(rt: HostRuntime) -> Result<(), Fail> {
-    let query = query_for_all()?;
+    let query = query_for_all(&rt);
     let refusing = Refusing::new(rt.alloc(), requests_of_log(&rt).saturating_add(17));
     let log = longest_log(&rt, &refusing).expect(&rt, "memory");
     assert!(rt; log.answer(&query).is_ok());
@@ -56,7 +56,7 @@ fn an_answer_takes_no_spare_bytes(rt: HostRuntime) -> Result<(), Fail> {
     let heap = LocalHeap::new(rt.alloc(), 1 << 18)?;
     let log = longest_log(&rt, &heap).expect(&rt, "memory");
     let kept = heap.used();
-    let found = log.answer(&query_for_all()?).expect(&rt, "an answer");
+    let found = log.answer(&query_for_all(&rt)).expect(&rt, "an answer");
     let answered = heap.used();
     let mut copies: Vec<Entry<&LocalHeap>, &LocalHeap> = Vec::with_capacity(&heap, MAX_ANSWER)?;
     for entry in &found {
@@ -75,7 +75,7 @@ fn an_answer_takes_no_spare_bytes(rt: HostRuntime) -> Result<(), Fail> {
 fn an_answers_line_takes_no_spare_bytes(rt: HostRuntime) -> Result<(), Fail> {
     let heap = LocalHeap::new(rt.alloc(), 1 << 18)?;
     let log = longest_log(&rt, &heap).expect(&rt, "memory");
-    let query = query_for_all()?;
+    let query = query_for_all(&rt);
     let kept = heap.used();
     let line = log.answer_line(&query).expect(&rt, "an answer");
     // The heap deals in pieces of at most 32 bytes.
