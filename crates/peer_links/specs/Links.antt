@@ -1,8 +1,9 @@
 -- What was read from a connection, and what was written to it.
 use Rattle.std.specs.Prelude.{◌≡◌, ◌≢◌, ℕ, ◌+◌, ◌<◌, ◌≤◌, ◌⊎◌, List, [], length, Option, Result, Ok, Err}
 use Rattle.std.specs.List.{All}
-use Rattle.std.specs.Io.KnownBytes.{Consumes}
+use Rattle.std.specs.Io.KnownBytes.{Consumes, IsAtEnd}
 use Rattle.rights_types.specs.Messages.MessageValue.{AHello}
+use Rattle.rights_types.specs.declared.limits.TheConstants.{MAX_LINE as LONGEST}
 use Rattle.entry_codec.specs.Pieces.{pieces, IsLine}
 use Rattle.entry_codec.specs.Cutter.{CutterView, IsFed}
 use Rattle.entry_codec.specs.Spelling.{Spells}
@@ -21,6 +22,10 @@ IsOpen text = All (λ b. b ≢ LINE_END) text
 -- no line feed but at the end
 abbrev pub IsOneLine : List ℕ → Type 0
 IsOneLine text = IsOpen text ⊎ IsLine text
+
+-- there is no more of the first line than this text: it ends, it is as long as a line may be, or the stream is at its end
+abbrev pub HasEnded : List ℕ → Option (List ℕ) → Type 0
+HasEnded text left = IsLine text ⊎ (length text ≡ LONGEST) ⊎ IsAtEnd left
 
 -- what the first line of a connection comes to, of which this text was read
 abbrev pub Greets : List ℕ → Result ℕ LinkFault → Type 0

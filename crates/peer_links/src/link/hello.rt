@@ -1,12 +1,12 @@
 //! The first line of a connection.
-ghost use Rattle.std.specs.Prelude.{◌≡◌, ◌≤◌, ℕ, [], ◌∷◌, List, length, IfOk, IfErr, IfSome, IfNone, OnOk};
-ghost use Rattle.std.specs.Io.KnownBytes.{Consumes};
+ghost use Rattle.std.specs.Prelude.{◌≡◌, ◌≤◌, ℕ, [], ◌∷◌, List, length, IfOk, IfErr, IfSome, IfNone, IsErrOf, OnOk};
+ghost use Rattle.std.specs.Io.KnownBytes.{Consumes, IsAtEnd};
 ghost use Rattle.rights_types.specs.Messages.MessageValue.{AHello};
 ghost use Rattle.rights_types.specs.Values.{value_of};
 ghost use Rattle.rights_types.specs.declared.limits.TheConstants.{MAX_LINE as LONGEST};
 ghost use Rattle.entry_codec.specs.Cutter.{IsFed, view_of};
 ghost use Rattle.entry_codec.specs.Pieces.{IsLine};
-ghost use Rattle.peer_links.specs.Links.{Greets, HasRead, IsOneLine};
+ghost use Rattle.peer_links.specs.Links.{Greets, HasEnded, HasRead, IsOneLine};
 ghost use Rattle.peer_links.specs.declared.link.LinkFault.{LinkFault};
 
 use crate::lines::LINE_END;
@@ -24,7 +24,8 @@ pub fn read_hello<I: Read, A: Allocator + Copy>(
 ) -> Result<SiteId, LinkFault>
     requires { IsFed cutter.old [] [] }
     ensures read { (text : List ℕ) × Consumes (I.remaining reader.old) (I.remaining reader.new) text
-        × IsOneLine text × (length text ≤ LONGEST) × Greets text result }
+        × IsOneLine text × (length text ≤ LONGEST) × Greets text result
+        × (IsErrOf result LinkFault.NoHello → HasEnded text (I.remaining reader.new)) }
     // Nothing of the line is left in the cutter.
     ensures empty { OnOk result (cutter.new ≡ view_of []) }
 {
@@ -43,7 +44,8 @@ fn read_first<I: Read, A: Allocator + Copy>(
 ) -> Result<(), LinkFault>
     requires { IsFed cutter.old [] [] }
     ensures read { (text : List ℕ) × Consumes (I.remaining reader.old) (I.remaining reader.new) text
-        × (length text ≤ LONGEST) × HasRead text result cutter.new }
+        × (length text ≤ LONGEST) × HasRead text result cutter.new
+        × (IsErrOf result LinkFault.NoHello → HasEnded text (I.remaining reader.new)) }
 {
     'bytes: for _ in 0..MAX_LINE {
         let Some(byte) = read_byte(reader)? else {
@@ -61,7 +63,8 @@ fn read_first<I: Read, A: Allocator + Copy>(
 fn read_byte<I: Read>(reader: &mut I) -> Result<Option<u8>, LinkFault>
     ensures some { IfOk result (λ byte. IfSome byte (λ byte.
         Consumes (I.remaining reader.old) (I.remaining reader.new) (byte ∷ []))) }
-    ensures none { IfOk result (λ byte. IfNone byte (Consumes (I.remaining reader.old) (I.remaining reader.new) [])) }
+    ensures none { IfOk result (λ byte. IfNone byte (
+        Consumes (I.remaining reader.old) (I.remaining reader.new) [] × IsAtEnd (I.remaining reader.new))) }
     ensures failed { IfErr result (λ fault. (fault ≡ LinkFault.ReadFailed)
         × Consumes (I.remaining reader.old) (I.remaining reader.new) []) }
 {

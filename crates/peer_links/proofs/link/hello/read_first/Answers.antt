@@ -1,4 +1,4 @@
-use Rattle.std.proofs.Common.{[], ◌∷◌, ◌++◌, arith, length-append}
+use Rattle.std.proofs.Common.{◌≡◌, [], ◌∷◌, ◌++◌, length, arith, inl, inr, refl, length-append}
 use Rattle.std.proofs.KnownBytes.{Consumes-trans}
 use Rattle.peer_links.proofs.HelloLaws.{open_more, line_ends, push_byte, byte_read}
 use Rattle.peer_links.proofs.link.hello.read_first.Goals as goal
@@ -15,6 +15,7 @@ returns-then-byte-eq-LINE_END g c =
         Consumes-trans _ _ _ inv.0 (b ∷ []) inv.1 one,
         omega (arith, inv.2, c.bytes-test.true, length-append inv.0 (b ∷ [])),
         (line_ends inv.0 b inv.3 c.if-byte-eq-LINE_END.true, fed),
+        λ e. absurd cc,
       );
     }
 
@@ -30,3 +31,9 @@ bytes-preserved g c =
       open_more inv.0 b inv.3 c.if-byte-eq-LINE_END.false,
       fed,
     )
+
+pub returns : goal.returns
+returns g c =
+    let inv = c.bytes.invariant in
+    let all : length inv.0 ≡ 16384 = omega (arith, inv.2, c.bytes-test.false, c.bytes.auto.counter-end) in
+    record { read = (inv.0, inv.1, omega (arith, all), (inv.3, inl refl), λ _. inr (inl all)) }
