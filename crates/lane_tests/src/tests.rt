@@ -1,19 +1,30 @@
 //! Lanes and tallies, by one thread and by two.
-ghost use Rattle.std.specs.Prelude.{◌≡◌, ◌+◌, [], false, IfOk, IfSome};
-ghost use Rattle.rights_types.specs.Entries.{IsEntry, own, closes};
-ghost use Rattle.apply_lanes.specs.Items.{Continues, Precedes, IsOpen};
+ghost use Rattle.std.specs.Prelude.{◌≡◌, ◌+◌, ◌≤◌, [], false, true, IfSome};
+ghost use Rattle.rights_types.specs.Entries.{EntryValue, IsEntry, own, closes};
+ghost use Rattle.apply_lanes.specs.Items.{Continues, IsOpen, MayBeFirst, Precedes};
 
 use apply_lanes::laws::ends_taken_in;
 use apply_lanes::{Inlet, Item, LaneClosed, Outlet, Portion, Tally, lane};
 use refusing_allocator::Refusing;
-use rights_types::{Amount, Entry, Frontier, Move, OutOfMemory, SiteId};
+use rights_types::{Amount, Entry, Frontier, Move, SiteId};
 use std::alloc::Global;
 use std::marker::Brand;
+use std::process::Abort;
 use std::sync::ledger::{Blank, Ledger};
 use std::sync::{Mutex, Wait};
-use std::test::Fail;
 use std::thread;
 use std::thread::Threads;
+
+/// The ends of a new lane of so many places.
+fn lane_of<R: Abort>(rt: &R, alloc: Global, places: usize) -> (Inlet, Outlet)
+    requires { (1 ≤ places) × (places ≤ 32) }
+    ensures lane { result.1.lane ≡ result.0.lane }
+    ensures inlet { result.0.put ≡ [] }
+    ensures first { (e : EntryValue) → MayBeFirst e → Continues result.0.put e }
+    ensures outlet { result.1.taken ≡ [] }
+{
+    lane(alloc, places).expect(rt, "a lane")
+}
 
 /// An entry of site 2 that issues one right.
 fn one(alloc: Global, prev: u64) -> Option<Entry>
@@ -32,42 +43,110 @@ fn entry_of(alloc: Global, prev: u64, moves: &[Move]) -> Option<Entry>
     Entry::new(SiteId::known(2), prev, moves).ok()
 }
 
-/// Puts an entry and the one that follows it, and then End.
-fn put_two<R: Wait>(rt: &R, mut inlet: Inlet, first: Entry, second: Entry) -> Option<Inlet>
-    requires first { Continues inlet.put first }
-    requires second { Precedes first second }
-    ensures { IfSome result (λ i. i.lane ≡ inlet.lane) }
+/// The first entry of site 2, which issues one right.
+fn first<R: Abort>(rt: &R, alloc: Global) -> Entry
+    ensures { MayBeFirst result }
 {
-    inlet.put(rt, first).ok()?;
-    inlet.put(rt, second).ok()?;
-    inlet.end(rt).ok()?;
-    Some(inlet)
+    one(alloc, 0).expect(rt, "an entry")
+}
+
+/// Puts the next entry.
+fn put<R: Wait + Abort>(rt: &R, mut inlet: Inlet, entry: Entry) -> Inlet
+    requires { Continues inlet.put entry }
+    ensures lane { result.lane ≡ inlet.lane }
+    ensures open { IsOpen result.put }
+    ensures next { (f : EntryValue) → Precedes entry f → Continues result.put f }
+{
+    assert!(rt; inlet.put(rt, entry).is_ok());
+    inlet
+}
+
+/// Puts End.
+fn end<R: Wait + Abort>(rt: &R, mut inlet: Inlet) -> Inlet
+    requires { IsOpen inlet.put }
+    ensures { result.lane ≡ inlet.lane }
+{
+    assert!(rt; inlet.end(rt).is_ok());
+    inlet
+}
+
+/// Puts an entry of two moves, one that closes its log, and End.
+fn put_log<R: Wait + Abort>(
+    rt: &R,
+    alloc: Global,
+    inlet: Inlet,
+    gift: &[Move],
+    closing: &[Move],
+) -> Inlet
+    requires { (e : EntryValue) → MayBeFirst e → Continues inlet.put e }
+    ensures { result.lane ≡ inlet.lane }
+{
+    let first = entry_of(alloc, 0, gift).expect(rt, "a gift");
+    let last = entry_of(alloc, 2, closing).expect(rt, "a closing entry");
+    assert!(rt; !first.closes() && first.own() == 2 && last.closes());
+    let inlet = put(rt, inlet, first);
+    let inlet = put(rt, inlet, last);
+    end(rt, inlet)
 }
 
 /// Puts so many entries, and then End.
-fn put_all<R: Wait>(rt: &R, alloc: Global, mut inlet: Inlet, count: u64) -> Option<Inlet>
+fn put_all<R: Wait + Abort>(rt: &R, alloc: Global, mut inlet: Inlet, count: u64) -> Inlet
     requires { inlet.put ≡ [] }
-    ensures { IfSome result (λ i. i.lane ≡ inlet.lane) }
+    ensures { result.lane ≡ inlet.lane }
 {
     for number in 0..count {
-        let entry = one(alloc, number)?;
-        inlet.put(rt, entry).ok()?;
+        let entry = one(alloc, number).expect(rt, "an entry");
+        assert!(rt; inlet.put(rt, entry).is_ok());
     }
-    inlet.end(rt).ok()?;
-    Some(inlet)
+    end(rt, inlet)
 }
 
-/// Takes the next item, if it is an entry.
-fn take_entry<R: Wait>(rt: &R, outlet: &mut Outlet) -> Option<Entry>
+/// The entry that comes back, where the lane is closed.
+fn refused<R: Wait>(rt: &R, inlet: &mut Inlet, entry: Entry) -> Option<Entry>
+    requires { Continues inlet.old.put entry }
+    ensures { IfSome result (λ back. (back ≡ entry) × (inlet.new.put ≡ inlet.old.put)) }
+{
+    match inlet.put(rt, entry) {
+        Ok(()) => None,
+        Err(LaneClosed { entry }) => entry,
+    }
+}
+
+/// Whether the next item is the entry of site 2 between these numbers.
+fn takes<R: Wait>(rt: &R, outlet: &mut Outlet, prev: u64, own: u64) -> bool
     requires { IsOpen outlet.old.taken }
     ensures lane { outlet.new.lane ≡ outlet.old.lane }
-    ensures open { IfSome result (λ _. IsOpen outlet.new.taken) }
+    ensures open { result ≡ true → IsOpen outlet.new.taken }
 {
     match outlet.take(rt) {
-        Ok(Item::Entry(entry)) => Some(entry),
-        Ok(Item::End) => None,
-        Err(_) => None,
+        Ok(Item::Entry(entry)) => is_between(&entry, prev, own),
+        _ => false,
     }
+}
+
+/// Whether the next item is that entry, with these moves.
+fn takes_moves<R: Wait>(rt: &R, outlet: &mut Outlet, prev: u64, own: u64, moves: &[Move]) -> bool
+    requires { IsOpen outlet.old.taken }
+    ensures lane { outlet.new.lane ≡ outlet.old.lane }
+    ensures open { result ≡ true → IsOpen outlet.new.taken }
+{
+    match outlet.take(rt) {
+        Ok(Item::Entry(entry)) => is_between(&entry, prev, own) && entry.moves() == moves,
+        _ => false,
+    }
+}
+
+/// Whether it is the entry of site 2 between these numbers.
+fn is_between(entry: &Entry, prev: u64, own: u64) -> bool {
+    entry.origin() == SiteId::known(2) && entry.prev() == prev && entry.own() == own
+}
+
+/// Whether the next item is End.
+fn takes_end<R: Wait>(rt: &R, outlet: &mut Outlet) -> bool
+    requires { IsOpen outlet.old.taken }
+    ensures { outlet.new.lane ≡ outlet.old.lane }
+{
+    matches!(outlet.take(rt), Ok(Item::End))
 }
 
 /// Takes all items to End: how many entries came, and whether each came after the one before it.
@@ -97,51 +176,39 @@ fn take_all<R: Wait>(rt: &R, mut outlet: Outlet) -> (Outlet, u64, bool)
 
 /// A thousand entries pass through a lane of one place between two threads, in order.
 #[test]
-fn a_thousand_entries_between_two_threads(rt: HostRuntime) -> Result<(), Fail> {
-    let (inlet, outlet) = lane(rt.alloc(), 1)?;
+fn a_thousand_entries_between_two_threads(rt: HostRuntime) {
     let alloc = rt.alloc();
+    let (inlet, outlet) = lane_of(&rt, alloc, 1);
     let (inlet, (outlet, count, in_order)) = thread::join(
         &rt,
-        || -> Option<Inlet>
+        || -> Inlet
             requires { inlet.put ≡ [] }
-            ensures { IfSome result (λ i. i.lane ≡ inlet.lane) }
+            ensures { result.lane ≡ inlet.lane }
         { put_all(&rt, alloc, inlet, 1000) },
         || -> (Outlet, u64, bool)
             requires { outlet.taken ≡ [] }
             ensures { result.0.lane ≡ outlet.lane }
         { take_all(&rt, outlet) },
     );
-    let inlet = inlet.ok_or("put")?;
+    let _outlet = ends_taken_in(inlet, outlet);
     assert_eq!(rt; count, 1000);
     assert!(rt; in_order);
-    let _outlet = ends_taken_in(inlet, outlet);
-    Ok(())
 }
 
 /// What is put is taken, and then End.
 #[test]
-fn an_entry_and_end(rt: HostRuntime) -> Result<(), Fail> {
-    let (mut inlet, mut outlet) = lane(rt.alloc(), 2)?;
-    let entry = one(rt.alloc(), 0).ok_or("entry")?;
-    inlet.put(&rt, entry).ok().ok_or("put")?;
-    inlet.end(&rt).ok().ok_or("end")?;
-    let Ok(Item::Entry(entry)) = outlet.take(&rt) else {
-        return Err(Fail::from("take"));
-    };
-    assert_eq!(rt;
-        (entry.origin(), entry.prev(), entry.own()),
-        (SiteId::known(2), 0, 1)
-    );
-    let Ok(Item::End) = outlet.take(&rt) else {
-        return Err(Fail::from("take"));
-    };
+fn an_entry_and_end(rt: HostRuntime) {
+    let (inlet, mut outlet) = lane_of(&rt, rt.alloc(), 2);
+    let inlet = put(&rt, inlet, first(&rt, rt.alloc()));
+    let inlet = end(&rt, inlet);
+    assert!(rt; takes(&rt, &mut outlet, 0, 1));
+    assert!(rt; takes_end(&rt, &mut outlet));
     let _outlet = ends_taken_in(inlet, outlet);
-    Ok(())
 }
 
 /// An entry of two moves and the one that closes the log come as they were put, and then End.
 #[test]
-fn a_log_to_its_closing_entry(rt: HostRuntime) -> Result<(), Fail> {
+fn a_log_to_its_closing_entry(rt: HostRuntime) {
     let gift = [
         Move::Issue(Amount::known(5)),
         Move::Give {
@@ -149,88 +216,55 @@ fn a_log_to_its_closing_entry(rt: HostRuntime) -> Result<(), Fail> {
             amount: Amount::known(5),
         },
     ];
-    let closing = [Move::CloseAt(Frontier::new(&[7, 0])?)];
-    let (inlet, mut outlet) = lane(rt.alloc(), 3)?;
-    let first = entry_of(rt.alloc(), 0, &gift).ok_or("a gift")?;
-    let last = entry_of(rt.alloc(), 2, &closing).ok_or("a closing entry")?;
-    if first.closes() || first.own() != 2 || !last.closes() {
-        return Err(Fail::from("the entries"));
-    }
-    let inlet = put_two(&rt, inlet, first, last).ok_or("put")?;
-    let first = take_entry(&rt, &mut outlet).ok_or("take")?;
-    assert_eq!(rt;
-        (first.origin(), first.prev(), first.own()),
-        (SiteId::known(2), 0, 2)
-    );
-    assert_eq!(rt; first.moves(), gift.as_slice());
-    let last = take_entry(&rt, &mut outlet).ok_or("take the closing entry")?;
-    assert_eq!(rt;
-        (last.origin(), last.prev(), last.own()),
-        (SiteId::known(2), 2, 3)
-    );
-    assert_eq!(rt; last.moves(), closing.as_slice());
-    let Ok(Item::End) = outlet.take(&rt) else {
-        return Err(Fail::from("take End"));
-    };
+    let frontier = Frontier::new(&[7, 0]).expect(&rt, "a frontier");
+    let closing = [Move::CloseAt(frontier)];
+    let (inlet, mut outlet) = lane_of(&rt, rt.alloc(), 3);
+    let inlet = put_log(&rt, rt.alloc(), inlet, &gift, &closing);
+    assert!(rt; takes_moves(&rt, &mut outlet, 0, 2, &gift));
+    assert!(rt; takes_moves(&rt, &mut outlet, 2, 3, &closing));
+    assert!(rt; takes_end(&rt, &mut outlet));
     let _outlet = ends_taken_in(inlet, outlet);
-    Ok(())
 }
 
 /// Once the outlet is gone, an entry comes back, and so it is with each later call.
 #[test]
-fn no_outlet(rt: HostRuntime) -> Result<(), Fail> {
-    let (mut inlet, outlet) = lane(rt.alloc(), 1)?;
+fn no_outlet(rt: HostRuntime) {
+    let (mut inlet, outlet) = lane_of(&rt, rt.alloc(), 1);
     drop(outlet);
-    let entry = one(rt.alloc(), 0).ok_or("entry")?;
-    let Err(LaneClosed { entry: Some(back) }) = inlet.put(&rt, entry) else {
-        return Err(Fail::from("put"));
-    };
-    assert_eq!(rt; back.own(), 1);
-    let Err(LaneClosed { entry: Some(again) }) = inlet.put(&rt, back) else {
-        return Err(Fail::from("put again"));
-    };
-    assert_eq!(rt; again.own(), 1);
+    let entry = first(&rt, rt.alloc());
+    let entry = refused(&rt, &mut inlet, entry).expect(&rt, "the entry");
+    assert!(rt; entry.own() == 1);
+    let entry = refused(&rt, &mut inlet, entry).expect(&rt, "the entry again");
+    assert!(rt; entry.own() == 1);
     assert!(rt; inlet.end(&rt).is_err());
-    Ok(())
 }
 
 /// Once the inlet is gone, what waits is taken, and then the lane is closed.
 #[test]
-fn no_inlet(rt: HostRuntime) -> Result<(), Fail> {
-    let (mut inlet, mut outlet) = lane(rt.alloc(), 2)?;
-    let entry = one(rt.alloc(), 0).ok_or("entry")?;
-    inlet.put(&rt, entry).ok().ok_or("put")?;
-    drop(inlet);
-    let Ok(Item::Entry(_)) = outlet.take(&rt) else {
-        return Err(Fail::from("take"));
-    };
+fn no_inlet(rt: HostRuntime) {
+    let (inlet, mut outlet) = lane_of(&rt, rt.alloc(), 2);
+    drop(put(&rt, inlet, first(&rt, rt.alloc())));
+    assert!(rt; takes(&rt, &mut outlet, 0, 1));
     assert!(rt; outlet.take(&rt).is_err());
     assert!(rt; outlet.take(&rt).is_err());
-    Ok(())
 }
 
 /// Each growth that a lane needs is refused in turn, until it is made.
 #[test]
-fn each_growth_of_a_lane_refused(rt: HostRuntime) -> Result<(), Fail> {
+fn each_growth_of_a_lane_refused(rt: HostRuntime) {
     let mut refused = false;
     let mut made = false;
     for granted in 0..100u64 {
         let refusing = Refusing::new(rt.alloc(), granted);
-        match lane(&refusing, 32) {
-            Ok(_ends) => {
-                assert!(rt; !refusing.refused());
-                made = true;
-                break;
-            }
-            Err(OutOfMemory) => {
-                assert!(rt; refusing.refused());
-                refused = true;
-            }
+        made = lane(&refusing, 32).is_ok();
+        assert!(rt; made != refusing.refused());
+        if made {
+            break;
         }
+        refused = true;
     }
     assert!(rt; refused);
     assert!(rt; made);
-    Ok(())
 }
 
 /// Adds one so many times, and answers the portion.
@@ -250,19 +284,14 @@ fn add_ones<L: Ledger, R: Wait>(
 }
 
 /// Two threads add to one sum, each with its portion: when both are back, the sum is what they told.
-fn two_portions<L: Ledger + Send + Sync, R: Threads + Wait + Sync>(
-    rt: &R,
-    blank: Blank,
-) -> Result<(), Fail>
+fn two_portions<L: Ledger + Send + Sync, R: Threads + Wait + Abort + Sync>(rt: &R, blank: Blank)
     requires name { blank.name ≡ L.name }
     requires parts { (blank.parts ≡ L.parts) × (L.parts ≡ 3) }
 {
     let mut tally = Tally::<L>::open(blank, 2);
-    let first = tally.split().ok_or("a portion")?;
-    let second = tally.split().ok_or("another")?;
-    if tally.split().is_some() {
-        return Err(Fail::from("a third portion"));
-    }
+    let first = tally.split().expect(rt, "a portion");
+    let second = tally.split().expect(rt, "another");
+    assert!(rt; tally.split().is_none(), "a third portion");
     let tally = Mutex::new(tally);
     let shared = &tally;
     let (first, second) = thread::join(
@@ -271,22 +300,14 @@ fn two_portions<L: Ledger + Send + Sync, R: Threads + Wait + Sync>(
         move || add_ones(rt, shared, second, 20),
     );
     let mut tally = tally.into_inner();
-    if tally.left() != 0 {
-        return Err(Fail::from("both portions are out"));
-    }
+    assert!(rt; tally.left() == 0, "both portions are out");
     let told = (tally.collect(first), tally.collect(second));
-    if tally.left() != 2 {
-        return Err(Fail::from("both portions are back"));
-    }
+    assert!(rt; tally.left() == 2, "both portions are back");
     tally.settle();
-    if told == (10, 20) && tally.sum() == 30 {
-        Ok(())
-    } else {
-        Err(Fail::from("the sum"))
-    }
+    assert!(rt; told == (10, 20) && tally.sum() == 30, "the sum");
 }
 
 #[test]
-fn two_threads_add_to_a_tally(rt: HostRuntime) -> Result<(), Fail> {
-    two_portions::<Brand, HostRuntime>(&rt, Blank::new(3))
+fn two_threads_add_to_a_tally(rt: HostRuntime) {
+    two_portions::<Brand, HostRuntime>(&rt, Blank::new(3));
 }

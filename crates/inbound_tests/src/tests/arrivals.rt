@@ -1,9 +1,9 @@
 //! Many entries that come to one inbound.
 
-use crate::tests::steps::{Came, Said, at_site_2, comes};
+use crate::tests::steps::{Came, Said, at_site_2, comes, readers};
 use crate::tests::texts::{add_entry, entry_line};
+use site_core::Inbound;
 use std::alloc::{AllocError, Global};
-use std::test::Fail;
 use sub_buffer::State;
 
 // The answer of entries of one move: after 0, and after 79 down to 65.
@@ -19,39 +19,43 @@ fn answer_backwards(alloc: Global) -> Result<Vec<u8>, AllocError> {
 }
 
 // 1 is ready and frees 2 to 65; fourteen are held, which the last one frees.
-fn most_verdicts(alloc: Global) -> Result<Vec<Said>, AllocError> {
-    let mut said = Vec::new(alloc);
-    for number in 1..=65u64 {
-        said.push(Said::Ready(number))?;
+fn most_verdicts() -> [Said; 94] {
+    let mut said = [Said::Held; 94];
+    for index in 0..65usize {
+        said[index] = Said::Ready(index as u64 + 1);
     }
-    for _ in 0..14u8 {
-        said.push(Said::Held)?;
+    for index in 79..94usize {
+        said[index] = Said::Ready(index as u64 - 13);
     }
-    for number in 66..=80u64 {
-        said.push(Said::Ready(number))?;
+    said
+}
+
+// Whether the entry of one move after this number comes to that.
+fn entry_comes(alloc: Global, inbound: &mut Inbound<Global>, prev: u16, said: Said) -> bool {
+    match entry_line(alloc, prev, 1, "", " I:1") {
+        Ok(line) => comes(inbound, &line, Came::Entries(&[said])),
+        Err(_) => false,
     }
-    Ok(said)
+}
+
+// Whether the answer brings the most verdicts.
+fn answer_comes(alloc: Global, inbound: &mut Inbound<Global>) -> bool {
+    match answer_backwards(alloc) {
+        Ok(line) => comes(inbound, &line, Came::Entries(&most_verdicts())),
+        Err(_) => false,
+    }
 }
 
 /// Sixty-four entries are held and one more is not; then one line brings 94 verdicts, the most.
 #[test]
-fn most_verdicts_on_a_line(rt: HostRuntime) -> Result<(), Fail> {
-    let mut inbound = at_site_2(rt.alloc())?;
+fn most_verdicts_on_a_line(rt: HostRuntime) {
+    let mut inbound = at_site_2(rt.alloc()).expect(&rt, "memory");
     for prev in 1..=65u16 {
-        let line = entry_line(rt.alloc(), prev, 1, "", " I:1")?;
         let said = if prev < 65 { Said::Held } else { Said::Full };
-        assert!(rt;
-            comes(&mut inbound, &line, Came::Entries(&[said])),
-            "after {prev}"
-        );
+        let came = entry_comes(rt.alloc(), &mut inbound, prev, said);
+        assert!(rt; came, "after {prev}");
     }
     assert_eq!(rt; inbound.held_count(), 64);
-    let said = most_verdicts(rt.alloc())?;
-    assert_eq!(rt; said.len(), 94);
-    let answer = answer_backwards(rt.alloc())?;
-    assert!(rt; comes(&mut inbound, &answer, Came::Entries(&said)));
-    assert_eq!(rt; inbound.last(), 80);
-    assert_eq!(rt; inbound.held_count(), 0);
-    assert_eq!(rt; inbound.state(), State::Normal);
-    Ok(())
+    assert!(rt; answer_comes(rt.alloc(), &mut inbound));
+    assert!(rt; readers(&inbound) == (State::Normal, 80, 0));
 }

@@ -1,8 +1,9 @@
 //! Worked examples.
 
 use crate::tests::steps::{Came, Said, Step, at_site_1, at_site_2, first_wrong};
+use rights_types::OutOfMemory;
 use site_core::InboundError;
-use std::test::Fail;
+use std::alloc::Global;
 use sub_buffer::State;
 
 /// The three entries of one log: the later one comes first, and an answer brings the two before it.
@@ -59,9 +60,15 @@ const LYING: [Step; 7] = [
     Step::Is(State::Normal),
 ];
 
+// The first step that does not come out as told of a fresh inbound, if there is one.
+fn first_wrong_of_new(alloc: Global, steps: &[Step]) -> Result<Option<usize>, OutOfMemory> {
+    let mut inbound = at_site_2(alloc)?;
+    Ok(first_wrong(&mut inbound, steps))
+}
+
 /// Each of these is for a fresh inbound.
 #[test]
-fn lines_of_one_origin(rt: HostRuntime) -> Result<(), Fail> {
+fn lines_of_one_origin(rt: HostRuntime) {
     let runs = [
         LATER_FIRST.as_slice(),
         LOST.as_slice(),
@@ -69,33 +76,29 @@ fn lines_of_one_origin(rt: HostRuntime) -> Result<(), Fail> {
         LYING.as_slice(),
     ];
     for (run, steps) in runs.iter().enumerate() {
-        let mut inbound = at_site_2(rt.alloc())?;
-        assert_eq!(rt; first_wrong(&mut inbound, steps), None, "run {run}");
+        let wrong = first_wrong_of_new(rt.alloc(), steps);
+        assert_eq!(rt; wrong, Ok(None), "run {run}");
     }
-    Ok(())
 }
 
 /// Messages of each kind, of the origin and of others.
+const MESSAGES: [Step; 9] = [
+    Step::Line("Q 2 1 1 4\n", Came::Query(1, 4)),
+    Step::Line("H 2\n", Came::Hello),
+    Step::Line("W 2 1 3 6\n", Came::Ask(3, 6)),
+    Step::Line("D 2 1 7\n", Came::Deny(7)),
+    Step::Line("B 1 5\n", Came::Refused(InboundError::WrongOrigin)),
+    Step::Line("Q 2 3 1 4\n", Came::Refused(InboundError::BadSite)),
+    Step::Line("E 2 0 1 R:3:1\n", Came::Refused(InboundError::BadSite)),
+    Step::Line(
+        "A 2 1;E 2 0 1 I:1;E 2 1 2 I:1\n",
+        Came::Entries(&[Said::Ready(1), Said::Ready(2)]),
+    ),
+    Step::Line("A 2 1\n", Came::Entries(&[])),
+];
+
 #[test]
-fn messages_of_each_kind(rt: HostRuntime) -> Result<(), Fail> {
-    let mut inbound = at_site_1(rt.alloc())?;
-    let wrong = first_wrong(
-        &mut inbound,
-        &[
-            Step::Line("Q 2 1 1 4\n", Came::Query(1, 4)),
-            Step::Line("H 2\n", Came::Hello),
-            Step::Line("W 2 1 3 6\n", Came::Ask(3, 6)),
-            Step::Line("D 2 1 7\n", Came::Deny(7)),
-            Step::Line("B 1 5\n", Came::Refused(InboundError::WrongOrigin)),
-            Step::Line("Q 2 3 1 4\n", Came::Refused(InboundError::BadSite)),
-            Step::Line("E 2 0 1 R:3:1\n", Came::Refused(InboundError::BadSite)),
-            Step::Line(
-                "A 2 1;E 2 0 1 I:1;E 2 1 2 I:1\n",
-                Came::Entries(&[Said::Ready(1), Said::Ready(2)]),
-            ),
-            Step::Line("A 2 1\n", Came::Entries(&[])),
-        ],
-    );
-    assert_eq!(rt; wrong, None);
-    Ok(())
+fn messages_of_each_kind(rt: HostRuntime) {
+    let mut inbound = at_site_1(rt.alloc()).expect(&rt, "memory");
+    assert_eq!(rt; first_wrong(&mut inbound, &MESSAGES), None);
 }

@@ -1,19 +1,28 @@
 //! Want of memory, and how much memory lines take.
 
-use crate::tests::steps::{Came, Said, at_site_2, at_site_2_of_16, comes, is_outcome, is_query};
+use crate::tests::steps::{
+    Came, Said, at_site_2, at_site_2_of_16, comes, is_outcome, is_query, readers,
+};
 use crate::tests::texts::{LONG_GRANT, answer_line};
 use linked_list_allocator::LocalHeap;
 use refusing_allocator::Refusing;
 use rights_types::{MAX_ANSWER, MAX_MOVES, Move, OutOfMemory};
 use site_core::{Inbound, InboundError};
 use std::alloc::{AllocError, Allocator};
-use std::test::Fail;
-use sub_buffer::{MAX_VERDICTS, State, Verdict};
+use sub_buffer::{MAX_VERDICTS, Verdict};
 use test_kit::{longest_grant, requests_of};
 
-// What an inbound says of itself.
-fn readers<A: Allocator + Copy>(inbound: &Inbound<A>) -> (State, u64, usize) {
-    (inbound.state(), inbound.last(), inbound.held_count())
+// Whether the line comes to that, unless it finds no memory.
+fn tries_line<A: Allocator + Copy>(
+    inbound: &mut Inbound<A>,
+    line: &[u8],
+    came: Came,
+) -> Result<bool, OutOfMemory> {
+    let outcome = inbound.on_line(line);
+    if is_outcome(&outcome, Came::Refused(InboundError::OutOfMemory)) {
+        return Err(OutOfMemory);
+    }
+    Ok(is_outcome(&outcome, came))
 }
 
 /// Whether the line comes to that. Where memory is refused to it, it says so and changes nothing, and comes
@@ -26,13 +35,11 @@ pub(crate) fn comes_at_last<A: Allocator + Copy>(
 ) -> bool {
     let before = readers(inbound);
     let refused = memory.refused();
-    let first = inbound.on_line(line);
+    let first = tries_line(inbound, line, came);
     if memory.refused() == refused {
-        return is_outcome(&first, came);
+        return first == Ok(true);
     }
-    is_outcome(&first, Came::Refused(InboundError::OutOfMemory))
-        && readers(inbound) == before
-        && comes(inbound, line, came)
+    first.is_err() && readers(inbound) == before && comes(inbound, line, came)
 }
 
 const HELD: Came = Came::Entries(&[Said::Held]);
@@ -83,6 +90,14 @@ fn asks_nothing<A: Allocator + Copy>(inbound: &mut Inbound<A>) -> bool {
 
 const QUERY: Option<&str> = Some("Q 2 1 1 4\n");
 
+// Whether the line asks for the numbers 1 to 4, unless it finds no memory.
+fn asks<A: Allocator + Copy>(inbound: &mut Inbound<A>, again: bool) -> Result<bool, OutOfMemory> {
+    match inbound.query_line(again) {
+        Err(OutOfMemory) => Err(OutOfMemory),
+        query => Ok(is_query(&query, QUERY)),
+    }
+}
+
 // Whether the line asks for the numbers 1 to 4. Where memory is refused to it, that is told, the gap counts
 // as asked for and nothing else has changed, and the line can be asked for again.
 fn asks_at_last<A: Allocator + Copy>(
@@ -92,14 +107,14 @@ fn asks_at_last<A: Allocator + Copy>(
 ) -> bool {
     let before = readers(inbound);
     let refused = memory.refused();
-    let first = inbound.query_line(again);
+    let first = asks(inbound, again);
     if memory.refused() == refused {
-        return is_query(&first, QUERY);
+        return first == Ok(true);
     }
-    matches!(first, Err(OutOfMemory))
+    first.is_err()
         && readers(inbound) == before
         && asks_nothing(inbound)
-        && is_query(&inbound.query_line(true), QUERY)
+        && asks(inbound, true) == Ok(true)
 }
 
 fn asks_for_a_gap<A: Allocator + Copy>(memory: &Refusing<A>) -> bool {
@@ -132,36 +147,38 @@ fn room_of_an_answer(heap: &LocalHeap) -> Result<usize, AllocError> {
     Ok(room)
 }
 
+// How many bytes the verdicts on a line take, unless it is refused.
+fn bytes_of_verdicts(
+    heap: &LocalHeap,
+    inbound: &mut Inbound<&LocalHeap>,
+    line: &[u8],
+) -> Option<usize> {
+    let fresh = heap.used();
+    match inbound.on_line(line) {
+        Ok(_arrival) => Some(heap.used().saturating_sub(fresh)),
+        Err(_) => None,
+    }
+}
+
+// Whether the answer of the numbers up to 256 takes that room, and gives it back.
+fn answer_takes(heap: &LocalHeap, line: &[u8], room: usize) -> bool {
+    let Ok(mut inbound) = at_site_2_of_16(heap) else {
+        return false;
+    };
+    let fresh = heap.used();
+    bytes_of_verdicts(heap, &mut inbound, line) == Some(room)
+        && inbound.last() == 256
+        && heap.used() == fresh
+}
+
 /// The longest answer takes the room of 94 verdicts and of its moves, and gives it back. While it is read, it
 /// takes little more.
 #[test]
-fn bytes_of_the_longest_answer(rt: HostRuntime) -> Result<(), Fail> {
-    let line = answer_line(rt.alloc(), 16, 16, 0, LONG_GRANT)?;
-    let heap = LocalHeap::new(rt.alloc(), 40_000)?;
-    let room = room_of_an_answer(&heap)?;
-    let mut inbound = at_site_2_of_16(&heap)?;
-    let fresh = heap.used();
-    let arrival = inbound.on_line(&line);
-    assert!(rt; arrival.is_ok());
-    assert_eq!(rt; inbound.last(), 256);
-    assert_eq!(rt; heap.used().saturating_sub(fresh), room);
-    drop(arrival);
-    assert_eq!(rt; heap.used(), fresh);
-    Ok(())
-}
-
-// How many bytes are used once the line has come to that.
-fn used_after(
-    heap: &LocalHeap,
-    inbound: &mut Inbound<&LocalHeap>,
-    line: &str,
-    came: Came,
-) -> Option<usize> {
-    if comes(inbound, line.as_bytes(), came) {
-        Some(heap.used())
-    } else {
-        None
-    }
+fn bytes_of_the_longest_answer(rt: HostRuntime) {
+    let line = answer_line(rt.alloc(), 16, 16, 0, LONG_GRANT).expect(&rt, "memory");
+    let heap = LocalHeap::new(rt.alloc(), 40_000).expect(&rt, "memory");
+    let room = room_of_an_answer(&heap).expect(&rt, "memory");
+    assert!(rt; answer_takes(&heap, &line, room));
 }
 
 /// Lines, what they come to, and how many entries are held then.
@@ -188,32 +205,49 @@ const KEPT: [(&str, Came, usize); 7] = [
     ("E 1 0 1 I:1\n", Came::Entries(&[Said::Repeat]), 0),
 ];
 
+// Whether the line comes to that, so many entries are held then, and their moves alone are kept.
+fn keeps(
+    heap: &LocalHeap,
+    inbound: &mut Inbound<&LocalHeap>,
+    fresh: usize,
+    line: &str,
+    came: Came,
+    held: usize,
+) -> bool {
+    if !comes(inbound, line.as_bytes(), came) {
+        return false;
+    }
+    let used = heap.used();
+    let most = fresh.saturating_add(held.saturating_mul(160));
+    used >= fresh && used <= most && inbound.held_count() == held
+}
+
 /// Entries that are held keep their moves alone, and all others nothing.
 #[test]
-fn bytes_that_are_kept(rt: HostRuntime) -> Result<(), Fail> {
-    let heap = LocalHeap::new(rt.alloc(), 1 << 16)?;
-    let mut inbound = at_site_2(&heap)?;
+fn bytes_that_are_kept(rt: HostRuntime) {
+    let heap = LocalHeap::new(rt.alloc(), 1 << 16).expect(&rt, "memory");
+    let mut inbound = at_site_2(&heap).expect(&rt, "memory");
     let fresh = heap.used();
     for (line, came, held) in &KEPT {
-        let used = used_after(&heap, &mut inbound, line, *came);
-        let most = fresh.saturating_add(held.saturating_mul(160));
-        assert!(rt; used >= Some(fresh) && used <= Some(most), "{line}");
-        assert_eq!(rt; inbound.held_count(), *held, "{line}");
+        let kept = keeps(&heap, &mut inbound, fresh, line, *came, *held);
+        assert!(rt; kept, "{line}");
     }
-    Ok(())
+}
+
+// Whether the longest query takes that room at most.
+fn query_takes(heap: &LocalHeap, inbound: &mut Inbound<&LocalHeap>, most: usize) -> bool {
+    let fresh = heap.used();
+    let query = inbound.query_line(false);
+    is_query(&query, Some("Q 2 1 1 1000000000\n")) && heap.used() <= fresh.saturating_add(most)
 }
 
 /// A query's line takes the room of its bytes, to the heap's next 16.
 #[test]
-fn bytes_of_a_query(rt: HostRuntime) -> Result<(), Fail> {
-    let heap = LocalHeap::new(rt.alloc(), 1 << 16)?;
-    let mut inbound = at_site_2(&heap)?;
+fn bytes_of_a_query(rt: HostRuntime) {
+    let heap = LocalHeap::new(rt.alloc(), 1 << 16).expect(&rt, "memory");
+    let mut inbound = at_site_2(&heap).expect(&rt, "memory");
     assert!(rt; comes(&mut inbound, b"B 1 1000000000\n", Came::Beat));
     let fresh = heap.used();
-    let query = inbound.query_line(false);
-    assert!(rt; is_query(&query, Some("Q 2 1 1 1000000000\n")));
-    assert!(rt; heap.used() <= fresh.saturating_add(32));
-    drop(query);
+    assert!(rt; query_takes(&heap, &mut inbound, 32));
     assert_eq!(rt; heap.used(), fresh);
-    Ok(())
 }

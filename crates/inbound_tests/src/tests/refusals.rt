@@ -1,9 +1,8 @@
 //! Lines that are refused, and the order of the causes.
 
-use crate::tests::steps::{Came, at_site_2, comes};
+use crate::tests::steps::{Came, at_site_2, comes, readers};
 use entry_codec::{LineError, Place};
 use site_core::InboundError;
-use std::test::Fail;
 use sub_buffer::State;
 
 const LINES: [(&str, InboundError); 25] = [
@@ -46,16 +45,11 @@ const LINES: [(&str, InboundError); 25] = [
 
 /// A line that is refused changes nothing.
 #[test]
-fn lines_that_are_refused(rt: HostRuntime) -> Result<(), Fail> {
-    let mut inbound = at_site_2(rt.alloc())?;
+fn lines_that_are_refused(rt: HostRuntime) {
+    let mut inbound = at_site_2(rt.alloc()).expect(&rt, "memory");
     for (line, error) in &LINES {
-        assert!(rt;
-            comes(&mut inbound, line.as_bytes(), Came::Refused(*error)),
-            "{line}"
-        );
+        let came = comes(&mut inbound, line.as_bytes(), Came::Refused(*error));
+        assert!(rt; came, "{line}");
     }
-    assert_eq!(rt; inbound.last(), 0);
-    assert_eq!(rt; inbound.held_count(), 0);
-    assert_eq!(rt; inbound.state(), State::Normal);
-    Ok(())
+    assert!(rt; readers(&inbound) == (State::Normal, 0, 0));
 }

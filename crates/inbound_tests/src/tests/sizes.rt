@@ -8,7 +8,6 @@ use refusing_allocator::Refusing;
 use rights_types::{OutOfMemory, SiteId};
 use site_core::Inbound;
 use std::alloc::{AllocError, Allocator, Global};
-use std::test::Fail;
 use sub_buffer::State;
 use test_kit::requests_of;
 
@@ -29,20 +28,23 @@ const MOVES: [&str; 6] = [" I:10", " S:9", " G:2:8:7", " R:3:6", " V:4:5", LONG_
 
 const CLOSES: [&str; 2] = [" C", " K:0:1:2:3:4:5:6:7:8:9:10:11:12:13:14:1000000000"];
 
+// How many requests the first entry of a log makes.
+fn requests_of_entry(alloc: Global, count: u16, each: &str, last: &str) -> Option<u64> {
+    let line = entry_line(alloc, 0, count, each, last).ok()?;
+    requests_of_line(alloc, &line, &[Said::Ready(u64::from(count))])
+}
+
 /// Entries of 1 to 16 moves of each kind, of which the last closes or not.
 #[test]
-fn entries_of_every_size(rt: HostRuntime) -> Result<(), Fail> {
+fn entries_of_every_size(rt: HostRuntime) {
     for count in 1..=16u16 {
-        let said = [Said::Ready(u64::from(count))];
         for each in &MOVES {
             for last in [*each, CLOSES[0], CLOSES[1]] {
-                let line = entry_line(rt.alloc(), 0, count, each, last)?;
-                let requests = requests_of_line(rt.alloc(), &line, &said);
+                let requests = requests_of_entry(rt.alloc(), count, each, last);
                 assert_eq!(rt; requests, Some(3), "{count} moves{each}, then{last}");
             }
         }
     }
-    Ok(())
 }
 
 // The own numbers of entries, of which the first has so many moves, and each further one so many more.
@@ -58,9 +60,17 @@ fn all_ready(alloc: Global, entries: u16, first: u16, more: u16) -> Result<Vec<S
     Ok(said)
 }
 
+// How many requests an answer makes, of which the first entry has so many moves, and each further one so many
+// more.
+fn requests_of_answer(alloc: Global, entries: u16, first: u16, more: u16) -> Option<u64> {
+    let line = answer_line(alloc, entries, first, more, LONG_GRANT).ok()?;
+    let said = all_ready(alloc, entries, first, more).ok()?;
+    requests_of_line(alloc, &line, &said)
+}
+
 /// Answers of 0 to 16 entries: of 1, of 16, and of 1 to 16 moves.
 #[test]
-fn answers_of_every_size(rt: HostRuntime) -> Result<(), Fail> {
+fn answers_of_every_size(rt: HostRuntime) {
     for entries in 0..=16u16 {
         // The inbound and the verdicts take one request each, the list one, and each entry one.
         let wanted = if entries == 0 {
@@ -69,9 +79,7 @@ fn answers_of_every_size(rt: HostRuntime) -> Result<(), Fail> {
             u64::from(entries) + 3
         };
         for (first, more) in [(1, 0), (16, 0), (1, 1)] {
-            let line = answer_line(rt.alloc(), entries, first, more, LONG_GRANT)?;
-            let said = all_ready(rt.alloc(), entries, first, more)?;
-            let requests = requests_of_line(rt.alloc(), &line, &said);
+            let requests = requests_of_answer(rt.alloc(), entries, first, more);
             assert_eq!(rt;
                 requests,
                 Some(wanted),
@@ -79,7 +87,6 @@ fn answers_of_every_size(rt: HostRuntime) -> Result<(), Fail> {
             );
         }
     }
-    Ok(())
 }
 
 // Whether a first beat leads to that query, unless memory is refused.

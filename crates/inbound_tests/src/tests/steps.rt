@@ -58,6 +58,11 @@ pub(crate) fn at_site_2_of_16<A: Allocator + Copy>(alloc: A) -> Result<Inbound<A
     Inbound::new(alloc, site(2), site(1), 16)
 }
 
+/// What an inbound says of itself: its state, its last number, and how many entries it holds.
+pub(crate) fn readers<A: Allocator + Copy>(inbound: &Inbound<A>) -> (State, u64, usize) {
+    (inbound.state(), inbound.last(), inbound.held_count())
+}
+
 /// The first step that does not come out as told, if there is one.
 pub(crate) fn first_wrong<A: Allocator + Copy>(
     inbound: &mut Inbound<A>,

@@ -7,15 +7,20 @@ pub(crate) const LONG_GRANT: &str = " G:16:1000000000:1000000000";
 
 // Adds a space and a number below 1,000.
 fn add_number<A: Allocator>(text: &mut Vec<u8, A>, number: u16) -> Result<(), AllocError> {
+    let digits = [
+        b'0' + (number / 100 % 10) as u8,
+        b'0' + (number / 10 % 10) as u8,
+        b'0' + (number % 10) as u8,
+    ];
+    let zeros = if number >= 100 {
+        0
+    } else if number >= 10 {
+        1
+    } else {
+        2
+    };
     text.push(b' ')?;
-    if number >= 100 {
-        text.push(b'0' + (number / 100 % 10) as u8)?;
-    }
-    if number >= 10 {
-        text.push(b'0' + (number / 10 % 10) as u8)?;
-    }
-    text.push(b'0' + (number % 10) as u8)?;
-    Ok(())
+    text.extend_from_slice(&digits[zeros..])
 }
 
 /// Adds an entry after a number: so many moves, of which the last is another one.

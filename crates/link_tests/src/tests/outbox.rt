@@ -8,7 +8,6 @@ use refusing_allocator::Refusing;
 use rights_types::{Beat, Message, OutOfMemory, SiteId};
 use std::alloc::{Allocator, Global};
 use std::sync::Wait;
-use std::test::Fail;
 use std::thread;
 use std::thread::Threads;
 use test_kit::requests_of;
@@ -67,34 +66,56 @@ fn takes_beats<R: Wait>(rt: &R, alloc: Global, outbox: &Outbox, first: u64, last
     true
 }
 
-#[test]
-fn many_lines_fit_and_no_more(rt: HostRuntime) -> Result<(), Fail> {
-    let outbox = Outbox::new(rt.alloc())?;
-    assert_eq!(rt; OUTBOX_LINES, 256);
-    assert!(rt; put_beats(&rt, rt.alloc(), &outbox, 0, 256));
-    let refused = outbox.put(&rt, beat(rt.alloc(), 256)?);
-    assert_eq!(rt; refused, Err(PutError::Full));
-    assert!(rt; takes_beats(&rt, rt.alloc(), &outbox, 0, 1));
-    let put = outbox.put(&rt, beat(rt.alloc(), 256)?);
-    assert_eq!(rt; put, Ok(()));
-    outbox.end(&rt);
-    let refused = outbox.put(&rt, beat(rt.alloc(), 257)?);
-    assert_eq!(rt; refused, Err(PutError::Ended));
-    assert!(rt; takes_beats(&rt, rt.alloc(), &outbox, 1, 257));
-    assert!(rt; outbox.take(&rt).is_none());
-    assert!(rt; outbox.take(&rt).is_none());
-    Ok(())
+/// Whether putting the beat with this number comes to that.
+fn puts<R: Wait>(
+    rt: &R,
+    alloc: Global,
+    outbox: &Outbox,
+    number: u64,
+    wanted: Result<(), PutError>,
+) -> bool {
+    let Ok(line) = beat(alloc, number) else {
+        return false;
+    };
+    outbox.put(rt, line) == wanted
 }
 
 #[test]
-fn an_abandoned_outbox_gives_nothing(rt: HostRuntime) -> Result<(), Fail> {
-    let outbox = Outbox::new(rt.alloc())?;
+fn many_lines_fit_and_no_more(rt: HostRuntime) {
+    assert_eq!(rt; OUTBOX_LINES, 256);
+    let outbox = Outbox::new(rt.alloc()).expect(&rt, "memory");
+    let alloc = rt.alloc();
+    assert!(rt; put_beats(&rt, alloc, &outbox, 0, 256));
+    assert!(rt; puts(&rt, alloc, &outbox, 256, Err(PutError::Full)));
+    assert!(rt; takes_beats(&rt, alloc, &outbox, 0, 1));
+    assert!(rt; puts(&rt, alloc, &outbox, 256, Ok(())));
+    outbox.end(&rt);
+    assert!(rt; puts(&rt, alloc, &outbox, 257, Err(PutError::Ended)));
+    assert!(rt; takes_beats(&rt, alloc, &outbox, 1, 257));
+    assert!(rt; is_over(&rt, &outbox));
+}
+
+/// Whether the outbox gives nothing, and nothing when it is asked again.
+fn is_over<R: Wait>(rt: &R, outbox: &Outbox) -> bool {
+    outbox.take(rt).is_none() && outbox.take(rt).is_none()
+}
+
+#[test]
+fn an_abandoned_outbox_gives_nothing(rt: HostRuntime) {
+    let outbox = Outbox::new(rt.alloc()).expect(&rt, "memory");
     assert!(rt; put_beats(&rt, rt.alloc(), &outbox, 0, 3));
     outbox.abandon(&rt);
     assert!(rt; outbox.take(&rt).is_none());
-    let refused = outbox.put(&rt, beat(rt.alloc(), 3)?);
-    assert_eq!(rt; refused, Err(PutError::Ended));
-    Ok(())
+    let ended = Err(PutError::Ended);
+    assert!(rt; puts(&rt, rt.alloc(), &outbox, 3, ended));
+}
+
+/// Whether the line of the beat with this number finds no room behind as many others as may wait.
+pub(crate) fn finds_no_room<R: Wait>(rt: &R, alloc: Global, number: u64) -> bool {
+    let Ok(outbox) = Outbox::new(alloc) else {
+        return false;
+    };
+    put_beats(rt, alloc, &outbox, 0, 256) && puts(rt, alloc, &outbox, number, Err(PutError::Full))
 }
 
 /// Puts so many beats, the same ones, and answers whether all found room.
@@ -108,7 +129,7 @@ fn put_same<R: Wait>(rt: &R, alloc: Global, outbox: &Outbox, count: u64) -> bool
 }
 
 /// How many beats the outbox gives until it has ended.
-fn count_taken<R: Wait>(rt: &R, outbox: &Outbox) -> u64 {
+fn count_taken<R: Wait, A: Allocator>(rt: &R, outbox: &Outbox<A>) -> u64 {
     let mut count = 0u64;
     for _ in rt.forever() {
         let Some(_line) = outbox.take(rt) else {
@@ -131,8 +152,8 @@ fn put_by_two<R: Wait + Threads + Sync>(rt: &R, alloc: Global, outbox: &Outbox) 
 }
 
 #[test]
-fn two_threads_put_and_one_takes(rt: HostRuntime) -> Result<(), Fail> {
-    let outbox = Outbox::new(rt.alloc())?;
+fn two_threads_put_and_one_takes(rt: HostRuntime) {
+    let outbox = Outbox::new(rt.alloc()).expect(&rt, "memory");
     let alloc = rt.alloc();
     let (put, taken) = thread::join(
         &rt,
@@ -141,7 +162,6 @@ fn two_threads_put_and_one_takes(rt: HostRuntime) -> Result<(), Fail> {
     );
     assert!(rt; put);
     assert_eq!(rt; taken, 200);
-    Ok(())
 }
 
 /// Whether an outbox is made, or refused for want of memory alone; where it is made, nothing that it is
@@ -162,16 +182,20 @@ fn each_growth_for_an_outbox_refused(rt: HostRuntime) {
     assert_eq!(rt; requests, Some(1));
 }
 
-#[test]
-fn no_memory_is_taken_by_putting(rt: HostRuntime) -> Result<(), Fail> {
-    let alloc = Refusing::new(rt.alloc(), 1 + 256);
-    let outbox = Outbox::new(&alloc)?;
-    assert!(rt; put_beats(&rt, &alloc, &outbox, 0, 256));
-    outbox.end(&rt);
-    for _ in 0..256u64 {
-        assert!(rt; outbox.take(&rt).is_some());
+/// How many lines an outbox gives, which then has ended, where it and its 256 beats take this memory. `None`
+/// where they find no room.
+fn taken_of_256<R: Wait>(rt: &R, memory: &Refusing<Global>) -> Option<u64> {
+    let outbox = Outbox::new(memory).ok()?;
+    if !put_beats(rt, memory, &outbox, 0, 256) {
+        return None;
     }
-    assert!(rt; outbox.take(&rt).is_none());
-    assert!(rt; !alloc.refused());
-    Ok(())
+    outbox.end(rt);
+    Some(count_taken(rt, &outbox))
+}
+
+#[test]
+fn no_memory_is_taken_by_putting(rt: HostRuntime) {
+    let memory = Refusing::new(rt.alloc(), 1 + 256);
+    assert_eq!(rt; taken_of_256(&rt, &memory), Some(256));
+    assert!(rt; !memory.refused());
 }

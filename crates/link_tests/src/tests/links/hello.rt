@@ -5,27 +5,50 @@ use peer_links::{LinkFault, read_hello};
 use refusing_allocator::Refusing;
 use rights_types::SiteId;
 use std::alloc::Global;
-use std::test::Fail;
+use std::io::Read;
 use test_kit::{FewAtATime, requests_of};
 
-#[test]
-fn a_first_line_says_who_speaks(rt: HostRuntime) -> Result<(), Fail> {
-    for (text, site) in [("H 1\nB 1 5\n", 1), ("H 16\nB 1 5\n", 16)] {
-        let mut reader = FewAtATime {
-            rest: text.as_bytes(),
-            step: 100,
-        };
-        let mut cutter = LineCutter::new(rt.alloc())?;
-        let read = read_hello(&mut reader, &mut cutter);
-        assert_eq!(rt; read, Ok(SiteId::known(site)));
-        assert_eq!(rt; reader.rest, b"B 1 5\n".as_slice());
-        assert!(rt; !cutter.unfinished());
-    }
-    Ok(())
+/// Who speaks, as the first line from this reader says.
+pub(crate) fn first_line<I: Read>(alloc: Global, reader: &mut I) -> Result<SiteId, LinkFault> {
+    let mut cutter = LineCutter::new(alloc)?;
+    read_hello(reader, &mut cutter)
+}
+
+/// Whether the first line of this text says that the site speaks, and the rest of the text is left, all of it
+/// in the reader.
+fn says(alloc: Global, text: &[u8], site: u64, rest: &[u8]) -> bool {
+    let mut reader = FewAtATime {
+        rest: text,
+        step: 100,
+    };
+    let Ok(mut cutter) = LineCutter::new(alloc) else {
+        return false;
+    };
+    let Ok(speaker) = read_hello(&mut reader, &mut cutter) else {
+        return false;
+    };
+    speaker.number() == site && reader.rest == rest && !cutter.unfinished()
 }
 
 #[test]
-fn other_first_lines(rt: HostRuntime) -> Result<(), Fail> {
+fn a_first_line_says_who_speaks(rt: HostRuntime) {
+    for (text, site) in [("H 1\nB 1 5\n", 1), ("H 16\nB 1 5\n", 16)] {
+        assert!(rt; says(rt.alloc(), text.as_bytes(), site, b"B 1 5\n"));
+    }
+}
+
+/// How many bytes are left behind a first line that does not say who speaks, where each read gives at most
+/// `step` bytes. `None` where it comes to anything else.
+pub(crate) fn left_without_hello(alloc: Global, text: &[u8], step: usize) -> Option<usize> {
+    let mut reader = FewAtATime { rest: text, step };
+    match first_line(alloc, &mut reader) {
+        Err(LinkFault::NoHello) => Some(reader.rest.len()),
+        _ => None,
+    }
+}
+
+#[test]
+fn other_first_lines(rt: HostRuntime) {
     for (text, left) in [
         ("B 1 5\nH 1\n", 4),
         ("H 17\n", 0),
@@ -36,54 +59,36 @@ fn other_first_lines(rt: HostRuntime) -> Result<(), Fail> {
         ("", 0),
         ("E 1 0 1 I:5\nH 1\n", 4),
     ] {
-        let mut reader = FewAtATime {
-            rest: text.as_bytes(),
-            step: 1,
-        };
-        let mut cutter = LineCutter::new(rt.alloc())?;
-        let read = read_hello(&mut reader, &mut cutter);
-        assert_eq!(rt; read, Err(LinkFault::NoHello), "at {text:?}");
-        assert_eq!(rt; reader.rest.len(), left, "at {text:?}");
+        let found = left_without_hello(rt.alloc(), text.as_bytes(), 1);
+        assert_eq!(rt; found, Some(left), "at {text:?}");
     }
-    Ok(())
 }
 
 #[test]
-fn a_first_line_that_does_not_end(rt: HostRuntime) -> Result<(), Fail> {
+fn a_first_line_that_does_not_end(rt: HostRuntime) {
     let text = [b'x'; 20_000];
-    let mut reader = FewAtATime {
-        rest: &text,
-        step: 100,
-    };
-    let mut cutter = LineCutter::new(rt.alloc())?;
-    let read = read_hello(&mut reader, &mut cutter);
-    assert_eq!(rt; read, Err(LinkFault::NoHello));
-    assert_eq!(rt; reader.rest.len(), 20_000 - 16_384);
-    Ok(())
+    let left = left_without_hello(rt.alloc(), &text, 100);
+    assert_eq!(rt; left, Some(20_000 - 16_384));
 }
 
 #[test]
-fn a_first_read_that_fails(rt: HostRuntime) -> Result<(), Fail> {
+fn a_first_read_that_fails(rt: HostRuntime) {
     let mut reader = Failing {
         rest: b"H 1",
         step: 100,
     };
-    let mut cutter = LineCutter::new(rt.alloc())?;
-    let read = read_hello(&mut reader, &mut cutter);
+    let read = first_line(rt.alloc(), &mut reader);
     assert_eq!(rt; read, Err(LinkFault::ReadFailed));
-    Ok(())
 }
 
 #[test]
-fn a_first_read_that_is_interrupted(rt: HostRuntime) -> Result<(), Fail> {
+fn a_first_read_that_is_interrupted(rt: HostRuntime) {
     let mut reader = Interrupted {
         rest: b"H 2\n",
         interrupted: false,
     };
-    let mut cutter = LineCutter::new(rt.alloc())?;
-    let read = read_hello(&mut reader, &mut cutter);
+    let read = first_line(rt.alloc(), &mut reader);
     assert_eq!(rt; read, Ok(SiteId::known(2)));
-    Ok(())
 }
 
 /// Whether the first line is read, or refused for want of memory alone.

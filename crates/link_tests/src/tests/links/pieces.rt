@@ -1,15 +1,18 @@
 //! Lines of every length, with ample memory, and those that want memory where it is refused. A body that
 //! gives up on some length is proved, since it may always want memory, and is found here.
-use crate::tests::links::ports::link_in;
-use crate::tests::links::reading::read_text;
+use crate::tests::links::hello::left_without_hello;
+use crate::tests::links::reading::is_told_first;
 use crate::tests::outbox::long_line;
 use entry_codec::LineCutter;
-use peer_links::{LinkFault, Piece, next_piece, read_hello};
+use peer_links::{Piece, next_piece};
 use refusing_allocator::Refusing;
 use rights_types::{MAX_LINE, OutOfMemory};
 use std::alloc::{Allocator, Global};
-use std::test::Fail;
-use test_kit::{FewAtATime, requests_of};
+use std::sync::Wait;
+use test_kit::requests_of;
+
+/// So many lengths of lines are tried, up to one byte more than a line may have.
+const LENGTHS: usize = MAX_LINE + 1;
 
 /// Whether a whole line was given, and it is this one.
 fn is_line<A: Allocator>(piece: &Piece<'_, A>, line: &[u8]) -> bool {
@@ -43,25 +46,27 @@ fn ends_none(cutter: &mut LineCutter, bytes: &[u8]) -> bool {
     piece.is_none() && taken == bytes.len()
 }
 
-#[test]
-fn pieces_are_given_whole(rt: HostRuntime) -> Result<(), Fail> {
-    let mut cutter = LineCutter::new(rt.alloc())?;
-    for length in [1, 2, 3, 100, 16_383, 16_384, 16_385, 40_000] {
-        let text = long_line(rt.alloc(), length)?;
-        let line = if length <= MAX_LINE {
-            Some(text.as_slice())
-        } else {
-            None
-        };
-        assert!(rt; ends_piece(&mut cutter, &text, line), "{length} bytes");
-        if length > 1 {
-            let bytes = text.as_slice();
-            let (front, rest) = bytes.split_at(bytes.len() / 2);
-            assert!(rt; ends_none(&mut cutter, front), "{length} bytes");
-            assert!(rt; ends_piece(&mut cutter, rest, line), "{length} bytes");
-        }
+/// Whether a line is given whole, or is too long: where it comes by one read, and by two.
+fn is_given(cutter: &mut LineCutter, bytes: &[u8]) -> bool {
+    let line = if bytes.len() <= MAX_LINE {
+        Some(bytes)
+    } else {
+        None
+    };
+    if !ends_piece(cutter, bytes, line) {
+        return false;
     }
-    Ok(())
+    let (front, rest) = bytes.split_at(bytes.len() / 2);
+    front.is_empty() || (ends_none(cutter, front) && ends_piece(cutter, rest, line))
+}
+
+#[test]
+fn pieces_are_given_whole(rt: HostRuntime) {
+    let mut cutter = LineCutter::new(rt.alloc()).expect(&rt, "memory");
+    for length in [1, 2, 3, 100, 16_383, 16_384, 16_385, 40_000] {
+        let line = long_line(rt.alloc(), length).expect(&rt, "memory");
+        assert!(rt; is_given(&mut cutter, &line), "{length} bytes");
+    }
 }
 
 /// Whether a line that comes by two reads is given, or refused for want of memory alone.
@@ -86,20 +91,23 @@ fn each_growth_for_a_piece_refused(rt: HostRuntime) {
     assert_eq!(rt; requests, Some(2));
 }
 
-#[test]
-fn lines_of_every_length_come(rt: HostRuntime) -> Result<(), Fail> {
-    let mut text = Vec::new(rt.alloc());
-    for length in 1..=MAX_LINE + 1 {
-        text.push(b'\n')?;
-        let (mut intake, _outlet) = link_in(rt.alloc())?;
-        // It comes by two reads, so that it is copied.
-        let (read, told) = read_text(&rt, rt.alloc(), &mut intake, &text, length / 2 + 1)?;
-        assert_eq!(rt; read, Ok(()), "{length} bytes");
-        assert_eq!(rt; told.as_slice(), b"n0\n".as_slice(), "{length} bytes");
-        text.pop();
-        text.push(b'x')?;
+/// Whether the text is taken in once a line feed ends it. It is one byte longer then, and has no line feed.
+fn next_comes<R: Wait>(rt: &R, alloc: Global, text: &mut Vec<u8>) -> bool {
+    if text.push(b'\n').is_err() {
+        return false;
     }
-    Ok(())
+    // It comes by two reads, so that it is copied.
+    let told = is_told_first(rt, alloc, text, text.len() / 2 + 1, b"n0\n");
+    text.pop();
+    told && text.push(b'x').is_ok()
+}
+
+#[test]
+fn lines_of_every_length_come(rt: HostRuntime) {
+    let mut text = Vec::new(rt.alloc());
+    for length in 1..=LENGTHS {
+        assert!(rt; next_comes(&rt, rt.alloc(), &mut text), "{length} bytes");
+    }
 }
 
 /// Lengths of lines: the short ones, and of the others those about the multiples of 128.
@@ -108,26 +116,15 @@ fn is_tried(length: usize) -> bool {
 }
 
 #[test]
-fn first_lines_of_many_lengths(rt: HostRuntime) -> Result<(), Fail> {
-    let mut text = Vec::new(rt.alloc());
-    for length in 1..=MAX_LINE + 1 {
-        text.push(b'\n')?;
+fn first_lines_of_many_lengths(rt: HostRuntime) {
+    let mut text = [b'x'; LENGTHS];
+    for length in 1..=LENGTHS {
         if is_tried(length) {
-            let mut reader = FewAtATime {
-                rest: &text,
-                step: 1,
-            };
-            let mut cutter = LineCutter::new(rt.alloc())?;
-            let read = read_hello(&mut reader, &mut cutter);
-            assert_eq!(rt; read, Err(LinkFault::NoHello), "{length} bytes");
-            assert_eq!(rt;
-                reader.rest.len(),
-                length.saturating_sub(MAX_LINE),
-                "{length} bytes"
-            );
+            text[length - 1] = b'\n';
+            let left = left_without_hello(rt.alloc(), &text[..length], 1);
+            let wanted = length.saturating_sub(MAX_LINE);
+            assert_eq!(rt; left, Some(wanted), "{length} bytes");
+            text[length - 1] = b'x';
         }
-        text.pop();
-        text.push(b'x')?;
     }
-    Ok(())
 }

@@ -2,37 +2,93 @@
 ghost use Rattle.std.specs.Prelude.{◌≡◌, false, IfSome};
 ghost use Rattle.apply_lanes.specs.Items.{IsOpen};
 
+use crate::tests::links::hello::first_line;
 use crate::tests::links::ports::{Lacking, Noting, link_in};
 use crate::tests::links::streams::{Failing, Interrupted};
-use crate::tests::outbox::{beat, put_beats};
+use crate::tests::outbox::finds_no_room;
 use apply_lanes::{Intake, Item, Outlet};
 use entry_codec::LineCutter;
-use peer_links::{LinkFault, Outbox, PutError, read_hello, read_link};
+use peer_links::{LinkFault, Port, read_link};
 use rights_types::SiteId;
-use std::alloc::Global;
+use std::alloc::{AllocError, Global};
+use std::io::Read;
 use std::sync::Wait;
-use std::test::Fail;
 use test_kit::FewAtATime;
 
-/// What a connection with this text comes to, where each read gives at most `step` bytes, and what the
-/// port is told.
-pub(crate) fn read_text<R: Wait>(
+/// What a connection over this reader comes to.
+fn connect<R: Wait, I: Read, P: Port>(
+    rt: &R,
+    alloc: Global,
+    intake: &mut Intake,
+    reader: &mut I,
+    port: &mut P,
+) -> Result<(), LinkFault>
+    requires { intake.old.finished ≡ false }
+    ensures { intake.new.finished ≡ false }
+{
+    let mut cutter = LineCutter::new(alloc)?;
+    read_link(rt, reader, &mut cutter, intake, port)
+}
+
+/// Whether a connection over this reader comes to that, and the port is told that.
+fn comes<R: Wait, I: Read>(
+    rt: &R,
+    alloc: Global,
+    intake: &mut Intake,
+    reader: &mut I,
+    came: Result<(), LinkFault>,
+    told: &[u8],
+) -> bool
+    requires { intake.old.finished ≡ false }
+    ensures { intake.new.finished ≡ false }
+{
+    let mut port = Noting {
+        text: Vec::new(alloc),
+    };
+    connect(rt, alloc, intake, reader, &mut port) == came && port.text.as_slice() == told
+}
+
+/// Whether a connection with this text, of which each read gives at most `step` bytes, is read to its end, and
+/// the port is told that.
+fn is_told<R: Wait>(
     rt: &R,
     alloc: Global,
     intake: &mut Intake,
     text: &[u8],
     step: usize,
-) -> Result<(Result<(), LinkFault>, Vec<u8>), Fail>
+    told: &[u8],
+) -> bool
     requires { intake.old.finished ≡ false }
     ensures { intake.new.finished ≡ false }
 {
     let mut reader = FewAtATime { rest: text, step };
-    let mut cutter = LineCutter::new(alloc)?;
-    let mut port = Noting {
-        text: Vec::new(alloc),
+    comes(rt, alloc, intake, &mut reader, Ok(()), told)
+}
+
+/// `comes`, of a first connection.
+fn comes_first<R: Wait, I: Read>(
+    rt: &R,
+    alloc: Global,
+    reader: &mut I,
+    came: Result<(), LinkFault>,
+    told: &[u8],
+) -> bool {
+    let Ok((mut intake, _outlet)) = link_in(alloc) else {
+        return false;
     };
-    let read = read_link(rt, &mut reader, &mut cutter, intake, &mut port);
-    Ok((read, port.text))
+    comes(rt, alloc, &mut intake, reader, came, told)
+}
+
+/// `is_told`, of a first connection.
+pub(crate) fn is_told_first<R: Wait>(
+    rt: &R,
+    alloc: Global,
+    text: &[u8],
+    step: usize,
+    told: &[u8],
+) -> bool {
+    let mut reader = FewAtATime { rest: text, step };
+    comes_first(rt, alloc, &mut reader, Ok(()), told)
 }
 
 /// The own number of the next item, if it is an entry.
@@ -47,45 +103,42 @@ fn take_own<R: Wait>(rt: &R, outlet: &mut Outlet) -> Option<u64>
     }
 }
 
+/// The own numbers of the next three items, if they are entries.
+fn take_three<R: Wait>(rt: &R, outlet: &mut Outlet) -> Option<[u64; 3]>
+    requires { IsOpen outlet.old.taken }
+{
+    let first = take_own(rt, outlet)?;
+    let second = take_own(rt, outlet)?;
+    let third = take_own(rt, outlet)?;
+    Some([first, second, third])
+}
+
 #[test]
-fn a_line_that_is_cut_is_dropped(rt: HostRuntime) -> Result<(), Fail> {
-    let (mut intake, _outlet) = link_in(rt.alloc())?;
+fn a_line_that_is_cut_is_dropped(rt: HostRuntime) {
     let mut reader = Failing {
         rest: b"B 1 5\nE 1 0",
         step: 100,
     };
-    let mut cutter = LineCutter::new(rt.alloc())?;
-    let mut port = Noting {
-        text: Vec::new(rt.alloc()),
-    };
-    let read = read_link(&rt, &mut reader, &mut cutter, &mut intake, &mut port);
-    assert_eq!(rt; read, Err(LinkFault::ReadFailed));
-    assert_eq!(rt; port.text.as_slice(), b"Q 2 1 1 5\nb0\n".as_slice());
+    let failed = Err(LinkFault::ReadFailed);
+    let told = b"Q 2 1 1 5\nb0\n";
+    assert!(rt; comes_first(&rt, rt.alloc(), &mut reader, failed, told));
     let mut reader = FewAtATime {
         rest: b"H 1\n",
         step: 100,
     };
-    let mut cutter = LineCutter::new(rt.alloc())?;
-    let read = read_hello(&mut reader, &mut cutter);
+    let read = first_line(rt.alloc(), &mut reader);
     assert_eq!(rt; read, Ok(SiteId::known(1)));
-    Ok(())
 }
 
 #[test]
-fn an_answer_comes_over_another_connection(rt: HostRuntime) -> Result<(), Fail> {
-    let (mut intake, mut outlet) = link_in(rt.alloc())?;
-    let (read, text) = read_text(&rt, rt.alloc(), &mut intake, b"E 1 4 5 S:2\nA 1 2;E 1", 100)?;
-    assert_eq!(rt; read, Ok(()));
-    assert_eq!(rt; text.as_slice(), b"Q 2 1 1 4\nb1\n".as_slice());
+fn an_answer_comes_over_another_connection(rt: HostRuntime) {
+    let (mut intake, mut outlet) = link_in(rt.alloc()).expect(&rt, "memory");
+    let later = b"E 1 4 5 S:2\nA 1 2;E 1";
+    let told = b"Q 2 1 1 4\nb1\n";
+    assert!(rt; is_told(&rt, rt.alloc(), &mut intake, later, 100, told));
     let answer = b"A 1 2;E 1 0 1 I:10;E 1 1 4 S:1 S:1 S:1\n";
-    let (read, text) = read_text(&rt, rt.alloc(), &mut intake, answer, 7)?;
-    assert_eq!(rt; read, Ok(()));
-    assert_eq!(rt; text.as_slice(), b"n0\n".as_slice());
-    let first = take_own(&rt, &mut outlet).ok_or("first")?;
-    let second = take_own(&rt, &mut outlet).ok_or("second")?;
-    let third = take_own(&rt, &mut outlet).ok_or("third")?;
-    assert_eq!(rt; (first, second, third), (1, 4, 5));
-    Ok(())
+    assert!(rt; is_told(&rt, rt.alloc(), &mut intake, answer, 7, b"n0\n"));
+    assert_eq!(rt; take_three(&rt, &mut outlet), Some([1, 4, 5]));
 }
 
 /// All kinds of lines, and what a port is told of them.
@@ -119,90 +172,83 @@ b1\n\
 n0\n";
 
 #[test]
-fn all_kinds_of_lines(rt: HostRuntime) -> Result<(), Fail> {
+fn all_kinds_of_lines(rt: HostRuntime) {
     for step in [1, 2, 3, 7, 30, 1000] {
-        let (mut intake, _outlet) = link_in(rt.alloc())?;
-        let (read, text) = read_text(&rt, rt.alloc(), &mut intake, LINES, step)?;
-        assert_eq!(rt; read, Ok(()));
-        assert_eq!(rt; text.as_slice(), TOLD, "at {step}");
-    }
-    Ok(())
-}
-
-#[test]
-fn a_long_line_is_skipped(rt: HostRuntime) -> Result<(), Fail> {
-    let mut text = Vec::new(rt.alloc());
-    text.extend_from_slice(b"B 1 1\n")?;
-    text.extend_from_slice(&[b'x'; 50_000])?;
-    text.extend_from_slice(b"\nB 1 2\n")?;
-    for step in [1_000, 16_384, 20_000] {
-        let (mut intake, _outlet) = link_in(rt.alloc())?;
-        let (read, told) = read_text(&rt, rt.alloc(), &mut intake, &text, step)?;
-        assert_eq!(rt; read, Ok(()));
-        assert_eq!(rt;
-            told.as_slice(),
-            b"Q 2 1 1 1\nb0\nb0\nQ 2 1 1 2\nb0\n".as_slice()
+        assert!(rt;
+            is_told_first(&rt, rt.alloc(), LINES, step, TOLD),
+            "at {step}"
         );
     }
-    Ok(())
+}
+
+/// A line that is too long, between two beats.
+fn long_between_beats(alloc: Global) -> Result<Vec<u8>, AllocError> {
+    let mut text = Vec::from_slice(alloc, b"B 1 1\n")?;
+    text.extend_from_slice(&[b'x'; 50_000])?;
+    text.extend_from_slice(b"\nB 1 2\n")?;
+    Ok(text)
 }
 
 #[test]
-fn a_read_that_is_interrupted_is_tried_again(rt: HostRuntime) -> Result<(), Fail> {
-    let (mut intake, _outlet) = link_in(rt.alloc())?;
+fn a_long_line_is_skipped(rt: HostRuntime) {
+    let text = long_between_beats(rt.alloc()).expect(&rt, "memory");
+    let told = b"Q 2 1 1 1\nb0\nb0\nQ 2 1 1 2\nb0\n";
+    for step in [1_000, 16_384, 20_000] {
+        assert!(rt; is_told_first(&rt, rt.alloc(), &text, step, told));
+    }
+}
+
+#[test]
+fn a_read_that_is_interrupted_is_tried_again(rt: HostRuntime) {
     let mut reader = Interrupted {
         rest: b"B 1 5\n",
         interrupted: false,
     };
-    let mut cutter = LineCutter::new(rt.alloc())?;
-    let mut port = Noting {
-        text: Vec::new(rt.alloc()),
-    };
-    let read = read_link(&rt, &mut reader, &mut cutter, &mut intake, &mut port);
-    assert_eq!(rt; read, Ok(()));
-    assert_eq!(rt; port.text.as_slice(), b"Q 2 1 1 5\nb0\n".as_slice());
-    Ok(())
+    let told = b"Q 2 1 1 5\nb0\n";
+    assert!(rt; comes_first(&rt, rt.alloc(), &mut reader, Ok(()), told));
 }
 
 #[test]
-fn a_message_that_finds_no_memory_ends_the_connection(rt: HostRuntime) -> Result<(), Fail> {
-    let (mut intake, _outlet) = link_in(rt.alloc())?;
+fn a_message_that_finds_no_memory_ends_the_connection(rt: HostRuntime) {
+    let (mut intake, _outlet) = link_in(rt.alloc()).expect(&rt, "memory");
     let mut reader = FewAtATime {
         rest: b"B 1 0\nQ 1 2 1 4\nB 1 5\n",
         step: 100,
     };
-    let mut cutter = LineCutter::new(rt.alloc())?;
-    let read = read_link(&rt, &mut reader, &mut cutter, &mut intake, &mut Lacking);
+    let read = connect(&rt, rt.alloc(), &mut intake, &mut reader, &mut Lacking);
     assert_eq!(rt; read, Err(LinkFault::OutOfMemory));
-    Ok(())
+}
+
+/// Whether a connection with entries comes to an end since nobody takes them.
+fn finds_lane_closed<R: Wait>(rt: &R, alloc: Global, intake: &mut Intake) -> bool
+    requires { intake.old.finished ≡ false }
+    ensures { intake.new.finished ≡ false }
+{
+    let mut reader = FewAtATime {
+        rest: b"E 1 0 1 I:5\nE 1 1 2 I:5\n",
+        step: 100,
+    };
+    let closed = Err(LinkFault::LaneClosed);
+    comes(rt, alloc, intake, &mut reader, closed, b"n0\n")
 }
 
 #[test]
-fn a_lane_that_is_closed_ends_the_connection(rt: HostRuntime) -> Result<(), Fail> {
-    let (mut intake, outlet) = link_in(rt.alloc())?;
+fn a_lane_that_is_closed_ends_the_connection(rt: HostRuntime) {
+    let (mut intake, outlet) = link_in(rt.alloc()).expect(&rt, "memory");
     drop(outlet);
-    let text = b"E 1 0 1 I:5\nE 1 1 2 I:5\n";
-    let (read, _) = read_text(&rt, rt.alloc(), &mut intake, text, 100)?;
-    assert_eq!(rt; read, Err(LinkFault::LaneClosed));
-    let (read, _) = read_text(&rt, rt.alloc(), &mut intake, text, 100)?;
-    assert_eq!(rt; read, Err(LinkFault::LaneClosed));
-    Ok(())
+    assert!(rt; finds_lane_closed(&rt, rt.alloc(), &mut intake));
+    assert!(rt; finds_lane_closed(&rt, rt.alloc(), &mut intake));
 }
 
 #[test]
-fn a_line_that_found_no_room_is_asked_for(rt: HostRuntime) -> Result<(), Fail> {
-    let outbox = Outbox::new(rt.alloc())?;
-    assert!(rt; put_beats(&rt, rt.alloc(), &outbox, 0, 256));
-    let (mut intake, mut outlet) = link_in(rt.alloc())?;
+fn a_line_that_found_no_room_is_asked_for(rt: HostRuntime) {
     // The push of entry 1 would have been this line.
-    let push = outbox.put(&rt, beat(rt.alloc(), 1)?);
-    assert_eq!(rt; push, Err(PutError::Full));
-    let (read, told) = read_text(&rt, rt.alloc(), &mut intake, b"B 1 1\n", 100)?;
-    assert_eq!(rt; read, Ok(()));
-    assert_eq!(rt; told.as_slice(), b"Q 2 1 1 1\nb0\n".as_slice());
-    let (read, told) = read_text(&rt, rt.alloc(), &mut intake, b"A 1 2;E 1 0 1 I:5\n", 100)?;
-    assert_eq!(rt; read, Ok(()));
-    assert_eq!(rt; told.as_slice(), b"n0\n".as_slice());
-    assert_eq!(rt; take_own(&rt, &mut outlet), Some(1));
-    Ok(())
+    assert!(rt; finds_no_room(&rt, rt.alloc(), 1));
+    let (mut intake, mut outlet) = link_in(rt.alloc()).expect(&rt, "memory");
+    let asked = b"Q 2 1 1 1\nb0\n";
+    assert!(rt; is_told(&rt, rt.alloc(), &mut intake, b"B 1 1\n", 100, asked));
+    let answer = b"A 1 2;E 1 0 1 I:5\n";
+    assert!(rt; is_told(&rt, rt.alloc(), &mut intake, answer, 100, b"n0\n"));
+    let own = take_own(&rt, &mut outlet);
+    assert_eq!(rt; own, Some(1));
 }

@@ -1,41 +1,73 @@
 //! Lines that go, to writers that are slow, full or broken.
+ghost use Rattle.std.specs.Prelude.{◌≤◌};
+
 use crate::tests::links::streams::{Counting, Torn};
 use crate::tests::outbox::{long_line, put_beats};
 use peer_links::{LinkFault, Outbox, write_link};
 use refusing_allocator::Refusing;
-use std::alloc::{Allocator, Global};
+use std::alloc::Global;
 use std::sync::Wait;
-use std::test::Fail;
 use test_kit::Slow;
 
-/// An outbox that has ended, with the beats 0 to 4.
-fn five_beats<R: Wait>(rt: &R, alloc: Global) -> Result<Outbox, Fail> {
-    let outbox = Outbox::new(alloc)?;
+/// An outbox that has ended, with the beats 0 to 4. `None` where they find no room.
+fn five_beats<R: Wait>(rt: &R, alloc: Global) -> Option<Outbox> {
+    let outbox = Outbox::new(alloc).ok()?;
     if !put_beats(rt, alloc, &outbox, 0, 5) {
-        return Err(Fail::from("put"));
+        return None;
     }
     outbox.end(rt);
-    Ok(outbox)
+    Some(outbox)
 }
 
 const FIVE_BEATS: &[u8] = b"B 1 0\nB 1 1\nB 1 2\nB 1 3\nB 1 4\n";
 
-#[test]
-fn a_slow_writer_gets_the_same(rt: HostRuntime) -> Result<(), Fail> {
-    for step in [1, 2, 5, 6, 7, 29, 30, 31] {
-        let outbox = five_beats(&rt, rt.alloc())?;
-        let mut writer = Slow {
-            text: Vec::new(rt.alloc()),
-            step,
-        };
-        assert_eq!(rt; write_link(&rt, &mut writer, &outbox), Ok(()));
-        assert_eq!(rt; writer.text.as_slice(), FIVE_BEATS, "at {step}");
+/// Whether a writer that takes at most `step` bytes at a time gets this text to the outbox's end.
+fn gives<R: Wait>(rt: &R, alloc: Global, outbox: &Outbox, step: usize, text: &[u8]) -> bool {
+    let mut writer = Slow {
+        text: Vec::new(alloc),
+        step,
+    };
+    write_link(rt, &mut writer, outbox).is_ok() && writer.text.as_slice() == text
+}
+
+/// Whether a writer that fails behind so many bytes gets this text, and the failure is told.
+fn is_torn<R: Wait>(rt: &R, alloc: Global, outbox: &Outbox, room: usize, text: &[u8]) -> bool {
+    let mut torn = Torn {
+        text: Vec::new(alloc),
+        room,
+    };
+    write_link(rt, &mut torn, outbox) == Err(LinkFault::WriteFailed) && torn.text.as_slice() == text
+}
+
+/// How many writes give this text to the outbox's end, where each is interrupted first. `None` where another
+/// text is given.
+fn writes_of<R: Wait>(rt: &R, alloc: Global, outbox: &Outbox, text: &[u8]) -> Option<u64> {
+    let mut writer = Counting {
+        text: Vec::new(alloc),
+        writes: 0,
+        interrupted: false,
+    };
+    let written = write_link(rt, &mut writer, outbox);
+    if written.is_ok() && writer.text.as_slice() == text {
+        Some(writer.writes)
+    } else {
+        None
     }
-    Ok(())
 }
 
 #[test]
-fn a_torn_line_is_lost(rt: HostRuntime) -> Result<(), Fail> {
+fn a_slow_writer_gets_the_same(rt: HostRuntime) {
+    for step in [1, 2, 5, 6, 7, 29, 30, 31] {
+        let outbox = five_beats(&rt, rt.alloc()).expect(&rt, "five beats");
+        assert!(rt;
+            gives(&rt, rt.alloc(), &outbox, step, FIVE_BEATS),
+            "at {step}"
+        );
+    }
+}
+
+#[test]
+fn a_torn_line_is_lost(rt: HostRuntime) {
     for (room, rest) in [
         (0, 6),
         (1, 6),
@@ -47,113 +79,96 @@ fn a_torn_line_is_lost(rt: HostRuntime) -> Result<(), Fail> {
         (24, 30),
         (29, 30),
     ] {
-        let outbox = five_beats(&rt, rt.alloc())?;
-        let mut torn = Torn {
-            text: Vec::new(rt.alloc()),
-            room,
-        };
-        assert_eq!(rt;
-            write_link(&rt, &mut torn, &outbox),
-            Err(LinkFault::WriteFailed),
-            "at {room}"
-        );
-        assert_eq!(rt; torn.text.as_slice(), &FIVE_BEATS[..room], "at {room}");
-        let mut writer = Slow {
-            text: Vec::new(rt.alloc()),
-            step: 100,
-        };
-        assert_eq!(rt; write_link(&rt, &mut writer, &outbox), Ok(()));
-        assert_eq!(rt; writer.text.as_slice(), &FIVE_BEATS[rest..], "at {room}");
+        let outbox = five_beats(&rt, rt.alloc()).expect(&rt, "five beats");
+        let front = &FIVE_BEATS[..room];
+        assert!(rt; is_torn(&rt, rt.alloc(), &outbox, room, front), "at {room}");
+        let rest = &FIVE_BEATS[rest..];
+        assert!(rt; gives(&rt, rt.alloc(), &outbox, 100, rest), "at {room}");
     }
-    Ok(())
 }
 
 #[test]
-fn a_writer_that_takes_no_byte(rt: HostRuntime) -> Result<(), Fail> {
-    let outbox = five_beats(&rt, rt.alloc())?;
+fn a_writer_that_takes_no_byte(rt: HostRuntime) {
+    let outbox = five_beats(&rt, rt.alloc()).expect(&rt, "five beats");
     let mut writer = Slow {
         text: Vec::new(rt.alloc()),
         step: 0,
     };
-    assert_eq!(rt;
-        write_link(&rt, &mut writer, &outbox),
-        Err(LinkFault::WriteFailed)
-    );
-    Ok(())
+    let written = write_link(&rt, &mut writer, &outbox);
+    assert_eq!(rt; written, Err(LinkFault::WriteFailed));
 }
 
 #[test]
-fn lines_that_wait_go_by_one_write(rt: HostRuntime) -> Result<(), Fail> {
-    let outbox = five_beats(&rt, rt.alloc())?;
-    let mut writer = Counting {
-        text: Vec::new(rt.alloc()),
-        writes: 0,
-        interrupted: false,
+fn lines_that_wait_go_by_one_write(rt: HostRuntime) {
+    let outbox = five_beats(&rt, rt.alloc()).expect(&rt, "five beats");
+    let writes = writes_of(&rt, rt.alloc(), &outbox, FIVE_BEATS);
+    assert_eq!(rt; writes, Some(1));
+}
+
+/// Puts a line of so many bytes, adds it to the text, and answers whether there was room for it.
+fn put_long<R: Wait>(
+    rt: &R,
+    alloc: Global,
+    outbox: &Outbox,
+    text: &mut Vec<u8>,
+    length: usize,
+) -> bool
+    requires { 1 ≤ length }
+{
+    let Ok(line) = long_line(alloc, length) else {
+        return false;
     };
-    assert_eq!(rt; write_link(&rt, &mut writer, &outbox), Ok(()));
-    assert_eq!(rt; writer.text.as_slice(), FIVE_BEATS);
-    assert_eq!(rt; writer.writes, 1);
-    Ok(())
+    text.extend_from_slice(&line).is_ok() && outbox.put(rt, line).is_ok()
 }
 
 #[test]
-fn lines_of_any_length_go(rt: HostRuntime) -> Result<(), Fail> {
-    let outbox = Outbox::new(rt.alloc())?;
+fn lines_of_any_length_go(rt: HostRuntime) {
+    let outbox = Outbox::new(rt.alloc()).expect(&rt, "memory");
     let mut text = Vec::new(rt.alloc());
     for length in [
         1, 16_384, 16_384, 1, 32_767, 1, 32_768, 32_769, 2, 100_000, 5,
     ] {
-        let line = long_line(rt.alloc(), length)?;
-        text.extend_from_slice(&line)?;
-        assert_eq!(rt; outbox.put(&rt, line), Ok(()));
+        assert!(rt; put_long(&rt, rt.alloc(), &outbox, &mut text, length));
     }
     outbox.end(&rt);
-    let mut writer = Counting {
-        text: Vec::new(rt.alloc()),
-        writes: 0,
-        interrupted: false,
-    };
-    assert_eq!(rt; write_link(&rt, &mut writer, &outbox), Ok(()));
-    assert!(rt; writer.text.as_slice() == text.as_slice());
-    assert_eq!(rt; writer.writes, 8);
-    Ok(())
+    let writes = writes_of(&rt, rt.alloc(), &outbox, &text);
+    assert_eq!(rt; writes, Some(8));
+}
+
+/// An outbox that has ended, with a line of 40,000 bytes and one of 3. `None` where they find no room.
+fn long_and_short<R: Wait>(rt: &R, alloc: Global) -> Option<Outbox> {
+    let outbox = Outbox::new(alloc).ok()?;
+    outbox.put(rt, long_line(alloc, 40_000).ok()?).ok()?;
+    outbox.put(rt, long_line(alloc, 3).ok()?).ok()?;
+    outbox.end(rt);
+    Some(outbox)
 }
 
 #[test]
-fn a_torn_line_without_room_is_lost(rt: HostRuntime) -> Result<(), Fail> {
-    let outbox = Outbox::new(rt.alloc())?;
-    assert_eq!(rt; outbox.put(&rt, long_line(rt.alloc(), 40_000)?), Ok(()));
-    assert_eq!(rt; outbox.put(&rt, long_line(rt.alloc(), 3)?), Ok(()));
-    outbox.end(&rt);
-    let mut torn = Torn {
-        text: Vec::new(rt.alloc()),
-        room: 39_999,
+fn a_torn_line_without_room_is_lost(rt: HostRuntime) {
+    let outbox = long_and_short(&rt, rt.alloc()).expect(&rt, "two lines");
+    let front = [b'x'; 39_999];
+    assert!(rt; is_torn(&rt, rt.alloc(), &outbox, 39_999, &front));
+    assert!(rt; gives(&rt, rt.alloc(), &outbox, 100, b"xx\n"));
+}
+
+/// Whether 200 beats are put and written, where the beats and the outbox take this memory.
+fn are_written<R: Wait>(rt: &R, alloc: Global, memory: &Refusing<Global>) -> bool {
+    let Ok(outbox) = Outbox::new(memory) else {
+        return false;
     };
-    assert_eq!(rt;
-        write_link(&rt, &mut torn, &outbox),
-        Err(LinkFault::WriteFailed)
-    );
-    assert_eq!(rt; torn.text.len(), 39_999);
+    let put = put_beats(rt, memory, &outbox, 0, 200);
+    outbox.end(rt);
     let mut writer = Slow {
-        text: Vec::new(rt.alloc()),
+        text: Vec::new(alloc),
         step: 100,
     };
-    assert_eq!(rt; write_link(&rt, &mut writer, &outbox), Ok(()));
-    assert_eq!(rt; writer.text.as_slice(), b"xx\n".as_slice());
-    Ok(())
+    put && write_link(rt, &mut writer, &outbox).is_ok()
 }
 
 #[test]
-fn no_memory_is_taken_by_writing(rt: HostRuntime) -> Result<(), Fail> {
-    let alloc = Refusing::new(rt.alloc(), 1 + 200);
-    let outbox = Outbox::new(&alloc)?;
-    assert!(rt; put_beats(&rt, &alloc, &outbox, 0, 200));
-    outbox.end(&rt);
-    let mut writer = Slow {
-        text: Vec::new(rt.alloc()),
-        step: 100,
-    };
-    assert_eq!(rt; write_link(&rt, &mut writer, &outbox), Ok(()));
-    assert!(rt; !alloc.refused());
-    Ok(())
+fn no_memory_is_taken_by_writing(rt: HostRuntime) {
+    let memory = Refusing::new(rt.alloc(), 1 + 200);
+    assert!(rt; are_written(&rt, rt.alloc(), &memory));
+    assert!(rt; !memory.refused());
 }
