@@ -1,11 +1,11 @@
 //! Two appliers that meet at their gates, without the lock.
-ghost use Rattle.std.specs.Prelude.{◌≡◌, ◌≤◌, [], true, IsTrue};
+ghost use Rattle.std.specs.Prelude.{◌≡◌, ◌≤◌};
 ghost use Rattle.apply_lanes.specs.Names.{id_of, AreBlank, IsUnused};
 
 use crate::tests::desks::{applier_at, desk_among, report_of};
 use crate::tests::links::{feed, link};
 use apply_lanes::laws::taken_in;
-use apply_lanes::{Applier, Blanks, DeskNames, Gate, Intake, Outlet, Parts, Report, SharedDesk};
+use apply_lanes::{Applied, Applier, Blanks, DeskNames, Gate, Intake, Parts, Report, SharedDesk};
 use rights_types::SiteId;
 use site_core::Desk;
 use std::alloc::Global;
@@ -46,14 +46,29 @@ fn same<R: Abort>(rt: &R, counter: &Arc<AtomicU64>) -> Arc<AtomicU64> {
     Arc::try_clone(counter).ok().expect(rt, "memory")
 }
 
-// A lane on which the entry of that line waits, and then End.
-fn fed_link<R: Wait + Abort>(rt: &R, alloc: Global, origin: u64, line: &str) -> (Intake, Outlet)
+// A gate that waits for the other one that has these counters.
+fn gate<R: Abort>(rt: &R, come: &Arc<AtomicU64>, late: &Arc<AtomicU64>) -> Meeting {
+    Meeting {
+        come: same(rt, come),
+        late: same(rt, late),
+    }
+}
+
+// The applier of that origin's log, and what comes to it: the entry of that line, and then End.
+fn fed_applier<D: DeskNames, R: Wait + Abort>(
+    rt: &R,
+    alloc: Global,
+    desk: &SharedDesk<D>,
+    origin: u64,
+    line: &str,
+    gate: Meeting,
+) -> (Intake, Applier<D, Meeting>)
     requires { (2 ≤ origin) × (origin ≤ 3) }
-    ensures taken { result.1.taken ≡ [] }
-    ensures lane { result.1.lane ≡ result.0.inlet.lane }
+    ensures { result.1.outlet.lane ≡ result.0.inlet.lane }
 {
     let (intake, outlet) = link(rt, alloc, origin, 3);
-    (feed(rt, intake, line), outlet)
+    let intake = feed(rt, intake, line);
+    (intake, applier_at(rt, desk, origin, outlet, gate))
 }
 
 // The applier, once it has applied one entry.
@@ -68,6 +83,39 @@ fn apply_one<D: DeskNames, G: Gate, R: Wait + Clock + Abort>(
     applier
 }
 
+// Both, once each has applied one entry on a thread of its own.
+fn apply_both<D: DeskNames + Send + Sync, R: Threads + Wait + Clock + Abort + Sync>(
+    rt: &R,
+    desk: &SharedDesk<D>,
+    one: Applier<D, Meeting>,
+    other: Applier<D, Meeting>,
+) -> (Applier<D, Meeting>, Applier<D, Meeting>)
+    ensures one { result.0.outlet.lane ≡ one.outlet.lane }
+    ensures other { result.1.outlet.lane ≡ other.outlet.lane }
+{
+    thread::join(
+        rt,
+        move || apply_one(rt, desk, one),
+        move || apply_one(rt, desk, other),
+    )
+}
+
+// What both told, once they have met at their gates.
+fn applied_at<D: DeskNames + Send + Sync, R: Threads + Wait + Clock + Abort + Sync>(
+    rt: &R,
+    alloc: Global,
+    desk: &SharedDesk<D>,
+    gate: Meeting,
+    other_gate: Meeting,
+) -> Vec<Applied<D>> {
+    let (intake, one) = fed_applier(rt, alloc, desk, 2, "E 2 0 2 I:5 R:1:5\n", gate);
+    let (other_intake, other) = fed_applier(rt, alloc, desk, 3, "E 3 0 2 I:7 R:1:7\n", other_gate);
+    let (one, other) = apply_both(rt, desk, one, other);
+    let one = taken_in(intake, one).done();
+    let other = taken_in(other_intake, other).done();
+    vec![in alloc; one, other].ok().expect(rt, "memory")
+}
+
 fn two_appliers<D: DeskNames + Send + Sync, R: Threads + Wait + Clock + Abort + Sync>(
     rt: &R,
     alloc: Global,
@@ -80,31 +128,13 @@ fn two_appliers<D: DeskNames + Send + Sync, R: Threads + Wait + Clock + Abort + 
 {
     let desk = SharedDesk::<D>::new(desk, blanks);
     let (come, late) = (counter(rt, alloc), counter(rt, alloc));
-    let gate = Meeting {
-        come: same(rt, &come),
-        late: same(rt, &late),
-    };
-    let other_gate = Meeting {
-        come,
-        late: same(rt, &late),
-    };
-    let (intake, outlet) = fed_link(rt, alloc, 2, "E 2 0 2 I:5 R:1:5\n");
-    let (other_intake, other_outlet) = fed_link(rt, alloc, 3, "E 3 0 2 I:7 R:1:7\n");
-    let one = applier_at(rt, &desk, 2, outlet, gate);
-    let other = applier_at(rt, &desk, 3, other_outlet, other_gate);
-    let shared = &desk;
-    let (one, other) = thread::join(
-        rt,
-        move || apply_one(rt, shared, one),
-        move || apply_one(rt, shared, other),
-    );
+    let (one, other) = (gate(rt, &come, &late), gate(rt, &come, &late));
+    let applied = applied_at(rt, alloc, &desk, one, other);
     assert!(rt; late.load(Ordering::SeqCst) == 0, "a gate waited too long");
-    let one = taken_in(intake, one).done();
-    let other = taken_in(other_intake, other).done();
     let parts = Parts {
         desk,
         seats: Vec::new(alloc),
-        applied: vec![in alloc; one, other].ok().expect(rt, "memory"),
+        applied,
     };
     report_of(rt, parts)
 }

@@ -222,6 +222,20 @@ const CALLS: [Call; 18] = [
     Call::Publish,
 ];
 
+// Makes all calls, which leave the desk and the seat as is known.
+fn make_all<D: DeskNames, R: Wait + Clock + Abort>(
+    rt: &R,
+    desk: &SharedDesk<D, Refused>,
+    seat: &mut Seat<D>,
+    applier: &mut Applier<D, Free>,
+) {
+    for call in CALLS {
+        assert!(rt; is_made(rt, desk, seat, applier, call));
+    }
+    let (view, told) = seen(rt, desk, seat);
+    assert!(rt; told == [40, 1, 20] && is_final(&view));
+}
+
 // Each call does what it should, or changes nothing for want of memory and does it then.
 fn make_each_call<D: DeskNames, R: Wait + Clock + Abort>(
     rt: &R,
@@ -238,11 +252,7 @@ fn make_each_call<D: DeskNames, R: Wait + Clock + Abort>(
     let (intake, outlet) = link(rt, alloc, 2, 2);
     let _intake = feed(rt, intake, "A 2 1;E 2 0 1 I:20;E 2 1 2 K:0:0\n");
     let mut applier = applier_at(rt, &desk, 2, outlet, Free);
-    for call in CALLS {
-        assert!(rt; is_made(rt, &desk, &mut seat, &mut applier, call));
-    }
-    let (view, told) = seen(rt, &desk, &seat);
-    assert!(rt; told == [40, 1, 20] && is_final(&view));
+    make_all(rt, &desk, &mut seat, &mut applier);
 }
 
 fn is_final(view: &DeskView) -> bool {

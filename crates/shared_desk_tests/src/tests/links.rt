@@ -40,6 +40,6 @@ pub(crate) fn feed<R: Wait + Abort>(rt: &R, mut intake: Intake, line: &str) -> I
     ensures { result.inlet.lane ≡ intake.inlet.lane }
 {
     assert!(rt; intake.on_line(rt, line.as_bytes()).is_ok());
-    intake.finish(rt).ok().expect(rt, "End is put");
+    assert!(rt; intake.finish(rt).is_ok());
     intake
 }

@@ -127,13 +127,18 @@ fn make_feeder(intake: Intake, origin: u64) -> Feeder
     Feeder { intake, origin }
 }
 
+// The line of the origin's entry behind that number.
+fn line_of<R: Abort>(rt: &R, alloc: Global, origin: u64, number: u64) -> String {
+    let own = number.wrapping_add(1);
+    format!(in alloc; "E {origin} {number} {own} R:1:2\n").expect(rt, "memory")
+}
+
 // The intake takes each line in, and End goes to the lane.
 fn feed<R: Wait + Abort>(rt: &R, alloc: Global, mut intake: Intake, origin: u64)
     requires { intake.finished ≡ false }
 {
     for number in 0..ENTRIES {
-        let own = number.wrapping_add(1);
-        let line = format!(in alloc; "E {origin} {number} {own} R:1:2\n").expect(rt, "memory");
+        let line = line_of(rt, alloc, origin, number);
         assert!(rt; intake.on_line(rt, line.as_bytes()).is_ok());
     }
     intake.finish(rt).ok().expect(rt, "End is put");
@@ -175,6 +180,20 @@ fn players_at<D: DeskNames, R: Wait + Abort>(
 
 type Links<D> = (Vec<Feeder>, Vec<Applier<D, Free>>);
 
+// What comes from that origin, and its applier.
+fn link_of<D: DeskNames, R: Wait + Abort>(
+    rt: &R,
+    alloc: Global,
+    desk: &SharedDesk<D>,
+    origin: u64,
+) -> (Feeder, Applier<D, Free>)
+    requires { (2 ≤ origin) × (origin ≤ 4) }
+{
+    let (intake, outlet) = link(rt, alloc, origin, 4);
+    let feeder = make_feeder(intake, origin);
+    (feeder, applier_at(rt, desk, origin, outlet, Free))
+}
+
 // What comes from each of three origins, and their appliers.
 fn links_of<D: DeskNames, R: Wait + Abort>(
     rt: &R,
@@ -184,10 +203,8 @@ fn links_of<D: DeskNames, R: Wait + Abort>(
     let mut feeders = Vec::new(alloc);
     let mut appliers = Vec::new(alloc);
     for origin in 2..5u64 {
-        let (intake, outlet) = link(rt, alloc, origin, 4);
-        let feeder = make_feeder(intake, origin);
+        let (feeder, applier) = link_of(rt, alloc, desk, origin);
         feeders.push(feeder).ok().expect(rt, "memory");
-        let applier = applier_at(rt, desk, origin, outlet, Free);
         appliers.push(applier).ok().expect(rt, "memory");
     }
     (feeders, appliers)
@@ -244,6 +261,31 @@ fn applied<D: DeskNames + Send + Sync, R: Threads + Wait + Clock + Abort + Sync>
     .expect(rt, "memory")
 }
 
+type Played<D> = (Vec<Player<D>>, Vec<Applied<D>>);
+
+// All players and what all appliers told, once all calls are made and all logs applied at once.
+fn play_all<D: DeskNames + Send + Sync, R: Threads + Wait + Clock + Abort + Sync>(
+    rt: &R,
+    alloc: Global,
+    desk: &SharedDesk<D>,
+    players: Vec<Player<D>>,
+    links: Links<D>,
+) -> Played<D> {
+    let (feeders, appliers) = links;
+    let (players, (applied, ())) = thread::join(
+        rt,
+        move || played(rt, desk, players),
+        move || {
+            thread::join(
+                rt,
+                move || applied(rt, desk, appliers),
+                move || feed_all(rt, alloc, feeders),
+            )
+        },
+    );
+    (players, applied)
+}
+
 fn a_game<D: DeskNames + Send + Sync, R: Threads + Wait + Clock + Abort + Sync>(
     rt: &R,
     alloc: Global,
@@ -256,19 +298,8 @@ fn a_game<D: DeskNames + Send + Sync, R: Threads + Wait + Clock + Abort + Sync>(
 {
     let desk = SharedDesk::<D>::new(desk, blanks);
     let players = players_at(rt, alloc, &desk);
-    let (feeders, appliers) = links_of(rt, alloc, &desk);
-    let shared = &desk;
-    let (players, (applied, ())) = thread::join(
-        rt,
-        move || played(rt, shared, players),
-        move || {
-            thread::join(
-                rt,
-                move || applied(rt, shared, appliers),
-                move || feed_all(rt, alloc, feeders),
-            )
-        },
-    );
+    let links = links_of(rt, alloc, &desk);
+    let (players, applied) = play_all(rt, alloc, &desk, players, links);
     let (seats, told) = seats_of(rt, alloc, players);
     let parts = Parts {
         desk,
@@ -278,25 +309,33 @@ fn a_game<D: DeskNames + Send + Sync, R: Threads + Wait + Clock + Abort + Sync>(
     (report_of(rt, parts), told)
 }
 
+// Whether the report is what the holders of the seats were told.
+fn is_told(report: &Report, told: &Told) -> bool {
+    report.told_issued == told.issued
+        && report.told_spent == told.spent
+        && report.told_served == told.served
+        && report.issued == told.issued
+        && report.given == told.given
+        && report.spent == told.spent.wrapping_add(told.served)
+}
+
+// Whether all entries were applied, and what came in went out or is held.
+fn is_even(report: &Report) -> bool {
+    let out = report
+        .held
+        .wrapping_add(report.spent)
+        .wrapping_add(report.given);
+    report.received == 6 * ENTRIES
+        && report.applied == 3 * ENTRIES
+        && out == report.issued.wrapping_add(report.received)
+}
+
 /// A hundred thousand calls of eight seats, beside three appliers: the desk's report is what they were told.
 #[test]
 fn a_hundred_thousand_calls(rt: HostRuntime) {
     let desk = desk_among(&rt, rt.alloc(), 4);
     let (report, told) = a_game::<Brand, HostRuntime>(&rt, rt.alloc(), desk, Blanks::new());
-    assert_eq!(rt;
-        (report.told_issued, report.told_spent, report.told_served),
-        (told.issued, told.spent, told.served)
-    );
-    assert_eq!(rt; (report.issued, report.given), (told.issued, told.given));
-    assert_eq!(rt; report.spent, told.spent.wrapping_add(told.served));
-    assert_eq!(rt;
-        (report.received, report.applied),
-        (6 * ENTRIES, 3 * ENTRIES)
-    );
-    let out = report
-        .held
-        .wrapping_add(report.spent)
-        .wrapping_add(report.given);
-    assert_eq!(rt; out, report.issued.wrapping_add(report.received));
+    assert!(rt; is_told(&report, &told));
+    assert!(rt; is_even(&report));
     assert!(rt; told.issued > 0 && told.spent > 0 && told.served > 0 && told.given > 0);
 }

@@ -5,7 +5,7 @@ ghost use Rattle.apply_lanes.specs.Names.{id_of, AreBlank, IsUnused};
 use crate::tests::desks::{applier_at, desk_among, issue, report_of, seat_at};
 use crate::tests::links::link;
 use apply_lanes::{
-    AdmitFault, Blanks, DeskNames, Free, Parts, Report, SharedDesk, StopError, stop,
+    AdmitFault, Applier, Blanks, DeskNames, Free, Parts, Report, Seat, SharedDesk, StopError, stop,
 };
 use rights_types::SiteId;
 use site_core::Desk;
@@ -30,6 +30,24 @@ fn without_an_applier<D: DeskNames, R: Abort>(rt: &R, parts: Parts<D>) -> Parts<
     }
 }
 
+// Issues ten rights and gives three of them.
+fn issue_and_give<D: DeskNames, R: Wait + Abort>(rt: &R, desk: &SharedDesk<D>, seat: &mut Seat<D>) {
+    issue(rt, desk, seat, 10);
+    let given = desk.lock(rt).give_back(SiteId::known(2), 3);
+    assert!(rt; given == Ok(2));
+}
+
+// The seat that did so, alone.
+fn a_seat<D: DeskNames, R: Wait + Abort>(
+    rt: &R,
+    alloc: Global,
+    desk: &SharedDesk<D>,
+) -> Vec<Seat<D>> {
+    let mut seat = seat_at(rt, desk);
+    issue_and_give(rt, desk, &mut seat);
+    vec![in alloc; seat].ok().expect(rt, "memory")
+}
+
 fn a_missing_seat<D: DeskNames, R: Wait + Abort>(
     rt: &R,
     alloc: Global,
@@ -41,18 +59,15 @@ fn a_missing_seat<D: DeskNames, R: Wait + Abort>(
     requires unused { IsUnused desk }
 {
     let desk = SharedDesk::<D>::new(desk, blanks);
-    let mut first = seat_at(rt, &desk);
-    let second = seat_at(rt, &desk);
-    issue(rt, &desk, &mut first, 10);
-    let given = desk.lock(rt).give_back(SiteId::known(2), 3);
-    assert!(rt; given == Ok(2));
+    let seats = a_seat(rt, alloc, &desk);
+    let missing = seat_at(rt, &desk);
     let parts = Parts {
         desk,
-        seats: vec![in alloc; first].ok().expect(rt, "memory"),
+        seats,
         applied: Vec::new(alloc),
     };
     let mut parts = without_a_seat(rt, parts);
-    parts.seats.push(second).ok().expect(rt, "memory");
+    parts.seats.push(missing).ok().expect(rt, "memory");
     report_of(rt, parts)
 }
 
@@ -76,11 +91,25 @@ fn refusal<D: DeskNames, R: Wait + Abort>(
 ) -> AdmitFault
     requires { (1 ≤ origin) × (origin ≤ 16) }
 {
-    let (_intake, outlet) = link(rt, alloc, 2, 3);
+    let (_, outlet) = link(rt, alloc, 2, 3);
     match desk.applier(rt, SiteId::known(origin), outlet, Free) {
         Ok(_) => panic!(rt; "an applier"),
         Err(error) => error.fault,
     }
+}
+
+// An applier of site 2, beside which there is no other of it, and none of a site that is no peer.
+fn an_applier<D: DeskNames, R: Wait + Abort>(
+    rt: &R,
+    alloc: Global,
+    desk: &SharedDesk<D>,
+) -> Applier<D, Free> {
+    let (_intake, outlet) = link(rt, alloc, 2, 3);
+    let applier = applier_at(rt, desk, 2, outlet, Free);
+    assert!(rt; refusal(rt, alloc, desk, 4) == AdmitFault::NoSuchSite);
+    assert!(rt; refusal(rt, alloc, desk, 1) == AdmitFault::SameSite);
+    assert!(rt; refusal(rt, alloc, desk, 2) == AdmitFault::Taken);
+    applier
 }
 
 fn a_missing_applier<D: DeskNames, R: Wait + Abort>(
@@ -94,11 +123,7 @@ fn a_missing_applier<D: DeskNames, R: Wait + Abort>(
     requires unused { IsUnused desk }
 {
     let desk = SharedDesk::<D>::new(desk, blanks);
-    let (_intake, outlet) = link(rt, alloc, 2, 3);
-    let applier = applier_at(rt, &desk, 2, outlet, Free);
-    assert!(rt; refusal(rt, alloc, &desk, 4) == AdmitFault::NoSuchSite);
-    assert!(rt; refusal(rt, alloc, &desk, 1) == AdmitFault::SameSite);
-    assert!(rt; refusal(rt, alloc, &desk, 2) == AdmitFault::Taken);
+    let applier = an_applier(rt, alloc, &desk);
     let parts = Parts {
         desk,
         seats: Vec::new(alloc),

@@ -14,7 +14,25 @@ use std::str;
 use std::sync::Wait;
 use std::time::Clock;
 
-// Plays `1 command > reply` lines on two sites.
+// Plays a `1 command > reply` line on two sites.
+fn play<D: DeskNames, E: DeskNames, R: Wait + Clock + Abort>(
+    rt: &R,
+    alloc: Global,
+    text: &str,
+    one: &mut Site<D>,
+    two: &mut Site<E>,
+) {
+    let (call, wanted) = text.split_once(" > ").expect(rt, "a reply");
+    let (site, command) = call.split_once(' ').expect(rt, "a site");
+    let reply = if site == "1" {
+        one.plays(rt, alloc, command)
+    } else {
+        two.plays(rt, alloc, command)
+    };
+    let reply = reply.expect(rt, "memory");
+    assert!(rt; reply.as_str() == wanted, "{text}: {reply}");
+}
+
 fn replay<D: DeskNames, E: DeskNames, R: Wait + Clock + Abort>(
     rt: &R,
     alloc: Global,
@@ -23,15 +41,7 @@ fn replay<D: DeskNames, E: DeskNames, R: Wait + Clock + Abort>(
     two: &mut Site<E>,
 ) {
     for text in script.lines() {
-        let (call, wanted) = text.split_once(" > ").expect(rt, "a reply");
-        let (site, command) = call.split_once(' ').expect(rt, "a site");
-        let reply = if site == "1" {
-            one.plays(rt, alloc, command)
-        } else {
-            two.plays(rt, alloc, command)
-        };
-        let reply = reply.expect(rt, "memory");
-        assert!(rt; reply.as_str() == wanted, "{text}: {reply}");
+        play(rt, alloc, text, one, two);
     }
 }
 

@@ -31,6 +31,37 @@ fn spends<D: DeskNames, R: Wait>(
     (seat, spent, queued)
 }
 
+// Both seats, once each has spent ten times on a thread of its own: ten rights in all, and ten wait.
+fn both_spend<D: DeskNames + Send + Sync, R: Threads + Wait + Abort + Sync>(
+    rt: &R,
+    desk: &SharedDesk<D>,
+    one: Seat<D>,
+    other: Seat<D>,
+) -> (Seat<D>, Seat<D>) {
+    let ((one, spent, queued), (other, more_spent, more_queued)) = thread::join(
+        rt,
+        move || spends(rt, desk, one, 10),
+        move || spends(rt, desk, other, 10),
+    );
+    assert!(rt; one.told_spent() == spent && other.told_spent() == more_spent);
+    assert!(rt; spent.wrapping_add(more_spent) == 10 && queued.wrapping_add(more_queued) == 10);
+    (one, other)
+}
+
+// A seat that issues ten rights, and two that spend them.
+fn seats_at<D: DeskNames + Send + Sync, R: Threads + Wait + Abort + Sync>(
+    rt: &R,
+    alloc: Global,
+    desk: &SharedDesk<D>,
+) -> Vec<Seat<D>> {
+    let mut first = seat_at(rt, desk);
+    issue(rt, desk, &mut first, 10);
+    let (second, third) = both_spend(rt, desk, seat_at(rt, desk), seat_at(rt, desk));
+    vec![in alloc; first, second, third]
+        .ok()
+        .expect(rt, "memory")
+}
+
 fn twenty_spends<D: DeskNames + Send + Sync, R: Threads + Wait + Abort + Sync>(
     rt: &R,
     alloc: Global,
@@ -42,25 +73,12 @@ fn twenty_spends<D: DeskNames + Send + Sync, R: Threads + Wait + Abort + Sync>(
     requires unused { IsUnused desk }
 {
     let desk = SharedDesk::<D>::new(desk, blanks);
-    let mut first = seat_at(rt, &desk);
-    let (second, third) = (seat_at(rt, &desk), seat_at(rt, &desk));
-    issue(rt, &desk, &mut first, 10);
-    let shared = &desk;
-    let ((second, spent, queued), (third, more_spent, more_queued)) = thread::join(
-        rt,
-        move || spends(rt, shared, second, 10),
-        move || spends(rt, shared, third, 10),
-    );
-    assert!(rt; second.told_spent() == spent && third.told_spent() == more_spent);
-    assert!(rt; spent.wrapping_add(more_spent) == 10);
-    assert!(rt; queued.wrapping_add(more_queued) == 10);
+    let seats = seats_at(rt, alloc, &desk);
     let view = desk.lock(rt).view();
     assert!(rt; (view.queued, view.held) == (10, 0));
     let parts = Parts {
         desk,
-        seats: vec![in alloc; first, second, third]
-            .ok()
-            .expect(rt, "memory"),
+        seats,
         applied: Vec::new(alloc),
     };
     report_of(rt, parts)

@@ -1,10 +1,10 @@
 //! Two sites whose desks are shared, by commands and replies as text.
-ghost use Rattle.std.specs.Prelude.{◌≡◌, false, IfOk};
+ghost use Rattle.std.specs.Prelude.{◌≡◌, ◌≤◌, [], false};
 ghost use Rattle.apply_lanes.specs.Names.{id_of, AreBlank, IsUnused};
 
 use crate::tests::desks::{applier_at, seat_at};
 use apply_lanes::{
-    Applier, Arrived, Blanks, DeskNames, Free, Intake, Kept, Seat, SharedDesk, lane,
+    Applier, Arrived, Blanks, DeskNames, Free, Intake, Kept, Outlet, Seat, SharedDesk, lane,
 };
 use request_queue::Status;
 use rights_types::{Ask, Deny, OutOfMemory, Query, SiteId};
@@ -28,6 +28,24 @@ pub(crate) struct Site<D: DeskNames> {
 
 type Reply = Result<String, AllocError>;
 
+// What comes to a site from its peer, and the end of its lane.
+fn link_between<R: Abort>(
+    rt: &R,
+    alloc: Global,
+    me: SiteId,
+    peer: SiteId,
+    sites: u64,
+) -> (Intake, Outlet)
+    requires sites { (2 ≤ sites) × (sites ≤ 16) }
+    requires me { me ≤ sites }
+    ensures { (result.0.finished ≡ false) × (result.1.taken ≡ []) }
+{
+    assert!(rt; peer != me && peer.number() <= sites);
+    let inbound = Inbound::new(alloc, me, peer, sites).expect(rt, "an inbound");
+    let (inlet, outlet) = lane(alloc, 32).expect(rt, "a lane");
+    (Intake::new(inbound, inlet), outlet)
+}
+
 /// A site of two at the start.
 pub(crate) fn opened<D: DeskNames, R: Wait + Abort>(
     rt: &R,
@@ -40,15 +58,12 @@ pub(crate) fn opened<D: DeskNames, R: Wait + Abort>(
     requires blanks { AreBlank blanks }
     requires unused { IsUnused desk }
 {
-    let (me, sites) = (desk.site(), desk.sites());
-    assert!(rt; peer != me && peer.number() <= sites);
-    let inbound = Inbound::new(alloc, me, peer, sites).expect(rt, "an inbound");
-    let (inlet, outlet) = lane(alloc, 32).expect(rt, "a lane");
+    let (intake, outlet) = link_between(rt, alloc, desk.site(), peer, desk.sites());
     let desk = SharedDesk::<D>::new(desk, blanks);
     Site {
         seat: seat_at(rt, &desk),
         applier: applier_at(rt, &desk, peer.number(), outlet, Free),
-        intake: Intake::new(inbound, inlet),
+        intake,
         desk,
     }
 }

@@ -1,6 +1,6 @@
 //! The least and the greatest amounts.
 use crate::tests::sites::plays;
-use std::test::Fail;
+use std::alloc::{AllocError, Global};
 
 #[test]
 fn amounts(rt: HostRuntime) {
@@ -49,12 +49,10 @@ site 3 > number 3 issued 2000000000 spent 0 given 0 back 0 received 0 held 20000
     let _ = plays(&rt, 3, script);
 }
 
-/// Sixteen greatest moves in one entry: issued, given, received, granted on and taken back whole.
-#[test]
-fn sixteen_greatest_moves(rt: HostRuntime) -> Result<(), Fail> {
+fn script_of_greatest_moves(alloc: Global) -> Result<String, AllocError> {
     let issues = "I:1000000000 I:1000000000 I:1000000000 I:1000000000";
     let gifts = "R:2:1000000000 R:2:1000000000 R:2:1000000000 R:2:1000000000";
-    let script = format!(in rt.alloc();
+    format!(in alloc;
         "\
 post 1 {issues} {issues} {issues} {issues} > number 16
 site 1 > number 16 issued 16000000000 spent 0 given 0 back 0 received 0 held 16000000000 queued 0 open
@@ -71,7 +69,12 @@ close 2 1 > number 2
 hear 1 E 2 0 2 R:1:1000000000 K:18:0 > taken 2 back 35
 site 1 > number 35 issued 17000000000 spent 0 given 17000000000 back 16000000000 received 1000000000 held 17000000000 queued 0 open
 "
-    )?;
+    )
+}
+
+/// Sixteen greatest moves in one entry: issued, given, received, granted on and taken back whole.
+#[test]
+fn sixteen_greatest_moves(rt: HostRuntime) {
+    let script = script_of_greatest_moves(rt.alloc()).expect(&rt, "memory");
     let _ = plays(&rt, 2, &script);
-    Ok(())
 }

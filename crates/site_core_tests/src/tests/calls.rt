@@ -172,8 +172,12 @@ fn apply(alloc: Global, desk: &mut Counted, entry: &Entry) -> Reply {
     if entry.prev() != desk.applied(origin) {
         return String::from_str(alloc, "not next");
     }
-    let number = entry.own();
-    match desk.apply(origin, entry) {
+    taken(alloc, entry.own(), desk.apply(origin, entry))
+}
+
+// What applying the entry of a number is answered.
+fn taken(alloc: Global, number: u64, answer: Result<Option<u64>, OutOfMemory>) -> Reply {
+    match answer {
         Ok(None) => format!(in alloc; "taken {number}"),
         Ok(Some(back)) => format!(in alloc; "taken {number} back {back}"),
         Err(OutOfMemory) => String::from_str(alloc, NO_MEMORY),

@@ -3,17 +3,16 @@
 use crate::tests::sites::plays;
 use std::alloc::AllocGlobal;
 use std::process::Abort;
-use std::test::Fail;
 
 // Whether the last call of a script makes requests of its own.
-fn asks(rt: &(impl Abort + AllocGlobal), before: &str, call: &str) -> Result<bool, Fail> {
-    let whole = format!(in rt.alloc(); "{before}{call}\n")?;
-    Ok(plays(rt, 3, before) < plays(rt, 3, &whole))
+fn asks(rt: &(impl Abort + AllocGlobal), before: &str, call: &str) -> bool {
+    let whole = format!(in rt.alloc(); "{before}{call}\n").expect(rt, "memory");
+    plays(rt, 3, before) < plays(rt, 3, &whole)
 }
 
 /// Each call that writes an entry or a line asks for memory, so that its refusal was met.
 #[test]
-fn calls_that_ask_for_memory(rt: HostRuntime) -> Result<(), Fail> {
+fn calls_that_ask_for_memory(rt: HostRuntime) {
     // A fifth entry finds no room that the four before it have made.
     let issued =
         "issue 1 2 > number 1\nissue 1 1 > number 2\nissue 1 1 > number 3\nissue 1 1 > number 4\n";
@@ -39,14 +38,13 @@ fn calls_that_ask_for_memory(rt: HostRuntime) -> Result<(), Fail> {
         ("", "close 1 > number 1"),
         (issued, "close 1 3 > number 6"),
     ] {
-        assert!(rt; asks(&rt, before, call)?, "{call}");
+        assert!(rt; asks(&rt, before, call), "{call}");
     }
-    Ok(())
 }
 
 /// No call asks for memory that writes neither.
 #[test]
-fn calls_that_ask_for_none(rt: HostRuntime) -> Result<(), Fail> {
+fn calls_that_ask_for_none(rt: HostRuntime) {
     let before = "\
 post 1 I:5 R:2:3 > number 2
 hear 2 E 1 0 2 I:5 R:2:3 > taken 2
@@ -82,9 +80,8 @@ hear 1 E 3 0 1 C > taken 1
         "hear 1 Q 3 2 1 1 > error NotMine",
         "hear 1 Q 3 1 2 1 > error BadRange",
     ] {
-        assert!(rt; !asks(&rt, before, call)?, "{call}");
+        assert!(rt; !asks(&rt, before, call), "{call}");
     }
-    Ok(())
 }
 
 /// The desks of 2 to 16 sites. Each is refused memory in turn, and made again.

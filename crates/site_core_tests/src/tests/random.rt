@@ -5,7 +5,6 @@ use crate::tests::sites::Sites;
 use refusing_allocator::Refusing;
 use std::alloc::{AllocError, AllocGlobal, Global};
 use std::process::Abort;
-use std::test::Fail;
 use test_kit::Dice;
 
 const GAMES: u64 = 25;
@@ -35,6 +34,17 @@ fn command(alloc: Global, dice: &mut Dice) -> Reply {
         58 => format!(in alloc; "close {site} {peer}"),
         _ => format!(in alloc; "close {site}"),
     }
+}
+
+// Makes such a call.
+fn draw(
+    rt: &(impl Abort + AllocGlobal),
+    sites: &mut Sites,
+    dice: &mut Dice,
+) -> Result<(), AllocError> {
+    let drawn = command(rt.alloc(), dice)?;
+    let _ = sites.say(rt, &drawn)?;
+    Ok(())
 }
 
 // The site hears the line, or it is lost.
@@ -83,15 +93,14 @@ fn game(rt: &(impl Abort + AllocGlobal), seed: u64) -> Result<Totals, AllocError
     let memory = Refusing::new(rt.alloc(), u64::MAX);
     let mut sites = Sites::new(rt, &memory, 3)?;
     let mut dice = Dice::new(seed);
-    let mut totals = Totals::of(sites.desks()).expect(rt, "kept rights");
+    let mut totals = sites.totals().expect(rt, "kept rights");
     for call in 0..CALLS {
         if dice.roll(2) == 0 {
-            let drawn = command(rt.alloc(), &mut dice)?;
-            let _ = sites.say(rt, &drawn)?;
+            draw(rt, &mut sites, &mut dice)?;
         } else {
             exchange(rt, &mut sites, &mut dice)?;
         }
-        totals = Totals::of(sites.desks()).expect(rt, "kept rights");
+        totals = sites.totals().expect(rt, "kept rights");
         assert!(rt; totals.are_even(), "game {seed}, call {call}");
     }
     Ok(totals)
@@ -100,15 +109,14 @@ fn game(rt: &(impl Abort + AllocGlobal), seed: u64) -> Result<Totals, AllocError
 /// At each moment of some games each site's rights are those of its log and of what it applied, and those of
 /// all are those that were issued.
 #[test]
-fn rights_are_kept_in_random_games(rt: HostRuntime) -> Result<(), Fail> {
+fn rights_are_kept_in_random_games(rt: HostRuntime) {
     let mut received = 0u64;
     let mut back = 0u64;
     for seed in 0..GAMES {
-        let totals = game(&rt, seed)?;
+        let totals = game(&rt, seed).expect(&rt, "memory");
         received = received.saturating_add(totals.received);
         back = back.saturating_add(totals.back);
     }
     // Rights went both ways, so the games were not idle.
     assert!(rt; received > 0 && back > 0);
-    Ok(())
 }

@@ -1,4 +1,5 @@
 //! Scripts of calls of desks.
+use crate::tests::balance::Totals;
 use crate::tests::calls::{
     Counted, Reply, ask_line, beat_line, close, expire, give, hear, issue, new_desk, numbered,
     plan, post, publish, serve, spend, status,
@@ -112,9 +113,9 @@ impl<'a> Sites<'a> {
         applied
     }
 
-    /// The desks, by number.
-    pub(crate) fn desks(&self) -> &[Counted<'a>] {
-        &self.desks
+    /// The sums over all desks, if each has kept its rights.
+    pub(crate) fn totals(&self) -> Option<Totals> {
+        Totals::of(&self.desks)
     }
 
     /// What a command is answered.

@@ -1,22 +1,16 @@
 //! Sixteen sites that close one after the other.
-use crate::tests::balance::Totals;
 use crate::tests::sites::Sites;
 use refusing_allocator::Refusing;
 use std::alloc::{AllocError, AllocGlobal};
 use std::process::Abort;
-use std::test::Fail;
 
 // Each site issues rights, spends one and gives some to each other site. Some of these gifts arrive.
 fn give_all_round(rt: &(impl Abort + AllocGlobal), sites: &mut Sites) -> Result<(), AllocError> {
     for site in 1..=16u64 {
-        say(rt, sites, format!(in rt.alloc(); "post {site} I:1000 S:1")?)?;
+        let post = format!(in rt.alloc(); "post {site} I:1000 S:1")?;
+        let _ = sites.say(rt, &post)?;
         for peer in 1..=16u64 {
-            let amount = site.saturating_add(peer);
-            say(
-                rt,
-                sites,
-                format!(in rt.alloc(); "give {site} {peer} {amount}")?,
-            )?;
+            give(rt, sites, site, peer)?;
         }
     }
     for site in 1..=16u64 {
@@ -29,17 +23,19 @@ fn give_all_round(rt: &(impl Abort + AllocGlobal), sites: &mut Sites) -> Result<
     Ok(())
 }
 
-fn say(
+fn give(
     rt: &(impl Abort + AllocGlobal),
     sites: &mut Sites,
-    command: String,
+    site: u64,
+    peer: u64,
 ) -> Result<(), AllocError> {
-    let _ = sites.say(rt, &command)?;
+    let amount = site.saturating_add(peer);
+    let gift = format!(in rt.alloc(); "give {site} {peer} {amount}")?;
+    let _ = sites.say(rt, &gift)?;
     Ok(())
 }
 
-// The site closes, and every other one applies its whole log, if it has not closed itself.
-fn retire(rt: &(impl Abort + AllocGlobal), sites: &mut Sites, site: u64) -> Result<(), AllocError> {
+fn close(rt: &(impl Abort + AllocGlobal), sites: &mut Sites, site: u64) -> Result<(), AllocError> {
     let heir = site.saturating_add(1);
     let command = if site % 2 == 1 {
         format!(in rt.alloc(); "close {site} {heir}")
@@ -48,6 +44,12 @@ fn retire(rt: &(impl Abort + AllocGlobal), sites: &mut Sites, site: u64) -> Resu
     }?;
     let reply = sites.say(rt, &command)?;
     assert!(rt; reply.starts_with("number "), "{command}");
+    Ok(())
+}
+
+// The site closes, and every other one applies its whole log, if it has not closed itself.
+fn retire(rt: &(impl Abort + AllocGlobal), sites: &mut Sites, site: u64) -> Result<(), AllocError> {
+    close(rt, sites, site)?;
     for _ in 0..4u8 {
         for other in 1..=16u64 {
             if other != site {
@@ -58,22 +60,28 @@ fn retire(rt: &(impl Abort + AllocGlobal), sites: &mut Sites, site: u64) -> Resu
     Ok(())
 }
 
+// Whether the rights are those issued at the start. Each gift to a site that closes arrived before, or comes
+// back.
+fn are_kept(sites: &Sites) -> bool {
+    match sites.totals() {
+        Some(totals) => {
+            totals.are_even() && (totals.issued, totals.spent) == (16_000, 16) && totals.back > 0
+        }
+        None => false,
+    }
+}
+
 /// Each gives what it holds to the next one, or keeps it, and the others take back what it did not receive.
 /// At each moment rights held, spent and on the way are those issued.
 #[test]
-fn sixteen_sites_close_in_turn(rt: HostRuntime) -> Result<(), Fail> {
+fn sixteen_sites_close_in_turn(rt: HostRuntime) {
     let memory = Refusing::new(rt.alloc(), u64::MAX);
-    let mut sites = Sites::new(&rt, &memory, 16)?;
-    give_all_round(&rt, &mut sites)?;
+    let mut sites = Sites::new(&rt, &memory, 16).expect(&rt, "memory");
+    give_all_round(&rt, &mut sites).expect(&rt, "memory");
     for site in 1..=16u64 {
-        retire(&rt, &mut sites, site)?;
-        let totals = Totals::of(sites.desks()).expect(&rt, "kept rights");
-        assert!(rt; totals.are_even(), "site {site}");
-        assert_eq!(rt; (totals.issued, totals.spent), (16_000, 16), "site {site}");
-        // Each gift to a site that closes arrived before, or comes back.
-        assert!(rt; totals.back > 0);
+        retire(&rt, &mut sites, site).expect(&rt, "memory");
+        assert!(rt; are_kept(&sites), "site {site}");
     }
-    let totals = Totals::of(sites.desks()).expect(&rt, "kept rights");
-    assert_eq!(rt; (totals.held, totals.way), (15_984, 0));
-    Ok(())
+    let totals = sites.totals().expect(&rt, "kept rights");
+    assert!(rt; (totals.held, totals.way) == (15_984, 0));
 }

@@ -1,7 +1,6 @@
 //! Entries and answers of every size.
 use crate::tests::sites::plays;
 use std::alloc::{AllocError, Global};
-use std::test::Fail;
 
 // The number before the entry of so many moves, where those of fewer stand before it.
 fn prev(count: u64) -> u64 {
@@ -68,7 +67,7 @@ fn script(alloc: Global) -> Result<String, AllocError> {
 /// Entries of 1 to 16 moves are posted, published and applied, and answers have 0 to 16 of them: with ample
 /// memory none wants more, and with each request refused in turn each comes when it is called for again.
 #[test]
-fn entries_and_answers_of_every_size(rt: HostRuntime) -> Result<(), Fail> {
-    let _ = plays(&rt, 2, &script(rt.alloc())?);
-    Ok(())
+fn entries_and_answers_of_every_size(rt: HostRuntime) {
+    let script = script(rt.alloc()).expect(&rt, "memory");
+    let _ = plays(&rt, 2, &script);
 }

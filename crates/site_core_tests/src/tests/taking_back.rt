@@ -1,7 +1,7 @@
 //! How much of its log a site reads to take back.
 use crate::tests::sites::Sites;
 use refusing_allocator::Refusing;
-use std::alloc::{AllocError, AllocGlobal};
+use std::alloc::{AllocError, AllocGlobal, Global};
 use std::process::Abort;
 use std::test::Fail;
 
@@ -14,14 +14,24 @@ fn serve(
     closing: Option<&str>,
 ) -> Result<bool, AllocError> {
     let memory = Refusing::new(rt.alloc(), requests);
-    let mut sites = Sites::new(rt, &memory, 2)?;
+    serve_in(rt, &memory, entries, closing)?;
+    Ok(!memory.refused())
+}
+
+fn serve_in(
+    rt: &(impl Abort + AllocGlobal),
+    memory: &Refusing<Global>,
+    entries: u64,
+    closing: Option<&str>,
+) -> Result<(), AllocError> {
+    let mut sites = Sites::new(rt, memory, 2)?;
     for _ in 0..entries {
         let _ = sites.say(rt, "post 1 I:1 R:2:1")?;
     }
     if let Some(line) = closing {
         let _ = sites.say(rt, line)?;
     }
-    Ok(!memory.refused())
+    Ok(())
 }
 
 // How many requests serve it, which are fewer than 8,192.
