@@ -114,9 +114,8 @@ impl World {
         u64::try_from(share).unwrap_or(0)
     }
 
-    pub(crate) fn plan(&mut self, s: u64) -> Reply {
-        self.drop_asks(s)?;
-        let need = self.need(s)?;
+    // What each peer is to be asked for, of those that are to be asked.
+    fn shares(&self, s: u64, need: i128) -> Result<Vec<Share>, Refusal> {
         let mut shares = Vec::new(self.alloc);
         for peer in 1..=self.count() {
             let amount = self.share(s, peer, need);
@@ -124,13 +123,24 @@ impl World {
                 shares.push(Share { peer, amount })?;
             }
         }
-        for share in &shares {
+        Ok(shares)
+    }
+
+    fn note_asks(&mut self, s: u64, shares: &[Share]) -> Result<u64, Refusal> {
+        for share in shares {
             self.pair_mut(s, share.peer)?.asks.push(AskMade {
                 amount: share.amount,
                 is_outstanding: true,
             })?;
         }
-        say_number(self.alloc, "asks", shares.len() as u64)
+        Ok(shares.len() as u64)
+    }
+
+    pub(crate) fn plan(&mut self, s: u64) -> Reply {
+        self.drop_asks(s)?;
+        let shares = self.shares(s, self.need(s)?)?;
+        let count = self.note_asks(s, &shares)?;
+        say_number(self.alloc, "asks", count)
     }
 
     // What s can grant to o.

@@ -1,6 +1,6 @@
 //! What arrives of another site's log.
 use crate::refusal::{Refusal, Reply};
-use crate::text::say;
+use crate::text::{add_number, say};
 use crate::world::{Gap, World, end, ends_closed, is_among};
 use rights_types::{Beat, Entry};
 
@@ -46,26 +46,26 @@ impl World {
         }
     }
 
-    fn reach(&mut self, s: u64, e: Entry) -> Result<(), Refusal> {
-        let o = e.origin().number();
-        self.pair_mut(s, o)?.reached.push(e)?;
+    fn reach(&mut self, s: u64, e: &Entry) -> Result<(), Refusal> {
+        let e = e.clone_in(self.alloc)?;
+        self.pair_mut(s, e.origin().number())?.reached.push(e)?;
         Ok(())
     }
 
     // Writes the words of what was put beyond so many entries.
     fn say_ready(&self, s: u64, o: u64, before: usize, said: &mut Vec<u8>) -> Result<(), Refusal> {
         for e in self.put(s, o).iter().skip(before) {
-            let own = e.own();
-            add_word(said, format!(in self.alloc; "ready {own}")?.as_bytes())?;
+            add_word(said, b"ready")?;
+            add_number(self.alloc, said, b' ', e.own())?;
         }
         Ok(())
     }
 
     // Offers an entry, and writes the words of its verdict and of what it frees.
-    fn offer(&mut self, s: u64, e: Entry, said: &mut Vec<u8>) -> Result<(), Refusal> {
+    fn offer(&mut self, s: u64, e: &Entry, said: &mut Vec<u8>) -> Result<(), Refusal> {
         let o = e.origin().number();
         self.pair_mut(s, o)?.heard.push(e.own())?;
-        match self.verdict(s, &e) {
+        match self.verdict(s, e) {
             Verdict::Repeat => add_word(said, b"repeat"),
             Verdict::Full => add_word(said, b"full"),
             Verdict::Held => {
@@ -80,15 +80,20 @@ impl World {
         }
     }
 
+    fn offer_each(&mut self, s: u64, es: &[Entry], said: &mut Vec<u8>) -> Result<(), Refusal> {
+        for e in es {
+            self.offer(s, e, said)?;
+        }
+        Ok(())
+    }
+
     /// Offers entries in turn.
-    pub(crate) fn offer_all(&mut self, s: u64, es: Vec<Entry>) -> Reply {
+    pub(crate) fn offer_all(&mut self, s: u64, es: &[Entry]) -> Reply {
         if es.is_empty() {
             return say(self.alloc, "empty");
         }
         let mut said = Vec::new(self.alloc);
-        for e in es {
-            self.offer(s, e, &mut said)?;
-        }
+        self.offer_each(s, es, &mut said)?;
         Ok(said)
     }
 

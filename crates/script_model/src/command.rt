@@ -6,10 +6,11 @@ use rights_types::Move;
 use std::alloc::Global;
 
 /// A command, by its values: first the site whose event it is.
-#[derive(Drop)]
+#[derive(Clone, Copy)]
 pub(crate) enum Command<'a> {
     Sites(u64),
-    Post(u64, Vec<Move>),
+    /// With the text of its moves, if there are some.
+    Post(u64, Option<&'a [u8]>),
     Issue(u64, u64),
     Give(u64, u64, u64),
     Spend(u64, u64, u64),
@@ -29,6 +30,55 @@ pub(crate) enum Command<'a> {
     Report,
 }
 
+/// What the first word of a line names, other than a report, a post or noise.
+#[derive(Clone, Copy)]
+enum Name {
+    Sites,
+    Issue,
+    Give,
+    Spend,
+    Serve,
+    Expire,
+    Status,
+    Plan,
+    Ask,
+    Publish,
+    Query,
+    Requery,
+    Beat,
+    Arrive,
+    Take,
+    Close,
+}
+
+const NAMES: [(&[u8], Name); 16] = [
+    (b"sites", Name::Sites),
+    (b"issue", Name::Issue),
+    (b"give", Name::Give),
+    (b"spend", Name::Spend),
+    (b"serve", Name::Serve),
+    (b"expire", Name::Expire),
+    (b"status", Name::Status),
+    (b"plan", Name::Plan),
+    (b"ask", Name::Ask),
+    (b"publish", Name::Publish),
+    (b"query", Name::Query),
+    (b"requery", Name::Requery),
+    (b"beat", Name::Beat),
+    (b"arrive", Name::Arrive),
+    (b"take", Name::Take),
+    (b"close", Name::Close),
+];
+
+fn name_in(word: &[u8]) -> Option<Name> {
+    for (text, name) in &NAMES {
+        if *text == word {
+            return Some(*name);
+        }
+    }
+    None
+}
+
 fn site_in(word: &[u8]) -> Option<u64> {
     number_in(word, 1, 16)
 }
@@ -37,67 +87,99 @@ fn any_in(word: &[u8]) -> Option<u64> {
     number_in(word, 0, u64::MAX)
 }
 
-fn of_one<'a>(name: &[u8], first: &[u8]) -> Option<Command<'a>> {
-    match name {
-        b"sites" => Some(Command::Sites(number_in(first, 2, 16)?)),
-        b"serve" => Some(Command::Serve(site_in(first)?)),
-        b"plan" => Some(Command::Plan(site_in(first)?)),
-        b"close" => Some(Command::Close(site_in(first)?, None)),
-        _ => None,
+fn of_one<'a>(name: Name, first: &[u8]) -> Option<Command<'a>> {
+    if matches!(name, Name::Sites) {
+        return Some(Command::Sites(number_in(first, 2, 16)?));
     }
-}
-
-fn of_link<'a>(name: &[u8], s: u64, o: u64) -> Option<Command<'a>> {
-    match name {
-        b"ask" => Some(Command::Ask(s, o)),
-        b"publish" => Some(Command::Publish(s, o)),
-        b"query" => Some(Command::Query(s, o)),
-        b"requery" => Some(Command::Requery(s, o)),
-        b"beat" => Some(Command::Beat(s, o)),
-        b"take" => Some(Command::Take(s, o)),
-        b"close" => Some(Command::Close(s, Some(o))),
-        _ => None,
-    }
-}
-
-fn of_two<'a>(name: &[u8], first: &[u8], second: &[u8]) -> Option<Command<'a>> {
     let s = site_in(first)?;
     match name {
-        b"issue" => Some(Command::Issue(s, any_in(second)?)),
-        b"expire" => Some(Command::Expire(s, any_in(second)?)),
-        b"status" => Some(Command::Status(s, any_in(second)?)),
-        b"arrive" => Some(Command::Arrive(s, any_in(second)?)),
-        _ => of_link(name, s, site_in(second)?),
+        Name::Serve => Some(Command::Serve(s)),
+        Name::Plan => Some(Command::Plan(s)),
+        Name::Close => Some(Command::Close(s, None)),
+        _ => None,
     }
 }
 
-fn of_three<'a>(name: &[u8], first: &[u8], second: &[u8], third: &[u8]) -> Option<Command<'a>> {
+fn of_link<'a>(name: Name, s: u64, o: u64) -> Option<Command<'a>> {
+    match name {
+        Name::Ask => Some(Command::Ask(s, o)),
+        Name::Publish => Some(Command::Publish(s, o)),
+        Name::Query => Some(Command::Query(s, o)),
+        Name::Requery => Some(Command::Requery(s, o)),
+        Name::Beat => Some(Command::Beat(s, o)),
+        Name::Take => Some(Command::Take(s, o)),
+        Name::Close => Some(Command::Close(s, Some(o))),
+        _ => None,
+    }
+}
+
+fn of_number<'a>(name: Name, s: u64, n: u64) -> Option<Command<'a>> {
+    match name {
+        Name::Issue => Some(Command::Issue(s, n)),
+        Name::Expire => Some(Command::Expire(s, n)),
+        Name::Status => Some(Command::Status(s, n)),
+        Name::Arrive => Some(Command::Arrive(s, n)),
+        _ => None,
+    }
+}
+
+fn of_two<'a>(name: Name, first: &[u8], second: &[u8]) -> Option<Command<'a>> {
+    let s = site_in(first)?;
+    let n = any_in(second)?;
+    let found = of_number(name, s, n);
+    if found.is_some() {
+        return found;
+    }
+    of_link(name, s, site_in(second)?)
+}
+
+fn of_three<'a>(name: Name, first: &[u8], second: &[u8], third: &[u8]) -> Option<Command<'a>> {
     let s = site_in(first)?;
     let n = any_in(third)?;
     match name {
-        b"give" => Some(Command::Give(s, site_in(second)?, n)),
-        b"spend" => Some(Command::Spend(s, any_in(second)?, n)),
+        Name::Give => Some(Command::Give(s, site_in(second)?, n)),
+        Name::Spend => Some(Command::Spend(s, any_in(second)?, n)),
         _ => None,
     }
 }
 
-// A post of the moves behind the site.
-fn post_of<'a>(
-    alloc: Global,
-    first: &[u8],
-    fields: &[&[u8]],
-) -> Result<Option<Command<'a>>, Refusal> {
-    let Some(s) = site_in(first) else {
-        return Ok(None);
-    };
+fn of_words<'a>(words: &[&[u8]]) -> Option<Command<'a>> {
+    match words {
+        [b"report"] => Some(Command::Report),
+        [name, first] => of_one(name_in(name)?, first),
+        [name, first, second] => of_two(name_in(name)?, first, second),
+        [name, first, second, third] => of_three(name_in(name)?, first, second, third),
+        _ => None,
+    }
+}
+
+/// The moves that a post's text spells, each a word.
+pub(crate) fn moves_in(alloc: Global, text: Option<&[u8]>) -> Result<Vec<Move>, Refusal> {
     let mut moves = Vec::new(alloc);
-    for field in fields {
-        let Some(m) = read_move(field) else {
-            return Ok(None);
+    if let Some(text) = text {
+        add_moves(&words_of(alloc, text)?, &mut moves)?;
+    }
+    Ok(moves)
+}
+
+fn add_moves(words: &[&[u8]], moves: &mut Vec<Move>) -> Result<(), Refusal> {
+    for word in words {
+        let Some(m) = read_move(word) else {
+            return Err(Refusal::BadCommand);
         };
         moves.push(m)?;
     }
-    Ok(Some(Command::Post(s, moves)))
+    Ok(())
+}
+
+// A post: all that stands behind the site is moves.
+fn post_of(line: &[u8]) -> Option<Command<'_>> {
+    let (name, rest) = cut(line, b' ');
+    if name != b"post".as_slice() {
+        return None;
+    }
+    let (first, moves) = cut(rest?, b' ');
+    Some(Command::Post(site_in(first)?, moves))
 }
 
 // Noise: its text is all that stands behind the third space.
@@ -117,13 +199,11 @@ pub(crate) fn command_in(alloc: Global, line: &[u8]) -> Result<Option<Command<'_
     if noise.is_some() {
         return Ok(noise);
     }
+    if let Some(Command::Post(s, text)) = post_of(line) {
+        // A word that spells no move is refused before all else.
+        let _ = moves_in(alloc, text)?;
+        return Ok(Some(Command::Post(s, text)));
+    }
     let words = words_of(alloc, line)?;
-    Ok(match words.as_slice() {
-        [b"report"] => Some(Command::Report),
-        [b"post", first, fields @ ..] => post_of(alloc, first, fields)?,
-        [name, first] => of_one(name, first),
-        [name, first, second] => of_two(name, first, second),
-        [name, first, second, third] => of_three(name, first, second, third),
-        _ => None,
-    })
+    Ok(of_words(&words))
 }

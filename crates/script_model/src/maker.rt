@@ -2,6 +2,7 @@
 use crate::numbers::Numbers;
 use crate::runner::Model;
 use crate::style::Style;
+use crate::text::add_numbers;
 use crate::world::{Packet, World};
 use rights_types::OutOfMemory;
 use std::alloc::Global;
@@ -122,6 +123,13 @@ impl Maker {
             None => 0,
         };
         Ok(())
+    }
+
+    /// Adds the command of this name and these numbers.
+    pub(crate) fn tell(&mut self, name: &[u8], numbers: &[u64]) -> Result<(), OutOfMemory> {
+        let mut line = Vec::from_slice(self.alloc, name)?;
+        add_numbers(self.alloc, &mut line, b' ', numbers)?;
+        self.add(&line)
     }
 
     /// A site, one that fits where there is one.

@@ -2,13 +2,36 @@
 use crate::desk::amount_in;
 use crate::refusal::{Refusal, Reply};
 use crate::text::{say, say_number};
-use crate::world::{Outcome, Request, World};
+use crate::world::{Outcome, Request, Site, World};
 use rights_types::Move;
 
 /// Requests that wait and outcomes that were not read, together at most.
 const SLOTS: usize = 32;
 
 const MOST_TICKETS: u64 = 1_000_000_000_000_000_000;
+
+impl Site {
+    fn is_waiting(&self, ticket: u64) -> bool {
+        self.waiting.iter().any(|request| request.ticket == ticket)
+    }
+
+    fn note_served(&mut self, ticket: u64, number: u64) -> Result<(), Refusal> {
+        self.waiting.retain(|request| request.ticket != ticket);
+        self.outcomes.push(Outcome {
+            ticket,
+            spent: Some(number),
+        })?;
+        Ok(())
+    }
+
+    // An outcome, which can be read once.
+    fn read_outcome(&mut self, ticket: u64) -> Option<Outcome> {
+        let mut outcomes = self.outcomes.iter();
+        let outcome = outcomes.find(|outcome| outcome.ticket == ticket).copied();
+        self.outcomes.retain(|outcome| outcome.ticket != ticket);
+        outcome
+    }
+}
 
 impl World {
     /// What the requests that wait are for.
@@ -55,22 +78,26 @@ impl World {
         say_number(self.alloc, "queued", ticket)
     }
 
-    pub(crate) fn serve(&mut self, s: u64) -> Reply {
+    // Serves the request at the front, if the site holds enough: its ticket, and the entry's number.
+    fn serve_front(&mut self, s: u64) -> Result<Option<(u64, u64)>, Refusal> {
         let Some(front) = self.site(s)?.waiting.first().copied() else {
-            return say(self.alloc, "nothing");
+            return Ok(None);
         };
         if self.held(s) < i128::from(front.amount) {
-            return say(self.alloc, "nothing");
+            return Ok(None);
         }
         let number = self.spend_now(s, front.amount)?;
-        let ticket = front.ticket;
-        let site = self.site_mut(s)?;
-        site.waiting.retain(|request| request.ticket != ticket);
-        site.outcomes.push(Outcome {
-            ticket,
-            spent: Some(number),
-        })?;
-        Ok(format!(in self.alloc; "served {ticket} {number}")?.into_bytes())
+        self.site_mut(s)?.note_served(front.ticket, number)?;
+        Ok(Some((front.ticket, number)))
+    }
+
+    pub(crate) fn serve(&mut self, s: u64) -> Reply {
+        match self.serve_front(s)? {
+            Some((ticket, number)) => {
+                Ok(format!(in self.alloc; "served {ticket} {number}")?.into_bytes())
+            }
+            None => say(self.alloc, "nothing"),
+        }
     }
 
     // Makes the outcomes of the requests whose deadline has passed, and answers how many they are.
@@ -102,20 +129,13 @@ impl World {
     }
 
     pub(crate) fn status(&mut self, s: u64, ticket: u64) -> Reply {
-        let site = self.site(s)?;
-        if site.waiting.iter().any(|request| request.ticket == ticket) {
+        let site = self.site_mut(s)?;
+        if site.is_waiting(ticket) {
             return say(self.alloc, "waiting");
         }
-        let found = site
-            .outcomes
-            .iter()
-            .find(|outcome| outcome.ticket == ticket)
-            .copied();
-        let Some(outcome) = found else {
+        let Some(outcome) = site.read_outcome(ticket) else {
             return say(self.alloc, "unknown");
         };
-        let site = self.site_mut(s)?;
-        site.outcomes.retain(|outcome| outcome.ticket != ticket);
         match outcome.spent {
             Some(number) => say_number(self.alloc, "spent", number),
             None => say(self.alloc, "expired"),

@@ -44,7 +44,7 @@ impl Maker {
     pub(crate) fn expire_all(&mut self, s: u64) -> Result<(), OutOfMemory> {
         let time = self.last_deadline(s).saturating_add(1).max(self.now(s));
         if time > 1 {
-            self.add(format!(in self.alloc; "expire {s} {time}")?.as_bytes())?;
+            self.tell(b"expire", &[s, time])?;
         }
         Ok(())
     }
@@ -60,7 +60,7 @@ impl Maker {
             5 => self.numbers.below(now.saturating_add(1)),
             _ => now.saturating_add(self.numbers.below(9)),
         };
-        self.add(format!(in self.alloc; "expire {s} {time}")?.as_bytes())
+        self.tell(b"expire", &[s, time])
     }
 
     /// Queues a request for more than a site holds.
@@ -78,26 +78,26 @@ impl Maker {
             1 => u64::MAX.saturating_sub(self.numbers.below(3)),
             _ => now.saturating_add(self.numbers.below(25)),
         };
-        self.add(format!(in self.alloc; "spend {s} {n} {deadline}")?.as_bytes())
+        self.tell(b"spend", &[s, n, deadline])
     }
 
     fn status(&mut self) -> Added {
         let s = self.site_for(Wanted::Any);
         let tickets = self.tickets(s);
         let ticket = self.numbers.below(tickets.saturating_add(2));
-        self.add(format!(in self.alloc; "status {s} {ticket}")?.as_bytes())
+        self.tell(b"status", &[s, ticket])
     }
 
     pub(crate) fn plan_at(&mut self, s: u64) -> Added {
-        self.add(format!(in self.alloc; "plan {s}")?.as_bytes())
+        self.tell(b"plan", &[s])
     }
 
     pub(crate) fn ask_of(&mut self, s: u64, p: u64) -> Added {
-        self.add(format!(in self.alloc; "ask {s} {p}")?.as_bytes())
+        self.tell(b"ask", &[s, p])
     }
 
     pub(crate) fn serve_at(&mut self, s: u64) -> Added {
-        self.add(format!(in self.alloc; "serve {s}")?.as_bytes())
+        self.tell(b"serve", &[s])
     }
 
     /// Adds a command on requests or asks.

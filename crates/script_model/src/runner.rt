@@ -1,5 +1,5 @@
 //! The replies of a script.
-use crate::command::{Command, command_in};
+use crate::command::{Command, command_in, moves_in};
 use crate::refusal::{Refusal, Reply};
 use crate::text::{cut, say};
 use crate::world::World;
@@ -20,7 +20,7 @@ impl World {
     fn answer(&mut self, command: Command<'_>) -> Reply {
         match command {
             Command::Sites(_) => Err(Refusal::BadCommand),
-            Command::Post(s, moves) => self.post(s, moves),
+            Command::Post(s, text) => self.post(s, &moves_in(self.alloc, text)?),
             Command::Issue(s, n) => self.issue(s, n),
             Command::Give(s, j, n) => self.give(s, j, n),
             Command::Spend(s, n, deadline) => self.spend(s, n, deadline),
@@ -63,8 +63,8 @@ impl Model {
         let Some(command) = command_in(self.alloc, line)? else {
             return Err(Refusal::BadCommand);
         };
-        if let Command::Sites(count) = &command {
-            return self.begin(*count);
+        if let Command::Sites(count) = command {
+            return self.begin(count);
         }
         match &mut self.world {
             Some(world) => world.answer(command),
@@ -83,21 +83,31 @@ impl Model {
             }
         }
     }
+
+    fn add_reply(&mut self, line: &[u8], out: &mut Vec<u8>) -> Result<(), OutOfMemory> {
+        out.extend_from_slice(&self.reply(line)?)?;
+        out.push(b'\n')?;
+        Ok(())
+    }
+
+    fn add_replies(&mut self, script: &[u8], out: &mut Vec<u8>) -> Result<(), OutOfMemory> {
+        let mut rest = script;
+        for _ in 0..script.len() {
+            if rest.is_empty() {
+                break;
+            }
+            let (line, behind) = cut(rest, b'\n');
+            self.add_reply(line, out)?;
+            rest = behind.unwrap_or(&[]);
+        }
+        Ok(())
+    }
 }
 
 /// All replies to a script, each with its line feed.
 pub fn replies(alloc: Global, script: &[u8]) -> Result<Vec<u8>, OutOfMemory> {
     let mut model = Model::new(alloc);
     let mut out = Vec::new(alloc);
-    let mut rest = script;
-    for _ in 0..script.len() {
-        if rest.is_empty() {
-            break;
-        }
-        let (line, behind) = cut(rest, b'\n');
-        out.extend_from_slice(&model.reply(line)?)?;
-        out.push(b'\n')?;
-        rest = behind.unwrap_or(&[]);
-    }
+    model.add_replies(script, &mut out)?;
     Ok(out)
 }

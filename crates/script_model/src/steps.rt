@@ -1,10 +1,17 @@
 //! Steps of a script: mostly commands that do something, and some that are refused.
 use crate::maker::{Maker, Wanted};
 use crate::style::Step;
+use crate::text::{add_number, add_numbers};
 use rights_types::OutOfMemory;
 use std::alloc::Global;
 
 type Added = Result<(), OutOfMemory>;
+
+// Adds a letter, and numbers with a colon before each.
+fn add_fields(alloc: Global, line: &mut Vec<u8>, letter: &[u8], numbers: &[u64]) -> Added {
+    line.extend_from_slice(letter)?;
+    add_numbers(alloc, line, b':', numbers)
+}
 
 impl Maker {
     /// Adds one command or a few.
@@ -39,7 +46,7 @@ impl Maker {
             8 => self.numbers.between(6, 15),
             _ => 16,
         };
-        self.add(format!(in self.alloc; "sites {count}")?.as_bytes())
+        self.tell(b"sites", &[count])
     }
 
     /// An amount, mostly one that can be paid.
@@ -62,18 +69,17 @@ impl Maker {
         let s = self.site_for(wanted);
         let n = self.amount(s);
         match self.numbers.below(8) {
-            0 | 1 => self.add(format!(in self.alloc; "issue {s} {n}")?.as_bytes()),
+            0 | 1 => self.tell(b"issue", &[s, n]),
             2 | 3 => {
                 let j = self.peer_for(s);
-                self.add(format!(in self.alloc; "give {s} {j} {n}")?.as_bytes())
+                self.tell(b"give", &[s, j, n])
             }
-            4 => self.add(format!(in self.alloc; "spend {s} {n} 0")?.as_bytes()),
+            4 => self.tell(b"spend", &[s, n, 0]),
             _ => self.post(s),
         }
     }
 
     fn post(&mut self, s: u64) -> Added {
-        let mut line = format!(in self.alloc; "post {s}")?;
         let count = match self.numbers.below(20) {
             0 => 0,
             1 => 16,
@@ -86,40 +92,46 @@ impl Maker {
         } else {
             60
         };
-        for _ in 0..count {
-            line.push(' ')?;
-            line.push_str(self.move_text(s, most)?.as_str())?;
-        }
-        self.add(line.as_bytes())
+        let mut line = Vec::from_slice(self.alloc, b"post")?;
+        add_number(self.alloc, &mut line, b' ', s)?;
+        self.add_moves(s, count, most, &mut line)?;
+        self.add(&line)
     }
 
-    // The text of a move, mostly one that may be posted.
-    fn move_text(&mut self, s: u64, most: u64) -> Result<String, OutOfMemory> {
+    fn add_moves(&mut self, s: u64, count: u64, most: u64, line: &mut Vec<u8>) -> Added {
+        for _ in 0..count {
+            self.add_move(s, most, line)?;
+        }
+        Ok(())
+    }
+
+    // Adds the text of a move, mostly one that may be posted.
+    fn add_move(&mut self, s: u64, most: u64, line: &mut Vec<u8>) -> Added {
         let n = self.numbers.between(1, most.max(1));
         let j = self.peer_for(s);
-        let text = match self.numbers.below(100) {
-            0 => format!(in self.alloc; "G:{j}:{n}:1")?,
-            1 => format!(in self.alloc; "V:{j}:{n}")?,
-            2 => String::from_str(self.alloc, "C")?,
-            3 => String::from_str(self.alloc, "K:0:0")?,
-            4..=6 => format!(in self.alloc; "I:1000000000")?,
-            7..=60 => format!(in self.alloc; "I:{n}")?,
-            61..=75 => format!(in self.alloc; "S:{n}")?,
-            _ => format!(in self.alloc; "R:{j}:{n}")?,
-        };
-        Ok(text)
+        let alloc = self.alloc;
+        match self.numbers.below(100) {
+            0 => add_fields(alloc, line, b" G", &[j, n, 1]),
+            1 => add_fields(alloc, line, b" V", &[j, n]),
+            2 => add_fields(alloc, line, b" C", &[]),
+            3 => add_fields(alloc, line, b" K", &[0, 0]),
+            4..=6 => add_fields(alloc, line, b" I", &[1_000_000_000]),
+            7..=60 => add_fields(alloc, line, b" I", &[n]),
+            61..=75 => add_fields(alloc, line, b" S", &[n]),
+            _ => add_fields(alloc, line, b" R", &[j, n]),
+        }
     }
 
     pub(crate) fn publish_to(&mut self, s: u64, p: u64) -> Added {
-        self.add(format!(in self.alloc; "publish {s} {p}")?.as_bytes())
+        self.tell(b"publish", &[s, p])
     }
 
     pub(crate) fn arrive_at(&mut self, s: u64, packet: u64) -> Added {
-        self.add(format!(in self.alloc; "arrive {s} {packet}")?.as_bytes())
+        self.tell(b"arrive", &[s, packet])
     }
 
     pub(crate) fn take_from(&mut self, s: u64, o: u64) -> Added {
-        self.add(format!(in self.alloc; "take {s} {o}")?.as_bytes())
+        self.tell(b"take", &[s, o])
     }
 
     fn publish(&mut self) -> Added {
@@ -192,12 +204,12 @@ impl Maker {
     fn query(&mut self) -> Added {
         let Some((s, o)) = self.link_if(Wanted::Gapped) else {
             let (s, p) = self.link_for(Wanted::Any);
-            return self.add(format!(in self.alloc; "beat {s} {p}")?.as_bytes());
+            return self.tell(b"beat", &[s, p]);
         };
         match self.numbers.below(4) {
-            0 => self.add(format!(in self.alloc; "beat {o} {s}")?.as_bytes()),
-            1 => self.add(format!(in self.alloc; "requery {s} {o}")?.as_bytes()),
-            _ => self.add(format!(in self.alloc; "query {s} {o}")?.as_bytes()),
+            0 => self.tell(b"beat", &[o, s]),
+            1 => self.tell(b"requery", &[s, o]),
+            _ => self.tell(b"query", &[s, o]),
         }
     }
 
@@ -214,9 +226,9 @@ impl Maker {
         }
         if self.numbers.hits(50) {
             let heir = self.peer_for(s);
-            self.add(format!(in self.alloc; "close {s} {heir}")?.as_bytes())
+            self.tell(b"close", &[s, heir])
         } else {
-            self.add(format!(in self.alloc; "close {s}")?.as_bytes())
+            self.tell(b"close", &[s])
         }
     }
 
@@ -225,8 +237,8 @@ impl Maker {
         let lacking = 1_000_000_000_u64.saturating_sub(self.held(s));
         let n = lacking.saturating_add(self.numbers.below(3));
         let heir = self.peer_of(s);
-        self.add(format!(in self.alloc; "issue {s} {n}")?.as_bytes())?;
-        self.add(format!(in self.alloc; "close {s} {heir}")?.as_bytes())
+        self.tell(b"issue", &[s, n])?;
+        self.tell(b"close", &[s, heir])
     }
 }
 

@@ -30,31 +30,57 @@ impl Maker {
         }
         let (s, p) = self.link_for(Wanted::Open);
         let count = self.numbers.between(65, 72);
-        for _ in 0..count {
-            self.add(format!(in self.alloc; "issue {s} 1")?.as_bytes())?;
-        }
+        self.issue_ones(s, count)?;
         let before = self.sent();
-        for _ in 0..count.saturating_add(4) {
-            self.publish_to(s, p)?;
-        }
+        self.publish_times(s, p, count.saturating_add(4))?;
         let lost = self.numbers.between(1, 2);
-        for packet in before.saturating_add(lost).saturating_add(1)..=self.sent() {
-            self.arrive_at(p, packet)?;
-        }
+        self.arrive_behind(p, before.saturating_add(lost))?;
         for _ in 0..self.numbers.between(1, 5) {
             self.heal_link(p, s)?;
         }
         Ok(())
     }
 
-    // What was not published is, what did not arrive does, and all is taken.
-    fn drain(&mut self) -> Added {
+    fn issue_ones(&mut self, s: u64, count: u64) -> Added {
+        for _ in 0..count {
+            self.tell(b"issue", &[s, 1])?;
+        }
+        Ok(())
+    }
+
+    fn publish_times(&mut self, s: u64, p: u64, count: u64) -> Added {
+        for _ in 0..count {
+            self.publish_to(s, p)?;
+        }
+        Ok(())
+    }
+
+    // All packets behind this one arrive.
+    fn arrive_behind(&mut self, p: u64, before: u64) -> Added {
+        for packet in before.saturating_add(1)..=self.sent() {
+            self.arrive_at(p, packet)?;
+        }
+        Ok(())
+    }
+
+    fn take_times(&mut self, s: u64, o: u64, count: u64) -> Added {
+        for _ in 0..count {
+            self.take_from(s, o)?;
+        }
+        Ok(())
+    }
+
+    fn drain_logs(&mut self) -> Added {
         for _ in 0..self.numbers.between(2, 12) {
             let Some((s, p)) = self.link_if(Wanted::Publishable) else {
                 break;
             };
             self.publish_to(s, p)?;
         }
+        Ok(())
+    }
+
+    fn drain_packets(&mut self) -> Added {
         for _ in 0..self.numbers.between(2, 12) {
             if self.fresh.is_empty() {
                 break;
@@ -62,6 +88,13 @@ impl Maker {
             let packet = self.fresh.remove(0);
             self.arrive_at(self.addressee(packet), packet)?;
         }
+        Ok(())
+    }
+
+    // What was not published is, what did not arrive does, and all is taken.
+    fn drain(&mut self) -> Added {
+        self.drain_logs()?;
+        self.drain_packets()?;
         for _ in 0..self.numbers.between(2, 12) {
             let Some((s, o)) = self.link_if(Wanted::Takeable) else {
                 break;
@@ -74,7 +107,7 @@ impl Maker {
     // A site issues rights, and another one hears of it.
     fn enrich(&mut self, s: u64, p: u64) -> Added {
         let n = self.numbers.between(5, 40);
-        self.add(format!(in self.alloc; "issue {s} {n}")?.as_bytes())?;
+        self.tell(b"issue", &[s, n])?;
         self.publish_to(s, p)?;
         self.deliver_last()?;
         self.take_from(p, s)
@@ -104,18 +137,18 @@ impl Maker {
             self.publish_to(p, s)?;
             self.deliver_last()?;
         }
-        for _ in 0..self.numbers.between(1, 4) {
-            self.take_from(s, p)?;
-        }
+        let count = self.numbers.between(1, 4);
+        self.take_times(s, p, count)?;
         self.serve_at(s)
     }
 
     fn heal_link(&mut self, s: u64, o: u64) -> Added {
-        if self.numbers.hits(50) {
-            self.add(format!(in self.alloc; "requery {s} {o}")?.as_bytes())?;
+        let name: &[u8] = if self.numbers.hits(50) {
+            b"requery"
         } else {
-            self.add(format!(in self.alloc; "query {s} {o}")?.as_bytes())?;
-        }
+            b"query"
+        };
+        self.tell(name, &[s, o])?;
         self.deliver_last()?;
         self.deliver_last()
     }
@@ -124,13 +157,11 @@ impl Maker {
     fn heal(&mut self) -> Added {
         let wanted = self.mostly(60, Wanted::Gapped);
         let (s, o) = self.link_for(wanted);
-        self.add(format!(in self.alloc; "beat {o} {s}")?.as_bytes())?;
+        self.tell(b"beat", &[o, s])?;
         self.deliver_last()?;
         self.heal_link(s, o)?;
-        for _ in 0..self.numbers.between(0, 6) {
-            self.take_from(s, o)?;
-        }
-        Ok(())
+        let count = self.numbers.between(0, 6);
+        self.take_times(s, o, count)
     }
 
     // More requests come than there are slots.
@@ -159,26 +190,37 @@ impl Maker {
             return self.ask_round();
         }
         let (s, c) = self.link_for(Wanted::Open);
+        self.give_some(s, c)?;
+        self.hand_over_some(s, c)?;
+        self.expire_all(c)?;
+        if self.numbers.hits(40) {
+            let heir = self.peer_of(c);
+            self.tell(b"close", &[c, heir])?;
+        } else {
+            self.tell(b"close", &[c])?;
+        }
+        let count = self.numbers.between(0, 3);
+        self.publish_times(c, s, count)?;
+        self.drain()
+    }
+
+    // A site issues and gives some amounts.
+    fn give_some(&mut self, s: u64, c: u64) -> Added {
         for _ in 0..self.numbers.between(1, 4) {
             let n = self.numbers.between(1, 9);
-            self.add(format!(in self.alloc; "issue {s} {n}")?.as_bytes())?;
-            self.add(format!(in self.alloc; "give {s} {c} {n}")?.as_bytes())?;
+            self.tell(b"issue", &[s, n])?;
+            self.tell(b"give", &[s, c, n])?;
         }
+        Ok(())
+    }
+
+    // Some entries are published, arrive and are taken.
+    fn hand_over_some(&mut self, s: u64, c: u64) -> Added {
         for _ in 0..self.numbers.between(0, 5) {
             self.publish_to(s, c)?;
             self.deliver_last()?;
             self.take_from(c, s)?;
         }
-        self.expire_all(c)?;
-        if self.numbers.hits(40) {
-            let heir = self.peer_of(c);
-            self.add(format!(in self.alloc; "close {c} {heir}")?.as_bytes())?;
-        } else {
-            self.add(format!(in self.alloc; "close {c}")?.as_bytes())?;
-        }
-        for _ in 0..self.numbers.between(0, 3) {
-            self.publish_to(c, s)?;
-        }
-        self.drain()
+        Ok(())
     }
 }

@@ -1,5 +1,6 @@
 //! Texts of lines: words, numbers, and replies of one word and a number.
 use crate::refusal::{Refusal, Reply};
+use rights_types::OutOfMemory;
 use std::alloc::Global;
 
 /// The text before the first such byte, and the text behind that byte, if there is one.
@@ -46,6 +47,31 @@ pub(crate) fn number_in(text: &[u8], least: u64, most: u64) -> Option<u64> {
         return None;
     }
     Some(value)
+}
+
+/// Adds a number's digits behind this byte.
+pub(crate) fn add_number(
+    alloc: Global,
+    text: &mut Vec<u8>,
+    before: u8,
+    number: u64,
+) -> Result<(), OutOfMemory> {
+    text.push(before)?;
+    text.extend_from_slice(format!(in alloc; "{number}")?.as_bytes())?;
+    Ok(())
+}
+
+/// Adds numbers, each behind this byte.
+pub(crate) fn add_numbers(
+    alloc: Global,
+    text: &mut Vec<u8>,
+    before: u8,
+    numbers: &[u64],
+) -> Result<(), OutOfMemory> {
+    for number in numbers {
+        add_number(alloc, text, before, *number)?;
+    }
+    Ok(())
 }
 
 /// The reply of a word alone.

@@ -1,5 +1,6 @@
 //! Commands that are refused, and noise.
 use crate::maker::{Maker, Wanted};
+use crate::text::{add_numbers, cut};
 use rights_types::OutOfMemory;
 
 type Added = Result<(), OutOfMemory>;
@@ -154,6 +155,28 @@ const NOISE: [&[u8]; 40] = [
     b"H 1 2",
 ];
 
+/// Names of commands with two or three numbers.
+const NAMES: [&[u8]; 14] = [
+    b"issue", b"give", b"spend", b"expire", b"status", b"ask", b"publish", b"query", b"requery",
+    b"beat", b"arrive", b"take", b"close", b"noise",
+];
+
+/// Ordinary commands.
+const COMMANDS: [&[u8]; 12] = [
+    b"report",
+    b"post 1 I:10 S:4 R:2:3",
+    b"issue 1 10",
+    b"give 1 2 3",
+    b"spend 2 6 9",
+    b"serve 2",
+    b"plan 2",
+    b"ask 2 1",
+    b"publish 1 2",
+    b"arrive 2 1",
+    b"take 2 1",
+    b"noise 2 1 B 1 5",
+];
+
 impl Maker {
     /// Adds a line before there is a world.
     pub(crate) fn too_early(&mut self) -> Added {
@@ -183,7 +206,9 @@ impl Maker {
 
     fn add_noise(&mut self, text: &[u8]) -> Added {
         let (s, o) = self.link_for(Wanted::Any);
-        let mut line = format!(in self.alloc; "noise {s} {o} ")?.into_bytes();
+        let mut line = Vec::from_slice(self.alloc, b"noise")?;
+        add_numbers(self.alloc, &mut line, b' ', &[s, o])?;
+        line.push(b' ')?;
         line.extend_from_slice(text)?;
         self.add(&line)
     }
@@ -233,18 +258,23 @@ impl Maker {
     // The text of a packet, mostly damaged.
     fn noise_of_a_packet(&mut self) -> Added {
         let sent = self.sent();
-        let packet = self.numbers.below(sent) as usize;
-        let mut text = Vec::new(self.alloc);
-        if let Some(world) = self.world() {
-            if let Some(packet) = world.packets.get(packet) {
-                text.extend_from_slice(&packet.line)?;
-            }
-        }
-        let _ = text.pop();
+        let packet = self.numbers.below(sent);
+        let mut text = Vec::from_slice(self.alloc, self.packet_text(packet))?;
         if self.numbers.hits(80) {
             self.damage(&mut text)?;
         }
         self.add_noise(&text)
+    }
+
+    // The text of the packet at this place, counted from 0.
+    fn packet_text(&self, place: u64) -> &[u8] {
+        let Some(world) = self.world() else {
+            return &[];
+        };
+        match world.packets.get(place as usize) {
+            Some(packet) => cut(&packet.line, b'\n').0,
+            None => &[],
+        }
     }
 
     fn any_bytes(&mut self) -> Added {
@@ -261,21 +291,23 @@ impl Maker {
 
     // A command of two or three numbers, with sites and packets that may be absent.
     fn any_numbers(&mut self) -> Added {
-        let names: [&[u8]; 14] = [
-            b"issue", b"give", b"spend", b"expire", b"status", b"ask", b"publish", b"query",
-            b"requery", b"beat", b"arrive", b"take", b"close", b"noise",
-        ];
-        let mut line = Vec::from_slice(self.alloc, self.numbers.text_of(&names))?;
-        for _ in 0..self.numbers.between(2, 3) {
-            let most = if self.numbers.hits(80) {
-                self.count
-            } else {
-                18
-            };
-            let n = self.numbers.between(0, most);
-            line.extend_from_slice(format!(in self.alloc; " {n}")?.as_bytes())?;
+        let name = self.numbers.text_of(&NAMES);
+        let mut numbers = [0; 3];
+        let count = self.numbers.between(2, 3) as usize;
+        for number in numbers.iter_mut().take(count) {
+            *number = self.any_number();
         }
-        self.add(&line)
+        self.tell(name, numbers.get(..count).unwrap_or(&numbers))
+    }
+
+    // The number of a site or packet, which may be absent.
+    fn any_number(&mut self) -> u64 {
+        let most = if self.numbers.hits(80) {
+            self.count
+        } else {
+            18
+        };
+        self.numbers.between(0, most)
     }
 
     // A line whose length is about the greatest one.
@@ -296,21 +328,7 @@ impl Maker {
 
     // An ordinary command with a byte changed.
     fn damaged_command(&mut self) -> Added {
-        let commands: [&[u8]; 12] = [
-            b"report",
-            b"post 1 I:10 S:4 R:2:3",
-            b"issue 1 10",
-            b"give 1 2 3",
-            b"spend 2 6 9",
-            b"serve 2",
-            b"plan 2",
-            b"ask 2 1",
-            b"publish 1 2",
-            b"arrive 2 1",
-            b"take 2 1",
-            b"noise 2 1 B 1 5",
-        ];
-        let mut line = Vec::from_slice(self.alloc, self.numbers.text_of(&commands))?;
+        let mut line = Vec::from_slice(self.alloc, self.numbers.text_of(&COMMANDS))?;
         self.damage(&mut line)?;
         self.add(&line)
     }

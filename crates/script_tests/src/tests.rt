@@ -7,5 +7,16 @@ mod session;
 mod sizes;
 mod writers;
 
+use std::alloc::Global;
+use transfer_world::run_script;
+
 /// More requests than any run here makes.
 const MANY: u64 = 1000;
+
+/// Whether the script runs to its end with these replies.
+fn is_replied(alloc: Global, script: &[u8], replies: &[u8]) -> bool {
+    let mut reader = script;
+    let mut out = Vec::new(alloc);
+    let result = run_script(alloc, &mut reader, &mut out);
+    result.is_ok() && out.as_slice() == replies
+}

@@ -1,7 +1,7 @@
 //! Runs of events with ample memory, all of whose replies are compared.
 use rights_types::{Amount, Entry, Move, OutOfMemory, SiteId};
 use std::alloc::Global;
-use std::test::Fail;
+use test_kit::{give, issue};
 use transfer_world::{Event, Moves, Reply, Verdict, World, WorldError};
 
 /// The greatest amount.
@@ -13,17 +13,12 @@ const ROUNDS: u64 = 150;
 /// The moves of the largest entry: sixteen, each of the greatest amount.
 fn largest(alloc: Global, peer: SiteId) -> Result<Vec<Move>, OutOfMemory> {
     let amount = Amount::known(MOST);
-    let mut moves = Vec::new(alloc);
-    for _ in 0..8 {
-        moves.push(Move::Issue(amount))?;
+    let mut moves = [Move::Issue(amount); 16];
+    for place in 0..4 {
+        moves[8 + place] = Move::Give { peer, amount };
+        moves[12 + place] = Move::Spend(amount);
     }
-    for _ in 0..4 {
-        moves.push(Move::Give { peer, amount })?;
-    }
-    for _ in 0..4 {
-        moves.push(Move::Spend(amount))?;
-    }
-    Ok(moves)
+    Ok(Vec::from_slice(alloc, &moves)?)
 }
 
 /// Whether it is the reply that one entry became next, with this own number.
@@ -70,75 +65,118 @@ fn add_round(
     Ok(())
 }
 
-/// Some hundred rounds of largest entries, from each of two sites to the other.
-#[test]
-fn many_rounds(rt: HostRuntime) -> Result<(), Fail> {
-    let (one, two) = (SiteId::known(1), SiteId::known(2));
-    let mut events = Vec::new(rt.alloc());
+/// The events of all rounds, in each of which both sites post.
+fn all_rounds(alloc: Global, one: SiteId, two: SiteId) -> Result<Vec<Event>, OutOfMemory> {
+    let mut events = Vec::new(alloc);
     for round in 0..ROUNDS {
-        add_round(rt.alloc(), &mut events, one, two, 2 * round + 1)?;
-        add_round(rt.alloc(), &mut events, two, one, 2 * round + 2)?;
+        add_round(alloc, &mut events, one, two, 2 * round + 1)?;
+        add_round(alloc, &mut events, two, one, 2 * round + 2)?;
     }
-    let mut world = World::new(rt.alloc(), 2)?;
-    let outcomes = world.run(&events)?;
-    let mut rest = outcomes.as_slice();
+    Ok(events)
+}
+
+/// The first packet at which the outcomes are not those of all rounds, or of more than these.
+fn wrong_packet(outcomes: &[Result<Reply, WorldError>]) -> Option<u64> {
+    let mut rest = outcomes;
     for round in 0..ROUNDS {
         for packet in [2 * round + 1, 2 * round + 2] {
             let Some((replies, more)) = rest.split_at_checked(5) else {
-                return Err(Fail::from("too few replies"));
+                return Some(packet);
             };
-            assert!(rt;
-                is_round(replies, 16 * (round + 1), packet),
-                "at packet {packet}"
-            );
+            if !is_round(replies, 16 * (round + 1), packet) {
+                return Some(packet);
+            }
             rest = more;
         }
     }
-    assert!(rt; rest.is_empty());
-    for (site, peer) in [(one, two), (two, one)] {
-        let moves = largest(rt.alloc(), peer)?;
-        let log = world.log(site)?;
-        assert_eq!(rt; log.len() as u64, ROUNDS);
-        let mut prev = 0u64;
-        for entry in &log {
-            assert!(rt; is_entry(entry, site, prev, &moves), "after {prev}");
-            prev = entry.own();
-        }
-        assert_eq!(rt; world.issued(site), 8 * MOST * ROUNDS);
-        assert_eq!(rt; world.spent(site), 4 * MOST * ROUNDS);
-        assert_eq!(rt; world.held(site), 4 * MOST * ROUNDS);
-        assert_eq!(rt; world.way(site, peer), 0);
+    if rest.is_empty() {
+        None
+    } else {
+        Some(2 * ROUNDS + 1)
     }
-    Ok(())
 }
 
-/// A run of events answers each of them, and the log can be copied.
+/// Whether the log has an entry of these moves for each round.
+fn is_log(log: &[Entry], site: SiteId, moves: &[Move]) -> bool {
+    let mut prev = 0u64;
+    for entry in log {
+        if !is_entry(entry, site, prev, moves) {
+            return false;
+        }
+        prev = entry.own();
+    }
+    log.len() as u64 == ROUNDS
+}
+
+/// Whether a site wrote its entries of all rounds, each with these moves.
+fn has_log(world: &World, site: SiteId, moves: &[Move]) -> bool {
+    match world.log(site) {
+        Ok(log) => is_log(&log, site, moves),
+        Err(OutOfMemory) => false,
+    }
+}
+
+/// Some hundred rounds of largest entries, from each of two sites to the other.
 #[test]
-fn a_run_of_events(rt: HostRuntime) -> Result<(), Fail> {
+fn many_rounds(rt: HostRuntime) {
     let (one, two) = (SiteId::known(1), SiteId::known(2));
-    let moves = [
-        Move::Issue(Amount::known(10)),
-        Move::Give {
-            peer: two,
-            amount: Amount::known(3),
-        },
-    ];
-    let mut events = Vec::new(rt.alloc());
-    let copy = Vec::from_slice(rt.alloc(), &moves)?;
+    let mut world = World::new(rt.alloc(), 2).expect(&rt, "memory");
+    let events = all_rounds(rt.alloc(), one, two).expect(&rt, "memory");
+    let outcomes = world.run(&events).expect(&rt, "memory");
+    assert_eq!(rt; wrong_packet(&outcomes), None);
+    for (site, peer) in [(one, two), (two, one)] {
+        let moves = largest(rt.alloc(), peer).expect(&rt, "memory");
+        assert!(rt; has_log(&world, site, &moves));
+        assert!(rt; has_rights(&world, site, peer));
+    }
+}
+
+/// Whether the site's sums are those of all rounds.
+fn has_rights(world: &World, site: SiteId, peer: SiteId) -> bool {
+    world.issued(site) == 8 * MOST * ROUNDS
+        && world.spent(site) == 4 * MOST * ROUNDS
+        && world.held(site) == 4 * MOST * ROUNDS
+        && world.way(site, peer) == 0
+}
+
+/// A post of these moves, whose entry is sent, arrives and is taken.
+fn one_round(
+    alloc: Global,
+    one: SiteId,
+    two: SiteId,
+    moves: &[Move],
+) -> Result<Vec<Event>, OutOfMemory> {
+    let mut events = Vec::new(alloc);
+    let copy = Vec::from_slice(alloc, moves)?;
     events.push(Event::Post(one, Moves::new(copy)))?;
     events.push(Event::Publish(one, two))?;
     events.push(Event::Arrive(two, 1))?;
     events.push(Event::Take(two, one))?;
     events.push(Event::Take(two, one))?;
-    let mut world = World::new(rt.alloc(), 2)?;
-    let outcomes = world.run(&events)?;
-    assert!(rt; is_round(&outcomes, 2, 1));
-    assert_eq!(rt; (world.held(one), world.held(two)), (7, 3));
-    assert_eq!(rt; world.packet(1), Some(b"E 1 0 2 I:10 R:2:3\n".as_slice()));
-    let log = world.log(one)?;
-    let [entry] = log.as_slice() else {
-        return Err(Fail::from("the log"));
+    Ok(events)
+}
+
+/// Whether the site's log is one entry with these moves.
+fn has_written(world: &World, site: SiteId, moves: &[Move]) -> bool {
+    let Ok(log) = world.log(site) else {
+        return false;
     };
-    assert!(rt; is_entry(entry, one, 0, &moves));
-    Ok(())
+    match log.as_slice() {
+        [entry] => is_entry(entry, site, 0, moves),
+        _ => false,
+    }
+}
+
+/// A run of events answers each of them, and the log can be copied.
+#[test]
+fn a_run_of_events(rt: HostRuntime) {
+    let (one, two) = (SiteId::known(1), SiteId::known(2));
+    let moves = [issue(10), give(2, 3)];
+    let mut world = World::new(rt.alloc(), 2).expect(&rt, "memory");
+    let events = one_round(rt.alloc(), one, two, &moves).expect(&rt, "memory");
+    let outcomes = world.run(&events).expect(&rt, "memory");
+    assert!(rt; is_round(&outcomes, 2, 1));
+    assert!(rt; (world.held(one), world.held(two)) == (7, 3));
+    assert!(rt; world.packet(1) == Some(b"E 1 0 2 I:10 R:2:3\n".as_slice()));
+    assert!(rt; has_written(&world, one, &moves));
 }

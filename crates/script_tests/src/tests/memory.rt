@@ -1,10 +1,9 @@
 //! Events with each growth refused: the lists are as they were, and the world has ended.
 use crate::tests::MANY;
 use refusing_allocator::Refusing;
-use rights_types::{OutOfMemory, SiteId};
+use rights_types::{Entry, OutOfMemory, SiteId};
 use site_core::Line;
 use std::alloc::Allocator;
-use std::test::Fail;
 use test_kit::{give, issue, spend};
 use transfer_world::{Event, Moves, Reply, World, WorldError};
 
@@ -19,13 +18,34 @@ fn two() -> SiteId {
     SiteId::known(2)
 }
 
+/// The text of an entry of site 2 that is none.
+const NOISE: &[u8] = b"E 2 0 1 I:0\n";
+
+/// A post of site 1.
+fn post<A: Allocator>(alloc: A) -> Result<Event<A>, OutOfMemory> {
+    let moves = Vec::from_slice(alloc, &[issue(10), spend(1), give(2, 3)])?;
+    Ok(Event::Post(one(), Moves::new(moves)))
+}
+
+fn noise<A: Allocator>(alloc: A) -> Result<Event<A>, OutOfMemory> {
+    let text = Vec::from_slice(alloc, NOISE)?;
+    Ok(Event::Noise(one(), two(), Line::new(text)))
+}
+
 /// A story of two sites, in which each kind of event happens: the second one misses an entry and asks for it, is granted
 /// rights and denied others, and closes; the first takes back what was on the way.
 fn event<A: Allocator>(alloc: A, step: usize) -> Result<Event<A>, OutOfMemory> {
-    let moves = [issue(10), spend(1), give(2, 3)];
-    Ok(match step {
+    match step {
+        1 | 29 => post(alloc),
+        32 => noise(alloc),
+        _ => Ok(plain_event(step)),
+    }
+}
+
+/// The event of a step that is no post and no noise.
+fn plain_event<A: Allocator>(step: usize) -> Event<A> {
+    match step {
         0 => Event::Issue(one(), 20),
-        1 | 29 => Event::Post(one(), Moves::new(Vec::from_slice(alloc, &moves)?)),
         2 | 3 => Event::Publish(one(), two()),
         4 => Event::Arrive(two(), 2),
         5 => Event::Query(two(), one(), false),
@@ -53,13 +73,8 @@ fn event<A: Allocator>(alloc: A, step: usize) -> Result<Event<A>, OutOfMemory> {
         28 => Event::Expire(two(), 9),
         30 => Event::Close(two(), None),
         31 => Event::Publish(two(), one()),
-        32 => Event::Noise(
-            one(),
-            two(),
-            Line::new(Vec::from_slice(alloc, b"E 2 0 1 I:0\n")?),
-        ),
         _ => Event::Arrive(one(), 10),
-    })
+    }
 }
 
 /// The events that take no memory: spends that wait, plans, a take, an outcome that is read, an expiry, noise, and the
@@ -101,8 +116,10 @@ fn site_state<A: Allocator + Copy>(world: &World<A>, site: SiteId, peer: SiteId)
     ]
 }
 
-/// What there is to see of the world: of both sites, and how many packets were made.
-fn state<A: Allocator + Copy>(world: &World<A>) -> ([u64; 11], [u64; 11], u64) {
+/// What there is to see of a world: of both sites, and how many packets were made.
+type State = ([u64; 11], [u64; 11], u64);
+
+fn state<A: Allocator + Copy>(world: &World<A>) -> State {
     let mut packets = 0u64;
     // The story makes fewer packets than this.
     for number in 1..=20u64 {
@@ -123,59 +140,91 @@ fn has_ended<A: Allocator + Copy>(world: &mut World<A>) -> bool {
     )
 }
 
+/// The state after the first of these events.
+fn state_after<A: Allocator + Copy>(alloc: A, steps: usize) -> Option<State> {
+    let world = after(alloc, steps)?;
+    Some(state(&world))
+}
+
+/// What a run with a growth refused came to.
+#[derive(Clone, Copy)]
+enum Run {
+    /// The growth was refused before what the run is about.
+    Early,
+    /// No growth was refused, and this is the state then.
+    Whole(State),
+    /// After so many events the growth was refused, this is the state then, and the world has ended.
+    Refused(usize, State),
+    Wrong,
+}
+
+/// Whether the event happens. `None` where it is refused otherwise than for want of memory.
+fn happens<A: Allocator + Copy>(world: &mut World<A>, next: Event<A>) -> Option<bool> {
+    match world.step(next) {
+        Ok(_) => Some(true),
+        Err(WorldError::OutOfMemory) => Some(false),
+        Err(_) => None,
+    }
+}
+
+/// A run in which the event of this step is to meet the refusal.
+fn run_of<A: Allocator + Copy>(alloc: A, step: usize, granted: u64) -> Run {
+    let refusing = Refusing::new(alloc, granted);
+    let Some(mut world) = after(&refusing, step) else {
+        return Run::Early;
+    };
+    let Ok(next) = event(&refusing, step) else {
+        return Run::Early;
+    };
+    let done = happens(&mut world, next);
+    let seen = state(&world);
+    if !refusing.refused() {
+        return if done == Some(true) {
+            Run::Whole(seen)
+        } else {
+            Run::Wrong
+        };
+    }
+    if done == Some(false) && has_ended(&mut world) {
+        Run::Refused(step, seen)
+    } else {
+        Run::Wrong
+    }
+}
+
 /// How many growths the event of this step may be refused, where each refusal leaves the world as it was, but ended;
 /// and the last run, which meets none, comes to the world after the event.
 fn growths_of<A: Allocator + Copy>(alloc: A, step: usize) -> Option<u64> {
-    let before = state(&after(alloc, step)?);
-    let behind = state(&after(alloc, step.checked_add(1)?)?);
+    let before = state_after(alloc, step)?;
+    let behind = state_after(alloc, step.checked_add(1)?)?;
     let mut refusals = 0u64;
     for granted in 0..MANY {
-        let refusing = Refusing::new(alloc, granted);
-        let Some(mut world) = after(&refusing, step) else {
-            continue;
-        };
-        let Ok(next) = event(&refusing, step) else {
-            continue;
-        };
-        let outcome = world.step(next);
-        if !refusing.refused() {
-            return if outcome.is_ok() && state(&world) == behind {
-                Some(refusals)
-            } else {
-                None
-            };
-        }
-        refusals = refusals.checked_add(1)?;
-        let is_refused = matches!(outcome, Err(WorldError::OutOfMemory));
-        if !is_refused || state(&world) != before || !has_ended(&mut world) {
-            return None;
+        match run_of(alloc, step, granted) {
+            Run::Early => (),
+            Run::Whole(seen) if seen == behind => return Some(refusals),
+            Run::Refused(_, seen) if seen == before => refusals = refusals.checked_add(1)?,
+            _ => return None,
         }
     }
     None
 }
 
 #[test]
-fn each_growth_of_an_event_refused(rt: HostRuntime) -> Result<(), Fail> {
+fn each_growth_of_an_event_refused(rt: HostRuntime) {
     for step in 0..EVENTS {
-        let Some(growths) = growths_of(rt.alloc(), step) else {
-            return Err(Fail::from("an event that went wrong"));
-        };
+        let growths = growths_of(rt.alloc(), step).expect(&rt, "an event that went well");
         // A growth may also fall on room that an earlier event has made.
         assert!(rt; growths == 0 || !takes_none(step), "at {step}: {growths}");
     }
-    Ok(())
 }
 
 /// Each of the world's events that takes memory does so at its first time.
 #[test]
-fn memory_is_taken_where_it_should(rt: HostRuntime) -> Result<(), Fail> {
+fn memory_is_taken_where_it_should(rt: HostRuntime) {
     for step in [0usize, 2, 4, 5, 6, 7, 10, 13, 16, 18, 20, 26, 30] {
-        let Some(growths) = growths_of(rt.alloc(), step) else {
-            return Err(Fail::from("an event that went wrong"));
-        };
+        let growths = growths_of(rt.alloc(), step).expect(&rt, "an event that went well");
         assert!(rt; growths > 0, "at {step}");
     }
-    Ok(())
 }
 
 /// Whether the first outcomes are no refusals, the next is one for want of memory, and the others tell
@@ -213,65 +262,98 @@ fn done_by<A: Allocator + Copy>(world: &mut World<A>, events: &[Event<A>]) -> Op
     }
 }
 
-#[test]
-fn each_growth_of_a_run_refused(rt: HostRuntime) -> Result<(), Fail> {
-    let mut stopped = 0;
-    for granted in 0..MANY {
-        let refusing = Refusing::new(rt.alloc(), granted);
-        let Ok(mut world) = World::new(&refusing, 2) else {
-            continue;
-        };
-        let Ok(events) = all_events(&refusing) else {
-            continue;
-        };
-        let done = done_by(&mut world, &events);
-        if !refusing.refused() {
-            let (Some(expected), None) = (after(rt.alloc(), EVENTS), done) else {
-                return Err(Fail::from("ample memory"));
-            };
-            assert!(rt; state(&world) == state(&expected));
-            // The last event with a growth is the close.
-            assert!(rt; stopped >= 30, "{stopped}");
-            return Ok(());
-        }
-        let Some(done) = done else {
-            return Err(Fail::from("the refusal is not told"));
-        };
-        stopped = stopped.max(done);
-        let Some(expected) = after(rt.alloc(), done) else {
-            return Err(Fail::from("ample memory"));
-        };
-        assert!(rt; state(&world) == state(&expected), "with {granted} granted");
-        assert!(rt; has_ended(&mut world));
+/// A run of all events.
+fn run_of_all<A: Allocator + Copy>(alloc: A, granted: u64) -> Run {
+    let refusing = Refusing::new(alloc, granted);
+    let Ok(mut world) = World::new(&refusing, 2) else {
+        return Run::Early;
+    };
+    let Ok(events) = all_events(&refusing) else {
+        return Run::Early;
+    };
+    let done = done_by(&mut world, &events);
+    let seen = state(&world);
+    match done {
+        None if !refusing.refused() => Run::Whole(seen),
+        Some(done) if refusing.refused() && has_ended(&mut world) => Run::Refused(done, seen),
+        _ => Run::Wrong,
     }
-    Err(Fail::from("too many growths"))
 }
 
 #[test]
-fn each_growth_of_a_copied_log_refused(rt: HostRuntime) -> Result<(), Fail> {
-    let mut refusals = 0u64;
+fn each_growth_of_a_run_refused(rt: HostRuntime) {
+    let mut stopped = 0;
+    let mut whole = false;
     for granted in 0..MANY {
-        let refusing = Refusing::new(rt.alloc(), granted);
-        let Some(world) = after(&refusing, 2) else {
-            continue;
-        };
-        let copy = world.log(one());
-        assert_eq!(rt; copy.is_err(), refusing.refused());
-        let Ok(copy) = copy else {
-            refusals = refusals.saturating_add(1);
-            continue;
-        };
-        let [first, second] = copy.as_slice() else {
-            return Err(Fail::from("the log"));
-        };
-        assert_eq!(rt; first.moves(), [issue(20)].as_slice());
-        assert_eq!(rt;
-            second.moves(),
-            [issue(10), spend(1), give(2, 3)].as_slice()
-        );
-        // The list is one growth, and each entry another.
-        assert_eq!(rt; refusals, 3);
-        return Ok(());
+        match run_of_all(rt.alloc(), granted) {
+            Run::Early => (),
+            Run::Whole(seen) => {
+                assert!(rt; Some(seen) == state_after(rt.alloc(), EVENTS));
+                whole = true;
+                break;
+            }
+            Run::Refused(done, seen) => {
+                stopped = stopped.max(done);
+                assert!(rt;
+                    Some(seen) == state_after(rt.alloc(), done),
+                    "with {granted} granted"
+                );
+            }
+            Run::Wrong => panic!(rt; "with {granted} granted"),
+        }
     }
-    Err(Fail::from("too many growths"))
+    assert!(rt; whole, "too many growths");
+    // The last event with a growth is the close.
+    assert!(rt; stopped >= 30, "{stopped}");
+}
+
+/// Whether these are the entries of the story's first two events.
+fn are_first_two<A: Allocator>(entries: &[Entry<A>]) -> bool {
+    let [first, second] = entries else {
+        return false;
+    };
+    first.moves() == [issue(20)].as_slice()
+        && second.moves() == [issue(10), spend(1), give(2, 3)].as_slice()
+}
+
+/// What became of a copy of the log.
+#[derive(Clone, Copy)]
+enum Copying {
+    /// There was no memory for the events before it.
+    Early,
+    Refused,
+    Whole,
+    Wrong,
+}
+
+fn copy_of_log<A: Allocator + Copy>(alloc: A, granted: u64) -> Copying {
+    let refusing = Refusing::new(alloc, granted);
+    let Some(world) = after(&refusing, 2) else {
+        return Copying::Early;
+    };
+    match world.log(one()) {
+        Ok(copy) if !refusing.refused() && are_first_two(&copy) => Copying::Whole,
+        Err(OutOfMemory) if refusing.refused() => Copying::Refused,
+        _ => Copying::Wrong,
+    }
+}
+
+#[test]
+fn each_growth_of_a_copied_log_refused(rt: HostRuntime) {
+    let mut refusals = 0u64;
+    let mut whole = false;
+    for granted in 0..MANY {
+        match copy_of_log(rt.alloc(), granted) {
+            Copying::Early => (),
+            Copying::Refused => refusals = refusals.saturating_add(1),
+            Copying::Whole => {
+                whole = true;
+                break;
+            }
+            Copying::Wrong => panic!(rt; "with {granted} granted"),
+        }
+    }
+    assert!(rt; whole, "too many growths");
+    // The list is one growth, and each entry another.
+    assert_eq!(rt; refusals, 3);
 }

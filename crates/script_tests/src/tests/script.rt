@@ -1,9 +1,8 @@
 //! Scripts with ample memory, and with each growth refused.
-use crate::tests::MANY;
+use crate::tests::{MANY, is_replied};
 use memchr::memchr;
 use refusing_allocator::Refusing;
-use std::alloc::Global;
-use std::test::Fail;
+use std::alloc::{AllocError, Global};
 use transfer_world::{ScriptFault, run_script};
 
 /// Scripts that lead through all kinds of events: rights that travel, a gap and its answer, an ask that is granted, a
@@ -81,67 +80,72 @@ fn is_cut_short(outcome: Result<(), ScriptFault>, text: &[u8], replies: &[u8]) -
 }
 
 /// The replies to a script.
-fn replies_to(alloc: Global, script: &[u8]) -> Result<Vec<u8>, Fail> {
+fn replies_to(alloc: Global, script: &[u8]) -> Result<Vec<u8>, ScriptFault> {
     let mut out = Vec::new(alloc);
     let mut reader = script;
     run_script(alloc, &mut reader, &mut out)?;
     Ok(out)
 }
 
+/// Whether the script met a refusal among so many growths. `None` where the run went wrong.
+fn meets_refusal(alloc: Global, script: &[u8], replies: &[u8], granted: u64) -> Option<bool> {
+    let refusing = Refusing::new(alloc, granted);
+    let mut reader = script;
+    let mut out = Vec::new(alloc);
+    let result = run_script(&refusing, &mut reader, &mut out);
+    let is_met = refusing.refused();
+    let is_right = if is_met {
+        is_cut_short(result, &out, replies)
+    } else {
+        result.is_ok() && out.as_slice() == replies
+    };
+    if is_right { Some(is_met) } else { None }
+}
+
 /// How many growths of the script were refused, one in each run. `None` where a run went wrong.
 fn refused_growths(alloc: Global, script: &[u8], replies: &[u8]) -> Option<u64> {
     for granted in 0..MANY {
-        let refusing = Refusing::new(alloc, granted);
-        let mut reader = script;
-        let mut out = Vec::new(alloc);
-        let result = run_script(&refusing, &mut reader, &mut out);
-        if !refusing.refused() {
-            return if result.is_ok() && out.as_slice() == replies {
-                Some(granted)
-            } else {
-                None
-            };
-        }
-        if !is_cut_short(result, &out, replies) {
-            return None;
+        if !meets_refusal(alloc, script, replies, granted)? {
+            return Some(granted);
         }
     }
     None
 }
 
-#[test]
-fn each_growth_of_a_script_refused(rt: HostRuntime) -> Result<(), Fail> {
-    for script in SCRIPTS {
-        let replies = replies_to(rt.alloc(), script)?;
-        assert!(rt;
-            !replies
-                .windows(5)
-                .any(|window| window == b"error".as_slice())
-        );
-        let Some(growths) = refused_growths(rt.alloc(), script, &replies) else {
-            return Err(Fail::from("a run that went wrong"));
-        };
-        assert!(rt; growths > 10);
-    }
-    Ok(())
+/// Whether some reply is a refusal.
+fn has_error(replies: &[u8]) -> bool {
+    replies
+        .windows(5)
+        .any(|window| window == b"error".as_slice())
 }
 
-/// Bytes that are no text are refused as commands, line by line.
 #[test]
-fn bytes_that_are_no_text(rt: HostRuntime) -> Result<(), Fail> {
-    let mut script = Vec::new(rt.alloc());
+fn each_growth_of_a_script_refused(rt: HostRuntime) {
+    for script in SCRIPTS {
+        let replies = replies_to(rt.alloc(), script).expect(&rt, "the replies");
+        assert!(rt; !has_error(&replies));
+        let growths = refused_growths(rt.alloc(), script, &replies);
+        assert!(rt; matches!(growths, Some(count) if count > 10));
+    }
+}
+
+/// A line of each byte, and some that are no text.
+fn no_text(alloc: Global) -> Result<Vec<u8>, AllocError> {
+    let mut script = Vec::new(alloc);
     for byte in 0..=255u8 {
         script.push(byte)?;
     }
     script.extend_from_slice(b"\nsites 2\npost 1 I:\xff\nsites\x002\n\xc3\x28")?;
-    let mut reader = script.as_slice();
-    let mut out = Vec::new(rt.alloc());
-    let result = run_script(rt.alloc(), &mut reader, &mut out);
-    assert_eq!(rt; result, Ok(()));
+    Ok(script)
+}
+
+/// Bytes that are no text are refused as commands, line by line.
+#[test]
+fn bytes_that_are_no_text(rt: HostRuntime) {
+    let script = no_text(rt.alloc()).expect(&rt, "memory");
     let expected =
         b"error BadCommand\nerror BadCommand\nok\nerror BadCommand\nerror BadCommand\nerror BadCommand\n";
-    assert_eq!(rt; out.as_slice(), expected.as_slice());
-    Ok(())
+    assert!(rt; is_replied(rt.alloc(), &script, expected));
 }
 
 /// Lines of a script, and the reply to each.
@@ -178,21 +182,25 @@ const EDGES: [(&[u8], &[u8]); 30] = [
     (b"close 2", b"number 1"),
 ];
 
+fn add_line(text: &mut Vec<u8>, line: &[u8]) -> Result<(), AllocError> {
+    text.extend_from_slice(line)?;
+    text.push(b'\n')?;
+    Ok(())
+}
+
+/// The lines of the edges, or the replies to them.
+fn lines_of_edges(alloc: Global, is_reply: bool) -> Result<Vec<u8>, AllocError> {
+    let mut text = Vec::new(alloc);
+    for (line, reply) in EDGES {
+        add_line(&mut text, if is_reply { reply } else { line })?;
+    }
+    Ok(text)
+}
+
 /// Commands at the edges of their forms.
 #[test]
-fn edges_of_commands(rt: HostRuntime) -> Result<(), Fail> {
-    let mut script = Vec::new(rt.alloc());
-    let mut expected = Vec::new(rt.alloc());
-    for (line, reply) in EDGES {
-        script.extend_from_slice(line)?;
-        script.push(b'\n')?;
-        expected.extend_from_slice(reply)?;
-        expected.push(b'\n')?;
-    }
-    let mut reader = script.as_slice();
-    let mut out = Vec::new(rt.alloc());
-    let result = run_script(rt.alloc(), &mut reader, &mut out);
-    assert_eq!(rt; result, Ok(()));
-    assert_eq!(rt; out.as_slice(), expected.as_slice());
-    Ok(())
+fn edges_of_commands(rt: HostRuntime) {
+    let script = lines_of_edges(rt.alloc(), false).expect(&rt, "memory");
+    let expected = lines_of_edges(rt.alloc(), true).expect(&rt, "memory");
+    assert!(rt; is_replied(rt.alloc(), &script, &expected));
 }

@@ -1,11 +1,12 @@
 //! Scripts over readers that give a few bytes, over streams that break, and over a reader and a writer
 //! that know of one another.
+ghost use Rattle.std.specs.Prelude.{◌≤◌};
+
 use memchr::memchr;
-use std::alloc::Global;
+use std::alloc::{AllocError, Global};
 use std::cell::Cell;
 use std::io;
 use std::io::{ErrorKind, Read, Write};
-use std::test::Fail;
 use test_kit::FewAtATime;
 use transfer_world::{ScriptFault, run_script};
 
@@ -49,74 +50,71 @@ const SCRIPT: &[u8] =
 const REPLIES: &[u8] =
     b"error NoWorld\nerror NoWorld\nerror BadCommand\nerror BadCommand\nerror BadCommand\nerror BadCommand\nerror BadCommand\nerror BadCommand\nerror BadCommand\nerror BadCommand\nok\nerror BadCommand\nerror BadCommand\nerror NoSuchSite\nerror BadCommand\nerror BadCommand\nerror BadCommand\nerror BadCommand\nerror BadCommand\nerror BadCommand\nerror NoSuchSite\nerror NoSuchSite\nerror BadCommand\nerror BadCommand\nerror NoPacket\nerror BadCommand\nerror BadCommand\nerror NoPacket\nerror BadCommand\nerror NoSuchSite\nerror BadCommand\nerror BadCommand\nerror BadCommand\nerror BadCommand\nerror NoSuchSite\nerror BadCommand\nerror BadCommand\nsite 1 number 0 issued 0 spent 0 held 0 closed 0\nsite 2 number 0 issued 0 spent 0 held 0 closed 0\npair 1 2 applied 0 put 0 way 0\npair 2 1 applied 0 put 0 way 0\ntotal issued 0 spent 0 held 0 way 0\n";
 
-/// Runs a script of which each read gives at most so many bytes.
-fn run_slowly(
-    alloc: Global,
-    script: &[u8],
-    step: usize,
-    out: &mut Vec<u8>,
-) -> Result<(), ScriptFault> {
+/// Whether the script, of which each read gives at most so many bytes, runs to its end with these replies.
+fn is_replied_slowly(alloc: Global, script: &[u8], step: usize, replies: &[u8]) -> bool {
     let mut reader = FewAtATime { rest: script, step };
-    let result = run_script(alloc, &mut reader, out);
-    let FewAtATime { rest: _, step: _ } = reader;
-    result
+    let mut out = Vec::new(alloc);
+    let result = run_script(alloc, &mut reader, &mut out);
+    result.is_ok() && out.as_slice() == replies
 }
 
 #[test]
-fn replies(rt: HostRuntime) -> Result<(), Fail> {
+fn replies(rt: HostRuntime) {
     for step in [1, 7, 100000] {
-        let mut out = Vec::new(rt.alloc());
-        let result = run_slowly(rt.alloc(), SCRIPT, step, &mut out);
-        assert_eq!(rt; result, Ok(()));
-        assert_eq!(rt; out.as_slice(), REPLIES);
+        assert!(rt; is_replied_slowly(rt.alloc(), SCRIPT, step, REPLIES));
     }
+}
+
+/// Adds a post whose line has this length with its line feed.
+fn add_long_post(script: &mut Vec<u8>, length: usize) -> Result<(), AllocError>
+    requires { 7 ≤ length }
+{
+    script.extend_from_slice(b"post 16")?;
+    for _ in 0..(length - 7) / 4 {
+        script.extend_from_slice(b" I:5")?;
+    }
+    for _ in 0..(length - 7) % 4 {
+        script.push(b'0')?;
+    }
+    script.push(b'\n')?;
     Ok(())
+}
+
+/// A script with lines of about the greatest length and of greater ones.
+fn long_posts(alloc: Global) -> Result<Vec<u8>, AllocError> {
+    let mut script = Vec::from_slice(alloc, b"sites 2\n")?;
+    for length in [16383usize, 16384, 40000, 70000, 16384] {
+        add_long_post(&mut script, length)?;
+        script.extend_from_slice(b"arrive 3 1\n")?;
+    }
+    Ok(script)
 }
 
 /// Lines of 16,384 bytes with their line feed are the longest, wherever a read ends in them.
 #[test]
-fn long_lines(rt: HostRuntime) -> Result<(), Fail> {
-    let mut script = Vec::from_slice(rt.alloc(), b"sites 2\n")?;
-    for length in [16383usize, 16384, 40000, 70000, 16384] {
-        script.extend_from_slice(b"post 16")?;
-        for _ in 0..(length - 7) / 4 {
-            script.extend_from_slice(b" I:5")?;
-        }
-        for _ in 0..(length - 7) % 4 {
-            script.push(b'0')?;
-        }
-        script.extend_from_slice(b"\narrive 3 1\n")?;
-    }
+fn long_lines(rt: HostRuntime) {
+    let script = long_posts(rt.alloc()).expect(&rt, "memory");
     let expected =
         b"ok\nerror NoSuchSite\nerror NoSuchSite\nerror BadCommand\nerror NoSuchSite\nerror BadCommand\nerror NoSuchSite\nerror BadCommand\nerror NoSuchSite\nerror BadCommand\nerror NoSuchSite\n";
     for step in [16383, 16384, 16385, 65536] {
-        let mut out = Vec::new(rt.alloc());
-        let result = run_slowly(rt.alloc(), &script, step, &mut out);
-        assert_eq!(rt; result, Ok(()));
-        assert_eq!(rt; out.as_slice(), expected.as_slice());
+        assert!(rt; is_replied_slowly(rt.alloc(), &script, step, expected));
     }
-    Ok(())
 }
 
 #[test]
-fn read_failed(rt: HostRuntime) -> Result<(), Fail> {
+fn read_failed(rt: HostRuntime) {
     let mut out = Vec::new(rt.alloc());
-    let result = run_script(
-        rt.alloc(),
-        &mut Broken(b"sites 2\narrive 1 1\narrive"),
-        &mut out,
-    );
-    assert_eq!(rt; result, Err(ScriptFault::ReadFailed));
-    assert_eq!(rt; out.as_slice(), b"ok\nerror NoPacket\n".as_slice());
-    Ok(())
+    let mut reader = Broken(b"sites 2\narrive 1 1\narrive");
+    let result = run_script(rt.alloc(), &mut reader, &mut out);
+    assert!(rt; result == Err(ScriptFault::ReadFailed));
+    assert!(rt; out.as_slice() == b"ok\nerror NoPacket\n".as_slice());
 }
 
 #[test]
-fn write_failed(rt: HostRuntime) -> Result<(), Fail> {
+fn write_failed(rt: HostRuntime) {
     let mut reader = b"sites 2\nreport".as_slice();
     let result = run_script(rt.alloc(), &mut reader, &mut Full(4));
-    assert_eq!(rt; result, Err(ScriptFault::WriteFailed));
-    Ok(())
+    assert!(rt; result == Err(ScriptFault::WriteFailed));
 }
 
 /// What was asked and answered between a reader and a writer.
@@ -199,26 +197,35 @@ impl Write for Listener<'_> {
 /// So many lines have replies of some blocks.
 const LINES: u64 = 20_000;
 
-/// All replies to the lines of a read are written before the next read, however many lines a read gives,
-/// and at most a block and a reply at a time.
-#[test]
-fn replies_come_before_the_next_read(rt: HostRuntime) -> Result<(), Fail> {
-    let mut script = Vec::from_slice(rt.alloc(), b"sites 2\n")?;
+/// The first line makes a world, and the others are refused.
+fn many_lines(alloc: Global) -> Result<Vec<u8>, AllocError> {
+    let mut script = Vec::from_slice(alloc, b"sites 2\n")?;
     for _ in 1..LINES {
         script.extend_from_slice(b"x\n")?;
     }
+    Ok(script)
+}
+
+/// Whether the script runs to its end by this talk, in which so many lines come at a time.
+fn is_talked(alloc: Global, script: &[u8], lines: u64, talk: &Talk) -> bool {
+    let mut asker = Asker {
+        rest: script,
+        lines,
+        talk,
+    };
+    run_script(alloc, &mut asker, &mut Listener(talk)).is_ok()
+}
+
+/// All replies to the lines of a read are written before the next read, however many lines a read gives,
+/// and at most a block and a reply at a time.
+#[test]
+fn replies_come_before_the_next_read(rt: HostRuntime) {
+    let script = many_lines(rt.alloc()).expect(&rt, "memory");
     for lines in [1, 7, LINES] {
         let talk = Talk::new();
-        let mut asker = Asker {
-            rest: script.as_slice(),
-            lines,
-            talk: &talk,
-        };
-        let result = run_script(rt.alloc(), &mut asker, &mut Listener(&talk));
-        assert_eq!(rt; result, Ok(()));
-        assert_eq!(rt; (talk.asked.get(), talk.answered.get()), (LINES, LINES));
+        assert!(rt; is_talked(rt.alloc(), &script, lines, &talk));
+        assert!(rt; (talk.asked.get(), talk.answered.get()) == (LINES, LINES));
         assert!(rt; !talk.is_late.get(), "with {lines} lines at a time");
         assert!(rt; talk.longest.get() < 65536 + b"error BadCommand\n".len());
     }
-    Ok(())
 }

@@ -1,9 +1,9 @@
 //! Entries of each size, 1 to 16 moves, through events and through a script.
+use crate::tests::is_replied;
 use rights_types::{Entry, Move, OutOfMemory};
-use std::alloc::Global;
-use std::test::Fail;
+use std::alloc::{AllocError, Global};
 use test_kit::{give, is_entry, issue, site, spend};
-use transfer_world::{Event, Moves, Reply, Verdict, World, WorldError, run_script};
+use transfer_world::{Event, Moves, Reply, Verdict, World, WorldError};
 
 /// The move at a place of an entry, and its text.
 fn move_at(place: usize) -> (Move, &'static [u8]) {
@@ -89,64 +89,107 @@ fn step_all(
     Ok(outcomes)
 }
 
-#[test]
-fn steps_and_runs_with_entries_of_each_size(rt: HostRuntime) -> Result<(), Fail> {
-    let mut events = Vec::new(rt.alloc());
+/// The events of entries of 1, 2 and so on to 16 moves.
+fn all_events(alloc: Global) -> Result<Vec<Event>, OutOfMemory> {
+    let mut events = Vec::new(alloc);
     for count in 1..=16usize {
-        add_events(rt.alloc(), &mut events, count, count as u64)?;
+        add_events(alloc, &mut events, count, count as u64)?;
     }
-    let mut world = World::new(rt.alloc(), 2)?;
-    let outcomes = world.run(&events)?;
-    let mut stepped = World::new(rt.alloc(), 2)?;
-    let mut rest = outcomes.as_slice();
+    Ok(events)
+}
+
+/// Whether these are the replies to all these events.
+fn are_all_replies(outcomes: &[Result<Reply, WorldError>]) -> bool {
+    let mut rest = outcomes;
     let mut end = 0u64;
     for count in 1..=16u64 {
         end = end.saturating_add(count);
         let Some((replies, more)) = rest.split_at_checked(4) else {
-            return Err(Fail::from("too few replies"));
+            return false;
         };
-        assert!(rt; are_replies(replies, end, count), "with {count} moves");
-        let answers = step_all(rt.alloc(), &mut stepped, count as usize, count)?;
-        assert!(rt; are_replies(&answers, end, count), "with {count} moves");
+        if !are_replies(replies, end, count) {
+            return false;
+        }
         rest = more;
     }
-    assert!(rt; rest.is_empty());
-    assert!(rt; has_all(rt.alloc(), &world)?);
-    assert!(rt; has_all(rt.alloc(), &stepped)?);
-    Ok(())
+    rest.is_empty()
 }
 
 #[test]
-fn scripts_with_entries_of_each_size(rt: HostRuntime) -> Result<(), Fail> {
-    for count in 1..=16usize {
-        let mut words = Vec::new(rt.alloc());
-        for place in 0..count {
-            words.extend_from_slice(move_at(place).1)?;
-        }
-        let mut script = Vec::from_slice(rt.alloc(), b"sites 2\npost 1")?;
-        script.extend_from_slice(&words)?;
-        script.extend_from_slice(b"\npublish 1 2\narrive 2 1\ntake 2 1\n")?;
-        let number = format!(in rt.alloc(); "{count}")?;
-        let number = number.as_bytes();
-        let mut expected = Vec::new(rt.alloc());
-        for part in [
+fn runs_with_entries_of_each_size(rt: HostRuntime) {
+    let mut world = World::new(rt.alloc(), 2).expect(&rt, "memory");
+    let events = all_events(rt.alloc()).expect(&rt, "memory");
+    let outcomes = world.run(&events).expect(&rt, "memory");
+    assert!(rt; are_all_replies(&outcomes));
+    assert!(rt; has_all(rt.alloc(), &world) == Ok(true));
+}
+
+#[test]
+fn steps_with_entries_of_each_size(rt: HostRuntime) {
+    let mut world = World::new(rt.alloc(), 2).expect(&rt, "memory");
+    let mut end = 0u64;
+    for count in 1..=16u64 {
+        end = end.saturating_add(count);
+        let answers = step_all(rt.alloc(), &mut world, count as usize, count);
+        let answers = answers.expect(&rt, "memory");
+        assert!(rt; are_replies(&answers, end, count), "with {count} moves");
+    }
+    assert!(rt; has_all(rt.alloc(), &world) == Ok(true));
+}
+
+/// The text of so many moves.
+fn words(alloc: Global, count: usize) -> Result<Vec<u8>, AllocError> {
+    let mut words = Vec::new(alloc);
+    for place in 0..count {
+        words.extend_from_slice(move_at(place).1)?;
+    }
+    Ok(words)
+}
+
+fn joined(alloc: Global, parts: &[&[u8]]) -> Result<Vec<u8>, AllocError> {
+    let mut text = Vec::new(alloc);
+    for part in parts {
+        text.extend_from_slice(part)?;
+    }
+    Ok(text)
+}
+
+/// The script of one entry with these moves.
+fn script_of(alloc: Global, words: &[u8]) -> Result<Vec<u8>, AllocError> {
+    let rest = b"\npublish 1 2\narrive 2 1\ntake 2 1\n".as_slice();
+    joined(alloc, &[b"sites 2\npost 1".as_slice(), words, rest])
+}
+
+/// The replies to it.
+fn replies_of(alloc: Global, words: &[u8], count: usize) -> Result<Vec<u8>, AllocError> {
+    let number = format!(in alloc; "{count}")?;
+    let number = number.as_bytes();
+    joined(
+        alloc,
+        &[
             b"ok\nnumber ".as_slice(),
             number,
             b"\npacket 1 E 1 0 ",
             number,
-            &words,
+            words,
             b"\nready ",
             number,
             b"\ntaken ",
             number,
             b"\n",
-        ] {
-            expected.extend_from_slice(part)?;
-        }
-        let mut out = Vec::new(rt.alloc());
-        let result = run_script(rt.alloc(), &mut script.as_slice(), &mut out);
-        assert_eq!(rt; result, Ok(()));
-        assert_eq!(rt; out.as_slice(), expected.as_slice());
+        ],
+    )
+}
+
+#[test]
+fn scripts_with_entries_of_each_size(rt: HostRuntime) {
+    for count in 1..=16usize {
+        let words = words(rt.alloc(), count).expect(&rt, "memory");
+        let script = script_of(rt.alloc(), &words).expect(&rt, "memory");
+        let replies = replies_of(rt.alloc(), &words, count).expect(&rt, "memory");
+        assert!(rt;
+            is_replied(rt.alloc(), &script, &replies),
+            "with {count} moves"
+        );
     }
-    Ok(())
 }

@@ -2,7 +2,6 @@
 //! in the middle of traffic, and noise.
 use crate::tests::agrees;
 use script_model::script;
-use std::test::Fail;
 
 /// So many scripts are made, of so many commands each.
 const SCRIPTS: u64 = 60;
@@ -10,10 +9,9 @@ const SCRIPTS: u64 = 60;
 const COMMANDS: u64 = 400;
 
 #[test]
-fn made_scripts_agree(rt: HostRuntime) -> Result<(), Fail> {
+fn made_scripts_agree(rt: HostRuntime) {
     for seed in 100..100 + SCRIPTS {
-        let made = script(rt.alloc(), seed, COMMANDS)?;
-        assert!(rt; agrees(rt.alloc(), &made)?, "seed {seed}");
+        let made = script(rt.alloc(), seed, COMMANDS).expect(&rt, "memory");
+        assert!(rt; agrees(rt.alloc(), &made), "seed {seed}");
     }
-    Ok(())
 }
