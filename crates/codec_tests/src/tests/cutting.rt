@@ -1,104 +1,133 @@
 //! Cutters that find no memory, and how much they want.
 
+use super::pieces::{gives_line, gives_long, is_line, take, takes_each};
 use entry_codec::{Cut, LineCutter};
 use linked_list_allocator::LocalHeap;
 use refusing_allocator::Refusing;
+use rights_types::OutOfMemory;
 use std::alloc::Allocator;
-use std::test::Fail;
 
 /// More requests than any run here makes.
 const MANY: u64 = 100;
 
-/// A cutter makes its room with one request, and the bytes that it takes need none.
-#[test]
-fn room_refused(rt: HostRuntime) -> Result<(), Fail> {
-    let refusing = Refusing::new(rt.alloc(), 0);
-    assert!(rt; LineCutter::new(&refusing).is_err());
-    assert!(rt; refusing.refused());
-    let refusing = Refusing::new(rt.alloc(), 1);
-    let mut cutter = LineCutter::new(&refusing)?;
-    for _ in 0..16384usize {
-        assert_eq!(rt; cutter.push(b"x"), 1);
-    }
-    assert!(rt; !refusing.refused());
-    Ok(())
+// Whether no cutter is made where the first request for memory is refused.
+fn is_refused<A: Allocator + Copy>(alloc: A) -> bool {
+    let refusing = Refusing::new(alloc, 0);
+    LineCutter::new(&refusing).is_err() && refusing.refused()
 }
 
-fn is_line<A: Allocator>(cut: Option<Cut<A>>, expected: &[u8]) -> bool {
-    match cut {
-        Some(Cut::Line(line)) => line.as_slice() == expected,
-        _ => false,
+// Whether one request makes a cutter, and the bytes that it takes need none.
+fn fills_with_one_request<A: Allocator + Copy>(alloc: A) -> bool {
+    let refusing = Refusing::new(alloc, 1);
+    match LineCutter::new(&refusing) {
+        Ok(mut cutter) => takes_each(&mut cutter, 16384) && !refusing.refused(),
+        Err(OutOfMemory) => false,
     }
+}
+
+/// A cutter makes its room with one request, and the bytes that it takes need none.
+#[test]
+fn room_refused(rt: HostRuntime) {
+    assert!(rt; is_refused(rt.alloc()));
+    assert!(rt; fills_with_one_request(rt.alloc()));
+}
+
+// Whether the line, once refused, waits and is given, and the next one behind it.
+fn still_gives<A: Allocator + Copy>(cutter: &mut LineCutter<A>) -> bool {
+    take(cutter, b"B") == 0
+        && !cutter.unfinished()
+        && gives_line(cutter, b"B 1 5\n")
+        && take(cutter, b"H 1\n") == 4
+        && gives_line(cutter, b"H 1\n")
+}
+
+// Whether the line is given at once where so many requests are granted, else only when it is asked for
+// again. `None` where it is lost, or its memory was refused and that was not told.
+fn gives_at_once<A: Allocator + Copy>(alloc: A, granted: u64) -> Option<bool> {
+    let refusing = Refusing::new(alloc, granted);
+    let Ok(mut cutter) = LineCutter::new(&refusing) else {
+        return None;
+    };
+    if take(&mut cutter, b"B 1 5\nB") != 6 {
+        return None;
+    }
+    let (is_right, at_once) = match cutter.next_line() {
+        Ok(cut) => (is_line(&cut, b"B 1 5\n") && !refusing.refused(), true),
+        Err(OutOfMemory) => (refusing.refused() && still_gives(&mut cutter), false),
+    };
+    if is_right { Some(at_once) } else { None }
 }
 
 /// A line that is refused for memory still waits.
 #[test]
-fn line_refused(rt: HostRuntime) -> Result<(), Fail> {
+fn line_refused(rt: HostRuntime) {
     let mut was_refused = false;
     let mut was_given = false;
     for granted in 1..MANY {
-        let refusing = Refusing::new(rt.alloc(), granted);
-        let mut cutter = LineCutter::new(&refusing)?;
-        assert_eq!(rt; cutter.push(b"B 1 5\nB"), 6);
-        if let Ok(cut) = cutter.next_line() {
-            assert!(rt; is_line(cut, b"B 1 5\n"));
-            assert!(rt; !refusing.refused());
+        let at_once = gives_at_once(rt.alloc(), granted).expect(&rt, "the line, sooner or later");
+        if at_once {
             was_given = true;
             break;
         }
-        assert!(rt; refusing.refused());
-        assert_eq!(rt; cutter.push(b"B"), 0);
-        assert!(rt; !cutter.unfinished());
-        assert!(rt; is_line(cutter.next_line()?, b"B 1 5\n"));
-        assert_eq!(rt; cutter.push(b"H 1\n"), 4);
-        assert!(rt; is_line(cutter.next_line()?, b"H 1\n"));
         was_refused = true;
     }
     assert!(rt; was_refused);
     assert!(rt; was_given);
-    Ok(())
+}
+
+// Whether a cutter that took so many bytes and a line feed says that the line is too long.
+fn tells_a_long_line<A: Allocator + Copy>(cutter: &mut LineCutter<A>, count: usize) -> bool {
+    takes_each(cutter, count) && take(cutter, b"\n") == 1 && gives_long(cutter)
 }
 
 /// That a line was too long is told without memory.
 #[test]
-fn long_line_takes_no_memory(rt: HostRuntime) -> Result<(), Fail> {
+fn long_line_takes_no_memory(rt: HostRuntime) {
     let refusing = Refusing::new(rt.alloc(), 1);
-    let mut cutter = LineCutter::new(&refusing)?;
-    for _ in 0..16384usize {
-        assert_eq!(rt; cutter.push(b"x"), 1);
-    }
-    assert_eq!(rt; cutter.push(b"\n"), 1);
-    assert!(rt; matches!(cutter.next_line()?, Some(Cut::Long)));
+    let mut cutter = LineCutter::new(&refusing).expect(&rt, "a cutter");
+    assert!(rt; tells_a_long_line(&mut cutter, 16384));
     assert!(rt; !refusing.refused());
-    Ok(())
+}
+
+// Whether a short line, while it is held, leaves this heap no fuller than that.
+fn gives_within<A: Allocator + Copy>(
+    cutter: &mut LineCutter<A>,
+    heap: &LocalHeap,
+    most: usize,
+) -> bool {
+    if take(cutter, b"B 1 5\n") != 6 {
+        return false;
+    }
+    match cutter.next_line() {
+        Ok(cut) => heap.used() <= most && is_line(&cut, b"B 1 5\n"),
+        Err(OutOfMemory) => false,
+    }
 }
 
 /// A cutter's room is that of the longest line, and a line that it gives takes its own length, to
 /// the heap's next 16 bytes.
 #[test]
-fn bytes_of_a_cutter(rt: HostRuntime) -> Result<(), Fail> {
-    let heap = LocalHeap::new(rt.alloc(), 16400)?;
-    let mut cutter = LineCutter::new(&heap)?;
+fn bytes_of_a_cutter(rt: HostRuntime) {
+    let heap = LocalHeap::new(rt.alloc(), 16400).expect(&rt, "a heap");
+    let mut cutter = LineCutter::new(&heap).expect(&rt, "a cutter");
     assert!(rt; heap.used() <= 16384);
-    assert_eq!(rt; cutter.push(b"B 1 5\n"), 6);
-    let line = cutter.next_line()?;
-    assert!(rt; heap.used() <= 16400);
-    assert!(rt; is_line(line, b"B 1 5\n"));
-    Ok(())
+    assert!(rt; gives_within(&mut cutter, &heap, 16400));
+}
+
+// How long the line is that the cutter gives next, if it gives one.
+fn next_length<A: Allocator + Copy>(cutter: &mut LineCutter<A>) -> Option<usize> {
+    match cutter.next_line() {
+        Ok(Some(Cut::Line(line))) => Some(line.len()),
+        _ => None,
+    }
 }
 
 /// The heap has the bytes of the cutter's room and of one line, so no more are held at any moment.
 #[test]
-fn bytes_of_the_longest_line(rt: HostRuntime) -> Result<(), Fail> {
-    let heap = LocalHeap::new(rt.alloc(), 32768)?;
-    let mut cutter = LineCutter::new(&heap)?;
-    for _ in 0..16383usize {
-        assert_eq!(rt; cutter.push(b"x"), 1);
-    }
-    assert_eq!(rt; cutter.push(b"\n"), 1);
-    let Some(Cut::Line(line)) = cutter.next_line()? else {
-        panic!(rt; "no line");
-    };
-    assert_eq!(rt; line.len(), 16384);
-    Ok(())
+fn bytes_of_the_longest_line(rt: HostRuntime) {
+    let heap = LocalHeap::new(rt.alloc(), 32768).expect(&rt, "a heap");
+    let mut cutter = LineCutter::new(&heap).expect(&rt, "a cutter");
+    assert!(rt; takes_each(&mut cutter, 16383));
+    assert_eq!(rt; take(&mut cutter, b"\n"), 1);
+    assert_eq!(rt; next_length(&mut cutter), Some(16384));
 }

@@ -1,12 +1,12 @@
 //! Lines of every length, with ample memory: whatever is read or cut is what was written. A body that
 //! gives up on some length is proved, since it may always want memory, and is found here.
 
-use super::texts::{is_again, repeated};
-use entry_codec::{Cut, LineCutter, read_line, write_entry, write_into, write_line};
+use super::pieces::{gives_line, take};
+use super::texts::{is_again, is_entry_line, repeated};
+use entry_codec::{LineCutter, read_line, write_into, write_line};
 use linked_list_allocator::LocalHeap;
-use rights_types::{MAX_LINE, Message, OutOfMemory};
+use rights_types::MAX_LINE;
 use std::alloc::{AllocError, Allocator};
-use std::test::Fail;
 
 // The text of a move of each kind, those that close behind the others.
 const MOVES: [&str; 7] = [
@@ -37,49 +37,48 @@ fn entry_line<A: Allocator>(alloc: A, count: usize, last: usize) -> Result<Vec<u
     Ok(line)
 }
 
-// Whether the message is an entry that is written so.
-fn is_entry_line<A: Allocator + Copy>(alloc: A, message: &Message<A>, line: &[u8]) -> bool {
-    match message {
-        Message::Push(entry) => {
-            match write_entry(alloc, entry) {
-                Ok(text) => text.as_slice() == line,
-                Err(OutOfMemory) => false,
-            }
-        }
-        _ => false,
+// Whether an entry of so many moves is read, and written again as it was.
+fn is_entry_again<A: Allocator + Copy>(alloc: A, count: usize, last: usize) -> bool {
+    let Ok(line) = entry_line(alloc, count, last) else {
+        return false;
+    };
+    match read_line(alloc, &line) {
+        Ok(message) => is_entry_line(alloc, &message, &line),
+        Err(_) => false,
     }
 }
 
 /// Entries of 1 to 16 moves, each ending in a move of each kind.
 #[test]
-fn entries_of_every_count(rt: HostRuntime) -> Result<(), Fail> {
+fn entries_of_every_count(rt: HostRuntime) {
     for count in 1..=16usize {
         for last in 0..7usize {
-            let line = entry_line(rt.alloc(), count, last)?;
-            let message = read_line(rt.alloc(), &line)?;
             assert!(rt;
-                is_entry_line(rt.alloc(), &message, &line),
+                is_entry_again(rt.alloc(), count, last),
                 "{count} moves, the last of kind {last}"
             );
         }
     }
-    Ok(())
+}
+
+// An answer of entries of 1, 2 and more moves.
+fn answer_line<A: Allocator>(alloc: A, entries: usize) -> Result<Vec<u8, A>, AllocError> {
+    let mut line = Vec::from_slice(alloc, b"A 1 2")?;
+    for count in 1..=entries {
+        line.push(b';')?;
+        add_entry(&mut line, count, count)?;
+    }
+    line.push(b'\n')?;
+    Ok(line)
 }
 
 /// Answers of 0 to 16 entries, which have 1, 2 and more moves.
 #[test]
-fn answers_of_every_count(rt: HostRuntime) -> Result<(), Fail> {
+fn answers_of_every_count(rt: HostRuntime) {
     for entries in 0..=16usize {
-        let mut line = Vec::new(rt.alloc());
-        line.extend_from_slice(b"A 1 2")?;
-        for count in 1..=entries {
-            line.push(b';')?;
-            add_entry(&mut line, count, count)?;
-        }
-        line.push(b'\n')?;
+        let line = answer_line(rt.alloc(), entries).expect(&rt, "memory");
         assert!(rt; is_again(rt.alloc(), &line), "{entries} entries");
     }
-    Ok(())
 }
 
 // Takes a zero off the last number that has more digits than one and ends in it, if there is one.
@@ -138,10 +137,29 @@ fn first_lost<A: Allocator + Copy>(
 const WIDE_ENTRY: &str =
     ";E 16 0 16 G:15:1000000000:1000000000 G:15:1000000000:1000000000 G:15:1000000000:1000000000 G:15:1000000000:1000000000 G:15:1000000000:1000000000 G:15:1000000000:1000000000 G:15:1000000000:1000000000 G:15:1000000000:1000000000 G:15:1000000000:1000000000 G:15:1000000000:1000000000 G:15:1000000000:1000000000 G:15:1000000000:1000000000 G:15:1000000000:1000000000 G:15:1000000000:1000000000 G:15:1000000000:1000000000 K:1000000000:1000000000:1000000000:1000000000:1000000000:1000000000:1000000000:1000000000:1000000000:1000000000:1000000000:1000000000:1000000000:1000000000:1000000000:0";
 
+// The length of this line, and that of the last line that comes of it by taking zeros off, if all are
+// kept.
+fn kept_lengths<A: Allocator + Copy>(
+    alloc: A,
+    heap: &LocalHeap,
+    front: &[u8],
+    text: &[u8],
+    times: usize,
+) -> Option<(usize, usize)> {
+    let Ok(mut line) = repeated(alloc, front, text, times, b"\n") else {
+        return None;
+    };
+    let longest = line.len();
+    match first_lost(alloc, heap, &mut line) {
+        Ok(shortest) => Some((longest, shortest)),
+        Err(_) => None,
+    }
+}
+
 /// Answers of every length from 187 to 9,352 bytes.
 #[test]
-fn answers_of_every_length(rt: HostRuntime) -> Result<(), Fail> {
-    let heap = LocalHeap::new(rt.alloc(), MAX_LINE)?;
+fn answers_of_every_length(rt: HostRuntime) {
+    let heap = LocalHeap::new(rt.alloc(), MAX_LINE).expect(&rt, "a heap");
     let spans = [
         (1, 592, 187),
         (2, 1176, 366),
@@ -149,62 +167,47 @@ fn answers_of_every_length(rt: HostRuntime) -> Result<(), Fail> {
         (8, 4680, 1440),
         (16, 9352, 2872),
     ];
-    for (entries, longest, shortest) in &spans {
-        let mut line = repeated(
+    for (entries, longest, shortest) in spans {
+        let kept = kept_lengths(
             rt.alloc(),
+            &heap,
             b"A 16 15",
             WIDE_ENTRY.as_bytes(),
-            *entries,
-            b"\n",
-        )?;
-        assert_eq!(rt; line.len(), *longest);
-        assert_eq!(rt; first_lost(rt.alloc(), &heap, &mut line), Ok(*shortest));
+            entries,
+        );
+        assert_eq!(rt; kept, Some((longest, shortest)));
     }
-    Ok(())
 }
 
 /// Entries of every length from 13 to 218 bytes.
 #[test]
-fn entries_of_every_length(rt: HostRuntime) -> Result<(), Fail> {
-    let heap = LocalHeap::new(rt.alloc(), MAX_LINE)?;
+fn entries_of_every_length(rt: HostRuntime) {
+    let heap = LocalHeap::new(rt.alloc(), MAX_LINE).expect(&rt, "a heap");
     let spans = [
         (1, "E 16 0 1", 22, 13),
         (4, "E 16 0 4", 61, 25),
         (8, "E 16 0 8", 113, 41),
         (16, "E 16 0 16", 218, 74),
     ];
-    for (count, front, longest, shortest) in &spans {
-        let mut line = repeated(
-            rt.alloc(),
-            front.as_bytes(),
-            b" I:1000000000",
-            *count,
-            b"\n",
-        )?;
-        assert_eq!(rt; line.len(), *longest);
-        assert_eq!(rt; first_lost(rt.alloc(), &heap, &mut line), Ok(*shortest));
+    for (count, front, longest, shortest) in spans {
+        let kept = kept_lengths(rt.alloc(), &heap, front.as_bytes(), b" I:1000000000", count);
+        assert_eq!(rt; kept, Some((longest, shortest)));
     }
-    Ok(())
 }
 
-fn is_line<A: Allocator>(cut: Result<Option<Cut<A>>, OutOfMemory>, expected: &[u8]) -> bool {
-    match cut {
-        Ok(Some(Cut::Line(line))) => line.as_slice() == expected,
-        _ => false,
-    }
+// Whether the cutter takes this line whole, and gives it.
+fn is_given<A: Allocator + Copy>(cutter: &mut LineCutter<A>, line: &[u8]) -> bool {
+    take(cutter, line) == line.len() && gives_line(cutter, line)
 }
 
 /// A cutter gives lines of every length.
 #[test]
-fn pieces_of_every_length(rt: HostRuntime) -> Result<(), Fail> {
-    let mut cutter = LineCutter::new(rt.alloc())?;
-    let mut line = Vec::new(rt.alloc());
-    for length in 1..=MAX_LINE {
-        line.push(b'\n')?;
-        assert_eq!(rt; cutter.push(&line), length);
-        assert!(rt; is_line(cutter.next_line(), &line), "{length} bytes");
-        line.pop();
-        line.push(b'x')?;
+fn pieces_of_every_length(rt: HostRuntime) {
+    let longest = repeated(rt.alloc(), b"", b"x", MAX_LINE - 1, b"\n").expect(&rt, "memory");
+    let mut cutter = LineCutter::new(rt.alloc()).expect(&rt, "a cutter");
+    assert_eq!(rt; longest.len(), MAX_LINE);
+    for length in 1..=longest.len() {
+        let line = &longest[longest.len() - length..];
+        assert!(rt; is_given(&mut cutter, line), "{length} bytes");
     }
-    Ok(())
 }

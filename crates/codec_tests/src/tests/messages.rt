@@ -1,21 +1,19 @@
 //! Messages that are read from their lines, and written again.
 
-use super::texts::{answer_of, is_again, longest_entry};
-use entry_codec::{read_line, read_move, write_entry, write_into, write_line};
+use super::texts::{answer_of, is_again, is_entry_line, is_written, longest_entry, repeated};
+use entry_codec::{read_line, read_move, write_into};
 use rights_types::{Amount, AskNumber, Entry, Message, Move, SiteId, Total};
 use std::alloc::Allocator;
-use std::test::Fail;
 
 #[test]
-fn line_of_an_entry(rt: HostRuntime) -> Result<(), Fail> {
+fn line_of_an_entry(rt: HostRuntime) {
     let text = b"E 1 0 3 I:10 S:4 R:2:3\n".as_slice();
     assert_eq!(rt; text.len(), 23);
     assert!(rt; is_again(rt.alloc(), text));
-    Ok(())
 }
 
 #[test]
-fn lines_of_least_values(rt: HostRuntime) -> Result<(), Fail> {
+fn lines_of_least_values(rt: HostRuntime) {
     let lines = [
         "E 1 0 1 C\n",
         "E 1 0 7 I:1 S:1 G:2:1:1 R:2:1 V:2:1 V:3:1 K:0:0\n",
@@ -30,11 +28,10 @@ fn lines_of_least_values(rt: HostRuntime) -> Result<(), Fail> {
     for line in &lines {
         assert!(rt; is_again(rt.alloc(), line.as_bytes()), "{line}");
     }
-    Ok(())
 }
 
 #[test]
-fn lines_of_greatest_values(rt: HostRuntime) -> Result<(), Fail> {
+fn lines_of_greatest_values(rt: HostRuntime) {
     let lines = [
         "E 16 999999999 1000000000 I:1000000000\n",
         "E 16 999999994 1000000000 I:1000000000 S:1000000000 G:15:1000000000:1000000000 R:15:1000000000 V:15:1000000000000000000 K:1000000000:1000000000:1000000000:1000000000:1000000000:1000000000:1000000000:1000000000:1000000000:1000000000:1000000000:1000000000:1000000000:1000000000:1000000000:0\n",
@@ -47,54 +44,56 @@ fn lines_of_greatest_values(rt: HostRuntime) -> Result<(), Fail> {
     for line in &lines {
         assert!(rt; is_again(rt.alloc(), line.as_bytes()), "{line}");
     }
-    Ok(())
 }
 
 /// The longest line has far fewer bytes than a line may have.
 #[test]
-fn longest_line(rt: HostRuntime) -> Result<(), Fail> {
-    let line = answer_of(rt.alloc(), 16)?;
+fn longest_line(rt: HostRuntime) {
+    let line = answer_of(rt.alloc(), 16).expect(&rt, "memory");
     assert_eq!(rt; line.len(), 9608);
     assert!(rt; is_again(rt.alloc(), &line));
-    Ok(())
 }
 
 /// No front of a long line is a line.
 #[test]
-fn fronts_of_the_longest_line(rt: HostRuntime) -> Result<(), Fail> {
-    let line = answer_of(rt.alloc(), 16)?;
+fn fronts_of_the_longest_line(rt: HostRuntime) {
+    let line = answer_of(rt.alloc(), 16).expect(&rt, "memory");
     for count in 0..line.len() {
         assert!(rt;
             read_line(rt.alloc(), &line[..count]).is_err(),
             "the first {count} bytes"
         );
     }
-    Ok(())
 }
 
-/// With a line feed these fronts are lines, and written again as they were: `A 16 1`, `A 16 15`,
-/// and those that end with an entry.
-#[test]
-fn ended_fronts_of_the_longest_line(rt: HostRuntime) -> Result<(), Fail> {
-    let line = answer_of(rt.alloc(), 16)?;
-    let mut text = Vec::new(rt.alloc());
-    let mut lengths = Vec::new(rt.alloc());
-    for count in 0..line.len() {
-        text.clear();
-        text.extend_from_slice(&line[..count])?;
-        text.push(b'\n')?;
-        if let Ok(message) = read_line(rt.alloc(), &text) {
-            let written = write_line(rt.alloc(), &message)?;
-            assert_eq!(rt; written.as_slice(), text.as_slice());
-            lengths.push(text.len())?;
-        }
+/// How long the fronts of the longest line are that with a line feed are lines: `A 16 1`, `A 16 15`, and
+/// those that end with an entry.
+const ENDED: [usize; 18] = [
+    7, 8, 608, 1208, 1808, 2408, 3008, 3608, 4208, 4808, 5408, 6008, 6608, 7208, 7808, 8408, 9008,
+    9608,
+];
+
+/// Whether the front with a line feed is a line or none, as told. If it is, it is written again as it was.
+fn is_line_if<A: Allocator + Copy>(alloc: A, is_line: bool, front: &[u8]) -> bool {
+    let Ok(text) = repeated(alloc, front, b"", 0, b"\n") else {
+        return false;
+    };
+    match read_line(alloc, &text) {
+        Ok(message) => is_line && is_written(alloc, &message, &text),
+        Err(_) => !is_line,
     }
-    let expected = [
-        7, 8, 608, 1208, 1808, 2408, 3008, 3608, 4208, 4808, 5408, 6008, 6608, 7208, 7808, 8408,
-        9008, 9608,
-    ];
-    assert_eq!(rt; lengths.as_slice(), expected.as_slice());
-    Ok(())
+}
+
+#[test]
+fn ended_fronts_of_the_longest_line(rt: HostRuntime) {
+    let line = answer_of(rt.alloc(), 16).expect(&rt, "memory");
+    for count in 0..line.len() {
+        let is_line = ENDED.contains(&(count + 1));
+        assert!(rt;
+            is_line_if(rt.alloc(), is_line, &line[..count]),
+            "the first {count} bytes"
+        );
+    }
 }
 
 /// The numbers of a message without entries, in the order of its line.
@@ -124,20 +123,21 @@ fn numbers<A: Allocator>(message: &Message<A>) -> Option<[u64; 4]> {
     }
 }
 
-#[test]
-fn values_of_short_kinds(rt: HostRuntime) -> Result<(), Fail> {
-    let cases = [
-        ("Q 2 1 3 4\n", [2, 1, 3, 4]),
-        ("B 2 3\n", [2, 3, 0, 0]),
-        ("W 2 1 3 4\n", [2, 1, 3, 4]),
-        ("D 2 1 3\n", [2, 1, 3, 0]),
-        ("H 2\n", [2, 0, 0, 0]),
-    ];
-    for (line, expected) in &cases {
-        let message = read_line(rt.alloc(), line.as_bytes())?;
-        assert!(rt; numbers(&message) == Some(*expected), "{line}");
+/// Whether the line has these numbers.
+fn has_numbers<A: Allocator + Copy>(alloc: A, line: &[u8], expected: [u64; 4]) -> bool {
+    match read_line(alloc, line) {
+        Ok(message) => numbers(&message) == Some(expected),
+        Err(_) => false,
     }
-    Ok(())
+}
+
+#[test]
+fn values_of_short_kinds(rt: HostRuntime) {
+    assert!(rt; has_numbers(rt.alloc(), b"Q 2 1 3 4\n", [2, 1, 3, 4]));
+    assert!(rt; has_numbers(rt.alloc(), b"B 2 3\n", [2, 3, 0, 0]));
+    assert!(rt; has_numbers(rt.alloc(), b"W 2 1 3 4\n", [2, 1, 3, 4]));
+    assert!(rt; has_numbers(rt.alloc(), b"D 2 1 3\n", [2, 1, 3, 0]));
+    assert!(rt; has_numbers(rt.alloc(), b"H 2\n", [2, 0, 0, 0]));
 }
 
 /// Whether these are the values of `E 2 3 5 I:7 S:8`.
@@ -150,48 +150,50 @@ fn has_values<A: Allocator>(entry: &Entry<A>) -> bool {
 }
 
 #[test]
-fn values_of_entries(rt: HostRuntime) -> Result<(), Fail> {
-    let line = b"E 2 3 5 I:7 S:8\n".as_slice();
-    let Message::Push(entry) = read_line(rt.alloc(), line)? else {
-        panic!(rt; "no entry");
-    };
-    assert!(rt; has_values(&entry));
-    let written = write_entry(rt.alloc(), &entry)?;
-    assert_eq!(rt; written.as_slice(), line);
-    Ok(())
+fn values_of_entries(rt: HostRuntime) {
+    let line = b"E 2 3 5 I:7 S:8\n";
+    let message = read_line(rt.alloc(), line).expect(&rt, "an entry");
+    assert!(rt; matches!(&message, Message::Push(entry) if has_values(entry)));
+    assert!(rt; is_entry_line(rt.alloc(), &message, line));
 }
 
-#[test]
-fn entry_of_the_longest_moves(rt: HostRuntime) -> Result<(), Fail> {
-    let line = longest_entry(rt.alloc())?;
-    let Message::Push(entry) = read_line(rt.alloc(), &line)? else {
-        panic!(rt; "no entry");
-    };
-    assert_eq!(rt; entry.moves().len(), 16);
-    let written = write_entry(rt.alloc(), &entry)?;
-    assert_eq!(rt; written.as_slice(), line.as_slice());
-    Ok(())
-}
-
-#[test]
-fn values_of_answers(rt: HostRuntime) -> Result<(), Fail> {
-    let Message::Answer(answer) = read_line(rt.alloc(), b"A 2 1;E 2 3 5 I:7 S:8\n")? else {
-        panic!(rt; "no answer");
-    };
-    assert_eq!(rt; answer.origin().number(), 2);
-    assert_eq!(rt; answer.asker().number(), 1);
-    assert_eq!(rt; answer.entries().len(), 1);
-    for entry in answer.entries() {
-        assert!(rt; has_values(entry));
+/// Whether the message is an entry of so many moves.
+fn has_moves<A: Allocator>(message: &Message<A>, count: usize) -> bool {
+    match message {
+        Message::Push(entry) => entry.moves().len() == count,
+        _ => false,
     }
-    Ok(())
+}
+
+#[test]
+fn entry_of_the_longest_moves(rt: HostRuntime) {
+    let line = longest_entry(rt.alloc()).expect(&rt, "memory");
+    let message = read_line(rt.alloc(), &line).expect(&rt, "an entry");
+    assert!(rt; has_moves(&message, 16));
+    assert!(rt; is_entry_line(rt.alloc(), &message, &line));
+}
+
+/// Whether this is the answer of site 2 to site 1 of the entry `E 2 3 5 I:7 S:8`.
+fn is_answer<A: Allocator>(message: &Message<A>) -> bool {
+    let Message::Answer(answer) = message else {
+        return false;
+    };
+    let [entry] = answer.entries() else {
+        return false;
+    };
+    answer.origin().number() == 2 && answer.asker().number() == 1 && has_values(entry)
+}
+
+#[test]
+fn values_of_answers(rt: HostRuntime) {
+    let answer = read_line(rt.alloc(), b"A 2 1;E 2 3 5 I:7 S:8\n").expect(&rt, "an answer");
+    assert!(rt; is_answer(&answer));
 }
 
 /// A take back may stand before other moves.
 #[test]
-fn take_back_first(rt: HostRuntime) -> Result<(), Fail> {
+fn take_back_first(rt: HostRuntime) {
     assert!(rt; is_again(rt.alloc(), b"E 1 0 2 V:2:5 I:1\n"));
-    Ok(())
 }
 
 #[test]
@@ -217,37 +219,59 @@ fn moves_alone(rt: HostRuntime) {
 }
 
 #[test]
-fn fields_that_are_moves_or_not(rt: HostRuntime) {
-    let cases = [
-        ("K:1:0", true),
-        ("V:2:1000000000000000000", true),
-        ("V:2:1000000000000000001", false),
-        ("R:2:1000000001", false),
-        ("G:17:4:5", false),
-        ("G:2:4", false),
-        ("R:2:4:5", false),
-        ("K:0", false),
-        ("K:0:0:0:0:0:0:0:0:0:0:0:0:0:0:0:0", true),
-        ("K:0:0:0:0:0:0:0:0:0:0:0:0:0:0:0:0:0", false),
-        ("C:", false),
-        ("I", false),
-        ("i:4", false),
-        ("", false),
-    ];
-    for (field, is_move) in &cases {
-        assert_eq!(rt; read_move(field.as_bytes()).is_some(), *is_move, "{field}");
+fn fields_that_are_moves(rt: HostRuntime) {
+    for field in [
+        "K:1:0",
+        "V:2:1000000000000000000",
+        "K:0:0:0:0:0:0:0:0:0:0:0:0:0:0:0:0",
+    ] {
+        assert!(rt; read_move(field.as_bytes()).is_some(), "{field}");
     }
 }
 
 #[test]
-fn lines_behind_each_other(rt: HostRuntime) -> Result<(), Fail> {
+fn fields_that_are_no_moves(rt: HostRuntime) {
+    for field in [
+        "V:2:1000000000000000001",
+        "R:2:1000000001",
+        "G:17:4:5",
+        "G:2:4",
+        "R:2:4:5",
+        "K:0",
+        "K:0:0:0:0:0:0:0:0:0:0:0:0:0:0:0:0:0",
+        "C:",
+        "I",
+        "i:4",
+        "",
+    ] {
+        assert!(rt; read_move(field.as_bytes()).is_none(), "{field}");
+    }
+}
+
+/// Writes the message of the line behind what stands there, and says whether it could.
+fn adds<A: Allocator + Copy>(alloc: A, buffer: &mut Vec<u8, A>, line: &[u8]) -> bool {
+    match read_line(alloc, line) {
+        Ok(message) => write_into(buffer, &message).is_ok(),
+        Err(_) => false,
+    }
+}
+
+/// Whether the text is this front and then this rest.
+fn is_joined(text: &[u8], front: &[u8], rest: &[u8]) -> bool {
+    if text.len() < front.len() {
+        return false;
+    }
+    let (start, end) = text.split_at(front.len());
+    start == front && end == rest
+}
+
+#[test]
+fn lines_behind_each_other(rt: HostRuntime) {
+    let long = answer_of(rt.alloc(), 16).expect(&rt, "memory");
     let mut buffer = Vec::new(rt.alloc());
-    write_into(&mut buffer, &read_line(rt.alloc(), b"H 1\n")?)?;
-    write_into(&mut buffer, &read_line(rt.alloc(), b"B 1 5\n")?)?;
+    assert!(rt; adds(rt.alloc(), &mut buffer, b"H 1\n"));
+    assert!(rt; adds(rt.alloc(), &mut buffer, b"B 1 5\n"));
     assert_eq!(rt; buffer.as_slice(), b"H 1\nB 1 5\n".as_slice());
-    let long = answer_of(rt.alloc(), 16)?;
-    write_into(&mut buffer, &read_line(rt.alloc(), &long)?)?;
-    assert_eq!(rt; &buffer[..10], b"H 1\nB 1 5\n".as_slice());
-    assert_eq!(rt; &buffer[10..], long.as_slice());
-    Ok(())
+    assert!(rt; adds(rt.alloc(), &mut buffer, &long));
+    assert!(rt; is_joined(&buffer, b"H 1\nB 1 5\n", &long));
 }

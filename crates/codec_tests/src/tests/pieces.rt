@@ -1,9 +1,9 @@
 //! Streams that are cut into lines.
 
+use super::texts::repeated;
 use entry_codec::{Cut, LineCutter};
 use rights_types::OutOfMemory;
 use std::alloc::Allocator;
-use std::test::Fail;
 
 /// More pushes than any stream here needs.
 const MANY: usize = 100_000;
@@ -31,26 +31,43 @@ fn feed<A: Allocator + Copy>(
     Ok(())
 }
 
-fn take<A: Allocator + Copy>(cutter: &mut LineCutter<A>, bytes: &[u8]) -> usize {
+pub(super) fn take<A: Allocator + Copy>(cutter: &mut LineCutter<A>, bytes: &[u8]) -> usize {
     cutter.push(bytes)
 }
 
-fn gives_line<A: Allocator + Copy>(
-    cutter: &mut LineCutter<A>,
-    expected: &[u8],
-) -> Result<bool, OutOfMemory> {
-    match cutter.next_line()? {
-        Some(Cut::Line(line)) => Ok(line.as_slice() == expected),
-        _ => Ok(false),
+/// Whether the cutter takes so many bytes, none of them a line feed, one by one.
+pub(super) fn takes_each<A: Allocator + Copy>(cutter: &mut LineCutter<A>, count: usize) -> bool {
+    for _ in 0..count {
+        if take(cutter, b"x") != 1 {
+            return false;
+        }
+    }
+    true
+}
+
+/// Whether a cutter gave this line.
+pub(super) fn is_line<A: Allocator>(cut: &Option<Cut<A>>, expected: &[u8]) -> bool {
+    match cut {
+        Some(Cut::Line(line)) => line.as_slice() == expected,
+        _ => false,
     }
 }
 
-fn gives_long<A: Allocator + Copy>(cutter: &mut LineCutter<A>) -> Result<bool, OutOfMemory> {
-    Ok(matches!(cutter.next_line()?, Some(Cut::Long)))
+/// Whether the cutter gives this line next.
+pub(super) fn gives_line<A: Allocator + Copy>(cutter: &mut LineCutter<A>, expected: &[u8]) -> bool {
+    match cutter.next_line() {
+        Ok(cut) => is_line(&cut, expected),
+        Err(OutOfMemory) => false,
+    }
 }
 
-fn gives_none<A: Allocator + Copy>(cutter: &mut LineCutter<A>) -> Result<bool, OutOfMemory> {
-    Ok(cutter.next_line()?.is_none())
+/// Whether the cutter tells next that a line is too long.
+pub(super) fn gives_long<A: Allocator + Copy>(cutter: &mut LineCutter<A>) -> bool {
+    matches!(cutter.next_line(), Ok(Some(Cut::Long)))
+}
+
+fn gives_none<A: Allocator + Copy>(cutter: &mut LineCutter<A>) -> bool {
+    matches!(cutter.next_line(), Ok(None))
 }
 
 fn is_unfinished<A: Allocator + Copy>(cutter: &LineCutter<A>) -> bool {
@@ -59,92 +76,114 @@ fn is_unfinished<A: Allocator + Copy>(cutter: &LineCutter<A>) -> bool {
 
 /// A line that came in two parts, and the first byte of the next one.
 #[test]
-fn line_in_two_parts(rt: HostRuntime) -> Result<(), Fail> {
-    let mut cutter = LineCutter::new(rt.alloc())?;
+fn line_in_two_parts(rt: HostRuntime) {
+    let mut cutter = LineCutter::new(rt.alloc()).expect(&rt, "a cutter");
     assert_eq!(rt; take(&mut cutter, b"B 1"), 3);
-    assert!(rt; gives_none(&mut cutter)?);
+    assert!(rt; gives_none(&mut cutter));
     assert!(rt; is_unfinished(&cutter));
     assert_eq!(rt; take(&mut cutter, b" 5\nB"), 3);
     assert_eq!(rt; take(&mut cutter, b"B"), 0);
     assert!(rt; !is_unfinished(&cutter));
-    assert!(rt; gives_line(&mut cutter, b"B 1 5\n")?);
+    assert!(rt; gives_line(&mut cutter, b"B 1 5\n"));
     assert!(rt; !is_unfinished(&cutter));
     assert_eq!(rt; take(&mut cutter, b"B"), 1);
     assert!(rt; is_unfinished(&cutter));
-    Ok(())
 }
 
 /// A line of one byte too many, and the line behind it.
 #[test]
-fn line_behind_a_long_one(rt: HostRuntime) -> Result<(), Fail> {
-    let mut cutter = LineCutter::new(rt.alloc())?;
-    for _ in 0..16384usize {
-        assert_eq!(rt; take(&mut cutter, b"x"), 1);
-    }
+fn line_behind_a_long_one(rt: HostRuntime) {
+    let mut cutter = LineCutter::new(rt.alloc()).expect(&rt, "a cutter");
+    assert!(rt; takes_each(&mut cutter, 16384));
     assert!(rt; is_unfinished(&cutter));
     assert_eq!(rt; take(&mut cutter, b"\n"), 1);
     assert!(rt; !is_unfinished(&cutter));
-    assert!(rt; gives_long(&mut cutter)?);
+    assert!(rt; gives_long(&mut cutter));
     assert_eq!(rt; take(&mut cutter, b"H 1\n"), 4);
-    assert!(rt; gives_line(&mut cutter, b"H 1\n")?);
-    Ok(())
+    assert!(rt; gives_line(&mut cutter, b"H 1\n"));
+}
+
+// Whether these parts of a stream are cut into the lines of this text.
+fn are_cut<A: Allocator + Copy>(
+    cutter: &mut LineCutter<A>,
+    alloc: A,
+    parts: &[&[u8]],
+    expected: &[u8],
+) -> bool {
+    let mut text = Vec::new(alloc);
+    for part in parts {
+        if feed(cutter, part, &mut text).is_err() {
+            return false;
+        }
+    }
+    text.as_slice() == expected
+}
+
+// Whether the line `x`, front and rest, which has one byte too many, is told to be too long.
+fn is_too_long<A: Allocator + Copy>(
+    cutter: &mut LineCutter<A>,
+    alloc: A,
+    front: &[u8],
+    rest: &[u8],
+) -> bool {
+    are_cut(cutter, alloc, &[b"x", front], b"")
+        && is_unfinished(cutter)
+        && are_cut(cutter, alloc, &[rest], b"long\n")
 }
 
 /// The longest line is given whole, and one byte more is too many, in one push or in two.
 #[test]
-fn longest_line(rt: HostRuntime) -> Result<(), Fail> {
-    let mut line = Vec::new(rt.alloc());
-    for _ in 0..16383usize {
-        line.push(b'x')?;
-    }
-    line.push(b'\n')?;
-    let mut text = Vec::new(rt.alloc());
-    let mut cutter = LineCutter::new(rt.alloc())?;
-    feed(&mut cutter, &line, &mut text)?;
-    assert_eq!(rt; text.as_slice(), line.as_slice());
-    text.clear();
+fn longest_line(rt: HostRuntime) {
+    let line = repeated(rt.alloc(), b"", b"x", 16383, b"\n").expect(&rt, "memory");
+    let mut cutter = LineCutter::new(rt.alloc()).expect(&rt, "a cutter");
+    assert!(rt; are_cut(&mut cutter, rt.alloc(), &[&line], &line));
     for count in 0..line.len().min(20) {
         let (front, rest) = line.split_at(count);
-        feed(&mut cutter, b"x", &mut text)?;
-        feed(&mut cutter, front, &mut text)?;
-        assert!(rt; is_unfinished(&cutter));
-        feed(&mut cutter, rest, &mut text)?;
-        assert_eq!(rt;
-            text.as_slice(),
-            b"long\n".as_slice(),
+        assert!(rt;
+            is_too_long(&mut cutter, rt.alloc(), front, rest),
             "after {count} bytes"
         );
-        text.clear();
     }
-    Ok(())
+}
+
+// Whether so many bytes leave a line unfinished, each of them.
+fn is_unfinished_at_each<A: Allocator + Copy>(cutter: &mut LineCutter<A>, count: usize) -> bool {
+    for _ in 0..count {
+        if take(cutter, b"x") != 1 || !is_unfinished(cutter) {
+            return false;
+        }
+    }
+    true
 }
 
 /// An unfinished line is unfinished even if its bytes were dropped.
 #[test]
-fn long_line_without_end(rt: HostRuntime) -> Result<(), Fail> {
-    let mut cutter = LineCutter::new(rt.alloc())?;
-    for _ in 0..20000usize {
-        assert_eq!(rt; take(&mut cutter, b"x"), 1);
-        assert!(rt; is_unfinished(&cutter));
-    }
-    assert!(rt; gives_none(&mut cutter)?);
+fn long_line_without_end(rt: HostRuntime) {
+    let mut cutter = LineCutter::new(rt.alloc()).expect(&rt, "a cutter");
+    assert!(rt; is_unfinished_at_each(&mut cutter, 20000));
+    assert!(rt; gives_none(&mut cutter));
     assert!(rt; is_unfinished(&cutter));
-    Ok(())
+}
+
+// Whether a new cutter cuts the parts of a stream into its lines.
+fn are_cut_anew<A: Allocator + Copy>(alloc: A, parts: &[&[u8]], stream: &[u8]) -> bool {
+    match LineCutter::new(alloc) {
+        Ok(mut cutter) => are_cut(&mut cutter, alloc, parts, stream),
+        Err(OutOfMemory) => false,
+    }
 }
 
 /// A stream is cut into the same lines however it came.
 #[test]
-fn stream_cut_at_every_byte(rt: HostRuntime) -> Result<(), Fail> {
+fn stream_cut_at_every_byte(rt: HostRuntime) {
     let stream = b"\nE 1 0 1 I:5\n\n\nB 1 5\nwhatever this is\nA 1 2;E 1 0 1 I:5\nH 1\n".as_slice();
     for first in 0..stream.len() + 1 {
         for second in first..stream.len() + 1 {
-            let mut cutter = LineCutter::new(rt.alloc())?;
-            let mut text = Vec::new(rt.alloc());
-            feed(&mut cutter, &stream[..first], &mut text)?;
-            feed(&mut cutter, &stream[first..second], &mut text)?;
-            feed(&mut cutter, &stream[second..], &mut text)?;
-            assert_eq!(rt; text.as_slice(), stream, "cut at {first} and {second}");
+            let parts = [&stream[..first], &stream[first..second], &stream[second..]];
+            assert!(rt;
+                are_cut_anew(rt.alloc(), &parts, stream),
+                "cut at {first} and {second}"
+            );
         }
     }
-    Ok(())
 }

@@ -4,7 +4,6 @@ use super::texts::{answer_of, is_written, longest_entry};
 use entry_codec::{LineError, Place, read_line};
 use linked_list_allocator::LocalHeap;
 use std::alloc::Allocator;
-use std::test::Fail;
 use test_kit::requests_of;
 
 /// Lines, and how many requests their messages take.
@@ -50,7 +49,7 @@ fn has_fault<A: Allocator + Copy>(alloc: A, line: &[u8], fault: LineError) -> bo
 }
 
 #[test]
-fn read_line_refused(rt: HostRuntime) -> Result<(), Fail> {
+fn read_line_refused(rt: HostRuntime) {
     for (line, count) in &LINES {
         assert_eq!(rt;
             requests(rt.alloc(), line.as_bytes()),
@@ -58,52 +57,50 @@ fn read_line_refused(rt: HostRuntime) -> Result<(), Fail> {
             "{line}"
         );
     }
-    let longest = longest_entry(rt.alloc())?;
+    let longest = longest_entry(rt.alloc()).expect(&rt, "memory");
     assert_eq!(rt; requests(rt.alloc(), &longest), Some(1));
-    Ok(())
 }
 
 /// The list of an answer's entries takes one request, and so does each entry.
 #[test]
-fn answers_take_a_request_for_each_entry(rt: HostRuntime) -> Result<(), Fail> {
+fn answers_take_a_request_for_each_entry(rt: HostRuntime) {
     for entries in 1..=16u64 {
-        let line = answer_of(rt.alloc(), entries)?;
+        let line = answer_of(rt.alloc(), entries).expect(&rt, "memory");
         assert_eq!(rt;
             requests(rt.alloc(), &line),
             Some(entries + 1),
             "{entries} entries"
         );
     }
-    Ok(())
 }
 
 /// A fault is told whether there is memory or not, that there are too many entries too.
 #[test]
-fn faults_come_before_want_of_memory(rt: HostRuntime) -> Result<(), Fail> {
+fn faults_come_before_want_of_memory(rt: HostRuntime) {
     for (line, fault) in &FAULTS {
         assert!(rt; has_fault(rt.alloc(), line.as_bytes(), *fault), "{line}");
     }
-    let line = answer_of(rt.alloc(), 17)?;
+    let line = answer_of(rt.alloc(), 17).expect(&rt, "memory");
     assert!(rt; has_fault(rt.alloc(), &line, LineError::CountWrong));
-    Ok(())
+}
+
+// Whether the line is read, and its message takes so many bytes of the heap at most.
+fn is_read_within(heap: &LocalHeap, line: &[u8], most: usize) -> bool {
+    match read_line(heap, line) {
+        Ok(_message) => heap.used() <= most,
+        Err(_) => false,
+    }
 }
 
 /// An entry takes its moves, 80 bytes each at most, and an answer besides it room for 16 entries of
 /// 80 bytes.
 #[test]
-fn bytes_of_messages(rt: HostRuntime) -> Result<(), Fail> {
-    let heap = LocalHeap::new(rt.alloc(), 32768)?;
-    let entry = read_line(&heap, b"E 1 0 1 I:10\n")?;
-    assert!(rt; heap.used() <= 80);
-    drop(entry);
-    let entry = read_line(&heap, &longest_entry(rt.alloc())?)?;
-    assert!(rt; heap.used() <= 16 * 80);
-    drop(entry);
-    let answer = read_line(&heap, b"A 1 2;E 1 0 1 I:10\n")?;
-    assert!(rt; heap.used() <= 16 * 80 + 80);
-    drop(answer);
-    let answer = read_line(&heap, &answer_of(rt.alloc(), 16)?)?;
-    assert!(rt; heap.used() <= 16 * 80 + 16 * 16 * 80);
-    drop(answer);
-    Ok(())
+fn bytes_of_messages(rt: HostRuntime) {
+    let entry = longest_entry(rt.alloc()).expect(&rt, "memory");
+    let answer = answer_of(rt.alloc(), 16).expect(&rt, "memory");
+    let heap = LocalHeap::new(rt.alloc(), 32768).expect(&rt, "a heap");
+    assert!(rt; is_read_within(&heap, b"E 1 0 1 I:10\n", 80));
+    assert!(rt; is_read_within(&heap, &entry, 16 * 80));
+    assert!(rt; is_read_within(&heap, b"A 1 2;E 1 0 1 I:10\n", 16 * 80 + 80));
+    assert!(rt; is_read_within(&heap, &answer, 16 * 80 + 16 * 16 * 80));
 }

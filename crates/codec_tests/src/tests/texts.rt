@@ -1,7 +1,7 @@
 //! Lines with many parts or fields, and lines that are read and written again.
 
-use entry_codec::{read_line, write_line};
-use rights_types::Message;
+use entry_codec::{read_line, write_entry, write_line};
+use rights_types::{Message, OutOfMemory};
 use std::alloc::{AllocError, Allocator};
 
 /// Adds the text of the longest entry: 15 of the longest grants, and the longest close.
@@ -71,5 +71,22 @@ pub(super) fn is_again<A: Allocator + Copy>(alloc: A, line: &[u8]) -> bool {
     match read_line(alloc, line) {
         Ok(message) => is_written(alloc, &message, line),
         Err(_) => false,
+    }
+}
+
+/// Whether the message is an entry that is written so.
+pub(super) fn is_entry_line<A: Allocator + Copy, B: Allocator>(
+    alloc: A,
+    message: &Message<B>,
+    line: &[u8],
+) -> bool {
+    match message {
+        Message::Push(entry) => {
+            match write_entry(alloc, entry) {
+                Ok(text) => text.as_slice() == line,
+                Err(OutOfMemory) => false,
+            }
+        }
+        _ => false,
     }
 }

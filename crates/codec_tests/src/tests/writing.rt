@@ -4,7 +4,6 @@ use super::texts::{answer_of, longest_entry};
 use entry_codec::{read_line, write_entry, write_into, write_line};
 use rights_types::{Entry, Message, OutOfMemory};
 use std::alloc::Allocator;
-use std::test::Fail;
 use test_kit::requests_of;
 
 /// A line of each kind.
@@ -55,38 +54,46 @@ fn requests_behind<A: Allocator + Copy>(
     })
 }
 
+// How many requests writing the message of a line takes, where each that is refused is told.
+fn requests_again<A: Allocator + Copy>(alloc: A, line: &[u8]) -> Option<u64> {
+    match read_line(alloc, line) {
+        Ok(message) => line_requests(alloc, &message, line),
+        Err(_) => None,
+    }
+}
+
 /// Each line is written with one request, so that its room is not made bit by bit.
 #[test]
-fn write_line_refused(rt: HostRuntime) -> Result<(), Fail> {
+fn write_line_refused(rt: HostRuntime) {
     for line in &LINES {
-        let message = read_line(rt.alloc(), line.as_bytes())?;
         assert_eq!(rt;
-            line_requests(rt.alloc(), &message, line.as_bytes()),
+            requests_again(rt.alloc(), line.as_bytes()),
             Some(1),
             "{line}"
         );
     }
-    let longest = answer_of(rt.alloc(), 16)?;
-    let message = read_line(rt.alloc(), &longest)?;
-    assert_eq!(rt; line_requests(rt.alloc(), &message, &longest), Some(1));
-    Ok(())
+    let longest = answer_of(rt.alloc(), 16).expect(&rt, "memory");
+    assert_eq!(rt; requests_again(rt.alloc(), &longest), Some(1));
+}
+
+// The same of the entry of a line.
+fn entry_requests_again<A: Allocator + Copy>(alloc: A, line: &[u8]) -> Option<u64> {
+    match read_line(alloc, line) {
+        Ok(Message::Push(entry)) => entry_requests(alloc, &entry, line),
+        _ => None,
+    }
 }
 
 #[test]
-fn write_entry_refused(rt: HostRuntime) -> Result<(), Fail> {
-    let line = longest_entry(rt.alloc())?;
-    let Message::Push(entry) = read_line(rt.alloc(), &line)? else {
-        panic!(rt; "no entry");
-    };
-    assert_eq!(rt; entry_requests(rt.alloc(), &entry, &line), Some(1));
-    Ok(())
+fn write_entry_refused(rt: HostRuntime) {
+    let line = longest_entry(rt.alloc()).expect(&rt, "memory");
+    assert_eq!(rt; entry_requests_again(rt.alloc(), &line), Some(1));
 }
 
 /// What was in the buffer stays where a line finds no room.
 #[test]
-fn write_into_refused(rt: HostRuntime) -> Result<(), Fail> {
-    let message = read_line(rt.alloc(), b"E 1 0 3 I:10 S:4 R:2:3\n")?;
-    let both = b"H 1\nE 1 0 3 I:10 S:4 R:2:3\n".as_slice();
+fn write_into_refused(rt: HostRuntime) {
+    let message = read_line(rt.alloc(), b"E 1 0 3 I:10 S:4 R:2:3\n").expect(&rt, "a message");
+    let both = b"H 1\nE 1 0 3 I:10 S:4 R:2:3\n";
     assert_eq!(rt; requests_behind(rt.alloc(), &message, both), Some(2));
-    Ok(())
 }

@@ -23,14 +23,14 @@ fn windows_backwards(rt: HostRuntime) -> Result<(), Fail> {
         told: 192,
         held: 0,
     })?;
-    let wrong = first_wrong(rt.alloc(), &steps)?;
+    let wrong = first_wrong(rt.alloc(), &steps).expect(&rt, "memory");
     assert_eq!(rt; wrong, None);
     Ok(())
 }
 
 /// The most verdicts on 16 entries: 64 entries were held before, and 14 of the 16 are held and freed too.
 #[test]
-fn most_verdicts_on_an_answer(rt: HostRuntime) -> Result<(), Fail> {
+fn most_verdicts_on_an_answer(rt: HostRuntime) {
     let wrong = first_wrong(
         rt.alloc(),
         &[
@@ -50,14 +50,14 @@ fn most_verdicts_on_an_answer(rt: HostRuntime) -> Result<(), Fail> {
             Step::Answer(&[80], 1),
             Step::Answer(&[], 0),
         ],
-    )?;
+    )
+    .expect(&rt, "memory");
     assert_eq!(rt; wrong, None);
-    Ok(())
 }
 
 /// Entries of no common chain, a closing entry, and what comes after it.
 #[test]
-fn lying_origin_arrives(rt: HostRuntime) -> Result<(), Fail> {
+fn lying_origin_arrives(rt: HostRuntime) {
     let wrong = first_wrong(
         rt.alloc(),
         &[
@@ -75,7 +75,7 @@ fn lying_origin_arrives(rt: HostRuntime) -> Result<(), Fail> {
                 held: 1,
             },
         ],
-    )?;
+    )
+    .expect(&rt, "memory");
     assert_eq!(rt; wrong, None);
-    Ok(())
 }

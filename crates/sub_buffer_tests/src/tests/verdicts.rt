@@ -5,7 +5,7 @@ use sub_buffer::State;
 
 /// Sixty-four entries are held, one more is not.
 #[test]
-fn full_at_64(rt: HostRuntime) -> Result<(), Fail> {
+fn full_at_64(rt: HostRuntime) {
     let wrong = first_wrong(
         rt.alloc(),
         &[
@@ -32,14 +32,14 @@ fn full_at_64(rt: HostRuntime) -> Result<(), Fail> {
             Step::Is(State::Buffering),
             Step::Want(Some((66, 66))),
         ],
-    )?;
+    )
+    .expect(&rt, "memory");
     assert_eq!(rt; wrong, None);
-    Ok(())
 }
 
 /// Nothing is delivered after the closing entry, and beats are ignored.
 #[test]
-fn closed(rt: HostRuntime) -> Result<(), Fail> {
+fn closed(rt: HostRuntime) {
     let wrong = first_wrong(
         rt.alloc(),
         &[
@@ -56,14 +56,14 @@ fn closed(rt: HostRuntime) -> Result<(), Fail> {
             Step::Gap(None),
             Step::OfferForeign(1),
         ],
-    )?;
+    )
+    .expect(&rt, "memory");
     assert_eq!(rt; wrong, None);
-    Ok(())
 }
 
 /// Entries that a lying origin sends beyond its closing entry stay held.
 #[test]
-fn held_beyond_the_end(rt: HostRuntime) -> Result<(), Fail> {
+fn held_beyond_the_end(rt: HostRuntime) {
     let wrong = first_wrong(
         rt.alloc(),
         &[
@@ -78,14 +78,14 @@ fn held_beyond_the_end(rt: HostRuntime) -> Result<(), Fail> {
             Step::Is(State::Normal),
             Step::WantAgain(None),
         ],
-    )?;
+    )
+    .expect(&rt, "memory");
     assert_eq!(rt; wrong, None);
-    Ok(())
 }
 
 /// A later entry is held until an answer brings the two before it; all three are repeats then.
 #[test]
-fn answer_frees_later_entry(rt: HostRuntime) -> Result<(), Fail> {
+fn answer_frees_later_entry(rt: HostRuntime) {
     let wrong = first_wrong(
         rt.alloc(),
         &[
@@ -100,14 +100,14 @@ fn answer_frees_later_entry(rt: HostRuntime) -> Result<(), Fail> {
             Step::Offer(4, 1, "repeat"),
             Step::Is(State::Normal),
         ],
-    )?;
+    )
+    .expect(&rt, "memory");
     assert_eq!(rt; wrong, None);
-    Ok(())
 }
 
 /// A beat tells of an entry that was lost, and the gap is asked for once, or again.
 #[test]
-fn beat_tells_of_a_loss(rt: HostRuntime) -> Result<(), Fail> {
+fn beat_tells_of_a_loss(rt: HostRuntime) {
     let wrong = first_wrong(
         rt.alloc(),
         &[
@@ -127,14 +127,14 @@ fn beat_tells_of_a_loss(rt: HostRuntime) -> Result<(), Fail> {
             Step::Offer(4, 1, "ready"),
             Step::Is(State::Normal),
         ],
-    )?;
+    )
+    .expect(&rt, "memory");
     assert_eq!(rt; wrong, None);
-    Ok(())
 }
 
 /// The first 16 of 20 entries come, and the other four are asked for.
 #[test]
-fn answer_is_too_short(rt: HostRuntime) -> Result<(), Fail> {
+fn answer_is_too_short(rt: HostRuntime) {
     let wrong = first_wrong(
         rt.alloc(),
         &[
@@ -143,14 +143,14 @@ fn answer_is_too_short(rt: HostRuntime) -> Result<(), Fail> {
             Step::OfferEach(0, 15, "ready"),
             Step::Want(Some((17, 20))),
         ],
-    )?;
+    )
+    .expect(&rt, "memory");
     assert_eq!(rt; wrong, None);
-    Ok(())
 }
 
 /// Entries of no common chain: what is delivered is a chain all the same.
 #[test]
-fn lying_origin(rt: HostRuntime) -> Result<(), Fail> {
+fn lying_origin(rt: HostRuntime) {
     let wrong = first_wrong(
         rt.alloc(),
         &[
@@ -167,9 +167,9 @@ fn lying_origin(rt: HostRuntime) -> Result<(), Fail> {
             },
             Step::Is(State::Normal),
         ],
-    )?;
+    )
+    .expect(&rt, "memory");
     assert_eq!(rt; wrong, None);
-    Ok(())
 }
 
 /// Sixty-four entries, held in many orders, all come out in their own order.
@@ -187,7 +187,7 @@ fn held_in_many_orders(rt: HostRuntime) -> Result<(), Fail> {
         steps.push(Step::Offer(0, 1, "ready"))?;
         steps.push(Step::Pop(1, 64))?;
         steps.push(Step::Is(State::Normal))?;
-        let wrong = first_wrong(rt.alloc(), &steps)?;
+        let wrong = first_wrong(rt.alloc(), &steps).expect(&rt, "memory");
         assert_eq!(rt; wrong, None, "by a stride of {stride}");
     }
     Ok(())

@@ -1,12 +1,25 @@
 //! The status object, as its text.
 use apply_lanes::DeskView;
-use rights_types::SiteId;
+use rights_types::{OutOfMemory, SiteId};
 use site_words::{PeerView, status};
-use std::test::Fail;
+use std::alloc::{AllocError, Global};
+
+/// The text of the object.
+fn text(alloc: Global, desk: &DeskView, peers: &[PeerView]) -> Result<String, OutOfMemory> {
+    Ok(status(alloc, desk, peers)?.to_string(alloc)?)
+}
+
+/// Whether this is the text of the object.
+fn is_text(alloc: Global, desk: &DeskView, peers: &[PeerView], wanted: &str) -> bool {
+    match text(alloc, desk, peers) {
+        Ok(text) => text.as_str() == wanted,
+        Err(_) => false,
+    }
+}
 
 /// Site 1 has issued 10, spent 4 and given site 2 three.
 #[test]
-fn the_text_is_compact(rt: HostRuntime) -> Result<(), Fail> {
+fn the_text_is_compact(rt: HostRuntime) {
     let desk = DeskView {
         site: SiteId::known(1),
         closed: false,
@@ -25,17 +38,22 @@ fn the_text_is_compact(rt: HostRuntime) -> Result<(), Fail> {
         buffering: false,
         held: 0,
     }];
-    let text = status(rt.alloc(), &desk, &peers)?.to_string(rt.alloc())?;
-    assert_eq!(rt;
-        text.as_str(),
-        r#"{"closed":false,"held":3,"issued":10,"number":3,"peers":[{"applied":0,"buffering":false,"held":0,"site":2}],"queued":0,"received":0,"site":1,"spent":4}"#
-    );
-    Ok(())
+    let wanted =
+        r#"{"closed":false,"held":3,"issued":10,"number":3,"peers":[{"applied":0,"buffering":false,"held":0,"site":2}],"queued":0,"received":0,"site":1,"spent":4}"#;
+    assert!(rt; is_text(rt.alloc(), &desk, &peers, wanted));
+}
+
+/// Whether the list of no peers is empty.
+fn has_no_peers(alloc: Global, desk: &DeskView) -> bool {
+    match text(alloc, desk, &[]) {
+        Ok(text) => text.as_str().contains(r#""peers":[],"#),
+        Err(_) => false,
+    }
 }
 
 /// Each value stands at its key, and the peers in the order given.
 #[test]
-fn each_value_is_at_its_key(rt: HostRuntime) -> Result<(), Fail> {
+fn each_value_is_at_its_key(rt: HostRuntime) {
     let desk = DeskView {
         site: SiteId::known(3),
         closed: true,
@@ -62,19 +80,57 @@ fn each_value_is_at_its_key(rt: HostRuntime) -> Result<(), Fail> {
             held: 24,
         },
     ];
-    let text = status(rt.alloc(), &desk, &peers)?.to_string(rt.alloc())?;
-    assert_eq!(rt;
-        text.as_str(),
-        r#"{"closed":true,"held":18446744073709551615,"issued":11,"number":1000000000,"peers":[{"applied":21,"buffering":true,"held":64,"site":16},{"applied":23,"buffering":false,"held":24,"site":1}],"queued":17,"received":15,"site":3,"spent":12}"#
-    );
-    let text = status(rt.alloc(), &desk, &[])?.to_string(rt.alloc())?;
-    assert!(rt; text.as_str().contains(r#""peers":[],"#));
-    Ok(())
+    let wanted =
+        r#"{"closed":true,"held":18446744073709551615,"issued":11,"number":1000000000,"peers":[{"applied":21,"buffering":true,"held":64,"site":16},{"applied":23,"buffering":false,"held":24,"site":1}],"queued":17,"received":15,"site":3,"spent":12}"#;
+    assert!(rt; is_text(rt.alloc(), &desk, &peers, wanted));
+    assert!(rt; has_no_peers(rt.alloc(), &desk));
+}
+
+/// The first so many sites of fifteen, each of which has applied as many as its own number.
+fn first_peers(alloc: Global, count: u64) -> Result<Vec<PeerView>, AllocError> {
+    let mut peers = Vec::new(alloc);
+    for site in 1..=15u64 {
+        if site <= count {
+            peers.push(PeerView {
+                site: SiteId::known(site),
+                applied: site,
+                buffering: false,
+                held: 9,
+            })?;
+        }
+    }
+    Ok(peers)
+}
+
+/// The text of a site with them as its peers.
+fn text_with_first_peers(alloc: Global, count: u64) -> Result<String, AllocError> {
+    let start = r#"{"closed":false,"held":7,"issued":2,"number":1,"peers":["#;
+    let mut text = String::from_str(alloc, start)?;
+    for site in 1..=count {
+        let comma = if site > 1 { "," } else { "" };
+        let peer = format!(in alloc;
+            r#"{comma}{{"applied":{site},"buffering":false,"held":9,"site":{site}}}"#
+        )?;
+        text.push_str(peer.as_str())?;
+    }
+    text.push_str(r#"],"queued":8,"received":6,"site":16,"spent":3}"#)?;
+    Ok(text)
+}
+
+/// Whether each of so many peers is in the list.
+fn lists_peers(alloc: Global, desk: &DeskView, count: u64) -> bool {
+    match (
+        first_peers(alloc, count),
+        text_with_first_peers(alloc, count),
+    ) {
+        (Ok(peers), Ok(wanted)) => is_text(alloc, desk, peers.as_slice(), wanted.as_str()),
+        _ => false,
+    }
 }
 
 /// So it is with each number of peers that a system can have.
 #[test]
-fn each_peer_is_in_the_list(rt: HostRuntime) -> Result<(), Fail> {
+fn each_peer_is_in_the_list(rt: HostRuntime) {
     let desk = DeskView {
         site: SiteId::known(16),
         closed: false,
@@ -87,27 +143,7 @@ fn each_peer_is_in_the_list(rt: HostRuntime) -> Result<(), Fail> {
         held: 7,
         queued: 8,
     };
-    let mut peers = Vec::new(rt.alloc());
-    let mut list = String::new(rt.alloc());
-    for site in 1..=15u64 {
-        peers.push(PeerView {
-            site: SiteId::known(site),
-            applied: site,
-            buffering: false,
-            held: 9,
-        })?;
-        let peer = format!(in rt.alloc();
-            r#"{{"applied":{site},"buffering":false,"held":9,"site":{site}}}"#
-        )?;
-        if site > 1 {
-            list.push_str(",")?;
-        }
-        list.push_str(peer.as_str())?;
-        let text = status(rt.alloc(), &desk, peers.as_slice())?.to_string(rt.alloc())?;
-        let start = r#"{"closed":false,"held":7,"issued":2,"number":1,"peers":["#;
-        let end = r#"],"queued":8,"received":6,"site":16,"spent":3}"#;
-        let whole = format!(in rt.alloc(); "{start}{list}{end}")?;
-        assert_eq!(rt; text.as_str(), whole.as_str());
+    for count in 1..=15u64 {
+        assert!(rt; lists_peers(rt.alloc(), &desk, count), "with {count} peers");
     }
-    Ok(())
 }

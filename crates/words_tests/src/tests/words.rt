@@ -1,8 +1,6 @@
 //! What the words of a command line are read as.
-use site_words::{Command, Config, WordsFault, read_words};
-use std::alloc::Global;
-use std::process::Abort;
-use std::test::Fail;
+use site_words::{Command, Config, PeerAddress, WordsFault, read_words};
+use std::alloc::{AllocError, Global};
 
 const HELP: &str = "\
 Keeps and moves the right to spend among replicated sites
@@ -53,18 +51,37 @@ const HELPS: [(&str, &str); 7] = [
 ];
 
 /// What the words of a line are read as; two spaces stand round an empty word.
-fn read(alloc: Global, line: &str) -> Result<Result<Command, WordsFault>, Fail> {
-    let words: Vec<&str> = line.split(' ').collect(alloc)?;
-    Ok(read_words(alloc, words.as_slice()))
+fn read(alloc: Global, line: &str) -> Result<Command, WordsFault> {
+    let words: Result<Vec<&str>, AllocError> = line.split(' ').collect(alloc);
+    match words {
+        Ok(words) => read_words(alloc, words.as_slice()),
+        Err(_) => Err(WordsFault::OutOfMemory),
+    }
+}
+
+/// Whether the words of a line are refused, and that not for want of memory.
+fn is_refused(alloc: Global, line: &str) -> bool {
+    matches!(read(alloc, line), Err(WordsFault::Refused))
+}
+
+/// Whether the words of a line ask for a script to be run.
+fn asks_for_script(alloc: Global, line: &str) -> bool {
+    matches!(read(alloc, line), Ok(Command::Sim))
+}
+
+/// Whether the words of a line ask for help, and get this text.
+fn gets_help(alloc: Global, line: &str, text: &str) -> bool {
+    match read(alloc, line) {
+        Ok(Command::Help(help)) => help.as_bytes() == text.as_bytes(),
+        _ => false,
+    }
 }
 
 #[test]
-fn sim_is_read(rt: HostRuntime) -> Result<(), Fail> {
+fn sim_is_read(rt: HostRuntime) {
     for line in ["sim", "sim --"] {
-        let read = read(rt.alloc(), line)?;
-        assert!(rt; matches!(read, Ok(Command::Sim)), "at {line:?}");
+        assert!(rt; asks_for_script(rt.alloc(), line), "at {line:?}");
     }
-    Ok(())
 }
 
 #[test]
@@ -74,7 +91,7 @@ fn no_words_are_refused(rt: HostRuntime) {
 }
 
 #[test]
-fn other_words_are_refused(rt: HostRuntime) -> Result<(), Fail> {
+fn other_words_are_refused(rt: HostRuntime) {
     for line in [
         "",
         "sim x",
@@ -90,52 +107,53 @@ fn other_words_are_refused(rt: HostRuntime) -> Result<(), Fail> {
         "--help=sim",
         "--version",
     ] {
-        let read = read(rt.alloc(), line)?;
-        assert!(rt; matches!(read, Err(WordsFault::Refused)), "at {line:?}");
+        assert!(rt; is_refused(rt.alloc(), line), "at {line:?}");
     }
-    Ok(())
 }
 
 #[test]
-fn help_is_the_text_of_clap(rt: HostRuntime) -> Result<(), Fail> {
+fn help_is_the_text_of_clap(rt: HostRuntime) {
     for (line, text) in HELPS {
-        let Ok(Command::Help(help)) = read(rt.alloc(), line)? else {
-            return Err(Fail::from("no help"));
-        };
-        assert_eq!(rt; help.as_bytes(), text.as_bytes(), "at {line:?}");
-    }
-    Ok(())
-}
-
-/// The words of this line are those of a site.
-fn config(alloc: Global, line: &str) -> Result<Config, Fail> {
-    match read(alloc, line)? {
-        Ok(Command::Run(config)) => Ok(config),
-        _ => Err(Fail::from("no config")),
+        assert!(rt; gets_help(rt.alloc(), line, text), "at {line:?}");
     }
 }
 
-fn check_config<R: Abort>(rt: &R, config: &Config, own: (u64, u64, &str), peers: &[(u64, &str)]) {
-    assert_eq!(rt; config.id().number(), own.0);
-    assert_eq!(rt; config.sites(), own.1);
-    assert_eq!(rt; config.listen(), own.2);
-    assert_eq!(rt; config.peers().len(), peers.len());
-    for (peer, (site, address)) in config.peers().iter().zip(peers) {
-        assert_eq!(rt; peer.site().number(), *site);
-        assert_eq!(rt; peer.address(), *address);
+/// Whether a peer is of this number and at this address.
+fn is_peer(peer: &PeerAddress, site: u64, address: &str) -> bool {
+    peer.site().number() == site && peer.address() == address
+}
+
+/// Whether a config has these peers, in this order.
+fn has_peers(config: &Config, wanted: &[(u64, &str)]) -> bool {
+    let peers = config.peers();
+    peers.len() == wanted.len()
+        && peers
+            .iter()
+            .zip(wanted)
+            .all(|(peer, (site, address))| is_peer(peer, *site, address))
+}
+
+/// Whether a config has these values: its own number, how many sites there are, where it listens, and its peers.
+fn is_config(config: &Config, own: (u64, u64, &str), peers: &[(u64, &str)]) -> bool {
+    config.id().number() == own.0
+        && config.sites() == own.1
+        && config.listen() == own.2
+        && has_peers(config, peers)
+}
+
+/// Whether the words of a line are those of a site with these values.
+fn runs_site(alloc: Global, line: &str, own: (u64, u64, &str), peers: &[(u64, &str)]) -> bool {
+    match read(alloc, line) {
+        Ok(Command::Run(config)) => is_config(&config, own, peers),
+        _ => false,
     }
 }
 
 #[test]
-fn a_config_has_the_values_of_the_words(rt: HostRuntime) -> Result<(), Fail> {
+fn a_config_has_the_values_of_the_words(rt: HostRuntime) {
     let line = "run --id 1 --sites 2 --listen 127.0.0.1:7001 2=127.0.0.1:7002";
     let own = (1, 2, "127.0.0.1:7001");
-    check_config(
-        &rt,
-        &config(rt.alloc(), line)?,
-        own,
-        &[(2, "127.0.0.1:7002")],
-    );
+    assert!(rt; runs_site(rt.alloc(), line, own, &[(2, "127.0.0.1:7002")]));
     // Peers by number, and options behind them and among them.
     let peers = [(1, "a"), (3, "c:3"), (4, "")];
     for line in [
@@ -146,26 +164,23 @@ fn a_config_has_the_values_of_the_words(rt: HostRuntime) -> Result<(), Fail> {
         // Numbers of options are as clap reads them.
         "run --id 02 --sites +4 --listen b:2 1=a 3=c:3 4=",
     ] {
-        check_config(&rt, &config(rt.alloc(), line)?, (2, 4, "b:2"), &peers);
+        assert!(rt;
+            runs_site(rt.alloc(), line, (2, 4, "b:2"), &peers),
+            "at {line:?}"
+        );
     }
-    Ok(())
 }
 
 /// An address is the text behind the first `=`, whatever it is.
 #[test]
-fn addresses_are_kept(rt: HostRuntime) -> Result<(), Fail> {
+fn addresses_are_kept(rt: HostRuntime) {
     let line = "run --id 3 --sites 3 --listen  1== 2=1=\u{e9}";
-    check_config(
-        &rt,
-        &config(rt.alloc(), line)?,
-        (3, 3, ""),
-        &[(1, "="), (2, "1=\u{e9}")],
-    );
-    Ok(())
+    let peers = [(1, "="), (2, "1=\u{e9}")];
+    assert!(rt; runs_site(rt.alloc(), line, (3, 3, ""), &peers));
 }
 
 #[test]
-fn sixteen_sites_are_read(rt: HostRuntime) -> Result<(), Fail> {
+fn sixteen_sites_are_read(rt: HostRuntime) {
     let line =
         "run --id 16 --sites 16 --listen x 15=o 14=n 13=m 12=l 11=k 10=j 9=i 8=h 7=g 6=f 5=e \
         4=d 3=c 2=b 1=a";
@@ -186,12 +201,11 @@ fn sixteen_sites_are_read(rt: HostRuntime) -> Result<(), Fail> {
         (14, "n"),
         (15, "o"),
     ];
-    check_config(&rt, &config(rt.alloc(), line)?, (16, 16, "x"), &peers);
-    Ok(())
+    assert!(rt; runs_site(rt.alloc(), line, (16, 16, "x"), &peers));
 }
 
 #[test]
-fn values_outside_their_range_are_refused(rt: HostRuntime) -> Result<(), Fail> {
+fn values_outside_their_range_are_refused(rt: HostRuntime) {
     for line in [
         "run --id 0 --sites 2 --listen a 2=b",
         "run --id 17 --sites 16 --listen a 2=b",
@@ -215,14 +229,20 @@ fn values_outside_their_range_are_refused(rt: HostRuntime) -> Result<(), Fail> {
         "run --id 1 --sites 2 --listen a 2=b --more",
         "run --id 1 --sites 2 2=b --listen",
     ] {
-        let read = read(rt.alloc(), line)?;
-        assert!(rt; matches!(read, Err(WordsFault::Refused)), "at {line:?}");
+        assert!(rt; is_refused(rt.alloc(), line), "at {line:?}");
     }
-    Ok(())
+}
+
+/// Whether site 1 of 3 is refused with these words for its peers.
+fn is_refused_with(alloc: Global, peers: &str) -> bool {
+    match format!(in alloc; "run --id 1 --sites 3 --listen a {peers}") {
+        Ok(line) => is_refused(alloc, line.as_str()),
+        Err(_) => false,
+    }
 }
 
 #[test]
-fn peers_are_exactly_the_other_sites(rt: HostRuntime) -> Result<(), Fail> {
+fn peers_are_exactly_the_other_sites(rt: HostRuntime) {
     for peers in [
         "2=b",
         "3=c",
@@ -247,37 +267,60 @@ fn peers_are_exactly_the_other_sites(rt: HostRuntime) -> Result<(), Fail> {
         "2=b 18446744073709551619=c",
         " 3=c",
     ] {
-        let mut line = String::from_str(rt.alloc(), "run --id 1 --sites 3 --listen a ")?;
-        line.push_str(peers)?;
-        let read = read(rt.alloc(), line.as_str())?;
-        assert!(rt; matches!(read, Err(WordsFault::Refused)), "at {peers:?}");
+        assert!(rt; is_refused_with(rt.alloc(), peers), "at {peers:?}");
     }
-    Ok(())
+}
+
+/// The words of a site among so many, with its peers from the last to the first.
+fn words_of_site(alloc: Global, id: u64, sites: u64) -> Result<String, AllocError> {
+    let mut line = format!(in alloc; "run --id {id} --sites {sites} --listen h:{id}")?;
+    for site in (1..=sites).rev() {
+        if site != id {
+            line.push_str(format!(in alloc; " {site}=h:{site}")?.as_str())?;
+        }
+    }
+    Ok(line)
+}
+
+/// Whether this is the address that a site has in those words.
+fn is_address_of(alloc: Global, address: &str, site: u64) -> bool {
+    match format!(in alloc; "h:{site}") {
+        Ok(wanted) => address == wanted.as_str(),
+        Err(_) => false,
+    }
+}
+
+/// Whether the peers are all others of so many sites, in order.
+fn are_others(alloc: Global, peers: &[PeerAddress], id: u64, sites: u64) -> bool {
+    let others = (1..=sites).filter(|site| *site != id);
+    sites.checked_sub(1) == Some(peers.len() as u64)
+        && peers.iter().zip(others).all(|(peer, site)| {
+            peer.site().number() == site && is_address_of(alloc, peer.address(), site)
+        })
+}
+
+/// Whether the words of a site among so many are read as its config.
+fn is_read_back(alloc: Global, id: u64, sites: u64) -> bool {
+    let Ok(line) = words_of_site(alloc, id, sites) else {
+        return false;
+    };
+    match read(alloc, line.as_str()) {
+        Ok(Command::Run(config)) => {
+            config.id().number() == id
+                && config.sites() == sites
+                && is_address_of(alloc, config.listen(), id)
+                && are_others(alloc, config.peers(), id, sites)
+        }
+        _ => false,
+    }
 }
 
 /// Each site of a system of each size, with its peers named from the last to the first.
 #[test]
-fn each_site_is_read(rt: HostRuntime) -> Result<(), Fail> {
+fn each_site_is_read(rt: HostRuntime) {
     for sites in 2..=16u64 {
         for id in 1..=sites {
-            let others: Vec<u64> = (1..=sites).filter(|site| *site != id).collect(rt.alloc())?;
-            let mut line = format!(in rt.alloc(); "run --id {id} --sites {sites} --listen h:{id}")?;
-            for site in others.iter().rev() {
-                line.push_str(format!(in rt.alloc(); " {site}=h:{site}")?.as_str())?;
-            }
-            let config = config(rt.alloc(), line.as_str())?;
-            assert_eq!(rt; config.id().number(), id);
-            assert_eq!(rt; config.sites(), sites);
-            assert_eq!(rt; config.listen(), format!(in rt.alloc(); "h:{id}")?.as_str());
-            assert_eq!(rt; config.peers().len(), others.len());
-            for (peer, site) in config.peers().iter().zip(others.iter()) {
-                assert_eq!(rt; peer.site().number(), *site);
-                assert_eq!(rt;
-                    peer.address(),
-                    format!(in rt.alloc(); "h:{site}")?.as_str()
-                );
-            }
+            assert!(rt; is_read_back(rt.alloc(), id, sites), "at {id} of {sites}");
         }
     }
-    Ok(())
 }
