@@ -5,6 +5,7 @@ import socket
 import sys
 import threading
 import time
+from contextlib import suppress
 
 HERE = os.path.dirname(os.path.abspath(__file__))
 sys.path.insert(0, os.path.join(HERE, "..", "python"))
@@ -106,7 +107,8 @@ class Proxy:
 
     def carry(self, stream):
         host, port = self.target.split(":")
-        with stream, socket.create_connection((host, int(port))) as out:
+        # Where one of the two has ended, the other sees its connection end.
+        with stream, suppress(OSError), socket.create_connection((host, int(port))) as out:
             for line in stream.makefile("rb"):
                 self.lines.append(line)
                 if not self.drops(line):
