@@ -16,8 +16,8 @@ use Rattle.entry_codec.specs.declared.cutter.Cut.{Cut}
 use Rattle.entry_codec.proofs.Pieces.{HasNoEnd, pieces_append, rest_append, no_piece, one_piece}
 use Rattle.entry_codec.proofs.Cuts.{first_is_position}
 use Rattle.entry_codec.proofs.Streams.{through_found, through_missed}
-use Rattle.transfer_world.proofs.Writes.{take_both}
-use Rattle.transfer_world.specs.Fronts.{AppendsFront}
+use Rattle.line_streams.proofs.WriteLaws.{take_both}
+use Rattle.line_streams.specs.Fronts.{AppendsFront}
 use Rattle.peer_links.specs.Links.{IsFedAll}
 use Rattle.peer_links.specs.Outboxes.{AreLines, joined, front_in}
 

@@ -10,15 +10,15 @@ use Rattle.entry_codec.specs.Cutter.{CutterView}
 use Rattle.entry_codec.specs.Pieces.{pieces, IsLine}
 use Rattle.entry_codec.proofs.Lines.{is_line}
 use Rattle.site_core.specs.Calls.{LineOf}
-use Rattle.transfer_world.specs.Session.{counts_for}
-use Rattle.transfer_world.proofs.CountLaws.{none_parted, parted_more, counted_more, lines_both}
-use Rattle.transfer_world.proofs.Writes.{take_both}
+use Rattle.line_streams.specs.Counting.{counts_for}
+use Rattle.line_streams.proofs.CountLaws.{none_parted, parted_more, counted_more, lines_both}
+use Rattle.line_streams.proofs.WriteLaws.{take_both}
 use Rattle.peer_links.specs.Lines.{IsGivenFor}
 use Rattle.peer_links.specs.Links.{IsFedAll, LinkGave, LinkEnds, MayFail, counted}
 use Rattle.peer_links.specs.declared.lines.Piece.{Piece}
 use Rattle.peer_links.specs.declared.link.LinkFault.{LinkFault}
 use Rattle.peer_links.specs.declared.link.LinkFault.TheVariants.{ReadFailed, WriteFailed, TooManyLines, NoHello, LaneClosed, OutOfMemory}
-use Rattle.transfer_world.specs.declared.script.session.TheConstants.{LINE_LIMIT}
+use Rattle.line_streams.specs.declared.limit.TheConstants.{LINE_LIMIT}
 
 pub gave_none : (a : Option (List ℕ)) → (gave : LinkGave a a) × (0 ≡ counted gave)
 gave_none a = (record { portions = []; input = []; reads = Consumes-nil a; parted = none_parted }, refl)

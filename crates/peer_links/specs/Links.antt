@@ -7,11 +7,11 @@ use Rattle.rights_types.specs.declared.limits.TheConstants.{MAX_LINE as LONGEST}
 use Rattle.entry_codec.specs.Pieces.{pieces, IsLine}
 use Rattle.entry_codec.specs.Cutter.{CutterView, IsFed}
 use Rattle.entry_codec.specs.Spelling.{Spells}
-use Rattle.transfer_world.specs.Talk.{Parted, still}
+use Rattle.line_streams.specs.Counting.{Parted, still}
 use Rattle.peer_links.specs.declared.lines.TheConstants.{LINE_END}
 use Rattle.peer_links.specs.declared.link.LinkFault.{LinkFault}
 use Rattle.peer_links.specs.declared.link.LinkFault.TheVariants.{ReadFailed, WriteFailed, TooManyLines, NoHello, LaneClosed, OutOfMemory}
-use Rattle.transfer_world.specs.declared.script.session.TheConstants.{LINE_LIMIT}
+use Rattle.line_streams.specs.declared.limit.TheConstants.{LINE_LIMIT}
 
 -- ---- the first line
 

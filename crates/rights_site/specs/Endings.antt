@@ -1,6 +1,6 @@
 -- How the program ends.
 use Rattle.std.specs.Prelude.{◌≡◌, ◌==◌, ◌⊎◌, ℕ, Bool, true, false, List, [], length, ⊤, Option, Result, Ok, Err}
-use Rattle.transfer_world.specs.Fronts.{AppendsFront}
+use Rattle.line_streams.specs.Fronts.{AppendsFront}
 use Rattle.site_words.specs.Asked.{Asked, help, nothing, script, site}
 use Rattle.rights_site.specs.Faults.{line_of, status_of}
 use Rattle.site_words.specs.Settings.{Settings}

@@ -6,7 +6,8 @@ ghost use Rattle.rights_site.specs.declared.fault.Fault.TheVariants.{OutOfMemory
 use site_server::SiteFault;
 use site_words::WordsFault;
 use std::alloc::AllocError;
-use transfer_world::{ScriptFault, WriteFault};
+use line_streams::WriteFault;
+use transfer_world::ScriptFault;
 
 /// Why the program ends with another status than 0.
 #[derive(Clone, Copy, Debug, PartialEq, Eq)]

@@ -5,7 +5,7 @@ ghost use Rattle.clap.specs.Walk.{texts};
 ghost use Rattle.site_words.specs.Asked.{asked_by, nothing, script};
 ghost use Rattle.rights_site.specs.Endings.{MayEnd, reads, line_of_ending, status_of_ending};
 ghost use Rattle.rights_site.specs.Faults.{line_of, status_of};
-ghost use Rattle.transfer_world.specs.Fronts.{AppendsFront};
+ghost use Rattle.line_streams.specs.Fronts.{AppendsFront};
 ghost use Rattle.rights_site.specs.Scripts.{Answered};
 ghost use Rattle.site_words.specs.Words.{MayRefuse};
 ghost use Rattle.rights_site.specs.declared.fault.Fault.{Fault};
@@ -18,7 +18,8 @@ use std::net::{Net, TcpListener, TcpStream};
 use std::sync::Wait;
 use std::thread::Threads;
 use std::time::Clock;
-use transfer_world::{run_script, write_whole};
+use line_streams::write_whole;
+use transfer_world::run_script;
 
 /// Says why the program stops, and answers the exit status. What cannot be said is left out.
 pub(crate) fn report<E: Write>(errors: &mut E, fault: Fault) -> u8

@@ -4,7 +4,7 @@ ghost use Rattle.std.specs.Prelude.{◌≡◌};
 use rights_types::OutOfMemory as NoMemory;
 use std::alloc::{AllocError, AllocFailed};
 use thiserror::Error;
-use transfer_world::WriteFault;
+use line_streams::WriteFault;
 
 /// Why a site that runs stops.
 #[derive(Clone, Copy, Debug, PartialEq, Eq, Error)]

@@ -8,7 +8,7 @@ use Rattle.transfer_world.specs.Script.{CommandGets, LineGets}
 use Rattle.transfer_world.specs.Session.{LineEnds}
 use Rattle.transfer_world.specs.declared.script.commands.Command.{Command}
 use Rattle.transfer_world.proofs.CommandLaws.{cut_line}
-use Rattle.transfer_world.proofs.Writes.{take_both}
+use Rattle.line_streams.proofs.WriteLaws.{take_both}
 
 -- what fits behind the bytes before
 pub take_over : (n : ℕ) (xs ys : List ℕ) → length xs ≤ n → take n (xs ++ ys) ≡ xs ++ take (n - length xs) ys

@@ -1,5 +1,5 @@
 -- What becomes of an event: it is refused, happens, or ends the world.
-use Rattle.std.proofs.Common.{◌≡◌, true, false, Option, Some, None, Result, Ok, Err, refl}
+use Rattle.std.proofs.Common.{◌≡◌, true, false, Some, None, Result, Ok, Err, refl}
 use Rattle.transfer_world.specs.Values.{WorldValue}
 use Rattle.transfer_world.specs.Worlds.{ended}
 use Rattle.transfer_world.specs.Faults.{fault_of}

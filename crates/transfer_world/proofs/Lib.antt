@@ -18,7 +18,6 @@ pub mod ReportLaws
 pub mod CarryLaws
 pub mod ReplyLaws
 pub mod FeedLaws
-pub mod CountLaws
 pub mod RunLaws
 pub mod IndexLaws
 pub mod ArrivalLaws

@@ -1,17 +1,16 @@
 -- What a message that comes in leaves of the world, by what the call that took it left of a desk or of a row of links.
-use Rattle.std.proofs.Common.{◌≡◌, ℕ, ◌+◌, false, List, [], ◌∷◌, ◌++◌, length, get_or, set, Option, Some, None, Result, Ok, Err, refl, sym, ap, subst, ◌∙◌, arith}
+use Rattle.std.proofs.Common.{◌≡◌, ℕ, ◌+◌, false, List, [], ◌∷◌, ◌++◌, length, get_or, set, Option, Some, None, Result, Ok, Err, refl, sym, ap, subst, ◌∙◌}
 use Rattle.std.specs.Prelude.{◌≢◌, IsSome}
 use Rattle.std.specs.Result.{IsErrAnd}
 use Rattle.std.proofs.lemmas.List.{set-get_or}
 use Rattle.std.specs.List.{All, Contains}
 use Rattle.rights_types.specs.Entries.{EntryValue}
 use Rattle.rights_types.specs.Messages.{QueryValue, AskValue, DenyValue}
-use Rattle.rights_types.specs.Messages.MessageValue.{AnAnswer, ADenial}
+use Rattle.rights_types.specs.Messages.MessageValue.{AnAnswer}
 use Rattle.rights_types.specs.Places.{at_site, set_site}
 use Rattle.rights_types.proofs.Chains.{is_entry}
 use Rattle.rights_types.proofs.Places.{set_site-index}
 use Rattle.rights_protocol.specs.Lists.{IsSiteOf}
-use Rattle.rights_book.specs.Books.{sites}
 use Rattle.entry_codec.specs.Spelling.{Spells}
 use Rattle.origin_log.specs.Answering.{answer_to_query}
 use Rattle.origin_log.specs.Faults.{query_fault}
@@ -20,18 +19,18 @@ use Rattle.transfer_manager.specs.Managers.{ended}
 use Rattle.transfer_manager.specs.declared.answer.AskAnswer.{AskAnswer}
 use Rattle.transfer_manager.specs.declared.answer.AskAnswer.TheVariants.{Grant, Deny, RepeatedDeny, Repeated, OldAsk}
 use Rattle.site_core.specs.Desks.{DeskValue}
-use Rattle.site_core.specs.Calls.{answer_of, denial, denial_of, LineOf, DeskAnswers}
+use Rattle.site_core.specs.Calls.{answer_of, denial_of, LineOf, DeskAnswers}
 use Rattle.transfer_world.specs.Values.{LinkValue, PacketValue, WorldValue}
 use Rattle.transfer_world.specs.Values.BodyValue.{Text}
 use Rattle.transfer_world.specs.Worlds.{count, desk, with_desk, log, row, link, with_link, with_packet}
-use Rattle.transfer_world.specs.LinkEvents.{Sends, SendsIf, LinkTakesAll, EntriesArrive, EntriesCome, heard, BeatComes, DenialComes, QueryComes, AskComesBy, AskComes}
+use Rattle.transfer_world.specs.LinkEvents.{Sends, LinkTakesAll, EntriesArrive, EntriesCome, heard, BeatComes, DenialComes, QueryComes, AskComesBy, AskComes}
 use Rattle.transfer_world.specs.Sound.{LinkSound, IsWorld}
 use Rattle.transfer_world.specs.declared.reply.Verdict.{Verdict}
 use Rattle.transfer_world.specs.declared.reply.Reply.{Reply}
 use Rattle.transfer_world.specs.declared.fault.WorldError.{WorldError}
 use Rattle.transfer_world.specs.declared.fault.WorldError.TheVariants.{OutOfMemory}
 use Rattle.transfer_world.specs.declared.reply.Reply.TheVariants.{Packet, HeardBeat, Granted, Denied, GrantedBefore, Old, Noted}
-use Rattle.transfer_world.proofs.IndexLaws.{at_place, desk_at, row_at, link_at}
+use Rattle.transfer_world.proofs.IndexLaws.{desk_at, row_at, link_at}
 
 -- ---- what is left
 

@@ -1,5 +1,5 @@
 -- What the readers of a world say.
-use Rattle.std.proofs.Common.{◌≡◌, ℕ, zero, suc, ◌+◌, ◌*◌, ◌<◌, ◌≤◌, false, List, [], length, get_or, drop, Option, Some, None, arith, refl, sym, ap, subst, ◌∙◌, add-one}
+use Rattle.std.proofs.Common.{◌≡◌, ℕ, suc, ◌+◌, ◌*◌, ◌<◌, ◌≤◌, false, List, [], length, drop, None, arith, sym, ap, subst, ◌∙◌, add-one}
 use Rattle.std.proofs.Math.Seq.{drop-nil}
 use Rattle.rights_types.specs.Entries.{EntryValue}
 use Rattle.rights_types.specs.Chains.{IsChain, moves_of}

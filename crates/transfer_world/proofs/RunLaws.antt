@@ -5,12 +5,13 @@ use Rattle.std.proofs.KnownBytes.{Appends-trans, Appends-nil, Consumes-nil, Cons
 use Rattle.entry_codec.specs.Pieces.{pieces, unfinished, pieces_after}
 use Rattle.entry_codec.proofs.Pieces.{pieces_append}
 use Rattle.transfer_world.specs.Values.{WorldValue}
-use Rattle.transfer_world.specs.Fronts.{AppendsFront}
+use Rattle.line_streams.specs.Fronts.{AppendsFront}
 use Rattle.transfer_world.specs.Waiting.{Waiting, nothing}
 use Rattle.transfer_world.specs.Script.{last_line, lines_of}
-use Rattle.transfer_world.specs.Talk.{still, Parted, Talk, EndsBy, BeginsWith}
+use Rattle.transfer_world.specs.Talk.{Talk, EndsBy, BeginsWith}
+use Rattle.line_streams.specs.Counting.{still, Parted}
 use Rattle.transfer_world.specs.Session.{Talked, Going, IsNew, Stopped, Fed, Ran}
-use Rattle.transfer_world.proofs.CountLaws.{none_parted}
+use Rattle.line_streams.proofs.CountLaws.{none_parted}
 use Rattle.transfer_world.proofs.FeedLaws.{going_written, talked_front}
 use Rattle.transfer_world.specs.declared.script.fault.ScriptFault.{ScriptFault}
 use Rattle.transfer_world.specs.declared.script.fault.ScriptFault.TheVariants.{ReadFailed, WriteFailed, OutOfMemory, TooManyLines}

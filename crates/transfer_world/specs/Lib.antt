@@ -12,7 +12,6 @@ pub mod IncomingLists
 pub mod Step
 pub mod Sound
 pub mod Headline
-pub mod Fronts
 pub mod Waiting
 pub mod Commands
 pub mod Replies

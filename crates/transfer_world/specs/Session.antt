@@ -3,11 +3,12 @@ use Rattle.std.specs.Prelude.{◌≡◌, ℕ, ◌<◌, ◌≤◌, ◌+◌, List,
 use Rattle.std.specs.Io.KnownBytes.{Appends}
 use Rattle.entry_codec.specs.Pieces.{pieces, unfinished}
 use Rattle.rights_types.specs.declared.limits.TheConstants.{MAX_LINE}
-use Rattle.transfer_world.specs.declared.script.session.TheConstants.{LINE_LIMIT}
+use Rattle.line_streams.specs.declared.limit.TheConstants.{LINE_LIMIT}
+use Rattle.line_streams.specs.Counting.{still}
 use Rattle.transfer_world.specs.Values.{WorldValue}
 use Rattle.transfer_world.specs.Waiting.{Waiting, nothing}
 use Rattle.transfer_world.specs.Script.{LineGets, LinesGet, lines_of}
-use Rattle.transfer_world.specs.Talk.{still, BeginsWith}
+use Rattle.transfer_world.specs.Talk.{BeginsWith}
 use Rattle.transfer_world.specs.declared.script.fault.ScriptFault.{ScriptFault}
 use Rattle.transfer_world.specs.declared.script.fault.ScriptFault.TheVariants.{ReadFailed, WriteFailed, OutOfMemory, TooManyLines}
 
@@ -31,10 +32,6 @@ pub record Going (A : Type 0) (input : List ℕ) (held now : Option (List ℕ)) 
 -- a script that has done nothing yet
 abbrev pub IsNew : Option WorldValue → Waiting → List ℕ → ℕ → Type 0
 IsNew world waits carry count = (world ≡ None) × (waits ≡ nothing) × (carry ≡ []) × (count ≡ 0)
-
--- what a read counts for: each line that ends in it, and 1 where none does
-abbrev pub counts_for : List ℕ → ℕ
-counts_for bytes = length (pieces bytes) + still (bytes ∷ [])
 
 -- what a line came to, of which front was carried and text came last
 abbrev pub LineEnds : Type 0 → List ℕ → List ℕ → Option WorldValue → Waiting → Option WorldValue → Waiting → Type 0

@@ -1,5 +1,5 @@
 -- What an event may come to: a relation from an old world and an event to an outcome and a new world.
-use Rattle.std.specs.Prelude.{◌≡◌, Bool, true, false, List, [], ◌∷◌, Result, Ok, Err, MatchOption}
+use Rattle.std.specs.Prelude.{◌≡◌, Bool, true, false, List, [], ◌∷◌, Result, Err, MatchOption}
 use Rattle.transfer_world.specs.Values.{WorldValue}
 use Rattle.transfer_world.specs.Worlds.{ended, packet}
 use Rattle.transfer_world.specs.Faults.{fault_of}

@@ -1,25 +1,13 @@
 -- What a run of a script did to its reader and its writer.
-use Rattle.std.specs.Prelude.{◌≡◌, ℕ, ◌<◌, ◌≤◌, ◌+◌, ◌==◌, Bool, List, ◌++◌, Option, None, Result, Ok, Err, All, count_by, flat_map, length}
+use Rattle.std.specs.Prelude.{◌≡◌, ℕ, ◌<◌, ◌≤◌, ◌+◌, List, ◌++◌, Option, None, Result, Ok, Err, length}
 use Rattle.std.specs.Io.KnownBytes.{Consumes, Appends}
 use Rattle.entry_codec.specs.Pieces.{pieces}
-use Rattle.transfer_world.specs.declared.script.session.TheConstants.{LINE_LIMIT}
+use Rattle.line_streams.specs.declared.limit.TheConstants.{LINE_LIMIT}
+use Rattle.line_streams.specs.Counting.{Parted, still}
 use Rattle.transfer_world.specs.Values.{WorldValue}
 use Rattle.transfer_world.specs.Script.{LinesGet, lines_of}
 use Rattle.transfer_world.specs.declared.script.fault.ScriptFault.{ScriptFault}
 use Rattle.transfer_world.specs.declared.script.fault.ScriptFault.TheVariants.{ReadFailed, WriteFailed, OutOfMemory, TooManyLines}
-
--- no line ends in these bytes
-abbrev pub ends_none : List ℕ → Bool
-ends_none bytes = length (pieces bytes) == 0
-
--- how many of these reads end no line
-abbrev pub still : List (List ℕ) → ℕ
-still portions = count_by ends_none portions
-
--- so much each read gave, and each gave something
-pub record Parted (portions : List (List ℕ)) (input : List ℕ) : Type 0 where
-  pub whole : flat_map (λ bytes. bytes) portions ≡ input
-  pub some : All (λ bytes. 0 < length bytes) portions
 
 -- the reader gave some input, some lines were answered from no world on, and the writer took some text
 pub record Talk (A : Type 0) (given left held holds : Option (List ℕ)) : Type 0 where

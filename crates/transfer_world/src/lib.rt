@@ -11,12 +11,10 @@ mod reply;
 mod script;
 mod system;
 mod world;
-mod write;
 
 pub use event::{Event, Moves};
 pub use fault::WorldError;
 pub use laws::every_run;
 pub use reply::{Reply, Verdict, Verdicts};
-pub use script::{LINE_LIMIT, ScriptFault, run_script};
+pub use script::{ScriptFault, run_script};
 pub use world::{Totals, World};
-pub use write::{WriteFault, write_whole};

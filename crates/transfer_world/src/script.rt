@@ -10,4 +10,4 @@ mod word;
 mod words;
 
 pub use fault::ScriptFault;
-pub use session::{LINE_LIMIT, run_script};
+pub use session::run_script;

@@ -2,7 +2,7 @@
 ghost use Rattle.std.specs.Prelude.{◌≡◌, ℕ, ◌+◌, ◌<◌, ◌≤◌, ◌++◌, false, List, length, take, OnOk, IfOk, IfErr, IsErrOf, MatchResult};
 ghost use Rattle.std.specs.Io.KnownBytes.{Consumes, Keeps, IsAtEnd, ReadConsumes};
 ghost use Rattle.std.specs.Io.{ReadsAtMost};
-ghost use Rattle.transfer_world.specs.Session.{counts_for};
+ghost use Rattle.line_streams.specs.Counting.{counts_for};
 ghost use Rattle.peer_links.specs.Links.{IsFedAll, LinkGave, LinkEnds, IsOfIntake, MayFail};
 ghost use Rattle.peer_links.specs.declared.link.LinkFault.{LinkFault};
 
@@ -10,12 +10,12 @@ use crate::lines::{Piece, next_piece};
 use crate::link::{LinkFault, Port, is_interrupted};
 use apply_lanes::{Arrived, Intake, IntakeError};
 use entry_codec::LineCutter;
+use line_streams::LINE_LIMIT;
 use rights_types::Message;
 use site_core::InboundError;
 use std::alloc::Global;
 use std::io::Read;
 use std::sync::Wait;
-use transfer_world::LINE_LIMIT;
 
 /// So many bytes are read at a time.
 const READ_SIZE: usize = 16_384;

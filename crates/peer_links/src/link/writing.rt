@@ -2,7 +2,7 @@
 ghost use Rattle.std.specs.Prelude.{◌≡◌, ℕ, ◌+◌, ◌≤◌, List, length, take, nat_lt, if◌then◌else◌, OnOk, IfErr};
 ghost use Rattle.std.specs.Io.KnownBytes.{Appends};
 ghost use Rattle.entry_codec.specs.Pieces.{pieces};
-ghost use Rattle.transfer_world.specs.Fronts.{AppendsFront};
+ghost use Rattle.line_streams.specs.Fronts.{AppendsFront};
 ghost use Rattle.peer_links.specs.Outboxes.{AreLines};
 ghost use Rattle.peer_links.specs.declared.link.LinkFault.{LinkFault};
 

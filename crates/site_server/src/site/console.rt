@@ -15,7 +15,7 @@ use site_words::status;
 use std::alloc::Global;
 use std::io::{Read, Write};
 use std::sync::{Arc, Wait};
-use transfer_world::{LINE_LIMIT, write_whole};
+use line_streams::{LINE_LIMIT, write_whole};
 
 /// So many bytes are read at a time, and replies of so many bytes are written before the next line.
 const BLOCK: usize = 65536;

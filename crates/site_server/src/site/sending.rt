@@ -9,7 +9,7 @@ use std::alloc::Global;
 use std::net::{Net, TcpStream, ToSocketAddrs};
 use std::sync::{Condvar, CondvarTimeouts, Mutex, Wait};
 use std::time::{Clock, Duration, Instant};
-use transfer_world::write_whole;
+use line_streams::write_whole;
 
 /// How many sending threads are at work.
 #[derive(Drop)]

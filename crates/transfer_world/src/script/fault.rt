@@ -2,7 +2,7 @@
 ghost use Rattle.std.specs.Prelude.{◌≡◌};
 ghost use Rattle.transfer_world.specs.declared.script.fault.ScriptFault.TheVariants.{OutOfMemory as NoMemory, WriteFailed};
 
-use crate::write::WriteFault;
+use line_streams::WriteFault;
 use rights_types::OutOfMemory;
 
 /// Why a script stopped before its end.

@@ -1,10 +1,10 @@
 //! Replies on their way to a writer.
 ghost use Rattle.std.specs.Prelude.{◌≡◌, ℕ, List, ◌∷◌, [], ◌++◌, ◌<◌, ◌≤◌, length, take, decimal, OnOk, OnErr};
 ghost use Rattle.std.specs.Io.KnownBytes.{Appends};
-ghost use Rattle.transfer_world.specs.Fronts.{AppendsFront};
+ghost use Rattle.line_streams.specs.Fronts.{AppendsFront};
 
-use crate::write::{WriteFault, write_whole};
 use itoa::Buffer;
+use line_streams::{WriteFault, write_whole};
 use rights_types::OutOfMemory;
 use std::alloc::Allocator;
 use std::io::Write;

@@ -3,20 +3,19 @@ ghost use Rattle.std.specs.Prelude.{◌≡◌, ℕ, ◌+◌, ◌<◌, ◌≤◌,
 ghost use Rattle.std.specs.Io.{ReadsAtMost};
 ghost use Rattle.std.specs.Io.KnownBytes.{Consumes, IsAtEnd, ReadConsumes};
 ghost use Rattle.transfer_world.specs.Waiting.{nothing};
-ghost use Rattle.transfer_world.specs.Talk.{Parted, Talk, EndsBy};
-ghost use Rattle.transfer_world.specs.Session.{IsNew, LineEnds, Going, Fed, Ran, counts_for};
+ghost use Rattle.line_streams.specs.Counting.{Parted, counts_for};
+ghost use Rattle.transfer_world.specs.Talk.{Talk, EndsBy};
+ghost use Rattle.transfer_world.specs.Session.{IsNew, LineEnds, Going, Fed, Ran};
 
 use crate::script::answers::answer_line;
 use crate::script::fault::ScriptFault;
 use crate::script::output::{BLOCK, Replies};
 use crate::world::World;
+use line_streams::LINE_LIMIT;
 use memchr::memchr;
 use rights_types::{MAX_LINE, OutOfMemory};
 use std::alloc::Allocator;
 use std::io::{Read, Write};
-
-/// At so many lines, and reads that end no line, a stream of lines is given up.
-pub const LINE_LIMIT: u64 = 1_000_000_000;
 
 /// So many bytes are read at a time.
 const READ_SIZE: usize = 65536;

@@ -1,7 +1,7 @@
 use Rattle.std.proofs.Common.{◌≡◌, ℕ, ◌+◌, ◌<◌, List, ◌++◌, length, take, ap, subst, ◌∙◌, arith, length-drop}
 use Rattle.std.proofs.lemmas.List.{take_all, take_rest}
 use Rattle.entry_codec.specs.Pieces.{pieces}
-use Rattle.transfer_world.proofs.CountLaws.{counts_lines, counts_still, counts_within, line_some}
+use Rattle.line_streams.proofs.CountLaws.{counts_lines, counts_still, counts_within, line_some}
 use Rattle.peer_links.specs.Links.{IsFedAll}
 use Rattle.peer_links.proofs.ReadLaws.{on_ok, is_none, fed_more, fed_all, one_line, no_line}
 use Rattle.peer_links.proofs.link.reading.take_block.Goals as goal

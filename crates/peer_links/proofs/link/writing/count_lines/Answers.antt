@@ -1,6 +1,6 @@
 use Rattle.std.proofs.Common.{◌+◌, take, ◌∙◌, sym, arith}
-use Rattle.transfer_world.proofs.CountLaws.{line_more, line_none}
-use Rattle.transfer_world.proofs.FeedLaws.{cut_found, cut_none}
+use Rattle.line_streams.proofs.CountLaws.{line_more, line_none}
+use Rattle.line_streams.proofs.CutLaws.{cut_found, cut_none}
 use Rattle.peer_links.proofs.link.writing.count_lines.Goals as goal
 
 pub lines-preserved : goal.lines-preserved

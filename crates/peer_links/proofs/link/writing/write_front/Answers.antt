@@ -1,5 +1,5 @@
 use Rattle.std.proofs.Common.{arith, length-take, length-drop}
-use Rattle.transfer_world.proofs.Writes.{wrote_more}
+use Rattle.line_streams.proofs.WriteLaws.{wrote_more}
 use Rattle.peer_links.proofs.link.writing.write_front.Goals as goal
 
 pub writes-preserved : goal.writes-preserved

@@ -1,4 +1,4 @@
-use Rattle.std.proofs.Common.{◌∙◌, ap, sym, None, Some}
+use Rattle.std.proofs.Common.{◌∙◌, sym}
 use Rattle.transfer_world.proofs.CommandLaws.{heir_named}
 use Rattle.transfer_world.proofs.script.commands.heir_in.Goals as goal
 

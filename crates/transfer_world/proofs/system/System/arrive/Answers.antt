@@ -1,4 +1,4 @@
-use Rattle.std.proofs.Common.{◌≡◌, ◌-◌, get_or, Option, Some, sym, ap, subst, ◌∙◌}
+use Rattle.std.proofs.Common.{◌≡◌, ◌-◌, get_or, Option, sym, subst, ◌∙◌}
 use Rattle.rights_types.specs.Values.{value_of}
 use Rattle.rights_protocol.specs.Lists.{IsSiteOf}
 use Rattle.transfer_world.specs.Values.{PacketValue, WorldValue}

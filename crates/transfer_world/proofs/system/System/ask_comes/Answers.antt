@@ -1,6 +1,6 @@
-use Rattle.std.proofs.Common.{◌≡◌, ℕ, List, Ok, Some, get_or, sym, ap, subst, ◌∙◌, arith}
+use Rattle.std.proofs.Common.{◌≡◌, ℕ, List, Ok, get_or, sym, ap, subst, ◌∙◌, arith}
 use Rattle.rights_protocol.specs.Lists.{IsSiteOf}
-use Rattle.transfer_manager.specs.declared.answer.AskAnswer.TheVariants.{Grant, Repeated, OldAsk}
+use Rattle.transfer_manager.specs.declared.answer.AskAnswer.TheVariants.{Grant}
 use Rattle.site_core.specs.Calls.{denial_of, LineOf, DeskAnswers}
 use Rattle.transfer_world.specs.Values.{WorldValue}
 use Rattle.transfer_world.specs.Values.BodyValue.{Text}

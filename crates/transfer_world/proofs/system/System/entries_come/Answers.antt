@@ -1,6 +1,5 @@
-use Rattle.std.proofs.Common.{◌≡◌, List, [], ◌∷◌, Ok, get_or, sym, ap, subst, ◌∙◌}
+use Rattle.std.proofs.Common.{◌≡◌, List, Ok, get_or, sym, subst, ◌∙◌}
 use Rattle.std.specs.List.{All, Contains}
-use Rattle.std.proofs.lemmas.List.Elements.{All-nil, All-cons, All-head}
 use Rattle.rights_types.specs.Entries.{EntryValue}
 use Rattle.rights_protocol.specs.Lists.{IsSiteOf}
 use Rattle.transfer_world.specs.Values.{WorldValue}

@@ -1,4 +1,4 @@
-use Rattle.std.proofs.Common.{◌≡◌, Ok, get_or, sym, ap, subst, ◌∙◌, arith}
+use Rattle.std.proofs.Common.{◌≡◌, Ok, get_or, sym, subst, arith}
 use Rattle.rights_types.specs.Values.{value_of}
 use Rattle.rights_types.specs.declared.message.Message.{Message}
 use Rattle.rights_types.specs.declared.message.Message.TheVariants.{Beat, Deny}

@@ -1,4 +1,4 @@
-use Rattle.std.proofs.Common.{inr, Some, None, refl, subst, set}
+use Rattle.std.proofs.Common.{inr, refl, subst, set}
 use Rattle.std.specs.Option.{option_map}
 use Rattle.std.proofs.lemmas.Result.{err_from_is_err_and}
 use Rattle.rights_types.specs.Messages.MessageValue.{AQuery}

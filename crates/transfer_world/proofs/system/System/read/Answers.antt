@@ -1,4 +1,4 @@
-use Rattle.std.proofs.Common.{◌≡◌, get_or, Option, Some, None, sym, ap, subst, ◌∙◌}
+use Rattle.std.proofs.Common.{◌≡◌, get_or, Some, None, sym, ap, subst, ◌∙◌}
 use Rattle.entry_codec.specs.Reading.{reading}
 use Rattle.rights_types.specs.declared.message.Message.{Message}
 use Rattle.site_core.specs.Inbounds.{line_fault}

@@ -1,4 +1,4 @@
-use Rattle.std.proofs.Common.{◌≡◌, true, false, Option, Some, None, Ok, Err, inl, ap, sym, refl, subst, ◌∙◌, length}
+use Rattle.std.proofs.Common.{◌≡◌, true, false, Some, None, inl, ap, sym, refl, subst, ◌∙◌, length}
 use Rattle.std.specs.List.{slice_get}
 use Rattle.std.proofs.lemmas.Result.{err_from_is_err_and}
 use Rattle.rights_types.specs.Chains.{is_closed}

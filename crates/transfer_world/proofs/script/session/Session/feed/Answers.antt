@@ -3,8 +3,9 @@ use Rattle.std.proofs.lemmas.Bool.{eqb-true}
 use Rattle.std.proofs.lemmas.Result.{err_from_is_err_and}
 use Rattle.entry_codec.specs.Pieces.{pieces}
 use Rattle.transfer_world.specs.Waiting.{Waiting}
-use Rattle.transfer_world.proofs.CountLaws.{line_more, line_none, line_some, counts_lines, counts_still, counts_within}
-use Rattle.transfer_world.proofs.FeedLaws.{cut_found, cut_none, going_next, going_end, going_written, stopped_in, stopped_in_write}
+use Rattle.line_streams.proofs.CountLaws.{line_more, line_none, line_some, counts_lines, counts_still, counts_within}
+use Rattle.line_streams.proofs.CutLaws.{cut_found, cut_none}
+use Rattle.transfer_world.proofs.FeedLaws.{going_next, going_end, going_written, stopped_in, stopped_in_write}
 use Rattle.transfer_world.proofs.script.session.Session.feed.Goals.{else-at-eq0-via-then-at-eq0+else-not-is_empty, else-at-eq0-via-else-at-eq0}
 use Rattle.transfer_world.proofs.script.session.Session.feed.Goals as goal
 

@@ -4,10 +4,10 @@ use Rattle.std.proofs.lemmas.List.{nil_from_length}
 use Rattle.std.proofs.lemmas.Result.{err_from_is_err_and}
 use Rattle.std.proofs.KnownBytes.{Consumes-trans, Consumes-nil}
 use Rattle.entry_codec.specs.Pieces.{unfinished}
-use Rattle.transfer_world.specs.Session.{counts_for}
+use Rattle.line_streams.specs.Counting.{counts_for}
 use Rattle.transfer_world.specs.declared.script.fault.ScriptFault.{ScriptFault}
 use Rattle.transfer_world.proofs.CarryLaws.{none_carried, some_carried}
-use Rattle.transfer_world.proofs.CountLaws.{none_parted, parted_more, counted_more}
+use Rattle.line_streams.proofs.CountLaws.{none_parted, parted_more, counted_more}
 use Rattle.transfer_world.proofs.RunLaws.{going_new, going_all, ran_written, ran_err, ran_end, ran_last, reads_end}
 use Rattle.transfer_world.proofs.script.session.Session.run.Goals as goal
 

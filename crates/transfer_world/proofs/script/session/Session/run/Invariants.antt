@@ -1,7 +1,7 @@
 use Rattle.std.proofs.Common.{◌≡◌, ◌-◌, ◌+◌, ◌<◌, ◌≤◌, ℕ, List, length}
 use Rattle.std.specs.Io.KnownBytes.{Consumes}
 use Rattle.entry_codec.specs.Pieces.{pieces}
-use Rattle.transfer_world.specs.Talk.{still, Parted}
+use Rattle.line_streams.specs.Counting.{still, Parted}
 use Rattle.transfer_world.specs.Waiting.{nothing}
 use Rattle.transfer_world.specs.Session.{Going}
 use Rattle.transfer_world.proofs.script.session.Session.run.Given as goal

@@ -1,6 +1,6 @@
 use Rattle.std.proofs.Common.{arith, length-take, length-drop}
-use Rattle.transfer_world.proofs.Writes.{wrote_more}
-use Rattle.transfer_world.proofs.write.write_whole.Goals as goal
+use Rattle.line_streams.proofs.WriteLaws.{wrote_more}
+use Rattle.line_streams.proofs.write.write_whole.Goals as goal
 
 pub loop-done-preserved : goal.loop-done-preserved
 loop-done-preserved g c =

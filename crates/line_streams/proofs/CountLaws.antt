@@ -6,8 +6,7 @@ use Rattle.std.proofs.lemmas.List.Sums.{sum_by-append}
 use Rattle.std.proofs.lemmas.List.Elements.{All-nil, All-push}
 use Rattle.entry_codec.specs.Pieces.{pieces, unfinished, pieces_after}
 use Rattle.entry_codec.proofs.Pieces.{pieces_append, HasNoEnd, no_piece, one_piece}
-use Rattle.transfer_world.specs.Talk.{ends_none, still, Parted}
-use Rattle.transfer_world.specs.Session.{counts_for}
+use Rattle.line_streams.specs.Counting.{ends_none, still, Parted, counts_for}
 
 -- what came before ends no line
 length-pieces_after : (front xs : List ℕ) → length (pieces_after front xs) ≡ length (pieces xs)

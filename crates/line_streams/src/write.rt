@@ -1,7 +1,7 @@
 //! Writing a text whole.
 ghost use Rattle.std.specs.Prelude.{OnOk, length, ◌<◌, ◌≤◌};
 ghost use Rattle.std.specs.Io.KnownBytes.{Appends};
-ghost use Rattle.transfer_world.specs.Fronts.{AppendsFront};
+ghost use Rattle.line_streams.specs.Fronts.{AppendsFront};
 
 use std::io::Write;
 
@@ -10,7 +10,7 @@ use std::io::Write;
 pub struct WriteFault;
 
 /// Writes the text, in as many writes as it takes. Where that fails, a front of it is written.
-#[tactic(auto, using(crate::proofs::Writes::wrote_more))]
+#[tactic(auto, using(crate::proofs::WriteLaws::wrote_more))]
 pub fn write_whole<W: Write>(writer: &mut W, text: &[u8]) -> Result<(), WriteFault>
     ensures whole { OnOk result (Appends (W.contents writer.old) (W.contents writer.new) text.now) }
     ensures front { AppendsFront (W.contents writer.old) (W.contents writer.new) text.now }

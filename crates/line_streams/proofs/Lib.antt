@@ -1,0 +1,3 @@
+pub mod WriteLaws
+pub mod CutLaws
+pub mod CountLaws
