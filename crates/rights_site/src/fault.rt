@@ -3,10 +3,10 @@ ghost use Rattle.std.specs.Prelude.{◌≡◌};
 ghost use Rattle.rights_site.specs.Faults.{line_of, status_of};
 ghost use Rattle.rights_site.specs.declared.fault.Fault.TheVariants.{OutOfMemory, WriteFailed};
 
+use line_streams::WriteFault;
 use site_server::SiteFault;
 use site_words::WordsFault;
 use std::alloc::AllocError;
-use line_streams::WriteFault;
 use transfer_world::ScriptFault;
 
 /// Why the program ends with another status than 0.

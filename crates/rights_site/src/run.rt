@@ -11,6 +11,7 @@ ghost use Rattle.site_words.specs.Words.{MayRefuse};
 ghost use Rattle.rights_site.specs.declared.fault.Fault.{Fault};
 
 use crate::fault::Fault;
+use line_streams::write_whole;
 use site_server::run_site;
 use site_words::{Command, read_words};
 use std::io::{Read, Write};
@@ -18,8 +19,7 @@ use std::net::{Net, TcpListener, TcpStream};
 use std::sync::Wait;
 use std::thread::Threads;
 use std::time::Clock;
-use line_streams::write_whole;
-use transfer_world::run_script;
+use transfer_world::run_last_script;
 
 /// Says why the program stops, and answers the exit status. What cannot be said is left out.
 pub(crate) fn report<E: Write>(errors: &mut E, fault: Fault) -> u8
@@ -50,7 +50,7 @@ fn run_command<
     ensures refused { result ≡ Err Fault.BadCommandLine → (reader.new ≡ reader.old) × (writer.new ≡ writer.old) }
 {
     match read_words(rt.alloc(), words)? {
-        Command::Sim => run_script(rt.alloc(), reader, writer)?,
+        Command::Sim => run_last_script(rt.alloc(), reader, writer)?,
         Command::Run(config) => run_site(rt, config, reader, writer)?,
         Command::Help(text) => write_whole(writer, text.as_bytes())?,
     }

@@ -6,7 +6,7 @@ use Rattle.rights_types.specs.Entries.{EntryValue}
 use Rattle.rights_types.specs.Chains.{end}
 use Rattle.rights_types.specs.Places.{at_site}
 use Rattle.rights_types.specs.Messages.{AskValue, DenyValue, MessageValue}
-use Rattle.rights_types.specs.Messages.MessageValue.{AnEntry, ABeat, AnAsk, ADenial}
+use Rattle.rights_types.specs.Messages.MessageValue.{AnEntry, ABeat, ADenial}
 use Rattle.rights_types.specs.declared.moves.Move.{Move}
 use Rattle.rights_types.specs.declared.moves.Move.TheVariants.{Spend, Grant}
 use Rattle.entry_codec.specs.Spelling.{Spells}

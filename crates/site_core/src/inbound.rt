@@ -199,9 +199,7 @@ impl<A: Allocator + Copy> Inbound<A> {
         ensures ok { IfOk result (λ arrival. BringsEntries self.old (entry ∷ []) arrival self.new) }
         ensures err { OnErr result (self.new ≡ self.old) }
     {
-        let mut verdicts = Vec::with_capacity(self.alloc, MAX_VERDICTS)?;
-        // For the proof: at most 64 are held.
-        let _ = self.buffer.held_count();
+        let mut verdicts = Vec::with_capacity(self.alloc, self.buffer.held_count() + 1)?;
         self.buffer.arrive(entry, &mut verdicts);
         Ok(Arrival::Entries {
             verdicts: Verdicts { verdicts },

@@ -1,10 +1,10 @@
 //! Why a site that runs stops.
 ghost use Rattle.std.specs.Prelude.{◌≡◌};
 
+use line_streams::WriteFault;
 use rights_types::OutOfMemory as NoMemory;
 use std::alloc::{AllocError, AllocFailed};
 use thiserror::Error;
-use line_streams::WriteFault;
 
 /// Why a site that runs stops.
 #[derive(Clone, Copy, Debug, PartialEq, Eq, Error)]

@@ -16,5 +16,5 @@ pub use event::{Event, Moves};
 pub use fault::WorldError;
 pub use laws::every_run;
 pub use reply::{Reply, Verdict, Verdicts};
-pub use script::{ScriptFault, run_script};
+pub use script::{ScriptFault, run_last_script, run_script};
 pub use world::{Totals, World};

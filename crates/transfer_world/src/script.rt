@@ -10,4 +10,4 @@ mod word;
 mod words;
 
 pub use fault::ScriptFault;
-pub use session::run_script;
+pub use session::{run_last_script, run_script};

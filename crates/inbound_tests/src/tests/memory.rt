@@ -136,11 +136,11 @@ fn queries_with_each_growth_refused(rt: HostRuntime) {
     assert_eq!(rt; made, Some(3 + 2));
 }
 
-// How many bytes 94 verdicts take, and the moves of 16 entries of 16 moves.
-fn room_of_an_answer(heap: &LocalHeap) -> Result<usize, AllocError> {
+// How many bytes so many verdicts take, and so many moves.
+fn room_of(heap: &LocalHeap, verdicts: usize, moves: usize) -> Result<usize, AllocError> {
     let before = heap.used();
-    let verdicts: Vec<Verdict<&LocalHeap>, &LocalHeap> = Vec::with_capacity(heap, MAX_VERDICTS)?;
-    let moves: Vec<Move, &LocalHeap> = Vec::with_capacity(heap, MAX_ANSWER * MAX_MOVES)?;
+    let verdicts: Vec<Verdict<&LocalHeap>, &LocalHeap> = Vec::with_capacity(heap, verdicts)?;
+    let moves: Vec<Move, &LocalHeap> = Vec::with_capacity(heap, moves)?;
     let room = heap.used().saturating_sub(before);
     drop(moves);
     drop(verdicts);
@@ -177,8 +177,21 @@ fn answer_takes(heap: &LocalHeap, line: &[u8], room: usize) -> bool {
 fn bytes_of_the_longest_answer(rt: HostRuntime) {
     let line = answer_line(rt.alloc(), 16, 16, 0, LONG_GRANT).expect(&rt, "memory");
     let heap = LocalHeap::new(rt.alloc(), 40_000).expect(&rt, "memory");
-    let room = room_of_an_answer(&heap).expect(&rt, "memory");
+    let room = room_of(&heap, MAX_VERDICTS, MAX_ANSWER * MAX_MOVES).expect(&rt, "memory");
     assert!(rt; answer_takes(&heap, &line, room));
+}
+
+/// An entry takes room for its verdict, and for those on the entries that are held.
+#[test]
+fn bytes_of_an_entry(rt: HostRuntime) {
+    let heap = LocalHeap::new(rt.alloc(), 1 << 16).expect(&rt, "memory");
+    let mut inbound = at_site_2(&heap).expect(&rt, "memory");
+    let alone = room_of(&heap, 1, 1).ok();
+    let freeing = room_of(&heap, 2, 1).ok();
+    assert!(rt; bytes_of_verdicts(&heap, &mut inbound, b"E 1 0 1 S:2\n") == alone);
+    assert!(rt; comes(&mut inbound, b"E 1 2 3 S:2\n", HELD));
+    assert!(rt; bytes_of_verdicts(&heap, &mut inbound, b"E 1 1 2 S:2\n") == freeing);
+    assert!(rt; inbound.held_count() == 0);
 }
 
 /// Lines, what they come to, and how many entries are held then.

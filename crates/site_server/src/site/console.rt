@@ -7,6 +7,7 @@ use crate::site::peer::Peer;
 use apply_lanes::{DeskNames, Seat, SharedDesk};
 use entry_codec::LineCutter;
 use itoa::Buffer;
+use line_streams::{LINE_LIMIT, write_whole};
 use peer_links::{Piece, next_piece};
 use request_queue::{SLOTS, Status};
 use rights_types::OutOfMemory;
@@ -15,7 +16,6 @@ use site_words::status;
 use std::alloc::Global;
 use std::io::{Read, Write};
 use std::sync::{Arc, Wait};
-use line_streams::{LINE_LIMIT, write_whole};
 
 /// So many bytes are read at a time, and replies of so many bytes are written before the next line.
 const BLOCK: usize = 65536;

@@ -3,13 +3,13 @@
 use crate::site::peer::Peer;
 use crate::site::{CONNECT_SECONDS, Site};
 use entry_codec::write_line;
+use line_streams::write_whole;
 use peer_links::write_link;
 use rights_types::{Message, SiteId};
 use std::alloc::Global;
 use std::net::{Net, TcpStream, ToSocketAddrs};
 use std::sync::{Condvar, CondvarTimeouts, Mutex, Wait};
 use std::time::{Clock, Duration, Instant};
-use line_streams::write_whole;
 
 /// How many sending threads are at work.
 #[derive(Drop)]

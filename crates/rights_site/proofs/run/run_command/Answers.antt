@@ -15,15 +15,15 @@ returns-in_err-read_words-clause-answered g c same =
     (none_answered Global (g.R.Read.remaining c.args.reader.now) (g.W.Write.contents c.args.writer.now) (asked_by (texts c.args.words.now)) c.in_err-read_words.field-0.0 c.in_err-read_words.ensures same)
 
 -- src/run.rt:41:25
-pub returns-in_err-run_script-in-Sim-clause-answered :
-    goal.returns-in_err-run_script-in-Sim-clause-answered
-returns-in_err-run_script-in-Sim-clause-answered g c same =
-    let p = err_from_is_err_and c.from_residual-in_err-run_script-in-Sim.result c.from_residual-in_err-run_script-in-Sim.ensures.1 in
-    let ran = c.in_err-run_script-in-Sim.ensures.ends in
-    (Err c.in_err-run_script-in-Sim.field-0.0, p.1 ∙ ap Err p.2, ran.0, ran.1)
+pub returns-in_err-run_last_script-in-Sim-clause-answered :
+    goal.returns-in_err-run_last_script-in-Sim-clause-answered
+returns-in_err-run_last_script-in-Sim-clause-answered g c same =
+    let p = err_from_is_err_and c.from_residual-in_err-run_last_script-in-Sim.result c.from_residual-in_err-run_last_script-in-Sim.ensures.1 in
+    let ran = c.in_err-run_last_script-in-Sim.ensures.ends in
+    (Err c.in_err-run_last_script-in-Sim.field-0.0, p.1 ∙ ap Err p.2, ran.0, ran.1)
 
 -- src/run.rt:28:1
-pub returns-in_ok-run_script-in-Sim-clause-answered :
-    goal.returns-in_ok-run_script-in-Sim-clause-answered
-returns-in_ok-run_script-in-Sim-clause-answered g c same =
-    let ran = c.in_ok-run_script-in-Sim.ensures.ends in (Ok tt, refl, ran.0, ran.1)
+pub returns-in_ok-run_last_script-in-Sim-clause-answered :
+    goal.returns-in_ok-run_last_script-in-Sim-clause-answered
+returns-in_ok-run_last_script-in-Sim-clause-answered g c same =
+    let ran = c.in_ok-run_last_script-in-Sim.ensures.ends in (Ok tt, refl, ran.0, ran.1)
