@@ -8,15 +8,22 @@ mod sizes;
 mod writers;
 
 use std::alloc::Global;
-use transfer_world::run_script;
+use transfer_world::{run_last_script, run_script};
 
 /// More requests than any run here makes.
 const MANY: u64 = 1000;
 
-/// Whether the script runs to its end with these replies.
+/// Whether the script runs to its end with these replies, where its world is dropped and where it is left.
 fn is_replied(alloc: Global, script: &[u8], replies: &[u8]) -> bool {
     let mut reader = script;
     let mut out = Vec::new(alloc);
     let result = run_script(alloc, &mut reader, &mut out);
+    result.is_ok() && out.as_slice() == replies && is_replied_last(alloc, script, replies)
+}
+
+fn is_replied_last(alloc: Global, script: &[u8], replies: &[u8]) -> bool {
+    let mut reader = script;
+    let mut out = Vec::new(alloc);
+    let result = run_last_script(alloc, &mut reader, &mut out);
     result.is_ok() && out.as_slice() == replies
 }

@@ -3,7 +3,7 @@ use crate::tests::{MANY, is_replied};
 use memchr::memchr;
 use refusing_allocator::Refusing;
 use std::alloc::{AllocError, Global};
-use transfer_world::{ScriptFault, run_script};
+use transfer_world::{ScriptFault, run_last_script, run_script};
 
 /// Scripts that lead through all kinds of events: rights that travel, a gap and its answer, an ask that is granted, a
 /// denied one, an heir, and what is taken back.
@@ -87,25 +87,48 @@ fn replies_to(alloc: Global, script: &[u8]) -> Result<Vec<u8>, ScriptFault> {
     Ok(out)
 }
 
-/// Whether the script met a refusal among so many growths. `None` where the run went wrong.
+/// Whether a run met a refusal. `None` where it went wrong.
+fn met(
+    refusing: &Refusing<Global>,
+    outcome: Result<(), ScriptFault>,
+    text: &[u8],
+    replies: &[u8],
+) -> Option<bool> {
+    let is_met = refusing.refused();
+    let is_right = if is_met {
+        is_cut_short(outcome, text, replies)
+    } else {
+        outcome.is_ok() && text == replies
+    };
+    if is_right { Some(is_met) } else { None }
+}
+
+/// Whether the script met a refusal among so many growths.
 fn meets_refusal(alloc: Global, script: &[u8], replies: &[u8], granted: u64) -> Option<bool> {
     let refusing = Refusing::new(alloc, granted);
     let mut reader = script;
     let mut out = Vec::new(alloc);
     let result = run_script(&refusing, &mut reader, &mut out);
-    let is_met = refusing.refused();
-    let is_right = if is_met {
-        is_cut_short(result, &out, replies)
-    } else {
-        result.is_ok() && out.as_slice() == replies
-    };
-    if is_right { Some(is_met) } else { None }
+    met(&refusing, result, &out, replies)
+}
+
+/// The same of a script whose world is left.
+fn last_meets_refusal(alloc: Global, script: &[u8], replies: &[u8], granted: u64) -> Option<bool> {
+    let refusing = Refusing::new(alloc, granted);
+    let mut reader = script;
+    let mut out = Vec::new(alloc);
+    let result = run_last_script(&refusing, &mut reader, &mut out);
+    met(&refusing, result, &out, replies)
 }
 
 /// How many growths of the script were refused, one in each run. `None` where a run went wrong.
 fn refused_growths(alloc: Global, script: &[u8], replies: &[u8]) -> Option<u64> {
     for granted in 0..MANY {
-        if !meets_refusal(alloc, script, replies, granted)? {
+        let is_met = meets_refusal(alloc, script, replies, granted)?;
+        if last_meets_refusal(alloc, script, replies, granted)? != is_met {
+            return None;
+        }
+        if !is_met {
             return Some(granted);
         }
     }
