@@ -20,16 +20,17 @@ use crate::site::peer::{Peer, peers_of};
 use crate::site::receiving::{Link, links_of};
 use crate::site::sending::{Senders, send_to};
 use apply_lanes::{Blanks, DeskNames, SharedDesk};
-use rights_types::SiteId;
+use rights_types::{OutOfMemory, SiteId};
 use site_core::Desk;
 use site_words::Config;
+use std::alloc::Global;
 use std::io::{Read, Write};
 use std::marker::Brand;
 use std::net::{Net, TcpListener, TcpStream};
 use std::sync::atomic::{AtomicBool, Ordering};
 use std::sync::{Arc, Wait};
 use std::thread;
-use std::thread::Threads;
+use std::thread::{Scope, Threads};
 use std::time::{Clock, Duration};
 
 /// How many seconds an attempt to connect may take.
@@ -55,6 +56,17 @@ pub(crate) struct Site {
 }
 
 impl Site {
+    fn new(alloc: Global, config: &Config, listener: TcpListener) -> Result<Site, OutOfMemory> {
+        Ok(Site {
+            id: config.id(),
+            listener,
+            peers: peers_of(alloc, config)?,
+            door: Door::new(alloc)?,
+            senders: Senders::new(),
+            out_of_memory: AtomicBool::new(false),
+        })
+    }
+
     /// The peer of that number, if the system has it.
     fn peer(&self, site: SiteId) -> Option<&Peer> {
         self.peers.iter().find(|peer| peer.site == site)
@@ -154,14 +166,29 @@ fn serve<
     let desk = Arc::new(alloc, SharedDesk::<D>::new(desk, blanks))?;
     let links = links_of(rt, alloc, config, &desk)?;
     let console = Console::new(rt, alloc, desk)?;
-    let site = &Site {
-        id: config.id(),
-        listener,
-        peers: peers_of(alloc, config)?,
-        door: Door::new(alloc)?,
-        senders: Senders::new(),
-        out_of_memory: AtomicBool::new(false),
-    };
+    let site = Site::new(alloc, config, listener)?;
+    run_threads(rt, &site, links, console, reader, writer)
+}
+
+/// Answers the commands while the threads of the site run.
+fn run_threads<
+    D: DeskNames + Send + Sync,
+    R: Net<Listener = TcpListener, Stream = TcpStream>
+        + Threads
+        + Wait
+        + Clock
+        + AllocGlobal
+        + Sync,
+    I: Read + Drop,
+    W: Write + Drop,
+>(
+    rt: &R,
+    site: &Site,
+    links: Vec<Link<D>>,
+    console: Console<D>,
+    reader: I,
+    writer: W,
+) -> Result<(), SiteFault> {
     thread::scope(thread::scope_env(), rt, |scope| {
         let mut has_all = scope.spawn(move || keep_door(rt, site)).is_ok();
         for link in links {
@@ -173,13 +200,12 @@ fn serve<
             let Some(peer) = site.peer(origin) else {
                 continue;
             };
-            has_all &= scope.spawn(move || receiver.receive_all(rt, peer)).is_ok();
-            has_all &= scope.spawn(move || applier.apply_all(rt, site)).is_ok();
-            site.senders.begin(rt);
-            if scope.spawn(move || send_to(rt, site, peer)).is_err() {
-                site.senders.finish(rt);
-                has_all = false;
-            }
+            has_all &= begin_both(
+                scope,
+                move || receiver.receive_all(rt, peer),
+                move || applier.apply_all(rt, site),
+            );
+            has_all &= begin_sender(scope, rt, site, peer);
         }
         let ended = if has_all {
             console.answer_all(rt, site, reader, writer)
@@ -189,4 +215,35 @@ fn serve<
         site.shut_down(rt);
         ended
     })
+}
+
+/// Starts a thread for each. False where one could not be started.
+fn begin_both<'s, E, F: FnOnce() + Send + Drop + 's, G: FnOnce() + Send + Drop + 's>(
+    scope: &Scope<'s, E>,
+    first: F,
+    second: G,
+) -> bool
+    requires first { F.pre first }
+    requires second { G.pre second }
+{
+    scope.spawn(first).is_ok() && scope.spawn(second).is_ok()
+}
+
+/// Starts the thread that sends to this peer. False where it could not be started.
+fn begin_sender<
+    's,
+    E,
+    R: Net<Listener = TcpListener, Stream = TcpStream>
+        + Threads
+        + Wait
+        + Clock
+        + AllocGlobal
+        + Sync,
+>(scope: &Scope<'s, E>, rt: &'s R, site: &'s Site, peer: &'s Peer) -> bool {
+    site.senders.begin(rt);
+    let is_begun = scope.spawn(move || send_to(rt, site, peer)).is_ok();
+    if !is_begun {
+        site.senders.finish(rt);
+    }
+    is_begun
 }

@@ -56,22 +56,58 @@ impl<'a> Words<'a> {
     }
 }
 
+impl Words<'_> {
+    fn issue(&mut self) -> Option<Command> {
+        Some(Command::Issue(self.number()?))
+    }
+
+    fn give(&mut self) -> Option<Command> {
+        let peer = self.site()?;
+        Some(Command::Give(peer, self.number()?))
+    }
+
+    fn spend(&mut self) -> Option<Command> {
+        let amount = self.number()?;
+        Some(Command::Spend(amount, self.number()?))
+    }
+
+    fn outcome(&mut self) -> Option<Command> {
+        Some(Command::Outcome(self.number()?))
+    }
+
+    fn tick(&mut self) -> Option<Command> {
+        Some(Command::Tick(self.number()?))
+    }
+
+    fn close(&mut self) -> Option<Command> {
+        if self.is_at_end() {
+            return Some(Command::Close(None));
+        }
+        Some(Command::Close(Some(self.site()?)))
+    }
+
+    /// The command of this name, by the words behind it.
+    fn command(&mut self, name: &[u8]) -> Option<Command> {
+        match name {
+            b"issue" => self.issue(),
+            b"give" => self.give(),
+            b"spend" => self.spend(),
+            b"outcome" => self.outcome(),
+            b"tick" => self.tick(),
+            b"status" => Some(Command::Status),
+            b"close" => self.close(),
+            b"quit" => Some(Command::Quit),
+            _ => None,
+        }
+    }
+}
+
 /// The command that a line spells, given without its line feed. Words are parted by one space each, and
 /// numbers are decimals with no sign and no leading zero.
 pub(crate) fn read_command(line: &[u8]) -> Option<Command> {
     let mut words = Words { rest: Some(line) };
-    let command = match words.next()? {
-        b"issue" => Command::Issue(words.number()?),
-        b"give" => Command::Give(words.site()?, words.number()?),
-        b"spend" => Command::Spend(words.number()?, words.number()?),
-        b"outcome" => Command::Outcome(words.number()?),
-        b"tick" => Command::Tick(words.number()?),
-        b"status" => Command::Status,
-        b"close" if words.is_at_end() => Command::Close(None),
-        b"close" => Command::Close(Some(words.site()?)),
-        b"quit" => Command::Quit,
-        _ => return None,
-    };
+    let name = words.next()?;
+    let command = words.command(name)?;
     if words.is_at_end() {
         Some(command)
     } else {

@@ -248,6 +248,20 @@ impl<D: DeskNames> Console<D> {
         Ok(false)
     }
 
+    /// Answers a line as it was cut. True where it ends the program.
+    fn answer_piece<R: Wait>(
+        &mut self,
+        rt: &R,
+        site: &Site,
+        piece: Piece<Global>,
+    ) -> Result<bool, OutOfMemory> {
+        match piece {
+            Piece::Lent(line) => self.answer_line(rt, site, without_end(line)),
+            Piece::Kept(line) => self.answer_line(rt, site, without_end(line.as_slice())),
+            Piece::Long => self.answer_line(rt, site, None),
+        }
+    }
+
     fn write_replies<W: Write>(&mut self, writer: &mut W) -> Result<(), SiteFault> {
         write_whole(writer, self.replies.bytes.as_slice())?;
         self.replies.bytes.clear();
@@ -277,17 +291,10 @@ impl<D: DeskNames> Console<D> {
         for _ in 0..bytes.len() {
             let (piece, taken) = next_piece(&mut self.cutter, left)?;
             left = &left[taken..];
-            let is_last = match piece {
-                None => break,
-                Some(Piece::Lent(line)) => self.answer_line(rt, site, without_end(line))?,
-                Some(Piece::Kept(line)) => self.answer_line(
-                    rt,
-                    site,
-                    without_end(line.as_slice()),
-                )?,
-                Some(Piece::Long) => self.answer_line(rt, site, None)?,
+            let Some(piece) = piece else {
+                break;
             };
-            if is_last {
+            if self.answer_piece(rt, site, piece)? {
                 return Ok(true);
             }
             ended_line = true;
@@ -328,8 +335,25 @@ impl<D: DeskNames> Console<D> {
         Ok(true)
     }
 
+    /// Answers what the next read brings. True where the program is to end. What was answered before a
+    /// fault is still written.
+    fn answer_next<R: Wait, I: Read, W: Write>(
+        &mut self,
+        rt: &R,
+        site: &Site,
+        reader: &mut I,
+        writer: &mut W,
+        room: &mut [u8],
+    ) -> Result<bool, SiteFault> {
+        let read = self.read_on(rt, site, reader, writer, room);
+        if read != Err(SiteFault::WriteFailed) {
+            self.write_replies(writer)?;
+        }
+        read
+    }
+
     /// Answers commands till one of them, or the end of the input, ends the program. Before each read,
-    /// which may wait, all replies are written; what was answered before a fault is still written too.
+    /// which may wait, all replies are written.
     pub(crate) fn answer_all<R: Wait, I: Read + Drop, W: Write + Drop>(
         mut self,
         rt: &R,
@@ -338,16 +362,13 @@ impl<D: DeskNames> Console<D> {
         mut writer: W,
     ) -> Result<(), SiteFault> {
         let mut room = vec![in self.alloc; 0; BLOCK]?;
+        let room = room.as_mut_slice();
         for _ in rt.forever() {
-            let read = self.read_on(rt, site, &mut reader, &mut writer, room.as_mut_slice());
-            if read != Err(SiteFault::WriteFailed) {
-                self.write_replies(&mut writer)?;
-            }
-            if read? {
-                return Ok(());
+            if self.answer_next(rt, site, &mut reader, &mut writer, room)? {
+                break;
             }
         }
-        unreachable!()
+        Ok(())
     }
 }
 

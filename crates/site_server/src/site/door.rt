@@ -2,10 +2,9 @@
 
 use crate::site::Site;
 use crate::site::mailbox::Connection;
-use crate::site::peer::Peer;
 use entry_codec::LineCutter;
 use peer_links::read_hello;
-use rights_types::OutOfMemory;
+use rights_types::{OutOfMemory, SiteId};
 use std::alloc::Global;
 use std::io::{ErrorKind, Read};
 use std::net::{Shutdown, TcpStream};
@@ -110,12 +109,11 @@ impl<R: Clock> Read for Patient<'_, R> {
     }
 }
 
-/// The peer that a connection says to be of, and the connection behind its first line.
-fn introduced<'a, R: Wait + Clock + AllocGlobal>(
+/// The site that a connection says to be of, and the connection behind its first line.
+fn introduced<R: Wait + Clock + AllocGlobal>(
     rt: &R,
-    site: &'a Site,
     stream: TcpStream,
-) -> Option<(&'a Peer, Connection)> {
+) -> Option<(SiteId, Connection)> {
     let mut cutter = LineCutter::new(rt.alloc()).ok()?;
     let mut reader = Patient {
         rt,
@@ -124,16 +122,18 @@ fn introduced<'a, R: Wait + Clock + AllocGlobal>(
     };
     let from = read_hello(&mut reader, &mut cutter).ok()?;
     stream.set_read_timeout(None).ok()?;
-    let peer = site.peer(from)?;
-    Some((peer, Connection { stream, cutter }))
+    Some((from, Connection { stream, cutter }))
 }
 
 /// Reads the first line of a connection, which waits at this place, and hands the connection to the
 /// thread that reads this peer. Any other first line, or none in time, closes it.
 fn greet<R: Wait + Clock + AllocGlobal>(rt: &R, site: &Site, stream: TcpStream, place: usize) {
-    let connection = introduced(rt, site, stream);
+    let introduced = introduced(rt, stream);
     site.door.leave(rt, place);
-    if let Some((peer, connection)) = connection {
+    let Some((from, connection)) = introduced else {
+        return;
+    };
+    if let Some(peer) = site.peer(from) {
         peer.mailbox.put(rt, connection);
     }
 }

@@ -1,11 +1,13 @@
 //! Taking in what the peers have to say.
-ghost use Rattle.std.specs.Prelude.{◌≡◌, false};
+ghost use Rattle.std.specs.Prelude.{◌≡◌, false, []};
 ghost use Rattle.entry_codec.specs.Pieces.{IsLine};
 
 use crate::site::Site;
 use crate::site::mailbox::Connection;
 use crate::site::peer::Peer;
-use apply_lanes::{Applier, DeskNames, Free, Intake, MAX_LANE, SharedDesk, StepError, lane};
+use apply_lanes::{
+    Applier, DeskNames, Free, Intake, MAX_LANE, Outlet, SharedDesk, StepError, lane,
+};
 use origin_log::ReadError;
 use peer_links::{Port, read_link};
 use rights_types::{Ask, Deny, Message, OutOfMemory, Query, SiteId};
@@ -48,33 +50,56 @@ pub(crate) fn links_of<D: DeskNames, R: Wait>(
 ) -> Result<Vec<Link<D>>, OutOfMemory> {
     let mut links = Vec::new(alloc);
     for peer in config.peers() {
-        let origin = peer.site();
-        if origin == config.id() || origin.number() > config.sites() {
-            // No peer of a configuration.
-            continue;
+        if let Some(link) = link_of(rt, alloc, config, desk, peer.site())? {
+            links.push(link)?;
         }
-        let inbound = Inbound::new(alloc, config.id(), origin, config.sites())?;
-        let (inlet, outlet) = lane(alloc, MAX_LANE)?;
-        let Ok(applier) = desk.applier(rt, origin, outlet, Free) else {
-            // Each peer is another site, and gets its one applier, so it does not come to this.
-            return Err(OutOfMemory);
-        };
-        links.push(Link {
-            origin,
-            receiver: Receiver {
-                desk: desk.clone()?,
-                intake: Intake::new(inbound, inlet),
-            },
-            applier: LaneEnd {
-                desk: desk.clone()?,
-                applier,
-            },
-        })?;
     }
     Ok(links)
 }
 
+/// The link from this site. None where it is no peer of the configuration.
+fn link_of<D: DeskNames, R: Wait>(
+    rt: &R,
+    alloc: Global,
+    config: &Config,
+    desk: &Arc<SharedDesk<D>>,
+    origin: SiteId,
+) -> Result<Option<Link<D>>, OutOfMemory> {
+    if origin == config.id() || origin.number() > config.sites() {
+        return Ok(None);
+    }
+    let (inlet, outlet) = lane(alloc, MAX_LANE)?;
+    let inbound = Inbound::new(alloc, config.id(), origin, config.sites())?;
+    let receiver = Receiver {
+        desk: desk.clone()?,
+        intake: Intake::new(inbound, inlet),
+    };
+    Ok(Some(Link {
+        origin,
+        receiver,
+        applier: LaneEnd::new(rt, desk, origin, outlet)?,
+    }))
+}
+
 impl<D: DeskNames> LaneEnd<D> {
+    fn new<R: Wait>(
+        rt: &R,
+        desk: &Arc<SharedDesk<D>>,
+        origin: SiteId,
+        outlet: Outlet,
+    ) -> Result<LaneEnd<D>, OutOfMemory>
+        requires { outlet.taken ≡ [] }
+    {
+        let Ok(applier) = desk.applier(rt, origin, outlet, Free) else {
+            // Each peer is another site, and gets its one applier, so it does not come to this.
+            return Err(OutOfMemory);
+        };
+        Ok(LaneEnd {
+            desk: desk.clone()?,
+            applier,
+        })
+    }
+
     /// Applies what comes, to its end. Any refusal ends the link: its lines are then skipped.
     pub(crate) fn apply_all<R: Wait + Clock>(mut self, rt: &R, site: &Site) {
         if let Err(StepError::OutOfMemory) = self.applier.run(rt, &self.desk) {
