@@ -106,7 +106,7 @@ room_apart n (Some old) (Some new) items capacity v e lists same room =
     omega (arith, room, ap (λ es. length es) listed, longer_apart v e (items old), some_is _ _ same)
 
 -- an entry came: there is room for one less
-pub keeps_room : {A : Type 0} (n : ℕ) (old new : Incoming A) (list later : Vec Verdict A) (e : EntryValue) (v : BufferVerdict A) (freed : List EntryValue)
+pub keeps_room : {A K : Type 0} (n : ℕ) (old new : Incoming A K) (list later : Vec Verdict A) (e : EntryValue) (v : BufferVerdict A) (freed : List EntryValue)
     → HasRoom (n + 1) old list → IncomingTakes old list.items e v freed new later.items
     → vec_capacity new.put ≡ vec_capacity old.put → option_map (λ l. vec_capacity l) new.apart ≡ option_map (λ l. vec_capacity l) old.apart
     → vec_capacity new.verdicts ≡ vec_capacity old.verdicts → vec_capacity later ≡ vec_capacity list → HasRoom n new later

@@ -1,3 +1,4 @@
+pub mod Walks
 pub mod Native
 pub mod DeskKeeps
 pub mod DeskSteps

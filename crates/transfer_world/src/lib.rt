@@ -3,6 +3,8 @@
 
 mod event;
 mod fault;
+mod history;
+mod keeping;
 mod laws;
 mod link;
 mod links;
@@ -14,6 +16,7 @@ mod world;
 
 pub use event::{Event, Moves};
 pub use fault::WorldError;
+pub use keeping::{ForReaders, ForReplies, Keeping};
 pub use laws::every_run;
 pub use reply::{Reply, Verdict, Verdicts};
 pub use script::{ScriptFault, run_last_script, run_script};

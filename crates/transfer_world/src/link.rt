@@ -19,38 +19,41 @@ ghost use Rattle.transfer_world.specs.LinkEvents.{LinkTakesAll, heard, with_appl
 
 mod incoming;
 
+use crate::history::History;
+use crate::keeping::{ForReaders, Keeping};
 use crate::reply::Verdicts;
 use incoming::{Incoming, none_ahead};
 use rights_types::{Entry, Message, OutOfMemory, SiteId};
 use site_core::{Inbound, InboundError};
 use std::alloc::Allocator;
-use std::marker::Model;
+use std::marker::{Model, PhantomData};
 
-/// What comes in of an origin's log at a site, and how many of the entries that were put in order were applied.
+/// What comes in of an origin's log at a site, and how many of the entries were applied that were put in order and not
+/// let go.
 #[derive(Drop)]
-pub(crate) struct Link<A: Allocator> {
-    incoming: Incoming<A>,
+pub(crate) struct Link<A: Allocator, K: Keeping> {
+    incoming: Incoming<A, K>,
     applied: usize,
 }
 
-impl<A: Allocator> Model for Link<A> {
+impl<A: Allocator, K: Keeping> Model for Link<A, K> {
     ghost use Rattle.transfer_world.specs.Values.{LinkValue};
     ghost use Rattle.transfer_world.specs.IncomingLists.{link_of, IsIncoming};
 
     ghost Value = { LinkValue };
 
-    ghost view = { λ l. link_of l.incoming l.applied };
+    ghost view = { λ l. link_of K.keeps l.incoming l.applied };
 
     ghost invariant = { λ l. IsIncoming l.incoming l.applied };
 }
 
-impl<A: Allocator + Copy> Link<A> {
+impl<A: Allocator + Copy, K: Keeping> Link<A, K> {
     pub(crate) fn new(
         alloc: A,
         me: SiteId,
         origin: SiteId,
         sites: u64,
-    ) -> Result<Link<A>, OutOfMemory>
+    ) -> Result<Link<A, K>, OutOfMemory>
         requires sites { (MIN_SITES ≤ sites) × (sites ≤ MAX_SITES) }
         requires me { me ≤ sites }
         requires origin { origin ≤ sites }
@@ -59,8 +62,11 @@ impl<A: Allocator + Copy> Link<A> {
     {
         Ok(Link {
             incoming: Incoming {
+                of: PhantomData,
                 inbound: Inbound::new(alloc, me, origin, sites)?,
+                gone: History::new(),
                 put: Vec::new(alloc),
+                seen: History::new(),
                 apart: None,
                 verdicts: Vec::new(alloc),
                 spare: Vec::new(alloc),
@@ -141,9 +147,24 @@ impl<A: Allocator + Copy> Link<A> {
         requires { IsSome (slice_get self.old.put (length self.old.applied)) }
         ensures { (e : EntryValue) → slice_get self.old.put (length self.old.applied) ≡ Some e → self.new ≡ with_applied self.old e }
     {
-        self.applied += 1;
+        let applied = self.applied + 1;
+        if K::keeps() || applied < self.incoming.put.len() {
+            self.applied = applied;
+        } else {
+            self.incoming.let_go();
+            self.applied = 0;
+        }
     }
 
+    /// The own number of the last entry that was put.
+    pub(crate) fn last(&self) -> u64
+        ensures { result ≡ self.now.inbound.buffer.last }
+    {
+        self.incoming.inbound.last()
+    }
+}
+
+impl<A: Allocator> Link<A, ForReaders> {
     /// The entries that reached the site, each once, as they first came.
     pub(crate) fn reached(&self) -> &[Entry<A>]
         ensures { result.now ≡ self.now.reached }
@@ -166,12 +187,5 @@ impl<A: Allocator + Copy> Link<A> {
         ensures { result.now ≡ self.now.applied }
     {
         &self.incoming.put[..self.applied]
-    }
-
-    /// The own number of the last entry that was put.
-    pub(crate) fn last(&self) -> u64
-        ensures { result ≡ self.now.inbound.buffer.last }
-    {
-        self.incoming.inbound.last()
     }
 }

@@ -18,6 +18,7 @@ ghost use Rattle.transfer_world.specs.Values.{LinkValue};
 ghost use Rattle.transfer_world.specs.Worlds.{new_row, list_of};
 ghost use Rattle.transfer_world.specs.LinkEvents.{LinkTakesAll, heard, with_applied};
 
+use crate::keeping::Keeping;
 use crate::link::Link;
 use crate::reply::Verdicts;
 use rights_types::{Entry, Message, OutOfMemory, SiteId};
@@ -27,11 +28,11 @@ use std::marker::Model;
 
 /// The links of a site, by the origins' numbers; it has none to itself.
 #[derive(Drop)]
-pub(crate) struct Links<A: Allocator> {
-    links: Vec<Option<Link<A>>, A>,
+pub(crate) struct Links<A: Allocator, K: Keeping> {
+    links: Vec<Option<Link<A, K>>, A>,
 }
 
-impl<A: Allocator> Model for Links<A> {
+impl<A: Allocator, K: Keeping> Model for Links<A, K> {
     ghost use Rattle.std.specs.Prelude.{List, Option};
     ghost use Rattle.transfer_world.specs.Values.{LinkValue};
 
@@ -40,9 +41,9 @@ impl<A: Allocator> Model for Links<A> {
     ghost view = { λ l. l.links.items };
 }
 
-impl<A: Allocator + Copy> Links<A> {
+impl<A: Allocator + Copy, K: Keeping> Links<A, K> {
     /// The links of site `me` among so many sites, before anything came.
-    pub(crate) fn new(alloc: A, me: SiteId, sites: u64) -> Result<Links<A>, OutOfMemory>
+    pub(crate) fn new(alloc: A, me: SiteId, sites: u64) -> Result<Links<A, K>, OutOfMemory>
         requires sites { (MIN_SITES ≤ sites) × (sites ≤ MAX_SITES) }
         requires me { me ≤ sites }
         ensures { IfOk result (λ links. links ≡ new_row sites me) }
@@ -61,7 +62,7 @@ impl<A: Allocator + Copy> Links<A> {
     }
 
     /// The link to the origin, where there is one.
-    pub(crate) fn get(&self, origin: SiteId) -> Option<&Link<A>>
+    pub(crate) fn get(&self, origin: SiteId) -> Option<&Link<A, K>>
         ensures { option_copied result ≡ at_site self.now origin None }
     {
         self.links.get(origin.index())?.as_ref()

@@ -15,6 +15,7 @@ mod on_links;
 
 use crate::event::Event;
 use crate::fault::WorldError;
+use crate::keeping::Keeping;
 use crate::links::Links;
 use crate::packet::Packet;
 use crate::reply::Reply;
@@ -25,14 +26,14 @@ use std::marker::Model;
 
 /// All sites, and all packets ever sent. Once it is ended, nothing happens any more.
 #[derive(Drop)]
-pub(crate) struct System<A: Allocator> {
+pub(crate) struct System<A: Allocator, K: Keeping> {
     pub(crate) desks: Vec<Desk<A>, A>,
-    pub(crate) links: Vec<Links<A>, A>,
+    pub(crate) links: Vec<Links<A, K>, A>,
     pub(crate) packets: Vec<Packet<A>, A>,
     pub(crate) ended: bool,
 }
 
-impl<A: Allocator> Model for System<A> {
+impl<A: Allocator, K: Keeping> Model for System<A, K> {
     ghost use Rattle.transfer_world.specs.Values.{WorldValue};
 
     ghost Value = { WorldValue };
@@ -40,9 +41,9 @@ impl<A: Allocator> Model for System<A> {
     ghost view = { λ w. record { desks = w.desks.items; links = w.links.items; packets = w.packets.items; ended = w.ended } };
 }
 
-impl<A: Allocator + Copy> System<A> {
+impl<A: Allocator + Copy, K: Keeping> System<A, K> {
     /// So many sites, 2 to 16, at the start.
-    pub(crate) fn new(alloc: A, sites: u64) -> Result<System<A>, OutOfMemory>
+    pub(crate) fn new(alloc: A, sites: u64) -> Result<System<A, K>, OutOfMemory>
         requires { (MIN_SITES ≤ sites) × (sites ≤ MAX_SITES) }
         ensures { IfOk result (λ system. system ≡ start sites) }
     {
@@ -115,7 +116,7 @@ impl<A: Allocator + Copy> System<A> {
     }
 }
 
-impl<A: Allocator> System<A> {
+impl<A: Allocator, K: Keeping> System<A, K> {
     // Why the event is refused by its place.
     #[tactic(auto, unfolding(crate::specs::Faults::fault_of))]
     fn fault_of(&self, event: &Event<A>) -> Option<WorldError>

@@ -9,6 +9,7 @@ mod readers;
 
 use crate::event::Event;
 use crate::fault::WorldError;
+use crate::keeping::{ForReaders, ForReplies, Keeping};
 use crate::reply::Reply;
 use crate::system::System;
 pub use readers::Totals;
@@ -18,11 +19,11 @@ use std::marker::Model;
 
 /// All sites, and all packets ever sent. After want of memory it is ended.
 #[derive(Drop)]
-pub struct World<A: Allocator = Global> {
-    system: System<A>,
+pub struct World<A: Allocator = Global, K: Keeping = ForReaders> {
+    system: System<A, K>,
 }
 
-impl<A: Allocator> Model for World<A> {
+impl<A: Allocator, K: Keeping> Model for World<A, K> {
     ghost use Rattle.transfer_world.specs.Values.{WorldValue};
     ghost use Rattle.transfer_world.specs.Sound.{IsWorld};
 
@@ -33,9 +34,28 @@ impl<A: Allocator> Model for World<A> {
     ghost invariant = { λ w. IsWorld w.system };
 }
 
-impl<A: Allocator + Copy> World<A> {
+impl<A: Allocator + Copy> World<A, ForReaders> {
     /// A world of so many sites, 2 to 16, at the start.
-    pub fn new(alloc: A, sites: u64) -> Result<World<A>, OutOfMemory>
+    pub fn new(alloc: A, sites: u64) -> Result<World<A, ForReaders>, OutOfMemory>
+        requires { (MIN_SITES ≤ sites) × (sites ≤ MAX_SITES) }
+        ensures { IfOk result (λ world. world ≡ start sites) }
+    {
+        World::start(alloc, sites)
+    }
+}
+
+impl<A: Allocator + Copy> World<A, ForReplies> {
+    /// The same for a script, which asks for no entries: those that were applied take no more memory.
+    pub(crate) fn for_replies(alloc: A, sites: u64) -> Result<World<A, ForReplies>, OutOfMemory>
+        requires { (MIN_SITES ≤ sites) × (sites ≤ MAX_SITES) }
+        ensures { IfOk result (λ world. world ≡ start sites) }
+    {
+        World::start(alloc, sites)
+    }
+}
+
+impl<A: Allocator + Copy, K: Keeping> World<A, K> {
+    fn start(alloc: A, sites: u64) -> Result<World<A, K>, OutOfMemory>
         requires { (MIN_SITES ≤ sites) × (sites ≤ MAX_SITES) }
         ensures { IfOk result (λ world. world ≡ start sites) }
     {
@@ -93,7 +113,7 @@ impl<A: Allocator + Copy> World<A> {
     }
 }
 
-impl<A: Allocator> World<A> {
+impl<A: Allocator, K: Keeping> World<A, K> {
     /// The headline holds of every world.
     pub fn headline(&self)
         ensures { Headline self.now }

@@ -9,19 +9,28 @@ ghost use Rattle.site_core.specs.Inbounds.{ready_in};
 ghost use Rattle.transfer_world.specs.LinkEvents.{told as as_told};
 ghost use Rattle.transfer_world.specs.IncomingLists.{reached_in, NoneAhead, HasRoom, SameLists, IncomingTakes};
 
+use crate::history::History;
+use crate::keeping::Keeping;
 use crate::reply::{Verdict, Verdicts};
 use rights_types::{Entry, OutOfMemory};
 use site_core::Inbound;
 use std::alloc::Allocator;
+use std::marker::PhantomData;
 use std::mem;
 use sub_buffer::Verdict as BufferVerdict;
 
-/// Entries lie in `put` once they are in order. What reached the site is listed apart only once something came that
-/// was not next: until then it is what was put. It has no Model, so that the room in its lists can be spoken of.
+/// Entries lie in `put` once they are in order. Where entries are kept for readers, all that were put stay there, and
+/// what reached the site is listed apart only once something came that was not next: until then it is what was put.
+/// Where they are kept for replies alone, those that were applied go, and nothing is listed apart: what was put before
+/// and what reached the site are then told to proofs alone. It has no Model, so that the room in its lists can be
+/// spoken of.
 #[derive(Drop)]
-pub(super) struct Incoming<A: Allocator> {
+pub(super) struct Incoming<A: Allocator, K: Keeping> {
+    pub(super) of: PhantomData<K>,
     pub(super) inbound: Inbound<A>,
+    pub(super) gone: History<Entry<A>>,
     pub(super) put: Vec<Entry<A>, A>,
+    pub(super) seen: History<Entry<A>>,
     pub(super) apart: Option<Vec<Entry<A>, A>>,
     // Empty between arrivals: it is kept for its room.
     pub(super) verdicts: Vec<BufferVerdict<A>, A>,
@@ -29,7 +38,7 @@ pub(super) struct Incoming<A: Allocator> {
     pub(super) spare: Vec<Verdict, A>,
 }
 
-impl<A: Allocator + Copy> Incoming<A> {
+impl<A: Allocator + Copy, K: Keeping> Incoming<A, K> {
     /// Makes room for so many entries that are to come, and a list in which their verdicts can be told: on each, and
     /// again where it was held and is freed. Unless all come in order, what reached the site is listed apart.
     pub(super) fn make_room(
@@ -41,9 +50,9 @@ impl<A: Allocator + Copy> Incoming<A> {
         requires held { length self.old.inbound.buffer.held ≤ MAX_HELD }
         ensures same { SameLists self.old self.new }
         ensures ok { IfOk result (λ told. (told.items ≡ []) × HasRoom entries self.new told) }
-        ensures apart { OnOk result (self.new.apart ≡ None → in_order ≡ true) }
+        ensures apart { OnOk result (K.keeps ≡ true → self.new.apart ≡ None → in_order ≡ true) }
     {
-        if !in_order {
+        if K::keeps() && !in_order {
             self.list_apart()?;
         }
         if let Some(reached) = &mut self.apart {
@@ -75,7 +84,7 @@ impl<A: Allocator + Copy> Incoming<A> {
     // Lists what reached the site apart.
     fn list_apart(&mut self) -> Result<(), OutOfMemory>
         ensures rest { self.new ≡ record self.old { apart = self.new.apart } }
-        ensures reached { reached_in self.new ≡ reached_in self.old }
+        ensures reached { reached_in true self.new ≡ reached_in true self.old }
         ensures ok { OnOk result (IsSome self.new.apart) }
     {
         if self.apart.is_none() {
@@ -119,9 +128,22 @@ impl<A: Allocator + Copy> Incoming<A> {
         ensures takes { (v : AVerdict A) × (freed : List EntryValue) × IncomingTakes self.old told.old.items entry v freed self.new told.new.items }
         ensures room { (n : ℕ) → HasRoom (n + 1) self.old told.old → HasRoom n self.new told.new }
     {
+        let seen = self.seen.and(&entry);
         self.inbound.arrive(entry, &mut self.verdicts);
+        self.see(seen);
         self.list(copy);
         self.settle(told);
+    }
+
+    // What was seen with the entry that came, where it reaches the site by the first verdict.
+    fn see(&mut self, seen: History<Entry<A>>)
+        ensures seen { (v : AVerdict A) (rest : List (AVerdict A)) (e : EntryValue) → self.old.verdicts.items ≡ v ∷ rest → seen.items ≡ self.old.seen.items ++ e ∷ []
+            → self.new.seen.items ≡ reached_after self.old.seen.items e v }
+        ensures rest { self.new ≡ record self.old { seen = self.new.seen } }
+    {
+        if reaches(&self.verdicts) {
+            self.seen = seen;
+        }
     }
 
     // Lists the copy of an entry apart, where it reaches the site by the first verdict.
@@ -178,6 +200,17 @@ impl<A: Allocator + Copy> Incoming<A> {
             BufferVerdict::AfterClose => Verdict::AfterClose,
             BufferVerdict::Full => Verdict::Full,
         }
+    }
+
+    /// Lets the entries that were put go, once all of them were applied.
+    pub(super) fn let_go(&mut self)
+        ensures gone { self.new.gone.items ≡ self.old.gone.items ++ self.old.put.items }
+        ensures put { self.new.put.items ≡ [] }
+        ensures rest { self.new ≡ record self.old { gone = self.new.gone; put = self.new.put } }
+    {
+        let gone = mem::replace(&mut self.gone, History::new());
+        self.gone = gone.and_all(&self.put);
+        self.put.clear();
     }
 }
 

@@ -6,6 +6,7 @@ ghost use Rattle.transfer_world.specs.Script.{CommandGets, LineGets};
 
 use crate::event::Event;
 use crate::fault::WorldError;
+use crate::keeping::ForReplies;
 use crate::reply::{Reply, Verdict};
 use crate::script::commands::{Command, read_command};
 use crate::script::output::{BLOCK, Replies};
@@ -98,7 +99,7 @@ fn put_status<A: Allocator>(replies: &mut Replies<A>, status: Status) -> Result<
 
 fn put_reply<A: Allocator + Copy>(
     replies: &mut Replies<A>,
-    world: &World<A>,
+    world: &World<A, ForReplies>,
     reply: Reply<A>,
 ) -> Result<(), OutOfMemory>
     ensures ok { OnOk result (replies.new.part ≡ replies.old.part ++ reply_text world.now reply) }
@@ -139,7 +140,7 @@ fn put_reply<A: Allocator + Copy>(
 /// A packet's number, and its line without the line feed.
 fn put_packet<A: Allocator + Copy>(
     replies: &mut Replies<A>,
-    world: &World<A>,
+    world: &World<A, ForReplies>,
     number: u64,
 ) -> Result<(), OutOfMemory>
     ensures ok { OnOk result (replies.new.part ≡ replies.old.part ++ packet_reply world.now number) }
@@ -162,7 +163,7 @@ fn put_line<A: Allocator>(replies: &mut Replies<A>, line: Option<&[u8]>) -> Resu
 
 fn put_outcome<A: Allocator + Copy>(
     replies: &mut Replies<A>,
-    world: &World<A>,
+    world: &World<A, ForReplies>,
     outcome: Result<Reply<A>, WorldError>,
 ) -> Result<(), OutOfMemory>
     ensures ok { OnOk result (replies.new.part ≡ replies.old.part ++ outcome_text world.now outcome) }
@@ -180,7 +181,7 @@ fn put_outcome<A: Allocator + Copy>(
 /// Answers a command where there is no world yet, but for the end of its reply.
 fn answer_first<A: Allocator + Copy>(
     alloc: A,
-    world: &mut Option<World<A>>,
+    world: &mut Option<World<A, ForReplies>>,
     replies: &mut Replies<A>,
     command: Command<A>,
 ) -> Result<(), OutOfMemory>
@@ -192,13 +193,13 @@ fn answer_first<A: Allocator + Copy>(
     let Command::Sites(count) = command else {
         return replies.put(b"error NoWorld");
     };
-    *world = Some(World::new(alloc, count.number())?);
+    *world = Some(World::for_replies(alloc, count.number())?);
     replies.put(b"ok")
 }
 
 /// Answers a command in a world, but for the end of its reply.
 fn answer_in<A: Allocator + Copy>(
-    world: &mut World<A>,
+    world: &mut World<A, ForReplies>,
     replies: &mut Replies<A>,
     command: Command<A>,
 ) -> Result<(), OutOfMemory>
@@ -219,7 +220,7 @@ fn answer_in<A: Allocator + Copy>(
 /// Answers a command, but for the end of its reply.
 fn answer<A: Allocator + Copy>(
     alloc: A,
-    world: &mut Option<World<A>>,
+    world: &mut Option<World<A, ForReplies>>,
     replies: &mut Replies<A>,
     command: Option<Command<A>>,
 ) -> Result<(), OutOfMemory>
@@ -239,7 +240,7 @@ fn answer<A: Allocator + Copy>(
 /// Answers a line, given without its line feed.
 pub(crate) fn answer_line<A: Allocator + Copy>(
     alloc: A,
-    world: &mut Option<World<A>>,
+    world: &mut Option<World<A, ForReplies>>,
     replies: &mut Replies<A>,
     text: &[u8],
 ) -> Result<(), OutOfMemory>

@@ -3,6 +3,7 @@ ghost use Rattle.std.specs.Prelude.{◌≡◌, ◌++◌, ◌≤◌, Bool, OnOk, 
 ghost use Rattle.transfer_world.specs.Worlds.{count};
 ghost use Rattle.transfer_world.specs.Replies.{bit, site_line, pair_line, other_line, pair_lines, total_text, report_text};
 
+use crate::keeping::ForReplies;
 use crate::script::output::Replies;
 use crate::world::World;
 use rights_types::{OutOfMemory, SiteId};
@@ -18,7 +19,7 @@ fn put_bit<A: Allocator>(replies: &mut Replies<A>, is_set: bool) -> Result<(), O
 #[tactic(auto, unfolding(crate::specs::Replies::site_line))]
 fn put_site<A: Allocator + Copy>(
     replies: &mut Replies<A>,
-    world: &World<A>,
+    world: &World<A, ForReplies>,
     site: SiteId,
 ) -> Result<(), OutOfMemory>
     ensures ok { OnOk result (replies.new.part ≡ replies.old.part ++ site_line world.now site) }
@@ -37,7 +38,7 @@ fn put_site<A: Allocator + Copy>(
 #[tactic(auto, unfolding(crate::specs::Replies::pair_line))]
 fn put_pair<A: Allocator + Copy>(
     replies: &mut Replies<A>,
-    world: &World<A>,
+    world: &World<A, ForReplies>,
     site: SiteId,
     origin: SiteId,
 ) -> Result<(), OutOfMemory>
@@ -55,7 +56,7 @@ fn put_pair<A: Allocator + Copy>(
 /// The line of a pair, and none for a site and itself.
 fn put_other<A: Allocator + Copy>(
     replies: &mut Replies<A>,
-    world: &World<A>,
+    world: &World<A, ForReplies>,
     site: SiteId,
     origin: SiteId,
 ) -> Result<(), OutOfMemory>
@@ -71,7 +72,7 @@ fn put_other<A: Allocator + Copy>(
 #[tactic(auto, unfolding(crate::specs::Replies::pair_lines))]
 fn put_pairs<A: Allocator + Copy>(
     replies: &mut Replies<A>,
-    world: &World<A>,
+    world: &World<A, ForReplies>,
     site: SiteId,
 ) -> Result<(), OutOfMemory>
     ensures ok { OnOk result (replies.new.part ≡ replies.old.part ++ pair_lines world.now site) }
@@ -86,7 +87,7 @@ fn put_pairs<A: Allocator + Copy>(
 #[tactic(auto, unfolding(crate::specs::Replies::total_text))]
 fn put_total<A: Allocator + Copy>(
     replies: &mut Replies<A>,
-    world: &World<A>,
+    world: &World<A, ForReplies>,
 ) -> Result<(), OutOfMemory>
     ensures ok { OnOk result (replies.new.part ≡ replies.old.part ++ total_text world.now) }
     ensures kept { replies.new.whole ≡ replies.old.whole }
@@ -101,7 +102,7 @@ fn put_total<A: Allocator + Copy>(
 /// The report, but for its last line feed.
 pub(crate) fn put_report<A: Allocator + Copy>(
     replies: &mut Replies<A>,
-    world: &World<A>,
+    world: &World<A, ForReplies>,
 ) -> Result<(), OutOfMemory>
     ensures ok { OnOk result (replies.new.part ≡ replies.old.part ++ report_text world.now) }
     ensures kept { replies.new.whole ≡ replies.old.whole }

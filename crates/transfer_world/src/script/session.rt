@@ -7,6 +7,7 @@ ghost use Rattle.line_streams.specs.Counting.{Parted, counts_for};
 ghost use Rattle.transfer_world.specs.Talk.{Talk, EndsBy};
 ghost use Rattle.transfer_world.specs.Session.{IsNew, LineEnds, Going, Fed, Ran};
 
+use crate::keeping::ForReplies;
 use crate::script::answers::answer_line;
 use crate::script::fault::ScriptFault;
 use crate::script::output::{BLOCK, Replies};
@@ -25,7 +26,7 @@ const READ_SIZE: usize = 65536;
 #[derive(Drop)]
 struct Session<A: Allocator> {
     alloc: A,
-    world: Option<World<A>>,
+    world: Option<World<A, ForReplies>>,
     replies: Replies<A>,
     /// The first bytes of a line that has not ended; those past the longest line are dropped.
     carry: Vec<u8, A>,

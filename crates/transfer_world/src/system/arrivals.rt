@@ -13,6 +13,7 @@ ghost use Rattle.transfer_world.specs.Sound.{IsWorld, IsSent, MayCome};
 
 use super::add;
 use crate::fault::WorldError;
+use crate::keeping::Keeping;
 use crate::packet::{Body, Packet};
 use crate::reply::Reply;
 use crate::system::System;
@@ -22,7 +23,7 @@ use site_core::{InboundError, Line};
 use std::alloc::Allocator;
 use transfer_manager::AskAnswer;
 
-impl<A: Allocator + Copy> System<A> {
+impl<A: Allocator + Copy, K: Keeping> System<A, K> {
     pub(super) fn arrive(&mut self, site: SiteId, number: u64) -> Result<Reply<A>, WorldError>
         requires kept { IsWorld self.old }
         requires place { arrive_fault self.old site number ≡ None }

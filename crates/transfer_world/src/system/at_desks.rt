@@ -4,13 +4,14 @@ ghost use Rattle.transfer_world.specs.Faults.{site_fault};
 ghost use Rattle.transfer_world.specs.DeskEvents.{PostHappens, IssueHappens, GiveHappens, SpendHappens, ServeHappens, ExpireHappens, StatusHappens, PlanHappens, CloseHappens};
 
 use crate::fault::WorldError;
+use crate::keeping::Keeping;
 use crate::reply::Reply;
 use crate::system::System;
 use rights_types::{Move, SiteId};
 use site_core::Spending;
 use std::alloc::Allocator;
 
-impl<A: Allocator + Copy> System<A> {
+impl<A: Allocator + Copy, K: Keeping> System<A, K> {
     pub(super) fn post(&mut self, site: SiteId, moves: &[Move]) -> Result<Reply<A>, WorldError>
         requires { site_fault self.old site ≡ None }
         ensures { PostHappens self.old site moves.now result self.new }

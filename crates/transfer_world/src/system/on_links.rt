@@ -6,6 +6,7 @@ ghost use Rattle.transfer_world.specs.Sound.{IsWorld};
 
 use super::add;
 use crate::fault::WorldError;
+use crate::keeping::Keeping;
 use crate::packet::Packet;
 use crate::reply::Reply;
 use crate::system::System;
@@ -14,7 +15,7 @@ use rights_types::SiteId;
 use site_core::Line;
 use std::alloc::Allocator;
 
-impl<A: Allocator + Copy> System<A> {
+impl<A: Allocator + Copy, K: Keeping> System<A, K> {
     pub(super) fn ask(&mut self, site: SiteId, peer: SiteId) -> Result<Reply<A>, WorldError>
         requires { link_fault self.old site peer ≡ None }
         ensures { AskHappens self.old site peer result self.new }

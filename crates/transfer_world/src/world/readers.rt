@@ -9,6 +9,7 @@ ghost use Rattle.transfer_world.specs.Sound.{LinkSound, IsWorld};
 ghost use Rattle.transfer_world.specs.Worlds.{desk, link as link_of, log, reached, put, applied, count, packet, packet_text, held_by, on_way};
 
 use super::World;
+use crate::keeping::{ForReaders, Keeping};
 use crate::link::Link;
 use origin_log::OriginLog;
 use rights_types::{Entry, MAX_SITES, MIN_SITES, OutOfMemory, SiteId};
@@ -25,7 +26,7 @@ pub struct Totals {
 }
 
 /// A site or a link that is not in the world has empty lists, and numbers 0.
-impl<A: Allocator + Copy> World<A> {
+impl<A: Allocator + Copy, K: Keeping> World<A, K> {
     /// How many sites there are, 2 to 16.
     pub fn sites(&self) -> u64
         ensures value { result ≡ count self.now }
@@ -46,7 +47,7 @@ impl<A: Allocator + Copy> World<A> {
     }
 
     // What a site has of the origin's log.
-    fn link(&self, site: SiteId, origin: SiteId) -> Option<&Link<A>>
+    fn link(&self, site: SiteId, origin: SiteId) -> Option<&Link<A, K>>
         ensures value { option_copied result ≡ link_of self.now site origin }
         ensures sound { IfSome result (λ l. LinkSound self.now site origin l.now) }
     {
@@ -124,37 +125,6 @@ impl<A: Allocator + Copy> World<A> {
         match self.desk(site) {
             Some(desk) => desk.log().closed(),
             None => false,
-        }
-    }
-
-    /// The entries of the origin that reached a site's buffer, each once, in the order in which
-    /// they first came.
-    pub fn reached(&self, site: SiteId, origin: SiteId) -> &[Entry<A>]
-        ensures { result.now ≡ reached self.now site origin }
-    {
-        match self.link(site, origin) {
-            Some(link) => link.reached(),
-            None => &[],
-        }
-    }
-
-    /// The entries of the origin that a site's buffer delivered.
-    pub fn put(&self, site: SiteId, origin: SiteId) -> &[Entry<A>]
-        ensures { result.now ≡ put self.now site origin }
-    {
-        match self.link(site, origin) {
-            Some(link) => link.put(),
-            None => &[],
-        }
-    }
-
-    /// The entries of the origin that a site applied.
-    pub fn applied(&self, site: SiteId, origin: SiteId) -> &[Entry<A>]
-        ensures { result.now ≡ applied self.now site origin }
-    {
-        match self.link(site, origin) {
-            Some(link) => link.applied(),
-            None => &[],
         }
     }
 
@@ -237,6 +207,39 @@ impl<A: Allocator + Copy> World<A> {
             way += self.way(origin, SiteId::known(index + 1));
         }
         way
+    }
+}
+
+impl<A: Allocator + Copy> World<A, ForReaders> {
+    /// The entries of the origin that reached a site's buffer, each once, in the order in which
+    /// they first came.
+    pub fn reached(&self, site: SiteId, origin: SiteId) -> &[Entry<A>]
+        ensures { result.now ≡ reached self.now site origin }
+    {
+        match self.link(site, origin) {
+            Some(link) => link.reached(),
+            None => &[],
+        }
+    }
+
+    /// The entries of the origin that a site's buffer delivered.
+    pub fn put(&self, site: SiteId, origin: SiteId) -> &[Entry<A>]
+        ensures { result.now ≡ put self.now site origin }
+    {
+        match self.link(site, origin) {
+            Some(link) => link.put(),
+            None => &[],
+        }
+    }
+
+    /// The entries of the origin that a site applied.
+    pub fn applied(&self, site: SiteId, origin: SiteId) -> &[Entry<A>]
+        ensures { result.now ≡ applied self.now site origin }
+    {
+        match self.link(site, origin) {
+            Some(link) => link.applied(),
+            None => &[],
+        }
     }
 }
 

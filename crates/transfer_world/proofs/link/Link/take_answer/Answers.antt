@@ -8,7 +8,7 @@ use Rattle.transfer_world.specs.Values.{LinkValue}
 use Rattle.transfer_world.specs.IncomingLists.{HasRoom, NoneAhead, link_of}
 use Rattle.transfer_world.specs.LinkEvents.{LinkTakesAll}
 use Rattle.transfer_world.proofs.IncomingLaws.{next_copy, still_some}
-use Rattle.transfer_world.proofs.LinkLaws.{goes_on_start, goes_on_next, goes_on_last, still_incoming, roomy_incoming}
+use Rattle.transfer_world.proofs.LinkLaws.{spare_link, goes_on_start, goes_on_next, goes_on_last, still_incoming, roomy_incoming}
 use Rattle.transfer_world.proofs.link.Link.take_answer.Goals as goal
 
 pub loop-entry-init : goal.loop-entry-init
@@ -21,8 +21,8 @@ loop-entry-init g c =
     record {
       incoming = roomy_incoming c.self.inside.applied c.self.inside.incoming c.make_room.new.self c.self.invariant same;
       goes_on = λ es of_log f.
-          rw entries (goes_on_start es c.args.entries.items c.args.self.now c.self.inside.incoming c.make_room.new.self c.self.inside.applied c.in_ok-told.told.items c.self.view_is same c.in_ok-told.ensures.ok.0 of_log f
-          (λ none. subst (λ n. NoneAhead n c.args.entries.items) last (subst (NoneAhead c.last.result) c.deref.ensures.value (c.none_ahead-in_order.ensures.0 (c.in_ok-told.ensures.apart none)))));
+          rw entries (goes_on_start g.K.Keeping.keeps es c.args.entries.items c.args.self.now c.self.inside.incoming c.make_room.new.self c.self.inside.applied c.in_ok-told.told.items c.self.view_is same c.in_ok-told.ensures.ok.0 of_log f
+          (λ is none. subst (λ n. NoneAhead n c.args.entries.items) last (subst (NoneAhead c.last.result) c.deref.ensures.value (c.none_ahead-in_order.ensures.0 (c.in_ok-told.ensures.apart is none)))));
       origin = rw entries (subst (λ o. All (λ (e : EntryValue). e.origin ≡ o) c.args.entries.items) (sym origin) c.requires.origin);
       copies = λ some. c.into_iter-copies.ensures.rest ∙ (rw some at c.in_ok-copies_of.ensures) ∙ c.deref-2.ensures.value ∙ sym entries;
       room = subst (λ n. HasRoom n c.make_room.new.self c.in_ok-told.told) (omega (arith, c.len.ensures, ap (λ es. length es) entries)) c.in_ok-told.ensures.ok.1;
@@ -53,7 +53,7 @@ loop-entry-preserved g c =
     record {
       incoming = still_incoming applied old c.take.new.self c.loop-entry.told.items c.take.new.told.items e t.0 t.1 c.loop-entry.invariant.incoming t.2;
       goes_on = λ es of_log f.
-          goes_on_next es c.args.self.now c.args.entries.items old c.take.new.self applied rest c.loop-entry.told.items c.take.new.told.items e t.0 t.1 c.loop-entry.invariant.incoming.within t.2
+          goes_on_next g.K.Keeping.keeps es c.args.self.now c.args.entries.items old c.take.new.self applied rest c.loop-entry.told.items c.take.new.told.items e t.0 t.1 c.loop-entry.invariant.incoming.within t.2
           (rw next at (c.loop-entry.invariant.goes_on es of_log f));
       origin = rw t.2.arrives.pair.origin (All-tail (λ (x : EntryValue). x.origin ≡ old.inbound.buffer.origin) e rest all);
       copies = λ some.
@@ -67,6 +67,6 @@ returns-clause-ok g c es of_log f =
     let none : c.loop-entry.entry-iterator.rest.items ≡ [] = nil_from_length _ (omega (arith, c.in-None.ensures.steps.0)) in
     let incoming = c.loop-entry.self-inside.incoming in
     let applied = c.loop-entry.self-inside.applied in
-    let all = goes_on_last es c.args.self.now c.args.entries.items incoming applied c.loop-entry.told.items (rw none at (c.loop-entry.invariant.goes_on es of_log f)) in
-    let same : link_of c.verdicts.new.self applied ≡ link_of incoming applied = ap (λ i. link_of i applied) c.verdicts.ensures.rest in
+    let all = goes_on_last g.K.Keeping.keeps es c.args.self.now c.args.entries.items incoming applied c.loop-entry.told.items (rw none at (c.loop-entry.invariant.goes_on es of_log f)) in
+    let same : link_of g.K.Keeping.keeps c.verdicts.new.self applied ≡ link_of g.K.Keeping.keeps incoming applied = spare_link g.K.Keeping.keeps incoming c.verdicts.new.self applied c.verdicts.ensures.rest in
     rw c.verdicts.ensures.value (subst (λ (l : LinkValue). LinkTakesAll g.row.A.Denot es c.args.self.now c.args.entries.items c.loop-entry.told.items l) (sym same) all)

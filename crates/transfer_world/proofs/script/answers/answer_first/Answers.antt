@@ -7,6 +7,6 @@ pub returns-clause-ok : goal.returns-clause-ok
 returns-clause-ok g c =
     on_ok_weaker c.put-2.result (λ put. (
       codes "ok",
-      rw c.in-Sites.is (refl, ap Some (c.in_ok-new.ensures ∙ ap start c.number.ensures.value)),
+      rw c.in-Sites.is (refl, ap Some (c.in_ok-for_replies.ensures ∙ ap start c.number.ensures.value)),
       put,
     )) c.put-2.ensures.ok
