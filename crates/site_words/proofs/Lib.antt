@@ -1,4 +1,5 @@
 mod CommandWords
 mod Found
+mod Parsers
 mod Peers
 mod SettingsLaws

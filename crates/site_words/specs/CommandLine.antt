@@ -22,6 +22,12 @@ peer_rule = record (new_rule (codes "peer")) {
   required = true;
 }
 
+-- `run` with its two numbers alone
+abbrev pub run_numbers_shape : Shape
+run_numbers_shape = record (new_shape (codes "run")) {
+  rules = number_rule (codes "id") 1 MAX_SITES ∷ number_rule (codes "sites") MIN_SITES MAX_SITES ∷ [];
+}
+
 abbrev pub run_shape : Shape
 run_shape = record (new_shape (codes "run")) {
   rules = number_rule (codes "id") 1 MAX_SITES ∷ number_rule (codes "sites") MIN_SITES MAX_SITES

@@ -1,11 +1,12 @@
 //! The command line, which the crate `clap` reads.
-ghost use Rattle.std.specs.Prelude.{◌≡◌, ◌<◌, ◌^◌, ℕ, [], false, IfOk, MatchResult};
+ghost use Rattle.std.specs.Prelude.{◌≡◌, ◌<◌, ◌^◌, ℕ, [], ◌∷◌, codes, false, true, IfOk, MatchResult};
 ghost use Rattle.clap.specs.Matches.{found_of};
-ghost use Rattle.clap.specs.Simple.{app_of, subcommand_rows_of};
+ghost use Rattle.clap.specs.Simple.{app_of, new_shape, shape_of, subcommand_rows_of};
 ghost use Rattle.clap.specs.Walk.{rows_of, rule_of, texts};
 ghost use Rattle.clap.specs.declared.builder.command.Command.TheViews.{out-Command};
+ghost use Rattle.rights_types.specs.declared.limits.TheConstants.{MIN_SITES, MAX_SITES};
 ghost use Rattle.site_words.specs.Asked.{asked_by};
-ghost use Rattle.site_words.specs.CommandLine.{app, option_rule, run_shape};
+ghost use Rattle.site_words.specs.CommandLine.{app, number_rule, option_rule, peer_rule, run_numbers_shape, run_shape};
 ghost use Rattle.site_words.specs.Settings.{HasNumber, IsFound};
 ghost use Rattle.site_words.specs.Words.{AnswersMet, IsSetBy, MayAnswer};
 ghost use Rattle.site_words.specs.declared.words.WordsFault.{WordsFault};
@@ -90,47 +91,94 @@ fn option<'a>(alloc: Global, name: &'a str, value: &'a str, help: &'a str) -> Ar
         .help(help)
 }
 
+/// The option that tells the site's number.
+fn id_option<'a>(alloc: Global) -> Arg<'a>
+    ensures rule { rule_of result ≡ number_rule (codes "id") 1 MAX_SITES }
+    ensures local { result.global ≡ false }
+{
+    option(alloc, "id", "I", "The number of this site").value_parser(value_parser!(u64).range(
+        1..=16,
+    ))
+}
+
+/// The option that tells how many sites there are.
+fn sites_option<'a>(alloc: Global) -> Arg<'a>
+    ensures rule { rule_of result ≡ number_rule (codes "sites") MIN_SITES MAX_SITES }
+    ensures local { result.global ≡ false }
+{
+    option(alloc, "sites", "N", "How many sites there are").value_parser(value_parser!(u64).range(
+        2..=16,
+    ))
+}
+
+/// The argument that tells the peers.
+fn peers_argument<'a>(alloc: Global) -> Arg<'a>
+    ensures rule { rule_of result ≡ peer_rule }
+    ensures local { result.global ≡ false }
+{
+    Arg::new(alloc, "peer")
+        .value_name("PEER")
+        .num_args(1..)
+        .required(true)
+        .help("Each other site and where it listens, as J=ADDRESS")
+}
+
+/// The command that runs one site, so far without its addresses.
+fn run_numbers_parser<'a>(alloc: Global) -> Result<Parser<'a>, AllocError>
+    ensures { IfOk result (λ parser. (app_of parser ≡ record { top = run_numbers_shape; subs = [] })
+        × ((out-Command parser).has_globals ≡ false)) }
+{
+    Parser::new(alloc, "run")
+        .about("Runs one site, which talks with its peers over TCP")
+        .arg(id_option(alloc))?
+        .arg(sites_option(alloc))
+}
+
 /// The command that runs one site.
 fn run_parser<'a>(alloc: Global) -> Result<Parser<'a>, AllocError>
     ensures { IfOk result (λ parser. (app_of parser ≡ record { top = run_shape; subs = [] })
         × ((out-Command parser).has_globals ≡ false)) }
 {
-    let id = option(alloc, "id", "I", "The number of this site").value_parser(value_parser!(
-        u64
-    ).range(1..=16));
-    let sites = option(alloc, "sites", "N", "How many sites there are").value_parser(value_parser!(
-        u64
-    ).range(2..=16));
-    let listen = option(alloc, "listen", "ADDRESS", "Where this site listens");
-    let peers = Arg::new(alloc, "peer")
-        .value_name("PEER")
-        .num_args(1..)
-        .required(true)
-        .help("Each other site and where it listens, as J=ADDRESS");
-    Parser::new(alloc, "run")
-        .about("Runs one site, which talks with its peers over TCP")
-        .arg(id)?
-        .arg(sites)?
-        .arg(listen)?
-        .arg(peers)
+    run_numbers_parser(alloc)?
+        .arg(option(alloc, "listen", "ADDRESS", "Where this site listens"))?
+        .arg(peers_argument(alloc))
+}
+
+/// The command that runs a script.
+fn sim_parser<'a>(alloc: Global) -> Parser<'a>
+    ensures shape { shape_of result ≡ new_shape (codes "sim") }
+    ensures local { (out-Command result).has_globals ≡ false }
+{
+    Parser::new(alloc, "sim").about("Runs the script on standard input over sites in memory")
+}
+
+/// The program without its commands.
+fn bare_parser<'a>(alloc: Global) -> Result<Parser<'a>, AllocError>
+    ensures { IfOk result (λ parser. app_of parser ≡ record { top = record app.top { is_leaf = true }; subs = [] }) }
+{
+    Ok(
+        Parser::new(alloc, "rights-site")
+            .bin_name("rights-site")?
+            .about("Keeps and moves the right to spend among replicated sites")
+            .no_binary_name(true)
+            .subcommand_required(true)
+            .disable_help_subcommand(true),
+    )
+}
+
+/// The program with its command for scripts alone.
+fn script_parser<'a>(alloc: Global) -> Result<Parser<'a>, AllocError>
+    ensures { IfOk result (λ parser. app_of parser ≡ record app { subs = new_shape (codes "sim") ∷ [] }) }
+{
+    bare_parser(alloc)?.subcommand(sim_parser(alloc))
 }
 
 /// The commands of the program, as `clap` is told of them.
 fn parser<'a>(alloc: Global) -> Result<Parser<'a>, AllocError>
     ensures { IfOk result (λ parser. app_of parser ≡ app) }
 {
-    let sim = Parser::new(alloc, "sim").about(
-        "Runs the script on standard input over sites in memory",
-    );
     let run = run_parser(alloc)?;
-    let program = Parser::new(alloc, "rights-site")
-        .bin_name("rights-site")?
-        .about("Keeps and moves the right to spend among replicated sites")
-        .no_binary_name(true)
-        .subcommand_required(true)
-        .disable_help_subcommand(true)
-        .subcommand(sim)?;
-    program.subcommand(run)
+    script_parser(alloc)?.subcommand(run)
 }
 
 /// The number that `clap` found for an option. No clause of `clap` says that there is one.
