@@ -1,8 +1,11 @@
 -- What entries that came leave of an inbound, and its gap.
-use Rattle.std.proofs.Common.{◌≡◌, ◌≤◌, Bool, length, List, [], ◌∷◌, ◌++◌, Option, refl, ap, sym, subst, ◌∙◌}
+use Rattle.std.proofs.Common.{◌≡◌, ◌≤◌, Bool, eqb, not, length, List, [], ◌∷◌, ◌++◌, Option, None, refl, ap, sym, subst, ◌∙◌}
+use Rattle.std.specs.List.{All}
+use Rattle.std.proofs.lemmas.Bool.{eqb-true, not-false}
 use Rattle.std.proofs.lemmas.List.{append-nil, append_assoc}
 use Rattle.rights_types.specs.Entries.{EntryValue}
-use Rattle.rights_types.specs.Messages.{QueryValue}
+use Rattle.rights_types.specs.Messages.{AnswerValue, IsAnswer, MessageValue, QueryValue}
+use Rattle.rights_types.specs.Messages.MessageValue.{AnAnswer}
 use Rattle.sub_buffer.specs.Buffers.{BufferValue, IsSettled, SamePair}
 use Rattle.sub_buffer.specs.Follows.{HasPut, Follows, put_after}
 use Rattle.sub_buffer.specs.Arrivals.{all_ready, Arrives, ArriveAll}
@@ -11,7 +14,18 @@ use Rattle.sub_buffer.specs.declared.verdict.Verdict.{Verdict}
 use Rattle.sub_buffer.specs.declared.verdict.Verdict.TheVariants.{Ready, Held, Repeat, AfterClose, Full}
 use Rattle.sub_buffer.proofs.Offers.{settled_longest}
 use Rattle.sub_buffer.proofs.Missing.{gap_is}
-use Rattle.site_core.specs.Inbounds.{InboundValue, ready_in, EntriesCome, Asks, QueryOf}
+use Rattle.site_core.specs.Inbounds.{InboundValue, message_fault, sender, ready_in, EntriesCome, Asks, QueryOf}
+use Rattle.site_core.proofs.LedgerLaws.{no_cause}
+
+-- ---- whose entries they are
+
+-- a message with no fault is the origin's
+pub from_origin : (i : InboundValue) (m : MessageValue) → message_fault i m ≡ None → sender m ≡ i.buffer.origin
+from_origin i m h = eqb-true (sender m) i.buffer.origin (not-false _ (no_cause (not (eqb (sender m) i.buffer.origin)) _ _ h).0)
+
+pub all_from_origin : (i : InboundValue) (a : AnswerValue) → IsAnswer a → message_fault i (AnAnswer a) ≡ None
+    → All (λ (e : EntryValue). e.origin ≡ i.buffer.origin) a.entries
+all_from_origin i a is h = rw (← from_origin i (AnAnswer a) h) is.of_origin
 
 -- ---- the entries that were answered Ready
 

@@ -2,6 +2,9 @@ use Rattle.std.proofs.Common.{◌≤◌, length, arith}
 use Rattle.site_core.proofs.InboundLaws.{arrivals_pair, entries_come}
 use Rattle.site_core.proofs.inbound.Inbound.take_entries.Goals as goal
 
+pub arrive_all-requires-clause-of_origin : goal.arrive_all-requires-clause-of_origin
+arrive_all-requires-clause-of_origin g c = rw (← c.self.view_is) at c.requires.origin
+
 pub invariant_of-self : goal.invariant_of-self
 invariant_of-self g c =
     let p = arrivals_pair _ _ _ _ _ c.arrive_all.ensures.arrive in
