@@ -4,7 +4,7 @@ use entry_codec::{first_decimal, split_first};
 use rights_types::{MAX_SITES, SiteId};
 
 /// What a line asks of a site.
-#[derive(Clone, Copy, Debug, PartialEq, Eq)]
+#[derive(Clone, Copy)]
 pub(crate) enum Command {
     /// To create rights.
     Issue(u64),
