@@ -1,27 +1,34 @@
 -- What an intake puts follows what came in order.
-use Rattle.std.proofs.Common.{◌≡◌, ℕ, ◌+◌, ◌<◌, Bool, true, false, cond, List, [], ◌∷◌, ◌++◌, length, take, get_or, refl, sym, ap, ◌∙◌, subst, append-nil, append_assoc}
+use Rattle.std.proofs.Common.{◌≡◌, ℕ, suc, ◌+◌, ◌<◌, ◌≤◌, Bool, true, false, true≢false, cond, List, [], ◌∷◌, ◌++◌, length, take, get_or, refl, sym, ap, ◌∙◌, subst, append-nil, append_assoc, arith}
 use Rattle.std.specs.Prelude.{count_by}
-use Rattle.std.proofs.lemmas.List.{map-append}
-use Rattle.std.proofs.lemmas.List.Sums.{sum_by_more}
+use Rattle.std.proofs.lemmas.List.{map-append, length-take-le}
+use Rattle.std.proofs.lemmas.List.Sums.{sum_by_more, sum_by-cons}
 use Rattle.rights_types.specs.Entries.{EntryValue, closes}
 use Rattle.rights_types.specs.Chains.{is_closed, closed_from, IsChain, ChainFrom}
 use Rattle.rights_types.proofs.Chains.{chain_left, chain_right}
 use Rattle.sub_buffer.specs.declared.verdict.Verdict.{Verdict}
 use Rattle.sub_buffer.specs.declared.verdict.Verdict.TheVariants.{Ready, Held, Repeat, AfterClose, Full}
-use Rattle.std.specs.Prelude.{Result, Ok}
+use Rattle.std.specs.Prelude.{Result, Ok, Err, IfOk, IfErr}
 use Rattle.rights_types.specs.Messages.{MessageValue}
 use Rattle.rights_types.specs.Messages.MessageValue.{AnEntry, AQuery, AnAnswer, ABeat, AnAsk, ADenial, AHello}
 use Rattle.entry_codec.specs.declared.fault.LineError.{LineError}
-use Rattle.site_core.specs.Inbounds.{InboundValue, ready_in, Arrives, EntriesCome}
+use Rattle.sub_buffer.specs.Buffers.{BufferValue}
+use Rattle.sub_buffer.specs.Table.{after_beat}
+use Rattle.sub_buffer.specs.Follows.{HasPut}
+use Rattle.sub_buffer.specs.declared.arrivals.TheConstants.{MAX_VERDICTS}
+use Rattle.site_core.specs.Inbounds.{InboundValue, ready_in, BringsEntries, Arrives, EntriesCome}
 use Rattle.site_core.specs.declared.inbound.Arrival.{Arrival}
-use Rattle.site_core.specs.declared.inbound.Arrival.TheVariants.{Entries}
+use Rattle.site_core.specs.declared.inbound.Arrival.TheVariants.{Entries, Beat, Query, Ask, Deny, Hello}
 use Rattle.apply_lanes.specs.declared.item.Item.{Item}
 use Rattle.apply_lanes.specs.declared.item.Item.TheVariants.{Entry, End}
 use Rattle.apply_lanes.specs.Ends.{InletValue}
 use Rattle.apply_lanes.specs.Items.{items_of, end_if, IsOpen, Continues}
 use Rattle.apply_lanes.proofs.Items.{open_push}
 use Rattle.apply_lanes.specs.declared.intake.VerdictCounts.{VerdictCounts}
-use Rattle.apply_lanes.specs.Intakes.{IntakeValue, IsInStep, IsIntake, FindsClosed, ready_of, sent, CanPut, PutsAll, PutsFront, is_ready, is_held, is_repeat, is_after_close, is_full, counts_of}
+use Rattle.apply_lanes.specs.Intakes.{IntakeValue, IsInStep, IsIntake, Brings, FindsClosed, LineLeaves, verdicts_of, arrived_of, ready_of, sent, CanPut, PutsAll, PutsFront, is_ready, is_held, is_repeat, is_after_close, is_full, counts_of, with_verdict, all_counts}
+use Rattle.apply_lanes.specs.declared.intake.Arrived.{Arrived}
+use Rattle.apply_lanes.specs.declared.intake.IntakeError.{IntakeError}
+use Rattle.apply_lanes.specs.declared.intake.IntakeError.TheVariants.{Inbound, LaneClosed}
 
 pub closed_from-append : (b : Bool) (xs ys : List EntryValue) → closed_from b (xs ++ ys) ≡ closed_from (closed_from b xs) ys
 closed_from-append b [] ys = refl
@@ -44,8 +51,11 @@ ready-append (Repeat ∷ xs) ys = ready-append xs ys
 ready-append (AfterClose ∷ xs) ys = ready-append xs ys
 ready-append (Full ∷ xs) ys = ready-append xs ys
 
+none : (n : ℕ) → n ≡ n + 0
+none n = omega arith
+
 -- how many verdicts of each kind there are after one more
-pub counts_more : {A : Type 0} (vs : List (Verdict A)) (i : ℕ) (v : Verdict A) (c : VerdictCounts) → i < length vs → v ≡ get_or vs i v
+counts_more : {A : Type 0} (vs : List (Verdict A)) (i : ℕ) (v : Verdict A) (c : VerdictCounts) → i < length vs → v ≡ get_or vs i v
     → c ≡ counts_of (take i vs) → (r h p a f : ℕ) → r ≡ c.ready + cond (is_ready v) 1 0 → h ≡ c.held + cond (is_held v) 1 0
     → p ≡ c.repeat + cond (is_repeat v) 1 0 → a ≡ c.after_close + cond (is_after_close v) 1 0 → f ≡ c.full + cond (is_full v) 1 0
     → record { ready = r; held = h; repeat = p; after_close = a; full = f } ≡ counts_of (take (i + 1) vs)
@@ -59,6 +69,46 @@ counts_more {A} vs i v c within is so_far r h p a f er eh ep ea ef =
     let eqa = more is_after_close c.after_close a (ap (λ (x : VerdictCounts). x.after_close) so_far) ea in
     let eqf = more is_full c.full f (ap (λ (x : VerdictCounts). x.full) so_far) ef in
     λ j. record { ready = eqr j; held = eqh j; repeat = eqp j; after_close = eqa j; full = eqf j }
+
+-- a verdict counts for its own kind
+by_kind : {A : Type 0} (c : VerdictCounts) (v : Verdict A) → with_verdict c v ≡ record {
+  ready = c.ready + cond (is_ready v) 1 0;
+  held = c.held + cond (is_held v) 1 0;
+  repeat = c.repeat + cond (is_repeat v) 1 0;
+  after_close = c.after_close + cond (is_after_close v) 1 0;
+  full = c.full + cond (is_full v) 1 0;
+}
+by_kind c (Ready e) = λ j. record c { held = none c.held j; repeat = none c.repeat j; after_close = none c.after_close j; full = none c.full j; ready = c.ready + 1 }
+by_kind c Held = λ j. record c { ready = none c.ready j; repeat = none c.repeat j; after_close = none c.after_close j; full = none c.full j; held = c.held + 1 }
+by_kind c Repeat = λ j. record c { ready = none c.ready j; held = none c.held j; after_close = none c.after_close j; full = none c.full j; repeat = c.repeat + 1 }
+by_kind c AfterClose = λ j. record c { ready = none c.ready j; held = none c.held j; repeat = none c.repeat j; full = none c.full j; after_close = c.after_close + 1 }
+by_kind c Full = λ j. record c { ready = none c.ready j; held = none c.held j; repeat = none c.repeat j; after_close = none c.after_close j; full = c.full + 1 }
+
+pub counts_step : {A : Type 0} (vs : List (Verdict A)) (i : ℕ) (v : Verdict A) (c d : VerdictCounts) → i < length vs → v ≡ get_or vs i v
+    → c ≡ counts_of (take i vs) → d ≡ with_verdict c v → d ≡ counts_of (take (i + 1) vs)
+counts_step vs i v c d within is so_far now =
+    now ∙ by_kind c v ∙ counts_more vs i v c within is so_far _ _ _ _ _ refl refl refl refl refl
+
+one_kind : {A : Type 0} (v : Verdict A) → cond (is_ready v) 1 0 + cond (is_held v) 1 0 + cond (is_repeat v) 1 0 + cond (is_after_close v) 1 0 + cond (is_full v) 1 0 ≡ 1
+one_kind (Ready e) = refl
+one_kind Held = refl
+one_kind Repeat = refl
+one_kind AfterClose = refl
+one_kind Full = refl
+
+one_counted : {A : Type 0} (k : Verdict A → Bool) (v : Verdict A) (vs : List (Verdict A)) → count_by k (v ∷ vs) ≡ cond (k v) 1 0 + count_by k vs
+one_counted k v vs = sum_by-cons (λ y. cond (k y) 1 0) v vs
+
+-- each verdict is counted once
+all_counted : {A : Type 0} (vs : List (Verdict A)) → all_counts (counts_of vs) ≡ length vs
+all_counted [] = refl
+all_counted (v ∷ vs) =
+    omega (arith, one_counted is_ready v vs, one_counted is_held v vs, one_counted is_repeat v vs, one_counted is_after_close v vs, one_counted is_full v vs, one_kind v, all_counted vs)
+
+-- .. so that the counts are few
+pub few_counted : {A : Type 0} (vs : List (Verdict A)) (i : ℕ) (c : VerdictCounts) → i < length vs → c ≡ counts_of (take i vs) → all_counts c < length vs
+few_counted vs i c within is =
+    omega (arith, ap (λ (x : VerdictCounts). all_counts x) is ∙ all_counted (take i vs) ∙ length-take-le i vs (omega arith))
 
 module _ {A : Type 0} where
   -- what is put for a list is what is put for its parts
@@ -198,28 +248,70 @@ entries_come old (AnAsk x) vs new a = absurd cc
 entries_come old (ADenial d) vs new a = absurd cc
 entries_come old (AHello s) vs new a = absurd cc
 
+-- the verdicts on what comes by a message are few
+pub few_come : {A : Type 0} (old : InboundValue) (m : MessageValue) (a : Arrival A) (new : InboundValue) → Arrives old m a new
+    → length (verdicts_of a) ≤ MAX_VERDICTS
+few_come old m (Entries vs) new x = (entries_come old m vs new x).1.few
+few_come old m Beat new x = omega arith
+few_come old m (Query q) new x = omega arith
+few_come old m (Ask k) new x = omega arith
+few_come old m (Deny d) new x = omega arith
+few_come old m Hello new x = omega arith
+
+either_put : (put : List EntryValue) (b : Bool) (x y : BufferValue) → HasPut put x → HasPut put y → HasPut put (cond b x y)
+either_put put true x y h k = h
+either_put put false x y h k = k
+
+heard : (put : List EntryValue) (b : BufferValue) (n : ℕ) → HasPut put b → HasPut put (after_beat b n)
+heard put b n h = either_put put b.closed b _ h (record { chain = h.chain; last = h.last; closed = h.closed })
+
 module _ {A : Type 0} where
+  brought : (old : InboundValue) (put es : List EntryValue) (a : Arrival A) (new : InboundValue) → HasPut put old.buffer → BringsEntries old es a new
+      → HasPut (put ++ ready_of a) new.buffer
+  brought old put es (Entries vs) new h x = x.chain put h
+  brought old put es Beat new h x = absurd x
+  brought old put es (Query q) new h x = absurd x
+  brought old put es (Ask k) new h x = absurd x
+  brought old put es (Deny d) new h x = absurd x
+  brought old put es Hello new h x = absurd x
+
+  no_more : (put : List EntryValue) (a b : Arrival A) (c : BufferValue) → a ≡ b → ready_of b ≡ [] → HasPut put c → HasPut (put ++ ready_of a) c
+  no_more put a b c is none h = subst (λ l. HasPut l c) (sym (ap (λ x. put ++ ready_of x) is ∙ ap (λ l. put ++ l) none ∙ append-nil put)) h
+
+  -- whatever comes, what became ready goes on the chain of what was put
+  delivers : (old : InboundValue) (put : List EntryValue) (m : MessageValue) (a : Arrival A) (new : InboundValue) → HasPut put old.buffer → Arrives old m a new
+      → HasPut (put ++ ready_of a) new.buffer
+  delivers old put (AnEntry e) a new h x = brought old put (e ∷ []) a new h x
+  delivers old put (AnAnswer y) a new h x = brought old put y.entries a new h x
+  delivers old put (ABeat b) a new h x =
+      no_more put a Beat new.buffer x.0 refl
+      (subst (λ (i : InboundValue). HasPut put i.buffer) (sym x.1) (heard put old.buffer b.number h))
+  delivers old put (AQuery q) a new h x = no_more put a (Query q) new.buffer x.0 refl (subst (λ (i : InboundValue). HasPut put i.buffer) (sym x.1) h)
+  delivers old put (AnAsk k) a new h x = no_more put a (Ask k) new.buffer x.0 refl (subst (λ (i : InboundValue). HasPut put i.buffer) (sym x.1) h)
+  delivers old put (ADenial d) a new h x = no_more put a (Deny d) new.buffer x.0 refl (subst (λ (i : InboundValue). HasPut put i.buffer) (sym x.1) h)
+  delivers old put (AHello s) a new h x = no_more put a Hello new.buffer x.0 refl (subst (λ (i : InboundValue). HasPut put i.buffer) (sym x.1) h)
+
   -- what became ready can be put
-  pub can_take : (i : IntakeValue A) (es : List EntryValue) (vs : List (Verdict A)) (new : InboundValue) → IsInStep i → EntriesCome i.inbound es vs new
-      → CanPut i.ended i.inlet.put (ready_in vs)
-  can_take i es vs new s e =
-      let h = e.chain s.entries s.delivered in
+  pub can_take : (i : IntakeValue A) (m : MessageValue) (a : Arrival A) (new : InboundValue) → IsInStep i → Arrives i.inbound m a new
+      → CanPut i.ended i.inlet.put (ready_of a)
+  can_take i m a new s x =
+      let h = delivers i.inbound s.entries m a new s.delivered x in
       (new.buffer.origin, s.entries, h.chain, s.put, s.ended)
 
   -- once it was, all that came in order was put
-  pub in_step_after : (i j : IntakeValue A) (es : List EntryValue) (vs : List (Verdict A)) → IsInStep i → EntriesCome i.inbound es vs j.inbound
-      → PutsAll i.inlet.put i.ended (ready_in vs) j.ended j.inlet → IsInStep j
-  in_step_after i j es vs s e p =
-      let h = e.chain s.entries s.delivered in
-      let free = open_to j.inbound.buffer.origin s.entries (ready_in vs) h.chain in
+  in_step_after : (i j : IntakeValue A) (m : MessageValue) (a : Arrival A) → IsInStep i → Arrives i.inbound m a j.inbound
+      → PutsAll i.inlet.put i.ended (ready_of a) j.ended j.inlet → IsInStep j
+  in_step_after i j m a s x p =
+      let h = delivers i.inbound s.entries m a j.inbound s.delivered x in
+      let free = open_to j.inbound.buffer.origin s.entries (ready_of a) h.chain in
       record {
-        entries = s.entries ++ ready_in vs;
+        entries = s.entries ++ ready_of a;
         delivered = h;
-        put = p.0 ∙ ap (λ l. l ++ sent (ready_in vs)) s.put ∙ sym (sent-append s.entries (ready_in vs) free);
-        ended = p.1 ∙ ap (λ b. closed_from b (ready_in vs)) s.ended ∙ sym (closed_from-append false s.entries (ready_in vs));
+        put = p.0 ∙ ap (λ l. l ++ sent (ready_of a)) s.put ∙ sym (sent-append s.entries (ready_of a) free);
+        ended = p.1 ∙ ap (λ b. closed_from b (ready_of a)) s.ended ∙ sym (closed_from-append false s.entries (ready_of a));
       }
 
-  pub is_intake : (i : IntakeValue A) → IsInStep i → IsIntake i
+  is_intake : (i : IntakeValue A) → IsInStep i → IsIntake i
   is_intake i s = record {
     no_end = λ free. (
       s.entries,
@@ -241,3 +333,28 @@ module _ {A : Type 0} where
     sym (append-nil i.inlet.put),
     dead,
   )
+
+  -- where nothing came yet
+  pub new_intake : (i : IntakeValue A) → HasPut [] i.inbound.buffer → i.inlet.put ≡ [] → i.ended ≡ false → IsIntake i
+  new_intake i h empty free = is_intake i (record { entries = []; delivered = h; put = empty; ended = free })
+
+  -- after an arrival was taken in, all of it or a front
+  pub still_intake : (i j : IntakeValue A) (m : MessageValue) (a : Arrival A) (r : Result Arrived IntakeError) → IsInStep i → Arrives i.inbound m a j.inbound
+      → IfOk r (λ arrived. (arrived ≡ arrived_of a) × PutsAll i.inlet.put i.ended (ready_of a) j.ended j.inlet)
+      → IfErr r (λ fault. (fault ≡ LaneClosed) × PutsFront i.inlet.put (ready_of a) j.ended j.inlet) → IsIntake j
+  still_intake i j m a (Ok arrived) s x ok err = is_intake j (in_step_after i j m a s x ok.1)
+  still_intake i j m a (Err fault) s x ok err =
+      let f = err.1 in
+      record {
+        no_end = λ _. f.6;
+        at_end = λ ended. absurd (true≢false (sym ended ∙ f.5));
+        in_step = λ live. absurd (true≢false (sym f.4 ∙ live));
+      }
+
+  -- what that says of the line
+  pub line_leaves : (i j : IntakeValue A) (read : Result MessageValue LineError) (a : Arrival A) (r : Result Arrived IntakeError) → Brings i read a j
+      → IfOk r (λ arrived. (arrived ≡ arrived_of a) × PutsAll i.inlet.put i.ended (ready_of a) j.ended j.inlet)
+      → IfErr r (λ fault. (fault ≡ LaneClosed) × PutsFront i.inlet.put (ready_of a) j.ended j.inlet) → LineLeaves i read r j
+  line_leaves i j read a (Ok arrived) b ok err = (a, b, ok.0, ok.1.0, ok.1.2)
+  line_leaves i j read a (Err LaneClosed) b ok err = let f = err.1 in (a, b, f.0, f.1, f.2, f.3, f.4)
+  line_leaves i j read a (Err (Inbound x)) b ok err = absurd (let is = err.0 in cc)

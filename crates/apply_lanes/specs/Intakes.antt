@@ -1,5 +1,5 @@
 -- An intake: the lines of one other site, whose entries go to a lane as they become ready.
-use Rattle.std.specs.Prelude.{◌≡◌, ℕ, Bool, true, false, List, [], ◌∷◌, ◌++◌, count_by, Option, Some, None, Result, Ok, Err}
+use Rattle.std.specs.Prelude.{◌≡◌, ℕ, ◌+◌, Bool, true, false, List, [], ◌∷◌, ◌++◌, count_by, Option, Some, None, Result, Ok, Err}
 use Rattle.rights_types.specs.Entries.{EntryValue}
 use Rattle.rights_types.specs.Chains.{is_closed, closed_from, IsChain}
 use Rattle.rights_types.specs.Messages.{MessageValue}
@@ -53,6 +53,18 @@ counts_of vs = record {
   full = count_by is_full vs;
 }
 
+-- the counts with one verdict more
+abbrev pub with_verdict : {A : Type 0} → VerdictCounts → Verdict A → VerdictCounts
+with_verdict c (Ready e) = record c { ready = c.ready + 1 }
+with_verdict c Held = record c { held = c.held + 1 }
+with_verdict c Repeat = record c { repeat = c.repeat + 1 }
+with_verdict c AfterClose = record c { after_close = c.after_close + 1 }
+with_verdict c Full = record c { full = c.full + 1 }
+
+-- how many verdicts were counted, of all kinds
+abbrev pub all_counts : VerdictCounts → ℕ
+all_counts c = c.ready + c.held + c.repeat + c.after_close + c.full
+
 -- what an intake says of what came
 abbrev pub arrived_of : {A : Type 0} → Arrival A → Arrived
 arrived_of (ComesEntries vs) = Entries (counts_of vs)
@@ -61,6 +73,11 @@ arrived_of (ComesQuery q) = Query q
 arrived_of (ComesAsk a) = Ask a
 arrived_of (ComesDeny d) = Deny d
 arrived_of ComesHello = Hello
+
+-- the verdicts on what came
+abbrev pub verdicts_of : {A : Type 0} → Arrival A → List (Verdict A)
+verdicts_of (ComesEntries vs) = vs
+verdicts_of arrival = []
 
 -- the entries that became ready by what came
 abbrev pub ready_of : {A : Type 0} → Arrival A → List EntryValue

@@ -1,5 +1,5 @@
 //! What one other site sends: lines in, and entries out on a lane.
-ghost use Rattle.std.specs.Prelude.{◌≡◌, ◌≤◌, ◌++◌, [], ◌∷◌, true, false, List, Option, IfOk, IfErr, OnOk, OnErr, IsErr, MatchResult, IsSome, length};
+ghost use Rattle.std.specs.Prelude.{◌≡◌, ◌≤◌, ◌<◌, ◌++◌, [], ◌∷◌, true, false, List, Option, IfOk, IfErr, OnOk, OnErr, IsErr, MatchResult, IsSome, length};
 ghost use Rattle.std.specs.Option.{option_map};
 ghost use Rattle.rights_types.specs.Entries.{EntryValue};
 ghost use Rattle.rights_types.specs.Chains.{IsChain, is_closed};
@@ -12,8 +12,9 @@ ghost use Rattle.sub_buffer.specs.Follows.{HasPut, Follows};
 ghost use Rattle.site_core.specs.Calls.{LineOf};
 ghost use Rattle.site_core.specs.Inbounds.{QueryOf, ready_in};
 ghost use Rattle.apply_lanes.specs.Items.{IsOpen, IsEnded};
-ghost use Rattle.apply_lanes.specs.Intakes.{counts_of, CanPut, PutsAll, PutsFront, with_end};
+ghost use Rattle.apply_lanes.specs.Intakes.{counts_of, with_verdict, all_counts, verdicts_of, ready_of, arrived_of, CanPut, PutsAll, PutsFront, with_end};
 ghost use Rattle.apply_lanes.specs.declared.intake.IntakeError.TheVariants.{LaneClosed as ClosedLane};
+ghost use Rattle.apply_lanes.specs.declared.intake.Arrived.TheVariants.{Entries as EntriesCame};
 
 use crate::ends::{Inlet, LaneClosed};
 use rights_types::{Ask, Deny, Entry, OutOfMemory, Query};
@@ -125,20 +126,9 @@ impl<A: Allocator + Copy> Intake<A> {
         if self.inlet.is_dead() {
             return Err(IntakeError::LaneClosed);
         }
-        match arrival {
-            Arrival::Entries { verdicts } => {
-                let verdicts = verdicts.into_vec();
-                let counts = count(&verdicts);
-                put_ready(rt, &mut self.inlet, &mut self.ended, verdicts)?;
-                Ok(Arrived::Entries(counts))
-            }
-            Arrival::Beat => Ok(Arrived::Beat),
-            Arrival::Query(query) => Ok(Arrived::Query(query)),
-            Arrival::Ask(ask) => Ok(Arrived::Ask(ask)),
-            Arrival::Deny(deny) => Ok(Arrived::Deny(deny)),
-            Arrival::Hello => Ok(Arrived::Hello),
-        }
+        take_in(rt, &mut self.inlet, &mut self.ended, arrival)
     }
+
     /// The line of the query for the gap, where there is one: always with `again`, else where it is not the
     /// gap that was asked for last. It counts as asked for from then on, also where the line found no memory.
     pub fn query_line(&mut self, again: bool) -> Result<Option<Vec<u8, A>>, OutOfMemory>
@@ -181,6 +171,49 @@ impl<A: Allocator + Copy> Intake<A> {
     }
 }
 
+// Puts what became ready by what came, and answers what that was.
+fn take_in<A: Allocator, R: Wait>(
+    rt: &R,
+    inlet: &mut Inlet<A>,
+    ended: &mut bool,
+    arrival: Arrival<A>,
+) -> Result<Arrived, IntakeError>
+    requires few { length (verdicts_of arrival) ≤ MAX_VERDICTS }
+    requires entries { CanPut ended.old inlet.old.put (ready_of arrival) }
+    requires live { inlet.old.dead ≡ false }
+    ensures lane { inlet.new.lane ≡ inlet.old.lane }
+    ensures ok { IfOk result (λ arrived. (arrived ≡ arrived_of arrival) × PutsAll inlet.old.put ended.old (ready_of arrival) ended.new inlet.new) }
+    ensures err { IfErr result (λ fault. (fault ≡ ClosedLane) × PutsFront inlet.old.put (ready_of arrival) ended.new inlet.new) }
+{
+    match arrival {
+        Arrival::Entries { verdicts } => put_entries(rt, inlet, ended, verdicts.into_vec()),
+        Arrival::Beat => Ok(Arrived::Beat),
+        Arrival::Query(query) => Ok(Arrived::Query(query)),
+        Arrival::Ask(ask) => Ok(Arrived::Ask(ask)),
+        Arrival::Deny(deny) => Ok(Arrived::Deny(deny)),
+        Arrival::Hello => Ok(Arrived::Hello),
+    }
+}
+
+// Puts the entries that are ready, and answers how many verdicts there are of each kind.
+fn put_entries<A: Allocator, R: Wait>(
+    rt: &R,
+    inlet: &mut Inlet<A>,
+    ended: &mut bool,
+    verdicts: Vec<Verdict<A>, A>,
+) -> Result<Arrived, IntakeError>
+    requires few { length verdicts.items ≤ MAX_VERDICTS }
+    requires entries { CanPut ended.old inlet.old.put (ready_in verdicts.items) }
+    requires live { inlet.old.dead ≡ false }
+    ensures lane { inlet.new.lane ≡ inlet.old.lane }
+    ensures ok { IfOk result (λ arrived. (arrived ≡ EntriesCame (counts_of verdicts.items)) × PutsAll inlet.old.put ended.old (ready_in verdicts.items) ended.new inlet.new) }
+    ensures err { IfErr result (λ fault. (fault ≡ ClosedLane) × PutsFront inlet.old.put (ready_in verdicts.items) ended.new inlet.new) }
+{
+    let counts = count(&verdicts);
+    put_ready(rt, inlet, ended, verdicts)?;
+    Ok(Arrived::Entries(counts))
+}
+
 // How many verdicts there are of each kind.
 fn count<A: Allocator>(verdicts: &[Verdict<A>]) -> VerdictCounts
     requires { length verdicts.now ≤ MAX_VERDICTS }
@@ -194,15 +227,23 @@ fn count<A: Allocator>(verdicts: &[Verdict<A>]) -> VerdictCounts
         full: 0,
     };
     for verdict in verdicts {
-        match verdict {
-            Verdict::Ready(_) => counts.ready += 1,
-            Verdict::Held => counts.held += 1,
-            Verdict::Repeat => counts.repeat += 1,
-            Verdict::AfterClose => counts.after_close += 1,
-            Verdict::Full => counts.full += 1,
-        }
+        count_one(&mut counts, verdict);
     }
     counts
+}
+
+// Counts one verdict more.
+fn count_one<A: Allocator>(counts: &mut VerdictCounts, verdict: &Verdict<A>)
+    requires { all_counts counts.old < MAX_VERDICTS }
+    ensures { counts.new ≡ with_verdict counts.old verdict.now }
+{
+    match verdict {
+        Verdict::Ready(_) => counts.ready += 1,
+        Verdict::Held => counts.held += 1,
+        Verdict::Repeat => counts.repeat += 1,
+        Verdict::AfterClose => counts.after_close += 1,
+        Verdict::Full => counts.full += 1,
+    }
 }
 
 // Puts the entries that are ready, in order, and End after a closing one.

@@ -67,21 +67,30 @@ pub fn stop<D: DeskNames, A: Allocator + Copy>(
     if kept.number.left() + applied.len() as u64 != APPLIERS {
         return Err(StopError::ApplierMissing(again(kept, seats, applied)));
     }
+    Ok(settle(kept, seats, applied))
+}
+
+// What the desk did, and all seats and appliers were told.
+fn settle<D: DeskNames, A: Allocator + Copy>(
+    kept: Kept<D, A>,
+    seats: Vec<Seat<D>, A>,
+    applied: Vec<Applied<D>, A>,
+) -> Report
+    requires seats { kept.issued.left + length seats.items ≡ SEATS }
+    requires applied { kept.number.left + length applied.items ≡ APPLIERS }
+    ensures { Reports seats.items applied.items result }
+{
     let Kept {
         desk,
-        mut issued,
-        mut spent,
-        mut number,
-        mut received,
+        issued,
+        spent,
+        number,
+        received,
         admitted: _,
     } = kept;
-    let (told_issued, told_spent, told_served) = collect_seats(&mut issued, &mut spent, seats);
-    collect_applied(&mut number, &mut received, applied);
-    issued.settle();
-    spent.settle();
-    number.settle();
-    received.settle();
-    Ok(Report {
+    let (told_issued, told_spent, told_served) = settle_seats(issued, spent, seats);
+    let applied = settle_applied(number, received, applied);
+    Report {
         issued: desk.issued(),
         spent: desk.spent(),
         given: desk.given(),
@@ -91,8 +100,43 @@ pub fn stop<D: DeskNames, A: Allocator + Copy>(
         told_issued,
         told_spent,
         told_served,
-        applied: number.sum(),
-    })
+        applied,
+    }
+}
+
+// Where all seats are there, the sums are what they were told: issued, spent and served.
+fn settle_seats<D: DeskNames, A: Allocator>(
+    mut issued: Tally<IssuedBy<D>>,
+    mut spent: Tally<SpentBy<D>>,
+    seats: Vec<Seat<D>, A>,
+) -> (u64, u64, u64)
+    requires room { (issued.left + length seats.items ≡ SEATS) × (spent.left + length seats.items ≡ SEATS) }
+    requires none { (issued.returned ≡ 0) × (spent.returned ≡ 0) }
+    requires fits { (issued.sum < 2 ^ 64) × (spent.sum < 2 ^ 64) }
+    ensures told { (result.0 ≡ all_issued seats.items) × (result.1 ≡ all_spent seats.items) × (result.2 ≡ all_served seats.items) }
+    ensures sums { (issued.sum ≡ all_issued seats.items) × (spent.sum ≡ all_spent seats.items + all_served seats.items) }
+{
+    let told = collect_seats(&mut issued, &mut spent, seats);
+    issued.settle();
+    spent.settle();
+    told
+}
+
+// Where all appliers are there, the sums are what they told. Answers that of the numbers.
+fn settle_applied<D: DeskNames, A: Allocator>(
+    mut number: Tally<NumberOf<D>>,
+    mut received: Tally<ReceivedBy<D>>,
+    applied: Vec<Applied<D>, A>,
+) -> u64
+    requires room { (number.left + length applied.items ≡ APPLIERS) × (received.left + length applied.items ≡ APPLIERS) }
+    requires none { (number.returned ≡ 0) × (received.returned ≡ 0) }
+    ensures told { result ≡ all_numbers applied.items }
+    ensures sums { received.sum ≡ all_received applied.items }
+{
+    collect_applied(&mut number, &mut received, applied);
+    number.settle();
+    received.settle();
+    number.sum()
 }
 
 // The same parts.

@@ -1,8 +1,7 @@
-use Rattle.std.proofs.Common.{◌≡◌, true, false, sym, subst, ap, ◌∙◌, rules}
+use Rattle.std.proofs.Common.{◌≡◌, true, false, subst, ap, ◌∙◌, rules}
 use Rattle.entry_codec.specs.Reading.{reading}
-use Rattle.site_core.specs.Inbounds.{Arrives, ready_in}
-use Rattle.apply_lanes.specs.Intakes.{IntakeValue, FindsClosed, CanPut, PutsAll}
-use Rattle.apply_lanes.proofs.IntakeLaws.{entries_come, can_take, in_step_after, is_intake, finds_closed}
+use Rattle.apply_lanes.specs.Intakes.{IntakeValue, IsInStep, FindsClosed, LineLeaves}
+use Rattle.apply_lanes.proofs.IntakeLaws.{few_come, can_take, still_intake, line_leaves, finds_closed}
 use Rattle.apply_lanes.proofs.intake.Intake.on_line.Goals as goal
 
 pub returns-then-is_dead-clause-leaves : goal.returns-then-is_dead-clause-leaves
@@ -18,18 +17,11 @@ returns-then-is_dead-clause-leaves g c =
     subst (λ (i : IntakeValue g.row.A.Denot). FindsClosed i (reading c.args.line.now) (record old { inbound = c.on_line.new.self })) c.self.view_is
     (finds_closed old _ came.0 c.in-Ok.arrival c.on_line.new.self came.1 came.2 dead)
 
-pub put_ready-requires-clause-entries : goal.put_ready-requires-clause-entries
-put_ready-requires-clause-entries g c =
-    let dead : c.self.inside.inlet.dead ≡ false = search rules in
-    let finished : c.self.inside.finished ≡ false = ap (λ (i : IntakeValue _). i.finished) c.self.view_is ∙ c.requires in
-    let step = c.self.invariant.in_step dead finished in
-    let came = c.in-Ok.ensures.ok in
-    let arrives = subst (λ a. Arrives c.self.inside.inbound came.0 a c.on_line.new.self) c.in-Entries.is came.2 in
-    let can = can_take _ _ _ _ step (entries_come _ came.0 _ _ arrives).1 in
-    subst (λ vs. CanPut c.self.inside.ended c.self.inside.inlet.put (ready_in vs)) (sym c.into_vec-verdicts.ensures) can
+pub take_in-requires-clause-few : goal.take_in-requires-clause-few
+take_in-requires-clause-few g c = let came = c.in-Ok.ensures.ok in few_come _ came.0 _ _ came.2
 
-pub invariant_of-self-in-Entries : goal.invariant_of-self-in-Entries
-invariant_of-self-in-Entries g c =
+pub take_in-requires-clause-entries : goal.take_in-requires-clause-entries
+take_in-requires-clause-entries g c =
     let old : IntakeValue g.row.A.Denot = record {
       inbound = c.self.inside.inbound;
       inlet = c.self.inside.inlet;
@@ -38,12 +30,35 @@ invariant_of-self-in-Entries g c =
     } in
     let dead : c.self.inside.inlet.dead ≡ false = search rules in
     let finished : c.self.inside.finished ≡ false = ap (λ (i : IntakeValue _). i.finished) c.self.view_is ∙ c.requires in
-    let step = c.self.invariant.in_step dead finished in
+    let step : IsInStep old = c.self.invariant.in_step dead finished in
     let came = c.in-Ok.ensures.ok in
-    let arrives = subst (λ a. Arrives c.self.inside.inbound came.0 a c.on_line.new.self) c.in-Entries.is came.2 in
-    let come = entries_come _ came.0 _ _ arrives in
-    let vs = c.in-Entries.verdicts in
-    let all : PutsAll c.self.inside.inlet.put c.self.inside.ended (ready_in vs) c.put_ready.new.ended c.put_ready.new.inlet =
-    subst (λ l. PutsAll c.self.inside.inlet.put c.self.inside.ended (ready_in l) c.put_ready.new.ended c.put_ready.new.inlet) c.into_vec-verdicts.ensures
-    c.in_ok-put_ready-in-Entries.ensures.ok in
-    is_intake _ (in_step_after old (record old { inbound = c.on_line.new.self; inlet = c.put_ready.new.inlet; ended = c.put_ready.new.ended }) come.0 vs step come.1 all)
+    can_take old came.0 _ _ step came.2
+
+pub invariant_of-self-2 : goal.invariant_of-self-2
+invariant_of-self-2 g c =
+    let old : IntakeValue g.row.A.Denot = record {
+      inbound = c.self.inside.inbound;
+      inlet = c.self.inside.inlet;
+      ended = c.self.inside.ended;
+      finished = c.self.inside.finished;
+    } in
+    let dead : c.self.inside.inlet.dead ≡ false = search rules in
+    let finished : c.self.inside.finished ≡ false = ap (λ (i : IntakeValue _). i.finished) c.self.view_is ∙ c.requires in
+    let step : IsInStep old = c.self.invariant.in_step dead finished in
+    let came = c.in-Ok.ensures.ok in
+    still_intake old (record old { inbound = c.on_line.new.self; inlet = c.take_in.new.inlet; ended = c.take_in.new.ended }) came.0 c.in-Ok.arrival
+    c.take_in.result step came.2 c.take_in.ensures.ok c.take_in.ensures.err
+
+pub returns-clause-leaves : goal.returns-clause-leaves
+returns-clause-leaves g c =
+    let old : IntakeValue g.row.A.Denot = record {
+      inbound = c.self.inside.inbound;
+      inlet = c.self.inside.inlet;
+      ended = c.self.inside.ended;
+      finished = c.self.inside.finished;
+    } in
+    let new : IntakeValue g.row.A.Denot = record old { inbound = c.on_line.new.self; inlet = c.take_in.new.inlet; ended = c.take_in.new.ended } in
+    let came = c.in-Ok.ensures.ok in
+    subst (λ (i : IntakeValue g.row.A.Denot). LineLeaves i (reading c.args.line.now) c.take_in.result new) c.self.view_is
+    (line_leaves old new _ c.in-Ok.arrival c.take_in.result
+    (record { message = came.0; read_as = came.1; arrives = came.2; lane = c.take_in.ensures.lane }) c.take_in.ensures.ok c.take_in.ensures.err)
