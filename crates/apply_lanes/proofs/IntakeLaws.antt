@@ -193,6 +193,11 @@ module _ {A : Type 0} where
       put_one ended ended put e new (n.1 ∙ sym goes_on)
       (is ∙ sym (append-nil (put ++ Entry e ∷ [])) ∙ ap (λ b. (put ++ Entry e ∷ []) ++ end_if b) (sym goes_on)) live
 
+  pub put_ended : (ended : Bool) (put : List (Item A)) (e : EntryValue) (new : InletValue A) → closes e ≡ true
+      → new.put ≡ (put ++ Entry e ∷ []) ++ End ∷ [] → new.dead ≡ false → PutsAll put ended (e ∷ []) true new
+  put_ended ended put e new is all live =
+      put_one ended true put e new (sym is) (all ∙ ap (λ b. (put ++ Entry e ∷ []) ++ end_if b) (sym is)) live
+
   -- ---- many
 
   -- both parts were put

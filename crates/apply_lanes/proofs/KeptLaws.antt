@@ -238,6 +238,39 @@ admit_left bs i d within free =
     let h = count_by-le-length (λ b. b) (set bs i true) in
     omega (arith, admit_more bs i d within free, h, length-set bs i true)
 
+-- the site of that place was admitted
+pub kept_admit : (id : DeskId) (k : KeptValue) (i : ℕ) (n r : TallyValue) → IsKept id k → i < 16 → get_or k.admitted i false ≡ false
+    → n ≡ record k.number { left = n.left } → n.left + 1 ≡ k.number.left → r ≡ record k.received { left = r.left } → r.left + 1 ≡ k.received.left
+    → IsKept id (record k { number = n; received = r; admitted = set k.admitted i true })
+kept_admit id k i n r is within free of_number less of_received fewer =
+    let p = is.portioned in
+    let t = is.tallied in
+    let more = admit_more k.admitted i false (omega (arith, p.places)) free in
+    record {
+      site = is.site;
+      same_me = is.same_me;
+      same_sites = is.same_sites;
+      few = is.few;
+      tallied = record {
+        issued_is = t.issued_is;
+        spent_is = t.spent_is;
+        number_is = ap (λ (x : TallyValue). x.sum) of_number ∙ t.number_is;
+        received_is = ap (λ (x : TallyValue). x.sum) of_received ∙ t.received_is;
+        numbers = t.numbers;
+      };
+      portioned = record {
+        seats = p.seats;
+        both = p.both;
+        places = length-set k.admitted i true ∙ p.places;
+        appliers = omega (arith, p.appliers, more, less);
+        both_more = omega (arith, p.both_more, less, fewer);
+        no_issued_back = p.no_issued_back;
+        no_spent_back = p.no_spent_back;
+        no_number_back = ap (λ (x : TallyValue). x.returned) of_number ∙ p.no_number_back;
+        no_received_back = ap (λ (x : TallyValue). x.returned) of_received ∙ p.no_received_back;
+      };
+    }
+
 -- a portion is left for each site that was not admitted
 pub portion_left : (k : KeptValue) (i : ℕ) (d : Bool) → IsPortioned k → i < 16 → get_or k.admitted i d ≡ false → 1 ≤ k.number.left
 portion_left k i d p within free = omega (arith, admit_left k.admitted i d (omega (arith, p.places)) free, p.appliers, p.places)

@@ -148,13 +148,14 @@ impl<D: DeskNames, G: Gate, A: Allocator> Applier<D, G, A> {
         ensures same { (self.new.origin ≡ self.old.origin) × (self.new.outlet.lane ≡ self.old.outlet.lane) }
         ensures err { IfErr result (λ fault. StepFails self.old fault self.new) }
     {
-        if !self.fill(rt)? {
+        let more = self.fill(rt)?;
+        if !more {
             return Ok(false);
         }
         self.pass(rt);
         let mut kept = desk.lock(rt);
         self.apply_in(&mut *kept)?;
-        Ok(true)
+        Ok(more)
     }
 
     /// Steps until End was taken, and answers how many entries were applied or dropped.

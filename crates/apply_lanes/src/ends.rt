@@ -161,7 +161,6 @@ impl<A: Allocator> Inlet<A> {
 impl<A: Allocator> Outlet<A> {
     /// Takes the next item, and waits while there is none. That an entry continues those taken before
     /// is known by the rule, with no test.
-    #[tactic(auto, using(crate::proofs::Items::may_come))]
     pub fn take<R: Wait>(&mut self, rt: &R) -> Result<Item<A>, LaneClosed<A>>
         requires { IsOpen self.old.taken }
         ensures lane { self.new.lane ≡ self.old.lane }

@@ -1,7 +1,7 @@
-use Rattle.std.proofs.Common.{◌≡◌, true, false, [], ◌∷◌, ◌++◌, refl, rules}
+use Rattle.std.proofs.Common.{◌≡◌, true, false, [], ◌∷◌, ◌++◌, refl, ap, ◌∙◌, rules}
 use Rattle.rights_types.specs.Entries.{closes}
-use Rattle.apply_lanes.specs.declared.item.Item.TheVariants.{Entry}
-use Rattle.apply_lanes.proofs.IntakeLaws.{next_continues, closed_at_put, closed_at_end, put_alone}
+use Rattle.apply_lanes.specs.declared.item.Item.TheVariants.{Entry, End}
+use Rattle.apply_lanes.proofs.IntakeLaws.{next_continues, closed_at_put, closed_at_end, put_alone, put_ended}
 use Rattle.apply_lanes.proofs.intake.put_next.Goals as goal
 
 pub put-requires : goal.put-requires
@@ -26,3 +26,11 @@ returns-else-closes-clause-ok g c =
     let live : c.put.new.self.dead ≡ false = search rules in
     let goes_on : closes c.args.entry ≡ false = search rules in
     put_alone _ _ _ c.put.new.self c.requires goes_on more live
+
+pub returns-in-Ok-end-clause-ok : goal.returns-in-Ok-end-clause-ok
+returns-in-Ok-end-clause-ok g c =
+    let is : closes c.args.entry ≡ true = search rules in
+    let more : c.put.new.self.put ≡ c.args.inlet.now.put ++ Entry c.args.entry ∷ [] = search rules in
+    let last : c.end.new.self.put ≡ c.put.new.self.put ++ End ∷ [] = search rules in
+    let live : c.end.new.self.dead ≡ false = search rules in
+    put_ended c.args.ended.now _ _ c.end.new.self is (last ∙ ap (λ l. l ++ End ∷ []) more) live

@@ -1,4 +1,4 @@
-use Rattle.std.proofs.Common.{subst, sym}
+use Rattle.std.proofs.Common.{subst, sym, rules}
 use Rattle.apply_lanes.specs.Items.{IsOpen, Continues}
 use Rattle.apply_lanes.proofs.Items.{continued, continues_on, open_push}
 use Rattle.apply_lanes.proofs.ends.Inlet.put.Goals as goal
@@ -11,3 +11,18 @@ returns-in-Ok-clause-open g c = subst IsOpen (sym c.in-Ok.ensures.ok.0) (open_pu
 
 pub returns-in-Ok-clause-next : goal.returns-in-Ok-clause-next
 returns-in-Ok-clause-next g c f follows = subst (λ l. Continues l f) (sym c.in-Ok.ensures.ok.0) (continues_on _ _ f c.requires follows)
+
+pub returns-in-Ok-clause-lane : goal.returns-in-Ok-clause-lane
+returns-in-Ok-clause-lane g c = search rules
+
+pub returns-in-Ok-clause-ok : goal.returns-in-Ok-clause-ok
+returns-in-Ok-clause-ok g c = search rules
+
+pub returns-in-Ok-clause-dead : goal.returns-in-Ok-clause-dead
+returns-in-Ok-clause-dead g c = search rules
+
+pub returns-in-Err-Entry-clause-err : goal.returns-in-Err-Entry-clause-err
+returns-in-Err-Entry-clause-err g c = search rules
+
+pub returns-in-Err-Entry-clause-dead : goal.returns-in-Err-Entry-clause-dead
+returns-in-Err-Entry-clause-dead g c = search rules

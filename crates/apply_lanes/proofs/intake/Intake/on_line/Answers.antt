@@ -62,3 +62,51 @@ returns-clause-leaves g c =
     subst (λ (i : IntakeValue g.row.A.Denot). LineLeaves i (reading c.args.line.now) c.take_in.result new) c.self.view_is
     (line_leaves old new _ c.in-Ok.arrival c.take_in.result
     (record { message = came.0; read_as = came.1; arrives = came.2; lane = c.take_in.ensures.lane }) c.take_in.ensures.ok c.take_in.ensures.err)
+
+pub invariant_of-self : goal.invariant_of-self
+invariant_of-self g c = search rules
+
+pub returns-in-Err-clause-refused : goal.returns-in-Err-clause-refused
+returns-in-Err-clause-refused g c = search rules
+
+pub returns-in-Err-clause-leaves : goal.returns-in-Err-clause-leaves
+returns-in-Err-clause-leaves g c = search rules
+
+pub returns-in-Err-clause-dead : goal.returns-in-Err-clause-dead
+returns-in-Err-clause-dead g c = search rules
+
+pub returns-in-Err-clause-lane : goal.returns-in-Err-clause-lane
+returns-in-Err-clause-lane g c = search rules
+
+pub returns-in-Err-clause-unfinished : goal.returns-in-Err-clause-unfinished
+returns-in-Err-clause-unfinished g c = search rules
+
+pub invariant_of-self-then-is_dead : goal.invariant_of-self-then-is_dead
+invariant_of-self-then-is_dead g c = search rules
+
+pub returns-then-is_dead-clause-refused : goal.returns-then-is_dead-clause-refused
+returns-then-is_dead-clause-refused g c = search rules
+
+pub returns-then-is_dead-clause-dead : goal.returns-then-is_dead-clause-dead
+returns-then-is_dead-clause-dead g c = search rules
+
+pub returns-then-is_dead-clause-lane : goal.returns-then-is_dead-clause-lane
+returns-then-is_dead-clause-lane g c = search rules
+
+pub returns-then-is_dead-clause-unfinished : goal.returns-then-is_dead-clause-unfinished
+returns-then-is_dead-clause-unfinished g c = search rules
+
+pub take_in-requires-clause-live : goal.take_in-requires-clause-live
+take_in-requires-clause-live g c = search rules
+
+pub returns-clause-refused : goal.returns-clause-refused
+returns-clause-refused g c = search rules
+
+pub returns-clause-dead : goal.returns-clause-dead
+returns-clause-dead g c = search rules
+
+pub returns-clause-lane : goal.returns-clause-lane
+returns-clause-lane g c = search rules
+
+pub returns-clause-unfinished : goal.returns-clause-unfinished
+returns-clause-unfinished g c = search rules

@@ -1,4 +1,4 @@
-use Rattle.std.proofs.Common.{◌≡◌, ◌+◌, ◌-◌, arith, sym, ◌∙◌, subst, length}
+use Rattle.std.proofs.Common.{◌≡◌, ◌+◌, ◌-◌, arith, sym, ◌∙◌, subst, length, rules}
 use Rattle.rights_types.specs.Rights.{to}
 use Rattle.rights_book.specs.Books.{peer}
 use Rattle.apply_lanes.specs.Kepts.{KeptValue, raised}
@@ -23,3 +23,12 @@ invariant_of-self-2 g c =
     kept_apply _ _ c.apply.new.self _ _ _ _ i applies c.number.ensures.range.0 c.requires.site next c.own.ensures.valid.number
     (subst (λ n. c.add.new.self ≡ raised c.self.inside.number n) count c.add.ensures.sum)
     (subst (λ n. c.add-2.new.self ≡ raised c.self.inside.received n) gift c.add-2.ensures.sum)
+
+pub returns-clause-ok : goal.returns-clause-ok
+returns-clause-ok g c = search rules
+
+pub returns-clause-tallies : goal.returns-clause-tallies
+returns-clause-tallies g c = search rules
+
+pub returns-clause-told : goal.returns-clause-told
+returns-clause-told g c = search rules

@@ -1,4 +1,4 @@
-use Rattle.std.proofs.Common.{subst}
+use Rattle.std.proofs.Common.{subst, rules}
 use Rattle.site_core.specs.Calls.{DeskSpends}
 use Rattle.apply_lanes.proofs.KeptLaws.{kept_write, raised_none, issued-spend, spent-spend}
 use Rattle.apply_lanes.proofs.kept.Kept.spend.Goals as goal
@@ -9,3 +9,27 @@ invariant_of-self-in-Spent g c =
     let wrote = spends.1.entry in
     kept_write _ _ _ _ _ _ _ _ c.self.invariant wrote.log wrote.leaves (issued-spend _) (spent-spend _) (raised_none _)
     c.add.ensures.sum
+
+pub invariant_of-seat : goal.invariant_of-seat
+invariant_of-seat g c = search rules
+
+pub returns-in-Spent-clause-ok : goal.returns-in-Spent-clause-ok
+returns-in-Spent-clause-ok g c = search rules
+
+pub returns-in-Spent-clause-tallies : goal.returns-in-Spent-clause-tallies
+returns-in-Spent-clause-tallies g c = search rules
+
+pub returns-in-Spent-clause-told : goal.returns-in-Spent-clause-told
+returns-in-Spent-clause-told g c = search rules
+
+pub invariant_of-self-in_default : goal.invariant_of-self-in_default
+invariant_of-self-in_default g c = search rules
+
+pub returns-in_default-clause-ok : goal.returns-in_default-clause-ok
+returns-in_default-clause-ok g c = search rules
+
+pub returns-in_default-clause-tallies : goal.returns-in_default-clause-tallies
+returns-in_default-clause-tallies g c = search rules
+
+pub returns-in_default-clause-told : goal.returns-in_default-clause-told
+returns-in_default-clause-told g c = search rules
