@@ -1,60 +1,141 @@
 //! What a site answers to asks.
-use crate::tests::calls::{answer, ask};
-use rights_types::{Amount, SiteId};
+ghost use Rattle.std.specs.Prelude.{◌≡◌, ◌≤◌};
+ghost use Rattle.rights_types.specs.Ranges.{IsAmount};
+ghost use Rattle.transfer_manager.specs.Managers.{sites};
+
+use rights_types::{Amount, Ask, AskNumber, SiteId};
 use transfer_manager::{AskAnswer, Manager};
+
+/// An ask to site 1 of three for six rights, and what it is to be answered.
+#[derive(Clone, Copy)]
+struct Case {
+    asker: u64,
+    number: u64,
+    available: u64,
+    /// Whether the answer is noted.
+    noted: bool,
+    answer: AskAnswer,
+}
+
+fn ask(case: Case) -> Option<Ask> {
+    let asker = SiteId::new(case.asker).ok()?;
+    let number = AskNumber::new(case.number).ok()?;
+    Ask::new(asker, SiteId::known(1), number, Amount::known(6)).ok()
+}
+
+// The answer to an ask, which is noted where it should be.
+fn answer(manager: &mut Manager, ask: &Ask, available: u64, noted: bool) -> AskAnswer
+    requires { ask.now.asker ≤ sites manager.old }
+    ensures { sites manager.new ≡ sites manager.old }
+{
+    let answer = manager.on_ask(ask, available);
+    if noted {
+        // The borrow checker does not cover an enum that is passed on here and answered below.
+        let noted = answer;
+        manager.note_answer(ask, noted);
+    }
+    answer
+}
+
+fn is_answered(manager: &mut Manager, case: Case) -> bool
+    requires { 3 ≤ sites manager.old }
+    ensures { sites manager.new ≡ sites manager.old }
+{
+    match ask(case) {
+        Some(ask) if ask.asker().number() <= 3 => {
+            answer(manager, &ask, case.available, case.noted) == case.answer
+        }
+        _ => false,
+    }
+}
+
+// How many asks in turn are answered as they should be, before the first that is not.
+fn cases_answered(cases: &[Case]) -> usize {
+    let mut manager = Manager::new(SiteId::known(1), 3);
+    for (place, case) in cases.iter().enumerate() {
+        if !is_answered(&mut manager, *case) {
+            return place;
+        }
+    }
+    cases.len()
+}
+
+fn granted(amount: u64) -> AskAnswer
+    requires { IsAmount amount }
+{
+    AskAnswer::Grant(Amount::known(amount))
+}
+
+// An ask whose answer is noted.
+fn noted(asker: u64, number: u64, available: u64, answer: AskAnswer) -> Case {
+    Case {
+        asker,
+        number,
+        available,
+        noted: true,
+        answer,
+    }
+}
+
+// An ask whose answer is not noted.
+fn unnoted(asker: u64, number: u64, available: u64, answer: AskAnswer) -> Case {
+    Case {
+        asker,
+        number,
+        available,
+        noted: false,
+        answer,
+    }
+}
 
 /// Three asks of one site. Nothing is noted by the answer itself, and each number is answered once.
 #[test]
 fn each_number_is_answered_once(rt: HostRuntime) {
-    let mut manager = Manager::new(SiteId::known(1), 3);
-    let first = ask(&rt, 2, 1, 1, 6);
-    assert!(rt; manager.on_ask(&first, 4) == AskAnswer::Grant(Amount::known(4)));
-    assert!(rt; answer(&mut manager, &first, 4) == AskAnswer::Grant(Amount::known(4)));
-    assert!(rt; manager.on_ask(&first, 4) == AskAnswer::Repeated);
-    let second = ask(&rt, 2, 1, 2, 6);
-    assert!(rt; answer(&mut manager, &second, 0) == AskAnswer::Deny);
-    assert!(rt; manager.on_ask(&second, 0) == AskAnswer::RepeatedDeny);
-    assert!(rt;
-        answer(&mut manager, &ask(&rt, 2, 1, 3, 6), 9) == AskAnswer::Grant(Amount::known(6))
-    );
-    assert!(rt; manager.on_ask(&second, 9) == AskAnswer::OldAsk);
+    let cases = [
+        unnoted(2, 1, 4, granted(4)),
+        noted(2, 1, 4, granted(4)),
+        unnoted(2, 1, 4, AskAnswer::Repeated),
+        noted(2, 2, 0, AskAnswer::Deny),
+        unnoted(2, 2, 0, AskAnswer::RepeatedDeny),
+        noted(2, 3, 9, granted(6)),
+        unnoted(2, 2, 9, AskAnswer::OldAsk),
+    ];
+    assert_eq!(rt; cases_answered(&cases), cases.len());
 }
 
 /// A repeat is a repeat whatever is available, and a denied number is not granted later.
 #[test]
 fn repeats_come_before_availability(rt: HostRuntime) {
-    let mut manager = Manager::new(SiteId::known(1), 3);
-    let first = ask(&rt, 2, 1, 1, 6);
-    assert!(rt; answer(&mut manager, &first, 10) == AskAnswer::Grant(Amount::known(6)));
-    assert!(rt; answer(&mut manager, &first, 0) == AskAnswer::Repeated);
-    let second = ask(&rt, 2, 1, 2, 6);
-    assert!(rt; answer(&mut manager, &second, 0) == AskAnswer::Deny);
-    assert!(rt; answer(&mut manager, &second, 10) == AskAnswer::RepeatedDeny);
-    assert!(rt; manager.on_ask(&first, 0) == AskAnswer::OldAsk);
+    let cases = [
+        noted(2, 1, 10, granted(6)),
+        noted(2, 1, 0, AskAnswer::Repeated),
+        noted(2, 2, 0, AskAnswer::Deny),
+        noted(2, 2, 10, AskAnswer::RepeatedDeny),
+        unnoted(2, 1, 0, AskAnswer::OldAsk),
+    ];
+    assert_eq!(rt; cases_answered(&cases), cases.len());
 }
 
 /// A denial is repeated until a later ask is answered, by a denial too.
 #[test]
 fn denials_in_turn(rt: HostRuntime) {
-    let mut manager = Manager::new(SiteId::known(1), 3);
-    let first = ask(&rt, 2, 1, 1, 6);
-    let second = ask(&rt, 2, 1, 2, 6);
-    assert!(rt; answer(&mut manager, &first, 0) == AskAnswer::Deny);
-    assert!(rt; answer(&mut manager, &first, 0) == AskAnswer::RepeatedDeny);
-    assert!(rt; answer(&mut manager, &second, 0) == AskAnswer::Deny);
-    assert!(rt; answer(&mut manager, &first, 0) == AskAnswer::OldAsk);
+    let cases = [
+        noted(2, 1, 0, AskAnswer::Deny),
+        noted(2, 1, 0, AskAnswer::RepeatedDeny),
+        noted(2, 2, 0, AskAnswer::Deny),
+        noted(2, 1, 0, AskAnswer::OldAsk),
+    ];
+    assert_eq!(rt; cases_answered(&cases), cases.len());
 }
 
 /// Each asker has numbers of its own, and numbers may be passed over.
 #[test]
 fn askers_count_apart(rt: HostRuntime) {
-    let mut manager = Manager::new(SiteId::known(1), 3);
-    assert!(rt;
-        answer(&mut manager, &ask(&rt, 2, 1, 7, 6), 9) == AskAnswer::Grant(Amount::known(6))
-    );
-    assert!(rt;
-        answer(&mut manager, &ask(&rt, 3, 1, 1, 6), 3) == AskAnswer::Grant(Amount::known(3))
-    );
-    assert!(rt; manager.on_ask(&ask(&rt, 2, 1, 6, 6), 9) == AskAnswer::OldAsk);
-    assert!(rt; manager.on_ask(&ask(&rt, 3, 1, 2, 6), 0) == AskAnswer::Deny);
+    let cases = [
+        noted(2, 7, 9, granted(6)),
+        noted(3, 1, 3, granted(3)),
+        unnoted(2, 6, 9, AskAnswer::OldAsk),
+        unnoted(3, 2, 0, AskAnswer::Deny),
+    ];
+    assert_eq!(rt; cases_answered(&cases), cases.len());
 }

@@ -1,39 +1,51 @@
-//! Calls of managers and books, made only where they may be.
+//! Managers, and asks that come to them: calls that are made only where they may be, and answer what came of them.
 ghost use Rattle.std.specs.Prelude.{◌≡◌, ◌≤◌};
 ghost use Rattle.transfer_manager.specs.Managers.{sites};
 
+use request_queue::RequestQueue;
 use rights_book::Book;
-use rights_types::{Amount, Ask, AskNumber, Entry, Move, SiteId};
-use std::alloc::{Allocator, Global};
-use std::process::Abort;
-use transfer_manager::{AskAnswer, Manager};
+use rights_types::{Ask, AskNumber, Entry, Move, SiteId};
+use std::alloc::Global;
+use transfer_manager::Manager;
 
-/// Answers an ask, and notes the answer.
-pub(crate) fn answer(manager: &mut Manager, ask: &Ask, available: u64) -> AskAnswer
-    requires { ask.now.asker ≤ sites manager.old }
-    ensures { sites manager.new ≡ sites manager.old }
-{
-    let answer = manager.on_ask(ask, available);
-    // The borrow checker does not cover an enum that is passed on here and answered below.
-    let noted = answer;
-    manager.note_answer(ask, noted);
-    answer
+/// A manager, and what it plans by.
+#[derive(Drop)]
+pub(crate) struct Planner {
+    me: u64,
+    count: u64,
+    manager: Manager,
+    book: Book,
+    queue: RequestQueue,
+    ghost same: { sites manager ≡ count },
 }
 
-/// Applies the moves as the next entry of that site. `false` where they may not be, or there is no memory.
-pub(crate) fn apply<A: Allocator>(
-    alloc: Global,
-    book: &mut Book<A>,
-    origin: SiteId,
-    moves: &[Move],
-) -> bool {
+/// What is done with a manager, or seen of it. Peers go by their numbers.
+#[derive(Clone, Copy)]
+pub(crate) enum Step {
+    /// The next entry of that peer is applied, of this move so many times.
+    Applies(u64, Move, usize),
+    /// That peer is known to have so many rights.
+    Knows(u64, i128),
+    /// A request for so many rights waits till that deadline, as this ticket.
+    Waits(u64, u64, u64),
+    /// So many peers are asked.
+    Plans(u64),
+    /// The ask of this number and amount to that peer is outstanding.
+    Asks(u64, u64, u64),
+    /// No ask to that peer is outstanding.
+    AsksNothing(u64),
+    /// That peer grants the ask of this number.
+    Granted(u64, u64),
+    /// That peer denies the ask of this number.
+    Denied(u64, u64),
+}
+
+// Applies the moves as the next entry of that site. `false` where they may not be.
+fn apply(book: &mut Book, origin: SiteId, moves: Vec<Move>) -> bool {
     let me = book.me();
     if origin.number() > book.sites() || origin == me || book.closed(origin) {
         return false;
     }
-    let Ok(moves) = Vec::from_slice(alloc, moves) else {
-        return false;
-    };
     match Entry::new(origin, book.applied(origin), moves) {
         Ok(entry) => {
             book.apply(origin, &entry);
@@ -43,13 +55,119 @@ pub(crate) fn apply<A: Allocator>(
     }
 }
 
-/// An ask of this number, between sites of these numbers.
-pub(crate) fn ask(rt: &impl Abort, asker: u64, asked: u64, number: u64, amount: u64) -> Ask
-    ensures { result.asker ≡ asker }
+fn is_ask(ask: &Ask, asker: u64, asked: u64, number: u64, amount: u64) -> bool {
+    ask.asker().number() == asker
+        && ask.asked().number() == asked
+        && ask.ask().value() == number
+        && ask.amount().value() == amount
+}
+
+impl Planner {
+    /// The manager of that site among so many, with a book and a queue.
+    pub(crate) fn new(alloc: Global, me: u64, count: u64) -> Option<Planner>
+        requires count { (2 ≤ count) × (count ≤ 16) }
+        requires me { (1 ≤ me) × (me ≤ count) }
+    {
+        let site = SiteId::known(me);
+        let book = Book::new(alloc, site, count).ok()?;
+        let queue = RequestQueue::new(alloc).ok()?;
+        let manager = Manager::new(site, count);
+        Some(Planner {
+            me,
+            count,
+            manager,
+            book,
+            queue,
+        })
+    }
+
+    pub(crate) fn applies(&mut self, alloc: Global, peer: u64, m: Move, times: usize) -> bool {
+        let Ok(peer) = SiteId::new(peer) else {
+            return false;
+        };
+        let mut moves = Vec::new(alloc);
+        moves.resize(times, m).is_ok() && apply(&mut self.book, peer, moves)
+    }
+
+    fn knows(&self, peer: u64, rights: i128) -> bool {
+        match SiteId::new(peer) {
+            Ok(peer) => self.book.known(peer) == rights,
+            Err(_) => false,
+        }
+    }
+
+    pub(crate) fn waits(&mut self, amount: u64, deadline: u64, ticket: u64) -> bool {
+        self.queue.put(amount, deadline) == Ok(ticket)
+    }
+
+    pub(crate) fn plans(&mut self, count: u64) -> bool {
+        self.manager.plan(&self.book, &self.queue) == count
+    }
+
+    fn outstanding(&self, peer: u64) -> Option<Ask> {
+        self.manager.outstanding(SiteId::new(peer).ok()?)
+    }
+
+    pub(crate) fn asks(&self, peer: u64, number: u64, amount: u64) -> bool {
+        match self.outstanding(peer) {
+            Some(ask) => is_ask(&ask, self.me, peer, number, amount),
+            None => false,
+        }
+    }
+
+    pub(crate) fn asks_nothing(&self, peer: u64) -> bool {
+        peer <= self.count && self.outstanding(peer).is_none()
+    }
+
+    fn granted(&mut self, peer: u64, ask: u64) -> bool {
+        let (Ok(peer), Ok(ask)) = (SiteId::new(peer), AskNumber::new(ask)) else {
+            return false;
+        };
+        if peer.number() > self.count {
+            return false;
+        }
+        self.manager.on_grant(peer, ask);
+        true
+    }
+
+    fn denied(&mut self, peer: u64, ask: u64) -> bool {
+        let (Ok(peer), Ok(ask)) = (SiteId::new(peer), AskNumber::new(ask)) else {
+            return false;
+        };
+        if peer.number() > self.count {
+            return false;
+        }
+        self.manager.on_deny(peer, ask);
+        true
+    }
+
+    // Whether the step goes as it says.
+    fn goes(&mut self, alloc: Global, step: Step) -> bool {
+        match step {
+            Step::Applies(peer, m, times) => self.applies(alloc, peer, m, times),
+            Step::Knows(peer, rights) => self.knows(peer, rights),
+            Step::Waits(amount, deadline, ticket) => self.waits(amount, deadline, ticket),
+            Step::Plans(count) => self.plans(count),
+            Step::Asks(peer, number, amount) => self.asks(peer, number, amount),
+            Step::AsksNothing(peer) => self.asks_nothing(peer),
+            Step::Granted(peer, ask) => self.granted(peer, ask),
+            Step::Denied(peer, ask) => self.denied(peer, ask),
+        }
+    }
+}
+
+/// How many steps go as they say, before the first that does not, at that site among so many.
+pub(crate) fn steps_gone(alloc: Global, me: u64, count: u64, steps: &[Step]) -> usize
+    requires count { (2 ≤ count) × (count ≤ 16) }
+    requires me { (1 ≤ me) × (me ≤ count) }
 {
-    let asker = SiteId::new(asker).expect(rt, "a site");
-    let asked = SiteId::new(asked).expect(rt, "a site");
-    let number = AskNumber::new(number).expect(rt, "an ask number");
-    let amount = Amount::new(amount).expect(rt, "an amount");
-    Ask::new(asker, asked, number, amount).expect(rt, "an ask")
+    let Some(mut planner) = Planner::new(alloc, me, count) else {
+        return 0;
+    };
+    for (place, step) in steps.iter().enumerate() {
+        if !planner.goes(alloc, *step) {
+            return place;
+        }
+    }
+    steps.len()
 }

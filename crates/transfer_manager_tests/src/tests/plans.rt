@@ -1,120 +1,105 @@
 //! Which peers are asked, and for how much.
-use crate::tests::calls::{apply, ask};
-use request_queue::RequestQueue;
-use rights_book::Book;
-use rights_types::{AskNumber, MAX_AMOUNT, Move, SiteId};
+use crate::tests::calls::{Step, steps_gone};
+use rights_types::{MAX_AMOUNT, Move};
 use test_kit::{grant, issue, spend};
-use transfer_manager::Manager;
 
 /// Both peers are asked for all that they are known to have, and then no more.
 #[test]
 fn two_peers_are_asked(rt: HostRuntime) {
-    let alloc = rt.alloc();
-    let (one, two, three) = (SiteId::known(1), SiteId::known(2), SiteId::known(3));
-    let mut book = Book::new(alloc, two, 3).expect(&rt, "memory");
-    assert!(rt; apply(alloc, &mut book, one, &[issue(4)]));
-    assert!(rt; apply(alloc, &mut book, three, &[issue(4)]));
-    let mut queue = RequestQueue::new(alloc).expect(&rt, "memory");
-    assert!(rt; queue.put(10, 0) == Ok(1));
-    let mut manager = Manager::new(two, 3);
-    assert!(rt; manager.plan(&book, &queue) == 2);
-    assert!(rt; manager.outstanding(one) == Some(ask(&rt, 2, 1, 1, 4)));
-    assert!(rt; manager.outstanding(three) == Some(ask(&rt, 2, 3, 1, 4)));
-    assert!(rt; manager.outstanding(two) == None);
-    assert!(rt; manager.plan(&book, &queue) == 0);
+    let steps = [
+        Step::Applies(1, issue(4), 1),
+        Step::Applies(3, issue(4), 1),
+        Step::Waits(10, 0, 1),
+        Step::Plans(2),
+        Step::Asks(1, 1, 4),
+        Step::Asks(3, 1, 4),
+        Step::AsksNothing(2),
+        Step::Plans(0),
+    ];
+    assert_eq!(rt; steps_gone(rt.alloc(), 2, 3, &steps), steps.len());
 }
 
 /// A grant ends the ask that it answers, and no other.
 #[test]
 fn a_grant_ends_its_ask(rt: HostRuntime) {
-    let alloc = rt.alloc();
-    let (one, two) = (SiteId::known(1), SiteId::known(2));
-    let mut book = Book::new(alloc, two, 2).expect(&rt, "memory");
-    assert!(rt; apply(alloc, &mut book, one, &[issue(10)]));
-    let mut queue = RequestQueue::new(alloc).expect(&rt, "memory");
-    assert!(rt; queue.put(6, 9) == Ok(1));
-    let mut manager = Manager::new(two, 2);
-    assert!(rt; manager.plan(&book, &queue) == 1);
-    assert!(rt; manager.outstanding(one) == Some(ask(&rt, 2, 1, 1, 6)));
-    manager.on_grant(one, AskNumber::known(2));
-    assert!(rt; manager.outstanding(one) == Some(ask(&rt, 2, 1, 1, 6)));
-    manager.on_grant(one, AskNumber::known(1));
-    assert!(rt; manager.outstanding(one) == None);
-    assert!(rt; apply(alloc, &mut book, one, &[grant(2, 6, 1)]));
-    assert!(rt; manager.plan(&book, &queue) == 0);
+    let steps = [
+        Step::Applies(1, issue(10), 1),
+        Step::Waits(6, 9, 1),
+        Step::Plans(1),
+        Step::Asks(1, 1, 6),
+        Step::Granted(1, 2),
+        Step::Asks(1, 1, 6),
+        Step::Granted(1, 1),
+        Step::AsksNothing(1),
+        Step::Applies(1, grant(2, 6, 1), 1),
+        Step::Plans(0),
+    ];
+    assert_eq!(rt; steps_gone(rt.alloc(), 2, 2, &steps), steps.len());
 }
 
 /// After a denial the peer is asked again, under the next number. A late denial ends nothing.
 #[test]
 fn a_denied_peer_is_asked_again(rt: HostRuntime) {
-    let alloc = rt.alloc();
-    let (one, two) = (SiteId::known(1), SiteId::known(2));
-    let mut book = Book::new(alloc, two, 2).expect(&rt, "memory");
-    assert!(rt; apply(alloc, &mut book, one, &[issue(10)]));
-    let mut queue = RequestQueue::new(alloc).expect(&rt, "memory");
-    assert!(rt; queue.put(6, 0) == Ok(1));
-    let mut manager = Manager::new(two, 2);
-    assert!(rt; manager.plan(&book, &queue) == 1);
-    manager.on_deny(one, AskNumber::known(1));
-    manager.on_deny(one, AskNumber::known(1));
-    assert!(rt; manager.outstanding(one) == None);
-    assert!(rt; manager.plan(&book, &queue) == 1);
-    assert!(rt; manager.outstanding(one) == Some(ask(&rt, 2, 1, 2, 6)));
+    let steps = [
+        Step::Applies(1, issue(10), 1),
+        Step::Waits(6, 0, 1),
+        Step::Plans(1),
+        Step::Denied(1, 1),
+        Step::Denied(1, 1),
+        Step::AsksNothing(1),
+        Step::Plans(1),
+        Step::Asks(1, 2, 6),
+    ];
+    assert_eq!(rt; steps_gone(rt.alloc(), 2, 2, &steps), steps.len());
 }
 
 /// Nobody is asked who is known to lack rights or to have none.
 #[test]
 fn no_peer_with_rights(rt: HostRuntime) {
-    let alloc = rt.alloc();
-    let (one, two, three) = (SiteId::known(1), SiteId::known(2), SiteId::known(3));
-    let mut book = Book::new(alloc, three, 3).expect(&rt, "memory");
-    assert!(rt; apply(alloc, &mut book, two, &[spend(6)]));
-    assert!(rt; book.known(two) == -6);
-    assert!(rt; book.known(one) == 0);
-    let mut queue = RequestQueue::new(alloc).expect(&rt, "memory");
-    assert!(rt; queue.put(1, 0) == Ok(1));
-    let mut manager = Manager::new(three, 3);
-    assert!(rt; manager.plan(&book, &queue) == 0);
-    assert!(rt; manager.outstanding(one) == None);
-    assert!(rt; manager.outstanding(two) == None);
+    let steps = [
+        Step::Applies(2, spend(6), 1),
+        Step::Knows(2, -6),
+        Step::Knows(1, 0),
+        Step::Waits(1, 0, 1),
+        Step::Plans(0),
+        Step::AsksNothing(1),
+        Step::AsksNothing(2),
+    ];
+    assert_eq!(rt; steps_gone(rt.alloc(), 3, 3, &steps), steps.len());
 }
 
 /// A peer is asked for 10^9 at most, and the next one for what the first is known to leave.
 #[test]
 fn an_ask_has_a_greatest_amount(rt: HostRuntime) {
-    let alloc = rt.alloc();
-    let (one, two, three) = (SiteId::known(1), SiteId::known(2), SiteId::known(3));
-    let mut book = Book::new(alloc, two, 3).expect(&rt, "memory");
-    assert!(rt; apply(alloc, &mut book, one, &[issue(MAX_AMOUNT); 2]));
-    assert!(rt; apply(alloc, &mut book, three, &[issue(MAX_AMOUNT); 3]));
-    let mut queue = RequestQueue::new(alloc).expect(&rt, "memory");
-    for ticket in 1..=3u64 {
-        assert!(rt; queue.put(MAX_AMOUNT, 0) == Ok(ticket));
-    }
-    let mut manager = Manager::new(two, 3);
-    assert!(rt; manager.plan(&book, &queue) == 1);
-    assert!(rt; manager.outstanding(three) == Some(ask(&rt, 2, 3, 1, MAX_AMOUNT)));
-    assert!(rt; manager.outstanding(one) == None);
-    assert!(rt; manager.plan(&book, &queue) == 1);
-    assert!(rt; manager.outstanding(one) == Some(ask(&rt, 2, 1, 1, MAX_AMOUNT)));
+    let steps = [
+        Step::Applies(1, issue(MAX_AMOUNT), 2),
+        Step::Applies(3, issue(MAX_AMOUNT), 3),
+        Step::Waits(MAX_AMOUNT, 0, 1),
+        Step::Waits(MAX_AMOUNT, 0, 2),
+        Step::Waits(MAX_AMOUNT, 0, 3),
+        Step::Plans(1),
+        Step::Asks(3, 1, MAX_AMOUNT),
+        Step::AsksNothing(1),
+        Step::Plans(1),
+        Step::Asks(1, 1, MAX_AMOUNT),
+    ];
+    assert_eq!(rt; steps_gone(rt.alloc(), 2, 3, &steps), steps.len());
 }
 
 /// A peer that has closed is not asked, and the ask to it ends at the next plan.
 #[test]
 fn a_closed_peer_is_not_asked(rt: HostRuntime) {
-    let alloc = rt.alloc();
-    let (one, two, three) = (SiteId::known(1), SiteId::known(2), SiteId::known(3));
-    let mut book = Book::new(alloc, two, 3).expect(&rt, "memory");
-    assert!(rt; apply(alloc, &mut book, one, &[issue(8)]));
-    assert!(rt; apply(alloc, &mut book, three, &[issue(5)]));
-    let mut queue = RequestQueue::new(alloc).expect(&rt, "memory");
-    assert!(rt; queue.put(4, 0) == Ok(1));
-    let mut manager = Manager::new(two, 3);
-    assert!(rt; manager.plan(&book, &queue) == 1);
-    assert!(rt; manager.outstanding(one) == Some(ask(&rt, 2, 1, 1, 4)));
-    assert!(rt; apply(alloc, &mut book, one, &[Move::Close]));
-    assert!(rt; manager.outstanding(one) == Some(ask(&rt, 2, 1, 1, 4)));
-    assert!(rt; manager.plan(&book, &queue) == 1);
-    assert!(rt; manager.outstanding(one) == None);
-    assert!(rt; manager.outstanding(three) == Some(ask(&rt, 2, 3, 1, 4)));
+    let steps = [
+        Step::Applies(1, issue(8), 1),
+        Step::Applies(3, issue(5), 1),
+        Step::Waits(4, 0, 1),
+        Step::Plans(1),
+        Step::Asks(1, 1, 4),
+        Step::Applies(1, Move::Close, 1),
+        Step::Asks(1, 1, 4),
+        Step::Plans(1),
+        Step::AsksNothing(1),
+        Step::Asks(3, 1, 4),
+    ];
+    assert_eq!(rt; steps_gone(rt.alloc(), 2, 3, &steps), steps.len());
 }

@@ -1,61 +1,60 @@
 //! The order of fifteen peers.
-use crate::tests::calls::{apply, ask};
-use request_queue::RequestQueue;
-use rights_book::Book;
-use rights_types::{MAX_SITES, SiteId};
-use test_kit::issue;
-use transfer_manager::Manager;
+ghost use Rattle.std.specs.Prelude.{◌≤◌};
+
+use crate::tests::calls::Planner;
+use rights_types::{Amount, Move};
+use std::alloc::Global;
+
+/// A peer, and how many rights it is asked for.
+type Asked = (u64, u64);
+
+// Whether so many rights of each of sixteen sites are applied, but for the planner's own.
+fn applies_all(planner: &mut Planner, alloc: Global, me: u64, rights: &[u64; 16]) -> bool {
+    for (index, issued) in rights.iter().enumerate() {
+        let Ok(amount) = Amount::new(*issued) else {
+            return false;
+        };
+        let peer = index as u64 + 1;
+        if planner.applies(alloc, peer, Move::Issue(amount), 1) != (peer != me) {
+            return false;
+        }
+    }
+    true
+}
+
+// Whether these peers were asked, each by its first ask, and no others.
+fn asks_only(planner: &Planner, asked: &[Asked; 3]) -> bool {
+    (1..=16u64).all(|peer| match asked.iter().find(|one| one.0 == peer) {
+        Some((_, amount)) => planner.asks(peer, 1, *amount),
+        None => planner.asks_nothing(peer),
+    })
+}
+
+// Whether a site that lacks so many rights, and knows of these of sixteen sites, asks those peers and no more.
+fn asks(alloc: Global, me: u64, rights: &[u64; 16], lacking: u64, asked: &[Asked; 3]) -> bool
+    requires { (1 ≤ me) × (me ≤ 16) }
+{
+    let Some(mut planner) = Planner::new(alloc, me, 16) else {
+        return false;
+    };
+    applies_all(&mut planner, alloc, me, rights)
+        && planner.waits(lacking, 0, 1)
+        && planner.plans(3)
+        && asks_only(&planner, asked)
+        && planner.plans(0)
+}
 
 /// Of peers that are known to have as much, those with smaller numbers are asked first.
 #[test]
 fn equal_peers_by_number(rt: HostRuntime) {
-    let alloc = rt.alloc();
-    let me = SiteId::known(2);
-    let mut book = Book::new(alloc, me, MAX_SITES).expect(&rt, "memory");
-    for index in 0..MAX_SITES {
-        let peer = SiteId::known(index + 1);
-        assert!(rt; apply(alloc, &mut book, peer, &[issue(5)]) == (peer != me));
-    }
-    let mut queue = RequestQueue::new(alloc).expect(&rt, "memory");
-    assert!(rt; queue.put(12, 0) == Ok(1));
-    let mut manager = Manager::new(me, MAX_SITES);
-    assert!(rt; manager.plan(&book, &queue) == 3);
-    for index in 0..MAX_SITES {
-        let peer = SiteId::known(index + 1);
-        let expected = match index + 1 {
-            1 => Some(ask(&rt, 2, 1, 1, 5)),
-            3 => Some(ask(&rt, 2, 3, 1, 5)),
-            4 => Some(ask(&rt, 2, 4, 1, 2)),
-            _ => None,
-        };
-        assert!(rt; manager.outstanding(peer) == expected);
-    }
-    assert!(rt; manager.plan(&book, &queue) == 0);
+    let asked = [(1, 5), (3, 5), (4, 2)];
+    assert!(rt; asks(rt.alloc(), 2, &[5; 16], 12, &asked));
 }
 
 /// Of peers that are known to have more or less, those with more are asked first.
 #[test]
 fn unequal_peers_by_rights(rt: HostRuntime) {
-    let alloc = rt.alloc();
-    let me = SiteId::known(15);
-    let mut book = Book::new(alloc, me, MAX_SITES).expect(&rt, "memory");
-    for index in 0..MAX_SITES {
-        let peer = SiteId::known(index + 1);
-        assert!(rt; apply(alloc, &mut book, peer, &[issue(index + 1)]) == (peer != me));
-    }
-    let mut queue = RequestQueue::new(alloc).expect(&rt, "memory");
-    assert!(rt; queue.put(40, 0) == Ok(1));
-    let mut manager = Manager::new(me, MAX_SITES);
-    assert!(rt; manager.plan(&book, &queue) == 3);
-    for index in 0..MAX_SITES {
-        let peer = SiteId::known(index + 1);
-        let expected = match index + 1 {
-            16 => Some(ask(&rt, 15, 16, 1, 16)),
-            14 => Some(ask(&rt, 15, 14, 1, 14)),
-            13 => Some(ask(&rt, 15, 13, 1, 10)),
-            _ => None,
-        };
-        assert!(rt; manager.outstanding(peer) == expected);
-    }
-    assert!(rt; manager.plan(&book, &queue) == 0);
+    let rights = [1, 2, 3, 4, 5, 6, 7, 8, 9, 10, 11, 12, 13, 14, 15, 16];
+    let asked = [(16, 16), (14, 14), (13, 10)];
+    assert!(rt; asks(rt.alloc(), 15, &rights, 40, &asked));
 }
