@@ -9,7 +9,8 @@ use crate::desk::loads::{
 use crate::desk::threads::measure_seats;
 use crate::rate::per_second;
 use origin_log::OriginLog;
-use rights_types::SiteId;
+use rights_types::{Entry, SiteId};
+use site_core::Desk;
 use std::io;
 use std::rt::Clock;
 use std::sync::Wait;
@@ -25,6 +26,57 @@ const CALLS: u64 = 1_000_000;
 // Entries that are made before a run and applied in it.
 const ENTRIES: u64 = 100_000;
 
+// What a desk is asked for, over and over.
+#[derive(Clone, Copy)]
+enum Load<'a> {
+    Spends,
+    Gifts,
+    Grants,
+    Entries(&'a [Entry]),
+    // The closing entry of a site, after so many gifts to it.
+    Closing(&'a [Entry]),
+}
+
+impl Load<'_> {
+    fn prepare(&self, desk: &mut Desk) -> io::Result<()> {
+        match self {
+            Load::Closing(_) => give_all(desk, CALLS),
+            _ => Ok(()),
+        }
+    }
+
+    fn run(&self, desk: &mut Desk) -> io::Result<()> {
+        match self {
+            Load::Spends => spend_all(desk, CALLS),
+            Load::Gifts => give_all(desk, CALLS),
+            Load::Grants => grant_all(desk, CALLS),
+            Load::Entries(entries) => apply_all(desk, entries),
+            Load::Closing(entries) => apply_all(desk, entries),
+        }
+    }
+
+    fn time_at<R: Clock>(&self, rt: &R, desk: &mut Desk) -> io::Result<u128> {
+        self.prepare(desk)?;
+        let start = Instant::now(rt)?;
+        self.run(desk)?;
+        Ok(start.elapsed(rt)?.as_nanos())
+    }
+
+    // The time at a desk of its own.
+    fn time<R: Clock + AllocGlobal>(&self, rt: &R) -> io::Result<u128> {
+        let mut desk = opened(rt.alloc())?;
+        self.time_at(rt, &mut desk)
+    }
+
+    fn best_time<R: Clock + AllocGlobal>(&self, rt: &R) -> io::Result<u128> {
+        let mut best = u128::MAX;
+        for _ in 0..RUNS {
+            best = best.min(self.time(rt)?);
+        }
+        Ok(best)
+    }
+}
+
 fn append_time<R: Clock + AllocGlobal>(rt: &R) -> io::Result<u128> {
     let mut log = OriginLog::new(rt.alloc(), SiteId::known(1));
     let start = Instant::now(rt)?;
@@ -32,73 +84,47 @@ fn append_time<R: Clock + AllocGlobal>(rt: &R) -> io::Result<u128> {
     Ok(start.elapsed(rt)?.as_nanos())
 }
 
-fn spend_time<R: Clock + AllocGlobal>(rt: &R) -> io::Result<u128> {
-    let mut desk = opened(rt.alloc())?;
-    let start = Instant::now(rt)?;
-    spend_all(&mut desk, CALLS)?;
-    Ok(start.elapsed(rt)?.as_nanos())
+fn best_append_time<R: Clock + AllocGlobal>(rt: &R) -> io::Result<u128> {
+    let mut best = u128::MAX;
+    for _ in 0..RUNS {
+        best = best.min(append_time(rt)?);
+    }
+    Ok(best)
 }
 
-fn give_time<R: Clock + AllocGlobal>(rt: &R) -> io::Result<u128> {
-    let mut desk = opened(rt.alloc())?;
-    let start = Instant::now(rt)?;
-    give_all(&mut desk, CALLS)?;
-    Ok(start.elapsed(rt)?.as_nanos())
+fn print_rate<R: Print>(rt: &R, what: &str, count: u64, nanos: u128) -> io::Result<()> {
+    let rate = per_second(count, nanos);
+    println!(rt; "desk: {rate} {what}/s")
 }
 
-fn grant_time<R: Clock + AllocGlobal>(rt: &R) -> io::Result<u128> {
-    let mut desk = opened(rt.alloc())?;
-    let start = Instant::now(rt)?;
-    grant_all(&mut desk, CALLS)?;
-    Ok(start.elapsed(rt)?.as_nanos())
-}
-
-fn apply_time<R: Clock + AllocGlobal>(rt: &R) -> io::Result<u128> {
-    let entries = gifts(rt.alloc(), ENTRIES)?;
-    let mut desk = opened(rt.alloc())?;
-    let start = Instant::now(rt)?;
-    apply_all(&mut desk, &entries)?;
-    Ok(start.elapsed(rt)?.as_nanos())
-}
-
-// A site that gave so many times to one that closes without having applied the last of them.
-fn take_back_time<R: Clock + AllocGlobal>(rt: &R, beyond: u64) -> io::Result<u128> {
-    let mut desk = opened(rt.alloc())?;
-    give_all(&mut desk, CALLS)?;
+// A site gave so many times to one that closes without having applied the last of them.
+fn measure_taking_back<R: Clock + Print + AllocGlobal>(rt: &R, beyond: u64) -> io::Result<()> {
     // The site's log is an entry that issues, and then the gifts.
     let close = closing(rt.alloc(), (CALLS + 1).saturating_sub(beyond))?;
-    let start = Instant::now(rt)?;
-    apply_all(&mut desk, &close)?;
-    Ok(start.elapsed(rt)?.as_nanos())
+    let took = Load::Closing(close.as_slice()).time(rt)?;
+    let rate = per_second(beyond, took);
+    println!(rt;
+        "desk: {beyond} entries beyond the frontier: {rate} entries/s taken back, {took} ns in all"
+    )
+}
+
+fn measure_applying<R: Clock + Print + AllocGlobal>(rt: &R) -> io::Result<()> {
+    let entries = gifts(rt.alloc(), ENTRIES)?;
+    let took = Load::Entries(entries.as_slice()).best_time(rt)?;
+    print_rate(rt, "applied entries", ENTRIES, took)
 }
 
 /// Prints the rates. The log appends entries of one move, as each spend does.
 pub(crate) fn measure_all<R: Clock + Print + Threads + Wait + Sync + AllocGlobal>(
     rt: &R,
 ) -> io::Result<()> {
-    let (mut append, mut spend, mut give) = (u128::MAX, u128::MAX, u128::MAX);
-    let (mut grant, mut apply) = (u128::MAX, u128::MAX);
-    for _ in 0..RUNS {
-        append = append.min(append_time(rt)?);
-        spend = spend.min(spend_time(rt)?);
-        give = give.min(give_time(rt)?);
-        grant = grant.min(grant_time(rt)?);
-        apply = apply.min(apply_time(rt)?);
-    }
-    let append = per_second(CALLS, append);
-    let spend = per_second(CALLS, spend);
-    let give = per_second(CALLS, give);
-    let grant = per_second(CALLS, grant);
-    let apply = per_second(ENTRIES, apply);
-    println!(rt;
-        "desk: {append} appends/s of a log alone, {spend} spends/s, {give} gifts/s, {grant} answered asks/s, {apply} applied entries/s"
-    )?;
+    print_rate(rt, "appends of a log alone", CALLS, best_append_time(rt)?)?;
+    print_rate(rt, "spends", CALLS, Load::Spends.best_time(rt)?)?;
+    print_rate(rt, "gifts", CALLS, Load::Gifts.best_time(rt)?)?;
+    print_rate(rt, "answered asks", CALLS, Load::Grants.best_time(rt)?)?;
+    measure_applying(rt)?;
     for beyond in [1u64, 1_000, 1_000_000] {
-        let took = take_back_time(rt, beyond)?;
-        let rate = per_second(beyond, took);
-        println!(rt;
-            "desk: {beyond} entries beyond the frontier: {rate} entries/s taken back, {took} ns in all"
-        )?;
+        measure_taking_back(rt, beyond)?;
     }
     measure_seats(rt)
 }

@@ -86,23 +86,57 @@ fn total_bytes(log: &OriginLog) -> u64 {
     bytes
 }
 
+// The best times of reading a log: its lines, answers as lines, and answers.
+#[derive(Clone, Copy)]
+struct Reading {
+    line: u128,
+    answer: u128,
+    read: u128,
+}
+
+// The first so many numbers are read.
+fn times_of<R: Clock>(rt: &R, log: &OriginLog, numbers: u64) -> io::Result<Reading> {
+    let (mut line, mut answer, mut read) = (u128::MAX, u128::MAX, u128::MAX);
+    for _ in 0..RUNS {
+        line = line.min(line_time(rt, log, numbers)?);
+        answer = answer.min(answer_time(rt, log, numbers)?);
+        read = read.min(read_time(rt, log, numbers)?);
+    }
+    Ok(Reading { line, answer, read })
+}
+
+fn best_append_time<R: Clock + AllocGlobal>(rt: &R, entries: u64, rounds: u64) -> io::Result<u128> {
+    let mut best = u128::MAX;
+    for _ in 0..RUNS {
+        best = best.min(append_time(rt, entries, rounds)?);
+    }
+    Ok(best)
+}
+
 // Prints the rates at a log of so many moves, of which the first so many numbers are read.
 fn measure<R: Clock + Print + AllocGlobal>(rt: &R, moves: u64, numbers: u64) -> io::Result<()> {
     let entries = moves / MOVES;
     let rounds = (CALLS / entries.max(1)).max(1);
+    let append = per_second(
+        entries.saturating_mul(rounds),
+        best_append_time(rt, entries, rounds)?,
+    );
     let log = filled(rt.alloc(), entries)?;
-    let bytes = total_bytes(&log) / entries.max(1);
-    let (mut append, mut line, mut answer, mut read) = (u128::MAX, u128::MAX, u128::MAX, u128::MAX);
-    for _ in 0..RUNS {
-        append = append.min(append_time(rt, entries, rounds)?);
-        line = line.min(line_time(rt, &log, numbers)?);
-        answer = answer.min(answer_time(rt, &log, numbers)?);
-        read = read.min(read_time(rt, &log, numbers)?);
-    }
-    let append = per_second(entries.saturating_mul(rounds), append);
-    let line = per_second(CALLS, line);
-    let answer = per_second(CALLS, answer);
-    let read = per_second(CALLS, read);
+    print_rates(rt, moves, numbers, append, &log)
+}
+
+fn print_rates<R: Clock + Print>(
+    rt: &R,
+    moves: u64,
+    numbers: u64,
+    append: u128,
+    log: &OriginLog,
+) -> io::Result<()> {
+    let bytes = total_bytes(log) / (log.len() as u64).max(1);
+    let times = times_of(rt, log, numbers)?;
+    let line = per_second(CALLS, times.line);
+    let answer = per_second(CALLS, times.answer);
+    let read = per_second(CALLS, times.read);
     println!(rt;
         "log {moves} moves, {numbers} read: {append} appends/s, {line} lines/s, {answer} answer lines/s, {read} answers/s, {bytes} bytes a line"
     )

@@ -132,12 +132,55 @@ fn seats<D: DeskNames, R: Wait>(
 }
 
 // The longest of these times, if none failed.
-fn longest(times: &[Option<u128>]) -> io::Result<u128> {
+fn longest(times: &[Option<u128>]) -> Option<u128> {
     let mut longest = 0u128;
     for time in times {
-        longest = longest.max(time.ok_or(failed())?);
+        longest = longest.max((*time)?);
     }
-    Ok(longest)
+    Some(longest)
+}
+
+// The nanoseconds of all seats, each on a thread of its own.
+fn spend_each<D: DeskNames + Send + Sync, R: Threads + Wait + Clock + Sync>(
+    rt: &R,
+    desk: &SharedDesk<D>,
+    seats: Vec<Seat<D>>,
+    each: u64,
+) -> Option<u128> {
+    let times = thread::map_vec(rt, seats, &|seat: Seat<D>| spend_all(rt, desk, seat, each));
+    match times {
+        Ok(times) => longest(times.as_slice()),
+        Err(_) => None,
+    }
+}
+
+// The nanoseconds of the applier, where all lines were taken in on another thread.
+fn feed_and_apply<D: DeskNames + Send + Sync, R: Threads + Wait + Clock + Sync>(
+    rt: &R,
+    desk: &SharedDesk<D>,
+    feeder: Feeder,
+    applier: Applier<D, Free>,
+    lines: &[String],
+) -> Option<u128> {
+    let (fed, applied) = thread::join(
+        rt,
+        move || feeder.feed(rt, lines),
+        move || apply_all(rt, desk, applier),
+    );
+    if fed { applied } else { None }
+}
+
+// What comes from the other site, and its applier.
+fn applier_of<D: DeskNames, R: Wait>(
+    rt: &R,
+    alloc: Global,
+    desk: &SharedDesk<D>,
+) -> io::Result<(Feeder, Applier<D, Free>)> {
+    let (feeder, outlet) = link(alloc)?;
+    match desk.applier(rt, SiteId::known(2), outlet, Free) {
+        Ok(applier) => Ok((feeder, applier)),
+        Err(_) => Err(failed()),
+    }
 }
 
 // The nanoseconds of so many seats on as many threads, and of the applier beside them.
@@ -155,34 +198,16 @@ fn game<D: DeskNames + Send + Sync, R: Threads + Wait + Clock + Sync>(
 {
     let desk = SharedDesk::<D>::new(desk, blanks);
     let seats = seats(rt, alloc, &desk, count)?;
-    let (feeder, outlet) = link(alloc)?;
-    let Ok(applier) = desk.applier(rt, SiteId::known(2), outlet, Free) else {
-        return Err(failed());
-    };
+    let (feeder, applier) = applier_of(rt, alloc, &desk)?;
     let each = SPENDS.checked_div(count).unwrap_or(0);
     let shared = &desk;
-    let (spends, (fed, applied)) = thread::join(
+    let (spent, applied) = thread::join(
         rt,
-        move || {
-            thread::map_vec(
-                rt,
-                seats,
-                &|seat: Seat<D>| spend_all(rt, shared, seat, each),
-            )
-        },
-        move || {
-            thread::join(
-                rt,
-                move || feeder.feed(rt, lines),
-                move || apply_all(rt, shared, applier),
-            )
-        },
+        move || spend_each(rt, shared, seats, each),
+        move || feed_and_apply(rt, shared, feeder, applier, lines),
     );
-    let Ok(spends) = spends else {
-        return Err(failed());
-    };
-    match (fed, applied) {
-        (true, Some(applied)) => Ok((longest(spends.as_slice())?, applied)),
+    match (spent, applied) {
+        (Some(spent), Some(applied)) => Ok((spent, applied)),
         _ => Err(failed()),
     }
 }
@@ -224,30 +249,45 @@ fn game_time<R: Threads + Wait + Clock + Sync>(
     game::<Brand, R>(rt, alloc, count, lines, desk, Blanks::new())
 }
 
-/// Prints the rates of one seat alone, and of 1, 2 and 4 seats beside an applier.
-pub(crate) fn measure_seats<R: Clock + Print + Threads + Wait + Sync + AllocGlobal>(
-    rt: &R,
-) -> io::Result<()> {
-    let alloc = rt.alloc();
+// Prints the rate of one seat alone.
+fn measure_alone<R: Clock + Print + Wait>(rt: &R, alloc: Global) -> io::Result<()> {
     let mut spends = u128::MAX;
     for _ in 0..RUNS {
         spends = spends.min(alone_time(rt, alloc)?);
     }
     let spends = per_second(SPENDS, spends);
-    println!(rt; "shared desk, a seat alone: {spends} spends/s under the lock")?;
+    println!(rt; "shared desk, a seat alone: {spends} spends/s under the lock")
+}
+
+// Prints the rates of so many seats beside an applier.
+fn measure_game<R: Clock + Print + Threads + Wait + Sync>(
+    rt: &R,
+    alloc: Global,
+    count: u64,
+    lines: &[String],
+) -> io::Result<()> {
+    let (mut spends, mut applied) = (u128::MAX, u128::MAX);
+    for _ in 0..RUNS {
+        let (spending, applying) = game_time(rt, alloc, count, lines)?;
+        spends = spends.min(spending);
+        applied = applied.min(applying);
+    }
+    let spends = per_second(SPENDS, spends);
+    let applied = per_second(ENTRIES, applied);
+    println!(rt;
+        "shared desk, {count} seats: {spends} spends/s under the lock, {applied} entries/s applied beside them"
+    )
+}
+
+/// Prints the rates of one seat alone, and of 1, 2 and 4 seats beside an applier.
+pub(crate) fn measure_seats<R: Clock + Print + Threads + Wait + Sync + AllocGlobal>(
+    rt: &R,
+) -> io::Result<()> {
+    let alloc = rt.alloc();
+    measure_alone(rt, alloc)?;
     let lines = lines(alloc)?;
     for count in [1u64, 2, 4] {
-        let (mut spends, mut applied) = (u128::MAX, u128::MAX);
-        for _ in 0..RUNS {
-            let (spending, applying) = game_time(rt, alloc, count, lines.as_slice())?;
-            spends = spends.min(spending);
-            applied = applied.min(applying);
-        }
-        let spends = per_second(SPENDS, spends);
-        let applied = per_second(ENTRIES, applied);
-        println!(rt;
-            "shared desk, {count} seats: {spends} spends/s under the lock, {applied} entries/s applied beside them"
-        )?;
+        measure_game(rt, alloc, count, lines.as_slice())?;
     }
     Ok(())
 }
