@@ -148,14 +148,13 @@ impl<D: DeskNames, G: Gate, A: Allocator> Applier<D, G, A> {
         ensures same { (self.new.origin ≡ self.old.origin) × (self.new.outlet.lane ≡ self.old.outlet.lane) }
         ensures err { IfErr result (λ fault. StepFails self.old fault self.new) }
     {
-        let more = self.fill(rt)?;
-        if !more {
+        if !self.fill(rt)? {
             return Ok(false);
         }
         self.pass(rt);
         let mut kept = desk.lock(rt);
         self.apply_in(&mut *kept)?;
-        Ok(more)
+        Ok(true)
     }
 
     /// Steps until End was taken, and answers how many entries were applied or dropped.

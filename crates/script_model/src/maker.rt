@@ -8,7 +8,7 @@ use rights_types::OutOfMemory;
 use std::alloc::Global;
 
 /// What a link or a site is wanted for.
-#[derive(Clone, Copy)]
+#[derive(Clone, Copy, Debug)]
 pub(crate) enum Wanted {
     /// Anything.
     Any,

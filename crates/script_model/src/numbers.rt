@@ -1,7 +1,7 @@
 //! Numbers that look random, the same ones for the same seed.
 
 /// A source of such numbers, by the steps of splitmix64.
-#[derive(Clone, Copy)]
+#[derive(Clone, Copy, Debug)]
 pub(crate) struct Numbers {
     state: u64,
 }

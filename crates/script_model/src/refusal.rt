@@ -3,7 +3,7 @@ use rights_types::{OutOfMemory, TypeError};
 use std::alloc::{AllocError, AllocFailed};
 
 /// A refusal.
-#[derive(Clone, Copy)]
+#[derive(Clone, Copy, Debug, PartialEq, Eq)]
 pub(crate) enum Refusal {
     BadCommand,
     NoWorld,

@@ -17,14 +17,10 @@ pub(crate) struct Model {
 }
 
 impl World {
-    fn post_text(&mut self, s: u64, text: Option<&[u8]>) -> Reply {
-        self.post(s, &moves_in(self.alloc, text)?)
-    }
-
     fn answer(&mut self, command: Command<'_>) -> Reply {
         match command {
             Command::Sites(_) => Err(Refusal::BadCommand),
-            Command::Post(s, text) => self.post_text(s, text),
+            Command::Post(s, text) => self.post(s, &moves_in(self.alloc, text)?),
             Command::Issue(s, n) => self.issue(s, n),
             Command::Give(s, j, n) => self.give(s, j, n),
             Command::Spend(s, n, deadline) => self.spend(s, n, deadline),

@@ -113,8 +113,9 @@ impl Maker {
         self.take_from(p, s)
     }
 
-    // A site lacks rights, and another one may have some.
-    fn lack(&mut self, s: u64, p: u64) -> Added {
+    // A site lacks rights, asks, and is given some or none.
+    fn ask_round(&mut self) -> Added {
+        let (s, p) = self.link_for(Wanted::Rich);
         if self.numbers.hits(60) {
             self.expire_all(p)?;
         }
@@ -125,11 +126,6 @@ impl Maker {
         if self.numbers.hits(15) {
             self.queue(p)?;
         }
-        Ok(())
-    }
-
-    // A site asks, and hears what the other one answers and wrote.
-    fn ask_and_hear(&mut self, s: u64, p: u64) -> Added {
         self.plan_at(s)?;
         self.ask_of(s, p)?;
         for _ in 0..self.numbers.between(1, 2) {
@@ -141,14 +137,6 @@ impl Maker {
             self.publish_to(p, s)?;
             self.deliver_last()?;
         }
-        Ok(())
-    }
-
-    // A site lacks rights, asks, and is given some or none.
-    fn ask_round(&mut self) -> Added {
-        let (s, p) = self.link_for(Wanted::Rich);
-        self.lack(s, p)?;
-        self.ask_and_hear(s, p)?;
         let count = self.numbers.between(1, 4);
         self.take_times(s, p, count)?;
         self.serve_at(s)
@@ -196,17 +184,6 @@ impl Maker {
         Ok(())
     }
 
-    // A site whose requests have expired closes.
-    fn close_emptied(&mut self, c: u64) -> Added {
-        self.expire_all(c)?;
-        if self.numbers.hits(40) {
-            let heir = self.peer_of(c);
-            self.tell(b"close", &[c, heir])
-        } else {
-            self.tell(b"close", &[c])
-        }
-    }
-
     // A site closes with rights on their way to it, and what it did not apply is taken back.
     fn retire(&mut self) -> Added {
         if !self.may_close() {
@@ -215,7 +192,13 @@ impl Maker {
         let (s, c) = self.link_for(Wanted::Open);
         self.give_some(s, c)?;
         self.hand_over_some(s, c)?;
-        self.close_emptied(c)?;
+        self.expire_all(c)?;
+        if self.numbers.hits(40) {
+            let heir = self.peer_of(c);
+            self.tell(b"close", &[c, heir])?;
+        } else {
+            self.tell(b"close", &[c])?;
+        }
         let count = self.numbers.between(0, 3);
         self.publish_times(c, s, count)?;
         self.drain()

@@ -2,7 +2,7 @@
 use crate::numbers::Numbers;
 
 /// Kinds of steps.
-#[derive(Clone, Copy)]
+#[derive(Clone, Copy, Debug)]
 pub(crate) enum Step {
     Write,
     Publish,
@@ -17,7 +17,7 @@ pub(crate) enum Step {
 }
 
 /// How often each kind of step comes, and what happens to packets.
-#[derive(Clone, Copy)]
+#[derive(Clone, Copy, Debug)]
 pub(crate) struct Style {
     weights: [(Step, u64); 10],
     /// Of a hundred packets, so many are lost, repeated, or overtaken by others.
