@@ -121,6 +121,30 @@ long_first low high at text lt out top digits other =
     omega (arith, p.long, ap length e, length-decimal-le 19 n (omega arith) (omega (arith, below, top)) (omega (arith, below, top)))) in
     rw (p.parts-are, none) refl
 
+-- a digit that a text begins with
+pub digit_first : (text : List ℕ) (d : ℕ) → 0 < length text → d < 10 → d ≡ digit_value (get_or text 0 0) → AllDigits 10 (take 1 text) × (take 1 text ≡ decimal d)
+digit_first text d lt small is =
+    let none : IsReadUpTo text 0 0 = record { digits = search; value = search } in
+    let one = reads_more text 0 0 d lt small is none in
+    let long = length-take-le 1 text (omega (arith, lt)) in
+    let value : digits_value 10 (take 1 text) ≡ d = omega (arith, one.value) in
+    let spelled = decimal-digits_value own_digits (take 1 text) one.digits (omega (arith, long)) (λ e. long) (rw value (omega (arith, small))) in
+    (one.digits, sym spelled ∙ ap decimal value)
+
+-- and that is the whole text
+pub digit_alone : (text : List ℕ) (at d : ℕ) → length text ≡ 1 → (at < 48) ⊎ (57 < at) → d < 10 → d ≡ digit_value (get_or text 0 0) → split_at at text ≡ decimal d ∷ []
+digit_alone text at d one out small is =
+    let first = digit_first text d (omega (arith, one)) small is in
+    let whole = unparted text 1 at (omega (arith, one)) out first.0 in
+    whole.1 ∙ ap (λ (t : List ℕ). t ∷ []) (sym whole.0 ∙ first.1)
+
+-- or that is the first part
+pub digit_parted : (text : List ℕ) (at d : ℕ) → 1 < length text → (at < 48) ⊎ (57 < at) → get_or text 1 0 ≡ at → d < 10 → d ≡ digit_value (get_or text 0 0)
+    → split_at at text ≡ decimal d ∷ split_at at (take (length text - 2) (drop 2 text))
+digit_parted text at d more out is-at small is =
+    let first = digit_first text d (omega (arith, more)) small is in
+    parted text 1 at more out is-at first.0 ∙ ap (λ (t : List ℕ). t ∷ split_at at (take (length text - 2) (drop 2 text))) first.1
+
 -- what follows the digits, and parts nothing, makes the first part no number
 pub bad_first : (low high at count n : ℕ) (text : List ℕ) → count < length text → count ≤ 19 → (at < 48) ⊎ (57 < at) → high < 10 ^ 19 → IsReadUpTo text count n → (get_or text count 0 ≡ at → ⊥)
     → (count < 19 → 10 ≤ digit_value (get_or text count 0)) → first_number low high (split_at at text) ≡ None

@@ -36,7 +36,8 @@ fn decimal_of(text: &[u8], least: u64, most: u64) -> Option<u64>
     }
 }
 
-fn digit(byte: u8) -> Option<u64>
+/// The value of a digit.
+pub(crate) fn digit(byte: u8) -> Option<u64>
     ensures { MatchOption result (10 ≤ digit_value byte) (λ d. (d < 10) × (d ≡ digit_value byte)) }
 {
     match byte {

@@ -1,5 +1,5 @@
 //! Walking over the parts of a text, which a byte parts.
-ghost use Rattle.std.specs.Prelude.{◌≡◌, ◌∷◌, ◌==◌, ◌<◌, ◌≤◌, ◌^◌, ◌⊎◌, length, position, is_none, IfSome, IfOk};
+ghost use Rattle.std.specs.Prelude.{◌≡◌, ◌∷◌, ◌==◌, ◌<◌, ◌≤◌, ◌^◌, ◌⊎◌, length, position, is_none, decimal, IfSome, IfOk};
 ghost use Rattle.entry_codec.specs.Letters.{is_letter};
 ghost use Rattle.entry_codec.specs.Parts.{split_at, left, Finds, ReadsAs, fields_left};
 ghost use Rattle.entry_codec.specs.Moves.{first_number, only_number};
@@ -7,7 +7,7 @@ ghost use Rattle.entry_codec.specs.Reading.{value_at};
 
 use crate::fault::{LineError, Place};
 use crate::format::FIELD_BREAK;
-use crate::number::{SAFE_DIGITS, checked, leading_digits, read_decimal};
+use crate::number::{SAFE_DIGITS, checked, digit, leading_digits, read_decimal};
 use memchr::memchr;
 
 fn position_of(text: &[u8], at: u8) -> Option<usize>
@@ -66,6 +66,44 @@ pub(crate) fn split_far(text: &[u8], at: u8) -> (&[u8], Option<&[u8]>)
     }
 }
 
+// The digit that the first part is, and what comes after it. None where it is no digit, or more.
+#[inline(always)]
+fn digit_part(text: &[u8], at: u8) -> Option<(u64, Option<&[u8]>)>
+    requires apart { (at < 48) ⊎ (57 < at) }
+    ensures digit { IfSome result (λ x. x.0 < 10) }
+    ensures parts { IfSome result (λ x. split_at at text.now ≡ decimal x.0 ∷ left at x.1) }
+    ensures last { IfSome result (λ x. is_none x.1 ≡ (length (left at x.1) == 0)) }
+{
+    match text {
+        [byte] => Some((digit(*byte)?, None)),
+        [byte, next, rest @ ..] => {
+            if *next != at {
+                return None;
+            }
+            Some((digit(*byte)?, Some(rest)))
+        }
+        [] => None,
+    }
+}
+
+// What `first_number` finds where the first part is one digit. Most numbers are those of sites and small amounts, and
+// a digit needs neither a loop nor a test for leading zeros.
+#[inline(always)]
+fn first_digit(text: &[u8], at: u8, low: u64, high: u64) -> Option<Option<(u64, Option<&[u8]>)>>
+    requires apart { (at < 48) ⊎ (57 < at) }
+    ensures value { IfSome result (λ found. Finds (λ x. (x.0, left at x.1)) found
+        (first_number low high (split_at at text.now))) }
+    ensures range { IfSome result (λ found. IfSome found (λ x. (low ≤ x.0) × (x.0 ≤ high))) }
+    ensures last { IfSome result (λ found. IfSome found (λ x. is_none x.1 ≡ (length (left at x.1) == 0))) }
+    ensures shorter { IfSome result (λ found. IfSome found (λ x. length (left at x.1) < length (split_at at text.now))) }
+{
+    let (value, rest) = digit_part(text, at)?;
+    if value < low || high < value {
+        return Some(None);
+    }
+    Some(Some((value, rest)))
+}
+
 /// The number that the first part spells, and what comes after it. The byte that parts is no digit.
 #[inline(always)]
 pub(crate) fn first_number(
@@ -83,6 +121,9 @@ pub(crate) fn first_number(
     ensures shorter { IfSome result (λ x. length (left at x.1) < length (left at parts.entry)) }
 {
     let text = parts?;
+    if let Some(found) = first_digit(text, at, low, high) {
+        return found;
+    }
     let (value, count) = leading_digits(text);
     if count == text.len() {
         return Some((checked(text, value, low, high)?, None));
@@ -111,6 +152,9 @@ pub fn first_decimal(
     ensures last { IfSome result (λ x. is_none x.1 ≡ (length (left at x.1) == 0)) }
 {
     let text = parts?;
+    if let Some(found) = first_digit(text, at, low, high) {
+        return found;
+    }
     let (value, count) = leading_digits(text);
     if count == text.len() {
         return Some((checked(text, value, low, high)?, None));
