@@ -198,6 +198,13 @@ reading_ended text short =
 pub reading_again : (m : MessageValue) → IsMessage m → reading (line m) ≡ Ok m
 reading_again m h = reading_ended (text_of m) (line_room m h) ∙ ap message_of (parts_again m h) ∙ message_again m h
 
+-- a text that reads as one entry behind its letter is that message: it has no further part
+pub one_entry : (text fields : List ℕ) (e : EntryValue) → text ≡ 69 ∷ 32 ∷ fields → entry_of 0 (split_at 32 fields) ≡ Ok e → message_of (parts_in text) ≡ Ok (AnEntry e)
+one_entry text fields e is h =
+    let found = entry_is 0 (split_at 32 fields) e h in
+    let whole : text ≡ text_of (AnEntry e) = is ∙ sym (join_with_byte-slice_split 32 (69 ∷ 32 ∷ fields)) ∙ ap part_text found.0 in
+    ap (λ (t : List ℕ). message_of (parts_in t)) whole ∙ ap message_of (parts_again (AnEntry e) found.1) ∙ message_again (AnEntry e) found.1
+
 -- ---- laws
 
 pub is_found : {X : Type 0} (view : X → MessageValue) (text : List ℕ) (r : Result X LineError) → Gives view r (reading text) → IfOk r (λ m. Spells (view m) text)

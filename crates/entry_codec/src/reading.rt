@@ -1,5 +1,5 @@
 //! A message from its line.
-ghost use Rattle.std.specs.Prelude.{◌≡◌, ◌≤◌, length, IfOk, IfSome, Ok};
+ghost use Rattle.std.specs.Prelude.{◌≡◌, ◌∷◌, ◌≤◌, length, IfOk, IfSome, Ok};
 ghost use Rattle.rights_types.specs.Messages.{MessageValue};
 ghost use Rattle.rights_types.specs.Values.{value_of};
 ghost use Rattle.entry_codec.specs.Spelling.{Spells};
@@ -42,8 +42,33 @@ fn answer_message_in<A: Allocator + Copy>(
     Ok(Message::Answer(answer_in(alloc, fields, others)?))
 }
 
-#[tactic(auto, unfolding(crate::specs::Reading::message_of))]
+// The text behind the letter of an entry.
+fn behind_entry_letter(text: &[u8]) -> Option<&[u8]>
+    ensures { IfSome result (λ fields. text.now ≡ ENTRY_LETTER ∷ (FIELD_BREAK ∷ fields.now)) }
+{
+    match text {
+        [ENTRY_LETTER, FIELD_BREAK, fields @ ..] => Some(fields),
+        _ => None,
+    }
+}
+
+// A text that reads as one entry has no further part, so that none is looked for.
 fn message_in<A: Allocator + Copy>(alloc: A, text: &[u8]) -> Result<Message<A>, LineError>
+    requires { length text.now ≤ MAX_LINE }
+    ensures value { Gives value_of result (message_of (parts_in text.now)) }
+    ensures memory { WantsRoom result (message_of (parts_in text.now)) }
+{
+    if let Some(fields) = behind_entry_letter(text) {
+        let mut kept = [Move::Close; SLOTS];
+        if let Ok((origin, prev, count)) = entry_in(Some(fields), 0, &mut kept) {
+            return Ok(Message::Push(entry_with(alloc, origin, prev, &kept[..count])?));
+        }
+    }
+    message_of_parts(alloc, text)
+}
+
+#[tactic(auto, unfolding(crate::specs::Reading::message_of))]
+fn message_of_parts<A: Allocator + Copy>(alloc: A, text: &[u8]) -> Result<Message<A>, LineError>
     requires { length text.now ≤ MAX_LINE }
     ensures value { Gives value_of result (message_of (parts_in text.now)) }
     ensures memory { WantsRoom result (message_of (parts_in text.now)) }
