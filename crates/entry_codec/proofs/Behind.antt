@@ -41,9 +41,6 @@ entry_text_is e =
 pub entry_line_is : (e : EntryValue) → line (AnEntry e) ≡ entry_text e ++ 10 ∷ []
 entry_line_is e = ap (λ (t : List ℕ). t ++ 10 ∷ []) (entry_text_is e)
 
-pub entry_line_length : (e : EntryValue) → length (line (AnEntry e)) ≡ length (entry_text e) + 1
-entry_line_length e = ap length (entry_line_is e) ∙ length-append (entry_text e) (10 ∷ [])
-
 entries_text : (es : List EntryValue) → map part_text (map entry_fields es) ≡ map entry_text es
 entries_text [] = refl
 entries_text (e ∷ es) = ap (λ (t : List ℕ). t ∷ map part_text (map entry_fields es)) (entry_text_is e) ∙ ap (λ (ts : List (List ℕ)). entry_text e ∷ ts) (entries_text es)

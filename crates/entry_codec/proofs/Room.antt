@@ -1,4 +1,4 @@
--- No line is longer than 16,384 bytes.
+-- No line is longer than 16,384 bytes, and none of one entry than 1,024.
 use Rattle.std.proofs.Common.{◌≡◌, ℕ, suc, ◌+◌, ◌*◌, ◌≤◌, false, List, [], ◌∷◌, ◌++◌, length, ap, arith, length-append}
 use Rattle.std.specs.Prelude.{decimal}
 use Rattle.std.specs.List.{AllByRecursion}
@@ -54,7 +54,7 @@ moves_room (m ∷ x ∷ ms) h k =
     let rest = moves_room (x ∷ ms) h.1 tests.1 in
     omega (arith, short_move m h.0 tests.0, rest, length-append (32 ∷ move_text m) (behind 32 move_text (x ∷ ms)))
 
-entry_room : (e : EntryValue) → IsEntry e → length (entry_text e) ≤ 737
+pub entry_room : (e : EntryValue) → IsEntry e → length (entry_text e) ≤ 737
 entry_room e h =
     let number = h.number in
     let ms = moves_room e.moves (recursion_from_All IsMove e.moves h.moves) h.closing in

@@ -1,4 +1,4 @@
-//! The bytes that the format of a line fixes, and a bound that follows from it.
+//! The bytes that the format of a line fixes, and bounds that follow from it.
 
 use rights_types::MAX_LINE;
 
@@ -49,3 +49,6 @@ pub(crate) const MAX_FIELDS: usize = MAX_LINE + 1;
 
 /// The field of an entry's first move.
 pub(crate) const FIRST_MOVE: u16 = 4;
+
+/// Bytes that the line of any entry fits into.
+pub const ENTRY_ROOM: usize = 1_024;

@@ -3,7 +3,6 @@
 ghost use Rattle.std.specs.Prelude.{◌≡◌, ◌+◌, ◌<◌, ◌≤◌, ◌^◌, nat_le, length, slice_index, decimal, if◌then◌else◌};
 ghost use Rattle.rights_types.specs.Entries.{IsEntry};
 ghost use Rattle.rights_types.specs.Messages.{IsAnswer, IsMessage};
-ghost use Rattle.rights_types.specs.Messages.MessageValue.{AnEntry};
 ghost use Rattle.rights_types.specs.Values.{value_of};
 ghost use Rattle.entry_codec.specs.Spelling.{move_text, line};
 ghost use Rattle.entry_codec.specs.Texts.{frontier_text, entry_text, answer_text};
@@ -99,15 +98,6 @@ pub(crate) fn entry_len_of(origin: SiteId, prev: u64, moves: &[Move]) -> usize
         total += 1 + move_len(m);
     }
     total
-}
-
-/// The same with the line feed.
-pub(crate) fn entry_line_len(origin: SiteId, prev: u64, moves: &[Move]) -> usize
-    requires { IsEntry (record { origin = origin; prev = prev; moves = moves.now }) }
-    ensures value { result ≡ length (line (AnEntry (record { origin = origin; prev = prev; moves = moves.now }))) }
-    ensures small { result ≤ 10001 }
-{
-    entry_len_of(origin, prev, moves) + 1
 }
 
 pub(crate) fn entry_len<B: Allocator>(entry: &Entry<B>) -> usize

@@ -19,10 +19,10 @@ mod writing;
 
 pub use cutter::{Cut, LineCutter};
 pub use fault::{LineError, Place};
-pub use format::PART_BREAK;
+pub use format::{ENTRY_ROOM, PART_BREAK};
 pub use laws::{ends_once, no_prefix, read_is_spelled, reads_back, reads_on, spelled_once};
 pub use moves::read_move;
 pub use number::read_decimal;
 pub use parts::{first_decimal, split_first};
 pub use reading::read_line;
-pub use writing::{write_entry, write_entry_of, write_into, write_line};
+pub use writing::{put_entry_line, write_entry, write_into, write_line};

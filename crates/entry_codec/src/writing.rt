@@ -9,10 +9,10 @@ ghost use Rattle.entry_codec.specs.Texts.{frontier_text, entry_text, answer_text
 
 use crate::format::{
     ANSWER_LETTER, ASK_LETTER, BEAT_LETTER, CLOSE_AT_LETTER, CLOSE_LETTER, DENIAL_LETTER,
-    ENTRY_LETTER, FIELD_BREAK, GIVE_LETTER, GRANT_LETTER, HELLO_LETTER, ISSUE_LETTER, LINE_END,
-    PART_BREAK, QUERY_LETTER, SPEND_LETTER, TAKE_BACK_LETTER, VALUE_BREAK,
+    ENTRY_LETTER, ENTRY_ROOM, FIELD_BREAK, GIVE_LETTER, GRANT_LETTER, HELLO_LETTER, ISSUE_LETTER,
+    LINE_END, PART_BREAK, QUERY_LETTER, SPEND_LETTER, TAKE_BACK_LETTER, VALUE_BREAK,
 };
-use crate::length::{entry_len, entry_line_len, line_len, place_of};
+use crate::length::{entry_len, line_len, place_of};
 use crate::put::{put_byte, put_decimal};
 use rights_types::{
     Answer, Ask, Beat, Deny, Entry, Frontier, Message, Move, OutOfMemory, Query, SiteId,
@@ -220,33 +220,15 @@ pub fn write_into<A: Allocator, B: Allocator>(
     Ok(())
 }
 
-/// Appends the line of the message that pushes the entry of these values, which need not be made for it. Where memory
-/// is refused, nothing is appended.
-pub fn write_entry_of<A: Allocator>(
-    out: &mut Vec<u8, A>,
-    origin: SiteId,
-    prev: u64,
-    moves: &[Move],
-) -> Result<(), OutOfMemory>
-    requires { IsEntry (record { origin = origin; prev = prev; moves = moves.now }) }
-    ensures written { OnOk result (out.new.items ≡ out.old.items
-        ++ line (AnEntry (record { origin = origin; prev = prev; moves = moves.now }))) }
-    ensures unchanged { OnErr result (out.new.items ≡ out.old.items) }
-{
-    let start = out.len();
-    out.resize(start + entry_line_len(origin, prev, moves), 0)?;
-    put_line_of(out.as_mut_slice(), start, origin, prev, moves);
-    Ok(())
-}
-
-fn put_line_of(buffer: &mut [u8], start: usize, origin: SiteId, prev: u64, moves: &[Move]) -> usize
+/// Writes the line of the message that pushes the entry of these values, which need not be made for it, to the front
+/// of a buffer that has room for any such line, so that none has to be counted first. Answers how many bytes it has.
+pub fn put_entry_line(buffer: &mut [u8], origin: SiteId, prev: u64, moves: &[Move]) -> usize
     requires valid { IsEntry (record { origin = origin; prev = prev; moves = moves.now }) }
-    requires room { start + length (line (AnEntry (record { origin = origin; prev = prev; moves = moves.now }))) ≤ length buffer.old }
-    ensures end { result ≡ start + length (line (AnEntry (record { origin = origin; prev = prev; moves = moves.now }))) }
-    ensures text { take result buffer.new ≡ take start buffer.old
-        ++ line (AnEntry (record { origin = origin; prev = prev; moves = moves.now })) }
+    requires room { ENTRY_ROOM ≤ length buffer.old }
+    ensures text { take result buffer.new ≡ line (AnEntry (record { origin = origin; prev = prev; moves = moves.now })) }
+    ensures fits { result ≤ ENTRY_ROOM }
 {
-    let at = put_entry_of(buffer, start, origin, prev, moves);
+    let at = put_entry_of(buffer, 0, origin, prev, moves);
     put_byte(buffer, at, LINE_END)
 }
 
@@ -271,11 +253,12 @@ pub fn write_entry<A: Allocator + Copy, B: Allocator>(
 {
     let mut out = Vec::new(alloc);
     out.resize(entry_len(entry) + 1, 0)?;
-    put_entry_line(out.as_mut_slice(), entry);
+    fill_with_line(out.as_mut_slice(), entry);
     Ok(out)
 }
 
-fn put_entry_line<B: Allocator>(buffer: &mut [u8], entry: &Entry<B>)
+// The buffer has the length of the line.
+fn fill_with_line<B: Allocator>(buffer: &mut [u8], entry: &Entry<B>)
     requires { length buffer.old ≡ length (entry_text entry.now) + 1 }
     ensures { buffer.new ≡ entry_text entry.now ++ LINE_END ∷ [] }
 {

@@ -99,8 +99,8 @@ fn longer_by(alloc: Global, more: usize) -> Result<Vec<Move>, Fail> {
 fn a_block_is_filled_to_its_last_byte(rt: HostRuntime) -> Result<(), Fail> {
     let heap = LocalHeap::new(rt.alloc(), 1 << 20)?;
     let mut log = OriginLog::new(&heap, site(1));
-    // A long line first, so that the draft has room for each later one.
-    append(&rt, &mut log, &[issue(1_000); 16]).expect(&rt, "memory");
+    // The first append makes the draft, with room for the long line below.
+    append(&rt, &mut log, &[issue(1)]).expect(&rt, "memory");
     assert!(rt; heap.used() < 70_000);
     let room = nearly_fill(&rt, &mut log);
     let moves = longer_by(rt.alloc(), room.saturating_sub(last_len(&log)))?;

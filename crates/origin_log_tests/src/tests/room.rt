@@ -9,7 +9,7 @@ use rights_types::{Entry, MAX_ANSWER};
 use std::alloc::AllocGlobal;
 use std::process::Abort;
 use std::test::Fail;
-use test_kit::{issue, site};
+use test_kit::{issue, longest_grant, site};
 
 // More requests than any run here makes.
 const MANY: u64 = 1_000;
@@ -85,7 +85,8 @@ fn an_answers_line_takes_no_spare_bytes(rt: HostRuntime) -> Result<(), Fail> {
     Ok(())
 }
 
-/// While the draft, the index and the last block have room, an append takes no memory.
+/// While the index and the last block have room, an append takes no memory, however long its line is: the draft has
+/// room for any.
 #[test]
 fn an_append_that_fits_makes_no_request(rt: HostRuntime) -> Result<(), Fail> {
     let mut fitted = false;
@@ -103,8 +104,11 @@ fn an_append_that_fits_makes_no_request(rt: HostRuntime) -> Result<(), Fail> {
             continue;
         }
         // The index has doubled its room for the last of them.
-        for number in 34..=64u64 {
-            assert_eq!(rt; append(&rt, &mut log, &[issue(1)]), Ok(number));
+        for count in 1..=31u64 {
+            assert_eq!(rt;
+                append(&rt, &mut log, &[longest_grant(); 16]),
+                Ok(33 + count * 16)
+            );
         }
         assert!(rt; !refusing.refused());
         assert_eq!(rt;

@@ -1,14 +1,25 @@
-use Rattle.std.proofs.Common.{◌∷◌, [], ◌++◌, ℕ, List, sym, ap, ◌∙◌, arith}
-use Rattle.std.proofs.lemmas.List.{take_all}
+use Rattle.std.proofs.Common.{◌∷◌, [], ◌++◌, ℕ, List, ap, sym, ◌∙◌, arith}
+use Rattle.rights_types.specs.Entries.{EntryValue}
+use Rattle.entry_codec.proofs.Behind.{entry_line_is}
+use Rattle.entry_codec.proofs.Room.{entry_room}
 use Rattle.entry_codec.proofs.writing.put_entry_line.Goals as goal
 
-pub put_entry-at-requires : goal.put_entry-at-requires
-put_entry-at-requires g c = omega (arith, c.requires)
+pub put_entry_of-at-requires-clause-room : goal.put_entry_of-at-requires-clause-room
+put_entry_of-at-requires-clause-room c =
+    let e : EntryValue = record { origin = c.args.origin; prev = c.args.prev; moves = c.args.moves.now } in
+    omega (arith, entry_room e c.requires.valid, c.requires.room)
 
 pub put_byte-requires : goal.put_byte-requires
-put_byte-requires g c = omega (arith, c.put_entry-at.ensures.end, c.requires, c.put_entry-at.auto.buffer)
+put_byte-requires c =
+    let e : EntryValue = record { origin = c.args.origin; prev = c.args.prev; moves = c.args.moves.now } in
+    omega (arith, entry_room e c.requires.valid, c.requires.room, c.put_entry_of-at.ensures.end, c.put_entry_of-at.auto.buffer)
 
-pub returns : goal.returns
-returns g c =
-    sym (take_all c.put_byte.result c.put_byte.new.buffer (omega (arith, c.put_byte.ensures.end, c.put_entry-at.ensures.end, c.requires, c.put_entry-at.auto.buffer, c.put_byte.auto.buffer)))
-    ∙ c.put_byte.ensures.text ∙ ap (λ (t : List ℕ). t ++ 10 ∷ []) c.put_entry-at.ensures.text
+pub returns-clause-text : goal.returns-clause-text
+returns-clause-text c =
+    let e : EntryValue = record { origin = c.args.origin; prev = c.args.prev; moves = c.args.moves.now } in
+    c.put_byte.ensures.text ∙ ap (λ (t : List ℕ). t ++ 10 ∷ []) c.put_entry_of-at.ensures.text ∙ sym (entry_line_is e)
+
+pub returns-clause-fits : goal.returns-clause-fits
+returns-clause-fits c =
+    let e : EntryValue = record { origin = c.args.origin; prev = c.args.prev; moves = c.args.moves.now } in
+    omega (arith, entry_room e c.requires.valid, c.put_entry_of-at.ensures.end, c.put_byte.ensures.end)
