@@ -1,6 +1,11 @@
--- A text that is parted at a byte, and one that is a word.
-use Rattle.std.proofs.Common.{◌≡◌, ℕ, suc, ◌+◌, ◌-◌, Bool, List, [], ◌∷◌, length, take, drop, get_or, Option, Some, None, refl, arith}
+-- A text that is parted at a byte, a search of a table, and a text that begins so.
+use Rattle.std.proofs.Common.{◌≡◌, ◌<◌, ℕ, ◌+◌, ◌-◌, Bool, true, List, [], ◌∷◌, ◌++◌, length, take, drop, get_or, Option, Some, None, refl, sym, ◌∙◌, if◌then◌else◌}
+use Rattle.std.proofs.lemmas.List.{drop_more, take-append-drop}
+use Rattle.std.proofs.lemmas.Slice.Eq.{bytes_eq-Decides}
+use Rattle.std.specs.Borrow.{Bor}
+use Rattle.std.specs.Str.{bytes_eq}
 use Rattle.std.specs.List.{slice_split, position}
+use Rattle.transfer_world.specs.Commands.{named, names_of}
 use Rattle.entry_codec.proofs.Cuts.{uncut, cut}
 
 -- there is one part at least
@@ -11,18 +16,13 @@ some_part p xs (Some i) e = (take i xs, slice_split p (take (length xs - (i + 1)
 pub split_some : (p : ℕ → Bool) (xs : List ℕ) → (first : List ℕ) × (rest : List (List ℕ)) × (slice_split p xs ≡ first ∷ rest)
 split_some p xs = some_part p xs (position p xs) refl
 
--- from place k on, the text has these bytes
-abbrev pub HasBytes : List ℕ → ℕ → List ℕ → Type 0
-HasBytes text k [] = Unit {0}
-HasBytes text k (b ∷ bytes) = (get_or text k 0 ≡ b) × HasBytes text (suc k) bytes
+module _ {X : Type 0} (table : List (Bor (List ℕ) × X)) (i : ℕ) (entry : Bor (List ℕ) × X) (text : List ℕ) where
+  -- a search that has come to place i of a table
+  pub named_at : i < length table → entry ≡ get_or table i entry → named (names_of (drop i table)) text ≡ (if bytes_eq text entry.0.now then Some entry.1 else named (names_of (drop (i + 1) table)) text)
+  named_at below here = rw (drop_more table i entry below, ← here) refl
 
-bytes_behind : (b : ℕ) (text : List ℕ) (k : ℕ) (bytes : List ℕ) → HasBytes (b ∷ text) (suc k) bytes → HasBytes text k bytes
-bytes_behind b text k [] h = tt
-bytes_behind b text k (x ∷ xs) h = (h.0, bytes_behind b text (suc k) xs h.1)
-
--- a text of a word's length that has its bytes is that word
-pub is_word : (text word : List ℕ) → length text ≡ length word → HasBytes text 0 word → text ≡ word
-is_word [] [] n h = refl
-is_word [] (w ∷ word) n h = absurd (omega (arith, n))
-is_word (b ∷ text) [] n h = absurd (omega (arith, n))
-is_word (b ∷ text) (w ∷ word) n h = rw (h.0, is_word text word (omega (arith, n)) (bytes_behind b text 0 word h.1)) refl
+-- a text whose first bytes are those
+pub begins_so : (n : ℕ) (text begins first rest : List ℕ) → first ≡ take n text → rest ≡ drop n text → bytes_eq first begins ≡ true → text ≡ begins ++ rest
+begins_so n text begins first rest f r same =
+    let is : first ≡ begins = (bytes_eq-Decides first begins).0 same in
+    sym (take-append-drop n text) ∙ rw (← f, ← r, is) refl

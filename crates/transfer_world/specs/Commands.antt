@@ -1,5 +1,5 @@
 -- The command of a line: its words, parted at each single space, and what they spell.
-use Rattle.std.specs.Prelude.{ℕ, ◌-◌, ◌^◌, true, false, nat_le, List, [], ◌∷◌, ◌++◌, length, take, Option, Some, None, ◌==◌, if◌then◌else◌, codes}
+use Rattle.std.specs.Prelude.{◌≡◌, ℕ, ◌-◌, ◌^◌, true, false, nat_le, List, [], ◌∷◌, ◌++◌, length, take, Option, Some, None, ◌==◌, if◌then◌else◌, codes}
 use Rattle.std.specs.List.{slice_split, join_with_byte}
 use Rattle.std.specs.Option.{option_map}
 use Rattle.std.specs.Borrow.{Bor}
@@ -47,6 +47,11 @@ abbrev pub named : {X : Type 0} → List (List ℕ × X) → List ℕ → Option
 named [] text = None
 named (entry ∷ others) text = if bytes_eq text entry.0 then Some entry.1 else named others text
 
+-- the names of a table as they are seen
+abbrev pub names_of : {X : Type 0} → List (Bor (List ℕ) × X) → List (List ℕ × X)
+names_of [] = []
+names_of (entry ∷ others) = (entry.0.now, entry.1) ∷ names_of others
+
 abbrev pub first_some : {X : Type 0} → Option X → Option X → Option X
 first_some None other = other
 first_some (Some x) other = Some x
@@ -89,6 +94,21 @@ unfoldable pub word_of : List ℕ → Option Word
 word_of text =
     first_some (option_map (λ word. AtSite word) (site_word text))
     (first_some (option_map (λ word. OnLink word) (link_word text)) (plain_word text))
+
+-- the word that the first of words says, and the words after it
+abbrev pub word_in : List (List ℕ) → Option (Word × List (List ℕ))
+word_in [] = None
+word_in (first ∷ words) = do
+  word ← word_of first
+  Some (word, words)
+
+-- every line that begins so says the word, and what is behind that has its values
+abbrev pub Spells : List ℕ → Word → Type 0
+Spells begins word = (rest : List ℕ) → word_in (words_of (begins ++ rest)) ≡ Some (word, words_of rest)
+
+-- a line says a word, and a text has its values
+abbrev pub IsWordIn : List ℕ → (Word × Bor (List ℕ)) → Type 0
+IsWordIn line found = word_in (words_of line) ≡ Some (found.0, words_of found.1.now)
 
 -- ---- values
 

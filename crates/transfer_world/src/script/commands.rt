@@ -4,7 +4,7 @@ ghost use Rattle.entry_codec.specs.Parts.{Finds};
 ghost use Rattle.transfer_world.specs.Commands.{words_of, words_left, moves_in, site_and_number, two_sites, heir_in, site_event, link_event, event_on_link, post_of, noise_parts, noise_of, sites_of, report_of, act, command_by, command_in, command_of};
 
 use crate::event::{Event, Moves};
-use crate::script::word::{LinkWord, SiteWord, Word, word_of};
+use crate::script::word::{LinkWord, SiteWord, Word, first_word};
 use crate::script::words::{first_number, first_site, only_in, only_number, only_site, split_word};
 use entry_codec::read_move;
 use rights_types::{MAX_LINE, MAX_SITES, MIN_SITES, Move, OutOfMemory, SiteId};
@@ -275,9 +275,8 @@ fn read_values<A: Allocator>(
 fn read_words<A: Allocator>(alloc: A, text: &[u8]) -> Result<Option<Command<A>>, OutOfMemory>
     ensures { IfOk result (λ command. command ≡ command_in text.now) }
 {
-    let (first, values) = split_word(text);
-    match word_of(first) {
-        Some(word) => read_values(alloc, word, values),
+    match first_word(text) {
+        Some((word, values)) => read_values(alloc, word, values),
         None => Ok(None),
     }
 }

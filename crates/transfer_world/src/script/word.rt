@@ -1,6 +1,9 @@
 //! The first words of commands.
-ghost use Rattle.std.specs.Prelude.{◌≡◌};
-ghost use Rattle.transfer_world.specs.Commands.{site_word, link_word, plain_word, word_of};
+ghost use Rattle.std.specs.Prelude.{◌≡◌, IfSome};
+ghost use Rattle.entry_codec.specs.Parts.{Finds};
+ghost use Rattle.transfer_world.specs.Commands.{words_of, words_left, named, names_of, site_word, link_word, plain_word, word_of, word_in, Spells, IsWordIn};
+
+use crate::script::words::split_word;
 
 /// What the first word of a line asks for.
 #[derive(Clone, Copy)]
@@ -38,55 +41,73 @@ pub(crate) enum LinkWord {
     Take,
 }
 
+/// The words of events at one site.
+const SITE_WORDS: [(&[u8], SiteWord); 9] = [
+    (b"issue", SiteWord::Issue),
+    (b"give", SiteWord::Give),
+    (b"spend", SiteWord::Spend),
+    (b"serve", SiteWord::Serve),
+    (b"expire", SiteWord::Expire),
+    (b"status", SiteWord::Status),
+    (b"plan", SiteWord::Plan),
+    (b"arrive", SiteWord::Arrive),
+    (b"close", SiteWord::Close),
+];
+
+/// The words of events between two sites.
+const LINK_WORDS: [(&[u8], LinkWord); 6] = [
+    (b"ask", LinkWord::Ask),
+    (b"publish", LinkWord::Publish),
+    (b"beat", LinkWord::Beat),
+    (b"query", LinkWord::Query),
+    (b"requery", LinkWord::Requery),
+    (b"take", LinkWord::Take),
+];
+
+/// The other words.
+const PLAIN_WORDS: [(&[u8], Word); 4] = [
+    (b"sites", Word::Sites),
+    (b"post", Word::Post),
+    (b"noise", Word::Noise),
+    (b"report", Word::Report),
+];
+
+/// What a text stands for, by a table.
+fn named<X: Copy>(table: &[(&[u8], X)], text: &[u8]) -> Option<X>
+    ensures { result ≡ named (names_of table.now) text.now }
+{
+    for (name, meaning) in table {
+        if text == *name {
+            return Some(*meaning);
+        }
+    }
+    None
+}
+
 #[tactic(auto, unfolding(crate::specs::Commands::site_word))]
 fn site_word(text: &[u8]) -> Option<SiteWord>
     ensures { result ≡ site_word text.now }
 {
-    match text {
-        b"issue" => Some(SiteWord::Issue),
-        b"give" => Some(SiteWord::Give),
-        b"spend" => Some(SiteWord::Spend),
-        b"serve" => Some(SiteWord::Serve),
-        b"expire" => Some(SiteWord::Expire),
-        b"status" => Some(SiteWord::Status),
-        b"plan" => Some(SiteWord::Plan),
-        b"arrive" => Some(SiteWord::Arrive),
-        b"close" => Some(SiteWord::Close),
-        _ => None,
-    }
+    named(&SITE_WORDS, text)
 }
 
 #[tactic(auto, unfolding(crate::specs::Commands::link_word))]
 fn link_word(text: &[u8]) -> Option<LinkWord>
     ensures { result ≡ link_word text.now }
 {
-    match text {
-        b"ask" => Some(LinkWord::Ask),
-        b"publish" => Some(LinkWord::Publish),
-        b"beat" => Some(LinkWord::Beat),
-        b"query" => Some(LinkWord::Query),
-        b"requery" => Some(LinkWord::Requery),
-        b"take" => Some(LinkWord::Take),
-        _ => None,
-    }
+    named(&LINK_WORDS, text)
 }
 
 #[tactic(auto, unfolding(crate::specs::Commands::plain_word))]
 fn plain_word(text: &[u8]) -> Option<Word>
     ensures { result ≡ plain_word text.now }
 {
-    match text {
-        b"sites" => Some(Word::Sites),
-        b"post" => Some(Word::Post),
-        b"noise" => Some(Word::Noise),
-        b"report" => Some(Word::Report),
-        _ => None,
-    }
+    named(&PLAIN_WORDS, text)
 }
 
 /// What a text says as the first word of a line.
 #[tactic(auto, unfolding(crate::specs::Commands::word_of))]
-pub(crate) fn word_of(text: &[u8]) -> Option<Word>
+fn word_of(text: &[u8]) -> Option<Word>
     ensures { result ≡ word_of text.now }
 {
     if let Some(word) = site_word(text) {
@@ -96,4 +117,83 @@ pub(crate) fn word_of(text: &[u8]) -> Option<Word>
         return Some(Word::OnLink(word));
     }
     plain_word(text)
+}
+
+/// The word of a line that begins so, and what is behind it. A length that the compiler knows makes it a comparison or
+/// two, where they are inlined: hence a function for each letter that several words share.
+#[inline(always)]
+fn behind<'a, const N: usize>(
+    text: &'a [u8],
+    begins: &[u8; N],
+    word: Word,
+) -> Option<(Word, &'a [u8])>
+    requires { Spells begins.now word }
+    ensures { IfSome result (IsWordIn text.now) }
+{
+    let (first, values) = text.split_first_chunk::<N>()?;
+    if *first == *begins {
+        Some((word, values))
+    } else {
+        None
+    }
+}
+
+#[tactic(auto, unfolding(crate::specs::Commands::word_of, crate::specs::Commands::site_word, crate::specs::Commands::link_word))]
+fn arrive_or_ask(text: &[u8]) -> Option<(Word, &[u8])>
+    ensures { IfSome result (IsWordIn text.now) }
+{
+    if let Some(found) = behind(text, b"arrive ", Word::AtSite(SiteWord::Arrive)) {
+        return Some(found);
+    }
+    behind(text, b"ask ", Word::OnLink(LinkWord::Ask))
+}
+
+#[tactic(auto, unfolding(crate::specs::Commands::word_of, crate::specs::Commands::site_word, crate::specs::Commands::link_word))]
+fn publish_or_plan(text: &[u8]) -> Option<(Word, &[u8])>
+    ensures { IfSome result (IsWordIn text.now) }
+{
+    if let Some(found) = behind(text, b"publish ", Word::OnLink(LinkWord::Publish)) {
+        return Some(found);
+    }
+    behind(text, b"plan ", Word::AtSite(SiteWord::Plan))
+}
+
+#[tactic(auto, unfolding(crate::specs::Commands::word_of, crate::specs::Commands::site_word))]
+fn spend_serve_or_status(text: &[u8]) -> Option<(Word, &[u8])>
+    ensures { IfSome result (IsWordIn text.now) }
+{
+    if let Some(found) = behind(text, b"spend ", Word::AtSite(SiteWord::Spend)) {
+        return Some(found);
+    }
+    if let Some(found) = behind(text, b"serve ", Word::AtSite(SiteWord::Serve)) {
+        return Some(found);
+    }
+    behind(text, b"status ", Word::AtSite(SiteWord::Status))
+}
+
+/// The word of a line that begins with one of those that long scripts are made of.
+#[tactic(auto, unfolding(crate::specs::Commands::word_of, crate::specs::Commands::site_word, crate::specs::Commands::link_word))]
+fn frequent_word(text: &[u8]) -> Option<(Word, &[u8])>
+    ensures { IfSome result (IsWordIn text.now) }
+{
+    match text.first()? {
+        b'a' => arrive_or_ask(text),
+        b'g' => behind(text, b"give ", Word::AtSite(SiteWord::Give)),
+        b'p' => publish_or_plan(text),
+        b'q' => behind(text, b"query ", Word::OnLink(LinkWord::Query)),
+        b's' => spend_serve_or_status(text),
+        b't' => behind(text, b"take ", Word::OnLink(LinkWord::Take)),
+        _ => None,
+    }
+}
+
+/// The word that a line begins with, and the text of the words after it.
+pub(crate) fn first_word(text: &[u8]) -> Option<(Word, Option<&[u8]>)>
+    ensures { Finds (λ x. (x.0, words_left x.1)) result (word_in (words_of text.now)) }
+{
+    if let Some((word, values)) = frequent_word(text) {
+        return Some((word, Some(values)));
+    }
+    let (first, values) = split_word(text);
+    Some((word_of(first)?, values))
 }
