@@ -134,6 +134,7 @@ fn letter_of(text: &[u8]) -> Option<(u8, &[u8])>
 
 /// Puts the move of the first field into a slot, and answers what comes after the field. The moves
 /// that most entries have are read in one pass.
+#[inline(always)]
 pub(crate) fn first_move<'a>(fields: &'a [u8], slot: &mut Move) -> Option<Option<&'a [u8]>>
     ensures { FindsMove slot.new result (first_move (split_at FIELD_BREAK fields.now)) }
 {
