@@ -7,7 +7,7 @@ ghost use Rattle.entry_codec.specs.Parts.{parts_in, Gives, parts_left, fields_le
 ghost use Rattle.entry_codec.specs.Reading.{push_of, answer_of, message_of, reading, WantsRoom};
 
 use crate::answer::answer_in;
-use crate::entry::{SLOTS, entry_in, entry_with};
+use crate::entry::{SLOTS, entry_in, entry_with, whole_entry_in};
 use crate::fault::LineError;
 use crate::format::{ANSWER_LETTER, ENTRY_LETTER, FIELD_BREAK, LINE_END, MAX_FIELDS, PART_BREAK};
 use crate::parts::{is_letter, split_far, split_first};
@@ -59,9 +59,10 @@ fn message_in<A: Allocator + Copy>(alloc: A, text: &[u8]) -> Result<Message<A>, 
     ensures memory { WantsRoom result (message_of (parts_in text.now)) }
 {
     if let Some(fields) = behind_entry_letter(text) {
-        let mut kept = [Move::Close; SLOTS];
-        if let Ok((origin, prev, count)) = entry_in(Some(fields), 0, &mut kept) {
-            return Ok(Message::Push(entry_with(alloc, origin, prev, &kept[..count])?));
+        match whole_entry_in(alloc, fields) {
+            Ok(entry) => return Ok(Message::Push(entry)),
+            Err(LineError::OutOfMemory) => return Err(LineError::OutOfMemory),
+            Err(_) => {}
         }
     }
     message_of_parts(alloc, text)

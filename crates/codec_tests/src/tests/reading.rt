@@ -7,7 +7,8 @@ use std::alloc::Allocator;
 use test_kit::requests_of;
 
 /// Lines, and how many requests their messages take.
-const LINES: [(&str, u64); 9] = [
+const LINES: [(&str, u64); 10] = [
+    ("E 1 0 1 I:10\n", 1),
     ("E 1 0 3 I:10 S:4 R:2:3\n", 1),
     ("A 1 2;E 1 0 1 I:10\n", 2),
     ("A 1 2;E 1 0 1 I:10;E 1 1 4 S:1 S:1 S:1;E 1 4 5 K:0:7\n", 4),
