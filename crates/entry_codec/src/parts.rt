@@ -185,6 +185,7 @@ pub(crate) fn only_number(parts: Option<&[u8]>, at: u8, low: u64, high: u64) -> 
 }
 
 /// The number in a fixed field, and the fields after it.
+#[inline(always)]
 #[tactic(auto, unfolding(crate::specs::Reading::value_at))]
 pub(crate) fn number_in(
     fields: Option<&[u8]>,

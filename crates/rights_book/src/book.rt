@@ -95,6 +95,7 @@ impl<A: Allocator> Book<A> {
     }
 
     /// Books the next entry of the site's own log. A closing move closes it, wherever it stands.
+    #[inline(always)]
     pub fn own(&mut self, moves: &[Move])
         requires checked { check_fault self.old moves.now ≡ None }
         requires some { 1 ≤ length moves.now }

@@ -123,6 +123,7 @@ impl<A: Allocator + Copy> Inbound<A> {
 
     /// The message of a line, where it is the origin's, for this site, and of this system. It has not come in
     /// by that.
+    #[inline(always)]
     pub fn read(&self, line: &[u8]) -> Result<Message<A>, InboundError>
         ensures refused { InboundRefuses self.now (reading line.now) result }
         ensures ok { IfOk result (λ m. reading line.now ≡ Ok (value_of m)) }

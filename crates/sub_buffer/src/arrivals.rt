@@ -19,6 +19,7 @@ impl<A: Allocator> SubBuffer<A> {
     /// Offers an entry of the origin, and delivers all that it frees: its verdict goes to the end of
     /// `verdicts`, and after it `Ready` for each held entry that has become next. The buffer is to be settled
     /// before, as a new one is and one after `arrive`: `pop_ready` would answer `None`.
+    #[inline(always)]
     pub fn arrive(&mut self, entry: Entry<A>, verdicts: &mut Vec<Verdict<A>, A>)
         requires of_origin { entry.origin ≡ self.old.origin }
         requires settled { IsSettled self.old }

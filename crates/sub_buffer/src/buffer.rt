@@ -95,6 +95,7 @@ impl<A: Allocator> SubBuffer<A> {
     }
 
     // The verdict on an entry of the origin.
+    #[inline(always)]
     pub(crate) fn judge(&mut self, entry: Entry<A>) -> Verdict<A>
         requires { entry.origin ≡ self.old.origin }
         ensures table { OfferLeaves self.old entry result self.new }

@@ -24,6 +24,7 @@ pub enum Spending {
 impl<A: Allocator + Copy> Desk<A> {
     /// Spends so many rights at once, where no spend waits and as many are held; else lets the spend wait
     /// behind the others until its deadline, which may have passed already. Only an entry takes memory.
+    #[inline(always)]
     pub fn spend(&mut self, amount: u64, deadline: u64) -> Result<Spending, DeskError>
         ensures refused { DeskRefuses (spend_fault self.old amount) result }
         ensures ok { OnOk result (IfOk result (λ spending. DeskSpends self.old amount deadline spending self.new)) }

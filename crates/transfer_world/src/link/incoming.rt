@@ -41,6 +41,7 @@ pub(super) struct Incoming<A: Allocator, K: Keeping> {
 impl<A: Allocator + Copy, K: Keeping> Incoming<A, K> {
     /// Makes room for so many entries that are to come, and a list in which their verdicts can be told: on each, and
     /// again where it was held and is freed. Unless all come in order, what reached the site is listed apart.
+    #[inline(always)]
     pub(super) fn make_room(
         &mut self,
         entries: usize,
@@ -115,6 +116,7 @@ impl<A: Allocator + Copy, K: Keeping> Incoming<A, K> {
 
     /// Takes in an entry for which room was made. Its copy, which there is where entries are listed apart, is listed
     /// where it reaches the site.
+    #[inline(always)]
     pub(super) fn take(
         &mut self,
         entry: Entry<A>,

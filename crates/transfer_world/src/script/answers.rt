@@ -52,6 +52,7 @@ fn error_name(error: WorldError) -> &'static [u8]
     }
 }
 
+#[inline(always)]
 fn put_verdict<A: Allocator>(replies: &mut Replies<A>, verdict: Verdict) -> Result<(), OutOfMemory>
     ensures ok { OnOk result (replies.new.part ≡ replies.old.part ++ verdict_text verdict) }
     ensures kept { replies.new.whole ≡ replies.old.whole }
@@ -138,6 +139,7 @@ fn put_reply<A: Allocator + Copy>(
 }
 
 /// A packet's number, and its line without the line feed.
+#[inline(always)]
 fn put_packet<A: Allocator + Copy>(
     replies: &mut Replies<A>,
     world: &World<A, ForReplies>,
@@ -198,6 +200,7 @@ fn answer_first<A: Allocator + Copy>(
 }
 
 /// Answers a command in a world, but for the end of its reply.
+#[inline(always)]
 fn answer_in<A: Allocator + Copy>(
     world: &mut World<A, ForReplies>,
     replies: &mut Replies<A>,
@@ -218,6 +221,7 @@ fn answer_in<A: Allocator + Copy>(
 }
 
 /// Answers a command, but for the end of its reply.
+#[inline(always)]
 fn answer<A: Allocator + Copy>(
     alloc: A,
     world: &mut Option<World<A, ForReplies>>,

@@ -1,4 +1,4 @@
-use Rattle.std.proofs.Common.{length, arith}
+use Rattle.std.proofs.Common.{arith}
 use Rattle.entry_codec.proofs.Cuts.{place_found, place_none}
 use Rattle.entry_codec.proofs.parts.position_of.Goals as goal
 
