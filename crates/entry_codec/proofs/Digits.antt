@@ -1,21 +1,24 @@
--- Digits read from the left and written from the right.
-use Rattle.std.proofs.Common.{◌≡◌, ℕ, zero, suc, ◌+◌, ◌-◌, ◌*◌, ◌/◌, ◌%◌, ◌^◌, ◌<◌, ◌≤◌, true, false, cond, eqb, leb, List, [], ◌∷◌, ◌++◌, length, get_or, take, drop, set, Some, None, refl, sym, ap, subst, ◌∙◌, arith, length-append, length-set, append_assoc, eq-zero-or-pos, inl, inr}
+-- Digits that are read and written from the left.
+use Rattle.std.proofs.Common.{◌≡◌, ℕ, zero, suc, ◌+◌, ◌-◌, ◌*◌, ◌/◌, ◌%◌, ◌^◌, ◌<◌, ◌≤◌, Bool, true, false, ◌&&◌, cond, eqb, leb, List, [], ◌∷◌, ◌++◌, length, get_or, take, drop, Some, None, refl, sym, ap, subst, ◌∙◌, arith, length-append, append_assoc, eq-zero-or-pos, inl, inr}
 use Rattle.std.specs.Prelude.{decimal, ◌==◌, ◌⊎◌}
 use Rattle.std.specs.Char.{digit_value}
 use Rattle.std.specs.List.{All, onto_first}
+use Rattle.std.specs.Str.{bytes_eq}
 use Rattle.std.specs.Str.Parse.{AllDigits, digits_value}
-use Rattle.std.proofs.lemmas.Bool.{eqb-true, eqb-false, eq-eqb, ne_eqb, cases_Bool, cases_lt, not-true, not-false, le-leb, lt-leb}
+use Rattle.std.proofs.lemmas.Bool.{and_parts, eqb-true, eqb-false, eq-eqb, ne_eqb, cases_Bool, cases_lt, not-true, not-false, le-leb, lt-leb}
 use Rattle.std.proofs.lemmas.Fmt.{decimal_digit, decimal_step, decimal-digits_value, decimal_nonempty, first_decimal, length-decimal-le, digits_decimal, decimal_is_IsNumeral}
 use Rattle.std.proofs.lemmas.Int.Digits.{digits_value-lt, digits_more, digits_value_more}
-use Rattle.std.proofs.lemmas.List.{drop_more, drop-set, drop-take, take-set, take-set-le, take-take, take_all, take-append-drop, length-take-le, length-drop, get_or_default, get_or-take}
+use Rattle.std.proofs.lemmas.List.{drop_more, take_all, take-append-drop, length-take-le, length-drop, get_or_default, get_or-take}
 use Rattle.std.proofs.lemmas.List.Splits.{slice_split_none, slice_split_at, slice_split-cons_yes, slice_split-cons_no}
+use Rattle.std.proofs.lemmas.Slice.Eq.{bytes_eq-Decides}
 use Rattle.std.proofs.lemmas.Str.{digit_value_digit}
 use Rattle.std.proofs.lemmas.Str.Parse.{IsNumeralModel, numerals_by_value, tells_digits, digit_at}
 use Rattle.std.proofs.Math.Nat.{pow-le-pow_right, pow-suc, pow-succ', div-div-eq-div-mul}
 use Rattle.entry_codec.specs.Parts.{split_at}
 use Rattle.entry_codec.specs.Moves.{number_of, first_number}
 use Rattle.entry_codec.specs.Texts.{is_canonical}
-use Rattle.entry_codec.specs.Digits.{IsReadUpTo}
+use Rattle.entry_codec.specs.Digits.{IsReadUpTo, two_digits, four_digits, eight_digits}
+use Rattle.entry_codec.specs.declared.put.TheConstants.{PAIRS}
 use Rattle.entry_codec.proofs.Numbers.{number_none}
 
 pub own_digits : IsNumeralModel (AllDigits 10) (digits_value 10)
@@ -286,76 +289,63 @@ length_tenths (suc k) n h fits =
     let same : n / 10 / 10 ^ k ≡ n / 10 ^ suc k = div-div-eq-div-mul n 10 (10 ^ k) ∙ ap (λ (m : ℕ). n / m) (sym (pow-succ' 10 k)) in
     omega (arith, length_more n (omega (arith, h, more, one)) fits, rest, ap (λ (m : ℕ). length (decimal m)) same)
 
-pub length_least : (n : ℕ) → n < 2 ^ 64 → 1 ≤ length (decimal n)
-length_least n fits = decimal_nonempty n fits
+-- ---- a decimal by its last digits
 
--- ---- digits put from the right
+pub decimal_two : (n : ℕ) → 10 ≤ n → n < 100 → decimal n ≡ two_digits n
+decimal_two n more less = decimal_step n more (omega (arith, less)) ∙ ap (λ (t : List ℕ). t ++ (48 + n % 10) ∷ []) (decimal_digit (n / 10) (omega (arith, less)))
 
-take_parts : (m n : ℕ) (xs : List ℕ) → m ≤ n → take n xs ≡ take m xs ++ take (n - m) (drop m xs)
-take_parts m n xs le =
-    let n-is : n ≡ m + (n - m) = omega (arith, le) in
-    let parts = take-append-drop m (take (m + (n - m)) xs) in
-    ap (λ (k : ℕ). take k xs) n-is ∙ sym parts ∙ rw (take-take m (m + (n - m)) xs (omega arith), drop-take m (n - m) xs) refl
+pub last_two : (n : ℕ) → 100 ≤ n → n < 2 ^ 64 → decimal n ≡ decimal (n / 100) ++ two_digits (n % 100)
+last_two n more fits =
+    let front : n / 10 / 10 ≡ n / 100 = omega arith in
+    let tens : n / 10 % 10 ≡ n % 100 / 10 = omega arith in
+    let ones : n % 10 ≡ n % 100 % 10 = omega arith in
+    rw (decimal_step n (omega (arith, more)) fits, decimal_step (n / 10) (omega (arith, more)) (omega (arith, fits)), append_assoc, front, tens, ones) refl
 
--- the digits of the number behind those of rest stand from the place to the end
-pub record ArePut (first buffer : List ℕ) (number rest at place end : ℕ) : Type 0 where
-  pub tail : decimal number ≡ decimal rest ++ take (end - place) (drop place buffer)
-  pub head : take at buffer ≡ take at first
-  pub begins : place ≡ at + length (decimal rest)
-  pub within : place ≤ end
+pub last_four : (n : ℕ) → 10000 ≤ n → n < 2 ^ 64 → decimal n ≡ decimal (n / 10000) ++ four_digits (n % 10000)
+last_four n more fits =
+    let front : n / 100 / 100 ≡ n / 10000 = omega arith in
+    let left : n / 100 % 100 ≡ n % 10000 / 100 = omega arith in
+    let right : n % 100 ≡ n % 10000 % 100 = omega arith in
+    rw (last_two n (omega (arith, more)) fits, last_two (n / 100) (omega (arith, more)) (omega (arith, fits)), append_assoc (decimal (n / 100 / 100)), front, left, right) refl
 
-pub puts_more : (first buffer : List ℕ) (number rest at place end : ℕ) → 10 ≤ rest → rest < 2 ^ 64 → end ≤ length buffer
-    → ArePut first buffer number rest at place end
-    → ArePut first (set buffer (place - 1) (48 + rest % 10)) number (rest / 10) at (place - 1) end
-puts_more first buffer number rest at place end more fits room h =
-    let p : ℕ = place - 1 in
-    let d : ℕ = 48 + rest % 10 in
-    let front = decimal (rest / 10) in
-    let longer = length_more rest more fits in
-    let here : p + 1 ≡ place = omega (arith, h.begins, longer) in
-    let set-is : drop p (set buffer p d) ≡ d ∷ drop (p + 1) buffer = drop-set buffer p d (omega (arith, h.within, room, here)) in
-    let left-is : end - p ≡ suc (end - place) = omega (arith, here, h.within) in
-    record {
-      tail = h.tail ∙ rw (decimal_step rest more fits, append_assoc, set-is, here, left-is) refl;
-      head = take-set-le at buffer p d (omega (arith, h.begins, longer)) ∙ h.head;
-      begins = omega (arith, h.begins, longer);
-      within = omega (arith, h.within);
-    }
+pub last_eight : (n : ℕ) → 100000000 ≤ n → n < 2 ^ 64 → decimal n ≡ decimal (n / 100000000) ++ eight_digits (n % 100000000)
+last_eight n more fits =
+    let front : n / 10000 / 10000 ≡ n / 100000000 = omega arith in
+    let left : n / 10000 % 10000 ≡ n % 100000000 / 10000 = omega arith in
+    let right : n % 10000 ≡ n % 100000000 % 10000 = omega arith in
+    rw (last_four n (omega (arith, more)) fits, last_four (n / 10000) (omega (arith, more)) (omega (arith, fits)), append_assoc (decimal (n / 10000 / 10000)), front, left, right) refl
 
-pub all_put : (first buffer : List ℕ) (number rest at place end : ℕ) → rest < 10 → end ≤ length buffer
-    → ArePut first buffer number rest at place end → take end (set buffer at (48 + rest)) ≡ take at first ++ decimal number
-all_put first buffer number rest at place end one room h =
-    let d : ℕ = 48 + rest in
-    let here : at + 1 ≡ place = omega (arith, h.begins, length_one rest one) in
-    let set-is : drop at (set buffer at d) ≡ d ∷ drop (at + 1) buffer = drop-set buffer at d (omega (arith, h.within, room, here)) in
-    let left-is : end - at ≡ suc (end - place) = omega (arith, here, h.within) in
-    take_parts at end (set buffer at d) (omega (arith, here, h.within))
-    ∙ rw (take-set buffer at d, h.head, set-is, here, left-is, h.tail, decimal_digit rest one) refl
+pub length_by_two : (n : ℕ) → 100 ≤ n → n < 2 ^ 64 → length (decimal n) ≡ length (decimal (n / 100)) + 2
+length_by_two n more fits = ap length (last_two n more fits) ∙ length-append (decimal (n / 100)) (two_digits (n % 100))
 
-pub length_pair : (n : ℕ) → 10 ≤ n → n < 2 ^ 64 → 2 ≤ length (decimal n)
-length_pair n h fits = omega (arith, length_more n h fits, length_least (n / 10) (omega (arith, fits)))
+pub length_by_four : (n : ℕ) → 10000 ≤ n → n < 2 ^ 64 → length (decimal n) ≡ length (decimal (n / 10000)) + 4
+length_by_four n more fits = ap length (last_four n more fits) ∙ length-append (decimal (n / 10000)) (four_digits (n % 10000))
 
--- two digits in a step
-pub puts_pair : (first buffer : List ℕ) (number rest at place end : ℕ) → 100 ≤ rest → rest < 2 ^ 64 → end ≤ length buffer
-    → ArePut first buffer number rest at place end
-    → ArePut first (set (set buffer (place - 2 + 1) (48 + rest % 100 % 10)) (place - 2) (48 + rest % 100 / 10)) number (rest / 100) at (place - 2) end
-puts_pair first buffer number rest at place end more fits room h =
-    let one = puts_more first buffer number rest at place end (omega (arith, more)) fits room h in
-    let long = length-set buffer (place - 1) (48 + rest % 10) in
-    let two = puts_more first (set buffer (place - 1) (48 + rest % 10)) number (rest / 10) at (place - 1) end (omega (arith, more)) (omega (arith, fits)) (omega (arith, room, long)) one in
-    let pair = length_pair rest (omega (arith, more)) fits in
-    let right : place - 2 + 1 ≡ place - 1 = omega (arith, h.begins, pair) in
-    let left : place - 2 ≡ place - 1 - 1 = omega arith in
-    let ones : rest % 100 % 10 ≡ rest % 10 = omega arith in
-    let tens : rest % 100 / 10 ≡ rest / 10 % 10 = omega arith in
-    let front : rest / 100 ≡ rest / 10 / 10 = omega arith in
-    rw (right, left, ones, tens, front) two
+pub length_by_eight : (n : ℕ) → 100000000 ≤ n → n < 2 ^ 64 → length (decimal n) ≡ length (decimal (n / 100000000)) + 8
+length_by_eight n more fits = ap length (last_eight n more fits) ∙ length-append (decimal (n / 100000000)) (eight_digits (n % 100000000))
 
-pub all_put_pair : (first buffer : List ℕ) (number rest at place end : ℕ) → 10 ≤ rest → rest < 100 → end ≤ length buffer
-    → ArePut first buffer number rest at place end → take end (set (set buffer (at + 1) (48 + rest % 10)) at (48 + rest / 10)) ≡ take at first ++ decimal number
-all_put_pair first buffer number rest at place end more less room h =
-    let one = puts_more first buffer number rest at place end more (omega (arith, less)) room h in
-    let long = length-set buffer (place - 1) (48 + rest % 10) in
-    let two = length_more rest more (omega (arith, less)) in
-    let right : at + 1 ≡ place - 1 = omega (arith, h.begins, two, length_one (rest / 10) (omega (arith, less))) in
-    rw right (all_put first (set buffer (place - 1) (48 + rest % 10)) number (rest / 10) at (place - 1) end (omega (arith, less)) (omega (arith, room, long)) one)
+-- a text that is put in two parts
+pub in_parts : (before front back whole between after : List ℕ) → between ≡ before ++ front → after ≡ between ++ back → whole ≡ front ++ back → after ≡ before ++ whole
+in_parts before front back whole between after first second is =
+    second ∙ ap (λ (t : List ℕ). t ++ back) first ∙ append_assoc before front back ∙ ap (λ (t : List ℕ). before ++ t) (sym is)
+
+-- ---- the table of pairs
+
+abbrev pair_in_table : ℕ → List ℕ
+pair_in_table p = get_or PAIRS (p * 2) 0 ∷ get_or PAIRS (p * 2 + 1) 0 ∷ []
+
+abbrev are_pairs : ℕ → Bool
+are_pairs zero = true
+are_pairs (suc p) = bytes_eq (two_digits p) (pair_in_table p) && are_pairs p
+
+pair_below : (n p : ℕ) → are_pairs n ≡ true → p < n → two_digits p ≡ pair_in_table p
+pair_below zero p h lt = absurd (omega (arith, lt))
+pair_below (suc n) p h lt =
+    let tests = and_parts (bytes_eq (two_digits n) (pair_in_table n)) (are_pairs n) h in
+    elim (cases_lt p n) [
+      | inl below ↦ pair_below n p tests.1 below
+      | inr above ↦ let is : p ≡ n = omega (arith, above, lt) in rw is ((bytes_eq-Decides (two_digits n) (pair_in_table n)).0 tests.0)
+    ]
+
+pub pair_is : (p : ℕ) → p < 100 → two_digits p ≡ get_or PAIRS (p * 2) 0 ∷ get_or PAIRS (p * 2 + 1) 0 ∷ []
+pair_is p lt = pair_below 100 p refl lt

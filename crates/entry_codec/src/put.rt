@@ -1,8 +1,15 @@
 //! Putting bytes into a slice that has the room, from a place on. Each call answers the place
 //! behind.
-ghost use Rattle.std.specs.Prelude.{◌≡◌, ◌+◌, ◌<◌, ◌≤◌, [], ◌∷◌, ◌++◌, length, take, decimal};
+ghost use Rattle.std.specs.Prelude.{◌≡◌, ◌+◌, ◌<◌, ◌≤◌, ◌^◌, [], ◌∷◌, ◌++◌, length, take, decimal};
+ghost use Rattle.entry_codec.specs.Digits.{two_digits, four_digits, eight_digits};
 
-use crate::length::digit_count;
+/// The two digits of each number below 100.
+static PAIRS: [u8; 200] =
+    *b"00010203040506070809101112131415161718192021222324252627282930313233343536373839404142434445464748495051525354555657585960616263646566676869707172737475767778798081828384858687888990919293949596979899";
+
+const FOUR_DIGITS: u64 = 10_000;
+
+const EIGHT_DIGITS: u64 = 100_000_000;
 
 pub(crate) fn put_byte(buffer: &mut [u8], at: usize, byte: u8) -> usize
     requires { at < length buffer.old }
@@ -13,7 +20,7 @@ pub(crate) fn put_byte(buffer: &mut [u8], at: usize, byte: u8) -> usize
     at + 1
 }
 
-/// Many numbers have one digit, as those of sites, which then takes no counting of digits.
+/// Many numbers have one digit, as those of sites.
 #[tactic(auto, using(std::proofs::lemmas::Fmt::decimal_digit))]
 pub(crate) fn put_decimal(buffer: &mut [u8], at: usize, number: u64) -> usize
     requires { at + length (decimal number) ≤ length buffer.old }
@@ -26,26 +33,100 @@ pub(crate) fn put_decimal(buffer: &mut [u8], at: usize, number: u64) -> usize
     put_digits(buffer, at, number)
 }
 
+// From the left: behind a number's front comes a known count of digits, so that none has to be counted first.
 fn put_digits(buffer: &mut [u8], at: usize, number: u64) -> usize
     requires { at + length (decimal number) ≤ length buffer.old }
     ensures end { result ≡ at + length (decimal number) }
     ensures text { take result buffer.new ≡ take at buffer.old ++ decimal number }
 {
-    let end = at + digit_count(number);
-    let mut place = end;
-    let mut rest = number;
-    while rest >= 100 {
-        let pair = rest % 100;
-        rest /= 100;
-        place -= 2;
-        buffer[place + 1] = b'0' + (pair % 10) as u8;
-        buffer[place] = b'0' + (pair / 10) as u8;
+    if number < EIGHT_DIGITS {
+        return put_up_to_eight(buffer, at, number);
     }
-    if rest < 10 {
-        buffer[at] = b'0' + rest as u8;
-        return end;
+    let at = put_up_to_twelve(buffer, at, number / EIGHT_DIGITS);
+    put_eight(buffer, at, number % EIGHT_DIGITS)
+}
+
+// A number of at most so many digits.
+fn put_up_to_twelve(buffer: &mut [u8], at: usize, number: u64) -> usize
+    requires small { number < 10 ^ 12 }
+    requires room { at + length (decimal number) ≤ length buffer.old }
+    ensures end { result ≡ at + length (decimal number) }
+    ensures text { take result buffer.new ≡ take at buffer.old ++ decimal number }
+{
+    if number < EIGHT_DIGITS {
+        return put_up_to_eight(buffer, at, number);
     }
-    buffer[at + 1] = b'0' + (rest % 10) as u8;
-    buffer[at] = b'0' + (rest / 10) as u8;
-    end
+    let at = put_up_to_four(buffer, at, number / EIGHT_DIGITS);
+    put_eight(buffer, at, number % EIGHT_DIGITS)
+}
+
+fn put_up_to_eight(buffer: &mut [u8], at: usize, number: u64) -> usize
+    requires small { number < EIGHT_DIGITS }
+    requires room { at + length (decimal number) ≤ length buffer.old }
+    ensures end { result ≡ at + length (decimal number) }
+    ensures text { take result buffer.new ≡ take at buffer.old ++ decimal number }
+{
+    if number < FOUR_DIGITS {
+        return put_up_to_four(buffer, at, number);
+    }
+    let at = put_up_to_four(buffer, at, number / FOUR_DIGITS);
+    put_four(buffer, at, number % FOUR_DIGITS)
+}
+
+fn put_up_to_four(buffer: &mut [u8], at: usize, number: u64) -> usize
+    requires small { number < FOUR_DIGITS }
+    requires room { at + length (decimal number) ≤ length buffer.old }
+    ensures end { result ≡ at + length (decimal number) }
+    ensures text { take result buffer.new ≡ take at buffer.old ++ decimal number }
+{
+    if number < 100 {
+        return put_up_to_two(buffer, at, number);
+    }
+    let at = put_up_to_two(buffer, at, number / 100);
+    put_two(buffer, at, number % 100)
+}
+
+fn put_up_to_two(buffer: &mut [u8], at: usize, number: u64) -> usize
+    requires small { number < 100 }
+    requires room { at + length (decimal number) ≤ length buffer.old }
+    ensures end { result ≡ at + length (decimal number) }
+    ensures text { take result buffer.new ≡ take at buffer.old ++ decimal number }
+{
+    if number < 10 {
+        return put_byte(buffer, at, b'0' + number as u8);
+    }
+    put_two(buffer, at, number)
+}
+
+// So many digits, of which the first may be zeros.
+fn put_eight(buffer: &mut [u8], at: usize, digits: u64) -> usize
+    requires small { digits < EIGHT_DIGITS }
+    requires room { at + 8 ≤ length buffer.old }
+    ensures end { result ≡ at + 8 }
+    ensures text { take result buffer.new ≡ take at buffer.old ++ eight_digits digits }
+{
+    let at = put_four(buffer, at, digits / FOUR_DIGITS);
+    put_four(buffer, at, digits % FOUR_DIGITS)
+}
+
+fn put_four(buffer: &mut [u8], at: usize, digits: u64) -> usize
+    requires small { digits < FOUR_DIGITS }
+    requires room { at + 4 ≤ length buffer.old }
+    ensures end { result ≡ at + 4 }
+    ensures text { take result buffer.new ≡ take at buffer.old ++ four_digits digits }
+{
+    let at = put_two(buffer, at, digits / 100);
+    put_two(buffer, at, digits % 100)
+}
+
+fn put_two(buffer: &mut [u8], at: usize, digits: u64) -> usize
+    requires small { digits < 100 }
+    requires room { at + 2 ≤ length buffer.old }
+    ensures end { result ≡ at + 2 }
+    ensures text { take result buffer.new ≡ take at buffer.old ++ two_digits digits }
+{
+    let pair = digits as usize * 2;
+    let (tens, ones) = (PAIRS[pair], PAIRS[pair + 1]);
+    let at = put_byte(buffer, at, tens);
+    put_byte(buffer, at, ones)
 }
