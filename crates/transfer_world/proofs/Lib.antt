@@ -15,6 +15,7 @@ pub mod Happenings
 pub mod WordLaws
 pub mod CommandLaws
 pub mod Writes
+pub mod Puts
 pub mod ReportLaws
 pub mod CarryLaws
 pub mod ReplyLaws

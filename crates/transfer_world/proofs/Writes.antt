@@ -1,18 +1,17 @@
 -- What writes took, one after another.
-use Rattle.std.proofs.Common.{◌≡◌, ℕ, List, ◌++◌, [], ◌∷◌, length, take, drop, refl, sym, ap, ◌∙◌, arith, append_assoc, take-append-drop}
-use Rattle.std.proofs.lemmas.List.{take_all, drop_all}
+use Rattle.std.proofs.Common.{◌≡◌, ◌≤◌, ℕ, List, ◌++◌, [], ◌∷◌, take, drop, refl, sym, ap, ◌∙◌, arith, take-append-drop}
+use Rattle.std.proofs.lemmas.List.{drop_all, take-take, length-take}
 use Rattle.transfer_world.specs.Waiting.{Waiting}
 
 abbrev pub waiting : List ℕ → List ℕ → Waiting
 waiting whole part = record { whole = whole; part = part }
 
 -- a whole reply more waits to be written
-pub finished : (r : Waiting) (items bytes : List ℕ) (w n : ℕ) → waiting (take w items) (drop w items) ≡ r → bytes ≡ items ++ 10 ∷ [] → n ≡ length bytes
-    → waiting (take n bytes) (drop n bytes) ≡ waiting (r.whole ++ (r.part ++ 10 ∷ [])) []
-finished r items bytes w n view grown all =
-    let whole : take w items ≡ r.whole = ap (λ (v : Waiting). v.whole) view in
-    let part : drop w items ≡ r.part = ap (λ (v : Waiting). v.part) view in
-    let first : take n bytes ≡ r.whole ++ (r.part ++ 10 ∷ []) =
-    take_all n bytes (omega arith) ∙ grown ∙ ap (λ (l : List ℕ). l ++ 10 ∷ []) (sym (take-append-drop w items) ∙ rw (whole, part) refl) ∙ append_assoc r.whole r.part (10 ∷ []) in
-    let rest : drop n bytes ≡ [] = drop_all n bytes (omega arith) in
-    rw (first, rest) refl
+pub finished : (r now : Waiting) (items : List ℕ) (w n : ℕ) → w ≤ n → waiting (take w items) (drop w (take n items)) ≡ now → now.whole ≡ r.whole → now.part ≡ r.part ++ 10 ∷ []
+    → waiting (take n items) (drop n (take n items)) ≡ waiting (r.whole ++ (r.part ++ 10 ∷ [])) []
+finished r now items w n before view kept more =
+    let whole : take w items ≡ now.whole = ap (λ (v : Waiting). v.whole) view in
+    let part : drop w (take n items) ≡ now.part = ap (λ (v : Waiting). v.part) view in
+    let first : take n items ≡ r.whole ++ (r.part ++ 10 ∷ []) = sym (take-append-drop w (take n items)) ∙ rw (take-take w n items before, whole, part, kept, more) refl in
+    let rest : drop n (take n items) ≡ [] = drop_all n (take n items) (omega (arith, length-take n items)) in
+    rw (rest, first) refl

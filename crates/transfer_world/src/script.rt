@@ -4,6 +4,7 @@ mod answers;
 mod commands;
 mod fault;
 mod output;
+mod put;
 mod report;
 mod session;
 mod word;

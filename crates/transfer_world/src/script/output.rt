@@ -3,7 +3,7 @@ ghost use Rattle.std.specs.Prelude.{◌≡◌, ℕ, List, ◌∷◌, [], ◌++�
 ghost use Rattle.std.specs.Io.KnownBytes.{Appends};
 ghost use Rattle.line_streams.specs.Fronts.{AppendsFront};
 
-use itoa::Buffer;
+use crate::script::put::{MAX_DIGITS, make_room, put_field, put_text};
 use line_streams::{WriteFault, write_whole};
 use rights_types::OutOfMemory;
 use std::alloc::Allocator;
@@ -17,7 +17,9 @@ pub(crate) const BLOCK: usize = 65536;
 /// that no refused growth leaves a part of a reply among the whole ones.
 #[derive(Drop)]
 pub(crate) struct Replies<A: Allocator> {
+    /// The replies, up to `end`. The bytes behind it are room, so that one test tells whether a word and its number fit.
     bytes: Vec<u8, A>,
+    end: usize,
     whole: usize,
 }
 
@@ -27,9 +29,9 @@ impl<A: Allocator> Model for Replies<A> {
 
     ghost Value = { Waiting };
 
-    ghost view = { λ r. record { whole = take r.whole r.bytes.items; part = drop r.whole r.bytes.items } };
+    ghost view = { λ r. record { whole = take r.whole r.bytes.items; part = drop r.whole (take r.end r.bytes.items) } };
 
-    ghost invariant = { λ r. r.whole ≤ vec_len r.bytes };
+    ghost invariant = { λ r. (r.whole ≤ r.end) × (r.end ≤ vec_len r.bytes) };
 }
 
 impl<A: Allocator> Replies<A> {
@@ -40,6 +42,7 @@ impl<A: Allocator> Replies<A> {
     {
         Replies {
             bytes: Vec::new(alloc),
+            end: 0,
             whole: 0,
         }
     }
@@ -51,27 +54,24 @@ impl<A: Allocator> Replies<A> {
         ensures ok { OnOk result (self.new.part ≡ self.old.part ++ text.now) }
         ensures kept { self.new.whole ≡ self.old.whole }
     {
-        self.bytes.extend_from_slice(text)?;
+        make_room(&mut self.bytes, self.end, text.len())?;
+        self.end = put_text(self.bytes.as_mut_slice(), self.end, text);
         Ok(())
-    }
-
-    #[inline(always)]
-    pub(crate) fn put_decimal(&mut self, number: u64) -> Result<(), OutOfMemory>
-        ensures ok { OnOk result (self.new.part ≡ self.old.part ++ decimal number) }
-        ensures kept { self.new.whole ≡ self.old.whole }
-    {
-        let mut digits = Buffer::new();
-        self.put(digits.format(number).as_bytes())
     }
 
     /// A word and its number.
     #[inline(always)]
-    pub(crate) fn put_field(&mut self, word: &[u8], number: u64) -> Result<(), OutOfMemory>
+    pub(crate) fn put_field<const N: usize>(
+        &mut self,
+        word: &[u8; N],
+        number: u64,
+    ) -> Result<(), OutOfMemory>
         ensures ok { OnOk result (self.new.part ≡ self.old.part ++ word.now ++ decimal number) }
         ensures kept { self.new.whole ≡ self.old.whole }
     {
-        self.put(word)?;
-        self.put_decimal(number)
+        make_room(&mut self.bytes, self.end, N + MAX_DIGITS)?;
+        self.end = put_field(self.bytes.as_mut_slice(), self.end, word, number);
+        Ok(())
     }
 
     /// Ends the reply at work.
@@ -79,8 +79,8 @@ impl<A: Allocator> Replies<A> {
         ensures ok { OnOk result (self.new ≡ record { whole = self.old.whole ++ (self.old.part ++ 10 ∷ []); part = [] }) }
         ensures kept { OnErr result (self.new.whole ≡ self.old.whole) }
     {
-        self.bytes.push(b'\n')?;
-        self.whole = self.bytes.len();
+        self.put(b"\n")?;
+        self.whole = self.end;
         Ok(())
     }
 
@@ -92,7 +92,7 @@ impl<A: Allocator> Replies<A> {
         ensures front { OnErr result (AppendsFront (W.contents writer.old) (W.contents writer.new) self.old.whole) }
     {
         write_whole(writer, &self.bytes[..self.whole])?;
-        self.bytes.clear();
+        self.end = 0;
         self.whole = 0;
         Ok(())
     }
