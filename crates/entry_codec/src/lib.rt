@@ -24,5 +24,6 @@ pub use laws::{ends_once, no_prefix, read_is_spelled, reads_back, reads_on, spel
 pub use moves::read_move;
 pub use number::read_decimal;
 pub use parts::{first_decimal, split_first};
+pub use put::put_decimal;
 pub use reading::read_line;
 pub use writing::{put_entry_line, write_entry, write_into, write_line};

@@ -20,13 +20,15 @@ pub(crate) fn put_byte(buffer: &mut [u8], at: usize, byte: u8) -> usize
     at + 1
 }
 
-/// Many numbers have one digit, as those of sites.
+/// Puts a number's digits, without leading zeros, into bytes that have room for them (no number has more than 20), from
+/// `at` on, and answers the place behind them.
 #[tactic(auto, using(std::proofs::lemmas::Fmt::decimal_digit))]
-pub(crate) fn put_decimal(buffer: &mut [u8], at: usize, number: u64) -> usize
+pub fn put_decimal(buffer: &mut [u8], at: usize, number: u64) -> usize
     requires { at + length (decimal number) ≤ length buffer.old }
     ensures end { result ≡ at + length (decimal number) }
     ensures text { take result buffer.new ≡ take at buffer.old ++ decimal number }
 {
+    // Many numbers have one digit, as those of sites.
     if number < 10 {
         return put_byte(buffer, at, b'0' + number as u8);
     }

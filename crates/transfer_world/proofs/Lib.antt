@@ -15,7 +15,6 @@ pub mod Happenings
 pub mod WordLaws
 pub mod CommandLaws
 pub mod Writes
-pub mod Puts
 pub mod ReportLaws
 pub mod CarryLaws
 pub mod ReplyLaws

@@ -1,7 +1,7 @@
 //! Putting texts into bytes that have the room, from a place on. Each call answers the place behind.
 ghost use Rattle.std.specs.Prelude.{◌≡◌, ◌+◌, ◌<◌, ◌≤◌, ◌++◌, length, take, vec_len, decimal, OnOk};
 
-use itoa::write_digits;
+use entry_codec::put_decimal;
 use rights_types::OutOfMemory;
 use std::alloc::Allocator;
 
@@ -62,31 +62,6 @@ fn put_word<const N: usize>(bytes: &mut [u8], at: usize, word: &[u8; N]) -> usiz
         bytes[at + index] = word[index];
     }
     at + N
-}
-
-fn digit_count(number: u64) -> usize
-    ensures { result ≡ length (decimal number) }
-{
-    match number.checked_ilog10() {
-        None => 1,
-        Some(power) => power as usize + 1,
-    }
-}
-
-/// One digit is put with no counting.
-#[tactic(auto, using(std::proofs::lemmas::Fmt::decimal_digit))]
-fn put_decimal(bytes: &mut [u8], at: usize, number: u64) -> usize
-    requires { at + length (decimal number) ≤ length bytes.old }
-    ensures end { result ≡ at + length (decimal number) }
-    ensures text { take result bytes.new ≡ take at bytes.old ++ decimal number }
-{
-    if number < 10 {
-        bytes[at] = b'0' + number as u8;
-        return at + 1;
-    }
-    let end = at + digit_count(number);
-    write_digits(number, bytes, end);
-    end
 }
 
 /// A word and its number.
