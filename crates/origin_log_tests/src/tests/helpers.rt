@@ -18,10 +18,8 @@ fn is_special(m: &Move) -> bool
     ensures { result ≡ is_special m.now }
 {
     match m {
-        Move::Close => true,
-        Move::CloseAt(_) => true,
         Move::TakeBack { peer: _, amount: _ } => true,
-        _ => false,
+        _ => m.is_close(),
     }
 }
 

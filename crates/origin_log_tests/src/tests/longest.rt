@@ -91,6 +91,16 @@ fn the_longest_answer(rt: HostRuntime) {
     }
 }
 
+/// The longest closing entry of site 1, with its line feed.
+fn longest_closing_line(alloc: Global) -> Result<Vec<u8>, AllocError> {
+    let mut line = Vec::from_slice(alloc, b"E 1 1 3 R:16:1000000000 K:0")?;
+    for _ in 0..15u8 {
+        line.extend_from_slice(b":1000000000")?;
+    }
+    line.push(b'\n')?;
+    Ok(line)
+}
+
 /// A gift to an heir, and a frontier of sixteen sites.
 #[test]
 fn the_longest_closing_entry(rt: HostRuntime) -> Result<(), Fail> {
@@ -101,11 +111,7 @@ fn the_longest_closing_entry(rt: HostRuntime) -> Result<(), Fail> {
     let mut log: OriginLog<Global> = OriginLog::new(rt.alloc(), site(1));
     assert_eq!(rt; append(&rt, &mut log, &[issue(1_000_000_000)]), Ok(1));
     assert_eq!(rt; close_for(&rt, &mut log, site(16), amount, applied), Ok(3));
-    let mut wanted = Vec::from_slice(rt.alloc(), b"E 1 1 3 R:16:1000000000 K:0")?;
-    for _ in 0..15u8 {
-        wanted.extend_from_slice(b":1000000000")?;
-    }
-    wanted.push(b'\n')?;
+    let wanted = longest_closing_line(rt.alloc())?;
     assert_eq!(rt; log.line(1), Some(wanted.as_slice()));
     let gift = Move::Give {
         peer: site(16),

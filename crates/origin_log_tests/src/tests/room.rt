@@ -5,7 +5,7 @@ use crate::tests::longest::{longest_log, query_for_all};
 use linked_list_allocator::LocalHeap;
 use origin_log::{LogError, OriginLog, ReadError};
 use refusing_allocator::Refusing;
-use rights_types::{Entry, MAX_ANSWER};
+use rights_types::{Entry, MAX_ANSWER, OutOfMemory};
 use std::alloc::AllocGlobal;
 use std::process::Abort;
 use std::test::Fail;
@@ -50,6 +50,16 @@ fn an_answer_makes_a_request_for_each_entry(rt: HostRuntime) -> Result<(), Fail>
     Ok(())
 }
 
+/// How many bytes these entries take when each is copied.
+fn bytes_of_copies(heap: &LocalHeap, entries: &[Entry<&LocalHeap>]) -> Result<usize, OutOfMemory> {
+    let before = heap.used();
+    let mut copies: Vec<Entry<&LocalHeap>, &LocalHeap> = Vec::with_capacity(heap, MAX_ANSWER)?;
+    for entry in entries {
+        copies.push(entry.clone_in(heap)?)?;
+    }
+    Ok(heap.used().saturating_sub(before))
+}
+
 /// The room of an answer is that of copies of its entries.
 #[test]
 fn an_answer_takes_no_spare_bytes(rt: HostRuntime) -> Result<(), Fail> {
@@ -57,16 +67,9 @@ fn an_answer_takes_no_spare_bytes(rt: HostRuntime) -> Result<(), Fail> {
     let log = longest_log(&rt, &heap).expect(&rt, "memory");
     let kept = heap.used();
     let found = log.answer(&query_for_all(&rt)).expect(&rt, "an answer");
-    let answered = heap.used();
-    let mut copies: Vec<Entry<&LocalHeap>, &LocalHeap> = Vec::with_capacity(&heap, MAX_ANSWER)?;
-    for entry in &found {
-        copies.push(entry.clone_in(&heap)?)?;
-    }
-    assert_eq!(rt; copies.len(), MAX_ANSWER);
-    assert_eq!(rt;
-        answered.saturating_sub(kept),
-        heap.used().saturating_sub(answered)
-    );
+    let taken = heap.used().saturating_sub(kept);
+    assert_eq!(rt; found.len(), MAX_ANSWER);
+    assert_eq!(rt; bytes_of_copies(&heap, &found), Ok(taken));
     Ok(())
 }
 

@@ -42,8 +42,10 @@ fn has_alone<A: Allocator + Copy>(
     memory: &Refusing<A>,
     moves: &[Move],
 ) -> bool {
-    let read = gives(log, 0, 0, moves) || memory.refused() && gives(log, 0, 0, moves);
-    read && log.len() == 1 && log.end() == moves.len() as u64
+    if log.len() != 1 || log.end() != moves.len() as u64 {
+        return false;
+    }
+    gives(log, 0, 0, moves) || memory.refused() && gives(log, 0, 0, moves)
 }
 
 // Whether an append of these moves to an empty log went, or for want of memory left it empty.

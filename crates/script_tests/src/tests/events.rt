@@ -23,10 +23,10 @@ fn largest(alloc: Global, peer: SiteId) -> Result<Vec<Move>, OutOfMemory> {
 
 /// Whether it is the reply that one entry became next, with this own number.
 fn is_ready(outcome: &Result<Reply, WorldError>, number: u64) -> bool {
-    match outcome {
-        Ok(Reply::Verdicts(verdicts)) => verdicts.as_slice() == [Verdict::Ready(number)].as_slice(),
-        _ => false,
-    }
+    let Ok(Reply::Verdicts(verdicts)) = outcome else {
+        return false;
+    };
+    matches!(verdicts.as_slice(), [Verdict::Ready(own)] if *own == number)
 }
 
 /// Whether these are the replies to a post, a publish, an arrival and two takes.

@@ -16,8 +16,10 @@ use test_kit::requests_of;
 type Refused<'a> = &'a Refusing<Global>;
 
 fn is_want_of_memory(error: IntakeError) -> bool {
-    error == IntakeError::Inbound(InboundError::OutOfMemory)
-        || error == IntakeError::Inbound(InboundError::Line(LineError::OutOfMemory))
+    matches!(
+        error,
+        IntakeError::Inbound(InboundError::OutOfMemory | InboundError::Line(LineError::OutOfMemory))
+    )
 }
 
 // Takes the line in. Where it finds no memory it has changed nothing, and it is taken in when it comes again.

@@ -104,8 +104,13 @@ fn outcome(alloc: Global, answer: Status) -> Reply {
 
 // A line without its line feed.
 fn shown(alloc: Global, line: &[u8]) -> Reply {
-    let text = str::from_utf8(line).unwrap_or("");
-    String::from_str(alloc, text.strip_suffix('\n').unwrap_or("no line"))
+    let Some(text) = line.strip_suffix(b"\n") else {
+        return String::from_str(alloc, "no line");
+    };
+    match str::from_utf8(text) {
+        Ok(text) => String::from_str(alloc, text),
+        Err(_) => String::from_str(alloc, "no text"),
+    }
 }
 
 fn line(alloc: Global, answer: Result<Option<Vec<u8>>, OutOfMemory>) -> Reply {
