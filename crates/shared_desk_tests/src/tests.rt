@@ -1,9 +1,10 @@
-//! Shared desks by their public calls alone.
+//! Shared desks, lanes and tallies by their public calls alone.
 mod desks;
 mod failing;
 mod gates;
 mod growths;
 mod intakes;
+mod lanes;
 mod links;
 mod many;
 mod parts;

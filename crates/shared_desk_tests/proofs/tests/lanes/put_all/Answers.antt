@@ -1,7 +1,7 @@
 use Rattle.std.proofs.Common.{refl, sym, subst, []}
 use Rattle.apply_lanes.specs.Items.{Continues}
 use Rattle.apply_lanes.proofs.Items.{begins_chain}
-use Rattle.lane_tests.proofs.tests.put_all.Goals as goal
+use Rattle.shared_desk_tests.proofs.tests.lanes.put_all.Goals as goal
 
 pub loop-number-init : goal.loop-number-init
 loop-number-init g c =

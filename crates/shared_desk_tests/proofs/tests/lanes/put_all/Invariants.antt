@@ -1,7 +1,7 @@
 use Rattle.std.proofs.Common.{◌≡◌}
 use Rattle.rights_types.specs.Entries.{EntryValue, IsEntry}
 use Rattle.apply_lanes.specs.Items.{Continues, IsOpen}
-use Rattle.lane_tests.proofs.tests.put_all.Given as goal
+use Rattle.shared_desk_tests.proofs.tests.lanes.put_all.Given as goal
 
 -- an entry of site 2 after this number may come next
 abbrev pub invariant-loop-number : goal.invariant-loop-number

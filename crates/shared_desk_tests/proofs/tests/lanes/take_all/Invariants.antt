@@ -1,6 +1,6 @@
 use Rattle.std.proofs.Common.{◌≡◌}
 use Rattle.apply_lanes.specs.Items.{IsOpen}
-use Rattle.lane_tests.proofs.tests.take_all.Given as goal
+use Rattle.shared_desk_tests.proofs.tests.lanes.take_all.Given as goal
 
 abbrev pub invariant-loop : goal.invariant-loop
 invariant-loop g l = IsOpen l.outlet.taken × (l.outlet.lane ≡ l.fn.outlet.lane)
