@@ -1,4 +1,4 @@
-//! The program's replies to scripts, judged by the model of scripts.
+//! The model of scripts, by worked examples, and the program's replies to scripts, judged by it.
 #![tactic(auto)]
 
 #[cfg(test)]

@@ -1,5 +1,6 @@
 //! Whole scripts, whose replies are those of an independent implementation.
 mod made;
+mod model;
 mod sweeps;
 
 use script_model::replies;
