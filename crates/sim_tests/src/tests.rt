@@ -1,4 +1,4 @@
-//! Whole scripts, whose replies are those of an independent implementation.
+//! Whole scripts, whose replies are those of an independent implementation, and that implementation by itself.
 mod made;
 mod model;
 mod sweeps;
