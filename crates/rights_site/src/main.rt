@@ -1,13 +1,7 @@
-//! The program `rights-site`: its command line, its commands and its exit status.
+//! The program `rights-site`, on the words and the streams of its process.
 #![tactic(auto)]
 
-mod fault;
-mod given;
-mod run;
-#[cfg(test)]
-mod tests;
-
-use crate::given::run_given;
+use rights_program::run_given;
 use std::process::ExitCode;
 
 fn main(rt: HostRuntime) -> ExitCode {

@@ -1,8 +1,9 @@
-//! The desk by its public calls alone.
+//! The desk by its public calls alone, and lines that come in for one.
 mod balance;
 mod bounds;
 mod calls;
 mod examples;
+mod inbound;
 mod memory;
 mod random;
 mod readers;

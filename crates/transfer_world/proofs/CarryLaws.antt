@@ -2,7 +2,7 @@
 use Rattle.std.proofs.Common.{◌≡◌, ℕ, ◌+◌, ◌-◌, ◌<◌, ◌≤◌, List, [], ◌∷◌, ◌++◌, length, take, refl, sym, ap, subst, ◌∙◌, arith, inl, inr, Option, length-take, length-take-le}
 use Rattle.std.proofs.lemmas.Bool.{cases_lt}
 use Rattle.std.proofs.lemmas.List.{take_at, drop_at, take_all, take-append-le, nil_from_length}
-use Rattle.transfer_world.specs.Values.{WorldValue}
+use Rattle.world_core.specs.Values.{WorldValue}
 use Rattle.transfer_world.specs.Waiting.{Waiting}
 use Rattle.transfer_world.specs.Script.{CommandGets, LineGets}
 use Rattle.transfer_world.specs.Session.{LineEnds}

@@ -6,7 +6,7 @@ use Rattle.std.proofs.lemmas.List.{take_rest}
 use Rattle.memchr.specs.Find.{IsFirstByte, is_byte}
 use Rattle.entry_codec.specs.Pieces.{pieces, unfinished, pieces_after}
 use Rattle.entry_codec.proofs.Pieces.{pieces_append, rest_append, HasNoEnd, no_piece, one_piece}
-use Rattle.transfer_world.specs.Values.{WorldValue}
+use Rattle.world_core.specs.Values.{WorldValue}
 use Rattle.transfer_world.specs.Waiting.{Waiting}
 use Rattle.transfer_world.specs.Script.{LinesGet}
 use Rattle.transfer_world.specs.Session.{Talked, Going, LineEnds, Stopped}

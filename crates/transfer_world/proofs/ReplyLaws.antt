@@ -1,6 +1,6 @@
 -- The replies to lines, one after another.
 use Rattle.std.proofs.Common.{ℕ, List, [], ◌∷◌, ◌++◌, Option, refl, ap, ◌∙◌, sym, subst, append_assoc, append-nil}
-use Rattle.transfer_world.specs.Values.{WorldValue}
+use Rattle.world_core.specs.Values.{WorldValue}
 use Rattle.transfer_world.specs.Script.{LineGets, LinesGet}
 
 pub replies_append : (A : Type 0) (old mid new : Option WorldValue) (lines more : List (List ℕ)) (text rest : List ℕ) → LinesGet A old lines text mid → LinesGet A mid more rest new → LinesGet A old (lines ++ more) (text ++ rest) new

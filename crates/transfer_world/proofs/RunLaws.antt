@@ -4,7 +4,7 @@ use Rattle.std.specs.Io.KnownBytes.{Appends, Consumes}
 use Rattle.std.proofs.KnownBytes.{Appends-trans, Appends-nil, Consumes-nil, Consumes-trans}
 use Rattle.entry_codec.specs.Pieces.{pieces, unfinished, pieces_after}
 use Rattle.entry_codec.proofs.Pieces.{pieces_append}
-use Rattle.transfer_world.specs.Values.{WorldValue}
+use Rattle.world_core.specs.Values.{WorldValue}
 use Rattle.line_streams.specs.Fronts.{AppendsFront}
 use Rattle.transfer_world.specs.Waiting.{Waiting, nothing}
 use Rattle.transfer_world.specs.Script.{last_line, lines_of}

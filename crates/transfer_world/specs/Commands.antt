@@ -7,8 +7,8 @@ use Rattle.std.specs.Str.{bytes_eq}
 use Rattle.rights_types.specs.declared.moves.Move.{Move}
 use Rattle.rights_types.specs.declared.limits.TheConstants.{MIN_SITES, MAX_SITES, MAX_LINE}
 use Rattle.entry_codec.specs.Moves.{◌>>=◌, first_number as first_in, only_number as only_in, move_of}
-use Rattle.transfer_world.specs.declared.event.Event.{Event}
-use Rattle.transfer_world.specs.declared.event.Event.TheVariants.{Post, Issue, Give, Spend, Serve, Expire, Status, Plan, Ask, Publish, Beat, Query, Arrive, Noise, Take, Close}
+use Rattle.world_core.specs.declared.event.Event.{Event}
+use Rattle.world_core.specs.declared.event.Event.TheVariants.{Post, Issue, Give, Spend, Serve, Expire, Status, Plan, Ask, Publish, Beat, Query, Arrive, Noise, Take, Close}
 use Rattle.transfer_world.specs.declared.script.word.SiteWord.{SiteWord}
 use Rattle.transfer_world.specs.declared.script.word.SiteWord.TheVariants.{Issue as SaysIssue, Give as SaysGive, Spend as SaysSpend, Serve as SaysServe, Expire as SaysExpire, Status as SaysStatus, Plan as SaysPlan, Arrive as SaysArrive, Close as SaysClose}
 use Rattle.transfer_world.specs.declared.script.word.LinkWord.{LinkWord}

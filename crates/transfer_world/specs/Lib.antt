@@ -1,17 +1,5 @@
--- What may happen among all sites, to be read in this order: a world's lists, why it refuses an event, the events at
--- a desk and between two sites, what any event may come to, what is kept of every world, and what is promised of it.
--- Then scripts: commands, replies, and what a run does to its reader and its writer.
-pub mod Values
-pub mod Worlds
-pub mod Bodies
-pub mod Causes
-pub mod Faults
-pub mod DeskEvents
-pub mod LinkEvents
-pub mod IncomingLists
-pub mod Step
-pub mod Sound
-pub mod Headline
+-- Scripts, over the events of world_core: what waits to be written, commands, replies, and what a run does to its reader
+-- and its writer.
 pub mod Waiting
 pub mod Commands
 pub mod Replies

@@ -6,16 +6,16 @@ use Rattle.request_queue.specs.declared.request.Status.{Status}
 use Rattle.request_queue.specs.declared.request.Status.TheVariants.{Waiting, Spent as SpentAt, Expired as ExpiredUnserved, Unknown}
 use Rattle.rights_types.specs.Chains.{end, moves_of, is_closed}
 use Rattle.rights_types.specs.Rights.{sum_sites, issued, spent}
-use Rattle.transfer_world.specs.Values.{WorldValue}
-use Rattle.transfer_world.specs.Worlds.{log, put, applied, count, sites_of, packet, packet_text, held_by, on_way}
-use Rattle.transfer_world.specs.declared.reply.Verdict.{Verdict}
-use Rattle.transfer_world.specs.declared.reply.Verdict.TheVariants.{Ready, Held, Repeat, AfterClose, Full}
-use Rattle.transfer_world.specs.declared.reply.Reply.{Reply}
-use Rattle.transfer_world.specs.declared.reply.Reply.TheVariants.{Number, Spent, Queued, Served, Expired, Tells, Asks, Packet, Verdicts, HeardBeat, Granted, Denied, GrantedBefore, Old, Noted, Refused, Taken, TakenBack, Nothing}
+use Rattle.world_core.specs.Values.{WorldValue}
+use Rattle.world_core.specs.Worlds.{log, put, applied, count, sites_of, packet, packet_text, held_by, on_way}
+use Rattle.world_core.specs.declared.reply.Verdict.{Verdict}
+use Rattle.world_core.specs.declared.reply.Verdict.TheVariants.{Ready, Held, Repeat, AfterClose, Full}
+use Rattle.world_core.specs.declared.reply.Reply.{Reply}
+use Rattle.world_core.specs.declared.reply.Reply.TheVariants.{Number, Spent, Queued, Served, Expired, Tells, Asks, Packet, Verdicts, HeardBeat, Granted, Denied, GrantedBefore, Old, Noted, Refused, Taken, TakenBack, Nothing}
 use Rattle.site_core.specs.declared.fault.DeskError.{DeskError}
 use Rattle.site_core.specs.declared.fault.DeskError.TheVariants.{Closed, BadCount, BadMove, BadAmount, NoSuchSite as NoSuchPeer, SameSite, PeerClosed, LogFull, Short, OutOfMemory as NoMemory, QueueFull, QueueBusy, HeldTooMuch, TimeWentBack}
-use Rattle.transfer_world.specs.declared.fault.WorldError.{WorldError}
-use Rattle.transfer_world.specs.declared.fault.WorldError.TheVariants.{Ended, NoSuchSite, NoPacket, NotForSite, Forged, Desk, OutOfMemory}
+use Rattle.world_core.specs.declared.fault.WorldError.{WorldError}
+use Rattle.world_core.specs.declared.fault.WorldError.TheVariants.{Ended, NoSuchSite, NoPacket, NotForSite, Forged, Desk, OutOfMemory}
 
 abbrev pub desk_error_name : DeskError → List ℕ
 desk_error_name Closed = codes "Closed"

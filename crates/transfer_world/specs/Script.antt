@@ -1,11 +1,11 @@
 -- What a script's lines are answered.
 use Rattle.std.specs.Prelude.{◌≡◌, ℕ, List, [], ◌∷◌, ◌++◌, Option, Some, None, Result, codes}
 use Rattle.entry_codec.specs.Pieces.{pieces, unfinished}
-use Rattle.transfer_world.specs.Values.{WorldValue}
-use Rattle.transfer_world.specs.Worlds.{start}
-use Rattle.transfer_world.specs.Step.{Step}
-use Rattle.transfer_world.specs.declared.reply.Reply.{Reply}
-use Rattle.transfer_world.specs.declared.fault.WorldError.{WorldError}
+use Rattle.world_core.specs.Values.{WorldValue}
+use Rattle.world_core.specs.Worlds.{start}
+use Rattle.world_core.specs.Step.{Step}
+use Rattle.world_core.specs.declared.reply.Reply.{Reply}
+use Rattle.world_core.specs.declared.fault.WorldError.{WorldError}
 use Rattle.transfer_world.specs.declared.script.commands.Command.{Command}
 use Rattle.transfer_world.specs.declared.script.commands.Command.TheVariants.{Sites, Act, Report}
 use Rattle.transfer_world.specs.Commands.{command_of}

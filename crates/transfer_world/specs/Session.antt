@@ -5,7 +5,7 @@ use Rattle.entry_codec.specs.Pieces.{pieces, unfinished}
 use Rattle.rights_types.specs.declared.limits.TheConstants.{MAX_LINE}
 use Rattle.line_streams.specs.declared.limit.TheConstants.{LINE_LIMIT}
 use Rattle.line_streams.specs.Counting.{still}
-use Rattle.transfer_world.specs.Values.{WorldValue}
+use Rattle.world_core.specs.Values.{WorldValue}
 use Rattle.transfer_world.specs.Waiting.{Waiting, nothing}
 use Rattle.transfer_world.specs.Script.{LineGets, LinesGet, lines_of}
 use Rattle.transfer_world.specs.Talk.{BeginsWith}

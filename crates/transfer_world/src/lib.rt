@@ -1,23 +1,11 @@
-//! All sites, what may happen among them, and the script that makes it happen.
+//! Scripts: what a line makes happen among all sites, and its reply. The world that it happens in is world_core's, which is
+//! passed on.
 #![tactic(auto)]
 
-mod event;
-mod fault;
-mod history;
-mod keeping;
-mod laws;
-mod link;
-mod links;
-mod packet;
-mod reply;
 mod script;
-mod system;
-mod world;
 
-pub use event::{Event, Moves};
-pub use fault::WorldError;
-pub use keeping::{ForReaders, ForReplies, Keeping};
-pub use laws::every_run;
-pub use reply::{Reply, Verdict, Verdicts};
 pub use script::{ScriptFault, run_last_script, run_script};
-pub use world::{Totals, World};
+pub use world_core::{
+    Event, ForReaders, ForReplies, Keeping, Moves, Reply, Totals, Verdict, Verdicts, World,
+    WorldError, every_run,
+};

@@ -4,18 +4,14 @@ ghost use Rattle.std.specs.Option.{option_copied};
 ghost use Rattle.transfer_world.specs.Replies.{desk_error_name, error_name, verdict_text, verdicts_text, status_text, unended, packet_reply, reply_text, outcome_text};
 ghost use Rattle.transfer_world.specs.Script.{CommandGets, LineGets};
 
-use crate::event::Event;
-use crate::fault::WorldError;
-use crate::keeping::ForReplies;
-use crate::reply::{Reply, Verdict};
 use crate::script::commands::{Command, read_command};
 use crate::script::output::{BLOCK, Replies};
 use crate::script::report::put_report;
-use crate::world::World;
 use request_queue::Status;
 use rights_types::OutOfMemory;
 use site_core::DeskError;
 use std::alloc::Allocator;
+use world_core::{Event, ForReplies, Reply, Verdict, World, WorldError};
 
 fn desk_error_name(error: DeskError) -> &'static [u8]
     ensures { result.now ≡ desk_error_name error }

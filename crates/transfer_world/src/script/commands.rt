@@ -3,7 +3,6 @@ ghost use Rattle.std.specs.Prelude.{◌≡◌, [], ◌∷◌, ◌++◌, ◌≤�
 ghost use Rattle.entry_codec.specs.Parts.{Finds};
 ghost use Rattle.transfer_world.specs.Commands.{words_of, words_left, moves_in, site_and_number, two_sites, heir_in, site_event, link_event, event_on_link, post_of, noise_parts, noise_of, sites_of, report_of, act, command_by, command_in, command_of};
 
-use crate::event::{Event, Moves};
 use crate::script::word::{LinkWord, SiteWord, Word, first_word};
 use crate::script::words::{first_number, first_site, only_in, only_number, only_site, split_word};
 use entry_codec::read_move;
@@ -11,6 +10,7 @@ use rights_types::{MAX_LINE, MAX_SITES, MIN_SITES, Move, OutOfMemory, SiteId};
 use site_core::Line;
 use std::alloc::Allocator;
 use std::marker::Model;
+use world_core::{Event, Moves};
 
 /// What a line asks for.
 #[derive(Drop)]

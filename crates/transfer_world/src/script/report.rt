@@ -1,13 +1,12 @@
 //! The report on all sites and pairs.
 ghost use Rattle.std.specs.Prelude.{◌≡◌, ◌++◌, ◌≤◌, Bool, OnOk, codes};
-ghost use Rattle.transfer_world.specs.Worlds.{count};
+ghost use Rattle.world_core.specs.Worlds.{count};
 ghost use Rattle.transfer_world.specs.Replies.{bit, site_line, pair_line, other_line, pair_lines, total_text, report_text};
 
-use crate::keeping::ForReplies;
 use crate::script::output::Replies;
-use crate::world::World;
 use rights_types::{OutOfMemory, SiteId};
 use std::alloc::Allocator;
+use world_core::{ForReplies, World};
 
 fn put_bit<A: Allocator>(replies: &mut Replies<A>, is_set: bool) -> Result<(), OutOfMemory>
     ensures ok { OnOk result (replies.new.part ≡ replies.old.part ++ bit is_set) }

@@ -7,17 +7,16 @@ ghost use Rattle.line_streams.specs.Counting.{Parted, counts_for};
 ghost use Rattle.transfer_world.specs.Talk.{Talk, EndsBy};
 ghost use Rattle.transfer_world.specs.Session.{IsNew, LineEnds, Going, Fed, Ran};
 
-use crate::keeping::ForReplies;
 use crate::script::answers::answer_line;
 use crate::script::fault::ScriptFault;
 use crate::script::output::{BLOCK, Replies};
-use crate::world::World;
 use line_streams::LINE_LIMIT;
 use memchr::memchr;
 use rights_types::{MAX_LINE, OutOfMemory};
 use std::alloc::Allocator;
 use std::io::{Read, Write};
 use std::mem;
+use world_core::{ForReplies, World};
 
 /// So many bytes are read at a time.
 const READ_SIZE: usize = 65536;

@@ -1,6 +1,6 @@
 use Rattle.std.proofs.Common.{refl, ap, ◌∙◌, codes, Some}
 use Rattle.std.proofs.lemmas.Result.{on_ok_weaker}
-use Rattle.transfer_world.specs.Worlds.{start}
+use Rattle.world_core.specs.Worlds.{start}
 use Rattle.transfer_world.proofs.script.answers.answer_first.Goals as goal
 
 pub returns-clause-ok : goal.returns-clause-ok

@@ -1,5 +1,0 @@
-//! Tests of peer_links. They have their own crate, since a crate with tests in it is proved twice.
-#![tactic(auto)]
-
-#[cfg(test)]
-mod tests;

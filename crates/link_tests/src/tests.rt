@@ -1,4 +1,0 @@
-//! Outboxes, and connections without sockets.
-
-mod links;
-mod outbox;

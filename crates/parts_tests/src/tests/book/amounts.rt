@@ -1,0 +1,116 @@
+//! The greatest amounts, and many of them.
+use crate::tests::book::calls::{applies, refusal, write};
+use crate::tests::book::told::{
+    NO_TOTALS, Told, Totals, UNTOLD, held, known, new_book, told_of, totals_of,
+};
+use rights_book::BookError;
+use rights_types::{MAX_AMOUNT, MAX_MOVES, MAX_TOTAL};
+use test_kit::{give, issue, spend, take_back};
+
+/// The greatest amounts are booked, and what was given may be taken back once.
+#[test]
+fn greatest_moves(rt: HostRuntime) {
+    let all = MAX_MOVES as u64 * MAX_AMOUNT;
+    let mut book = new_book(&rt, 1, 2);
+    assert!(rt; write(&mut book, &[issue(MAX_AMOUNT); 16]));
+    assert!(rt; held(&book) == all);
+    assert!(rt; write(&mut book, &[give(2, MAX_AMOUNT); 16]));
+    assert!(rt; held(&book) == 0);
+    assert!(rt; !write(&mut book, &[take_back(2, MAX_TOTAL)]));
+    assert!(rt; write(&mut book, &[take_back(2, all)]));
+    let totals = Totals {
+        number: 33,
+        issued: all,
+        given: all,
+        taken_back: all,
+        held: all,
+        ..NO_TOTALS
+    };
+    assert!(rt; totals_of(&book) == totals);
+    let told = Told {
+        known: all as i128,
+        given: all,
+        back: all,
+        ..UNTOLD
+    };
+    assert!(rt; told_of(&book, 2) == told);
+    assert!(rt; !write(&mut book, &[take_back(2, 1)]));
+}
+
+/// The greatest gifts of another site, in one entry, are received whole.
+#[test]
+fn greatest_gifts(rt: HostRuntime) {
+    let all = MAX_MOVES as u64 * MAX_AMOUNT;
+    let mut book = new_book(&rt, 1, 2);
+    assert!(rt; applies(&rt, &mut book, 2, 0, &[give(1, MAX_AMOUNT); 16]));
+    let totals = Totals {
+        received: all,
+        held: all,
+        ..NO_TOTALS
+    };
+    assert!(rt; totals_of(&book) == totals);
+    assert!(rt; known(&book, 1) == 16_000_000_000);
+    let told = Told {
+        known: -16_000_000_000,
+        applied: 16,
+        received: all,
+        ..UNTOLD
+    };
+    assert!(rt; told_of(&book, 2) == told);
+}
+
+/// A test of many moves counts past 64 bits.
+#[test]
+fn many_moves_do_not_wrap(rt: HostRuntime) {
+    let book = new_book(&rt, 1, 2);
+    assert!(rt; refusal(&book, &[take_back(2, MAX_TOTAL); 40]).is_none());
+    let mut moves = [take_back(2, MAX_TOTAL); 20];
+    moves[19] = spend(MAX_AMOUNT);
+    assert!(rt; refusal(&book, &moves).is_none());
+    assert!(rt; refusal(&book, &[spend(MAX_AMOUNT)]) == Some(BookError::Short));
+}
+
+/// What another site took back may pass 64 bits.
+#[test]
+fn known_passes_64_bits(rt: HostRuntime) {
+    let backs = [take_back(1, MAX_TOTAL); 16];
+    let mut book = new_book(&rt, 1, 2);
+    assert!(rt; applies(&rt, &mut book, 2, 0, &backs));
+    assert!(rt; applies(&rt, &mut book, 2, 16, &backs));
+    assert!(rt; known(&book, 2) == 32_000_000_000_000_000_000);
+    assert!(rt; applies(&rt, &mut book, 2, 32, &[spend(MAX_AMOUNT)]));
+    assert!(rt; known(&book, 2) == 31_999_999_999_000_000_000);
+    assert!(rt; held(&book) == 0);
+}
+
+/// Rights go round many times, each time whole.
+#[test]
+fn many_entries(rt: HostRuntime) {
+    let mut book = new_book(&rt, 1, 2);
+    assert!(rt; write(&mut book, &[issue(MAX_AMOUNT)]));
+    let out = [give(2, MAX_AMOUNT)];
+    let home = [give(1, MAX_AMOUNT)];
+    for round in 0..1000 {
+        assert!(rt; write(&mut book, &out));
+        assert!(rt; held(&book) == 0);
+        assert!(rt; applies(&rt, &mut book, 2, round, &home));
+        assert!(rt; held(&book) == MAX_AMOUNT);
+    }
+    let all = 1000 * MAX_AMOUNT;
+    let totals = Totals {
+        number: 1001,
+        issued: MAX_AMOUNT,
+        given: all,
+        received: all,
+        held: MAX_AMOUNT,
+        ..NO_TOTALS
+    };
+    assert!(rt; totals_of(&book) == totals);
+    let told = Told {
+        applied: 1000,
+        received: all,
+        given: all,
+        ..UNTOLD
+    };
+    assert!(rt; told_of(&book, 2) == told);
+}

@@ -1,0 +1,86 @@
+//! The book takes its memory once.
+ghost use Rattle.std.specs.Prelude.{◌≤◌};
+
+use crate::tests::book::calls::{applies, write};
+use crate::tests::book::told::{NO_TOTALS, UNTOLD, held, known, told_of, totals_of};
+use linked_list_allocator::LocalHeap;
+use refusing_allocator::Refusing;
+use rights_book::Book;
+use rights_types::{MAX_SITES, MIN_SITES, OutOfMemory, SiteId};
+use std::alloc::{AllocGlobal, Allocator};
+use std::test::Fail;
+use test_kit::{give, issue, site};
+
+// Whether no book is made where the first request for memory is refused.
+fn is_refused(rt: &impl AllocGlobal, me: SiteId, sites: u64) -> bool
+    requires system { (MIN_SITES ≤ sites) × (sites ≤ MAX_SITES) }
+    requires member { me ≤ sites }
+{
+    let refusing = Refusing::new(rt.alloc(), 0);
+    let made = Book::new(&refusing, me, sites);
+    made.is_err() && refusing.refused()
+}
+
+// Whether one request makes a book where nothing is booked.
+fn is_made_by_one_request(rt: &impl AllocGlobal, me: SiteId, sites: u64) -> bool
+    requires system { (MIN_SITES ≤ sites) × (sites ≤ MAX_SITES) }
+    requires member { me ≤ sites }
+{
+    let once = Refusing::new(rt.alloc(), 1);
+    let Ok(book) = Book::new(&once, me, sites) else {
+        return false;
+    };
+    !once.refused() && book.me() == me && book.sites() == sites && nothing_booked(&book)
+}
+
+// All that the book tells of its own log and of each site's is 0, and no site has closed.
+fn nothing_booked<A: Allocator>(book: &Book<A>) -> bool {
+    for index in 0..MAX_SITES {
+        if told_of(book, index + 1) != UNTOLD {
+            return false;
+        }
+    }
+    totals_of(book) == NO_TOTALS
+}
+
+/// In a system of each size, each site's book is made by one request for memory, and is refused
+/// where that is.
+#[test]
+fn each_new_book(rt: HostRuntime) {
+    for sites in MIN_SITES..=MAX_SITES {
+        for index in 0..sites {
+            let me = site(index + 1);
+            assert!(rt; is_refused(&rt, me, sites));
+            assert!(rt; is_made_by_one_request(&rt, me, sites));
+        }
+    }
+}
+
+/// A new book asks for memory once, and nothing else does.
+#[test]
+fn asks_for_memory_once(rt: HostRuntime) -> Result<(), OutOfMemory> {
+    let once = Refusing::new(rt.alloc(), 1);
+    let mut book = Book::new(&once, site(1), 16)?;
+    assert!(rt; write(&mut book, &[issue(10), give(2, 4)]));
+    assert!(rt; applies(&rt, &mut book, 2, 0, &[give(1, 1)]));
+    assert!(rt; held(&book) == 7);
+    assert!(rt; known(&book, 2) == 3);
+    assert!(rt; !once.refused());
+    Ok(())
+}
+
+/// A book's memory is 96 bytes for each site, and no more.
+#[test]
+fn memory_of_its_sites(rt: HostRuntime) -> Result<(), Fail> {
+    for sites in MIN_SITES..=MAX_SITES {
+        let heap = LocalHeap::new(rt.alloc(), 1 << 14)?;
+        let bytes: Vec<[u64; 12], &LocalHeap> = Vec::with_capacity(&heap, sites as usize)?;
+        let wanted = heap.used();
+        assert!(rt; wanted > 0);
+        let book = Book::new(&heap, site(1), sites)?;
+        assert!(rt; heap.used().saturating_sub(wanted) == wanted);
+        drop(bytes);
+        assert!(rt; held(&book) == 0);
+    }
+    Ok(())
+}

@@ -1,0 +1,76 @@
+//! The buffer takes its memory once.
+use crate::tests::buffer::steps::{Step, first_wrong};
+use linked_list_allocator::LocalHeap;
+use refusing_allocator::Refusing;
+use rights_types::{Entry, MAX_HELD, OutOfMemory, SiteId};
+use std::alloc::Allocator;
+use std::test::Fail;
+use sub_buffer::{State, SubBuffer};
+use test_kit::requests_of;
+
+// Whether a buffer of these sites is made, and nothing has come to it, unless memory was refused.
+fn makes<A: Allocator>(memory: &Refusing<A>, me: SiteId, origin: SiteId) -> bool {
+    if me == origin {
+        return false;
+    }
+    match SubBuffer::new(memory, me, origin) {
+        Ok(buffer) => {
+            let is_new = buffer.last() == 0 && buffer.told() == 0 && buffer.held_count() == 0;
+            is_new && buffer.me() == me && buffer.origin() == origin && !memory.refused()
+        }
+        Err(OutOfMemory) => memory.refused(),
+    }
+}
+
+/// For any two sites `new` makes a buffer with one request for memory, and where that is refused it says so.
+#[test]
+fn one_request_for_any_two_sites(rt: HostRuntime) {
+    for me in 1..=16u64 {
+        for origin in 1..=16u64 {
+            if me == origin {
+                continue;
+            }
+            let made = requests_of(rt.alloc(), |memory| {
+                makes(memory, SiteId::known(me), SiteId::known(origin))
+            });
+            assert_eq!(rt; made, Some(1), "{me} of {origin}");
+        }
+    }
+}
+
+/// The memory is that of 64 entries, and no more.
+#[test]
+fn memory_of_64_entries(rt: HostRuntime) -> Result<(), Fail> {
+    let heap = LocalHeap::new(rt.alloc(), 1 << 16)?;
+    let entries: Vec<Entry<&LocalHeap>, &LocalHeap> = Vec::with_capacity(&heap, MAX_HELD)?;
+    let wanted = heap.used();
+    assert!(rt; wanted > 0);
+    let buffer = SubBuffer::new(&heap, SiteId::known(2), SiteId::known(1))?;
+    assert_eq!(rt; heap.used().saturating_sub(wanted), wanted);
+    drop(entries);
+    assert_eq!(rt; buffer.held_count(), 0);
+    Ok(())
+}
+
+/// No call but `new` asks for memory: 66 entries come, are held and delivered, and each took its one
+/// request when it was made.
+#[test]
+fn no_growth_after_new(rt: HostRuntime) {
+    let steps = [
+        Step::OfferEach(1, 64, "held"),
+        Step::Offer(65, 1, "full"),
+        Step::Want(Some((1, 1))),
+        Step::Offer(0, 1, "ready"),
+        Step::Pop(1, 64),
+        Step::Beat(70),
+        Step::WantAgain(Some((66, 70))),
+        Step::Is(State::Buffering),
+    ];
+    let requests = requests_of(rt.alloc(), |memory| {
+        match first_wrong(memory, &steps) {
+            Ok(wrong) => wrong.is_none() && !memory.refused(),
+            Err(OutOfMemory) => memory.refused(),
+        }
+    });
+    assert_eq!(rt; requests, Some(67));
+}

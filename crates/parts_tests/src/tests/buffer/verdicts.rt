@@ -1,0 +1,194 @@
+//! Verdicts, gaps and what comes out of a buffer.
+use crate::tests::buffer::steps::{Step, first_wrong};
+use std::test::Fail;
+use sub_buffer::State;
+
+/// Sixty-four entries are held, one more is not.
+#[test]
+fn full_at_64(rt: HostRuntime) {
+    let wrong = first_wrong(
+        rt.alloc(),
+        &[
+            Step::OfferEach(1, 64, "held"),
+            Step::Numbers {
+                last: 0,
+                told: 65,
+                held: 64,
+            },
+            Step::Offer(65, 1, "full"),
+            Step::Numbers {
+                last: 0,
+                told: 66,
+                held: 64,
+            },
+            Step::Want(Some((1, 1))),
+            Step::Offer(0, 1, "ready"),
+            Step::Pop(1, 64),
+            Step::Numbers {
+                last: 65,
+                told: 66,
+                held: 0,
+            },
+            Step::Is(State::Buffering),
+            Step::Want(Some((66, 66))),
+        ],
+    )
+    .expect(&rt, "memory");
+    assert_eq!(rt; wrong, None);
+}
+
+/// Nothing is delivered after the closing entry, and beats are ignored.
+#[test]
+fn closed(rt: HostRuntime) {
+    let wrong = first_wrong(
+        rt.alloc(),
+        &[
+            Step::OfferClosing(0, "ready"),
+            Step::Offer(1, 1, "after close"),
+            Step::OfferClosing(0, "repeat"),
+            Step::Beat(9),
+            Step::Numbers {
+                last: 1,
+                told: 1,
+                held: 0,
+            },
+            Step::Is(State::Normal),
+            Step::Gap(None),
+            Step::OfferForeign(1),
+        ],
+    )
+    .expect(&rt, "memory");
+    assert_eq!(rt; wrong, None);
+}
+
+/// Entries that a lying origin sends beyond its closing entry stay held.
+#[test]
+fn held_beyond_the_end(rt: HostRuntime) {
+    let wrong = first_wrong(
+        rt.alloc(),
+        &[
+            Step::Offer(1, 1, "held"),
+            Step::OfferClosing(0, "ready"),
+            Step::Pop(0, 0),
+            Step::Numbers {
+                last: 1,
+                told: 2,
+                held: 1,
+            },
+            Step::Is(State::Normal),
+            Step::WantAgain(None),
+        ],
+    )
+    .expect(&rt, "memory");
+    assert_eq!(rt; wrong, None);
+}
+
+/// A later entry is held until an answer brings the two before it; all three are repeats then.
+#[test]
+fn answer_frees_later_entry(rt: HostRuntime) {
+    let wrong = first_wrong(
+        rt.alloc(),
+        &[
+            Step::Offer(4, 1, "held"),
+            Step::Want(Some((1, 4))),
+            Step::Offer(0, 1, "ready"),
+            Step::Pop(0, 0),
+            Step::Offer(1, 3, "ready"),
+            Step::Pop(4, 1),
+            Step::Offer(0, 1, "repeat"),
+            Step::Offer(1, 3, "repeat"),
+            Step::Offer(4, 1, "repeat"),
+            Step::Is(State::Normal),
+        ],
+    )
+    .expect(&rt, "memory");
+    assert_eq!(rt; wrong, None);
+}
+
+/// A beat tells of an entry that was lost, and the gap is asked for once, or again.
+#[test]
+fn beat_tells_of_a_loss(rt: HostRuntime) {
+    let wrong = first_wrong(
+        rt.alloc(),
+        &[
+            Step::Offer(0, 1, "ready"),
+            Step::Offer(1, 3, "ready"),
+            Step::Is(State::Normal),
+            Step::Beat(5),
+            Step::Beat(3),
+            Step::Numbers {
+                last: 4,
+                told: 5,
+                held: 0,
+            },
+            Step::Want(Some((5, 5))),
+            Step::Want(None),
+            Step::WantAgain(Some((5, 5))),
+            Step::Offer(4, 1, "ready"),
+            Step::Is(State::Normal),
+        ],
+    )
+    .expect(&rt, "memory");
+    assert_eq!(rt; wrong, None);
+}
+
+/// The first 16 of 20 entries come, and the other four are asked for.
+#[test]
+fn answer_is_too_short(rt: HostRuntime) {
+    let wrong = first_wrong(
+        rt.alloc(),
+        &[
+            Step::Beat(20),
+            Step::Want(Some((1, 20))),
+            Step::OfferEach(0, 15, "ready"),
+            Step::Want(Some((17, 20))),
+        ],
+    )
+    .expect(&rt, "memory");
+    assert_eq!(rt; wrong, None);
+}
+
+/// Entries of no common chain: what is delivered is a chain all the same.
+#[test]
+fn lying_origin(rt: HostRuntime) {
+    let wrong = first_wrong(
+        rt.alloc(),
+        &[
+            Step::Offer(0, 3, "ready"),
+            Step::Offer(1, 1, "repeat"),
+            Step::Offer(5, 1, "held"),
+            Step::Offer(5, 2, "repeat"),
+            Step::Offer(3, 3, "ready"),
+            Step::Pop(0, 0),
+            Step::Numbers {
+                last: 6,
+                told: 6,
+                held: 0,
+            },
+            Step::Is(State::Normal),
+        ],
+    )
+    .expect(&rt, "memory");
+    assert_eq!(rt; wrong, None);
+}
+
+/// Sixty-four entries, held in many orders, all come out in their own order.
+#[test]
+fn held_in_many_orders(rt: HostRuntime) -> Result<(), Fail> {
+    for stride in 1..=64u64 {
+        // The multiples of a stride that shares no factor with 65 are 1 to 64 in some order.
+        if stride % 5 == 0 || stride % 13 == 0 {
+            continue;
+        }
+        let mut steps = Vec::new(rt.alloc());
+        for k in 1..=64u64 {
+            steps.push(Step::Offer(k * stride % 65, 1, "held"))?;
+        }
+        steps.push(Step::Offer(0, 1, "ready"))?;
+        steps.push(Step::Pop(1, 64))?;
+        steps.push(Step::Is(State::Normal))?;
+        let wrong = first_wrong(rt.alloc(), &steps).expect(&rt, "memory");
+        assert_eq!(rt; wrong, None, "by a stride of {stride}");
+    }
+    Ok(())
+}

@@ -1,9 +1,0 @@
-use Rattle.std.proofs.Common.{◌≡◌, ◌+◌, ◌*◌, ◌≤◌, drop}
-use Rattle.rights_types.specs.Rights.{back}
-use Rattle.rights_book_tests.proofs.tests.calls.taken_back.Given as goal
-
-abbrev pub invariant-loop-m : goal.invariant-loop-m
-invariant-loop-m l = record {
-  value : l.sum + back l.site (drop l.m-index l.moves) ≡ back l.site l.moves;
-  bound : l.sum ≤ l.m-index * 1000000000000000000;
-}

@@ -1,0 +1,124 @@
+-- How the program may end, by what was asked for.
+use Rattle.std.proofs.Common.{◌≡◌, ◌≢◌, ◌∙◌, false, refl, sym, ap, subst, Err, arith, inl, inr, true≢false}
+use Rattle.transfer_world.specs.declared.ScriptFault.{ScriptFault}
+use Rattle.transfer_world.specs.declared.ScriptFault.TheVariants as script_fault
+use Rattle.site_words.specs.Asked.{Asked, help, nothing, script, site}
+use Rattle.rights_program.specs.Endings.{MayBeDone, MayStop, reads}
+use Rattle.rights_program.specs.Faults.{fault_of_script, fault_of_site, fault_of_words, status_of}
+use Rattle.site_words.specs.Settings.{Settings}
+use Rattle.site_words.specs.Words.{MayAnswer, MayRefuse, RunsSite, WantsHelp}
+use Rattle.rights_program.specs.declared.fault.Fault.TheVariants.{BadCommandLine, CannotListen, OutOfMemory, ReadFailed, TooManyLines, WriteFailed}
+use Rattle.rights_program.specs.declared.fault.Fault.{Fault}
+use Rattle.site_server.specs.declared.fault.SiteFault.{SiteFault}
+use Rattle.site_server.specs.declared.fault.SiteFault.TheVariants as site_fault
+use Rattle.site_words.specs.declared.words.WordsFault.{WordsFault}
+use Rattle.site_words.specs.declared.words.WordsFault.TheVariants as words
+
+pub memory_may_stop : (a : Asked) → MayStop a OutOfMemory
+memory_may_stop script = tt
+memory_may_stop (site kinds rows) = tt
+memory_may_stop help = tt
+memory_may_stop nothing = tt
+
+-- words that are refused
+pub refusal_may_stop : (a : Asked) → MayRefuse a → MayStop a BadCommandLine
+refusal_may_stop script h = h
+refusal_may_stop (site kinds rows) h = h
+refusal_may_stop help h = h
+refusal_may_stop nothing h = h
+
+pub words_may_stop : (a : Asked) (fault : WordsFault) → MayAnswer a (Err fault) → MayStop a (fault_of_words fault)
+words_may_stop a words.Refused h = refusal_may_stop a h
+words_may_stop a words.OutOfMemory h = memory_may_stop a
+
+pub stopped_refuses : (a : Asked) → MayStop a BadCommandLine → MayRefuse a
+stopped_refuses script h = h
+stopped_refuses (site kinds rows) h = h
+stopped_refuses help h = h
+stopped_refuses nothing h = h
+
+-- the status 2 tells of a refusal
+pub two_is_bad : (fault : Fault) → status_of fault ≡ 2 → fault ≡ BadCommandLine
+two_is_bad BadCommandLine is = refl
+two_is_bad CannotListen is = absurd (omega (arith, is))
+two_is_bad ReadFailed is = absurd (omega (arith, is))
+two_is_bad WriteFailed is = absurd (omega (arith, is))
+two_is_bad OutOfMemory is = absurd (omega (arith, is))
+two_is_bad TooManyLines is = absurd (omega (arith, is))
+
+-- a script
+pub script_may_stop : (a : Asked) (cause : ScriptFault) → a ≡ script → MayStop a (fault_of_script cause)
+script_may_stop a cause same = subst (λ a. MayStop a (fault_of_script cause)) (sym same) (stops cause)
+  where
+    stops : (cause : ScriptFault) → MayStop script (fault_of_script cause)
+    stops script_fault.ReadFailed = tt
+    stops script_fault.WriteFailed = tt
+    stops script_fault.OutOfMemory = tt
+    stops script_fault.TooManyLines = tt
+
+pub script_reads : (a : Asked) → a ≡ script → reads a ≡ false → ⊥
+script_reads a same none = true≢false (sym (ap reads same) ∙ none)
+
+pub script_not_bad : (cause : ScriptFault) → fault_of_script cause ≢ BadCommandLine
+script_not_bad script_fault.ReadFailed same = cc
+script_not_bad script_fault.WriteFailed same = cc
+script_not_bad script_fault.OutOfMemory same = cc
+script_not_bad script_fault.TooManyLines same = cc
+
+-- a site
+pub site_may_stop : (a : Asked) (s : Settings) (cause : SiteFault) → RunsSite a s → MayStop a (fault_of_site cause)
+site_may_stop script s cause runs = absurd runs
+site_may_stop (site kinds rows) s site_fault.CannotListen runs = (s, runs)
+site_may_stop (site kinds rows) s site_fault.ReadFailed runs = (s, runs)
+site_may_stop (site kinds rows) s site_fault.WriteFailed runs = inl (s, runs)
+site_may_stop (site kinds rows) s site_fault.OutOfMemory runs = tt
+site_may_stop (site kinds rows) s site_fault.TooManyLines runs = (s, runs)
+site_may_stop help s cause runs = absurd runs
+site_may_stop nothing s cause runs = absurd runs
+
+pub site_may_be_done : (a : Asked) (s : Settings) → RunsSite a s → MayBeDone a
+site_may_be_done script s runs = absurd runs
+site_may_be_done (site kinds rows) s runs = inl (s, runs)
+site_may_be_done help s runs = absurd runs
+site_may_be_done nothing s runs = absurd runs
+
+pub site_reads : (a : Asked) (s : Settings) → RunsSite a s → reads a ≡ false → ⊥
+site_reads script s runs none = absurd runs
+site_reads (site kinds rows) s runs none = true≢false (sym (ap (λ ks. reads (site ks rows)) runs.0) ∙ none)
+site_reads help s runs none = absurd runs
+site_reads nothing s runs none = absurd runs
+
+pub site_no_script : (a : Asked) (s : Settings) → RunsSite a s → a ≡ script → ⊥
+site_no_script a s runs same = subst (λ a. RunsSite a s) same runs
+
+pub site_no_nothing : (a : Asked) (s : Settings) → RunsSite a s → a ≡ nothing → ⊥
+site_no_nothing a s runs same = subst (λ a. RunsSite a s) same runs
+
+pub site_not_bad : (cause : SiteFault) → fault_of_site cause ≢ BadCommandLine
+site_not_bad site_fault.CannotListen same = cc
+site_not_bad site_fault.ReadFailed same = cc
+site_not_bad site_fault.WriteFailed same = cc
+site_not_bad site_fault.OutOfMemory same = cc
+site_not_bad site_fault.TooManyLines same = cc
+
+-- help
+pub help_may_stop : (a : Asked) → WantsHelp a → MayStop a WriteFailed
+help_may_stop script wants = absurd wants
+help_may_stop (site kinds rows) wants = inr wants
+help_may_stop help wants = tt
+help_may_stop nothing wants = absurd wants
+
+pub help_may_be_done : (a : Asked) → WantsHelp a → MayBeDone a
+help_may_be_done script wants = absurd wants
+help_may_be_done (site kinds rows) wants = inr wants
+help_may_be_done help wants = tt
+help_may_be_done nothing wants = absurd wants
+
+pub help_no_script : (a : Asked) → WantsHelp a → a ≡ script → ⊥
+help_no_script a wants same = subst WantsHelp same wants
+
+pub help_no_nothing : (a : Asked) → WantsHelp a → a ≡ nothing → ⊥
+help_no_nothing a wants same = subst WantsHelp same wants
+
+-- how each command may end
+pub ruleset endings = (words_may_stop, memory_may_stop, script_may_stop, script_reads, script_not_bad, site_may_stop, site_may_be_done, site_reads, site_no_script, site_no_nothing, site_not_bad, help_may_stop, help_may_be_done, help_no_script, help_no_nothing)

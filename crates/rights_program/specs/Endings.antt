@@ -1,0 +1,63 @@
+-- How the program ends.
+use Rattle.std.specs.Prelude.{◌≡◌, ◌==◌, ◌⊎◌, ℕ, Bool, true, false, List, [], length, ⊤, Option, Result, Ok, Err}
+use Rattle.line_streams.specs.Fronts.{AppendsFront}
+use Rattle.site_words.specs.Asked.{Asked, help, nothing, script, site}
+use Rattle.rights_program.specs.Faults.{line_of, status_of}
+use Rattle.site_words.specs.Settings.{Settings}
+use Rattle.site_words.specs.Words.{MayRefuse, RunsSite, WantsHelp}
+use Rattle.rights_program.specs.declared.fault.Fault.{Fault}
+use Rattle.rights_program.specs.declared.fault.Fault.TheVariants.{BadCommandLine, CannotListen, OutOfMemory, WriteFailed}
+
+-- done, or stopped by a fault
+abbrev pub Ending : Type 0
+Ending = Result (Unit {0}) Fault
+
+abbrev pub status_of_ending : Ending → ℕ
+status_of_ending (Ok done) = 0
+status_of_ending (Err fault) = status_of fault
+
+-- what is printed on standard error
+abbrev pub line_of_ending : Ending → List ℕ
+line_of_ending (Ok done) = []
+line_of_ending (Err fault) = line_of fault
+
+-- whether commands are read: those of a script, or of a site where clap takes the words
+abbrev pub reads : Asked → Bool
+reads script = true
+reads (site kinds rows) = length kinds == 0
+reads asked = false
+
+-- clap takes the words, and what it finds is a site's
+abbrev pub IsRun : Asked → Type 0
+IsRun asked = (s : Settings) × RunsSite asked s
+
+-- words that ask for nothing are never done, nor those of `run` that are refused
+abbrev pub MayBeDone : Asked → Type 0
+MayBeDone nothing = ⊥
+MayBeDone (site kinds rows) = IsRun (site kinds rows) ⊎ WantsHelp (site kinds rows)
+MayBeDone asked = ⊤
+
+-- the faults that may stop the program, by what was asked for
+abbrev pub MayStop : Asked → Fault → Type 0
+MayStop script BadCommandLine = ⊥
+MayStop script CannotListen = ⊥
+MayStop script fault = ⊤
+MayStop (site kinds rows) BadCommandLine = MayRefuse (site kinds rows)
+MayStop (site kinds rows) OutOfMemory = ⊤
+MayStop (site kinds rows) WriteFailed = MayBeDone (site kinds rows)
+MayStop (site kinds rows) fault = IsRun (site kinds rows)
+MayStop help WriteFailed = ⊤
+MayStop help OutOfMemory = ⊤
+MayStop help fault = ⊥
+MayStop nothing BadCommandLine = ⊤
+MayStop nothing OutOfMemory = ⊤
+MayStop nothing fault = ⊥
+
+abbrev pub MayEnd : Asked → Ending → Type 0
+MayEnd asked (Ok done) = MayBeDone asked
+MayEnd asked (Err fault) = MayStop asked fault
+
+-- the status, and what was printed on standard error, are those of one ending
+abbrev pub EndsWith : ℕ → Option (List ℕ) → Option (List ℕ) → Type 0
+EndsWith status old new =
+    (ending : Ending) × (status ≡ status_of_ending ending) × AppendsFront old new (line_of_ending ending)

@@ -1,0 +1,55 @@
+-- What the program ends with where it is stopped.
+use Rattle.std.specs.Prelude.{ℕ, List, [], ◌∷◌, ◌++◌, codes}
+use Rattle.std.specs.declared.io.ErrorKind.{ErrorKind}
+use Rattle.std.specs.declared.io.ErrorKind.TheVariants.{InvalidData}
+use Rattle.rights_program.specs.declared.fault.Fault.{Fault}
+use Rattle.rights_program.specs.declared.fault.Fault.TheVariants.{BadCommandLine, CannotListen, OutOfMemory, ReadFailed, TooManyLines, WriteFailed}
+use Rattle.site_words.specs.declared.words.WordsFault.{WordsFault}
+use Rattle.site_words.specs.declared.words.WordsFault.TheVariants as words
+use Rattle.site_server.specs.declared.fault.SiteFault.{SiteFault}
+use Rattle.site_server.specs.declared.fault.SiteFault.TheVariants as site
+use Rattle.transfer_world.specs.declared.ScriptFault.{ScriptFault}
+use Rattle.transfer_world.specs.declared.ScriptFault.TheVariants as script
+
+-- the exit status
+abbrev pub status_of : Fault → ℕ
+status_of BadCommandLine = 2
+status_of CannotListen = 1
+status_of ReadFailed = 1
+status_of WriteFailed = 1
+status_of OutOfMemory = 1
+status_of TooManyLines = 1
+
+abbrev pub fault_text : Fault → List ℕ
+fault_text BadCommandLine = codes "rights-site: bad command line"
+fault_text CannotListen = codes "rights-site: cannot listen"
+fault_text ReadFailed = codes "rights-site: read failed"
+fault_text WriteFailed = codes "rights-site: write failed"
+fault_text OutOfMemory = codes "rights-site: out of memory"
+fault_text TooManyLines = codes "rights-site: too many lines"
+
+-- what is printed: the text and a line feed
+abbrev pub line_of : Fault → List ℕ
+line_of fault = fault_text fault ++ 10 ∷ []
+
+-- why the words of the process cannot be told, by the kind of the error
+abbrev pub fault_of_given : ErrorKind → Fault
+fault_of_given InvalidData = BadCommandLine
+fault_of_given kind = OutOfMemory
+
+abbrev pub fault_of_words : WordsFault → Fault
+fault_of_words words.Refused = BadCommandLine
+fault_of_words words.OutOfMemory = OutOfMemory
+
+abbrev pub fault_of_script : ScriptFault → Fault
+fault_of_script script.ReadFailed = ReadFailed
+fault_of_script script.WriteFailed = WriteFailed
+fault_of_script script.OutOfMemory = OutOfMemory
+fault_of_script script.TooManyLines = TooManyLines
+
+abbrev pub fault_of_site : SiteFault → Fault
+fault_of_site site.CannotListen = CannotListen
+fault_of_site site.ReadFailed = ReadFailed
+fault_of_site site.WriteFailed = WriteFailed
+fault_of_site site.OutOfMemory = OutOfMemory
+fault_of_site site.TooManyLines = TooManyLines

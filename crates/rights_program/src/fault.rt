@@ -1,0 +1,113 @@
+//! Why the program ends with another status than 0, and what it says then.
+ghost use Rattle.std.specs.Prelude.{◌≡◌};
+ghost use Rattle.rights_program.specs.Faults.{line_of, status_of};
+ghost use Rattle.rights_program.specs.declared.fault.Fault.TheVariants.{OutOfMemory, WriteFailed};
+
+use line_streams::WriteFault;
+use site_server::SiteFault;
+use site_words::WordsFault;
+use std::alloc::AllocError;
+use transfer_world::ScriptFault;
+
+/// Why the program ends with another status than 0.
+#[derive(Clone, Copy, Debug, PartialEq, Eq)]
+pub enum Fault {
+    /// The command line is refused.
+    BadCommandLine,
+    /// The address of a site is none that can be listened on.
+    CannotListen,
+    /// Reading the commands failed.
+    ReadFailed,
+    /// Writing the replies or the help text failed.
+    WriteFailed,
+    /// A request for memory was refused.
+    OutOfMemory,
+    /// The commands are more lines than a script may have.
+    TooManyLines,
+}
+
+impl Fault {
+    /// The exit status that tells of this.
+    pub fn status(self) -> u8
+        ensures { result ≡ status_of self }
+    {
+        match self {
+            Fault::BadCommandLine => 2,
+            _ => 1,
+        }
+    }
+
+    /// The line that tells of this, with its line feed.
+    pub fn line(self) -> &'static [u8]
+        ensures { result.now ≡ line_of self }
+    {
+        match self {
+            Fault::BadCommandLine => b"rights-site: bad command line\n",
+            Fault::CannotListen => b"rights-site: cannot listen\n",
+            Fault::ReadFailed => b"rights-site: read failed\n",
+            Fault::WriteFailed => b"rights-site: write failed\n",
+            Fault::OutOfMemory => b"rights-site: out of memory\n",
+            Fault::TooManyLines => b"rights-site: too many lines\n",
+        }
+    }
+}
+
+impl From<AllocError> for Fault {
+    ghost from_gives = { λ _ fault. fault ≡ OutOfMemory };
+
+    fn from(_error: AllocError) -> Fault {
+        Fault::OutOfMemory
+    }
+}
+
+impl From<WriteFault> for Fault {
+    ghost from_gives = { λ _ fault. fault ≡ WriteFailed };
+
+    fn from(_error: WriteFault) -> Fault {
+        Fault::WriteFailed
+    }
+}
+
+impl From<WordsFault> for Fault {
+    ghost use Rattle.rights_program.specs.Faults.{fault_of_words};
+
+    ghost from_gives = { λ cause fault. fault ≡ fault_of_words cause };
+
+    fn from(cause: WordsFault) -> Fault {
+        match cause {
+            WordsFault::Refused => Fault::BadCommandLine,
+            WordsFault::OutOfMemory => Fault::OutOfMemory,
+        }
+    }
+}
+
+impl From<ScriptFault> for Fault {
+    ghost use Rattle.rights_program.specs.Faults.{fault_of_script};
+
+    ghost from_gives = { λ cause fault. fault ≡ fault_of_script cause };
+
+    fn from(cause: ScriptFault) -> Fault {
+        match cause {
+            ScriptFault::ReadFailed => Fault::ReadFailed,
+            ScriptFault::WriteFailed => Fault::WriteFailed,
+            ScriptFault::OutOfMemory => Fault::OutOfMemory,
+            ScriptFault::TooManyLines => Fault::TooManyLines,
+        }
+    }
+}
+
+impl From<SiteFault> for Fault {
+    ghost use Rattle.rights_program.specs.Faults.{fault_of_site};
+
+    ghost from_gives = { λ cause fault. fault ≡ fault_of_site cause };
+
+    fn from(cause: SiteFault) -> Fault {
+        match cause {
+            SiteFault::CannotListen => Fault::CannotListen,
+            SiteFault::ReadFailed => Fault::ReadFailed,
+            SiteFault::WriteFailed => Fault::WriteFailed,
+            SiteFault::OutOfMemory => Fault::OutOfMemory,
+            SiteFault::TooManyLines => Fault::TooManyLines,
+        }
+    }
+}

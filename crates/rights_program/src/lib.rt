@@ -1,0 +1,11 @@
+//! What the program `rights-site` does with the words and the streams of its process: its command line, its commands and
+//! its exit status. The program itself is a `main` that hands these over.
+#![tactic(auto)]
+
+mod fault;
+mod given;
+mod run;
+
+pub use fault::Fault;
+pub use given::run_given;
+pub use run::run_words;

@@ -1,3 +1,0 @@
-//! Endings, with streams that break.
-
-mod endings;

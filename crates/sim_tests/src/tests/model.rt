@@ -1,3 +1,0 @@
-//! The model by its two calls alone.
-mod examples;
-mod made;

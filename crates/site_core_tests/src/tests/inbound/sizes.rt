@@ -1,0 +1,154 @@
+//! Entries and answers of every size, with ample memory and with each request for it refused in turn. An
+//! inbound that gives up on some size is proved, since it may always want memory, and is found here.
+
+use crate::tests::inbound::memory::comes_at_last;
+use crate::tests::inbound::steps::{Came, Said, at_site_2_of_16, comes, is_query};
+use crate::tests::inbound::texts::{LONG_GRANT, answer_line, entry_line};
+use refusing_allocator::Refusing;
+use rights_types::{OutOfMemory, SiteId};
+use site_core::Inbound;
+use std::alloc::{AllocError, Allocator, Global};
+use sub_buffer::State;
+use test_kit::requests_of;
+
+// How many requests for memory an inbound and its first line make, each of which may be refused.
+fn requests_of_line(alloc: Global, line: &[u8], said: &[Said]) -> Option<u64> {
+    requests_of(alloc, |memory| comes_first(memory, line, said))
+}
+
+fn comes_first<A: Allocator + Copy>(memory: &Refusing<A>, line: &[u8], said: &[Said]) -> bool {
+    let Ok(mut inbound) = at_site_2_of_16(memory) else {
+        return memory.refused();
+    };
+    comes_at_last(&mut inbound, memory, line, Came::Entries(said))
+}
+
+// Moves that any entry may have anywhere, and those that close.
+const MOVES: [&str; 6] = [" I:10", " S:9", " G:2:8:7", " R:3:6", " V:4:5", LONG_GRANT];
+
+const CLOSES: [&str; 2] = [" C", " K:0:1:2:3:4:5:6:7:8:9:10:11:12:13:14:1000000000"];
+
+// How many requests the first entry of a log makes.
+fn requests_of_entry(alloc: Global, count: u16, each: &str, last: &str) -> Option<u64> {
+    let line = entry_line(alloc, 0, count, each, last).ok()?;
+    requests_of_line(alloc, &line, &[Said::Ready(u64::from(count))])
+}
+
+/// Entries of 1 to 16 moves of each kind, of which the last closes or not.
+#[test]
+fn entries_of_every_size(rt: HostRuntime) {
+    for count in 1..=16u16 {
+        for each in &MOVES {
+            for last in [*each, CLOSES[0], CLOSES[1]] {
+                let requests = requests_of_entry(rt.alloc(), count, each, last);
+                assert_eq!(rt; requests, Some(3), "{count} moves{each}, then{last}");
+            }
+        }
+    }
+}
+
+// The own numbers of entries, of which the first has so many moves, and each further one so many more.
+fn all_ready(alloc: Global, entries: u16, first: u16, more: u16) -> Result<Vec<Said>, AllocError> {
+    let mut said = Vec::new(alloc);
+    let mut own = 0u64;
+    let mut count = u64::from(first);
+    for _ in 0..entries {
+        own = own.saturating_add(count);
+        count = count.saturating_add(u64::from(more));
+        said.push(Said::Ready(own))?;
+    }
+    Ok(said)
+}
+
+// How many requests an answer makes, of which the first entry has so many moves, and each further one so many
+// more.
+fn requests_of_answer(alloc: Global, entries: u16, first: u16, more: u16) -> Option<u64> {
+    let line = answer_line(alloc, entries, first, more, LONG_GRANT).ok()?;
+    let said = all_ready(alloc, entries, first, more).ok()?;
+    requests_of_line(alloc, &line, &said)
+}
+
+/// Answers of 0 to 16 entries: of 1, of 16, and of 1 to 16 moves.
+#[test]
+fn answers_of_every_size(rt: HostRuntime) {
+    for entries in 0..=16u16 {
+        // The inbound and the verdicts take one request each, the list one, and each entry one.
+        let wanted = if entries == 0 {
+            2
+        } else {
+            u64::from(entries) + 3
+        };
+        for (first, more) in [(1, 0), (16, 0), (1, 1)] {
+            let requests = requests_of_answer(rt.alloc(), entries, first, more);
+            assert_eq!(rt;
+                requests,
+                Some(wanted),
+                "{entries} entries of {first} and {more}"
+            );
+        }
+    }
+}
+
+// Whether a first beat leads to that query, unless memory is refused.
+fn is_asked_first<A: Allocator + Copy>(memory: &Refusing<A>, beat: &str, query: &str) -> bool {
+    let Ok(mut inbound) = at_site_2_of_16(memory) else {
+        return memory.refused();
+    };
+    comes(&mut inbound, beat.as_bytes(), Came::Beat)
+        && (is_query(&inbound.query_line(false), Some(query)) || memory.refused())
+}
+
+const QUERIES: [(&str, &str); 6] = [
+    ("B 1 9\n", "Q 2 1 1 9\n"),
+    ("B 1 10\n", "Q 2 1 1 10\n"),
+    ("B 1 4321\n", "Q 2 1 1 4321\n"),
+    ("B 1 9999999\n", "Q 2 1 1 9999999\n"),
+    ("B 1 123456789\n", "Q 2 1 1 123456789\n"),
+    ("B 1 1000000000\n", "Q 2 1 1 1000000000\n"),
+];
+
+/// Queries of many lengths.
+#[test]
+fn queries_of_many_sizes(rt: HostRuntime) {
+    for (beat, query) in &QUERIES {
+        let requests = requests_of(rt.alloc(), |memory| is_asked_first(memory, beat, query));
+        assert_eq!(rt; requests, Some(2), "{query}");
+    }
+}
+
+// Whether an inbound of these sites is made, and nothing has come to it, unless memory is refused.
+fn makes<A: Allocator + Copy>(
+    memory: &Refusing<A>,
+    me: SiteId,
+    origin: SiteId,
+    sites: u64,
+) -> bool {
+    if sites < 2 || sites > 16 || me.number() > sites || origin.number() > sites || origin == me {
+        return false;
+    }
+    match Inbound::new(memory, me, origin, sites) {
+        Ok(inbound) => {
+            let is_new = inbound.last() == 0 && inbound.held_count() == 0;
+            is_new && inbound.state() == State::Normal && !memory.refused()
+        }
+        Err(OutOfMemory) => memory.refused(),
+    }
+}
+
+/// Any two sites of 2 to 16.
+#[test]
+fn inbounds_of_any_two_sites(rt: HostRuntime) {
+    for sites in 2..=16u64 {
+        for me in 1..=sites {
+            for origin in 1..=sites {
+                if me == origin {
+                    continue;
+                }
+                let made = requests_of(rt.alloc(), |memory| {
+                    makes(memory, SiteId::known(me), SiteId::known(origin), sites)
+                });
+                assert_eq!(rt; made, Some(1), "{me} of {origin} among {sites}");
+            }
+        }
+    }
+}

@@ -1,6 +1,0 @@
-use Rattle.std.proofs.Common.{sym, subst}
-use Rattle.sub_buffer.specs.Buffers.{IsSettled}
-use Rattle.sub_buffer_tests.proofs.tests.steps.arrives.Goals as goal
-
-pub arrive-requires-clause-settled : goal.arrive-requires-clause-settled
-arrive-requires-clause-settled g c = subst IsSettled (sym c.in-None.ensures.table.1) c.in-None.ensures.table.0

@@ -1,5 +1,0 @@
-//! Tests of the subscriber buffer, by its public calls.
-#![tactic(auto)]
-
-#[cfg(test)]
-mod tests;

@@ -1,6 +1,0 @@
-use Rattle.std.proofs.Common.{◌↔◌, drop}
-use Rattle.transfer_world.specs.IncomingLists.{NoneAhead}
-use Rattle.transfer_world.proofs.link.incoming.none_ahead.Given as goal
-
-abbrev pub invariant-loop-entry : goal.invariant-loop-entry
-invariant-loop-entry g l = NoneAhead l.fn.number l.entries ↔ NoneAhead l.end (drop l.entry-index l.entries)

@@ -1,8 +1,0 @@
-use Rattle.std.proofs.Common.{◌≡◌}
-use Rattle.std.specs.Prelude.{map}
-use Rattle.std.specs.List.{range_with_len}
-use Rattle.transfer_world.specs.Worlds.{link_to}
-use Rattle.transfer_world.proofs.links.Links.new.Given as goal
-
-abbrev pub invariant-loop-index : goal.invariant-loop-index
-invariant-loop-index g l = l.links.items ≡ map (link_to l.sites l.me) (range_with_len 1 l.index)

@@ -1,6 +1,0 @@
-use Rattle.transfer_world.proofs.WorldLaws.{step_world}
-use Rattle.transfer_world.proofs.world.World.happen.Goals as goal
-
-pub invariant_of-self : goal.invariant_of-self
-invariant_of-self g c =
-    step_world c.self.inside.system c.happen.new.self c.args.event.now c.happen.result c.self.invariant c.happen.ensures

@@ -1,9 +1,0 @@
-use Rattle.std.proofs.Common.{◌≡◌, ◌≤◌, length, take, vec_len}
-use Rattle.std.specs.Vec.{vec_capacity}
-use Rattle.transfer_world.specs.Step.{Runs}
-use Rattle.transfer_world.proofs.world.World.run_all.Given as goal
-
-abbrev pub invariant-loop-event : goal.invariant-loop-event
-invariant-loop-event g l =
-    (vec_len l.outcomes ≡ l.event-index) × (length l.events ≤ vec_capacity l.outcomes)
-    × Runs l.fn.self (take l.event-index l.events) l.outcomes.items l.self

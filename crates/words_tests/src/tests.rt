@@ -1,4 +1,0 @@
-//! Words, help texts and statuses.
-
-mod status;
-mod words;

@@ -1,0 +1,12 @@
+use Rattle.std.proofs.lemmas.Result.{IfOk-weaker}
+use Rattle.world_core.proofs.LinksLaws.{lends, is_there}
+use Rattle.world_core.proofs.links.Links.take_answer.Goals as goal
+
+pub returns-clause-ok : goal.returns-clause-ok
+returns-clause-ok g c =
+    let there = c.requires.there in
+    let at = lends _ c.args.self.now _ _ _ _ c.self.view_is c.index.ensures.value (is_there _ there.0 there.1)
+    c.index_mut.ensures.value c.in-Some.is in
+    IfOk-weaker c.take_answer.result _ _
+    (λ verdicts takes. (c.in-Some.link, c.take_answer.new.self, at.is, at.changed _, takes))
+    c.take_answer.ensures.ok

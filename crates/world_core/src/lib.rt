@@ -1,0 +1,21 @@
+//! All sites, and what may happen among them.
+#![tactic(auto)]
+
+mod event;
+mod fault;
+mod history;
+mod keeping;
+mod laws;
+mod link;
+mod links;
+mod packet;
+mod reply;
+mod system;
+mod world;
+
+pub use event::{Event, Moves};
+pub use fault::WorldError;
+pub use keeping::{ForReaders, ForReplies, Keeping};
+pub use laws::every_run;
+pub use reply::{Reply, Verdict, Verdicts};
+pub use world::{Totals, World};

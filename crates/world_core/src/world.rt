@@ -1,0 +1,124 @@
+//! All sites, and all packets ever sent, of which the headline holds.
+ghost use Rattle.std.specs.Prelude.{◌≡◌, ◌≤◌, IfOk, OnErr};
+ghost use Rattle.rights_types.specs.declared.limits.TheConstants.{MIN_SITES, MAX_SITES};
+ghost use Rattle.world_core.specs.Worlds.{start, ended};
+ghost use Rattle.world_core.specs.Step.{Step, Runs};
+ghost use Rattle.world_core.specs.Headline.{Headline};
+
+mod readers;
+
+use crate::event::Event;
+use crate::fault::WorldError;
+use crate::keeping::{ForReaders, ForReplies, Keeping};
+use crate::reply::Reply;
+use crate::system::System;
+pub use readers::Totals;
+use rights_types::{MAX_SITES, MIN_SITES, OutOfMemory};
+use std::alloc::{Allocator, Global};
+use std::marker::Model;
+
+/// All sites, and all packets ever sent. After want of memory it is ended.
+#[derive(Drop)]
+pub struct World<A: Allocator = Global, K: Keeping = ForReaders> {
+    system: System<A, K>,
+}
+
+impl<A: Allocator, K: Keeping> Model for World<A, K> {
+    ghost use Rattle.world_core.specs.Values.{WorldValue};
+    ghost use Rattle.world_core.specs.Sound.{IsWorld};
+
+    ghost Value = { WorldValue };
+
+    ghost view = { λ w. w.system };
+
+    ghost invariant = { λ w. IsWorld w.system };
+}
+
+impl<A: Allocator + Copy> World<A, ForReaders> {
+    /// A world of so many sites, 2 to 16, at the start.
+    pub fn new(alloc: A, sites: u64) -> Result<World<A, ForReaders>, OutOfMemory>
+        requires { (MIN_SITES ≤ sites) × (sites ≤ MAX_SITES) }
+        ensures { IfOk result (λ world. world ≡ start sites) }
+    {
+        World::start(alloc, sites)
+    }
+}
+
+impl<A: Allocator + Copy> World<A, ForReplies> {
+    /// The same for those who read replies alone, as a script does: entries that were applied take no more memory.
+    pub fn for_replies(alloc: A, sites: u64) -> Result<World<A, ForReplies>, OutOfMemory>
+        requires { (MIN_SITES ≤ sites) × (sites ≤ MAX_SITES) }
+        ensures { IfOk result (λ world. world ≡ start sites) }
+    {
+        World::start(alloc, sites)
+    }
+}
+
+impl<A: Allocator + Copy, K: Keeping> World<A, K> {
+    fn start(alloc: A, sites: u64) -> Result<World<A, K>, OutOfMemory>
+        requires { (MIN_SITES ≤ sites) × (sites ≤ MAX_SITES) }
+        ensures { IfOk result (λ world. world ≡ start sites) }
+    {
+        Ok(World {
+            system: System::new(alloc, sites)?,
+        })
+    }
+
+    /// Lets one event happen. A refusal changes nothing, but after `OutOfMemory` every later event
+    /// is answered `Ended`, and a query that met it may count as sent.
+    pub fn step(&mut self, event: Event<A>) -> Result<Reply<A>, WorldError>
+        ensures { Step self.old event result self.new }
+    {
+        self.happen(&event)
+    }
+
+    /// Lets events happen one after the other, and answers their outcomes in order. Where there is
+    /// no memory for the outcomes, nothing happens but that the world is ended.
+    pub fn run(
+        &mut self,
+        events: &[Event<A>],
+    ) -> Result<Vec<Result<Reply<A>, WorldError>, A>, OutOfMemory>
+        ensures runs { IfOk result (λ outcomes. Runs self.old events.now outcomes.items self.new) }
+        ensures err { OnErr result (self.new ≡ ended self.old) }
+        ensures headline { Headline self.new }
+    {
+        let outcomes = self.run_all(events);
+        self.headline();
+        outcomes
+    }
+
+    fn run_all(
+        &mut self,
+        events: &[Event<A>],
+    ) -> Result<Vec<Result<Reply<A>, WorldError>, A>, OutOfMemory>
+        ensures runs { IfOk result (λ outcomes. Runs self.old events.now outcomes.items self.new) }
+        ensures err { OnErr result (self.new ≡ ended self.old) }
+    {
+        let alloc = self.system.allocator();
+        let Ok(mut outcomes) = Vec::with_capacity(alloc, events.len()) else {
+            self.system.end();
+            return Err(OutOfMemory);
+        };
+        for event in events {
+            let outcome = self.happen(event);
+            outcomes.push_reserved(outcome);
+        }
+        Ok(outcomes)
+    }
+
+    fn happen(&mut self, event: &Event<A>) -> Result<Reply<A>, WorldError>
+        ensures { Step self.old event.now result self.new }
+    {
+        self.system.happen(event)
+    }
+}
+
+impl<A: Allocator, K: Keeping> World<A, K> {
+    /// The headline holds of every world.
+    pub fn headline(&self)
+        ensures { Headline self.now }
+    {
+        // For the proof: what is kept of the world.
+        let _ = &self.system;
+    }
+}
