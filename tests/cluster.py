@@ -12,6 +12,9 @@ sys.path.insert(0, os.path.join(HERE, "..", "python"))
 
 from rights_site import PROGRAM, Site, SiteEnded  # noqa: E402, F401
 
+# What PROGRAM builds, and then calls.
+BUILT = os.path.join(os.path.dirname(PROGRAM), "crates", "rights_site", "out", "rights_site")
+
 
 def free_ports(count):
     """Ports that nobody listened on a moment ago."""

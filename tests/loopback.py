@@ -14,13 +14,10 @@ import sys
 import threading
 import time
 
-from cluster import PROGRAM, Cluster, Proxy, Site, SiteEnded, at, expect, free_ports, sees, wait_for
+from cluster import BUILT, PROGRAM, Cluster, Proxy, Site, SiteEnded, at, expect, free_ports, sees, wait_for
 
 program = sys.argv[1] if len(sys.argv) > 1 else PROGRAM
 Cluster.program = program
-
-# What the script of that name runs, once it has built it.
-BUILT = os.path.join(os.path.dirname(PROGRAM), "crates", "rights_site", "out", "rights_site")
 
 
 def connect(cluster, number, text=b""):
