@@ -1,14 +1,14 @@
 //! Logs of many lines.
 ghost use Rattle.std.specs.Prelude.{◌<◌};
 
-use crate::tests::helpers::{append, gives, query};
+use crate::tests::helpers::{append, gives, is_answered_by};
 use linked_list_allocator::LocalHeap;
 use origin_log::OriginLog;
 use rights_types::{Amount, AskNumber, Move};
 use std::alloc::{AllocGlobal, Allocator, Global};
 use std::process::Abort;
 use std::test::Fail;
-use test_kit::{is_entry, issue, site};
+use test_kit::{issue, site};
 
 const ENTRIES: usize = 3_000;
 
@@ -27,26 +27,27 @@ fn grants(index: usize) -> [Move; 16]
     moves
 }
 
-/// Each of 3,000 entries of 16 grants is given back by its index and by its number.
-#[test]
-fn a_long_log_gives_each_entry_back(rt: HostRuntime) -> Result<(), Fail> {
+// The log of 3,000 entries of 16 grants.
+fn long_log(rt: &(impl Abort + AllocGlobal)) -> OriginLog<Global> {
     let mut log: OriginLog<Global> = OriginLog::new(rt.alloc(), site(1));
     for index in 0..ENTRIES {
-        let end = append(&rt, &mut log, &grants(index));
-        assert_eq!(rt; end, Ok(index as u64 * 16 + 16));
+        let end = append(rt, &mut log, &grants(index));
+        assert!(rt; end == Ok(index as u64 * 16 + 16));
     }
-    assert_eq!(rt; log.len(), ENTRIES);
+    log
+}
+
+/// Each of 3,000 entries of 16 grants is given back by its index and by its number.
+#[test]
+fn a_long_log_gives_each_entry_back(rt: HostRuntime) {
+    let log = long_log(&rt);
+    assert!(rt; log.len() == ENTRIES);
     for index in 0..ENTRIES {
-        let own = index as u64 * 16 + 16;
         let prev = index as u64 * 16;
+        let own = prev + 16;
         assert!(rt; gives(&log, index, prev, &grants(index)));
-        let found = log.answer(&query(&rt, own, own)).expect(&rt, "an answer");
-        assert_eq!(rt; found.len(), 1);
-        for entry in &found {
-            assert!(rt; is_entry(entry, 1, prev, &grants(index)));
-        }
+        assert!(rt; is_answered_by(&log, own, own, prev, &grants(index)));
     }
-    Ok(())
 }
 
 /// `I:n` with so many digits.
@@ -94,28 +95,39 @@ fn longer_by(alloc: Global, more: usize) -> Result<Vec<Move>, Fail> {
     Ok(moves)
 }
 
+// Appends these moves, and answers how many bytes the heap gave for that.
+fn bytes_of(
+    rt: &(impl Abort + AllocGlobal),
+    heap: &LocalHeap,
+    log: &mut OriginLog<&LocalHeap>,
+    moves: &[Move],
+) -> usize {
+    let used = heap.used();
+    append(rt, log, moves).expect(rt, "memory");
+    heap.used().saturating_sub(used)
+}
+
+// Whether the log ends with an entry of these moves, and one that issues 7.
+fn ends_with(log: &OriginLog<&LocalHeap>, moves: &[Move]) -> bool {
+    let last = log.len().saturating_sub(1);
+    let filled = log.end().saturating_sub(1);
+    let before = filled.saturating_sub(moves.len() as u64);
+    gives(log, last.saturating_sub(1), before, moves) && gives(log, last, filled, &[issue(7)])
+}
+
 /// A line ends at the last byte of a block, and the next one begins a block of 65,536 bytes.
 #[test]
 fn a_block_is_filled_to_its_last_byte(rt: HostRuntime) -> Result<(), Fail> {
     let heap = LocalHeap::new(rt.alloc(), 1 << 20)?;
     let mut log = OriginLog::new(&heap, site(1));
     // The first append makes the draft, with room for the long line below.
-    append(&rt, &mut log, &[issue(1)]).expect(&rt, "memory");
-    assert!(rt; heap.used() < 70_000);
+    assert!(rt; bytes_of(&rt, &heap, &mut log, &[issue(1)]) < 70_000);
     let room = nearly_fill(&rt, &mut log);
     let moves = longer_by(rt.alloc(), room.saturating_sub(last_len(&log)))?;
-    let used = heap.used();
-    let before = log.end();
-    append(&rt, &mut log, &moves).expect(&rt, "memory");
-    assert_eq!(rt; last_len(&log), room);
-    assert_eq!(rt; heap.used(), used);
-    let filled = log.end();
-    append(&rt, &mut log, &[issue(7)]).expect(&rt, "memory");
-    assert_eq!(rt; heap.used(), used.saturating_add(65_536));
-    append(&rt, &mut log, &[issue(8)]).expect(&rt, "memory");
-    assert_eq!(rt; heap.used(), used.saturating_add(65_536));
-    let last = log.len().saturating_sub(1);
-    assert!(rt; gives(&log, last.saturating_sub(2), before, &moves));
-    assert!(rt; gives(&log, last.saturating_sub(1), filled, &[issue(7)]));
+    assert!(rt; bytes_of(&rt, &heap, &mut log, &moves) == 0);
+    assert!(rt; last_len(&log) == room);
+    assert!(rt; bytes_of(&rt, &heap, &mut log, &[issue(7)]) == 65_536);
+    assert!(rt; ends_with(&log, &moves));
+    assert!(rt; bytes_of(&rt, &heap, &mut log, &[issue(8)]) == 0);
     Ok(())
 }

@@ -3,9 +3,9 @@ ghost use Rattle.std.specs.Prelude.{◌≡◌};
 ghost use Rattle.std.specs.List.{list_any};
 ghost use Rattle.origin_log.specs.Logs.{is_special};
 
-use origin_log::{LogError, OriginLog};
+use origin_log::{LogError, OriginLog, ReadError};
 use rights_types::{Amount, Frontier, MAX_NUMBER, Move, Query, SiteId, Total};
-use std::alloc::{AllocGlobal, Allocator};
+use std::alloc::{AllocGlobal, Allocator, Global};
 use std::process::Abort;
 use test_kit::{give, is_entry, issue, site, spend};
 
@@ -129,6 +129,11 @@ pub(crate) fn closed_for_its_heir<A: Allocator + Copy>(
     Ok(log)
 }
 
+/// The same with ample memory.
+pub(crate) fn three(rt: &(impl Abort + AllocGlobal)) -> OriginLog<Global> {
+    three_entries(rt, rt.alloc()).expect(rt, "memory")
+}
+
 /// Whether the query of a gap is answered by this line.
 pub(crate) fn is_answered<A: Allocator + Copy>(
     log: &OriginLog<A>,
@@ -143,6 +148,40 @@ pub(crate) fn is_answered<A: Allocator + Copy>(
         Ok(line) => line.as_slice() == wanted,
         Err(_) => false,
     }
+}
+
+/// Whether the query of a gap is answered by this one entry.
+pub(crate) fn is_answered_by<A: Allocator + Copy>(
+    log: &OriginLog<A>,
+    first: u64,
+    last: u64,
+    prev: u64,
+    moves: &[Move],
+) -> bool {
+    let Ok(query) = Query::new(site(2), site(1), first, last) else {
+        return false;
+    };
+    match log.answer(&query) {
+        Ok(found) => match found.as_slice() {
+            [entry] => is_entry(entry, 1, prev, moves),
+            _ => false,
+        },
+        Err(_) => false,
+    }
+}
+
+/// Whether a query is refused with this error, by the entries' answer and by the line's.
+pub(crate) fn refuses<A: Allocator + Copy>(
+    log: &OriginLog<A>,
+    query: &Query,
+    error: ReadError,
+) -> bool {
+    log.answer(query).err() == Some(error) && log.answer_line(query).err() == Some(error)
+}
+
+/// Whether the log lends this line at an index.
+pub(crate) fn lends<A: Allocator + Copy>(log: &OriginLog<A>, index: usize, line: &[u8]) -> bool {
+    log.line(index) == Some(line)
 }
 
 /// Whether the entry at an index is read again whole.

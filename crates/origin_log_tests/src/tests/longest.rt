@@ -1,7 +1,7 @@
 //! Entries, closing entries and answers with the most moves and the greatest numbers, compared whole.
-use crate::tests::helpers::{append, close_for, frontier, gives};
+use crate::tests::helpers::{append, close_for, frontier, gives, lends};
 use origin_log::{LogError, OriginLog};
-use rights_types::{Amount, Move, Query};
+use rights_types::{Amount, Entry, Frontier, Move, Query};
 use std::alloc::{AllocError, AllocGlobal, Allocator, Global};
 use std::process::Abort;
 use std::test::Fail;
@@ -64,31 +64,49 @@ fn answers_text<A: Allocator>(alloc: A) -> Result<Vec<u8, A>, AllocError> {
     Ok(text)
 }
 
+// The line of the longest entry with that head.
+fn longest_line(alloc: Global, head: &[u8]) -> Result<Vec<u8>, AllocError> {
+    let mut line = Vec::new(alloc);
+    add_text(&mut line, head)?;
+    line.push(b'\n')?;
+    Ok(line)
+}
+
 #[test]
 fn the_longest_entries(rt: HostRuntime) -> Result<(), Fail> {
     let log = longest_log(&rt, rt.alloc()).expect(&rt, "memory");
     for (index, head) in HEADS.iter().enumerate() {
-        let mut wanted = Vec::new(rt.alloc());
-        add_text(&mut wanted, head)?;
-        wanted.push(b'\n')?;
-        assert_eq!(rt; log.line(index), Some(wanted.as_slice()));
+        let line = longest_line(rt.alloc(), head)?;
+        assert!(rt; lends(&log, index, &line));
         assert!(rt; gives(&log, index, index as u64 * 16, &[longest_grant(); 16]));
     }
     Ok(())
+}
+
+// Whether the answer has the longest line.
+fn answers_with_longest_line(alloc: Global, log: &OriginLog<Global>, query: &Query) -> bool {
+    match (log.answer_line(query), answers_text(alloc)) {
+        (Ok(line), Ok(wanted)) => line.as_slice() == wanted.as_slice(),
+        _ => false,
+    }
+}
+
+// Whether these are the first sixteen of the longest entries.
+fn are_longest(found: &[Entry]) -> bool {
+    for (index, entry) in found.iter().enumerate() {
+        if !is_entry(entry, 15, index as u64 * 16, &[longest_grant(); 16]) {
+            return false;
+        }
+    }
+    found.len() == 16
 }
 
 #[test]
 fn the_longest_answer(rt: HostRuntime) {
     let log = longest_log(&rt, rt.alloc()).expect(&rt, "memory");
     let query = query_for_all(&rt);
-    let wanted = answers_text(rt.alloc()).expect(&rt, "memory");
-    let line = log.answer_line(&query).expect(&rt, "an answer");
-    assert_eq!(rt; line.as_slice(), wanted.as_slice());
-    let found = log.answer(&query).expect(&rt, "an answer");
-    assert_eq!(rt; found.len(), 16);
-    for (index, entry) in found.iter().enumerate() {
-        assert!(rt; is_entry(entry, 15, index as u64 * 16, &[longest_grant(); 16]));
-    }
+    assert!(rt; answers_with_longest_line(rt.alloc(), &log, &query));
+    assert!(rt; log.answer(&query).is_ok_and(|found| are_longest(&found)));
 }
 
 /// The longest closing entry of site 1, with its line feed.
@@ -101,6 +119,18 @@ fn longest_closing_line(alloc: Global) -> Result<Vec<u8>, AllocError> {
     Ok(line)
 }
 
+// The log that issues the most, and closes with all of it for site 16.
+fn closed_for_the_last(
+    rt: &(impl Abort + AllocGlobal),
+    amount: Amount,
+    applied: Frontier,
+) -> OriginLog<Global> {
+    let mut log: OriginLog<Global> = OriginLog::new(rt.alloc(), site(1));
+    assert!(rt; append(rt, &mut log, &[issue(1_000_000_000)]) == Ok(1));
+    assert!(rt; close_for(rt, &mut log, site(16), amount, applied) == Ok(3));
+    log
+}
+
 /// A gift to an heir, and a frontier of sixteen sites.
 #[test]
 fn the_longest_closing_entry(rt: HostRuntime) -> Result<(), Fail> {
@@ -108,15 +138,17 @@ fn the_longest_closing_entry(rt: HostRuntime) -> Result<(), Fail> {
     applied[0] = 0;
     let applied = frontier(&rt, &applied);
     let amount = Amount::known(1_000_000_000);
-    let mut log: OriginLog<Global> = OriginLog::new(rt.alloc(), site(1));
-    assert_eq!(rt; append(&rt, &mut log, &[issue(1_000_000_000)]), Ok(1));
-    assert_eq!(rt; close_for(&rt, &mut log, site(16), amount, applied), Ok(3));
-    let wanted = longest_closing_line(rt.alloc())?;
-    assert_eq!(rt; log.line(1), Some(wanted.as_slice()));
-    let gift = Move::Give {
-        peer: site(16),
-        amount,
-    };
-    assert!(rt; gives(&log, 1, 1, &[gift, Move::CloseAt(applied)]));
+    let log = closed_for_the_last(&rt, amount, applied);
+    let line = longest_closing_line(rt.alloc())?;
+    assert!(rt; lends(&log, 1, line.as_slice()));
+    let peer = site(16);
+    assert!(rt;
+        gives(
+            &log,
+            1,
+            1,
+            &[Move::Give { peer, amount }, Move::CloseAt(applied)]
+        )
+    );
     Ok(())
 }

@@ -1,11 +1,11 @@
 //! Growths that are refused.
 ghost use Rattle.std.specs.Prelude.{◌<◌, ◌≤◌};
 
-use crate::tests::helpers::{append, gives, query, three_entries};
+use crate::tests::helpers::{append, gives, lends, query, three_entries};
 use linked_list_allocator::LocalHeap;
 use origin_log::{LogError, OriginLog, ReadError};
 use refusing_allocator::Refusing;
-use rights_types::{MAX_AMOUNT, MAX_ASK, Move};
+use rights_types::{MAX_AMOUNT, MAX_ASK, Move, Query};
 use std::alloc::{AllocGlobal, Allocator};
 use std::process::Abort;
 use std::test::Fail;
@@ -88,17 +88,21 @@ fn each_growth_of_an_append_refused(rt: HostRuntime) -> Result<(), Fail> {
     Ok(())
 }
 
-/// Whether the log's lines are those of `three_entries`.
+// Whether the log's lines are those of `three_entries`.
 fn lends_three<A: Allocator + Copy>(log: &OriginLog<A>) -> bool {
-    log.line(0) == Some(b"E 1 0 1 I:10\n".as_slice())
-        && log.line(1) == Some(b"E 1 1 4 S:1 S:1 S:1\n".as_slice())
-        && log.line(2) == Some(b"E 1 4 5 S:2\n".as_slice())
+    lends(log, 0, b"E 1 0 1 I:10\n")
+        && lends(log, 1, b"E 1 1 4 S:1 S:1 S:1\n")
+        && lends(log, 2, b"E 1 4 5 S:2\n")
+}
+
+// Whether an answer finds no memory.
+fn lacks_memory<A: Allocator + Copy>(log: &OriginLog<A>, query: &Query) -> bool {
+    matches!(log.answer(query), Err(ReadError::OutOfMemory))
 }
 
 /// Lines are lent where no request for memory would be granted.
 #[test]
-fn a_line_takes_no_memory(rt: HostRuntime) -> Result<(), Fail> {
-    let mut lent = false;
+fn a_line_takes_no_memory(rt: HostRuntime) {
     let asked = query(&rt, 1, 5);
     for granted in 0..MANY {
         // With the least number that serves the appends, the next request would be refused.
@@ -106,12 +110,9 @@ fn a_line_takes_no_memory(rt: HostRuntime) -> Result<(), Fail> {
         let Ok(log) = three_entries(&rt, &refusing) else {
             continue;
         };
-        assert!(rt; lends_three(&log));
-        assert!(rt; !refusing.refused());
-        assert_eq!(rt; log.answer(&asked).err(), Some(ReadError::OutOfMemory));
-        lent = true;
-        break;
+        assert!(rt; lends_three(&log) && !refusing.refused());
+        assert!(rt; lacks_memory(&log, &asked));
+        return;
     }
-    assert!(rt; lent);
-    Ok(())
+    panic!(rt; "the entries were never appended");
 }

@@ -3,10 +3,10 @@
 use crate::tests::helpers::append;
 use crate::tests::longest::{longest_log, query_for_all};
 use linked_list_allocator::LocalHeap;
-use origin_log::{LogError, OriginLog, ReadError};
+use origin_log::{LogError, OriginLog};
 use refusing_allocator::Refusing;
-use rights_types::{Entry, MAX_ANSWER, OutOfMemory};
-use std::alloc::AllocGlobal;
+use rights_types::{Entry, MAX_ANSWER, OutOfMemory, Query};
+use std::alloc::{AllocGlobal, Allocator};
 use std::process::Abort;
 use std::test::Fail;
 use test_kit::{issue, longest_grant, site};
@@ -25,29 +25,38 @@ fn requests_of_log(rt: &(impl Abort + AllocGlobal)) -> u64 {
     MANY
 }
 
+// Whether the longest log answers for all its entries, with so many requests granted.
+fn answers(rt: &(impl Abort + AllocGlobal), granted: u64) -> bool {
+    let refusing = Refusing::new(rt.alloc(), granted);
+    match longest_log(rt, &refusing) {
+        Ok(log) => log.answer(&query_for_all(rt)).is_ok(),
+        Err(_) => false,
+    }
+}
+
+// The same of the line.
+fn answers_with_line(rt: &(impl Abort + AllocGlobal), granted: u64) -> bool {
+    let refusing = Refusing::new(rt.alloc(), granted);
+    match longest_log(rt, &refusing) {
+        Ok(log) => log.answer_line(&query_for_all(rt)).is_ok(),
+        Err(_) => false,
+    }
+}
+
 /// The line of an answer of 16 entries is made in one piece.
 #[test]
-fn an_answers_line_makes_one_request(rt: HostRuntime) -> Result<(), Fail> {
-    let query = query_for_all(&rt);
-    let refusing = Refusing::new(rt.alloc(), requests_of_log(&rt).saturating_add(1));
-    let log = longest_log(&rt, &refusing).expect(&rt, "memory");
-    assert!(rt; log.answer_line(&query).is_ok());
-    assert!(rt; !refusing.refused());
-    // The next request is refused, so that one was made.
-    assert_eq!(rt; log.answer_line(&query).err(), Some(ReadError::OutOfMemory));
-    Ok(())
+fn an_answers_line_makes_one_request(rt: HostRuntime) {
+    let made = requests_of_log(&rt);
+    assert!(rt; !answers_with_line(&rt, made));
+    assert!(rt; answers_with_line(&rt, made.saturating_add(1)));
 }
 
 /// An answer of 16 entries makes a request for the list, and one for each entry.
 #[test]
-fn an_answer_makes_a_request_for_each_entry(rt: HostRuntime) -> Result<(), Fail> {
-    let query = query_for_all(&rt);
-    let refusing = Refusing::new(rt.alloc(), requests_of_log(&rt).saturating_add(17));
-    let log = longest_log(&rt, &refusing).expect(&rt, "memory");
-    assert!(rt; log.answer(&query).is_ok());
-    assert!(rt; !refusing.refused());
-    assert_eq!(rt; log.answer(&query).err(), Some(ReadError::OutOfMemory));
-    Ok(())
+fn an_answer_makes_a_request_for_each_entry(rt: HostRuntime) {
+    let made = requests_of_log(&rt);
+    assert!(rt; !answers(&rt, made.saturating_add(16)));
+    assert!(rt; answers(&rt, made.saturating_add(17)));
 }
 
 /// How many bytes these entries take when each is copied.
@@ -60,17 +69,36 @@ fn bytes_of_copies(heap: &LocalHeap, entries: &[Entry<&LocalHeap>]) -> Result<us
     Ok(heap.used().saturating_sub(before))
 }
 
+// Whether an answer of 16 entries takes as many bytes as copies of them do.
+fn answer_takes_no_spare_bytes(
+    heap: &LocalHeap,
+    log: &OriginLog<&LocalHeap>,
+    query: &Query,
+) -> bool {
+    let before = heap.used();
+    let Ok(found) = log.answer(query) else {
+        return false;
+    };
+    let taken = heap.used().saturating_sub(before);
+    found.len() == MAX_ANSWER && bytes_of_copies(heap, &found) == Ok(taken)
+}
+
 /// The room of an answer is that of copies of its entries.
 #[test]
 fn an_answer_takes_no_spare_bytes(rt: HostRuntime) -> Result<(), Fail> {
     let heap = LocalHeap::new(rt.alloc(), 1 << 18)?;
     let log = longest_log(&rt, &heap).expect(&rt, "memory");
-    let kept = heap.used();
-    let found = log.answer(&query_for_all(&rt)).expect(&rt, "an answer");
-    let taken = heap.used().saturating_sub(kept);
-    assert_eq!(rt; found.len(), MAX_ANSWER);
-    assert_eq!(rt; bytes_of_copies(&heap, &found), Ok(taken));
+    assert!(rt; answer_takes_no_spare_bytes(&heap, &log, &query_for_all(&rt)));
     Ok(())
+}
+
+// Whether an answer's line takes as many bytes as it has. The heap deals in pieces of at most 32 bytes.
+fn line_takes_no_spare_bytes(heap: &LocalHeap, log: &OriginLog<&LocalHeap>, query: &Query) -> bool {
+    let before = heap.used();
+    match log.answer_line(query) {
+        Ok(line) => heap.used().saturating_sub(before) < line.len().saturating_add(32),
+        Err(_) => false,
+    }
 }
 
 /// The room of an answer's line is that of its bytes.
@@ -78,49 +106,49 @@ fn an_answer_takes_no_spare_bytes(rt: HostRuntime) -> Result<(), Fail> {
 fn an_answers_line_takes_no_spare_bytes(rt: HostRuntime) -> Result<(), Fail> {
     let heap = LocalHeap::new(rt.alloc(), 1 << 18)?;
     let log = longest_log(&rt, &heap).expect(&rt, "memory");
-    let query = query_for_all(&rt);
     let kept = heap.used();
-    let line = log.answer_line(&query).expect(&rt, "an answer");
-    // The heap deals in pieces of at most 32 bytes.
-    assert!(rt; heap.used().saturating_sub(kept) < line.len() + 32);
-    drop(line);
-    assert_eq!(rt; heap.used(), kept);
+    assert!(rt; line_takes_no_spare_bytes(&heap, &log, &query_for_all(&rt)));
+    assert!(rt; heap.used() == kept);
     Ok(())
+}
+
+// Appends 33 short entries: for the last of them the index doubles its room.
+fn append_short<A: Allocator + Copy>(
+    rt: &(impl Abort + AllocGlobal),
+    log: &mut OriginLog<A>,
+) -> Result<(), LogError> {
+    for _ in 0..33u8 {
+        append(rt, log, &[issue(1)])?;
+    }
+    Ok(())
+}
+
+// Whether 31 more of the longest entries are appended, which fill the index's room.
+fn appends_long<A: Allocator + Copy>(
+    rt: &(impl Abort + AllocGlobal),
+    log: &mut OriginLog<A>,
+) -> bool {
+    for _ in 0..31u8 {
+        if append(rt, log, &[longest_grant(); 16]).is_err() {
+            return false;
+        }
+    }
+    log.end() == 33 + 31 * 16
 }
 
 /// While the index and the last block have room, an append takes no memory, however long its line is: the draft has
 /// room for any.
 #[test]
-fn an_append_that_fits_makes_no_request(rt: HostRuntime) -> Result<(), Fail> {
-    let mut fitted = false;
+fn an_append_that_fits_makes_no_request(rt: HostRuntime) {
     for granted in 0..MANY {
         let refusing = Refusing::new(rt.alloc(), granted);
         let mut log = OriginLog::new(&refusing, site(1));
-        let mut end = Ok(0);
-        for _ in 0..33u8 {
-            end = append(&rt, &mut log, &[issue(1)]);
-            if end.is_err() {
-                break;
-            }
-        }
-        if end.is_err() {
+        if append_short(&rt, &mut log).is_err() {
             continue;
         }
-        // The index has doubled its room for the last of them.
-        for count in 1..=31u64 {
-            assert_eq!(rt;
-                append(&rt, &mut log, &[longest_grant(); 16]),
-                Ok(33 + count * 16)
-            );
-        }
-        assert!(rt; !refusing.refused());
-        assert_eq!(rt;
-            append(&rt, &mut log, &[issue(1)]),
-            Err(LogError::OutOfMemory)
-        );
-        fitted = true;
-        break;
+        assert!(rt; appends_long(&rt, &mut log) && !refusing.refused());
+        assert!(rt; append(&rt, &mut log, &[issue(1)]) == Err(LogError::OutOfMemory));
+        return;
     }
-    assert!(rt; fitted);
-    Ok(())
+    panic!(rt; "the short entries were never appended");
 }
