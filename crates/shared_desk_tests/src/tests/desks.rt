@@ -66,6 +66,12 @@ pub(crate) fn applier_at<D: DeskNames, A: Allocator + Copy, G: Gate, R: Wait + A
     }
 }
 
+/// The list, with one more.
+pub(crate) fn pushed<T: Drop, R: Abort>(rt: &R, mut list: Vec<T>, one: T) -> Vec<T> {
+    list.push(one).ok().expect(rt, "memory");
+    list
+}
+
 /// What a desk with all its parts reports.
 pub(crate) fn report_of<D: DeskNames, R: Abort>(rt: &R, parts: Parts<D>) -> Report {
     match stop(parts) {

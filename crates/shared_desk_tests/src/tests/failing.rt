@@ -19,12 +19,13 @@ fn finds_it_closed<R: Wait>(rt: &R, intake: &mut Intake, line: &[u8]) -> bool
     matches!(intake.on_line(rt, line), Err(IntakeError::LaneClosed))
 }
 
-fn meet_a_closed_lane<R: Wait + Abort>(rt: &R, mut intake: Intake)
-    requires { intake.finished ≡ false }
+// Whether each line and End find the lane closed.
+fn is_dead<R: Wait>(rt: &R, intake: &mut Intake) -> bool
+    requires { intake.old.finished ≡ false }
 {
-    assert!(rt; finds_it_closed(rt, &mut intake, b"E 2 0 1 I:1\n"));
-    assert!(rt; finds_it_closed(rt, &mut intake, b"B 2 1\n"));
-    assert!(rt; intake.finish(rt).is_err());
+    finds_it_closed(rt, intake, b"E 2 0 1 I:1\n")
+        && finds_it_closed(rt, intake, b"B 2 1\n")
+        && intake.finish(rt).is_err()
 }
 
 // What comes to an applier that is gone.
@@ -34,6 +35,11 @@ fn an_intake<D: DeskNames, R: Wait + Abort>(rt: &R, alloc: Global, desk: &Shared
     let (intake, outlet) = link(rt, alloc, 2, 3);
     drop(applier_at(rt, desk, 2, outlet, Free));
     intake
+}
+
+fn meet_a_closed_lane<D: DeskNames, R: Wait + Abort>(rt: &R, alloc: Global, desk: &SharedDesk<D>) {
+    let mut intake = an_intake(rt, alloc, desk);
+    assert!(rt; is_dead(rt, &mut intake));
 }
 
 fn a_dropped_applier<D: DeskNames, R: Wait + Abort>(
@@ -49,7 +55,7 @@ fn a_dropped_applier<D: DeskNames, R: Wait + Abort>(
     let desk = SharedDesk::<D>::new(desk, blanks);
     let mut seat = seat_at(rt, &desk);
     issue(rt, &desk, &mut seat, 5);
-    meet_a_closed_lane(rt, an_intake(rt, alloc, &desk));
+    meet_a_closed_lane(rt, alloc, &desk);
     desk.lock(rt).view()
 }
 

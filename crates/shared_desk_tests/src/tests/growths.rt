@@ -4,7 +4,9 @@ ghost use Rattle.apply_lanes.specs.Names.{id_of, AreBlank, IsUnused};
 
 use crate::tests::desks::{applier_at, new_desk, seat_at};
 use crate::tests::links::{feed, link};
-use apply_lanes::{Applier, Blanks, DeskNames, DeskView, Free, Kept, Seat, SharedDesk, StepError};
+use apply_lanes::{
+    Applier, Blanks, DeskNames, DeskView, Free, Intake, Kept, Seat, SharedDesk, StepError,
+};
 use origin_log::ReadError;
 use refusing_allocator::Refusing;
 use rights_types::{Amount, Ask, AskNumber, OutOfMemory, Query, SiteId};
@@ -236,6 +238,17 @@ fn make_all<D: DeskNames, R: Wait + Clock + Abort>(
     assert!(rt; told == [40, 1, 20] && is_final(&view));
 }
 
+// What comes from the peer, and its applier.
+fn fed_applier<D: DeskNames, R: Wait + Abort>(
+    rt: &R,
+    alloc: Global,
+    desk: &SharedDesk<D, Refused>,
+) -> (Intake, Applier<D, Free>) {
+    let (intake, outlet) = link(rt, alloc, 2, 2);
+    let intake = feed(rt, intake, "A 2 1;E 2 0 1 I:20;E 2 1 2 K:0:0\n");
+    (intake, applier_at(rt, desk, 2, outlet, Free))
+}
+
 // Each call does what it should, or changes nothing for want of memory and does it then.
 fn make_each_call<D: DeskNames, R: Wait + Clock + Abort>(
     rt: &R,
@@ -249,9 +262,7 @@ fn make_each_call<D: DeskNames, R: Wait + Clock + Abort>(
 {
     let desk = SharedDesk::<D, Refused>::new(desk, blanks);
     let mut seat = seat_at(rt, &desk);
-    let (intake, outlet) = link(rt, alloc, 2, 2);
-    let _intake = feed(rt, intake, "A 2 1;E 2 0 1 I:20;E 2 1 2 K:0:0\n");
-    let mut applier = applier_at(rt, &desk, 2, outlet, Free);
+    let (_intake, mut applier) = fed_applier(rt, alloc, &desk);
     make_all(rt, &desk, &mut seat, &mut applier);
 }
 

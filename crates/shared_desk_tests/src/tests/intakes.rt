@@ -2,7 +2,7 @@
 ghost use Rattle.std.specs.Prelude.{◌≡◌, false};
 
 use crate::tests::links::link_in;
-use apply_lanes::{Arrived, Intake, IntakeError, VerdictCounts};
+use apply_lanes::{Arrived, Intake, IntakeError, Outlet, VerdictCounts};
 use entry_codec::LineError;
 use refusing_allocator::Refusing;
 use rights_types::OutOfMemory;
@@ -84,10 +84,17 @@ fn hear_each_line<R: Wait + Abort>(rt: &R, intake: &mut Intake<Refused>)
     assert!(rt; intake.state() == State::Normal);
 }
 
+fn hear_over<R: Wait + Abort>(rt: &R, link: (Intake<Refused>, Outlet<Refused>))
+    requires { link.0.finished ≡ false }
+{
+    let (mut intake, _outlet) = link;
+    hear_each_line(rt, &mut intake);
+}
+
 fn tried<R: Wait + Abort>(rt: &R, memory: Refused) -> bool {
     match link_in(memory, 2, 2) {
-        Ok((mut intake, _outlet)) => {
-            hear_each_line(rt, &mut intake);
+        Ok(link) => {
+            hear_over(rt, link);
             true
         }
         Err(OutOfMemory) => memory.refused(),

@@ -5,7 +5,6 @@ ghost use Rattle.apply_lanes.specs.Items.{Continues, IsOpen, MayBeFirst, Precede
 
 use apply_lanes::laws::ends_taken_in;
 use apply_lanes::{Inlet, Item, LaneClosed, Outlet, Portion, Tally, lane};
-use refusing_allocator::Refusing;
 use rights_types::{Amount, Entry, Frontier, Move, SiteId};
 use std::alloc::Global;
 use std::marker::Brand;
@@ -14,6 +13,7 @@ use std::sync::ledger::{Blank, Ledger};
 use std::sync::{Mutex, Wait};
 use std::thread;
 use std::thread::Threads;
+use test_kit::requests_of;
 
 /// The ends of a new lane of so many places.
 fn lane_of<R: Abort>(rt: &R, alloc: Global, places: usize) -> (Inlet, Outlet)
@@ -191,8 +191,7 @@ fn a_thousand_entries_between_two_threads(rt: HostRuntime) {
         { take_all(&rt, outlet) },
     );
     let _outlet = ends_taken_in(inlet, outlet);
-    assert_eq!(rt; count, 1000);
-    assert!(rt; in_order);
+    assert!(rt; count == 1000 && in_order);
 }
 
 /// What is put is taken, and then End.
@@ -226,16 +225,23 @@ fn a_log_to_its_closing_entry(rt: HostRuntime) {
     let _outlet = ends_taken_in(inlet, outlet);
 }
 
+// Whether the entry comes back, and again where it is put once more.
+fn is_refused_twice<R: Wait>(rt: &R, inlet: &mut Inlet, entry: Entry) -> bool
+    requires { Continues inlet.old.put entry }
+    ensures { result ≡ true → inlet.new.put ≡ inlet.old.put }
+{
+    let Some(entry) = refused(rt, inlet, entry) else {
+        return false;
+    };
+    entry.own() == 1 && refused(rt, inlet, entry).is_some_and(|back| back.own() == 1)
+}
+
 /// Once the outlet is gone, an entry comes back, and so it is with each later call.
 #[test]
 fn no_outlet(rt: HostRuntime) {
     let (mut inlet, outlet) = lane_of(&rt, rt.alloc(), 1);
     drop(outlet);
-    let entry = first(&rt, rt.alloc());
-    let entry = refused(&rt, &mut inlet, entry).expect(&rt, "the entry");
-    assert!(rt; entry.own() == 1);
-    let entry = refused(&rt, &mut inlet, entry).expect(&rt, "the entry again");
-    assert!(rt; entry.own() == 1);
+    assert!(rt; is_refused_twice(&rt, &mut inlet, first(&rt, rt.alloc())));
     assert!(rt; inlet.end(&rt).is_err());
 }
 
@@ -252,19 +258,11 @@ fn no_inlet(rt: HostRuntime) {
 /// Each growth that a lane needs is refused in turn, until it is made.
 #[test]
 fn each_growth_of_a_lane_refused(rt: HostRuntime) {
-    let mut refused = false;
-    let mut made = false;
-    for granted in 0..100u64 {
-        let refusing = Refusing::new(rt.alloc(), granted);
-        made = lane(&refusing, 32).is_ok();
-        assert!(rt; made != refusing.refused());
-        if made {
-            break;
-        }
-        refused = true;
-    }
-    assert!(rt; refused);
-    assert!(rt; made);
+    let requests = requests_of(
+        rt.alloc(),
+        |memory| lane(memory, 32).is_ok() != memory.refused(),
+    );
+    assert!(rt; requests.is_some_and(|count| count > 0));
 }
 
 /// Adds one so many times, and answers the portion.

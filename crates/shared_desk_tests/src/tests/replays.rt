@@ -62,9 +62,9 @@ fn play_on_two<D: DeskNames, E: DeskNames, R: Wait + Clock + Abort>(
     requires other_blanks { AreBlank other_blanks }
     requires other_unused { IsUnused other_desk }
 {
+    let script = str::from_utf8(script).expect(rt, "a text");
     let mut one = opened::<D, R>(rt, alloc, desk, blanks, SiteId::known(2));
     let mut two = opened::<E, R>(rt, alloc, other_desk, other_blanks, SiteId::known(1));
-    let script = str::from_utf8(script).expect(rt, "a text");
     replay(rt, alloc, script, &mut one, &mut two);
 }
 
