@@ -108,11 +108,11 @@ fn is_log(log: &[Entry], site: SiteId, moves: &[Move]) -> bool {
     log.len() as u64 == ROUNDS
 }
 
-/// Whether a site wrote its entries of all rounds, each with these moves.
-fn has_log(world: &World, site: SiteId, moves: &[Move]) -> bool {
-    match world.log(site) {
-        Ok(log) => is_log(&log, site, moves),
-        Err(OutOfMemory) => false,
+/// Whether a site wrote its entries of all rounds, and has the rights that these leave it.
+fn has_all_rounds(alloc: Global, world: &World, site: SiteId, peer: SiteId) -> bool {
+    match (world.log(site), largest(alloc, peer)) {
+        (Ok(log), Ok(moves)) => is_log(&log, site, &moves) && has_rights(world, site, peer),
+        _ => false,
     }
 }
 
@@ -123,12 +123,9 @@ fn many_rounds(rt: HostRuntime) {
     let mut world = World::new(rt.alloc(), 2).expect(&rt, "memory");
     let events = all_rounds(rt.alloc(), one, two).expect(&rt, "memory");
     let outcomes = world.run(&events).expect(&rt, "memory");
-    assert_eq!(rt; wrong_packet(&outcomes), None);
-    for (site, peer) in [(one, two), (two, one)] {
-        let moves = largest(rt.alloc(), peer).expect(&rt, "memory");
-        assert!(rt; has_log(&world, site, &moves));
-        assert!(rt; has_rights(&world, site, peer));
-    }
+    assert!(rt; wrong_packet(&outcomes).is_none());
+    assert!(rt; has_all_rounds(rt.alloc(), &world, one, two));
+    assert!(rt; has_all_rounds(rt.alloc(), &world, two, one));
 }
 
 /// Whether the site's sums are those of all rounds.
@@ -167,6 +164,13 @@ fn has_written(world: &World, site: SiteId, moves: &[Move]) -> bool {
     }
 }
 
+/// Whether one site has given 3 of 10 rights to the other, in the first packet.
+fn has_given(world: &World, one: SiteId, two: SiteId) -> bool {
+    world.held(one) == 7
+        && world.held(two) == 3
+        && world.packet(1) == Some(b"E 1 0 2 I:10 R:2:3\n".as_slice())
+}
+
 /// A run of events answers each of them, and the log can be copied.
 #[test]
 fn a_run_of_events(rt: HostRuntime) {
@@ -176,7 +180,6 @@ fn a_run_of_events(rt: HostRuntime) {
     let events = one_round(rt.alloc(), one, two, &moves).expect(&rt, "memory");
     let outcomes = world.run(&events).expect(&rt, "memory");
     assert!(rt; is_round(&outcomes, 2, 1));
-    assert!(rt; (world.held(one), world.held(two)) == (7, 3));
-    assert!(rt; world.packet(1) == Some(b"E 1 0 2 I:10 R:2:3\n".as_slice()));
+    assert!(rt; has_given(&world, one, two));
     assert!(rt; has_written(&world, one, &moves));
 }

@@ -184,18 +184,21 @@ fn run_of<A: Allocator + Copy>(alloc: A, step: usize, granted: u64) -> Run {
         return Run::Early;
     };
     let done = happens(&mut world, next);
-    let seen = state(&world);
-    if !refusing.refused() {
-        return if done == Some(true) {
-            Run::Whole(seen)
-        } else {
-            Run::Wrong
-        };
-    }
-    if done == Some(false) && has_ended(&mut world) {
-        Run::Refused(step, seen)
-    } else {
-        Run::Wrong
+    came_to(&mut world, &refusing, step, done)
+}
+
+/// What the event of this step came to, by whether it happened.
+fn came_to<A: Allocator + Copy>(
+    world: &mut World<&Refusing<A>>,
+    refusing: &Refusing<A>,
+    step: usize,
+    done: Option<bool>,
+) -> Run {
+    let seen = state(world);
+    match done {
+        Some(true) if !refusing.refused() => Run::Whole(seen),
+        Some(false) if refusing.refused() && has_ended(world) => Run::Refused(step, seen),
+        _ => Run::Wrong,
     }
 }
 
@@ -279,10 +282,19 @@ fn run_of_all<A: Allocator + Copy>(alloc: A, granted: u64) -> Run {
         return Run::Early;
     };
     let done = done_by(&mut world, &events);
-    let seen = state(&world);
+    all_came_to(&mut world, &refusing, done)
+}
+
+/// What all events came to, by how many were done before a refusal.
+fn all_came_to<A: Allocator + Copy>(
+    world: &mut World<&Refusing<A>>,
+    refusing: &Refusing<A>,
+    done: Option<usize>,
+) -> Run {
+    let seen = state(world);
     match done {
         None if !refusing.refused() => Run::Whole(seen),
-        Some(done) if refusing.refused() && has_ended(&mut world) => Run::Refused(done, seen),
+        Some(done) if refusing.refused() && has_ended(world) => Run::Refused(done, seen),
         _ => Run::Wrong,
     }
 }
@@ -335,9 +347,13 @@ enum Copying {
 
 fn copy_of_log<A: Allocator + Copy>(alloc: A, granted: u64) -> Copying {
     let refusing = Refusing::new(alloc, granted);
-    let Some(world) = after(&refusing, 2) else {
-        return Copying::Early;
-    };
+    match after(&refusing, 2) {
+        Some(world) => copied(&world, &refusing),
+        None => Copying::Early,
+    }
+}
+
+fn copied<A: Allocator + Copy>(world: &World<&Refusing<A>>, refusing: &Refusing<A>) -> Copying {
     match world.log(one()) {
         Ok(copy) if !refusing.refused() && are_first_two(&copy) => Copying::Whole,
         Err(OutOfMemory) if refusing.refused() => Copying::Refused,

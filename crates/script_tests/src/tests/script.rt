@@ -1,8 +1,8 @@
 //! Scripts with ample memory, and with each growth refused.
-use crate::tests::{MANY, is_replied};
+use crate::tests::MANY;
 use memchr::memchr;
 use refusing_allocator::Refusing;
-use std::alloc::{AllocError, Global};
+use std::alloc::Global;
 use transfer_world::{ScriptFault, run_last_script, run_script};
 
 /// Scripts that lead through all kinds of events: rights that travel, a gap and its answer, an ask that is granted, a
@@ -150,80 +150,4 @@ fn each_growth_of_a_script_refused(rt: HostRuntime) {
         let growths = refused_growths(rt.alloc(), script, &replies);
         assert!(rt; matches!(growths, Some(count) if count > 10));
     }
-}
-
-/// A line of each byte, and some that are no text.
-fn no_text(alloc: Global) -> Result<Vec<u8>, AllocError> {
-    let mut script = Vec::new(alloc);
-    for byte in 0..=255u8 {
-        script.push(byte)?;
-    }
-    script.extend_from_slice(b"\nsites 2\npost 1 I:\xff\nsites\x002\n\xc3\x28")?;
-    Ok(script)
-}
-
-/// Bytes that are no text are refused as commands, line by line.
-#[test]
-fn bytes_that_are_no_text(rt: HostRuntime) {
-    let script = no_text(rt.alloc()).expect(&rt, "memory");
-    let expected =
-        b"error BadCommand\nerror BadCommand\nok\nerror BadCommand\nerror BadCommand\nerror BadCommand\n";
-    assert!(rt; is_replied(rt.alloc(), &script, expected));
-}
-
-/// Lines of a script, and the reply to each.
-const EDGES: [(&[u8], &[u8]); 30] = [
-    (b"report", b"error NoWorld"),
-    (b"report ", b"error BadCommand"),
-    (b"sites 17", b"error BadCommand"),
-    (b"sites 2", b"ok"),
-    (b"sites 2", b"error BadCommand"),
-    (b"post 1", b"error BadCount"),
-    (b"post 1 ", b"error BadCommand"),
-    (b"post 1 K:7:7", b"error BadMove"),
-    (b"issue 1 0", b"error BadAmount"),
-    (b"issue 1 18446744073709551615", b"error BadAmount"),
-    (b"issue 1 18446744073709551616", b"error BadCommand"),
-    (b"issue 3 1", b"error NoSuchSite"),
-    (b"issue 17 1", b"error BadCommand"),
-    (b"issue 1 10", b"number 1"),
-    (b"give 1 1 5", b"error SameSite"),
-    (b"give 1 2", b"error BadCommand"),
-    (b"spend 1 4 7", b"spent 2"),
-    (b"spend 1 4 7 ", b"error BadCommand"),
-    (b"spend 2 4 7", b"queued 1"),
-    (b"status 2 1", b"waiting"),
-    (b"expire 2 18446744073709551615", b"expired 1"),
-    (b"status 2 1", b"expired"),
-    (b"status 2 1", b"unknown"),
-    (b"query 1 1", b"error NoSuchSite"),
-    (b"requery 1 2", b"nothing"),
-    (b"noise 2 1", b"error BadCommand"),
-    (b"noise 2 1 ", b"refused 3"),
-    (b"noise 2 1 B 1 0", b"error Forged"),
-    (b"close 1 1", b"error SameSite"),
-    (b"close 2", b"number 1"),
-];
-
-fn add_line(text: &mut Vec<u8>, line: &[u8]) -> Result<(), AllocError> {
-    text.extend_from_slice(line)?;
-    text.push(b'\n')?;
-    Ok(())
-}
-
-/// The lines of the edges, or the replies to them.
-fn lines_of_edges(alloc: Global, is_reply: bool) -> Result<Vec<u8>, AllocError> {
-    let mut text = Vec::new(alloc);
-    for (line, reply) in EDGES {
-        add_line(&mut text, if is_reply { reply } else { line })?;
-    }
-    Ok(text)
-}
-
-/// Commands at the edges of their forms.
-#[test]
-fn edges_of_commands(rt: HostRuntime) {
-    let script = lines_of_edges(rt.alloc(), false).expect(&rt, "memory");
-    let expected = lines_of_edges(rt.alloc(), true).expect(&rt, "memory");
-    assert!(rt; is_replied(rt.alloc(), &script, &expected));
 }

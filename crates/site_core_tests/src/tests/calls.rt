@@ -18,7 +18,7 @@ pub(crate) type Counted<'a> = Desk<&'a Refusing<Global>>;
 /// What a call answers, as text. The text's own memory comes from the host.
 pub(crate) type Reply = Result<String, AllocError>;
 
-const NO_MEMORY: &str = "error OutOfMemory";
+pub(crate) const NO_MEMORY: &str = "error OutOfMemory";
 
 /// The desk of a site among so many, or None for want of memory.
 pub(crate) fn new_desk<'a>(

@@ -10,34 +10,42 @@ fn asks(rt: &(impl Abort + AllocGlobal), before: &str, call: &str) -> bool {
     plays(rt, 3, before) < plays(rt, 3, &whole)
 }
 
+// A fifth entry finds no room that the four before it have made.
+const ISSUED: &str =
+    "issue 1 2 > number 1\nissue 1 1 > number 2\nissue 1 1 > number 3\nissue 1 1 > number 4\n";
+
+const WAITING: &str =
+    "spend 1 5 0 > queued 1\nissue 1 2 > number 1\nissue 1 1 > number 2\nissue 1 1 > number 3\nissue 1 1 > number 4\n";
+
+const ASKED: &str = "spend 2 9 0 > queued 1\nhear 2 E 1 0 1 I:5 > taken 1\nplan 2 > asks 1\n";
+
+const DENIED: &str = "hear 1 W 2 1 1 1 > denied D 1 2 1\n";
+
+const GIVEN: &str = "issue 1 5 > number 1\ngive 1 2 3 > number 2\n";
+
+// What came before, and a call that writes an entry or a line.
+const WRITING: [(&str, &str); 15] = [
+    ("", "post 1 I:5 S:5 > number 2"),
+    ("", "issue 1 5 > number 1"),
+    (ISSUED, "give 1 2 5 > number 5"),
+    (ISSUED, "spend 1 5 0 > spent 5"),
+    (WAITING, "serve 1 > served 1 5"),
+    (ASKED, "ask 2 1 > W 2 1 1 5"),
+    (ISSUED, "publish 1 3 > E 1 0 1 I:2"),
+    ("", "beat 1 2 > B 1 0"),
+    ("", "hear 1 Q 2 1 1 1 > A 1 2"),
+    (ISSUED, "hear 1 W 2 1 1 1 > granted 1 number 5"),
+    ("", "hear 1 W 2 1 1 1 > denied D 1 2 1"),
+    (DENIED, "hear 1 W 2 1 1 1 > denied again D 1 2 1"),
+    (GIVEN, "hear 1 E 2 0 1 K:1:0:0 > taken 1 back 3"),
+    ("", "close 1 > number 1"),
+    (ISSUED, "close 1 3 > number 6"),
+];
+
 /// Each call that writes an entry or a line asks for memory, so that its refusal was met.
 #[test]
 fn calls_that_ask_for_memory(rt: HostRuntime) {
-    // A fifth entry finds no room that the four before it have made.
-    let issued =
-        "issue 1 2 > number 1\nissue 1 1 > number 2\nissue 1 1 > number 3\nissue 1 1 > number 4\n";
-    let waiting =
-        "spend 1 5 0 > queued 1\nissue 1 2 > number 1\nissue 1 1 > number 2\nissue 1 1 > number 3\nissue 1 1 > number 4\n";
-    let asked = "spend 2 9 0 > queued 1\nhear 2 E 1 0 1 I:5 > taken 1\nplan 2 > asks 1\n";
-    let denied = "hear 1 W 2 1 1 1 > denied D 1 2 1\n";
-    let given = "issue 1 5 > number 1\ngive 1 2 3 > number 2\n";
-    for (before, call) in [
-        ("", "post 1 I:5 S:5 > number 2"),
-        ("", "issue 1 5 > number 1"),
-        (issued, "give 1 2 5 > number 5"),
-        (issued, "spend 1 5 0 > spent 5"),
-        (waiting, "serve 1 > served 1 5"),
-        (asked, "ask 2 1 > W 2 1 1 5"),
-        (issued, "publish 1 3 > E 1 0 1 I:2"),
-        ("", "beat 1 2 > B 1 0"),
-        ("", "hear 1 Q 2 1 1 1 > A 1 2"),
-        (issued, "hear 1 W 2 1 1 1 > granted 1 number 5"),
-        ("", "hear 1 W 2 1 1 1 > denied D 1 2 1"),
-        (denied, "hear 1 W 2 1 1 1 > denied again D 1 2 1"),
-        (given, "hear 1 E 2 0 1 K:1:0:0 > taken 1 back 3"),
-        ("", "close 1 > number 1"),
-        (issued, "close 1 3 > number 6"),
-    ] {
+    for (before, call) in &WRITING {
         assert!(rt; asks(&rt, before, call), "{call}");
     }
 }

@@ -69,23 +69,39 @@ fn exchange(
     dice: &mut Dice,
 ) -> Result<(), AllocError> {
     let (site, peer) = pair(dice);
-    match dice.roll(4) {
-        0 => {
-            let line = sites.say(rt, &format!(in rt.alloc(); "publish {site} {peer}")?)?;
-            let _ = pass(rt, sites, dice, peer, &line)?;
-        }
-        1 => {
-            let _ = sites.catch_up(rt, site, peer)?;
-        }
-        _ => {
-            let line = sites.say(rt, &format!(in rt.alloc(); "ask {site} {peer}")?)?;
-            let reply = pass(rt, sites, dice, peer, &line)?;
-            if let Some(denial) = reply.strip_prefix("denied ") {
-                let _ = pass(rt, sites, dice, site, denial)?;
-            }
-        }
-    }
+    let _ = match dice.roll(4) {
+        0 => send(rt, sites, dice, "publish", (site, peer))?,
+        1 => sites.catch_up(rt, site, peer)?,
+        _ => ask(rt, sites, dice, (site, peer))?,
+    };
     Ok(())
+}
+
+// The peer hears the line that the site has for it, if it is not lost.
+fn send(
+    rt: &(impl Abort + AllocGlobal),
+    sites: &mut Sites,
+    dice: &mut Dice,
+    verb: &str,
+    pair: (u64, u64),
+) -> Reply {
+    let (site, peer) = pair;
+    let line = sites.say(rt, &format!(in rt.alloc(); "{verb} {site} {peer}")?)?;
+    pass(rt, sites, dice, peer, &line)
+}
+
+// The same of an ask, whose denial the site hears.
+fn ask(
+    rt: &(impl Abort + AllocGlobal),
+    sites: &mut Sites,
+    dice: &mut Dice,
+    pair: (u64, u64),
+) -> Reply {
+    let reply = send(rt, sites, dice, "ask", pair)?;
+    match reply.strip_prefix("denied ") {
+        Some(denial) => pass(rt, sites, dice, pair.0, denial),
+        None => Ok(reply),
+    }
 }
 
 // Plays a game from this seed on. After each call all rights are kept.

@@ -1,8 +1,8 @@
 //! Scripts of calls of desks.
 use crate::tests::balance::Totals;
 use crate::tests::calls::{
-    Counted, Reply, ask_line, beat_line, close, expire, give, hear, issue, new_desk, numbered,
-    plan, post, publish, serve, spend, status,
+    Counted, NO_MEMORY, Reply, ask_line, beat_line, close, expire, give, hear, issue, new_desk,
+    numbered, plan, post, publish, serve, spend, status,
 };
 use crate::tests::readers::{Told, peer_numbers, tell_peer, tell_site};
 use refusing_allocator::Refusing;
@@ -76,20 +76,33 @@ impl<'a> Sites<'a> {
         command: &str,
         expected: &str,
     ) -> Result<(), AllocError> {
-        let before = Told::new(rt.alloc(), &self.desks)?;
         let refused = self.memory.refused();
-        let mut reply = self.say(rt, command)?;
-        if reply.starts_with("error ") {
-            let after = Told::new(rt.alloc(), &self.desks)?;
-            assert!(rt; after.is(&before), "{command}");
+        let reply = self.try_saying(rt, command)?;
+        if self.memory.refused() == refused {
+            assert!(rt; reply.as_str() == expected, "{command}: {reply}");
+            return Ok(());
         }
-        if self.memory.refused() != refused {
-            assert_eq!(rt; reply.as_str(), "error OutOfMemory", "{command}");
-            assert!(rt; may_ask_for_memory(command, expected), "{command}");
-            reply = self.say(rt, command)?;
-        }
-        assert_eq!(rt; reply.as_str(), expected, "{command}");
+        assert!(rt; reply.as_str() == NO_MEMORY, "{command}: {reply}");
+        assert!(rt; may_ask_for_memory(command, expected), "{command}");
+        let reply = self.say(rt, command)?;
+        assert!(rt; reply.as_str() == expected, "{command}: {reply}");
         Ok(())
+    }
+
+    // What a command is answered. An error leaves all that the desks tell as it was.
+    fn try_saying(&mut self, rt: &(impl Abort + AllocGlobal), command: &str) -> Reply {
+        let before = Told::new(rt.alloc(), &self.desks)?;
+        let reply = self.say(rt, command)?;
+        assert!(rt;
+            !reply.starts_with("error ") || self.tell(rt.alloc(), &before)?,
+            "{command}"
+        );
+        Ok(reply)
+    }
+
+    // Whether the desks tell that.
+    fn tell(&self, alloc: Global, told: &Told) -> Result<bool, AllocError> {
+        Ok(Told::new(alloc, &self.desks)?.is(told))
     }
 
     /// The site hears the next entries of the origin's log, sixteen at most, and answers to them.
@@ -141,13 +154,21 @@ impl<'a> Sites<'a> {
             ("close", _) => numbered(alloc, "number", close(desk, peer)),
             ("hear", _) => hear(rt, alloc, desk, words),
             ("site", _) => tell_site(alloc, desk),
-            ("give", Some(peer)) => numbered(alloc, "number", give(desk, peer, second)),
-            ("ask", Some(peer)) => ask_line(alloc, desk, peer),
-            ("publish", Some(peer)) => publish(alloc, desk, peer),
-            ("beat", Some(peer)) => beat_line(alloc, desk, peer),
-            ("peer", Some(peer)) => tell_peer(alloc, desk, peer),
+            (_, Some(peer)) => say_of_peer(alloc, desk, verb, peer, second),
             _ => String::from_str(alloc, "no command"),
         }
+    }
+}
+
+// What a command that concerns a peer is answered.
+fn say_of_peer(alloc: Global, desk: &mut Counted, verb: &str, peer: SiteId, amount: u64) -> Reply {
+    match verb {
+        "give" => numbered(alloc, "number", give(desk, peer, amount)),
+        "ask" => ask_line(alloc, desk, peer),
+        "publish" => publish(alloc, desk, peer),
+        "beat" => beat_line(alloc, desk, peer),
+        "peer" => tell_peer(alloc, desk, peer),
+        _ => String::from_str(alloc, "no command"),
     }
 }
 

@@ -3,60 +3,66 @@ use crate::tests::book::calls::{applies, refusal, write};
 use crate::tests::book::told::{
     NO_TOTALS, Told, Totals, UNTOLD, held, known, new_book, told_of, totals_of,
 };
-use rights_book::BookError;
+use rights_book::{Book, BookError};
 use rights_types::{MAX_AMOUNT, MAX_MOVES, MAX_TOTAL};
+use std::alloc::Global;
 use test_kit::{give, issue, spend, take_back};
+
+// The amount of an entry of the greatest moves.
+const ALL: u64 = MAX_MOVES as u64 * MAX_AMOUNT;
+
+// Whether the book issues all of that, gives it, and takes it back, and no more than it gave.
+fn goes_round(book: &mut Book<Global>) -> bool {
+    write(book, &[issue(MAX_AMOUNT); 16])
+        && held(book) == ALL
+        && write(book, &[give(2, MAX_AMOUNT); 16])
+        && held(book) == 0
+        && !write(book, &[take_back(2, MAX_TOTAL)])
+        && write(book, &[take_back(2, ALL)])
+        && !write(book, &[take_back(2, 1)])
+}
 
 /// The greatest amounts are booked, and what was given may be taken back once.
 #[test]
 fn greatest_moves(rt: HostRuntime) {
-    let all = MAX_MOVES as u64 * MAX_AMOUNT;
     let mut book = new_book(&rt, 1, 2);
-    assert!(rt; write(&mut book, &[issue(MAX_AMOUNT); 16]));
-    assert!(rt; held(&book) == all);
-    assert!(rt; write(&mut book, &[give(2, MAX_AMOUNT); 16]));
-    assert!(rt; held(&book) == 0);
-    assert!(rt; !write(&mut book, &[take_back(2, MAX_TOTAL)]));
-    assert!(rt; write(&mut book, &[take_back(2, all)]));
+    assert!(rt; goes_round(&mut book));
     let totals = Totals {
         number: 33,
-        issued: all,
-        given: all,
-        taken_back: all,
-        held: all,
+        issued: ALL,
+        given: ALL,
+        taken_back: ALL,
+        held: ALL,
         ..NO_TOTALS
     };
     assert!(rt; totals_of(&book) == totals);
     let told = Told {
-        known: all as i128,
-        given: all,
-        back: all,
+        known: ALL as i128,
+        given: ALL,
+        back: ALL,
         ..UNTOLD
     };
     assert!(rt; told_of(&book, 2) == told);
-    assert!(rt; !write(&mut book, &[take_back(2, 1)]));
 }
 
 /// The greatest gifts of another site, in one entry, are received whole.
 #[test]
 fn greatest_gifts(rt: HostRuntime) {
-    let all = MAX_MOVES as u64 * MAX_AMOUNT;
     let mut book = new_book(&rt, 1, 2);
     assert!(rt; applies(&rt, &mut book, 2, 0, &[give(1, MAX_AMOUNT); 16]));
     let totals = Totals {
-        received: all,
-        held: all,
+        received: ALL,
+        held: ALL,
         ..NO_TOTALS
     };
     assert!(rt; totals_of(&book) == totals);
-    assert!(rt; known(&book, 1) == 16_000_000_000);
     let told = Told {
         known: -16_000_000_000,
         applied: 16,
-        received: all,
+        received: ALL,
         ..UNTOLD
     };
-    assert!(rt; told_of(&book, 2) == told);
+    assert!(rt; known(&book, 1) == 16_000_000_000 && told_of(&book, 2) == told);
 }
 
 /// A test of many moves counts past 64 bits.

@@ -1,8 +1,9 @@
 //! What `check` refuses, and in which order.
 use crate::tests::book::calls::{applies, refusal, write};
 use crate::tests::book::told::{Told, UNTOLD, held, new_book, told_of};
-use rights_book::BookError;
+use rights_book::{Book, BookError};
 use rights_types::Move;
+use std::alloc::Global;
 use test_kit::{give, issue, spend, take_back};
 
 /// Each test goes over all moves before the next one begins.
@@ -19,24 +20,33 @@ fn refuses_in_order(rt: HostRuntime) {
     assert!(rt; refusal(&book, &[]).is_none());
 }
 
+// Whether the book allows these moves.
+fn covers(book: &Book<Global>, moves: &[Move]) -> bool {
+    refusal(book, moves).is_none()
+}
+
+// Whether it lacks the rights for these moves.
+fn is_short(book: &Book<Global>, moves: &[Move]) -> bool {
+    refusal(book, moves) == Some(BookError::Short)
+}
+
+// Whether three rights do not cover four, whatever comes beside or after.
+fn all_are_short(book: &Book<Global>) -> bool {
+    is_short(book, &[spend(4)])
+        && is_short(book, &[spend(2), give(2, 2)])
+        && is_short(book, &[spend(4), issue(4)])
+}
+
 /// Rights are counted move by move.
 #[test]
 fn counts_rights_in_order(rt: HostRuntime) {
     let mut book = new_book(&rt, 1, 2);
     assert!(rt; write(&mut book, &[issue(5), give(2, 2)]));
-    let covered: [&[Move]; 4] = [
-        &[spend(3)],
-        &[spend(2), give(2, 1)],
-        &[take_back(2, 2), spend(5)],
-        &[Move::Close, spend(3)],
-    ];
-    for moves in &covered {
-        assert!(rt; refusal(&book, moves).is_none());
-    }
-    let short: [&[Move]; 3] = [&[spend(4)], &[spend(2), give(2, 2)], &[spend(4), issue(4)]];
-    for moves in &short {
-        assert!(rt; refusal(&book, moves) == Some(BookError::Short));
-    }
+    assert!(rt; covers(&book, &[spend(3)]));
+    assert!(rt; covers(&book, &[spend(2), give(2, 1)]));
+    assert!(rt; covers(&book, &[take_back(2, 2), spend(5)]));
+    assert!(rt; covers(&book, &[Move::Close, spend(3)]));
+    assert!(rt; all_are_short(&book));
     assert!(rt; held(&book) == 3);
 }
 

@@ -3,8 +3,9 @@ use crate::tests::book::calls::{applies, refusal, write};
 use crate::tests::book::told::{
     NO_TOTALS, Told, Totals, UNTOLD, held, known, new_book, told_of, totals_of,
 };
-use rights_book::BookError;
+use rights_book::{Book, BookError};
 use rights_types::TypeError;
+use std::alloc::Global;
 use test_kit::{close_at, give, grant, issue, spend, take_back};
 
 /// A site's spend may come before the gift that it used.
@@ -140,6 +141,12 @@ fn closes_with_an_heir(rt: HostRuntime) -> Result<(), TypeError> {
     Ok(())
 }
 
+// Whether site 1 may be given nothing, and what it was given may be taken back.
+fn gets_nothing(book: &Book<Global>) -> bool {
+    refusal(book, &[give(1, 1)]) == Some(BookError::PeerClosed)
+        && refusal(book, &[take_back(1, 1)]).is_none()
+}
+
 /// Nothing more is applied of a site that closed, and nothing is given to it.
 #[test]
 fn nothing_is_given_to_a_closed_site(rt: HostRuntime) -> Result<(), TypeError> {
@@ -157,8 +164,7 @@ fn nothing_is_given_to_a_closed_site(rt: HostRuntime) -> Result<(), TypeError> {
     };
     assert!(rt; told_of(&second, 1) == told);
     assert!(rt; held(&second) == 6);
-    assert!(rt; refusal(&second, &[give(1, 1)]) == Some(BookError::PeerClosed));
-    assert!(rt; refusal(&second, &[take_back(1, 1)]).is_none());
+    assert!(rt; gets_nothing(&second));
     Ok(())
 }
 

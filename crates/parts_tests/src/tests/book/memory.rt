@@ -7,7 +7,7 @@ use linked_list_allocator::LocalHeap;
 use refusing_allocator::Refusing;
 use rights_book::Book;
 use rights_types::{MAX_SITES, MIN_SITES, OutOfMemory, SiteId};
-use std::alloc::{AllocGlobal, Allocator};
+use std::alloc::{AllocError, AllocGlobal, Allocator};
 use std::test::Fail;
 use test_kit::{give, issue, site};
 
@@ -56,17 +56,28 @@ fn each_new_book(rt: HostRuntime) {
     }
 }
 
+// Whether an entry of its own and one of site 2 are booked.
+fn writes_and_applies<A: Allocator>(rt: &impl AllocGlobal, book: &mut Book<A>) -> bool {
+    write(book, &[issue(10), give(2, 4)])
+        && applies(rt, book, 2, 0, &[give(1, 1)])
+        && held(book) == 7
+        && known(book, 2) == 3
+}
+
 /// A new book asks for memory once, and nothing else does.
 #[test]
 fn asks_for_memory_once(rt: HostRuntime) -> Result<(), OutOfMemory> {
     let once = Refusing::new(rt.alloc(), 1);
     let mut book = Book::new(&once, site(1), 16)?;
-    assert!(rt; write(&mut book, &[issue(10), give(2, 4)]));
-    assert!(rt; applies(&rt, &mut book, 2, 0, &[give(1, 1)]));
-    assert!(rt; held(&book) == 7);
-    assert!(rt; known(&book, 2) == 3);
+    assert!(rt; writes_and_applies(&rt, &mut book));
     assert!(rt; !once.refused());
     Ok(())
+}
+
+// The bytes that 96 for each of so many sites take.
+fn bytes_of_sites(heap: &LocalHeap, sites: u64) -> Result<usize, AllocError> {
+    let _rows: Vec<[u64; 12], &LocalHeap> = Vec::with_capacity(heap, sites as usize)?;
+    Ok(heap.used())
 }
 
 /// A book's memory is 96 bytes for each site, and no more.
@@ -74,13 +85,9 @@ fn asks_for_memory_once(rt: HostRuntime) -> Result<(), OutOfMemory> {
 fn memory_of_its_sites(rt: HostRuntime) -> Result<(), Fail> {
     for sites in MIN_SITES..=MAX_SITES {
         let heap = LocalHeap::new(rt.alloc(), 1 << 14)?;
-        let bytes: Vec<[u64; 12], &LocalHeap> = Vec::with_capacity(&heap, sites as usize)?;
-        let wanted = heap.used();
-        assert!(rt; wanted > 0);
+        let wanted = bytes_of_sites(&heap, sites)?;
         let book = Book::new(&heap, site(1), sites)?;
-        assert!(rt; heap.used().saturating_sub(wanted) == wanted);
-        drop(bytes);
-        assert!(rt; held(&book) == 0);
+        assert!(rt; heap.used() == wanted && held(&book) == 0);
     }
     Ok(())
 }

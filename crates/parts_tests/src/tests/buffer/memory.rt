@@ -3,7 +3,7 @@ use crate::tests::buffer::steps::{Step, first_wrong};
 use linked_list_allocator::LocalHeap;
 use refusing_allocator::Refusing;
 use rights_types::{Entry, MAX_HELD, OutOfMemory, SiteId};
-use std::alloc::Allocator;
+use std::alloc::{AllocError, Allocator};
 use std::test::Fail;
 use sub_buffer::{State, SubBuffer};
 use test_kit::requests_of;
@@ -38,17 +38,19 @@ fn one_request_for_any_two_sites(rt: HostRuntime) {
     }
 }
 
+// The bytes that room for 64 entries takes.
+fn bytes_of_entries(heap: &LocalHeap) -> Result<usize, AllocError> {
+    let _entries: Vec<Entry<&LocalHeap>, &LocalHeap> = Vec::with_capacity(heap, MAX_HELD)?;
+    Ok(heap.used())
+}
+
 /// The memory is that of 64 entries, and no more.
 #[test]
 fn memory_of_64_entries(rt: HostRuntime) -> Result<(), Fail> {
     let heap = LocalHeap::new(rt.alloc(), 1 << 16)?;
-    let entries: Vec<Entry<&LocalHeap>, &LocalHeap> = Vec::with_capacity(&heap, MAX_HELD)?;
-    let wanted = heap.used();
-    assert!(rt; wanted > 0);
+    let wanted = bytes_of_entries(&heap)?;
     let buffer = SubBuffer::new(&heap, SiteId::known(2), SiteId::known(1))?;
-    assert_eq!(rt; heap.used().saturating_sub(wanted), wanted);
-    drop(entries);
-    assert_eq!(rt; buffer.held_count(), 0);
+    assert!(rt; heap.used() == wanted && buffer.held_count() == 0);
     Ok(())
 }
 

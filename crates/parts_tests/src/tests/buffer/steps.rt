@@ -53,28 +53,41 @@ fn is_right<A: Allocator + Copy>(
     buffer: &mut SubBuffer<A>,
     step: Step,
 ) -> Result<bool, OutOfMemory> {
-    let origin = SiteId::known(1);
     match step {
         Step::Offer(prev, count, word) => {
-            let entry = issues(alloc, origin, prev, count)?;
-            Ok(word_of(buffer, entry) == word)
+            offers(buffer, issues(alloc, SiteId::known(1), prev, count), word)
         }
         Step::OfferEach(first, last, word) => are_each(alloc, buffer, first, last, word),
         Step::OfferForeign(prev) => {
-            let entry = issues(alloc, SiteId::known(3), prev, 1)?;
-            Ok(word_of(buffer, entry) == "wrong origin")
+            offers(
+                buffer,
+                issues(alloc, SiteId::known(3), prev, 1),
+                "wrong origin",
+            )
         }
         Step::OfferClosing(prev, word) => {
-            let entry = entry(alloc, origin, prev, &[close()])?;
-            Ok(word_of(buffer, entry) == word)
+            offers(
+                buffer,
+                entry(alloc, SiteId::known(1), prev, &[close()]),
+                word,
+            )
         }
         Step::Arrive(prev, count, word, freed) => {
-            let entry = issues(alloc, origin, prev, count)?;
+            let entry = issues(alloc, SiteId::known(1), prev, count)?;
             arrives(alloc, buffer, entry, word, freed)
         }
         Step::Answer(prevs, count) => answers(alloc, buffer, prevs, count),
         other => Ok(is_right_alone(buffer, other)),
     }
+}
+
+// Whether the entry, if it was made, has that verdict.
+fn offers<A: Allocator>(
+    buffer: &mut SubBuffer<A>,
+    entry: Result<Entry<A>, OutOfMemory>,
+    word: &'static str,
+) -> Result<bool, OutOfMemory> {
+    Ok(word_of(buffer, entry?) == word)
 }
 
 // Of the steps with no entry.
@@ -142,21 +155,25 @@ fn arrives<A: Allocator + Copy>(
     let None = buffer.pop_ready() else {
         return Ok(false);
     };
-    let mut end = entry.own();
+    let end = entry.own();
     buffer.arrive(entry, &mut verdicts);
-    let Some((first, others)) = verdicts.split_first() else {
-        return Ok(false);
-    };
-    for verdict in others {
-        let Verdict::Ready(next) = verdict else {
-            return Ok(false);
-        };
-        if next.prev() != end {
-            return Ok(false);
+    Ok(match verdicts.split_first() {
+        Some((first, others)) => {
+            verdict_word(first) == word && others.len() == freed && are_next(others, end)
         }
-        end = next.own();
+        None => false,
+    })
+}
+
+// Whether each is an entry that is ready, the first after that number and each other after the one before it.
+fn are_next<A: Allocator>(verdicts: &[Verdict<A>], mut end: u64) -> bool {
+    for verdict in verdicts {
+        match verdict {
+            Verdict::Ready(next) if next.prev() == end => end = next.own(),
+            _ => return false,
+        }
     }
-    Ok(verdict_word(first) == word && others.len() == freed)
+    true
 }
 
 fn answers<A: Allocator + Copy>(

@@ -3,6 +3,7 @@ use linked_list_allocator::LocalHeap;
 use refusing_allocator::Refusing;
 use request_queue::{QueueError, RequestQueue, SLOTS, Status};
 use rights_types::OutOfMemory;
+use std::alloc::Allocator;
 use std::test::Fail;
 use test_kit::requests_of;
 
@@ -39,25 +40,50 @@ fn room_of_the_slots(rt: HostRuntime) -> Result<(), Fail> {
     Ok(())
 }
 
+// Whether all slots fill, by requests that expire.
+fn fills<A: Allocator>(queue: &mut RequestQueue<A>) -> bool {
+    for ticket in 1..=SLOTS as u64 {
+        if queue.put(1, ticket) != Ok(ticket) {
+            return false;
+        }
+    }
+    for ticket in 1..=SLOTS as u64 {
+        if queue.expire_one(ticket + 1) != Some(ticket) {
+            return false;
+        }
+    }
+    true
+}
+
+// Whether they empty again, as the outcomes are told.
+fn empties<A: Allocator>(queue: &mut RequestQueue<A>) -> bool {
+    for ticket in 1..=SLOTS as u64 {
+        if queue.status(ticket) != Status::Expired {
+            return false;
+        }
+    }
+    true
+}
+
+// Whether the request of that ticket is served by an entry of number 1.
+fn serves<A: Allocator>(queue: &mut RequestQueue<A>, ticket: u64) -> bool {
+    if queue.waiting() == 0 {
+        return false;
+    }
+    queue.serve_front(1);
+    queue.status(ticket) == Status::Spent(1)
+}
+
 /// After `new` no call asks for memory: all slots fill, empty and fill again with none to be had.
 #[test]
 fn no_call_after_new_takes_memory(rt: HostRuntime) -> Result<(), Fail> {
     let refusing = Refusing::new(rt.alloc(), REQUESTS);
     let mut queue = RequestQueue::new(&refusing)?;
-    for ticket in 1..=SLOTS as u64 {
-        assert!(rt; queue.put(1, ticket) == Ok(ticket));
-    }
-    for ticket in 1..=SLOTS as u64 {
-        assert!(rt; queue.expire_one(ticket + 1) == Some(ticket));
-    }
+    assert!(rt; fills(&mut queue));
     assert!(rt; queue.put(1, 0) == Err(QueueError::QueueFull));
-    for ticket in 1..=SLOTS as u64 {
-        assert!(rt; queue.status(ticket) == Status::Expired);
-    }
+    assert!(rt; empties(&mut queue));
     assert!(rt; queue.put(1, 0) == Ok(33));
-    assert!(rt; queue.waiting() > 0);
-    queue.serve_front(1);
-    assert!(rt; queue.status(33) == Status::Spent(1));
+    assert!(rt; serves(&mut queue, 33));
     assert!(rt; !refusing.refused());
     Ok(())
 }

@@ -13,6 +13,14 @@ fn moves_of_each_kind(alloc: Global, count: usize) -> Result<Vec<Move>, Fail> {
     Ok(moves)
 }
 
+// The same with a closing move in the place of the last.
+fn closing_moves(alloc: Global, count: usize) -> Result<Vec<Move>, Fail> {
+    let mut moves = moves_of_each_kind(alloc, count)?;
+    moves.pop();
+    moves.push(longest_close()?)?;
+    Ok(moves)
+}
+
 // Whether a copy is the entry again, made with one request for memory, and where that is refused it is
 // want of memory.
 fn copies_with_one_request(rt: &impl AllocGlobal, entry: &Entry) -> bool {
@@ -29,15 +37,11 @@ fn copies_with_one_request(rt: &impl AllocGlobal, entry: &Entry) -> bool {
 #[test]
 fn copies_of_every_size(rt: HostRuntime) -> Result<(), Fail> {
     for count in 1..=MAX_MOVES {
-        let mut moves = moves_of_each_kind(rt.alloc(), count)?;
-        let open = entry(rt.alloc(), 1, 7, &moves)?;
+        let open = entry(rt.alloc(), 1, 7, &moves_of_each_kind(rt.alloc(), count)?)?;
         assert!(rt; copies_with_one_request(&rt, &open), "{count} moves");
-        moves.pop();
-        moves.push(longest_close()?)?;
-        let closing = entry(rt.alloc(), 1, 7, &moves)?;
-        assert!(rt; closing.closes());
+        let closing = entry(rt.alloc(), 1, 7, &closing_moves(rt.alloc(), count)?)?;
         assert!(rt;
-            copies_with_one_request(&rt, &closing),
+            closing.closes() && copies_with_one_request(&rt, &closing),
             "{count} moves, closing"
         );
     }
