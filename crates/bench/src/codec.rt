@@ -7,8 +7,6 @@ use crate::rate::per_second;
 use entry_codec::{read_line, write_line};
 use rights_types::Message;
 use std::alloc::Global;
-use std::io;
-use std::io::ErrorKind;
 use std::rt::Clock;
 use std::time::Instant;
 
@@ -18,54 +16,48 @@ const ROUNDS: u64 = 1_000;
 
 const RUNS: u64 = 100;
 
-fn read_all(alloc: Global, lines: &[Vec<u8>]) -> io::Result<Vec<Message>> {
-    let mut messages = Vec::with_capacity(alloc, lines.len())?;
+fn read_all(alloc: Global, lines: &[Vec<u8>]) -> Option<Vec<Message>> {
+    let mut messages = Vec::with_capacity(alloc, lines.len()).ok()?;
     for line in lines {
-        match read_line(alloc, line) {
-            Ok(message) => messages.push(message)?,
-            Err(_) => return Err(io::Error::from(ErrorKind::InvalidData)),
-        }
+        messages.push(read_line(alloc, line).ok()?).ok()?;
     }
-    Ok(messages)
+    Some(messages)
 }
 
-fn write_all(alloc: Global, messages: &[Message]) -> io::Result<Vec<Vec<u8>>> {
-    let mut lines = Vec::with_capacity(alloc, messages.len())?;
+fn write_all(alloc: Global, messages: &[Message]) -> Option<Vec<Vec<u8>>> {
+    let mut lines = Vec::with_capacity(alloc, messages.len()).ok()?;
     for message in messages {
-        match write_line(alloc, message) {
-            Ok(line) => lines.push(line)?,
-            Err(_) => return Err(io::Error::from(ErrorKind::OutOfMemory)),
-        }
+        lines.push(write_line(alloc, message).ok()?).ok()?;
     }
-    Ok(lines)
+    Some(lines)
 }
 
 // The least time of the runs, in nanoseconds, and at least 1.
-fn read_time<R: Clock + AllocGlobal>(rt: &R, lines: &[Vec<u8>]) -> io::Result<u128> {
+fn read_time<R: Clock + AllocGlobal>(rt: &R, lines: &[Vec<u8>]) -> Option<u128> {
     let mut best = u128::MAX;
     for _ in 0..RUNS {
-        let start = Instant::now(rt)?;
+        let start = Instant::now(rt).ok()?;
         for _ in 0..ROUNDS {
             read_all(rt.alloc(), lines)?;
         }
-        best = best.min(start.elapsed(rt)?.as_nanos());
+        best = best.min(start.elapsed(rt).ok()?.as_nanos());
     }
-    Ok(best.max(1))
+    Some(best.max(1))
 }
 
-fn write_time<R: Clock + AllocGlobal>(rt: &R, messages: &[Message]) -> io::Result<u128> {
+fn write_time<R: Clock + AllocGlobal>(rt: &R, messages: &[Message]) -> Option<u128> {
     let mut best = u128::MAX;
     for _ in 0..RUNS {
-        let start = Instant::now(rt)?;
+        let start = Instant::now(rt).ok()?;
         for _ in 0..ROUNDS {
             write_all(rt.alloc(), messages)?;
         }
-        best = best.min(start.elapsed(rt)?.as_nanos());
+        best = best.min(start.elapsed(rt).ok()?.as_nanos());
     }
-    Ok(best.max(1))
+    Some(best.max(1))
 }
 
-fn print_rates<R: Print>(rt: &R, verb: &str, load: &Load, nanos: u128) -> io::Result<()> {
+fn print_rates<R: Print>(rt: &R, verb: &str, load: &Load, nanos: u128) -> Option<()> {
     let mut bytes: usize = 0;
     for line in &load.lines {
         bytes = bytes.saturating_add(line.len());
@@ -76,10 +68,10 @@ fn print_rates<R: Print>(rt: &R, verb: &str, load: &Load, nanos: u128) -> io::Re
     let name = load.name;
     println!(rt;
         "codec {verb} {name}: {line_rate} lines/s, {byte_rate} bytes/s ({count} lines, {bytes} bytes)"
-    )
+    ).ok()
 }
 
-fn measure<R: Clock + Print + AllocGlobal>(rt: &R, load: &Load) -> io::Result<()> {
+fn measure<R: Clock + Print + AllocGlobal>(rt: &R, load: &Load) -> Option<()> {
     let nanos = read_time(rt, &load.lines)?;
     print_rates(rt, "read", load, nanos)?;
     let messages = read_all(rt.alloc(), &load.lines)?;
@@ -88,8 +80,8 @@ fn measure<R: Clock + Print + AllocGlobal>(rt: &R, load: &Load) -> io::Result<()
 }
 
 /// Prints the rates of each load.
-pub(crate) fn measure_all<R: Clock + Print + AllocGlobal>(rt: &R) -> io::Result<()> {
-    measure(rt, &entries(rt.alloc())?)?;
-    measure(rt, &answers(rt.alloc())?)?;
-    measure(rt, &short_kinds(rt.alloc())?)
+pub(crate) fn measure_all<R: Clock + Print + AllocGlobal>(rt: &R) -> Option<()> {
+    measure(rt, &entries(rt.alloc()).ok()?)?;
+    measure(rt, &answers(rt.alloc()).ok()?)?;
+    measure(rt, &short_kinds(rt.alloc()).ok()?)
 }

@@ -11,7 +11,6 @@ use crate::rate::per_second;
 use origin_log::OriginLog;
 use rights_types::{Entry, SiteId};
 use site_core::Desk;
-use std::io;
 use std::rt::Clock;
 use std::sync::Wait;
 use std::thread::Threads;
@@ -38,14 +37,14 @@ enum Load<'a> {
 }
 
 impl Load<'_> {
-    fn prepare(&self, desk: &mut Desk) -> io::Result<()> {
+    fn prepare(&self, desk: &mut Desk) -> Option<()> {
         match self {
             Load::Closing(_) => give_all(desk, CALLS),
-            _ => Ok(()),
+            _ => Some(()),
         }
     }
 
-    fn run(&self, desk: &mut Desk) -> io::Result<()> {
+    fn run(&self, desk: &mut Desk) -> Option<()> {
         match self {
             Load::Spends => spend_all(desk, CALLS),
             Load::Gifts => give_all(desk, CALLS),
@@ -55,60 +54,60 @@ impl Load<'_> {
         }
     }
 
-    fn time_at<R: Clock>(&self, rt: &R, desk: &mut Desk) -> io::Result<u128> {
+    fn time_at<R: Clock>(&self, rt: &R, desk: &mut Desk) -> Option<u128> {
         self.prepare(desk)?;
-        let start = Instant::now(rt)?;
+        let start = Instant::now(rt).ok()?;
         self.run(desk)?;
-        Ok(start.elapsed(rt)?.as_nanos())
+        Some(start.elapsed(rt).ok()?.as_nanos())
     }
 
     // The time at a desk of its own.
-    fn time<R: Clock + AllocGlobal>(&self, rt: &R) -> io::Result<u128> {
+    fn time<R: Clock + AllocGlobal>(&self, rt: &R) -> Option<u128> {
         let mut desk = opened(rt.alloc())?;
         self.time_at(rt, &mut desk)
     }
 
-    fn best_time<R: Clock + AllocGlobal>(&self, rt: &R) -> io::Result<u128> {
+    fn best_time<R: Clock + AllocGlobal>(&self, rt: &R) -> Option<u128> {
         let mut best = u128::MAX;
         for _ in 0..RUNS {
             best = best.min(self.time(rt)?);
         }
-        Ok(best)
+        Some(best)
     }
 }
 
-fn append_time<R: Clock + AllocGlobal>(rt: &R) -> io::Result<u128> {
+fn append_time<R: Clock + AllocGlobal>(rt: &R) -> Option<u128> {
     let mut log = OriginLog::new(rt.alloc(), SiteId::known(1));
-    let start = Instant::now(rt)?;
+    let start = Instant::now(rt).ok()?;
     append_all(&mut log, CALLS)?;
-    Ok(start.elapsed(rt)?.as_nanos())
+    Some(start.elapsed(rt).ok()?.as_nanos())
 }
 
-fn best_append_time<R: Clock + AllocGlobal>(rt: &R) -> io::Result<u128> {
+fn best_append_time<R: Clock + AllocGlobal>(rt: &R) -> Option<u128> {
     let mut best = u128::MAX;
     for _ in 0..RUNS {
         best = best.min(append_time(rt)?);
     }
-    Ok(best)
+    Some(best)
 }
 
-fn print_rate<R: Print>(rt: &R, what: &str, count: u64, nanos: u128) -> io::Result<()> {
+fn print_rate<R: Print>(rt: &R, what: &str, count: u64, nanos: u128) -> Option<()> {
     let rate = per_second(count, nanos);
-    println!(rt; "desk: {rate} {what}/s")
+    println!(rt; "desk: {rate} {what}/s").ok()
 }
 
 // A site gave so many times to one that closes without having applied the last of them.
-fn measure_taking_back<R: Clock + Print + AllocGlobal>(rt: &R, beyond: u64) -> io::Result<()> {
+fn measure_taking_back<R: Clock + Print + AllocGlobal>(rt: &R, beyond: u64) -> Option<()> {
     // The site's log is an entry that issues, and then the gifts.
     let close = closing(rt.alloc(), (CALLS + 1).saturating_sub(beyond))?;
     let took = Load::Closing(close.as_slice()).time(rt)?;
     let rate = per_second(beyond, took);
     println!(rt;
         "desk: {beyond} entries beyond the frontier: {rate} entries/s taken back, {took} ns in all"
-    )
+    ).ok()
 }
 
-fn measure_applying<R: Clock + Print + AllocGlobal>(rt: &R) -> io::Result<()> {
+fn measure_applying<R: Clock + Print + AllocGlobal>(rt: &R) -> Option<()> {
     let entries = gifts(rt.alloc(), ENTRIES)?;
     let took = Load::Entries(entries.as_slice()).best_time(rt)?;
     print_rate(rt, "applied entries", ENTRIES, took)
@@ -117,7 +116,7 @@ fn measure_applying<R: Clock + Print + AllocGlobal>(rt: &R) -> io::Result<()> {
 /// Prints the rates. The log appends entries of one move, as each spend does.
 pub(crate) fn measure_all<R: Clock + Print + Threads + Wait + Sync + AllocGlobal>(
     rt: &R,
-) -> io::Result<()> {
+) -> Option<()> {
     print_rate(rt, "appends of a log alone", CALLS, best_append_time(rt)?)?;
     print_rate(rt, "spends", CALLS, Load::Spends.best_time(rt)?)?;
     print_rate(rt, "gifts", CALLS, Load::Gifts.best_time(rt)?)?;

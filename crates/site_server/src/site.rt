@@ -133,8 +133,9 @@ pub fn run_site<
     let Ok(listener) = TcpListener::bind(rt, config.listen()) else {
         return Err(SiteFault::CannotListen);
     };
+    let site = Site::new(rt.alloc(), &config, listener)?;
     let desk = Desk::new(rt.alloc(), config.id(), config.sites())?;
-    serve::<Brand, R, &mut I, &mut W>(rt, &config, listener, desk, Blanks::new(), reader, writer)
+    serve::<Brand, R, &mut I, &mut W>(rt, &config, &site, desk, Blanks::new(), reader, writer)
 }
 
 /// Starts the threads of a site, answers its commands, and ends the threads.
@@ -151,7 +152,7 @@ fn serve<
 >(
     rt: &R,
     config: &Config,
-    listener: TcpListener,
+    site: &Site,
     desk: Desk,
     blanks: Blanks,
     reader: I,
@@ -166,8 +167,7 @@ fn serve<
     let desk = Arc::new(alloc, SharedDesk::<D>::new(desk, blanks))?;
     let links = links_of(rt, alloc, config, &desk)?;
     let console = Console::new(rt, alloc, desk)?;
-    let site = Site::new(alloc, config, listener)?;
-    run_threads(rt, &site, links, console, reader, writer)
+    run_threads(rt, site, links, console, reader, writer)
 }
 
 /// Answers the commands while the threads of the site run.
@@ -190,24 +190,7 @@ fn run_threads<
     writer: W,
 ) -> Result<(), SiteFault> {
     thread::scope(thread::scope_env(), rt, |scope| {
-        let mut has_all = scope.spawn(move || keep_door(rt, site)).is_ok();
-        for link in links {
-            let Link {
-                origin,
-                receiver,
-                applier,
-            } = link;
-            let Some(peer) = site.peer(origin) else {
-                continue;
-            };
-            has_all &= begin_both(
-                scope,
-                move || receiver.receive_all(rt, peer),
-                move || applier.apply_all(rt, site),
-            );
-            has_all &= begin_sender(scope, rt, site, peer);
-        }
-        let ended = if has_all {
+        let ended = if begin_all(scope, rt, site, links) {
             console.answer_all(rt, site, reader, writer)
         } else {
             Err(SiteFault::OutOfMemory)
@@ -215,6 +198,49 @@ fn run_threads<
         site.shut_down(rt);
         ended
     })
+}
+
+/// Starts all threads but that of the commands. False where one could not be started.
+fn begin_all<
+    's,
+    E,
+    D: DeskNames + Send + Sync + 's,
+    R: Net<Listener = TcpListener, Stream = TcpStream>
+        + Threads
+        + Wait
+        + Clock
+        + AllocGlobal
+        + Sync,
+>(scope: &Scope<'s, E>, rt: &'s R, site: &'s Site, links: Vec<Link<D>>) -> bool {
+    let mut has_all = scope.spawn(move || keep_door(rt, site)).is_ok();
+    for link in links {
+        let Some(peer) = site.peer(link.origin) else {
+            continue;
+        };
+        has_all &= begin_link(scope, rt, site, peer, link);
+        has_all &= begin_sender(scope, rt, site, peer);
+    }
+    has_all
+}
+
+/// Starts the threads that read what this peer says and apply it. False where one could not be started.
+fn begin_link<'s, E, D: DeskNames + Send + Sync + 's, R: Wait + Clock + Sync>(
+    scope: &Scope<'s, E>,
+    rt: &'s R,
+    site: &'s Site,
+    peer: &'s Peer,
+    link: Link<D>,
+) -> bool {
+    let Link {
+        receiver,
+        applier,
+        ..
+    } = link;
+    begin_both(
+        scope,
+        move || receiver.receive_all(rt, peer),
+        move || applier.apply_all(rt, site),
+    )
 }
 
 /// Starts a thread for each. False where one could not be started.

@@ -2,8 +2,6 @@
 
 use rights_types::{Amount, Entry, Move, SiteId};
 use std::alloc::Global;
-use std::io;
-use std::io::ErrorKind;
 
 /// So many windows are offered in one run.
 pub(crate) const WINDOW_COUNT: u32 = 10_000;
@@ -31,29 +29,26 @@ impl Order {
 }
 
 // An entry of site 1 that issues 1.
-fn entry(alloc: Global, prev: u64) -> io::Result<Entry> {
-    let mut moves = Vec::with_capacity(alloc, 1)?;
-    moves.push(Move::Issue(Amount::known(1)))?;
-    match Entry::new(SiteId::known(1), prev, moves) {
-        Ok(entry) => Ok(entry),
-        Err(_) => Err(io::Error::from(ErrorKind::InvalidData)),
-    }
+fn entry(alloc: Global, prev: u64) -> Option<Entry> {
+    let mut moves = Vec::with_capacity(alloc, 1).ok()?;
+    moves.push(Move::Issue(Amount::known(1))).ok()?;
+    Entry::new(SiteId::known(1), prev, moves).ok()
 }
 
 /// The entries of a window as they come.
-pub(crate) fn window(alloc: Global, order: Order, number: u32) -> io::Result<Vec<Entry>> {
-    let mut entries = Vec::with_capacity(alloc, 192)?;
+pub(crate) fn window(alloc: Global, order: Order, number: u32) -> Option<Vec<Entry>> {
+    let mut entries = Vec::with_capacity(alloc, 192).ok()?;
     let first = number as u64 * 64;
     for k in 0..64u64 {
         match order {
-            Order::Forward => entries.push(entry(alloc, first + k)?)?,
-            Order::Backward => entries.push(entry(alloc, first + 63 - k)?)?,
+            Order::Forward => entries.push(entry(alloc, first + k)?).ok()?,
+            Order::Backward => entries.push(entry(alloc, first + 63 - k)?).ok()?,
             Order::Thrice => {
                 for _ in 0..3u8 {
-                    entries.push(entry(alloc, first + k)?)?;
+                    entries.push(entry(alloc, first + k)?).ok()?;
                 }
             }
         }
     }
-    Ok(entries)
+    Some(entries)
 }

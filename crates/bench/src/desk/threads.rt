@@ -1,5 +1,5 @@
 //! How fast seats spend under one lock: one alone, and some on threads of their own beside an applier.
-ghost use Rattle.std.specs.Prelude.{◌≡◌, [], false, IfOk};
+ghost use Rattle.std.specs.Prelude.{◌≡◌, [], false, IfOk, IfSome};
 ghost use Rattle.apply_lanes.specs.Names.{id_of, AreBlank, IsUnused};
 
 use crate::desk::RUNS;
@@ -8,23 +8,18 @@ use apply_lanes::{Applier, Blanks, DeskNames, Free, Intake, Outlet, Seat, Shared
 use rights_types::{MAX_AMOUNT, OutOfMemory, SiteId};
 use site_core::{Desk, Inbound, Spending};
 use std::alloc::Global;
-use std::io::ErrorKind;
 use std::marker::Brand;
 use std::rt::Clock;
 use std::sync::Wait;
+use std::thread;
 use std::thread::Threads;
 use std::time::Instant;
-use std::{io, thread};
 
 // Spends of all seats together.
 const SPENDS: u64 = 1_000_000;
 
 // Entries that come in beside them.
 const ENTRIES: u64 = 100_000;
-
-fn failed() -> io::Error {
-    io::Error::from(ErrorKind::InvalidData)
-}
 
 fn unused(alloc: Global) -> Result<Desk, OutOfMemory>
     ensures { IfOk result (λ d. IsUnused d) }
@@ -47,30 +42,24 @@ impl Feeder {
     }
 }
 
-fn link(alloc: Global) -> io::Result<(Feeder, Outlet)>
-    ensures { IfOk result (λ r. r.1.taken ≡ []) }
+fn link(alloc: Global) -> Option<(Feeder, Outlet)>
+    ensures { IfSome result (λ r. r.1.taken ≡ []) }
 {
-    let Ok(inbound) = Inbound::new(alloc, SiteId::known(1), SiteId::known(2), 2) else {
-        return Err(failed());
-    };
-    let Ok((inlet, outlet)) = lane(alloc, 32) else {
-        return Err(failed());
-    };
+    let inbound = Inbound::new(alloc, SiteId::known(1), SiteId::known(2), 2).ok()?;
+    let (inlet, outlet) = lane(alloc, 32).ok()?;
     let intake = Intake::new(inbound, inlet);
-    Ok((Feeder { intake }, outlet))
+    Some((Feeder { intake }, outlet))
 }
 
 // The lines of so many entries, each of which gives the desk a right.
-fn lines(alloc: Global) -> io::Result<Vec<String>> {
+fn lines(alloc: Global) -> Option<Vec<String>> {
     let mut lines = Vec::new(alloc);
     for number in 0..ENTRIES {
         let own = number.wrapping_add(1);
-        let Ok(line) = format!(in alloc; "E 2 {number} {own} R:1:1\n") else {
-            return Err(failed());
-        };
-        lines.push(line).map_err(|_| failed())?;
+        let line = format!(in alloc; "E 2 {number} {own} R:1:1\n").ok()?;
+        lines.push(line).ok()?;
     }
-    Ok(lines)
+    Some(lines)
 }
 
 // The nanoseconds in which the seat spends so many rights, one at a time.
@@ -117,18 +106,16 @@ fn seats<D: DeskNames, R: Wait>(
     alloc: Global,
     desk: &SharedDesk<D>,
     count: u64,
-) -> io::Result<Vec<Seat<D>>> {
+) -> Option<Vec<Seat<D>>> {
     let mut seats = Vec::new(alloc);
     for place in 0..count {
-        let Ok(mut seat) = desk.seat(rt) else {
-            return Err(failed());
-        };
+        let mut seat = desk.seat(rt).ok()?;
         if place == 0 && desk.lock(rt).issue(&mut seat, MAX_AMOUNT).is_err() {
-            return Err(failed());
+            return None;
         }
-        seats.push(seat).map_err(|_| failed())?;
+        seats.push(seat).ok()?;
     }
-    Ok(seats)
+    Some(seats)
 }
 
 // The longest of these times, if none failed.
@@ -175,11 +162,11 @@ fn applier_of<D: DeskNames, R: Wait>(
     rt: &R,
     alloc: Global,
     desk: &SharedDesk<D>,
-) -> io::Result<(Feeder, Applier<D, Free>)> {
+) -> Option<(Feeder, Applier<D, Free>)> {
     let (feeder, outlet) = link(alloc)?;
     match desk.applier(rt, SiteId::known(2), outlet, Free) {
-        Ok(applier) => Ok((feeder, applier)),
-        Err(_) => Err(failed()),
+        Ok(applier) => Some((feeder, applier)),
+        Err(_) => None,
     }
 }
 
@@ -191,7 +178,7 @@ fn game<D: DeskNames + Send + Sync, R: Threads + Wait + Clock + Sync>(
     lines: &[String],
     desk: Desk,
     blanks: Blanks,
-) -> io::Result<(u128, u128)>
+) -> Option<(u128, u128)>
     requires id { D.id ≡ id_of desk blanks }
     requires blanks { AreBlank blanks }
     requires unused { IsUnused desk }
@@ -206,10 +193,7 @@ fn game<D: DeskNames + Send + Sync, R: Threads + Wait + Clock + Sync>(
         move || spend_each(rt, shared, seats, each),
         move || feed_and_apply(rt, shared, feeder, applier, lines),
     );
-    match (spent, applied) {
-        (Some(spent), Some(applied)) => Ok((spent, applied)),
-        _ => Err(failed()),
-    }
+    Some((spent?, applied?))
 }
 
 // The nanoseconds of one seat, with no other thread at the desk.
@@ -218,22 +202,18 @@ fn alone<D: DeskNames, R: Wait + Clock>(
     alloc: Global,
     desk: Desk,
     blanks: Blanks,
-) -> io::Result<u128>
+) -> Option<u128>
     requires id { D.id ≡ id_of desk blanks }
     requires blanks { AreBlank blanks }
     requires unused { IsUnused desk }
 {
     let desk = SharedDesk::<D>::new(desk, blanks);
-    let Some(seat) = seats(rt, alloc, &desk, 1)?.pop() else {
-        return Err(failed());
-    };
-    spend_all(rt, &desk, seat, SPENDS).ok_or(failed())
+    let seat = seats(rt, alloc, &desk, 1)?.pop()?;
+    spend_all(rt, &desk, seat, SPENDS)
 }
 
-fn alone_time<R: Wait + Clock>(rt: &R, alloc: Global) -> io::Result<u128> {
-    let Ok(desk) = unused(alloc) else {
-        return Err(failed());
-    };
+fn alone_time<R: Wait + Clock>(rt: &R, alloc: Global) -> Option<u128> {
+    let desk = unused(alloc).ok()?;
     alone::<Brand, R>(rt, alloc, desk, Blanks::new())
 }
 
@@ -242,21 +222,19 @@ fn game_time<R: Threads + Wait + Clock + Sync>(
     alloc: Global,
     count: u64,
     lines: &[String],
-) -> io::Result<(u128, u128)> {
-    let Ok(desk) = unused(alloc) else {
-        return Err(failed());
-    };
+) -> Option<(u128, u128)> {
+    let desk = unused(alloc).ok()?;
     game::<Brand, R>(rt, alloc, count, lines, desk, Blanks::new())
 }
 
 // Prints the rate of one seat alone.
-fn measure_alone<R: Clock + Print + Wait>(rt: &R, alloc: Global) -> io::Result<()> {
+fn measure_alone<R: Clock + Print + Wait>(rt: &R, alloc: Global) -> Option<()> {
     let mut spends = u128::MAX;
     for _ in 0..RUNS {
         spends = spends.min(alone_time(rt, alloc)?);
     }
     let spends = per_second(SPENDS, spends);
-    println!(rt; "shared desk, a seat alone: {spends} spends/s under the lock")
+    println!(rt; "shared desk, a seat alone: {spends} spends/s under the lock").ok()
 }
 
 // Prints the rates of so many seats beside an applier.
@@ -265,7 +243,7 @@ fn measure_game<R: Clock + Print + Threads + Wait + Sync>(
     alloc: Global,
     count: u64,
     lines: &[String],
-) -> io::Result<()> {
+) -> Option<()> {
     let (mut spends, mut applied) = (u128::MAX, u128::MAX);
     for _ in 0..RUNS {
         let (spending, applying) = game_time(rt, alloc, count, lines)?;
@@ -276,18 +254,18 @@ fn measure_game<R: Clock + Print + Threads + Wait + Sync>(
     let applied = per_second(ENTRIES, applied);
     println!(rt;
         "shared desk, {count} seats: {spends} spends/s under the lock, {applied} entries/s applied beside them"
-    )
+    ).ok()
 }
 
 /// Prints the rates of one seat alone, and of 1, 2 and 4 seats beside an applier.
 pub(crate) fn measure_seats<R: Clock + Print + Threads + Wait + Sync + AllocGlobal>(
     rt: &R,
-) -> io::Result<()> {
+) -> Option<()> {
     let alloc = rt.alloc();
     measure_alone(rt, alloc)?;
     let lines = lines(alloc)?;
     for count in [1u64, 2, 4] {
         measure_game(rt, alloc, count, lines.as_slice())?;
     }
-    Ok(())
+    Some(())
 }

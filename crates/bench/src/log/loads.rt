@@ -7,8 +7,6 @@ ghost use Rattle.origin_log.specs.Logs.{is_special};
 use origin_log::OriginLog;
 use rights_types::{Amount, AskNumber, Move, Query, SiteId};
 use std::alloc::{AllocError, Global};
-use std::io;
-use std::io::ErrorKind;
 
 /// Moves of each entry.
 pub(crate) const MOVES: u64 = 4;
@@ -38,14 +36,12 @@ fn moves_of_one(alloc: Global) -> Result<Vec<Move>, AllocError>
 }
 
 /// The log of site 1 with so many entries.
-pub(crate) fn filled(alloc: Global, entries: u64) -> io::Result<OriginLog> {
+pub(crate) fn filled(alloc: Global, entries: u64) -> Option<OriginLog> {
     let mut log = OriginLog::new(alloc, SiteId::known(1));
     for _ in 0..entries {
-        if log.append(moves_of_one(alloc)?).is_err() {
-            return Err(io::Error::from(ErrorKind::OutOfMemory));
-        }
+        log.append(moves_of_one(alloc).ok()?).ok()?;
     }
-    Ok(log)
+    Some(log)
 }
 
 /// The next number of a sequence that goes all over its range.
@@ -56,10 +52,7 @@ pub(crate) fn next(number: u64) -> u64 {
 }
 
 /// Site 2 asks for a number and so many behind it.
-pub(crate) fn query(first: u64, more: u64) -> io::Result<Query> {
+pub(crate) fn query(first: u64, more: u64) -> Option<Query> {
     let last = first.saturating_add(more);
-    match Query::new(SiteId::known(2), SiteId::known(1), first, last) {
-        Ok(query) => Ok(query),
-        Err(_) => Err(io::Error::from(ErrorKind::InvalidInput)),
-    }
+    Query::new(SiteId::known(2), SiteId::known(1), first, last).ok()
 }

@@ -4,7 +4,7 @@ use crate::fault::SiteFault;
 use crate::site::Site;
 use crate::site::commands::{Command, read_command};
 use crate::site::peer::Peer;
-use apply_lanes::{DeskNames, Seat, SharedDesk};
+use apply_lanes::{DeskNames, DeskView, Kept, Seat, SharedDesk};
 use entry_codec::LineCutter;
 use itoa::Buffer;
 use line_streams::{LINE_LIMIT, write_whole};
@@ -12,7 +12,7 @@ use peer_links::{Piece, next_piece};
 use request_queue::{SLOTS, Status};
 use rights_types::OutOfMemory;
 use site_core::{DeskError, Spending};
-use site_words::status;
+use site_words::{PeerView, status};
 use std::alloc::Global;
 use std::io::{Read, Write};
 use std::sync::{Arc, Wait};
@@ -150,17 +150,9 @@ impl<D: DeskNames> Console<D> {
     ) -> Result<Ticked, DeskError> {
         let mut kept = self.desk.lock(rt);
         let kept = &mut *kept;
-        let expired = kept.expire(time)?;
-        let mut served = 0u64;
-        for _ in 0..SLOTS {
-            if kept.serve(&mut self.seat)?.is_none() {
-                break;
-            }
-            served = served.saturating_add(1);
-        }
         Ok(Ticked {
-            expired,
-            served,
+            expired: kept.expire(time)?,
+            served: serve_all(kept, &mut self.seat)?,
             asks: kept.plan(),
             sent: 0,
         })
@@ -186,17 +178,24 @@ impl<D: DeskNames> Console<D> {
 
     /// The status object, as a text.
     fn status<R: Wait>(&self, rt: &R, site: &Site) -> Result<String, OutOfMemory> {
-        let mut peers = Vec::with_capacity(self.alloc, site.peers.len())?;
-        let desk = {
-            let kept = self.desk.lock(rt);
-            let kept = &*kept;
-            for peer in &site.peers {
-                peers.push(peer.view(rt, kept.desk().applied(peer.site)))?;
-            }
-            kept.view()
-        };
+        let (desk, peers) = self.views(rt, site)?;
         let object = status(self.alloc, &desk, peers.as_slice())?;
         Ok(object.to_string(self.alloc)?)
+    }
+
+    /// What the status tells of the desk and of its peers, at one moment.
+    fn views<R: Wait>(
+        &self,
+        rt: &R,
+        site: &Site,
+    ) -> Result<(DeskView, Vec<PeerView>), OutOfMemory> {
+        let mut peers = Vec::with_capacity(self.alloc, site.peers.len())?;
+        let kept = self.desk.lock(rt);
+        let kept = &*kept;
+        for peer in &site.peers {
+            peers.push(peer.view(rt, kept.desk().applied(peer.site)))?;
+        }
+        Ok((kept.view(), peers))
     }
 
     fn answer_command<R: Wait>(
@@ -362,14 +361,36 @@ impl<D: DeskNames> Console<D> {
         mut writer: W,
     ) -> Result<(), SiteFault> {
         let mut room = vec![in self.alloc; 0; BLOCK]?;
-        let room = room.as_mut_slice();
+        self.answer_each(rt, site, &mut reader, &mut writer, room.as_mut_slice())
+    }
+
+    fn answer_each<R: Wait, I: Read, W: Write>(
+        &mut self,
+        rt: &R,
+        site: &Site,
+        reader: &mut I,
+        writer: &mut W,
+        room: &mut [u8],
+    ) -> Result<(), SiteFault> {
         for _ in rt.forever() {
-            if self.answer_next(rt, site, &mut reader, &mut writer, room)? {
+            if self.answer_next(rt, site, reader, writer, room)? {
                 break;
             }
         }
         Ok(())
     }
+}
+
+/// Serves what waits and is covered, and answers how many requests that were.
+fn serve_all<D: DeskNames>(kept: &mut Kept<D>, seat: &mut Seat<D>) -> Result<u64, DeskError> {
+    let mut served = 0u64;
+    for _ in 0..SLOTS {
+        if kept.serve(seat)?.is_none() {
+            break;
+        }
+        served = served.saturating_add(1);
+    }
+    Ok(served)
 }
 
 fn without_end(line: &[u8]) -> Option<&[u8]> {

@@ -1,5 +1,5 @@
 //! Taking in what the peers have to say.
-ghost use Rattle.std.specs.Prelude.{◌≡◌, false, []};
+ghost use Rattle.std.specs.Prelude.{◌≡◌, ◌≢◌, ◌≤◌, false, [], IfOk};
 ghost use Rattle.entry_codec.specs.Pieces.{IsLine};
 
 use crate::site::Site;
@@ -68,17 +68,27 @@ fn link_of<D: DeskNames, R: Wait>(
     if origin == config.id() || origin.number() > config.sites() {
         return Ok(None);
     }
-    let (inlet, outlet) = lane(alloc, MAX_LANE)?;
-    let inbound = Inbound::new(alloc, config.id(), origin, config.sites())?;
-    let receiver = Receiver {
-        desk: desk.clone()?,
-        intake: Intake::new(inbound, inlet),
-    };
+    let (intake, outlet) = intake_of(alloc, config, origin)?;
     Ok(Some(Link {
         origin,
-        receiver,
+        receiver: Receiver::new(desk, intake)?,
         applier: LaneEnd::new(rt, desk, origin, outlet)?,
     }))
+}
+
+/// What comes in from a peer, and the end of its lane.
+fn intake_of(
+    alloc: Global,
+    config: &Config,
+    origin: SiteId,
+) -> Result<(Intake, Outlet), OutOfMemory>
+    requires member { origin ≤ config.now.sites }
+    requires other { origin ≢ config.now.id }
+    ensures { IfOk result (λ r. (r.0.finished ≡ false) × (r.1.taken ≡ [])) }
+{
+    let (inlet, outlet) = lane(alloc, MAX_LANE)?;
+    let inbound = Inbound::new(alloc, config.id(), origin, config.sites())?;
+    Ok((Intake::new(inbound, inlet), outlet))
 }
 
 impl<D: DeskNames> LaneEnd<D> {
@@ -109,6 +119,15 @@ impl<D: DeskNames> LaneEnd<D> {
 }
 
 impl<D: DeskNames> Receiver<D> {
+    fn new(desk: &Arc<SharedDesk<D>>, intake: Intake) -> Result<Receiver<D>, OutOfMemory>
+        requires { intake.finished ≡ false }
+    {
+        Ok(Receiver {
+            desk: desk.clone()?,
+            intake,
+        })
+    }
+
     /// Reads the connections of this peer, one after another, till the mailbox is closed.
     pub(crate) fn receive_all<R: Wait>(mut self, rt: &R, peer: &Peer) {
         for _ in rt.forever() {
