@@ -7,9 +7,6 @@ use refusing_allocator::Refusing;
 use rights_types::OutOfMemory;
 use std::alloc::Allocator;
 
-/// More requests than any run here makes.
-const MANY: u64 = 100;
-
 // Whether no cutter is made where the first request for memory is refused.
 fn is_refused<A: Allocator + Copy>(alloc: A) -> bool {
     let refusing = Refusing::new(alloc, 0);
@@ -61,18 +58,9 @@ fn gives_at_once<A: Allocator + Copy>(alloc: A, granted: u64) -> Option<bool> {
 /// A line that is refused for memory still waits.
 #[test]
 fn line_refused(rt: HostRuntime) {
-    let mut was_refused = false;
-    let mut was_given = false;
-    for granted in 1..MANY {
-        let at_once = gives_at_once(rt.alloc(), granted).expect(&rt, "the line, sooner or later");
-        if at_once {
-            was_given = true;
-            break;
-        }
-        was_refused = true;
-    }
-    assert!(rt; was_refused);
-    assert!(rt; was_given);
+    // The first request is the cutter's own.
+    assert!(rt; gives_at_once(rt.alloc(), 1) == Some(false));
+    assert!(rt; gives_at_once(rt.alloc(), 2) == Some(true));
 }
 
 // Whether a cutter that took so many bytes and a line feed says that the line is too long.
@@ -122,12 +110,15 @@ fn next_length<A: Allocator + Copy>(cutter: &mut LineCutter<A>) -> Option<usize>
     }
 }
 
+// Whether the cutter takes and gives a line of 16,384 bytes.
+fn gives_the_longest<A: Allocator + Copy>(cutter: &mut LineCutter<A>) -> bool {
+    takes_each(cutter, 16383) && take(cutter, b"\n") == 1 && next_length(cutter) == Some(16384)
+}
+
 /// The heap has the bytes of the cutter's room and of one line, so no more are held at any moment.
 #[test]
 fn bytes_of_the_longest_line(rt: HostRuntime) {
     let heap = LocalHeap::new(rt.alloc(), 32768).expect(&rt, "a heap");
     let mut cutter = LineCutter::new(&heap).expect(&rt, "a cutter");
-    assert!(rt; takes_each(&mut cutter, 16383));
-    assert_eq!(rt; take(&mut cutter, b"\n"), 1);
-    assert_eq!(rt; next_length(&mut cutter), Some(16384));
+    assert!(rt; gives_the_longest(&mut cutter));
 }
