@@ -100,19 +100,23 @@ fn lacks_memory<A: Allocator + Copy>(log: &OriginLog<A>, query: &Query) -> bool 
     matches!(log.answer(query), Err(ReadError::OutOfMemory))
 }
 
+// With so many requests granted, the least that serve the appends, whether all lines are lent and the next request
+// would be refused. None where the appends lack memory.
+fn lends_without(rt: &(impl Abort + AllocGlobal), asked: &Query, granted: u64) -> Option<bool> {
+    let refusing = Refusing::new(rt.alloc(), granted);
+    let log = three_entries(rt, &refusing).ok()?;
+    Some(lends_three(&log) && !refusing.refused() && lacks_memory(&log, asked))
+}
+
 /// Lines are lent where no request for memory would be granted.
 #[test]
 fn a_line_takes_no_memory(rt: HostRuntime) {
     let asked = query(&rt, 1, 5);
     for granted in 0..MANY {
-        // With the least number that serves the appends, the next request would be refused.
-        let refusing = Refusing::new(rt.alloc(), granted);
-        let Ok(log) = three_entries(&rt, &refusing) else {
-            continue;
-        };
-        assert!(rt; lends_three(&log) && !refusing.refused());
-        assert!(rt; lacks_memory(&log, &asked));
-        return;
+        if let Some(lends) = lends_without(&rt, &asked, granted) {
+            assert!(rt; lends);
+            return;
+        }
     }
     panic!(rt; "the entries were never appended");
 }

@@ -136,19 +136,25 @@ fn appends_long<A: Allocator + Copy>(
     log.end() == 33 + 31 * 16
 }
 
+// With so many requests granted, whether long entries fill the room that short ones have made with no further
+// request, and one more makes one. None where the short ones lack memory.
+fn fits_in_room(rt: &(impl Abort + AllocGlobal), granted: u64) -> Option<bool> {
+    let refusing = Refusing::new(rt.alloc(), granted);
+    let mut log = OriginLog::new(&refusing, site(1));
+    append_short(rt, &mut log).ok()?;
+    let fits = appends_long(rt, &mut log) && !refusing.refused();
+    Some(fits && append(rt, &mut log, &[issue(1)]) == Err(LogError::OutOfMemory))
+}
+
 /// While the index and the last block have room, an append takes no memory, however long its line is: the draft has
 /// room for any.
 #[test]
 fn an_append_that_fits_makes_no_request(rt: HostRuntime) {
     for granted in 0..MANY {
-        let refusing = Refusing::new(rt.alloc(), granted);
-        let mut log = OriginLog::new(&refusing, site(1));
-        if append_short(&rt, &mut log).is_err() {
-            continue;
+        if let Some(fits) = fits_in_room(&rt, granted) {
+            assert!(rt; fits);
+            return;
         }
-        assert!(rt; appends_long(&rt, &mut log) && !refusing.refused());
-        assert!(rt; append(&rt, &mut log, &[issue(1)]) == Err(LogError::OutOfMemory));
-        return;
     }
     panic!(rt; "the short entries were never appended");
 }
