@@ -5,7 +5,7 @@ use super::pieces::{gives_line, take};
 use super::texts::{is_again, is_entry_line, repeated};
 use entry_codec::{LineCutter, read_line, write_into, write_line};
 use linked_list_allocator::LocalHeap;
-use rights_types::MAX_LINE;
+use rights_types::{MAX_LINE, Message};
 use std::alloc::{AllocError, Allocator};
 
 // The text of a move of each kind, those that close behind the others.
@@ -96,23 +96,32 @@ fn shorten<A: Allocator>(line: &mut Vec<u8, A>) -> bool {
     true
 }
 
-// Whether the line is read and written again as it was, in no more memory than it is long, to the
-// heap's next 16 bytes, and behind another line too.
-fn is_kept<A: Allocator + Copy>(alloc: A, heap: &LocalHeap, line: &[u8]) -> bool {
-    let Ok(message) = read_line(alloc, line) else {
-        return false;
-    };
-    let Ok(text) = write_line(heap, &message) else {
-        return false;
-    };
+// Whether the message is written as this line, in no more memory than it is long, to the heap's next 16 bytes.
+fn is_written_within<A: Allocator>(heap: &LocalHeap, message: &Message<A>, line: &[u8]) -> bool {
+    match write_line(heap, message) {
+        Ok(text) => heap.used() <= line.len() + 16 && text.as_slice() == line,
+        Err(_) => false,
+    }
+}
+
+// Whether it is written so behind another line.
+fn is_written_behind<A: Allocator + Copy>(alloc: A, message: &Message<A>, line: &[u8]) -> bool {
     let Ok(mut buffer) = Vec::from_slice(alloc, b"H 1\n") else {
         return false;
     };
-    heap.used() <= line.len() + 16
-        && text.as_slice() == line
-        && write_into(&mut buffer, &message).is_ok()
+    write_into(&mut buffer, message).is_ok()
         && buffer.len() == line.len() + 4
         && &buffer[4..] == line
+}
+
+// Whether the line is read, and written again as it was.
+fn is_kept<A: Allocator + Copy>(alloc: A, heap: &LocalHeap, line: &[u8]) -> bool {
+    match read_line(alloc, line) {
+        Ok(message) => {
+            is_written_within(heap, &message, line) && is_written_behind(alloc, &message, line)
+        }
+        Err(_) => false,
+    }
 }
 
 // Goes over the line and all that come of it by taking zeros off, and answers the length of the first

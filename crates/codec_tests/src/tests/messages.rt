@@ -12,36 +12,38 @@ fn line_of_an_entry(rt: HostRuntime) {
     assert!(rt; is_again(rt.alloc(), text));
 }
 
+const LEAST: [&str; 9] = [
+    "E 1 0 1 C\n",
+    "E 1 0 7 I:1 S:1 G:2:1:1 R:2:1 V:2:1 V:3:1 K:0:0\n",
+    "Q 1 2 0 0\n",
+    "A 1 2\n",
+    "A 1 2;E 1 0 1 C\n",
+    "B 1 0\n",
+    "W 1 2 1 1\n",
+    "D 1 2 1\n",
+    "H 1\n",
+];
+
 #[test]
 fn lines_of_least_values(rt: HostRuntime) {
-    let lines = [
-        "E 1 0 1 C\n",
-        "E 1 0 7 I:1 S:1 G:2:1:1 R:2:1 V:2:1 V:3:1 K:0:0\n",
-        "Q 1 2 0 0\n",
-        "A 1 2\n",
-        "A 1 2;E 1 0 1 C\n",
-        "B 1 0\n",
-        "W 1 2 1 1\n",
-        "D 1 2 1\n",
-        "H 1\n",
-    ];
-    for line in &lines {
+    for line in &LEAST {
         assert!(rt; is_again(rt.alloc(), line.as_bytes()), "{line}");
     }
 }
 
+const GREATEST: [&str; 7] = [
+    "E 16 999999999 1000000000 I:1000000000\n",
+    "E 16 999999994 1000000000 I:1000000000 S:1000000000 G:15:1000000000:1000000000 R:15:1000000000 V:15:1000000000000000000 K:1000000000:1000000000:1000000000:1000000000:1000000000:1000000000:1000000000:1000000000:1000000000:1000000000:1000000000:1000000000:1000000000:1000000000:1000000000:0\n",
+    "Q 16 15 1000000000 1000000000\n",
+    "B 16 1000000000\n",
+    "W 16 15 1000000000 1000000000\n",
+    "D 16 15 1000000000\n",
+    "H 16\n",
+];
+
 #[test]
 fn lines_of_greatest_values(rt: HostRuntime) {
-    let lines = [
-        "E 16 999999999 1000000000 I:1000000000\n",
-        "E 16 999999994 1000000000 I:1000000000 S:1000000000 G:15:1000000000:1000000000 R:15:1000000000 V:15:1000000000000000000 K:1000000000:1000000000:1000000000:1000000000:1000000000:1000000000:1000000000:1000000000:1000000000:1000000000:1000000000:1000000000:1000000000:1000000000:1000000000:0\n",
-        "Q 16 15 1000000000 1000000000\n",
-        "B 16 1000000000\n",
-        "W 16 15 1000000000 1000000000\n",
-        "D 16 15 1000000000\n",
-        "H 16\n",
-    ];
-    for line in &lines {
+    for line in &GREATEST {
         assert!(rt; is_again(rt.alloc(), line.as_bytes()), "{line}");
     }
 }
@@ -196,26 +198,21 @@ fn take_back_first(rt: HostRuntime) {
     assert!(rt; is_again(rt.alloc(), b"E 1 0 2 V:2:5 I:1\n"));
 }
 
+// Whether the field is that move.
+fn is_move(field: &[u8], m: Move) -> bool {
+    read_move(field) == Some(m)
+}
+
 #[test]
 fn moves_alone(rt: HostRuntime) {
-    let peer = SiteId::known(2);
-    let amount = Amount::known(4);
-    let ask = AskNumber::known(5);
-    assert_eq!(rt; read_move(b"I:4"), Some(Move::Issue(amount)));
-    assert_eq!(rt; read_move(b"S:4"), Some(Move::Spend(amount)));
-    assert_eq!(rt;
-        read_move(b"G:2:4:5"),
-        Some(Move::Grant { peer, amount, ask })
-    );
-    assert_eq!(rt; read_move(b"R:2:4"), Some(Move::Give { peer, amount }));
-    assert_eq!(rt; read_move(b"C"), Some(Move::Close));
-    assert_eq!(rt;
-        read_move(b"V:2:4"),
-        Some(Move::TakeBack {
-            peer,
-            amount: Total::known(4)
-        })
-    );
+    let (peer, amount, ask) = (SiteId::known(2), Amount::known(4), AskNumber::known(5));
+    assert!(rt; is_move(b"I:4", Move::Issue(amount)));
+    assert!(rt; is_move(b"S:4", Move::Spend(amount)));
+    assert!(rt; is_move(b"G:2:4:5", Move::Grant { peer, amount, ask }));
+    assert!(rt; is_move(b"R:2:4", Move::Give { peer, amount }));
+    assert!(rt; is_move(b"C", Move::Close));
+    let amount = Total::known(4);
+    assert!(rt; is_move(b"V:2:4", Move::TakeBack { peer, amount }));
 }
 
 #[test]
@@ -229,21 +226,23 @@ fn fields_that_are_moves(rt: HostRuntime) {
     }
 }
 
+const NO_MOVES: [&str; 11] = [
+    "V:2:1000000000000000001",
+    "R:2:1000000001",
+    "G:17:4:5",
+    "G:2:4",
+    "R:2:4:5",
+    "K:0",
+    "K:0:0:0:0:0:0:0:0:0:0:0:0:0:0:0:0:0",
+    "C:",
+    "I",
+    "i:4",
+    "",
+];
+
 #[test]
 fn fields_that_are_no_moves(rt: HostRuntime) {
-    for field in [
-        "V:2:1000000000000000001",
-        "R:2:1000000001",
-        "G:17:4:5",
-        "G:2:4",
-        "R:2:4:5",
-        "K:0",
-        "K:0:0:0:0:0:0:0:0:0:0:0:0:0:0:0:0:0",
-        "C:",
-        "I",
-        "i:4",
-        "",
-    ] {
+    for field in NO_MOVES {
         assert!(rt; read_move(field.as_bytes()).is_none(), "{field}");
     }
 }

@@ -177,14 +177,21 @@ fn happens<A: Allocator + Copy>(world: &mut World<A>, next: Event<A>) -> Option<
 /// A run in which the event of this step is to meet the refusal.
 fn run_of<A: Allocator + Copy>(alloc: A, step: usize, granted: u64) -> Run {
     let refusing = Refusing::new(alloc, granted);
-    let Some(mut world) = after(&refusing, step) else {
-        return Run::Early;
-    };
-    let Ok(next) = event(&refusing, step) else {
-        return Run::Early;
-    };
+    match (after(&refusing, step), event(&refusing, step)) {
+        (Some(world), Ok(next)) => run_in(world, &refusing, step, next),
+        _ => Run::Early,
+    }
+}
+
+/// The same in this world.
+fn run_in<'a, A: Allocator + Copy>(
+    mut world: World<&'a Refusing<A>>,
+    refusing: &'a Refusing<A>,
+    step: usize,
+    next: Event<&'a Refusing<A>>,
+) -> Run {
     let done = happens(&mut world, next);
-    came_to(&mut world, &refusing, step, done)
+    came_to(&mut world, refusing, step, done)
 }
 
 /// What the event of this step came to, by whether it happened.
@@ -275,14 +282,20 @@ fn done_by<A: Allocator + Copy>(world: &mut World<A>, events: &[Event<A>]) -> Op
 /// A run of all events.
 fn run_of_all<A: Allocator + Copy>(alloc: A, granted: u64) -> Run {
     let refusing = Refusing::new(alloc, granted);
-    let Ok(mut world) = World::new(&refusing, 2) else {
-        return Run::Early;
-    };
-    let Ok(events) = all_events(&refusing) else {
-        return Run::Early;
-    };
-    let done = done_by(&mut world, &events);
-    all_came_to(&mut world, &refusing, done)
+    match (World::new(&refusing, 2), all_events(&refusing)) {
+        (Ok(world), Ok(events)) => run_all_in(world, &refusing, &events),
+        _ => Run::Early,
+    }
+}
+
+/// The same in this world.
+fn run_all_in<'a, A: Allocator + Copy>(
+    mut world: World<&'a Refusing<A>>,
+    refusing: &'a Refusing<A>,
+    events: &[Event<&'a Refusing<A>>],
+) -> Run {
+    let done = done_by(&mut world, events);
+    all_came_to(&mut world, refusing, done)
 }
 
 /// What all events came to, by how many were done before a refusal.

@@ -50,6 +50,33 @@ fn calls_that_ask_for_memory(rt: HostRuntime) {
     }
 }
 
+const READING: [&str; 24] = [
+    "spend 1 9 0 > queued 1",
+    "serve 2 > nothing",
+    "serve 1 > nothing",
+    "expire 2 6 > expired 1",
+    "plan 2 > asks 0",
+    "status 2 1 > waiting",
+    "hear 2 D 1 2 1 > noted",
+    "hear 1 E 2 0 3 I:9 R:1:4 C > taken 3",
+    "hear 2 E 1 2 3 G:2:1:1 > taken 3",
+    "publish 1 2 > nothing",
+    "ask 1 2 > nothing",
+    "site 1 > number 2 issued 5 spent 0 given 3 back 0 received 0 held 2 queued 0 open",
+    "peer 2 1 > applied 2 received 3 given 0 published 0 known 2 open",
+    "post 1 > error BadCount",
+    "post 1 I:1 C > error BadMove",
+    "issue 1 0 > error BadAmount",
+    "give 1 4 1 > error NoSuchSite",
+    "give 1 1 1 > error SameSite",
+    "give 1 3 1 > error PeerClosed",
+    "give 1 2 9 > error Short",
+    "close 2 > error QueueBusy",
+    "close 1 1 > error SameSite",
+    "hear 1 Q 3 2 1 1 > error NotMine",
+    "hear 1 Q 3 1 2 1 > error BadRange",
+];
+
 /// No call asks for memory that writes neither.
 #[test]
 fn calls_that_ask_for_none(rt: HostRuntime) {
@@ -62,32 +89,7 @@ hear 2 W 1 2 1 1 > denied D 2 1 1
 publish 1 2 > E 1 0 2 I:5 R:2:3
 hear 1 E 3 0 1 C > taken 1
 ";
-    for call in [
-        "spend 1 9 0 > queued 1",
-        "serve 2 > nothing",
-        "serve 1 > nothing",
-        "expire 2 6 > expired 1",
-        "plan 2 > asks 0",
-        "status 2 1 > waiting",
-        "hear 2 D 1 2 1 > noted",
-        "hear 1 E 2 0 3 I:9 R:1:4 C > taken 3",
-        "hear 2 E 1 2 3 G:2:1:1 > taken 3",
-        "publish 1 2 > nothing",
-        "ask 1 2 > nothing",
-        "site 1 > number 2 issued 5 spent 0 given 3 back 0 received 0 held 2 queued 0 open",
-        "peer 2 1 > applied 2 received 3 given 0 published 0 known 2 open",
-        "post 1 > error BadCount",
-        "post 1 I:1 C > error BadMove",
-        "issue 1 0 > error BadAmount",
-        "give 1 4 1 > error NoSuchSite",
-        "give 1 1 1 > error SameSite",
-        "give 1 3 1 > error PeerClosed",
-        "give 1 2 9 > error Short",
-        "close 2 > error QueueBusy",
-        "close 1 1 > error SameSite",
-        "hear 1 Q 3 2 1 1 > error NotMine",
-        "hear 1 Q 3 1 2 1 > error BadRange",
-    ] {
+    for call in READING {
         assert!(rt; !asks(&rt, before, call), "{call}");
     }
 }

@@ -66,14 +66,18 @@ fn first_wrong_of_new(alloc: Global, steps: &[Step]) -> Result<Option<usize>, Ou
     Ok(first_wrong(&mut inbound, steps))
 }
 
+fn are_right(alloc: Global, steps: &[Step]) -> bool {
+    matches!(first_wrong_of_new(alloc, steps), Ok(None))
+}
+
 /// Each of these is for a fresh inbound.
 #[test]
 fn lines_of_one_origin(rt: HostRuntime) {
     let alloc = rt.alloc();
-    assert!(rt; first_wrong_of_new(alloc, &LATER_FIRST) == Ok(None));
-    assert!(rt; first_wrong_of_new(alloc, &LOST) == Ok(None));
-    assert!(rt; first_wrong_of_new(alloc, &CLOSING) == Ok(None));
-    assert!(rt; first_wrong_of_new(alloc, &LYING) == Ok(None));
+    assert!(rt; are_right(alloc, &LATER_FIRST));
+    assert!(rt; are_right(alloc, &LOST));
+    assert!(rt; are_right(alloc, &CLOSING));
+    assert!(rt; are_right(alloc, &LYING));
 }
 
 /// Messages of each kind, of the origin and of others.
