@@ -130,12 +130,20 @@ pub fn run_site<
     I: Read,
     W: Write,
 >(rt: &R, config: Config, reader: &mut I, writer: &mut W) -> Result<(), SiteFault> {
-    let Ok(listener) = TcpListener::bind(rt, config.listen()) else {
-        return Err(SiteFault::CannotListen);
-    };
-    let site = Site::new(rt.alloc(), &config, listener)?;
+    let site = open_site(rt, &config)?;
     let desk = Desk::new(rt.alloc(), config.id(), config.sites())?;
     serve::<Brand, R, &mut I, &mut W>(rt, &config, &site, desk, Blanks::new(), reader, writer)
+}
+
+/// A site that listens.
+fn open_site<R: Net<Listener = TcpListener, Stream = TcpStream> + AllocGlobal>(
+    rt: &R,
+    config: &Config,
+) -> Result<Site, SiteFault> {
+    match TcpListener::bind(rt, config.listen()) {
+        Ok(listener) => Ok(Site::new(rt.alloc(), config, listener)?),
+        Err(_) => Err(SiteFault::CannotListen),
+    }
 }
 
 /// Starts the threads of a site, answers its commands, and ends the threads.
@@ -162,12 +170,20 @@ fn serve<
     requires blanks { AreBlank blanks }
     requires unused { IsUnused desk }
 {
-    let alloc = rt.alloc();
     // Each thread owns its share of the desk: the check lends no thread a value of a type with a parameter.
-    let desk = Arc::new(alloc, SharedDesk::<D>::new(desk, blanks))?;
-    let links = links_of(rt, alloc, config, &desk)?;
-    let console = Console::new(rt, alloc, desk)?;
+    let desk = Arc::new(rt.alloc(), SharedDesk::<D>::new(desk, blanks))?;
+    let (links, console) = ends_of(rt, config, desk)?;
     run_threads(rt, site, links, console, reader, writer)
+}
+
+/// What the threads of a site do at its desk: a link for each peer, and the console.
+fn ends_of<D: DeskNames, R: Wait + AllocGlobal>(
+    rt: &R,
+    config: &Config,
+    desk: Arc<SharedDesk<D>>,
+) -> Result<(Vec<Link<D>>, Console<D>), OutOfMemory> {
+    let links = links_of(rt, rt.alloc(), config, &desk)?;
+    Ok((links, Console::new(rt, rt.alloc(), desk)?))
 }
 
 /// Answers the commands while the threads of the site run.
@@ -214,13 +230,29 @@ fn begin_all<
 >(scope: &Scope<'s, E>, rt: &'s R, site: &'s Site, links: Vec<Link<D>>) -> bool {
     let mut has_all = scope.spawn(move || keep_door(rt, site)).is_ok();
     for link in links {
-        let Some(peer) = site.peer(link.origin) else {
-            continue;
-        };
-        has_all &= begin_link(scope, rt, site, peer, link);
-        has_all &= begin_sender(scope, rt, site, peer);
+        has_all &= begin_peer(scope, rt, site, link);
     }
     has_all
+}
+
+/// Starts the threads that deal with one peer. False where one could not be started.
+fn begin_peer<
+    's,
+    E,
+    D: DeskNames + Send + Sync + 's,
+    R: Net<Listener = TcpListener, Stream = TcpStream>
+        + Threads
+        + Wait
+        + Clock
+        + AllocGlobal
+        + Sync,
+>(scope: &Scope<'s, E>, rt: &'s R, site: &'s Site, link: Link<D>) -> bool {
+    match site.peer(link.origin) {
+        Some(peer) => {
+            begin_link(scope, rt, site, peer, link) && begin_sender(scope, rt, site, peer)
+        }
+        None => true,
+    }
 }
 
 /// Starts the threads that read what this peer says and apply it. False where one could not be started.
