@@ -1,7 +1,8 @@
 //! How the program ends where its words find no memory, and the texts of faults.
 use refusing_allocator::Refusing;
-use rights_program::run_given;
+use rights_program::{run_given, run_words};
 use site_server::SiteFault;
+use site_words::{Command, read_words};
 use std::alloc::Global;
 use std::env::{Env, FillError};
 use std::io;
@@ -10,6 +11,7 @@ use std::net::{Net, TcpListener, TcpStream};
 use std::sync::Wait;
 use std::thread::Threads;
 use std::time::Clock;
+use test_kit::Slow;
 
 /// A writer that takes no byte.
 #[derive(Drop)]
@@ -72,6 +74,52 @@ fn faults_have_their_texts(rt: HostRuntime) {
 const REFUSED: &str = "rights-site: bad command line\n";
 
 const OUT_OF_MEMORY: &str = "rights-site: out of memory\n";
+
+/// Whether the program ends with this status on these words, and all of this text and of this line is written, however
+/// few bytes a write takes.
+fn writes_slowly<
+    T: Net<Listener = TcpListener, Stream = TcpStream>
+        + Threads
+        + Wait
+        + Clock
+        + AllocGlobal
+        + Sync,
+>(rt: &T, words: &[&str], status: u8, text: &[u8], line: &str) -> bool {
+    let mut writer = Slow {
+        text: Vec::new(rt.alloc()),
+        step: 7,
+    };
+    let mut errors = Slow {
+        text: Vec::new(rt.alloc()),
+        step: 7,
+    };
+    let answer = run_words(rt, words, &mut b"".as_slice(), &mut writer, &mut errors);
+    answer == status && writer.text.as_slice() == text && errors.text.as_slice() == line.as_bytes()
+}
+
+/// The same of words that ask for help, with its text.
+fn writes_help<
+    T: Net<Listener = TcpListener, Stream = TcpStream>
+        + Threads
+        + Wait
+        + Clock
+        + AllocGlobal
+        + Sync,
+>(rt: &T, words: &[&str]) -> bool {
+    match read_words(rt.alloc(), words) {
+        Ok(Command::Help(text)) => writes_slowly(rt, words, 0, text.as_bytes(), ""),
+        _ => false,
+    }
+}
+
+/// So it is with help texts and with the line of a fault.
+#[test]
+fn slow_writers_get_all(rt: HostRuntime) {
+    assert!(rt; writes_help(&rt, &["--help"]));
+    assert!(rt; writes_help(&rt, &["sim", "--help"]));
+    assert!(rt; writes_help(&rt, &["run", "--id", "1", "-h"]));
+    assert!(rt; writes_slowly(&rt, &["walk"], 2, b"", REFUSED));
+}
 
 /// What came of the words of a process, with some requests for memory granted and the next one refused.
 enum Ending {
