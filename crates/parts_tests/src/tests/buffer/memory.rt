@@ -50,7 +50,7 @@ fn memory_of_64_entries(rt: HostRuntime) -> Result<(), Fail> {
     let heap = LocalHeap::new(rt.alloc(), 1 << 16)?;
     let wanted = bytes_of_entries(&heap)?;
     let buffer = SubBuffer::new(&heap, SiteId::known(2), SiteId::known(1))?;
-    assert!(rt; heap.used() == wanted && buffer.held_count() == 0);
+    assert!(rt; wanted > 0 && heap.used() == wanted && buffer.held_count() == 0);
     Ok(())
 }
 
