@@ -11,16 +11,16 @@ use Rattle.rights_book.specs.Books.{BookValue, peer}
 use Rattle.site_core.specs.Ledgers.{owed_by, TakesBackIf}
 use Rattle.site_core.specs.Desks.{DeskValue}
 use Rattle.site_core.specs.Calls.{DeskApplies}
-use Rattle.apply_lanes.specs.declared.item.Item.{Item}
-use Rattle.apply_lanes.specs.declared.item.Item.TheVariants.{Entry, End}
-use Rattle.apply_lanes.specs.Ends.{OutletValue}
-use Rattle.apply_lanes.specs.Items.{items_of, end_if, IsItemChain}
+use Rattle.thread_parts.specs.declared.item.Item.{Item}
+use Rattle.thread_parts.specs.declared.item.Item.TheVariants.{Entry, End}
+use Rattle.thread_parts.specs.Ends.{OutletValue}
+use Rattle.thread_parts.specs.Items.{items_of, end_if, IsItemChain}
 use Rattle.apply_lanes.specs.Names.{DeskId}
 use Rattle.apply_lanes.specs.Kepts.{KeptValue, IsKept}
 use Rattle.apply_lanes.specs.Appliers.{ApplierValue, IsCounted, new_applier, in_hand, MovesOn, HasNext, Steps}
 use Rattle.apply_lanes.specs.Admissions.{site_fault}
 use Rattle.apply_lanes.specs.declared.kept.AdmitFault.TheVariants.{NoSuchSite, SameSite}
-use Rattle.apply_lanes.proofs.Items.{items_of-push, same_entries, empty_chain}
+use Rattle.thread_parts.proofs.Items.{items_of-push, same_entries, empty_chain}
 use Rattle.apply_lanes.proofs.KeptLaws.{tallied_taking}
 
 none_some : (e : EntryValue) → None ≡ Some e → ⊥

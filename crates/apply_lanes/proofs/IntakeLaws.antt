@@ -19,11 +19,11 @@ use Rattle.sub_buffer.specs.declared.arrivals.TheConstants.{MAX_VERDICTS}
 use Rattle.site_core.specs.Inbounds.{InboundValue, ready_in, BringsEntries, Arrives, EntriesCome}
 use Rattle.site_core.specs.declared.inbound.Arrival.{Arrival}
 use Rattle.site_core.specs.declared.inbound.Arrival.TheVariants.{Entries, Beat, Query, Ask, Deny, Hello}
-use Rattle.apply_lanes.specs.declared.item.Item.{Item}
-use Rattle.apply_lanes.specs.declared.item.Item.TheVariants.{Entry, End}
-use Rattle.apply_lanes.specs.Ends.{InletValue}
-use Rattle.apply_lanes.specs.Items.{items_of, end_if, IsOpen, Continues}
-use Rattle.apply_lanes.proofs.Items.{open_push}
+use Rattle.thread_parts.specs.declared.item.Item.{Item}
+use Rattle.thread_parts.specs.declared.item.Item.TheVariants.{Entry, End}
+use Rattle.thread_parts.specs.Ends.{InletValue}
+use Rattle.thread_parts.specs.Items.{items_of, end_if, IsOpen, Continues}
+use Rattle.thread_parts.proofs.Items.{open_push}
 use Rattle.apply_lanes.specs.declared.intake.VerdictCounts.{VerdictCounts}
 use Rattle.apply_lanes.specs.Intakes.{IntakeValue, IsInStep, IsIntake, Brings, FindsClosed, LineLeaves, verdicts_of, arrived_of, ready_of, sent, CanPut, PutsAll, PutsFront, is_ready, is_held, is_repeat, is_after_close, is_full, counts_of, with_verdict, all_counts}
 use Rattle.apply_lanes.specs.declared.intake.Arrived.{Arrived}

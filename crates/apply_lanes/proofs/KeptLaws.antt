@@ -25,7 +25,7 @@ use Rattle.transfer_manager.specs.declared.answer.AskAnswer.TheVariants.{Grant a
 use Rattle.site_core.specs.Calls.{DeskAnswers}
 use Rattle.site_core.specs.Ledgers.{LedgerValue, owed_by, frontier_of, TakesBack, TakesBackIf, AppliesEntry, closing_by}
 use Rattle.site_core.specs.Desks.{DeskValue}
-use Rattle.apply_lanes.specs.Tallies.{TallyValue}
+use Rattle.thread_parts.specs.Tallies.{TallyValue}
 use Rattle.apply_lanes.specs.Names.{DeskId, IsUnused}
 use Rattle.apply_lanes.specs.Kepts.{KeptValue, IsKept, IsTallied, IsPortioned, admitted_count, raised}
 

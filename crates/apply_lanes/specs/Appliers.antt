@@ -9,12 +9,12 @@ use Rattle.site_core.specs.Ledgers.{owed_by, with_takings}
 use Rattle.site_core.specs.Desks.{DeskValue}
 use Rattle.site_core.specs.Faults.{has_closed}
 use Rattle.site_core.specs.Calls.{DeskApplies}
-use Rattle.apply_lanes.specs.declared.item.Item.{Item}
-use Rattle.apply_lanes.specs.declared.item.Item.TheVariants.{Entry, End}
+use Rattle.thread_parts.specs.declared.item.Item.{Item}
+use Rattle.thread_parts.specs.declared.item.Item.TheVariants.{Entry, End}
 use Rattle.apply_lanes.specs.declared.applier.StepError.{StepError}
 use Rattle.apply_lanes.specs.declared.applier.StepError.TheVariants.{LaneClosed, OutOfStep, OutOfMemory}
-use Rattle.apply_lanes.specs.Ends.{OutletValue}
-use Rattle.apply_lanes.specs.Items.{items_of, end_if, IsItemChain}
+use Rattle.thread_parts.specs.Ends.{OutletValue}
+use Rattle.thread_parts.specs.Items.{items_of, end_if, IsItemChain}
 use Rattle.apply_lanes.specs.Kepts.{KeptValue, raised}
 use Rattle.apply_lanes.specs.Names.{DeskId}
 

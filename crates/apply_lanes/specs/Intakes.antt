@@ -11,15 +11,15 @@ use Rattle.site_core.specs.Inbounds.{InboundValue, line_fault, InboundRefuses, r
 use Rattle.site_core.specs.declared.fault.InboundError.{InboundError}
 use Rattle.site_core.specs.declared.inbound.Arrival.{Arrival}
 use Rattle.site_core.specs.declared.inbound.Arrival.TheVariants.{Entries as ComesEntries, Beat as ComesBeat, Query as ComesQuery, Ask as ComesAsk, Deny as ComesDeny, Hello as ComesHello}
-use Rattle.apply_lanes.specs.declared.item.Item.{Item}
-use Rattle.apply_lanes.specs.declared.item.Item.TheVariants.{End}
+use Rattle.thread_parts.specs.declared.item.Item.{Item}
+use Rattle.thread_parts.specs.declared.item.Item.TheVariants.{End}
 use Rattle.apply_lanes.specs.declared.intake.VerdictCounts.{VerdictCounts}
 use Rattle.apply_lanes.specs.declared.intake.Arrived.{Arrived}
 use Rattle.apply_lanes.specs.declared.intake.Arrived.TheVariants.{Entries, Beat, Query, Ask, Deny, Hello}
 use Rattle.apply_lanes.specs.declared.intake.IntakeError.{IntakeError}
 use Rattle.apply_lanes.specs.declared.intake.IntakeError.TheVariants.{Inbound, LaneClosed}
-use Rattle.apply_lanes.specs.Ends.{InletValue}
-use Rattle.apply_lanes.specs.Items.{items_of, end_if, IsOpen, IsEnded, StartsWith}
+use Rattle.thread_parts.specs.Ends.{InletValue}
+use Rattle.thread_parts.specs.Items.{items_of, end_if, IsOpen, IsEnded, StartsWith}
 
 -- ---- the verdicts of a line
 

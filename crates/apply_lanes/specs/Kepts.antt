@@ -11,7 +11,7 @@ use Rattle.site_core.specs.declared.desk.requests.Spending.{Spending}
 use Rattle.site_core.specs.declared.desk.requests.Spending.TheVariants.{Spent, Queued}
 use Rattle.apply_lanes.specs.declared.names.TheConstants.{SEATS, APPLIERS}
 use Rattle.apply_lanes.specs.Names.{DeskId}
-use Rattle.apply_lanes.specs.Tallies.{TallyValue}
+use Rattle.thread_parts.specs.Tallies.{TallyValue}
 
 -- the desk, its four tallies, and which sites have an applier of their logs
 pub record KeptValue : Type 0 where

@@ -1,7 +1,3 @@
-pub mod Items
-pub mod Rule
-pub mod Ends
-pub mod Tallies
 pub mod Names
 pub mod Kepts
 pub mod Views

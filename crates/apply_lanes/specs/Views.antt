@@ -6,7 +6,7 @@ use Rattle.rights_book.specs.Books.{received_by, held_by}
 use Rattle.request_queue.specs.Queues.{total_of}
 use Rattle.site_core.specs.Desks.{DeskValue}
 use Rattle.site_core.specs.Faults.{has_closed}
-use Rattle.apply_lanes.specs.declared.view.DeskView.{DeskView}
+use Rattle.thread_parts.specs.declared.view.DeskView.{DeskView}
 
 -- the values of the desk's readers
 pub record IsViewOf (d : DeskValue) (v : DeskView) : Type 0 where

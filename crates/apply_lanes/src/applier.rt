@@ -5,18 +5,16 @@ ghost use Rattle.rights_protocol.specs.Retiring.{numbers_in};
 ghost use Rattle.apply_lanes.specs.Appliers.{IsApplier, new_applier};
 ghost use Rattle.apply_lanes.specs.declared.applier.StepError.TheVariants.{OutOfMemory as NoMemory};
 
-use crate::ends::Outlet;
 use crate::gate::Gate;
-use crate::item::Item;
 use crate::kept::Kept;
 use crate::names::{DeskNames, NumberOf, ReceivedBy};
 use crate::shared_desk::SharedDesk;
-use crate::tally::Portion;
 use rights_types::{Entry, SiteId};
 use std::alloc::{Allocator, Global};
 use std::marker::Model;
 use std::sync::Wait;
 use std::time::Clock;
+use thread_parts::{Item, Outlet, Portion};
 
 /// Why a step of an applier failed, in the order in which the causes are looked for.
 #[derive(Clone, Copy, Debug, PartialEq, Eq)]

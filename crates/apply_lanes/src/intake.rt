@@ -11,18 +11,18 @@ ghost use Rattle.sub_buffer.specs.Gaps.{GapOf, GapIs, StateOf};
 ghost use Rattle.sub_buffer.specs.Follows.{HasPut, Follows};
 ghost use Rattle.site_core.specs.Calls.{LineOf};
 ghost use Rattle.site_core.specs.Inbounds.{QueryOf, ready_in};
-ghost use Rattle.apply_lanes.specs.Items.{IsOpen, IsEnded};
+ghost use Rattle.thread_parts.specs.Items.{IsOpen, IsEnded};
 ghost use Rattle.apply_lanes.specs.Intakes.{counts_of, with_verdict, all_counts, verdicts_of, ready_of, arrived_of, CanPut, PutsAll, PutsFront, with_end};
 ghost use Rattle.apply_lanes.specs.declared.intake.IntakeError.TheVariants.{LaneClosed as ClosedLane};
 ghost use Rattle.apply_lanes.specs.declared.intake.Arrived.TheVariants.{Entries as EntriesCame};
 
-use crate::ends::{Inlet, LaneClosed};
 use rights_types::{Ask, Deny, Entry, OutOfMemory, Query};
 use site_core::{Arrival, Inbound, InboundError};
 use std::alloc::{Allocator, Global};
 use std::marker::Model;
 use std::sync::Wait;
 use sub_buffer::{MAX_VERDICTS, State, Verdict};
+use thread_parts::{Inlet, LaneClosed};
 
 /// How many verdicts of each kind the entries of one line got.
 #[derive(Clone, Copy, Debug, PartialEq, Eq)]

@@ -13,12 +13,11 @@ ghost use Rattle.apply_lanes.specs.Admissions.{Admits};
 
 use crate::names::{APPLIERS, Blanks, DeskNames, IssuedBy, NumberOf, ReceivedBy, SEATS, SpentBy};
 use crate::seat::Seat;
-use crate::tally::{Portion, Tally};
-use crate::view::DeskView;
 use rights_types::{Entry, OutOfMemory, SiteId};
 use site_core::Desk;
 use std::alloc::{Allocator, Global};
 use std::marker::Model;
+use thread_parts::{DeskView, Portion, Tally};
 
 mod lines;
 mod requests;

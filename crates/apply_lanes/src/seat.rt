@@ -1,8 +1,8 @@
 //! A seat at a shared desk.
 
 use crate::names::{DeskNames, IssuedBy, SpentBy};
-use crate::tally::Portion;
 use std::marker::Model;
+use thread_parts::Portion;
 
 /// One caller's place at a shared desk: what it issued and spent there is counted, and all seats together
 /// make the desk's sums.

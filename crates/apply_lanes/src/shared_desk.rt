@@ -6,7 +6,6 @@ ghost use Rattle.apply_lanes.specs.Appliers.{new_applier};
 ghost use Rattle.apply_lanes.specs.Admissions.{site_fault, Refuses};
 
 use crate::applier::Applier;
-use crate::ends::Outlet;
 use crate::gate::Gate;
 use crate::kept::{AdmitFault, Kept};
 use crate::names::{Blanks, DeskNames};
@@ -15,6 +14,7 @@ use rights_types::SiteId;
 use site_core::Desk;
 use std::alloc::{Allocator, Global};
 use std::sync::{Mutex, MutexGuard, Wait};
+use thread_parts::Outlet;
 
 /// A desk that threads share, each with a seat or an applier of its own.
 #[derive(Drop)]

@@ -1,7 +1,7 @@
 //! The end of a shared desk.
 ghost use Rattle.std.specs.Prelude.{◌≡◌, ◌+◌, ◌<◌, ◌≤◌, ◌^◌, IfOk, IfErr, length};
 ghost use Rattle.apply_lanes.specs.Stops.{all_issued, all_spent, all_served, all_numbers, all_received, Reports, parts_of};
-ghost use Rattle.apply_lanes.specs.Tallies.{TallyValue};
+ghost use Rattle.thread_parts.specs.Tallies.{TallyValue};
 ghost use Rattle.apply_lanes.specs.declared.names.TheConstants.{SEATS, APPLIERS};
 
 use crate::applier::Applied;
@@ -9,10 +9,10 @@ use crate::kept::Kept;
 use crate::names::{APPLIERS, DeskNames, IssuedBy, NumberOf, ReceivedBy, SEATS, SpentBy};
 use crate::seat::Seat;
 use crate::shared_desk::SharedDesk;
-use crate::tally::Tally;
 use site_core::Desk;
 use std::alloc::{Allocator, Global};
 use std::sync::Mutex;
+use thread_parts::Tally;
 
 /// A shared desk, with all that was given out of it.
 #[derive(Drop)]

@@ -2,10 +2,10 @@
 use Rattle.std.specs.Prelude.{ℕ, List, Bool, map, codes}
 use Rattle.serde_json.specs.Data.{Data, Members, array, boolean, member, no_members, number, object, unsigned}
 use Rattle.serde_json.specs.View.{items_of}
-use Rattle.apply_lanes.specs.declared.view.DeskView.{DeskView}
+use Rattle.thread_parts.specs.declared.view.DeskView.{DeskView}
 use Rattle.site_words.specs.declared.status_object.PeerView.{PeerView}
 
-abbrev whole : ℕ → Data
+abbrev pub whole : ℕ → Data
 whole n = number (unsigned n)
 
 abbrev pub peer_data : PeerView → Data
@@ -14,6 +14,15 @@ peer_data peer = object
     (member (codes "buffering") (boolean peer.buffering)
     (member (codes "held") (whole peer.held)
     (member (codes "site") (whole peer.site)
+    no_members))))
+
+abbrev pub rights_data : DeskView → Members
+rights_data desk =
+    member (codes "held") (whole desk.held)
+    (member (codes "issued") (whole desk.issued)
+    (member (codes "queued") (whole desk.queued)
+    (member (codes "received") (whole desk.received)
+    (member (codes "spent") (whole desk.spent)
     no_members))))
 
 abbrev pub status_data : DeskView → List PeerView → Data

@@ -1,13 +1,13 @@
 //! The status of a site as an object of JSON.
-ghost use Rattle.std.specs.Prelude.{◌≡◌, IfOk, map};
-ghost use Rattle.serde_json.specs.Data.{array};
-ghost use Rattle.serde_json.specs.View.{items_of, view};
-ghost use Rattle.site_words.specs.Status.{peer_data, status_data};
+ghost use Rattle.std.specs.Prelude.{◌≡◌, IfOk, OnOk, map};
+ghost use Rattle.serde_json.specs.Data.{array, put as with_member};
+ghost use Rattle.serde_json.specs.View.{items_of, members_view, view};
+ghost use Rattle.site_words.specs.Status.{peer_data, rights_data, status_data, whole};
 
-use apply_lanes::DeskView;
 use rights_types::{OutOfMemory, SiteId};
-use serde_json::{Value, json};
+use serde_json::{Map, Value, json, put};
 use std::alloc::Global;
+use thread_parts::DeskView;
 
 /// What a site knows of one peer.
 #[derive(Clone, Copy, Debug, PartialEq, Eq)]
@@ -44,19 +44,39 @@ fn peer_list(alloc: Global, peers: &[PeerView]) -> Result<Value, OutOfMemory>
     Ok(Value::Array(list))
 }
 
-/// The status of a site, with its peers in the order given. Its text has the keys in this order.
+/// Adds a number to an object.
+fn put_number(
+    members: &mut Map<String, Value>,
+    alloc: Global,
+    key: &str,
+    number: u64,
+) -> Result<(), OutOfMemory>
+    ensures { OnOk result (members_view members.new.entries ≡ with_member key.now (whole number) (members_view members.old.entries)) }
+{
+    Ok(put(members, alloc, key, Value::from(number))?)
+}
+
+/// The members that tell the rights of a site.
+fn rights(alloc: Global, desk: &DeskView) -> Result<Map<String, Value>, OutOfMemory>
+    ensures { IfOk result (λ members. members_view members.entries ≡ rights_data desk.now) }
+{
+    let mut members = Map::new(alloc);
+    put_number(&mut members, alloc, "held", desk.held)?;
+    put_number(&mut members, alloc, "issued", desk.issued)?;
+    put_number(&mut members, alloc, "queued", desk.queued)?;
+    put_number(&mut members, alloc, "received", desk.received)?;
+    put_number(&mut members, alloc, "spent", desk.spent)?;
+    Ok(members)
+}
+
+/// The status of a site, with its peers in the order given. Its text has the keys in the order of the alphabet.
 pub fn status(alloc: Global, desk: &DeskView, peers: &[PeerView]) -> Result<Value, OutOfMemory>
     ensures { IfOk result (λ value. view value ≡ status_data desk.now peers.now) }
 {
-    Ok(json!(in alloc; {
-        "closed": desk.closed,
-        "held": desk.held,
-        "issued": desk.issued,
-        "number": desk.number,
-        "peers": peer_list(alloc, peers)?,
-        "queued": desk.queued,
-        "received": desk.received,
-        "site": desk.site.number(),
-        "spent": desk.spent,
-    })?)
+    let mut members = rights(alloc, desk)?;
+    put_number(&mut members, alloc, "number", desk.number)?;
+    put_number(&mut members, alloc, "site", desk.site.number())?;
+    put(&mut members, alloc, "closed", Value::from(desk.closed))?;
+    put(&mut members, alloc, "peers", peer_list(alloc, peers)?)?;
+    Ok(Value::Object(members))
 }

@@ -1,7 +1,7 @@
 //! Lanes and tallies, by one thread and by two.
 ghost use Rattle.std.specs.Prelude.{◌≡◌, ◌+◌, ◌≤◌, [], false, true, IfSome};
 ghost use Rattle.rights_types.specs.Entries.{EntryValue, IsEntry, own, closes};
-ghost use Rattle.apply_lanes.specs.Items.{Continues, IsOpen, MayBeFirst, Precedes};
+ghost use Rattle.thread_parts.specs.Items.{Continues, IsOpen, MayBeFirst, Precedes};
 
 use apply_lanes::laws::ends_taken_in;
 use apply_lanes::{Inlet, Item, LaneClosed, Outlet, Portion, Tally, lane};

@@ -167,6 +167,33 @@ fn heir_in(values: Option<&[u8]>) -> Option<Option<SiteId>>
 }
 
 #[tactic(auto, unfolding(crate::specs::Commands::site_event))]
+fn give_event<A: Allocator>(values: Option<&[u8]>) -> Option<Event<A>>
+    ensures { result ≡ site_event SiteWord.Give (words_left values.entry) }
+{
+    let (site, rest) = first_site(values)?;
+    let (peer, amount) = site_and_number(rest)?;
+    Some(Event::Give(SiteId::known(site), peer, amount))
+}
+
+#[tactic(auto, unfolding(crate::specs::Commands::site_event))]
+fn spend_event<A: Allocator>(values: Option<&[u8]>) -> Option<Event<A>>
+    ensures { result ≡ site_event SiteWord.Spend (words_left values.entry) }
+{
+    let (site, rest) = first_site(values)?;
+    let (amount, rest) = first_number(rest)?;
+    let deadline = only_number(rest)?;
+    Some(Event::Spend(SiteId::known(site), amount, deadline))
+}
+
+#[tactic(auto, unfolding(crate::specs::Commands::site_event))]
+fn close_event<A: Allocator>(values: Option<&[u8]>) -> Option<Event<A>>
+    ensures { result ≡ site_event SiteWord.Close (words_left values.entry) }
+{
+    let (site, rest) = first_site(values)?;
+    Some(Event::Close(SiteId::known(site), heir_in(rest)?))
+}
+
+#[tactic(auto, unfolding(crate::specs::Commands::site_event))]
 fn site_event<A: Allocator>(word: SiteWord, values: Option<&[u8]>) -> Option<Event<A>>
     ensures { result ≡ site_event word (words_left values.entry) }
 {
@@ -175,17 +202,8 @@ fn site_event<A: Allocator>(word: SiteWord, values: Option<&[u8]>) -> Option<Eve
             let (site, amount) = site_and_number(values)?;
             Some(Event::Issue(site, amount))
         }
-        SiteWord::Give => {
-            let (site, rest) = first_site(values)?;
-            let (peer, amount) = site_and_number(rest)?;
-            Some(Event::Give(SiteId::known(site), peer, amount))
-        }
-        SiteWord::Spend => {
-            let (site, rest) = first_site(values)?;
-            let (amount, rest) = first_number(rest)?;
-            let deadline = only_number(rest)?;
-            Some(Event::Spend(SiteId::known(site), amount, deadline))
-        }
+        SiteWord::Give => give_event(values),
+        SiteWord::Spend => spend_event(values),
         SiteWord::Serve => Some(Event::Serve(only_site(values)?)),
         SiteWord::Expire => {
             let (site, time) = site_and_number(values)?;
@@ -200,10 +218,7 @@ fn site_event<A: Allocator>(word: SiteWord, values: Option<&[u8]>) -> Option<Eve
             let (site, packet) = site_and_number(values)?;
             Some(Event::Arrive(site, packet))
         }
-        SiteWord::Close => {
-            let (site, rest) = first_site(values)?;
-            Some(Event::Close(SiteId::known(site), heir_in(rest)?))
-        }
+        SiteWord::Close => close_event(values),
     }
 }
 

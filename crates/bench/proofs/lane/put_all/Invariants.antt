@@ -1,6 +1,6 @@
 use Rattle.std.proofs.Common.{◌≡◌}
 use Rattle.rights_types.specs.Entries.{EntryValue, IsEntry}
-use Rattle.apply_lanes.specs.Items.{Continues, IsOpen}
+use Rattle.thread_parts.specs.Items.{Continues, IsOpen}
 use Rattle.bench.proofs.lane.put_all.Given as goal
 
 -- an entry of site 1 after this number may come next

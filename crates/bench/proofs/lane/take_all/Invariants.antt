@@ -1,4 +1,4 @@
-use Rattle.apply_lanes.specs.Items.{IsOpen}
+use Rattle.thread_parts.specs.Items.{IsOpen}
 use Rattle.bench.proofs.lane.take_all.Given as goal
 
 abbrev pub invariant-loop : goal.invariant-loop

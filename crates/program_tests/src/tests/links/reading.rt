@@ -1,6 +1,6 @@
 //! Lines that come, over connections that are cut.
 ghost use Rattle.std.specs.Prelude.{◌≡◌, false, IfSome};
-ghost use Rattle.apply_lanes.specs.Items.{IsOpen};
+ghost use Rattle.thread_parts.specs.Items.{IsOpen};
 
 use crate::tests::links::hello::first_line;
 use crate::tests::links::ports::{Lacking, Noting, link_in};

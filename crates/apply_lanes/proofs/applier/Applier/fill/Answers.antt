@@ -1,6 +1,6 @@
 use Rattle.std.proofs.Common.{◌≡◌, None, false, rules, sym, ap, ◌∙◌, ◌++◌, ◌∷◌, []}
-use Rattle.apply_lanes.specs.declared.item.Item.{Item}
-use Rattle.apply_lanes.specs.declared.item.Item.TheVariants.{Entry, End}
+use Rattle.thread_parts.specs.declared.item.Item.{Item}
+use Rattle.thread_parts.specs.declared.item.Item.TheVariants.{Entry, End}
 use Rattle.apply_lanes.proofs.ApplierLaws.{counted_take, counted_end, none_of}
 use Rattle.apply_lanes.proofs.applier.Applier.fill.Goals as goal
 

@@ -1,6 +1,6 @@
 use Rattle.std.proofs.Common.{refl, sym, subst, []}
-use Rattle.apply_lanes.specs.Items.{Continues}
-use Rattle.apply_lanes.proofs.Items.{begins_chain}
+use Rattle.thread_parts.specs.Items.{Continues}
+use Rattle.thread_parts.proofs.Items.{begins_chain}
 use Rattle.shared_desk_tests.proofs.tests.lanes.put_all.Goals as goal
 
 pub loop-number-init : goal.loop-number-init

@@ -1,5 +1,5 @@
 use Rattle.std.proofs.Common.{◌≡◌}
-use Rattle.apply_lanes.specs.Items.{IsOpen}
+use Rattle.thread_parts.specs.Items.{IsOpen}
 use Rattle.shared_desk_tests.proofs.tests.lanes.take_all.Given as goal
 
 abbrev pub invariant-loop : goal.invariant-loop

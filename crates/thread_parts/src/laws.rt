@@ -1,0 +1,27 @@
+//! What the two ends of one lane say of each other.
+ghost use Rattle.std.specs.Prelude.{◌≡◌};
+ghost use Rattle.thread_parts.specs.Items.{StartsWith, IsEnded};
+
+use crate::ends::{Inlet, Outlet};
+use crate::rule::{Compared, Ends};
+use std::alloc::Allocator;
+
+/// Given the two ends of one lane, what was taken is a prefix of what was put, and all of it where End
+/// was taken. The outlet comes back as it was. (It joins the knowledge of both ends, which touches no
+/// item.)
+pub fn ends_taken_in<A: Allocator>(inlet: Inlet<A>, mut outlet: Outlet<A>) -> Outlet<A>
+    requires { outlet.lane ≡ inlet.lane }
+    ensures same { result ≡ outlet }
+    ensures prefix { StartsWith inlet.put outlet.taken }
+    ensures whole { IsEnded outlet.taken → outlet.taken ≡ inlet.put }
+{
+    let Inlet {
+        sender,
+        pass: mut both,
+        dead: _,
+    } = inlet;
+    sender.absorb::<Ends>(&mut both, outlet.pass);
+    sender.learn_as::<Compared>(&mut both);
+    outlet.pass = sender.another::<Ends>(&mut both);
+    outlet
+}

@@ -1,0 +1,16 @@
+//! What the threads of a site share besides its desk: a lane, over which the entries of one log go in order; a tally, a
+//! sum that each of them adds to; and a view, what a desk looked like at one moment.
+#![tactic(auto)]
+
+mod ends;
+mod item;
+mod laws;
+mod rule;
+mod tally;
+mod view;
+
+pub use ends::{Inlet, LaneClosed, MAX_LANE, Outlet, lane};
+pub use item::Item;
+pub use laws::ends_taken_in;
+pub use tally::{Portion, Tally};
+pub use view::DeskView;
