@@ -1,3 +1,2 @@
 pub mod KeptLaws
 pub mod ApplierLaws
-pub mod IntakeLaws

@@ -3,5 +3,4 @@ pub mod Kepts
 pub mod Views
 pub mod Admissions
 pub mod Appliers
-pub mod Intakes
 pub mod Stops

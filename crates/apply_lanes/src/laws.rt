@@ -4,8 +4,8 @@ ghost use Rattle.thread_parts.specs.Items.{StartsWith};
 
 use crate::applier::Applier;
 use crate::gate::Gate;
-use crate::intake::Intake;
 use crate::names::DeskNames;
+use link_intake::Intake;
 use std::alloc::Allocator;
 pub use thread_parts::ends_taken_in;
 

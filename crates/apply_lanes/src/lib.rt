@@ -1,11 +1,10 @@
 //! A site that threads share. What another site sends comes in by an `Intake`, goes over a lane in order,
-//! and is applied by an `Applier` under the lock of a `SharedDesk`, where seats spend. Lanes, tallies and views are
-//! thread_parts', which are passed on.
+//! and is applied by an `Applier` under the lock of a `SharedDesk`, where seats spend. Intakes are link_intake's, and
+//! lanes, tallies and views thread_parts'; both are passed on.
 #![tactic(auto)]
 
 mod applier;
 mod gate;
-mod intake;
 mod kept;
 pub mod laws;
 mod names;
@@ -15,8 +14,8 @@ mod stopping;
 
 pub use applier::{Applied, Applier, StepError};
 pub use gate::{Free, Gate};
-pub use intake::{Arrived, Intake, IntakeError, VerdictCounts};
 pub use kept::{AdmitFault, Kept};
+pub use link_intake::{Arrived, Intake, IntakeError, VerdictCounts};
 pub use names::{APPLIERS, Blanks, DeskNames, IssuedBy, NumberOf, ReceivedBy, SEATS, SpentBy};
 pub use seat::Seat;
 pub use shared_desk::{AdmitError, SeatsFull, SharedDesk};

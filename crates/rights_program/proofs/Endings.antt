@@ -9,8 +9,8 @@ use Rattle.site_words.specs.Settings.{Settings}
 use Rattle.site_words.specs.Words.{MayAnswer, MayRefuse, RunsSite, WantsHelp}
 use Rattle.rights_program.specs.declared.fault.Fault.TheVariants.{BadCommandLine, CannotListen, OutOfMemory, ReadFailed, TooManyLines, WriteFailed}
 use Rattle.rights_program.specs.declared.fault.Fault.{Fault}
-use Rattle.site_server.specs.declared.fault.SiteFault.{SiteFault}
-use Rattle.site_server.specs.declared.fault.SiteFault.TheVariants as site_fault
+use Rattle.site_words.specs.declared.fault.SiteFault.{SiteFault}
+use Rattle.site_words.specs.declared.fault.SiteFault.TheVariants as site_fault
 use Rattle.site_words.specs.declared.words.WordsFault.{WordsFault}
 use Rattle.site_words.specs.declared.words.WordsFault.TheVariants as words
 

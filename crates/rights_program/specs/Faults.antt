@@ -6,8 +6,8 @@ use Rattle.rights_program.specs.declared.fault.Fault.{Fault}
 use Rattle.rights_program.specs.declared.fault.Fault.TheVariants.{BadCommandLine, CannotListen, OutOfMemory, ReadFailed, TooManyLines, WriteFailed}
 use Rattle.site_words.specs.declared.words.WordsFault.{WordsFault}
 use Rattle.site_words.specs.declared.words.WordsFault.TheVariants as words
-use Rattle.site_server.specs.declared.fault.SiteFault.{SiteFault}
-use Rattle.site_server.specs.declared.fault.SiteFault.TheVariants as site
+use Rattle.site_words.specs.declared.fault.SiteFault.{SiteFault}
+use Rattle.site_words.specs.declared.fault.SiteFault.TheVariants as site
 use Rattle.transfer_world.specs.declared.ScriptFault.{ScriptFault}
 use Rattle.transfer_world.specs.declared.ScriptFault.TheVariants as script
 

@@ -4,8 +4,7 @@ ghost use Rattle.rights_program.specs.Faults.{line_of, status_of};
 ghost use Rattle.rights_program.specs.declared.fault.Fault.TheVariants.{OutOfMemory, WriteFailed};
 
 use line_streams::WriteFault;
-use site_server::SiteFault;
-use site_words::WordsFault;
+use site_words::{SiteFault, WordsFault};
 use std::alloc::AllocError;
 use transfer_world::ScriptFault;
 

@@ -12,13 +12,9 @@ ghost use Rattle.rights_program.specs.declared.fault.Fault.{Fault};
 
 use crate::fault::Fault;
 use line_streams::write_whole;
-use site_server::run_site;
-use site_words::{Command, read_words};
+use site_words::{Command, Config, SiteFault, read_words};
 use std::io::{Read, Write};
-use std::net::{Net, TcpListener, TcpStream};
 use std::sync::Wait;
-use std::thread::Threads;
-use std::time::Clock;
 use transfer_world::run_last_script;
 
 /// Says why the program stops, and answers the exit status. What cannot be said is left out.
@@ -33,15 +29,12 @@ pub(crate) fn report<E: Write>(errors: &mut E, fault: Fault) -> u8
 /// Does what the words ask for.
 #[tactic(auto, using(crate::proofs::Endings::endings))]
 fn run_command<
-    T: Net<Listener = TcpListener, Stream = TcpStream>
-        + Threads
-        + Wait
-        + Clock
-        + AllocGlobal
-        + Sync,
+    T: Wait + AllocGlobal,
+    F: FnOnce(Config, &mut R, &mut W) -> Result<(), SiteFault>,
     R: Read,
     W: Write,
->(rt: &T, words: &[&str], reader: &mut R, writer: &mut W) -> Result<(), Fault>
+>(rt: &T, run: F, words: &[&str], reader: &mut R, writer: &mut W) -> Result<(), Fault>
+    requires { F.IsAlwaysCallable run }
     ensures may { MayEnd (asked_by (texts words.now)) result }
     ensures answered { asked_by (texts words.now) ≡ script
         → Answered Global (R.remaining reader.old) (R.remaining reader.new) (W.contents writer.old) (W.contents writer.new) result }
@@ -51,25 +44,22 @@ fn run_command<
 {
     match read_words(rt.alloc(), words)? {
         Command::Sim => run_last_script(rt.alloc(), reader, writer)?,
-        Command::Run(config) => run_site(rt, config, reader, writer)?,
+        Command::Run(config) => run(config, reader, writer)?,
         Command::Help(text) => write_whole(writer, text.as_bytes())?,
     }
     Ok(())
 }
 
-/// Runs the program on its words, without its name: does what they ask for, says on `errors` what
-/// stopped it, and answers the exit status.
+/// Runs the program on its words, without its name: does what they ask for, a site by `run`, says on
+/// `errors` what stopped it, and answers the exit status.
 pub fn run_words<
-    T: Net<Listener = TcpListener, Stream = TcpStream>
-        + Threads
-        + Wait
-        + Clock
-        + AllocGlobal
-        + Sync,
+    T: Wait + AllocGlobal,
+    F: FnOnce(Config, &mut R, &mut W) -> Result<(), SiteFault>,
     R: Read,
     W: Write,
     E: Write,
->(rt: &T, words: &[&str], reader: &mut R, writer: &mut W, errors: &mut E) -> u8
+>(rt: &T, run: F, words: &[&str], reader: &mut R, writer: &mut W, errors: &mut E) -> u8
+    requires { F.IsAlwaysCallable run }
     // The status and the line on `errors` are those of one ending, which the words allow. Where they
     // ask for it, the script was answered, and ended so.
     ensures ends { (ending : Result (Unit {0}) Fault) × MayEnd (asked_by (texts words.now)) ending
@@ -82,7 +72,7 @@ pub fn run_words<
     ensures unwritten { asked_by (texts words.now) ≡ nothing → writer.new ≡ writer.old }
     ensures quiet { result ≡ 0 → errors.new ≡ errors.old }
 {
-    match run_command(rt, words, reader, writer) {
+    match run_command(rt, run, words, reader, writer) {
         Ok(()) => 0,
         Err(fault) => report(errors, fault),
     }

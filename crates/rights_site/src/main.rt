@@ -2,11 +2,13 @@
 #![tactic(auto)]
 
 use rights_program::run_given;
+use site_server::run_site;
 use std::process::ExitCode;
 
 fn main(rt: HostRuntime) -> ExitCode {
     ExitCode::from(run_given(
         &rt,
+        |config, reader, writer| run_site(&rt, config, reader, writer),
         &rt,
         &mut rt.stdin(),
         &mut rt.stdout(),

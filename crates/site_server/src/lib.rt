@@ -1,8 +1,6 @@
 //! One site of a system as a process: its commands come from a reader, and its peers are met over TCP.
 #![tactic(auto)]
 
-mod fault;
 mod site;
 
-pub use fault::SiteFault;
 pub use site::run_site;

@@ -8,9 +8,9 @@ ghost use Rattle.peer_links.specs.declared.link.LinkFault.{LinkFault};
 
 use crate::lines::{Piece, next_piece};
 use crate::link::{LinkFault, Port, is_interrupted};
-use apply_lanes::{Arrived, Intake, IntakeError};
 use entry_codec::LineCutter;
 use line_streams::LINE_LIMIT;
+use link_intake::{Arrived, Intake, IntakeError};
 use rights_types::Message;
 use site_core::InboundError;
 use std::alloc::Global;

@@ -1,8 +1,8 @@
 //! How the program ends where its words find no memory, and the texts of faults.
 use refusing_allocator::Refusing;
 use rights_program::{run_given, run_words};
-use site_server::SiteFault;
-use site_words::{Command, read_words};
+use site_server::run_site;
+use site_words::{Command, SiteFault, read_words};
 use std::alloc::Global;
 use std::env::{Env, FillError};
 use std::io;
@@ -75,6 +75,74 @@ const REFUSED: &str = "rights-site: bad command line\n";
 
 const OUT_OF_MEMORY: &str = "rights-site: out of memory\n";
 
+/// Whether the program ends with this status and this line where its site ends so.
+fn ends_with<T: Wait + AllocGlobal>(
+    rt: &T,
+    of_site: Result<(), SiteFault>,
+    status: u8,
+    line: &str,
+) -> bool {
+    let words = [
+        "run",
+        "--id",
+        "1",
+        "--sites",
+        "2",
+        "--listen",
+        ":0",
+        "2=other:1",
+    ];
+    let mut errors = Vec::new(rt.alloc());
+    let answer = run_words(
+        rt,
+        |_config, _reader, _writer| of_site,
+        &words,
+        &mut b"".as_slice(),
+        &mut Full,
+        &mut errors,
+    );
+    answer == status && errors.as_slice() == line.as_bytes()
+}
+
+/// What its site ends with is what the program ends with.
+#[test]
+fn the_program_ends_as_its_site(rt: HostRuntime) {
+    assert!(rt; ends_with(&rt, Ok(()), 0, ""));
+    assert!(rt;
+        ends_with(
+            &rt,
+            Err(SiteFault::CannotListen),
+            1,
+            "rights-site: cannot listen\n"
+        )
+    );
+    assert!(rt;
+        ends_with(
+            &rt,
+            Err(SiteFault::ReadFailed),
+            1,
+            "rights-site: read failed\n"
+        )
+    );
+    assert!(rt;
+        ends_with(
+            &rt,
+            Err(SiteFault::WriteFailed),
+            1,
+            "rights-site: write failed\n"
+        )
+    );
+    assert!(rt; ends_with(&rt, Err(SiteFault::OutOfMemory), 1, OUT_OF_MEMORY));
+    assert!(rt;
+        ends_with(
+            &rt,
+            Err(SiteFault::TooManyLines),
+            1,
+            "rights-site: too many lines\n"
+        )
+    );
+}
+
 /// Whether the program ends with this status on these words, and all of this text and of this line is written, however
 /// few bytes a write takes.
 fn writes_slowly<
@@ -93,7 +161,14 @@ fn writes_slowly<
         text: Vec::new(rt.alloc()),
         step: 7,
     };
-    let answer = run_words(rt, words, &mut b"".as_slice(), &mut writer, &mut errors);
+    let answer = run_words(
+        rt,
+        |config, reader, writer| run_site(rt, config, reader, writer),
+        words,
+        &mut b"".as_slice(),
+        &mut writer,
+        &mut errors,
+    );
     answer == status && writer.text.as_slice() == text && errors.text.as_slice() == line.as_bytes()
 }
 
@@ -145,7 +220,14 @@ fn ending_with<
     let refusing = Refusing::new(rt.alloc(), granted);
     let mut errors = Vec::new(rt.alloc());
     let env = (&Words(words), &refusing);
-    let answer = run_given(rt, &env, &mut b"".as_slice(), &mut Full, &mut errors);
+    let answer = run_given(
+        rt,
+        |config, reader, writer| run_site(rt, config, reader, writer),
+        &env,
+        &mut b"".as_slice(),
+        &mut Full,
+        &mut errors,
+    );
     let refused = refusing.refused();
     if answer == 1 && refused && errors.as_slice() == OUT_OF_MEMORY.as_bytes() {
         Ending::Stopped

@@ -1,9 +1,5 @@
 //! The commands of a site, from the first read to the last write.
 
-use crate::fault::SiteFault;
-use crate::site::Site;
-use crate::site::commands::{Command, read_command};
-use crate::site::peer::Peer;
 use apply_lanes::{DeskNames, DeskView, Kept, Seat, SharedDesk};
 use entry_codec::LineCutter;
 use itoa::Buffer;
@@ -12,7 +8,8 @@ use peer_links::{Piece, next_piece};
 use request_queue::{SLOTS, Status};
 use rights_types::OutOfMemory;
 use site_core::{DeskError, Spending};
-use site_words::{PeerView, status};
+use site_sockets::{Peer, Site};
+use site_words::{PeerView, SiteCommand, SiteFault, read_command, status};
 use std::alloc::Global;
 use std::io::{Read, Write};
 use std::sync::{Arc, Wait};
@@ -136,7 +133,7 @@ impl<D: DeskNames> Console<D> {
     /// line that finds no room is lost, and asked for again by the peer.
     fn tick<R: Wait>(&mut self, rt: &R, site: &Site, time: u64) -> Result<Ticked, DeskError> {
         let mut ticked = self.serve_waiting(rt, site, time)?;
-        for peer in &site.peers {
+        for peer in site.peers() {
             ticked.sent = ticked.sent.saturating_add(self.send_due(rt, site, peer)?);
         }
         Ok(ticked)
@@ -189,10 +186,10 @@ impl<D: DeskNames> Console<D> {
         rt: &R,
         site: &Site,
     ) -> Result<(DeskView, Vec<PeerView>), OutOfMemory> {
-        let mut peers = Vec::with_capacity(self.alloc, site.peers.len())?;
+        let mut peers = Vec::with_capacity(self.alloc, site.peers().len())?;
         let kept = self.desk.lock(rt);
         let kept = &*kept;
-        for peer in &site.peers {
+        for peer in site.peers() {
             peers.push(peer.view(rt, kept.desk().applied(peer.site)))?;
         }
         Ok((kept.view(), peers))
@@ -202,30 +199,30 @@ impl<D: DeskNames> Console<D> {
         &mut self,
         rt: &R,
         site: &Site,
-        command: Command,
+        command: SiteCommand,
     ) -> Result<(), OutOfMemory> {
         let replies = &mut self.replies;
         match command {
-            Command::Issue(amount) => {
+            SiteCommand::Issue(amount) => {
                 replies.put_entry(self.desk.lock(rt).issue(&mut self.seat, amount))
             }
-            Command::Give(peer, amount) => {
+            SiteCommand::Give(peer, amount) => {
                 replies.put_entry(self.desk.lock(rt).give_back(peer, amount))
             }
-            Command::Spend(amount, deadline) => replies.put_spending(
+            SiteCommand::Spend(amount, deadline) => replies.put_spending(
                 self.desk.lock(rt).spend(&mut self.seat, amount, deadline),
             ),
-            Command::Outcome(ticket) => replies.put_outcome(self.desk.lock(rt).status(ticket)),
-            Command::Tick(time) => {
+            SiteCommand::Outcome(ticket) => replies.put_outcome(self.desk.lock(rt).status(ticket)),
+            SiteCommand::Tick(time) => {
                 let ticked = self.tick(rt, site, time);
                 self.replies.put_tick(ticked)
             }
-            Command::Status => {
+            SiteCommand::Status => {
                 let text = self.status(rt, site)?;
                 self.replies.put(text.as_bytes())
             }
-            Command::Close(heir) => replies.put_entry(self.desk.lock(rt).close(heir)),
-            Command::Quit => Ok(()),
+            SiteCommand::Close(heir) => replies.put_entry(self.desk.lock(rt).close(heir)),
+            SiteCommand::Quit => Ok(()),
         }
     }
 
@@ -239,7 +236,7 @@ impl<D: DeskNames> Console<D> {
         // First, so that no command is carried out whose reply finds no room.
         self.replies.bytes.reserve(REPLY_ROOM)?;
         match line.and_then(read_command) {
-            Some(Command::Quit) => return Ok(true),
+            Some(SiteCommand::Quit) => return Ok(true),
             Some(command) => self.answer_command(rt, site, command)?,
             None => self.replies.put(b"error BadCommand")?,
         }

@@ -2,9 +2,6 @@
 ghost use Rattle.std.specs.Prelude.{◌≡◌, ◌≢◌, ◌≤◌, false, [], IfOk};
 ghost use Rattle.entry_codec.specs.Pieces.{IsLine};
 
-use crate::site::Site;
-use crate::site::mailbox::Connection;
-use crate::site::peer::Peer;
 use apply_lanes::{
     Applier, DeskNames, Free, Intake, MAX_LANE, Outlet, SharedDesk, StepError, lane,
 };
@@ -12,6 +9,7 @@ use origin_log::ReadError;
 use peer_links::{Port, read_link};
 use rights_types::{Ask, Deny, Message, OutOfMemory, Query, SiteId};
 use site_core::Inbound;
+use site_sockets::{Connection, Peer, Site};
 use site_words::Config;
 use std::alloc::Global;
 use std::sync::{Arc, Wait};

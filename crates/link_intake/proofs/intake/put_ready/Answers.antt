@@ -1,9 +1,9 @@
 use Rattle.std.proofs.Common.{◌≡◌, ◌∷◌, ◌++◌, [], sym, subst, ◌∙◌, rules}
 use Rattle.std.specs.Vec.Iter.{into_iter_items}
 use Rattle.site_core.specs.Inbounds.{ready_in}
-use Rattle.apply_lanes.specs.Intakes.{CanPut, PutsAll, PutsFront}
-use Rattle.apply_lanes.proofs.IntakeLaws.{ready-append, one_more, split_ready, can_first, others_can, both_put, front_put}
-use Rattle.apply_lanes.proofs.intake.put_ready.Goals as goal
+use Rattle.link_intake.specs.Intakes.{CanPut, PutsAll, PutsFront}
+use Rattle.link_intake.proofs.IntakeLaws.{ready-append, one_more, split_ready, can_first, others_can, both_put, front_put}
+use Rattle.link_intake.proofs.intake.put_ready.Goals as goal
 
 pub put_if_ready-requires-clause-entries : goal.put_if_ready-requires-clause-entries
 put_if_ready-requires-clause-entries g c =

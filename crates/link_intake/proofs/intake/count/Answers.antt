@@ -1,6 +1,6 @@
 use Rattle.std.proofs.Common.{arith}
-use Rattle.apply_lanes.proofs.IntakeLaws.{counts_step, few_counted}
-use Rattle.apply_lanes.proofs.intake.count.Goals as goal
+use Rattle.link_intake.proofs.IntakeLaws.{counts_step, few_counted}
+use Rattle.link_intake.proofs.intake.count.Goals as goal
 
 pub count_one-requires : goal.count_one-requires
 count_one-requires g c = omega (arith, few_counted _ _ _ c.loop-verdict-test.true c.loop-verdict.invariant)

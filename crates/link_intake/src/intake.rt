@@ -12,9 +12,9 @@ ghost use Rattle.sub_buffer.specs.Follows.{HasPut, Follows};
 ghost use Rattle.site_core.specs.Calls.{LineOf};
 ghost use Rattle.site_core.specs.Inbounds.{QueryOf, ready_in};
 ghost use Rattle.thread_parts.specs.Items.{IsOpen, IsEnded};
-ghost use Rattle.apply_lanes.specs.Intakes.{counts_of, with_verdict, all_counts, verdicts_of, ready_of, arrived_of, CanPut, PutsAll, PutsFront, with_end};
-ghost use Rattle.apply_lanes.specs.declared.intake.IntakeError.TheVariants.{LaneClosed as ClosedLane};
-ghost use Rattle.apply_lanes.specs.declared.intake.Arrived.TheVariants.{Entries as EntriesCame};
+ghost use Rattle.link_intake.specs.Intakes.{counts_of, with_verdict, all_counts, verdicts_of, ready_of, arrived_of, CanPut, PutsAll, PutsFront, with_end};
+ghost use Rattle.link_intake.specs.declared.intake.IntakeError.TheVariants.{LaneClosed as ClosedLane};
+ghost use Rattle.link_intake.specs.declared.intake.Arrived.TheVariants.{Entries as EntriesCame};
 
 use rights_types::{Ask, Deny, Entry, OutOfMemory, Query};
 use site_core::{Arrival, Inbound, InboundError};
@@ -70,7 +70,7 @@ pub struct Intake<A: Allocator = Global> {
 }
 
 impl<A: Allocator> Model for Intake<A> {
-    ghost use Rattle.apply_lanes.specs.Intakes.{IntakeValue, IsIntake};
+    ghost use Rattle.link_intake.specs.Intakes.{IntakeValue, IsIntake};
 
     ghost Value = { IntakeValue A };
 
@@ -80,7 +80,8 @@ impl<A: Allocator> Model for Intake<A> {
 }
 
 impl<A: Allocator> Intake<A> {
-    pub(crate) fn into_inlet(self) -> Inlet<A>
+    /// The end of its lane, which it is taken apart for.
+    pub fn into_inlet(self) -> Inlet<A>
         ensures { result ≡ self.inlet }
     {
         let Intake {
@@ -94,7 +95,7 @@ impl<A: Allocator> Intake<A> {
 }
 
 impl<A: Allocator + Copy> Intake<A> {
-    ghost use Rattle.apply_lanes.specs.Intakes.{IntakeValue, IntakeRefuses, LineLeaves};
+    ghost use Rattle.link_intake.specs.Intakes.{IntakeValue, IntakeRefuses, LineLeaves};
     /// What comes in to an inbound to which nothing came, by a new lane.
     pub fn new(inbound: Inbound<A>, inlet: Inlet<A>) -> Intake<A>
         requires inbound { HasPut [] inbound.buffer }

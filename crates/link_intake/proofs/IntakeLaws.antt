@@ -24,11 +24,11 @@ use Rattle.thread_parts.specs.declared.item.Item.TheVariants.{Entry, End}
 use Rattle.thread_parts.specs.Ends.{InletValue}
 use Rattle.thread_parts.specs.Items.{items_of, end_if, IsOpen, Continues}
 use Rattle.thread_parts.proofs.Items.{open_push}
-use Rattle.apply_lanes.specs.declared.intake.VerdictCounts.{VerdictCounts}
-use Rattle.apply_lanes.specs.Intakes.{IntakeValue, IsInStep, IsIntake, Brings, FindsClosed, LineLeaves, verdicts_of, arrived_of, ready_of, sent, CanPut, PutsAll, PutsFront, is_ready, is_held, is_repeat, is_after_close, is_full, counts_of, with_verdict, all_counts}
-use Rattle.apply_lanes.specs.declared.intake.Arrived.{Arrived}
-use Rattle.apply_lanes.specs.declared.intake.IntakeError.{IntakeError}
-use Rattle.apply_lanes.specs.declared.intake.IntakeError.TheVariants.{Inbound, LaneClosed}
+use Rattle.link_intake.specs.declared.intake.VerdictCounts.{VerdictCounts}
+use Rattle.link_intake.specs.Intakes.{IntakeValue, IsInStep, IsIntake, Brings, FindsClosed, LineLeaves, verdicts_of, arrived_of, ready_of, sent, CanPut, PutsAll, PutsFront, is_ready, is_held, is_repeat, is_after_close, is_full, counts_of, with_verdict, all_counts}
+use Rattle.link_intake.specs.declared.intake.Arrived.{Arrived}
+use Rattle.link_intake.specs.declared.intake.IntakeError.{IntakeError}
+use Rattle.link_intake.specs.declared.intake.IntakeError.TheVariants.{Inbound, LaneClosed}
 
 pub closed_from-append : (b : Bool) (xs ys : List EntryValue) → closed_from b (xs ++ ys) ≡ closed_from (closed_from b xs) ys
 closed_from-append b [] ys = refl

@@ -27,7 +27,7 @@ pub enum SiteFault {
 }
 
 impl From<AllocError> for SiteFault {
-    ghost use Rattle.site_server.specs.declared.fault.SiteFault.TheVariants.{OutOfMemory};
+    ghost use Rattle.site_words.specs.declared.fault.SiteFault.TheVariants.{OutOfMemory};
 
     ghost from_gives = { λ _ fault. fault ≡ OutOfMemory };
 
@@ -37,7 +37,7 @@ impl From<AllocError> for SiteFault {
 }
 
 impl<T: Drop> From<AllocFailed<T>> for SiteFault {
-    ghost use Rattle.site_server.specs.declared.fault.SiteFault.TheVariants.{OutOfMemory};
+    ghost use Rattle.site_words.specs.declared.fault.SiteFault.TheVariants.{OutOfMemory};
 
     ghost from_gives = { λ _ fault. fault ≡ OutOfMemory };
 
@@ -47,7 +47,7 @@ impl<T: Drop> From<AllocFailed<T>> for SiteFault {
 }
 
 impl From<NoMemory> for SiteFault {
-    ghost use Rattle.site_server.specs.declared.fault.SiteFault.TheVariants.{OutOfMemory};
+    ghost use Rattle.site_words.specs.declared.fault.SiteFault.TheVariants.{OutOfMemory};
 
     ghost from_gives = { λ _ fault. fault ≡ OutOfMemory };
 
@@ -57,7 +57,7 @@ impl From<NoMemory> for SiteFault {
 }
 
 impl From<WriteFault> for SiteFault {
-    ghost use Rattle.site_server.specs.declared.fault.SiteFault.TheVariants.{WriteFailed};
+    ghost use Rattle.site_words.specs.declared.fault.SiteFault.TheVariants.{WriteFailed};
 
     ghost from_gives = { λ _ fault. fault ≡ WriteFailed };
 

@@ -1,8 +1,8 @@
 //! What a site keeps of each other site.
 ghost use Rattle.entry_codec.specs.Pieces.{IsLine};
 
-use crate::site::breaker::Breaker;
-use crate::site::mailbox::Mailbox;
+use crate::breaker::Breaker;
+use crate::mailbox::Mailbox;
 use peer_links::Outbox;
 use rights_types::{OutOfMemory, SiteId};
 use site_words::{Config, PeerView};
@@ -12,21 +12,22 @@ use sub_buffer::State;
 
 /// What the reading thread noted of its buffer after the last line.
 #[derive(Clone, Copy)]
-pub(crate) struct Seen {
+struct Seen {
     buffering: bool,
     held: usize,
 }
 
 /// Another site, as the threads that deal with it share it.
 #[derive(Drop)]
-pub(crate) struct Peer {
-    pub(crate) site: SiteId,
+pub struct Peer {
+    pub site: SiteId,
     /// Where it listens.
     pub(crate) address: String,
     pub(crate) outbox: Outbox,
     /// The connection that lines are sent by.
     pub(crate) sending: Breaker,
-    pub(crate) mailbox: Mailbox,
+    /// The connections that it made.
+    pub mailbox: Mailbox,
     seen: Mutex<Seen>,
 }
 
@@ -46,14 +47,14 @@ impl Peer {
     }
 
     /// Puts a line into the outbox. False where it finds no room there, and is lost.
-    pub(crate) fn send<R: Wait>(&self, rt: &R, line: Vec<u8>) -> bool
+    pub fn send<R: Wait>(&self, rt: &R, line: Vec<u8>) -> bool
         requires { IsLine line.items }
     {
         self.outbox.put(rt, line).is_ok()
     }
 
     /// Notes the state of the buffer after a line.
-    pub(crate) fn note<R: Wait>(&self, rt: &R, state: State, held: usize) {
+    pub fn note<R: Wait>(&self, rt: &R, state: State, held: usize) {
         let mut seen = self.seen.lock(rt);
         *seen = Seen {
             buffering: state == State::Buffering,
@@ -61,8 +62,15 @@ impl Peer {
         };
     }
 
+    /// Leaves no stream open, and lets no other be opened.
+    pub(crate) fn close<R: Wait>(&self, rt: &R) {
+        self.outbox.abandon(rt);
+        self.sending.close(rt);
+        self.mailbox.close(rt);
+    }
+
     /// What the status says of this peer, of which so much was applied.
-    pub(crate) fn view<R: Wait>(&self, rt: &R, applied: u64) -> PeerView {
+    pub fn view<R: Wait>(&self, rt: &R, applied: u64) -> PeerView {
         let seen = *self.seen.lock(rt);
         PeerView {
             site: self.site,

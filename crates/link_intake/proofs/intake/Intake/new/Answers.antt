@@ -1,6 +1,6 @@
 use Rattle.std.proofs.Common.{refl}
-use Rattle.apply_lanes.proofs.IntakeLaws.{new_intake}
-use Rattle.apply_lanes.proofs.intake.Intake.new.Goals as goal
+use Rattle.link_intake.proofs.IntakeLaws.{new_intake}
+use Rattle.link_intake.proofs.intake.Intake.new.Goals as goal
 
 pub invariant_of-result : goal.invariant_of-result
 invariant_of-result g c = new_intake _ c.requires.inbound c.requires.inlet.0 refl

@@ -1,8 +1,8 @@
 use Rattle.std.proofs.Common.{◌≡◌, true, false, [], ◌∷◌, ◌++◌, refl, ap, ◌∙◌, rules}
 use Rattle.rights_types.specs.Entries.{closes}
 use Rattle.thread_parts.specs.declared.item.Item.TheVariants.{Entry, End}
-use Rattle.apply_lanes.proofs.IntakeLaws.{next_continues, closed_at_put, closed_at_end, put_alone, put_ended}
-use Rattle.apply_lanes.proofs.intake.put_next.Goals as goal
+use Rattle.link_intake.proofs.IntakeLaws.{next_continues, closed_at_put, closed_at_end, put_alone, put_ended}
+use Rattle.link_intake.proofs.intake.put_next.Goals as goal
 
 pub put-requires : goal.put-requires
 put-requires g c = (next_continues _ _ _ [] c.requires).0

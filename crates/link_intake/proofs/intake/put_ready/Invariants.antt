@@ -1,8 +1,8 @@
 use Rattle.std.proofs.Common.{◌≡◌, ◌++◌, length}
 use Rattle.std.specs.Vec.Iter.{into_iter_items, into_iter_len}
 use Rattle.site_core.specs.Inbounds.{ready_in}
-use Rattle.apply_lanes.specs.Intakes.{PutsAll}
-use Rattle.apply_lanes.proofs.intake.put_ready.Given as goal
+use Rattle.link_intake.specs.Intakes.{PutsAll}
+use Rattle.link_intake.proofs.intake.put_ready.Given as goal
 
 abbrev pub invariant-loop-verdict : goal.invariant-loop-verdict
 invariant-loop-verdict g l = record {

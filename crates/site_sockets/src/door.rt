@@ -1,7 +1,7 @@
 //! Connections that have not yet said whose they are.
 
+use crate::mailbox::Connection;
 use crate::site::Site;
-use crate::site::mailbox::Connection;
 use entry_codec::LineCutter;
 use peer_links::read_hello;
 use rights_types::{OutOfMemory, SiteId};
@@ -9,12 +9,12 @@ use std::alloc::Global;
 use std::io::{ErrorKind, Read};
 use std::net::{Shutdown, TcpStream};
 use std::sync::{Mutex, Wait};
-use std::thread::Threads;
+use std::thread::{Scope, Threads};
 use std::time::{Clock, Duration, Instant};
 use std::{io, thread};
 
 /// How many connections may wait for their first line at a time. A further one is closed.
-pub(crate) const WAITING: usize = 64;
+const WAITING: usize = 64;
 
 /// How many seconds the first line of a connection may take.
 const HELLO_SECONDS: u64 = 5;
@@ -139,7 +139,7 @@ fn greet<R: Wait + Clock + AllocGlobal>(rt: &R, site: &Site, stream: TcpStream, 
 }
 
 /// Lets in who connects, each with a thread of its own till its first line is read, till the site ends.
-pub(crate) fn keep_door<R: Threads + Wait + Clock + AllocGlobal + Sync>(rt: &R, site: &Site) {
+fn keep_door<R: Threads + Wait + Clock + AllocGlobal + Sync>(rt: &R, site: &Site) {
     thread::scope(thread::scope_env(), rt, |scope| {
         for _ in rt.forever() {
             let Some((stream, place)) = site.next_caller(rt) else {
@@ -150,4 +150,13 @@ pub(crate) fn keep_door<R: Threads + Wait + Clock + AllocGlobal + Sync>(rt: &R, 
             }
         }
     })
+}
+
+/// Starts the thread that lets in who connects. False where it could not be started.
+pub fn begin_door<'s, E, R: Threads + Wait + Clock + AllocGlobal + Sync>(
+    scope: &Scope<'s, E>,
+    rt: &'s R,
+    site: &'s Site,
+) -> bool {
+    scope.spawn(move || keep_door(rt, site)).is_ok()
 }

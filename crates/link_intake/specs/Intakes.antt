@@ -13,11 +13,11 @@ use Rattle.site_core.specs.declared.inbound.Arrival.{Arrival}
 use Rattle.site_core.specs.declared.inbound.Arrival.TheVariants.{Entries as ComesEntries, Beat as ComesBeat, Query as ComesQuery, Ask as ComesAsk, Deny as ComesDeny, Hello as ComesHello}
 use Rattle.thread_parts.specs.declared.item.Item.{Item}
 use Rattle.thread_parts.specs.declared.item.Item.TheVariants.{End}
-use Rattle.apply_lanes.specs.declared.intake.VerdictCounts.{VerdictCounts}
-use Rattle.apply_lanes.specs.declared.intake.Arrived.{Arrived}
-use Rattle.apply_lanes.specs.declared.intake.Arrived.TheVariants.{Entries, Beat, Query, Ask, Deny, Hello}
-use Rattle.apply_lanes.specs.declared.intake.IntakeError.{IntakeError}
-use Rattle.apply_lanes.specs.declared.intake.IntakeError.TheVariants.{Inbound, LaneClosed}
+use Rattle.link_intake.specs.declared.intake.VerdictCounts.{VerdictCounts}
+use Rattle.link_intake.specs.declared.intake.Arrived.{Arrived}
+use Rattle.link_intake.specs.declared.intake.Arrived.TheVariants.{Entries, Beat, Query, Ask, Deny, Hello}
+use Rattle.link_intake.specs.declared.intake.IntakeError.{IntakeError}
+use Rattle.link_intake.specs.declared.intake.IntakeError.TheVariants.{Inbound, LaneClosed}
 use Rattle.thread_parts.specs.Ends.{InletValue}
 use Rattle.thread_parts.specs.Items.{items_of, end_if, IsOpen, IsEnded, StartsWith}
 

@@ -2,23 +2,23 @@
 ghost use Rattle.std.specs.Prelude.{◌≡◌, []};
 ghost use Rattle.entry_codec.specs.Cutter.{view_of};
 
-use crate::site::breaker::Breaker;
+use crate::breaker::Breaker;
 use entry_codec::LineCutter;
 use std::net::TcpStream;
 use std::sync::{Condvar, Mutex, Wait};
 
 /// A connection whose first line was read, and what cuts the rest of it.
 #[derive(Drop)]
-pub(crate) struct Connection {
-    pub(crate) stream: TcpStream,
-    pub(crate) cutter: LineCutter,
+pub struct Connection {
+    pub stream: TcpStream,
+    pub cutter: LineCutter,
     ghost empty: { cutter ≡ view_of [] },
 }
 
 /// The newest connection of a peer. It waits till the reading thread comes for it, and the one that this
 /// thread reads is shut down by it: a peer that went away without a word and came back is heard.
 #[derive(Drop)]
-pub(crate) struct Mailbox {
+pub struct Mailbox {
     waiting: Mutex<Waiting>,
     came: Condvar,
     reading: Breaker,
@@ -55,7 +55,7 @@ impl Mailbox {
     }
 
     /// Waits for the next connection to read. None once the mailbox is closed.
-    pub(crate) fn take<R: Wait>(&self, rt: &R) -> Option<Connection> {
+    pub fn take<R: Wait>(&self, rt: &R) -> Option<Connection> {
         for _ in rt.forever() {
             let mut waiting = self.came.wait_while(
                 rt,
@@ -78,7 +78,7 @@ impl Mailbox {
     }
 
     /// The reading thread has left its connection.
-    pub(crate) fn finish<R: Wait>(&self, rt: &R) {
+    pub fn finish<R: Wait>(&self, rt: &R) {
         self.reading.release(rt);
     }
 

@@ -1,8 +1,8 @@
 use Rattle.std.proofs.Common.{◌≡◌, true, false, subst, ap, ◌∙◌, rules}
 use Rattle.entry_codec.specs.Reading.{reading}
-use Rattle.apply_lanes.specs.Intakes.{IntakeValue, IsInStep, FindsClosed, LineLeaves}
-use Rattle.apply_lanes.proofs.IntakeLaws.{few_come, can_take, still_intake, line_leaves, finds_closed}
-use Rattle.apply_lanes.proofs.intake.Intake.on_line.Goals as goal
+use Rattle.link_intake.specs.Intakes.{IntakeValue, IsInStep, FindsClosed, LineLeaves}
+use Rattle.link_intake.proofs.IntakeLaws.{few_come, can_take, still_intake, line_leaves, finds_closed}
+use Rattle.link_intake.proofs.intake.Intake.on_line.Goals as goal
 
 pub returns-then-is_dead-clause-leaves : goal.returns-then-is_dead-clause-leaves
 returns-then-is_dead-clause-leaves g c =

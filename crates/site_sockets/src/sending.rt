@@ -1,14 +1,15 @@
 //! Sending to the peers what waits in their outboxes.
 
-use crate::site::peer::Peer;
+use crate::peer::Peer;
 use crate::site::{CONNECT_SECONDS, Site};
 use entry_codec::write_line;
 use line_streams::write_whole;
 use peer_links::write_link;
 use rights_types::{Message, SiteId};
 use std::alloc::Global;
-use std::net::{Net, TcpStream, ToSocketAddrs};
+use std::net::{Net, TcpListener, TcpStream, ToSocketAddrs};
 use std::sync::{Condvar, CondvarTimeouts, Mutex, Wait};
+use std::thread::{Scope, Threads};
 use std::time::{Clock, Duration, Instant};
 
 /// How many sending threads are at work.
@@ -47,7 +48,7 @@ impl Senders {
 
 /// Sends what waits for this peer, till its outbox has ended and is empty. A line that is taken while
 /// there is no connection makes one attempt to connect, and is lost where that fails.
-pub(crate) fn send_to<R: Net<Stream = TcpStream> + Wait + Clock + AllocGlobal>(
+fn send_to<R: Net<Stream = TcpStream> + Wait + Clock + AllocGlobal>(
     rt: &R,
     site: &Site,
     peer: &Peer,
@@ -93,4 +94,23 @@ fn connect<R: Net<Stream = TcpStream> + Clock>(rt: &R, address: &str) -> Option<
         }
     }
     None
+}
+
+/// Starts the thread that sends to this peer. False where it could not be started.
+pub fn begin_sender<
+    's,
+    E,
+    R: Net<Listener = TcpListener, Stream = TcpStream>
+        + Threads
+        + Wait
+        + Clock
+        + AllocGlobal
+        + Sync,
+>(scope: &Scope<'s, E>, rt: &'s R, site: &'s Site, peer: &'s Peer) -> bool {
+    site.senders.begin(rt);
+    let is_begun = scope.spawn(move || send_to(rt, site, peer)).is_ok();
+    if !is_begun {
+        site.senders.finish(rt);
+    }
+    is_begun
 }

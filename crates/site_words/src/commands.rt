@@ -1,11 +1,11 @@
-//! The commands of a site.
+//! The commands of a site that runs.
 
 use entry_codec::{first_decimal, split_first};
 use rights_types::{MAX_SITES, SiteId};
 
 /// What a line asks of a site.
 #[derive(Clone, Copy)]
-pub(crate) enum Command {
+pub enum SiteCommand {
     /// To create rights.
     Issue(u64),
     /// To give rights to a peer.
@@ -57,46 +57,46 @@ impl<'a> Words<'a> {
 }
 
 impl Words<'_> {
-    fn issue(&mut self) -> Option<Command> {
-        Some(Command::Issue(self.number()?))
+    fn issue(&mut self) -> Option<SiteCommand> {
+        Some(SiteCommand::Issue(self.number()?))
     }
 
-    fn give(&mut self) -> Option<Command> {
+    fn give(&mut self) -> Option<SiteCommand> {
         let peer = self.site()?;
-        Some(Command::Give(peer, self.number()?))
+        Some(SiteCommand::Give(peer, self.number()?))
     }
 
-    fn spend(&mut self) -> Option<Command> {
+    fn spend(&mut self) -> Option<SiteCommand> {
         let amount = self.number()?;
-        Some(Command::Spend(amount, self.number()?))
+        Some(SiteCommand::Spend(amount, self.number()?))
     }
 
-    fn outcome(&mut self) -> Option<Command> {
-        Some(Command::Outcome(self.number()?))
+    fn outcome(&mut self) -> Option<SiteCommand> {
+        Some(SiteCommand::Outcome(self.number()?))
     }
 
-    fn tick(&mut self) -> Option<Command> {
-        Some(Command::Tick(self.number()?))
+    fn tick(&mut self) -> Option<SiteCommand> {
+        Some(SiteCommand::Tick(self.number()?))
     }
 
-    fn close(&mut self) -> Option<Command> {
+    fn close(&mut self) -> Option<SiteCommand> {
         if self.is_at_end() {
-            return Some(Command::Close(None));
+            return Some(SiteCommand::Close(None));
         }
-        Some(Command::Close(Some(self.site()?)))
+        Some(SiteCommand::Close(Some(self.site()?)))
     }
 
     /// The command of this name, by the words behind it.
-    fn command(&mut self, name: &[u8]) -> Option<Command> {
+    fn command(&mut self, name: &[u8]) -> Option<SiteCommand> {
         match name {
             b"issue" => self.issue(),
             b"give" => self.give(),
             b"spend" => self.spend(),
             b"outcome" => self.outcome(),
             b"tick" => self.tick(),
-            b"status" => Some(Command::Status),
+            b"status" => Some(SiteCommand::Status),
             b"close" => self.close(),
-            b"quit" => Some(Command::Quit),
+            b"quit" => Some(SiteCommand::Quit),
             _ => None,
         }
     }
@@ -104,7 +104,7 @@ impl Words<'_> {
 
 /// The command that a line spells, given without its line feed. Words are parted by one space each, and
 /// numbers are decimals with no sign and no leading zero.
-pub(crate) fn read_command(line: &[u8]) -> Option<Command> {
+pub fn read_command(line: &[u8]) -> Option<SiteCommand> {
     let mut words = Words { rest: Some(line) };
     let name = words.next()?;
     let command = words.command(name)?;

@@ -1,0 +1,16 @@
+//! The sockets of a site that runs: who connects to it, what it connects to, and what waits to be sent to each peer. What
+//! its desk does with that is not known here.
+#![tactic(auto)]
+
+mod breaker;
+mod door;
+mod mailbox;
+mod peer;
+mod sending;
+mod site;
+
+pub use door::begin_door;
+pub use mailbox::{Connection, Mailbox};
+pub use peer::Peer;
+pub use sending::begin_sender;
+pub use site::Site;

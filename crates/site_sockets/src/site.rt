@@ -1,0 +1,113 @@
+//! What the threads of a site share, beside its desk.
+
+use crate::door::Door;
+use crate::peer::{Peer, peers_of};
+use crate::sending::Senders;
+use rights_types::{OutOfMemory, SiteId};
+use site_words::{Config, SiteFault};
+use std::alloc::Global;
+use std::net::{Net, TcpListener, TcpStream};
+use std::sync::Wait;
+use std::sync::atomic::{AtomicBool, Ordering};
+use std::thread;
+use std::time::{Clock, Duration};
+
+/// How many seconds an attempt to connect may take.
+pub(crate) const CONNECT_SECONDS: u64 = 1;
+
+/// How many seconds lines that wait are still written for after the last command.
+const LAST_LINES_SECONDS: u64 = 1;
+
+/// How many milliseconds the accepting thread rests where a connection could not be accepted.
+const REST_MILLISECONDS: u64 = 10;
+
+/// What the threads of a site share, beside its desk.
+#[derive(Drop)]
+pub struct Site {
+    pub(crate) id: SiteId,
+    listener: TcpListener,
+    /// The other sites, in order.
+    peers: Vec<Peer>,
+    pub(crate) door: Door,
+    pub(crate) senders: Senders,
+    /// An applier met a refused request for memory.
+    out_of_memory: AtomicBool,
+}
+
+impl Site {
+    /// A site that listens.
+    pub fn open<R: Net<Listener = TcpListener, Stream = TcpStream> + AllocGlobal>(
+        rt: &R,
+        config: &Config,
+    ) -> Result<Site, SiteFault> {
+        match TcpListener::bind(rt, config.listen()) {
+            Ok(listener) => Ok(Site::new(rt.alloc(), config, listener)?),
+            Err(_) => Err(SiteFault::CannotListen),
+        }
+    }
+
+    fn new(alloc: Global, config: &Config, listener: TcpListener) -> Result<Site, OutOfMemory> {
+        Ok(Site {
+            id: config.id(),
+            listener,
+            peers: peers_of(alloc, config)?,
+            door: Door::new(alloc)?,
+            senders: Senders::new(),
+            out_of_memory: AtomicBool::new(false),
+        })
+    }
+
+    /// The other sites, in order.
+    pub fn peers(&self) -> &[Peer] {
+        self.peers.as_slice()
+    }
+
+    /// The peer of that number, if the system has it.
+    pub fn peer(&self, site: SiteId) -> Option<&Peer> {
+        self.peers.iter().find(|peer| peer.site == site)
+    }
+
+    /// Notes that the program can't go on for want of memory. The command thread ends it at its next read.
+    pub fn fail(&self) {
+        self.out_of_memory.store(true, Ordering::SeqCst);
+    }
+
+    /// Whether the program can't go on for want of memory.
+    pub fn has_failed(&self) -> bool {
+        self.out_of_memory.load(Ordering::SeqCst)
+    }
+
+    /// The next connection that finds a place to wait for its first line at. None once the site ends.
+    pub(crate) fn next_caller<R: Wait + Clock>(&self, rt: &R) -> Option<(TcpStream, usize)> {
+        for stream in self.listener.incoming() {
+            if self.door.is_closed(rt) {
+                return None;
+            }
+            let Ok(stream) = stream else {
+                thread::sleep(rt, Duration::from_millis(REST_MILLISECONDS));
+                continue;
+            };
+            if let Some(place) = self.door.enter(rt, &stream) {
+                return Some((stream, place));
+            }
+        }
+        None
+    }
+
+    /// Ends all threads: lines that wait are still sent for a while, and then no stream is left open.
+    pub fn shut_down<R: Net<Stream = TcpStream> + Wait + Clock>(&self, rt: &R) {
+        for peer in &self.peers {
+            peer.outbox.end(rt);
+        }
+        self.senders
+            .wait_for_all(rt, Duration::from_secs(LAST_LINES_SECONDS));
+        self.door.close(rt);
+        for peer in &self.peers {
+            peer.close(rt);
+        }
+        // The accepting thread wakes by one more connection.
+        if let Ok(address) = self.listener.local_addr() {
+            let _ = TcpStream::connect_timeout(rt, &address, Duration::from_secs(CONNECT_SECONDS));
+        }
+    }
+}
