@@ -9,10 +9,9 @@ ghost use Rattle.rights_program.specs.declared.fault.Fault.{Fault};
 use crate::fault::Fault;
 use crate::run::{report, run_words};
 use site_words::{Config, SiteFault};
-use std::alloc::Allocator;
+use std::alloc::{Allocator, Global};
 use std::env::{Args, Env};
 use std::io::{ErrorKind, Read, Write};
-use std::sync::Wait;
 use std::{env, io};
 
 /// What it means that the words cannot be told: one is no text, or there is no memory for them.
@@ -55,13 +54,12 @@ fn given_words<V: Env + Alloc>(env: &V) -> Result<Vec<String<V::A>, V::A>, Fault
 /// Runs the program on the words that its process was given, and answers the exit status. Where they
 /// cannot be told, `errors` is told why.
 pub fn run_given<
-    T: Wait + AllocGlobal,
     F: FnOnce(Config, &mut R, &mut W) -> Result<(), SiteFault>,
     V: Env + Alloc,
     R: Read,
     W: Write,
     E: Write,
->(rt: &T, run: F, env: &V, reader: &mut R, writer: &mut W, errors: &mut E) -> u8
+>(alloc: Global, run: F, env: &V, reader: &mut R, writer: &mut W, errors: &mut E) -> u8
     requires { F.IsAlwaysCallable run }
     ensures { EndsWith result (E.contents errors.old) (E.contents errors.new) }
 {
@@ -73,5 +71,5 @@ pub fn run_given<
         Ok(texts) => texts,
         Err(fault) => return report(errors, fault),
     };
-    run_words(rt, run, texts.as_slice(), reader, writer, errors)
+    run_words(alloc, run, texts.as_slice(), reader, writer, errors)
 }

@@ -13,8 +13,8 @@ ghost use Rattle.rights_program.specs.declared.fault.Fault.{Fault};
 use crate::fault::Fault;
 use line_streams::write_whole;
 use site_words::{Command, Config, SiteFault, read_words};
+use std::alloc::Global;
 use std::io::{Read, Write};
-use std::sync::Wait;
 use transfer_world::run_last_script;
 
 /// Says why the program stops, and answers the exit status. What cannot be said is left out.
@@ -28,12 +28,13 @@ pub(crate) fn report<E: Write>(errors: &mut E, fault: Fault) -> u8
 
 /// Does what the words ask for.
 #[tactic(auto, using(crate::proofs::Endings::endings))]
-fn run_command<
-    T: Wait + AllocGlobal,
-    F: FnOnce(Config, &mut R, &mut W) -> Result<(), SiteFault>,
-    R: Read,
-    W: Write,
->(rt: &T, run: F, words: &[&str], reader: &mut R, writer: &mut W) -> Result<(), Fault>
+fn run_command<F: FnOnce(Config, &mut R, &mut W) -> Result<(), SiteFault>, R: Read, W: Write>(
+    alloc: Global,
+    run: F,
+    words: &[&str],
+    reader: &mut R,
+    writer: &mut W,
+) -> Result<(), Fault>
     requires { F.IsAlwaysCallable run }
     ensures may { MayEnd (asked_by (texts words.now)) result }
     ensures answered { asked_by (texts words.now) ≡ script
@@ -42,8 +43,8 @@ fn run_command<
     ensures unwritten { asked_by (texts words.now) ≡ nothing → writer.new ≡ writer.old }
     ensures refused { result ≡ Err Fault.BadCommandLine → (reader.new ≡ reader.old) × (writer.new ≡ writer.old) }
 {
-    match read_words(rt.alloc(), words)? {
-        Command::Sim => run_last_script(rt.alloc(), reader, writer)?,
+    match read_words(alloc, words)? {
+        Command::Sim => run_last_script(alloc, reader, writer)?,
         Command::Run(config) => run(config, reader, writer)?,
         Command::Help(text) => write_whole(writer, text.as_bytes())?,
     }
@@ -53,12 +54,11 @@ fn run_command<
 /// Runs the program on its words, without its name: does what they ask for, a site by `run`, says on
 /// `errors` what stopped it, and answers the exit status.
 pub fn run_words<
-    T: Wait + AllocGlobal,
     F: FnOnce(Config, &mut R, &mut W) -> Result<(), SiteFault>,
     R: Read,
     W: Write,
     E: Write,
->(rt: &T, run: F, words: &[&str], reader: &mut R, writer: &mut W, errors: &mut E) -> u8
+>(alloc: Global, run: F, words: &[&str], reader: &mut R, writer: &mut W, errors: &mut E) -> u8
     requires { F.IsAlwaysCallable run }
     // The status and the line on `errors` are those of one ending, which the words allow. Where they
     // ask for it, the script was answered, and ended so.
@@ -72,7 +72,7 @@ pub fn run_words<
     ensures unwritten { asked_by (texts words.now) ≡ nothing → writer.new ≡ writer.old }
     ensures quiet { result ≡ 0 → errors.new ≡ errors.old }
 {
-    match run_command(rt, run, words, reader, writer) {
+    match run_command(alloc, run, words, reader, writer) {
         Ok(()) => 0,
         Err(fault) => report(errors, fault),
     }

@@ -7,7 +7,7 @@ use std::process::ExitCode;
 
 fn main(rt: HostRuntime) -> ExitCode {
     ExitCode::from(run_given(
-        &rt,
+        rt.alloc(),
         |config, reader, writer| run_site(&rt, config, reader, writer),
         &rt,
         &mut rt.stdin(),

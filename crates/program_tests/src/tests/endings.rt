@@ -1,16 +1,11 @@
-//! How the program ends where its words find no memory, and the texts of faults.
+//! How the program ends as its site does, and where its words find no memory; and the texts of faults.
 use refusing_allocator::Refusing;
 use rights_program::{run_given, run_words};
-use site_server::run_site;
 use site_words::{Command, SiteFault, read_words};
 use std::alloc::Global;
 use std::env::{Env, FillError};
 use std::io;
 use std::io::Write;
-use std::net::{Net, TcpListener, TcpStream};
-use std::sync::Wait;
-use std::thread::Threads;
-use std::time::Clock;
 use test_kit::Slow;
 
 /// A writer that takes no byte.
@@ -76,12 +71,7 @@ const REFUSED: &str = "rights-site: bad command line\n";
 const OUT_OF_MEMORY: &str = "rights-site: out of memory\n";
 
 /// Whether the program ends with this status and this line where its site ends so.
-fn ends_with<T: Wait + AllocGlobal>(
-    rt: &T,
-    of_site: Result<(), SiteFault>,
-    status: u8,
-    line: &str,
-) -> bool {
+fn ends_with(alloc: Global, of_site: Result<(), SiteFault>, status: u8, line: &str) -> bool {
     let words = [
         "run",
         "--id",
@@ -92,9 +82,9 @@ fn ends_with<T: Wait + AllocGlobal>(
         ":0",
         "2=other:1",
     ];
-    let mut errors = Vec::new(rt.alloc());
+    let mut errors = Vec::new(alloc);
     let answer = run_words(
-        rt,
+        alloc,
         |_config, _reader, _writer| of_site,
         &words,
         &mut b"".as_slice(),
@@ -107,10 +97,11 @@ fn ends_with<T: Wait + AllocGlobal>(
 /// What its site ends with is what the program ends with.
 #[test]
 fn the_program_ends_as_its_site(rt: HostRuntime) {
-    assert!(rt; ends_with(&rt, Ok(()), 0, ""));
+    let alloc = rt.alloc();
+    assert!(rt; ends_with(alloc, Ok(()), 0, ""));
     assert!(rt;
         ends_with(
-            &rt,
+            alloc,
             Err(SiteFault::CannotListen),
             1,
             "rights-site: cannot listen\n"
@@ -118,7 +109,7 @@ fn the_program_ends_as_its_site(rt: HostRuntime) {
     );
     assert!(rt;
         ends_with(
-            &rt,
+            alloc,
             Err(SiteFault::ReadFailed),
             1,
             "rights-site: read failed\n"
@@ -126,16 +117,16 @@ fn the_program_ends_as_its_site(rt: HostRuntime) {
     );
     assert!(rt;
         ends_with(
-            &rt,
+            alloc,
             Err(SiteFault::WriteFailed),
             1,
             "rights-site: write failed\n"
         )
     );
-    assert!(rt; ends_with(&rt, Err(SiteFault::OutOfMemory), 1, OUT_OF_MEMORY));
+    assert!(rt; ends_with(alloc, Err(SiteFault::OutOfMemory), 1, OUT_OF_MEMORY));
     assert!(rt;
         ends_with(
-            &rt,
+            alloc,
             Err(SiteFault::TooManyLines),
             1,
             "rights-site: too many lines\n"
@@ -145,25 +136,19 @@ fn the_program_ends_as_its_site(rt: HostRuntime) {
 
 /// Whether the program ends with this status on these words, and all of this text and of this line is written, however
 /// few bytes a write takes.
-fn writes_slowly<
-    T: Net<Listener = TcpListener, Stream = TcpStream>
-        + Threads
-        + Wait
-        + Clock
-        + AllocGlobal
-        + Sync,
->(rt: &T, words: &[&str], status: u8, text: &[u8], line: &str) -> bool {
+fn writes_slowly(alloc: Global, words: &[&str], status: u8, text: &[u8], line: &str) -> bool {
     let mut writer = Slow {
-        text: Vec::new(rt.alloc()),
+        text: Vec::new(alloc),
         step: 7,
     };
     let mut errors = Slow {
-        text: Vec::new(rt.alloc()),
+        text: Vec::new(alloc),
         step: 7,
     };
     let answer = run_words(
-        rt,
-        |config, reader, writer| run_site(rt, config, reader, writer),
+        alloc,
+        // No site is asked for: the program would end by its fault.
+        |_config, _reader, _writer| Err(SiteFault::ReadFailed),
         words,
         &mut b"".as_slice(),
         &mut writer,
@@ -173,16 +158,9 @@ fn writes_slowly<
 }
 
 /// The same of words that ask for help, with its text.
-fn writes_help<
-    T: Net<Listener = TcpListener, Stream = TcpStream>
-        + Threads
-        + Wait
-        + Clock
-        + AllocGlobal
-        + Sync,
->(rt: &T, words: &[&str]) -> bool {
-    match read_words(rt.alloc(), words) {
-        Ok(Command::Help(text)) => writes_slowly(rt, words, 0, text.as_bytes(), ""),
+fn writes_help(alloc: Global, words: &[&str]) -> bool {
+    match read_words(alloc, words) {
+        Ok(Command::Help(text)) => writes_slowly(alloc, words, 0, text.as_bytes(), ""),
         _ => false,
     }
 }
@@ -190,10 +168,11 @@ fn writes_help<
 /// So it is with help texts and with the line of a fault.
 #[test]
 fn slow_writers_get_all(rt: HostRuntime) {
-    assert!(rt; writes_help(&rt, &["--help"]));
-    assert!(rt; writes_help(&rt, &["sim", "--help"]));
-    assert!(rt; writes_help(&rt, &["run", "--id", "1", "-h"]));
-    assert!(rt; writes_slowly(&rt, &["walk"], 2, b"", REFUSED));
+    let alloc = rt.alloc();
+    assert!(rt; writes_help(alloc, &["--help"]));
+    assert!(rt; writes_help(alloc, &["sim", "--help"]));
+    assert!(rt; writes_help(alloc, &["run", "--id", "1", "-h"]));
+    assert!(rt; writes_slowly(alloc, &["walk"], 2, b"", REFUSED));
 }
 
 /// What came of the words of a process, with some requests for memory granted and the next one refused.
@@ -209,20 +188,14 @@ enum Ending {
 }
 
 /// How a process with these words ends, which with ample memory has this status and line.
-fn ending_with<
-    T: Net<Listener = TcpListener, Stream = TcpStream>
-        + Threads
-        + Wait
-        + Clock
-        + AllocGlobal
-        + Sync,
->(rt: &T, words: &[&[u8]], granted: u64, status: u8, line: &str) -> Ending {
-    let refusing = Refusing::new(rt.alloc(), granted);
-    let mut errors = Vec::new(rt.alloc());
+fn ending_with(alloc: Global, words: &[&[u8]], granted: u64, status: u8, line: &str) -> Ending {
+    let refusing = Refusing::new(alloc, granted);
+    let mut errors = Vec::new(alloc);
     let env = (&Words(words), &refusing);
     let answer = run_given(
-        rt,
-        |config, reader, writer| run_site(rt, config, reader, writer),
+        alloc,
+        // No site is asked for: the program would end by its fault.
+        |_config, _reader, _writer| Err(SiteFault::ReadFailed),
         &env,
         &mut b"".as_slice(),
         &mut Full,
@@ -242,17 +215,10 @@ fn ending_with<
 
 /// How many of the requests that the words take stop the program where they are refused; none where some
 /// run does not end as it should.
-fn stops<
-    T: Net<Listener = TcpListener, Stream = TcpStream>
-        + Threads
-        + Wait
-        + Clock
-        + AllocGlobal
-        + Sync,
->(rt: &T, words: &[&[u8]], status: u8, line: &str) -> Option<u64> {
+fn stops(alloc: Global, words: &[&[u8]], status: u8, line: &str) -> Option<u64> {
     let mut stopped = 0u64;
     for granted in 0..100 {
-        match ending_with(rt, words, granted, status, line) {
+        match ending_with(alloc, words, granted, status, line) {
             Ending::Stopped => stopped = stopped.saturating_add(1),
             // It can do without some of the memory that it asks for.
             Ending::Managed => {}
@@ -264,25 +230,19 @@ fn stops<
 }
 
 /// Whether the words end as they should, and some of the requests that they take stop the program.
-fn may_stop<
-    T: Net<Listener = TcpListener, Stream = TcpStream>
-        + Threads
-        + Wait
-        + Clock
-        + AllocGlobal
-        + Sync,
->(rt: &T, words: &[&[u8]], status: u8, line: &str) -> bool {
-    stops(rt, words, status, line).is_some_and(|stopped| stopped > 2)
+fn may_stop(alloc: Global, words: &[&[u8]], status: u8, line: &str) -> bool {
+    stops(alloc, words, status, line).is_some_and(|stopped| stopped > 2)
 }
 
 /// Each request for memory that the words take is refused in turn: where they cannot do without it, it is
 /// want of memory that ends the program, and else what the words ask for.
 #[test]
 fn each_growth_for_the_words_refused(rt: HostRuntime) {
-    assert!(rt; may_stop(&rt, &[b"rights-site", b"sim"], 0, ""));
-    assert!(rt; may_stop(&rt, &[b"rights-site"], 2, REFUSED));
-    assert!(rt; may_stop(&rt, &[b"rights-site", b"sim", b"7"], 2, REFUSED));
-    assert!(rt; may_stop(&rt, &[b"rights-site", b"\xff"], 2, REFUSED));
-    assert!(rt; may_stop(&rt, &[b"rights-site", b"run", b"--id"], 2, REFUSED));
-    assert!(rt; may_stop(&rt, &[b"rights-site", b"run", b"2=\xff"], 2, REFUSED));
+    let alloc = rt.alloc();
+    assert!(rt; may_stop(alloc, &[b"rights-site", b"sim"], 0, ""));
+    assert!(rt; may_stop(alloc, &[b"rights-site"], 2, REFUSED));
+    assert!(rt; may_stop(alloc, &[b"rights-site", b"sim", b"7"], 2, REFUSED));
+    assert!(rt; may_stop(alloc, &[b"rights-site", b"\xff"], 2, REFUSED));
+    assert!(rt; may_stop(alloc, &[b"rights-site", b"run", b"--id"], 2, REFUSED));
+    assert!(rt; may_stop(alloc, &[b"rights-site", b"run", b"2=\xff"], 2, REFUSED));
 }
