@@ -1,7 +1,7 @@
 //! How the program ends as its site does, and where its words find no memory; and the texts of faults.
 use refusing_allocator::Refusing;
 use rights_program::{run_given, run_words};
-use site_words::{Command, SiteFault, read_words};
+use site_words::{Command, Config, SiteFault, read_words};
 use std::alloc::Global;
 use std::env::{Env, FillError};
 use std::io;
@@ -134,6 +134,11 @@ fn the_program_ends_as_its_site(rt: HostRuntime) {
     );
 }
 
+/// Stands for a site that no words ask for: the program would end by its fault.
+fn no_site<R, W>(_config: Config, _reader: &mut R, _writer: &mut W) -> Result<(), SiteFault> {
+    Err(SiteFault::ReadFailed)
+}
+
 /// Whether the program ends with this status on these words, and all of this text and of this line is written, however
 /// few bytes a write takes.
 fn writes_slowly(alloc: Global, words: &[&str], status: u8, text: &[u8], line: &str) -> bool {
@@ -147,8 +152,7 @@ fn writes_slowly(alloc: Global, words: &[&str], status: u8, text: &[u8], line: &
     };
     let answer = run_words(
         alloc,
-        // No site is asked for: the program would end by its fault.
-        |_config, _reader, _writer| Err(SiteFault::ReadFailed),
+        no_site,
         words,
         &mut b"".as_slice(),
         &mut writer,
@@ -194,8 +198,7 @@ fn ending_with(alloc: Global, words: &[&[u8]], granted: u64, status: u8, line: &
     let env = (&Words(words), &refusing);
     let answer = run_given(
         alloc,
-        // No site is asked for: the program would end by its fault.
-        |_config, _reader, _writer| Err(SiteFault::ReadFailed),
+        no_site,
         &env,
         &mut b"".as_slice(),
         &mut Full,
