@@ -1,3 +1,4 @@
 pub mod WriteLaws
 pub mod CutLaws
 pub mod CountLaws
+pub mod WordLaws

@@ -1,8 +1,13 @@
-//! Lines of text over readers and writers: a text written whole, and how many lines a stream may bring.
+//! Lines of text over readers and writers: the words of a line, a text written whole, and how many lines a stream may
+//! bring.
 #![tactic(auto)]
 
 mod limit;
+mod words;
 mod write;
 
 pub use limit::LINE_LIMIT;
+pub use words::{
+    first_number, first_site, named, only_in, only_number, only_site, optional_site, split_word,
+};
 pub use write::{WriteFault, write_whole};

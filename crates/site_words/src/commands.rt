@@ -1,7 +1,10 @@
 //! The commands of a site that runs.
+ghost use Rattle.std.specs.Prelude.{◌≡◌};
+ghost use Rattle.line_streams.specs.Words.{words_left};
+ghost use Rattle.site_words.specs.Commands.{give_in, spend_in, alone, command_by, name_of, command_of};
 
-use entry_codec::{first_decimal, split_first};
-use rights_types::{MAX_SITES, SiteId};
+use line_streams::{first_number, first_site, named, only_number, optional_site, split_word};
+use rights_types::SiteId;
 
 /// What a line asks of a site.
 #[derive(Clone, Copy)]
@@ -24,93 +27,86 @@ pub enum SiteCommand {
     Quit,
 }
 
-/// The words of a line, read one after another.
-#[derive(Drop)]
-struct Words<'a> {
-    rest: Option<&'a [u8]>,
+/// The first word of a command.
+#[derive(Clone, Copy)]
+enum Name {
+    Issue,
+    Give,
+    Spend,
+    Outcome,
+    Tick,
+    Status,
+    Close,
+    Quit,
 }
 
-impl<'a> Words<'a> {
-    fn next(&mut self) -> Option<&'a [u8]> {
-        let (word, rest) = split_first(self.rest?, b' ');
-        self.rest = rest;
-        Some(word)
-    }
+const NAMES: [(&[u8], Name); 8] = [
+    (b"issue", Name::Issue),
+    (b"give", Name::Give),
+    (b"spend", Name::Spend),
+    (b"outcome", Name::Outcome),
+    (b"tick", Name::Tick),
+    (b"status", Name::Status),
+    (b"close", Name::Close),
+    (b"quit", Name::Quit),
+];
 
-    fn is_at_end(&self) -> bool {
-        self.rest.is_none()
-    }
+#[tactic(auto, unfolding(crate::specs::Commands::give_in))]
+fn read_give(words: Option<&[u8]>) -> Option<SiteCommand>
+    ensures { result ≡ give_in (words_left words.entry) }
+{
+    let (peer, words) = first_site(words)?;
+    let amount = only_number(words)?;
+    Some(SiteCommand::Give(SiteId::known(peer), amount))
+}
 
-    fn number_in(&mut self, low: u64, high: u64) -> Option<u64> {
-        let (number, rest) = first_decimal(self.rest, b' ', low, high)?;
-        self.rest = rest;
-        Some(number)
-    }
+#[tactic(auto, unfolding(crate::specs::Commands::spend_in))]
+fn read_spend(words: Option<&[u8]>) -> Option<SiteCommand>
+    ensures { result ≡ spend_in (words_left words.entry) }
+{
+    let (amount, words) = first_number(words)?;
+    let deadline = only_number(words)?;
+    Some(SiteCommand::Spend(amount, deadline))
+}
 
-    fn number(&mut self) -> Option<u64> {
-        self.number_in(0, u64::MAX)
-    }
-
-    fn site(&mut self) -> Option<SiteId> {
-        SiteId::new(self.number_in(1, MAX_SITES)?).ok()
+/// A command that has its name alone.
+fn alone(command: SiteCommand, words: Option<&[u8]>) -> Option<SiteCommand>
+    ensures { result ≡ alone command (words_left words.entry) }
+{
+    match words {
+        None => Some(command),
+        Some(_) => None,
     }
 }
 
-impl Words<'_> {
-    fn issue(&mut self) -> Option<SiteCommand> {
-        Some(SiteCommand::Issue(self.number()?))
+/// The command of this name, by the words behind it.
+fn command_by(name: Name, words: Option<&[u8]>) -> Option<SiteCommand>
+    ensures { result ≡ command_by name (words_left words.entry) }
+{
+    match name {
+        Name::Issue => Some(SiteCommand::Issue(only_number(words)?)),
+        Name::Give => read_give(words),
+        Name::Spend => read_spend(words),
+        Name::Outcome => Some(SiteCommand::Outcome(only_number(words)?)),
+        Name::Tick => Some(SiteCommand::Tick(only_number(words)?)),
+        Name::Status => alone(SiteCommand::Status, words),
+        Name::Close => Some(SiteCommand::Close(optional_site(words)?)),
+        Name::Quit => alone(SiteCommand::Quit, words),
     }
+}
 
-    fn give(&mut self) -> Option<SiteCommand> {
-        let peer = self.site()?;
-        Some(SiteCommand::Give(peer, self.number()?))
-    }
-
-    fn spend(&mut self) -> Option<SiteCommand> {
-        let amount = self.number()?;
-        Some(SiteCommand::Spend(amount, self.number()?))
-    }
-
-    fn outcome(&mut self) -> Option<SiteCommand> {
-        Some(SiteCommand::Outcome(self.number()?))
-    }
-
-    fn tick(&mut self) -> Option<SiteCommand> {
-        Some(SiteCommand::Tick(self.number()?))
-    }
-
-    fn close(&mut self) -> Option<SiteCommand> {
-        if self.is_at_end() {
-            return Some(SiteCommand::Close(None));
-        }
-        Some(SiteCommand::Close(Some(self.site()?)))
-    }
-
-    /// The command of this name, by the words behind it.
-    fn command(&mut self, name: &[u8]) -> Option<SiteCommand> {
-        match name {
-            b"issue" => self.issue(),
-            b"give" => self.give(),
-            b"spend" => self.spend(),
-            b"outcome" => self.outcome(),
-            b"tick" => self.tick(),
-            b"status" => Some(SiteCommand::Status),
-            b"close" => self.close(),
-            b"quit" => Some(SiteCommand::Quit),
-            _ => None,
-        }
-    }
+#[tactic(auto, unfolding(crate::specs::Commands::name_of))]
+fn name_of(text: &[u8]) -> Option<Name>
+    ensures { result ≡ name_of text.now }
+{
+    named(&NAMES, text)
 }
 
 /// The command that a line spells, given without its line feed. Words are parted by one space each, and
 /// numbers are decimals with no sign and no leading zero.
-pub fn read_command(line: &[u8]) -> Option<SiteCommand> {
-    let mut words = Words { rest: Some(line) };
-    let name = words.next()?;
-    let command = words.command(name)?;
-    if words.is_at_end() {
-        Some(command)
-    } else {
-        None
-    }
+pub fn read_command(line: &[u8]) -> Option<SiteCommand>
+    ensures { result ≡ command_of line.now }
+{
+    let (first, words) = split_word(line);
+    command_by(name_of(first)?, words)
 }

@@ -8,8 +8,9 @@ use Rattle.rights_types.specs.declared.moves.Move.{Move}
 use Rattle.entry_codec.specs.Moves.{◌>>=◌, move_of}
 use Rattle.std.specs.List.{join_with_byte}
 use Rattle.std.proofs.lemmas.List.Splits.{join_with_byte-slice_split}
-use Rattle.transfer_world.specs.Commands.{words_of, words_left, moves_in, only_site, heir_in, text_of, command_in, command_of}
-use Rattle.transfer_world.proofs.WordLaws.{split_some}
+use Rattle.line_streams.specs.Words.{words_of, words_left}
+use Rattle.line_streams.proofs.WordLaws.{split_some}
+use Rattle.transfer_world.specs.Commands.{moves_in, text_of, command_in, command_of}
 
 -- these moves, and then those
 abbrev pub after_moves : List Move → Option (List Move) → Option (List Move)
@@ -47,9 +48,6 @@ pub text_whole : (text : Bor (List ℕ)) → text_of (words_of text.now) ≡ Som
 text_whole text =
     let words = split_some (λ (b : ℕ). b == 32) text.now in
     rw words.2 (ap Some (ap (join_with_byte 32) (sym words.2) ∙ join_with_byte-slice_split 32 text.now))
-
-pub heir_named : (text : Bor (List ℕ)) → heir_in (words_of text.now) ≡ (only_site (words_of text.now) >>= (λ heir. Some (Some heir)))
-heir_named text = let words = split_some (λ (b : ℕ). b == 32) text.now in rw words.2 refl
 
 module _ {A : Type 0} (text : List ℕ) where
   pub short_line : length text < 16384 → command_of {A = A} (text ++ 10 ∷ []) ≡ command_in text

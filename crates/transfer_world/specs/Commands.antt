@@ -6,7 +6,8 @@ use Rattle.std.specs.Borrow.{Bor}
 use Rattle.std.specs.Str.{bytes_eq}
 use Rattle.rights_types.specs.declared.moves.Move.{Move}
 use Rattle.rights_types.specs.declared.limits.TheConstants.{MIN_SITES, MAX_SITES, MAX_LINE}
-use Rattle.entry_codec.specs.Moves.{◌>>=◌, first_number as first_in, only_number as only_in, move_of}
+use Rattle.entry_codec.specs.Moves.{◌>>=◌, only_number as only_in, move_of}
+use Rattle.line_streams.specs.Words.{words_of, named, first_site, first_number, only_site, only_number, optional_site}
 use Rattle.world_core.specs.declared.event.Event.{Event}
 use Rattle.world_core.specs.declared.event.Event.TheVariants.{Post, Issue, Give, Spend, Serve, Expire, Status, Plan, Ask, Publish, Beat, Query, Arrive, Noise, Take, Close}
 use Rattle.transfer_world.specs.declared.script.word.SiteWord.{SiteWord}
@@ -19,38 +20,6 @@ use Rattle.transfer_world.specs.declared.script.commands.Command.{Command}
 use Rattle.transfer_world.specs.declared.script.commands.Command.TheVariants.{Sites, Act, Report}
 
 -- ---- words
-
-abbrev pub words_of : List ℕ → List (List ℕ)
-words_of text = slice_split (λ b. b == 32) text
-
--- the words of the rest of a line, if there is one
-abbrev pub words_left : Option (Bor (List ℕ)) → List (List ℕ)
-words_left None = []
-words_left (Some text) = words_of text.now
-
--- the site or the number that the first word spells, and the words after it
-abbrev pub first_site : List (List ℕ) → Option (ℕ × List (List ℕ))
-first_site words = first_in 1 MAX_SITES words
-
-abbrev pub first_number : List (List ℕ) → Option (ℕ × List (List ℕ))
-first_number words = first_in 0 (2 ^ 64 - 1) words
-
--- the site or the number that the only word spells
-abbrev pub only_site : List (List ℕ) → Option ℕ
-only_site words = only_in 1 MAX_SITES words
-
-abbrev pub only_number : List (List ℕ) → Option ℕ
-only_number words = only_in 0 (2 ^ 64 - 1) words
-
--- what a name stands for, by a table
-abbrev pub named : {X : Type 0} → List (List ℕ × X) → List ℕ → Option X
-named [] text = None
-named (entry ∷ others) text = if bytes_eq text entry.0 then Some entry.1 else named others text
-
--- the names of a table as they are seen
-abbrev pub names_of : {X : Type 0} → List (Bor (List ℕ) × X) → List (List ℕ × X)
-names_of [] = []
-names_of (entry ∷ others) = (entry.0.now, entry.1) ∷ names_of others
 
 abbrev pub first_some : {X : Type 0} → Option X → Option X → Option X
 first_some None other = other
@@ -124,14 +93,7 @@ two_sites words = do
   o ← only_site s.1
   Some (s.0, o)
 
--- the heir, where one is named
-abbrev pub heir_in : List (List ℕ) → Option (Option ℕ)
-heir_in [] = Some None
-heir_in (word ∷ words) = do
-  heir ← only_site (word ∷ words)
-  Some (Some heir)
-
--- an event at one site
+-- an event at one site; the heir of one that closes may be left out
 unfoldable pub site_event : {A : Type 0} → SiteWord → List (List ℕ) → Option (Event A)
 site_event SaysIssue words = do
   v ← site_and_number words
@@ -162,7 +124,7 @@ site_event SaysArrive words = do
   Some (Arrive v.0 v.1)
 site_event SaysClose words = do
   s ← first_site words
-  heir ← heir_in s.1
+  heir ← optional_site s.1
   Some (Close s.0 heir)
 
 -- an event between two sites

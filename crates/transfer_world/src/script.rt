@@ -8,7 +8,6 @@ mod put;
 mod report;
 mod session;
 mod word;
-mod words;
 
 pub use fault::ScriptFault;
 pub use session::{run_last_script, run_script};

@@ -1,11 +1,14 @@
 //! What the lines of a script ask for.
 ghost use Rattle.std.specs.Prelude.{◌≡◌, [], ◌∷◌, ◌++◌, ◌≤◌, length, vec_capacity, IfOk};
 ghost use Rattle.entry_codec.specs.Parts.{Finds};
-ghost use Rattle.transfer_world.specs.Commands.{words_of, words_left, moves_in, site_and_number, two_sites, heir_in, site_event, link_event, event_on_link, post_of, noise_parts, noise_of, sites_of, report_of, act, command_by, command_in, command_of};
+ghost use Rattle.line_streams.specs.Words.{words_of, words_left};
+ghost use Rattle.transfer_world.specs.Commands.{moves_in, site_and_number, two_sites, site_event, link_event, event_on_link, post_of, noise_parts, noise_of, sites_of, report_of, act, command_by, command_in, command_of};
 
 use crate::script::word::{LinkWord, SiteWord, Word, first_word};
-use crate::script::words::{first_number, first_site, only_in, only_number, only_site, split_word};
 use entry_codec::read_move;
+use line_streams::{
+    first_number, first_site, only_in, only_number, only_site, optional_site, split_word,
+};
 use rights_types::{MAX_LINE, MAX_SITES, MIN_SITES, Move, OutOfMemory, SiteId};
 use site_core::Line;
 use std::alloc::Allocator;
@@ -156,16 +159,6 @@ fn two_sites(values: Option<&[u8]>) -> Option<(SiteId, SiteId)>
     Some((SiteId::known(site), only_site(rest)?))
 }
 
-/// The heir, where one is named.
-fn heir_in(values: Option<&[u8]>) -> Option<Option<SiteId>>
-    ensures { result ≡ heir_in (words_left values.entry) }
-{
-    match values {
-        None => Some(None),
-        Some(_) => Some(Some(only_site(values)?)),
-    }
-}
-
 #[tactic(auto, unfolding(crate::specs::Commands::site_event))]
 fn give_event<A: Allocator>(values: Option<&[u8]>) -> Option<Event<A>>
     ensures { result ≡ site_event SiteWord.Give (words_left values.entry) }
@@ -190,7 +183,7 @@ fn close_event<A: Allocator>(values: Option<&[u8]>) -> Option<Event<A>>
     ensures { result ≡ site_event SiteWord.Close (words_left values.entry) }
 {
     let (site, rest) = first_site(values)?;
-    Some(Event::Close(SiteId::known(site), heir_in(rest)?))
+    Some(Event::Close(SiteId::known(site), optional_site(rest)?))
 }
 
 #[tactic(auto, unfolding(crate::specs::Commands::site_event))]

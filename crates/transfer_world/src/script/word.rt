@@ -1,9 +1,10 @@
 //! The first words of commands.
 ghost use Rattle.std.specs.Prelude.{◌≡◌, IfSome};
 ghost use Rattle.entry_codec.specs.Parts.{Finds};
-ghost use Rattle.transfer_world.specs.Commands.{words_of, words_left, named, names_of, site_word, link_word, plain_word, word_of, word_in, Spells, IsWordIn};
+ghost use Rattle.line_streams.specs.Words.{words_of, words_left};
+ghost use Rattle.transfer_world.specs.Commands.{site_word, link_word, plain_word, word_of, word_in, Spells, IsWordIn};
 
-use crate::script::words::split_word;
+use line_streams::{named, split_word};
 
 /// What the first word of a line asks for.
 #[derive(Clone, Copy)]
@@ -71,18 +72,6 @@ const PLAIN_WORDS: [(&[u8], Word); 4] = [
     (b"noise", Word::Noise),
     (b"report", Word::Report),
 ];
-
-/// What a text stands for, by a table.
-fn named<X: Copy>(table: &[(&[u8], X)], text: &[u8]) -> Option<X>
-    ensures { result ≡ named (names_of table.now) text.now }
-{
-    for (name, meaning) in table {
-        if text == *name {
-            return Some(*meaning);
-        }
-    }
-    None
-}
 
 #[tactic(auto, unfolding(crate::specs::Commands::site_word))]
 fn site_word(text: &[u8]) -> Option<SiteWord>

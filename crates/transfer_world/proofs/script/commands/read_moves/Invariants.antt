@@ -1,5 +1,6 @@
 use Rattle.std.proofs.Common.{◌≡◌, length}
-use Rattle.transfer_world.specs.Commands.{moves_in, words_left}
+use Rattle.line_streams.specs.Words.{words_left}
+use Rattle.transfer_world.specs.Commands.{moves_in}
 use Rattle.transfer_world.proofs.CommandLaws.{after_moves}
 use Rattle.transfer_world.proofs.script.commands.read_moves.Given as goal
 

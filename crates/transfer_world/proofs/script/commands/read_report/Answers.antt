@@ -1,5 +1,5 @@
 use Rattle.std.proofs.Common.{◌==◌}
-use Rattle.transfer_world.proofs.WordLaws.{split_some}
+use Rattle.line_streams.proofs.WordLaws.{split_some}
 use Rattle.transfer_world.proofs.script.commands.read_report.Goals as goal
 
 pub returns-in-Some : goal.returns-in-Some

@@ -1,21 +1,33 @@
-//! Words of a line, read one after another.
+//! Words of a line, read one after another. One space parts them.
 ghost use Rattle.std.specs.Prelude.{◌≡◌, ◌∷◌, ◌==◌, ◌≤◌, length, is_none, IfSome};
 ghost use Rattle.std.specs.List.{slice_split};
 ghost use Rattle.rights_types.specs.Ranges.{IsSite};
 ghost use Rattle.entry_codec.specs.Moves.{first_number as first_in, only_number as only_in};
 ghost use Rattle.entry_codec.specs.Parts.{Finds};
-ghost use Rattle.transfer_world.specs.Commands.{words_left, first_site, only_site, first_number, only_number};
+ghost use Rattle.line_streams.specs.Words.{words_left, named, names_of, first_site, only_site, optional_site, first_number, only_number};
 
 use entry_codec::{first_decimal, split_first};
 use rights_types::{MAX_SITES, SiteId};
 
 /// The first word, and the text of the words after it.
 #[inline(always)]
-pub(crate) fn split_word(text: &[u8]) -> (&[u8], Option<&[u8]>)
+pub fn split_word(text: &[u8]) -> (&[u8], Option<&[u8]>)
     ensures words { slice_split (λ b. b == 32) text.now ≡ result.0.now ∷ words_left result.1 }
     ensures last { is_none result.1 ≡ (length (words_left result.1) == 0) }
 {
     split_first(text, b' ')
+}
+
+/// What a text stands for, by a table.
+pub fn named<X: Copy>(table: &[(&[u8], X)], text: &[u8]) -> Option<X>
+    ensures { result ≡ named (names_of table.now) text.now }
+{
+    for (name, meaning) in table {
+        if text == *name {
+            return Some(*meaning);
+        }
+    }
+    None
 }
 
 /// The number in the range that the first word spells, and the words after it.
@@ -28,10 +40,10 @@ fn first_in(words: Option<&[u8]>, low: u64, high: u64) -> Option<(u64, Option<&[
     first_decimal(words, b' ', low, high)
 }
 
-/// The number in the range that the only word spells.
+/// The number in the range that the only word spells: a decimal with no sign and no leading zero, as all numbers here.
 #[inline(always)]
 #[tactic(auto, unfolding(entry_codec::specs::Moves::only_number))]
-pub(crate) fn only_in(words: Option<&[u8]>, low: u64, high: u64) -> Option<u64>
+pub fn only_in(words: Option<&[u8]>, low: u64, high: u64) -> Option<u64>
     ensures value { result ≡ only_in low high (words_left words.entry) }
     ensures range { IfSome result (λ n. (low ≤ n) × (n ≤ high)) }
 {
@@ -44,7 +56,7 @@ pub(crate) fn only_in(words: Option<&[u8]>, low: u64, high: u64) -> Option<u64>
 
 /// The number of the site that the first word spells, and the words after it.
 #[inline(always)]
-pub(crate) fn first_site(words: Option<&[u8]>) -> Option<(u64, Option<&[u8]>)>
+pub fn first_site(words: Option<&[u8]>) -> Option<(u64, Option<&[u8]>)>
     ensures value { Finds (λ x. (x.0, words_left x.1)) result (first_site (words_left words.entry)) }
     ensures range { IfSome result (λ x. IsSite x.0) }
 {
@@ -53,15 +65,25 @@ pub(crate) fn first_site(words: Option<&[u8]>) -> Option<(u64, Option<&[u8]>)>
 
 /// The site that the only word spells.
 #[inline(always)]
-pub(crate) fn only_site(words: Option<&[u8]>) -> Option<SiteId>
+pub fn only_site(words: Option<&[u8]>) -> Option<SiteId>
     ensures { result ≡ only_site (words_left words.entry) }
 {
     Some(SiteId::known(only_in(words, 1, MAX_SITES)?))
 }
 
+/// The site that the only word spells, where there is a word.
+pub fn optional_site(words: Option<&[u8]>) -> Option<Option<SiteId>>
+    ensures { result ≡ optional_site (words_left words.entry) }
+{
+    match words {
+        None => Some(None),
+        Some(_) => Some(Some(only_site(words)?)),
+    }
+}
+
 /// The number that the first word spells, and the words after it.
 #[inline(always)]
-pub(crate) fn first_number(words: Option<&[u8]>) -> Option<(u64, Option<&[u8]>)>
+pub fn first_number(words: Option<&[u8]>) -> Option<(u64, Option<&[u8]>)>
     ensures { Finds (λ x. (x.0, words_left x.1)) result (first_number (words_left words.entry)) }
 {
     first_in(words, 0, u64::MAX)
@@ -69,7 +91,7 @@ pub(crate) fn first_number(words: Option<&[u8]>) -> Option<(u64, Option<&[u8]>)>
 
 /// The number that the only word spells.
 #[inline(always)]
-pub(crate) fn only_number(words: Option<&[u8]>) -> Option<u64>
+pub fn only_number(words: Option<&[u8]>) -> Option<u64>
     ensures { result ≡ only_number (words_left words.entry) }
 {
     only_in(words, 0, u64::MAX)

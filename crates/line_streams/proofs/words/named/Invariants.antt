@@ -1,7 +1,6 @@
 use Rattle.std.proofs.Common.{◌≡◌, drop}
-use Rattle.transfer_world.specs.Commands.{named}
-use Rattle.transfer_world.specs.Commands.{names_of}
-use Rattle.transfer_world.proofs.script.word.named.Given as goal
+use Rattle.line_streams.specs.Words.{named, names_of}
+use Rattle.line_streams.proofs.words.named.Given as goal
 
 -- none of the names so far is the text
 abbrev pub invariant-loop-name : goal.invariant-loop-name

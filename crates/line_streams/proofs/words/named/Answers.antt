@@ -1,6 +1,6 @@
 use Rattle.std.proofs.Common.{◌∙◌, refl, sym, arith}
-use Rattle.transfer_world.proofs.WordLaws.{named_at}
-use Rattle.transfer_world.proofs.script.word.named.Goals as goal
+use Rattle.line_streams.proofs.WordLaws.{named_at}
+use Rattle.line_streams.proofs.words.named.Goals as goal
 
 pub returns-then-eq : goal.returns-then-eq
 returns-then-eq g c =

@@ -1,0 +1,61 @@
+-- The command of a site that a line spells, by the line's words.
+use Rattle.std.specs.Prelude.{ℕ, List, [], ◌∷◌, Option, Some, None, codes}
+use Rattle.entry_codec.specs.Moves.{◌>>=◌}
+use Rattle.line_streams.specs.Words.{words_of, named, first_site, first_number, only_number, optional_site}
+use Rattle.site_words.specs.declared.commands.Name.{Name}
+use Rattle.site_words.specs.declared.commands.Name.TheVariants.{Issue as AnIssue, Give as AGive, Spend as ASpend, Outcome as AnOutcome, Tick as ATick, Status as AStatus, Close as AClose, Quit as AQuit}
+use Rattle.site_words.specs.declared.commands.SiteCommand.{SiteCommand}
+use Rattle.site_words.specs.declared.commands.SiteCommand.TheVariants.{Issue, Give, Spend, Outcome, Tick, Status, Close, Quit}
+
+-- a command by the words behind its name
+
+-- the peer and the amount
+unfoldable pub give_in : List (List ℕ) → Option SiteCommand
+give_in words = do
+  peer ← first_site words
+  amount ← only_number peer.1
+  Some (Give peer.0 amount)
+
+-- the amount and the deadline
+unfoldable pub spend_in : List (List ℕ) → Option SiteCommand
+spend_in words = do
+  amount ← first_number words
+  deadline ← only_number amount.1
+  Some (Spend amount.0 deadline)
+
+-- a command that has its name alone
+abbrev pub alone : SiteCommand → List (List ℕ) → Option SiteCommand
+alone command [] = Some command
+alone command (word ∷ words) = None
+
+-- a command by its name, and the words behind that
+abbrev pub command_by : Name → List (List ℕ) → Option SiteCommand
+command_by AnIssue words = only_number words >>= (λ amount. Some (Issue amount))
+command_by AGive words = give_in words
+command_by ASpend words = spend_in words
+command_by AnOutcome words = only_number words >>= (λ ticket. Some (Outcome ticket))
+command_by ATick words = only_number words >>= (λ time. Some (Tick time))
+command_by AStatus words = alone Status words
+command_by AClose words = optional_site words >>= (λ heir. Some (Close heir))
+command_by AQuit words = alone Quit words
+
+unfoldable pub name_of : List ℕ → Option Name
+name_of text =
+    named (
+    (codes "issue", AnIssue)
+    ∷ (codes "give", AGive)
+    ∷ (codes "spend", ASpend)
+    ∷ (codes "outcome", AnOutcome)
+    ∷ (codes "tick", ATick)
+    ∷ (codes "status", AStatus)
+    ∷ (codes "close", AClose)
+    ∷ (codes "quit", AQuit) ∷ []
+    ) text
+
+abbrev pub command_with : List (List ℕ) → Option SiteCommand
+command_with [] = None
+command_with (first ∷ words) = name_of first >>= (λ name. command_by name words)
+
+-- the command of a line without its line feed
+abbrev pub command_of : List ℕ → Option SiteCommand
+command_of line = command_with (words_of line)
