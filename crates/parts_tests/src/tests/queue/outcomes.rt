@@ -1,76 +1,25 @@
 //! Requests from their tickets to their outcomes.
 use request_queue::{QueueError, RequestQueue, SLOTS, Status};
-use rights_types::MAX_AMOUNT;
+use rights_types::{MAX_AMOUNT, OutOfMemory};
 use std::alloc::Global;
 use std::process::Abort;
-use std::test::Fail;
 
-// A queue of 32 requests of this amount, with the deadline 0 and the tickets 1 to 32.
-fn full_queue(rt: &impl Abort, alloc: Global, amount: u64) -> Result<RequestQueue, Fail> {
-    let mut queue = RequestQueue::new(alloc)?;
-    for ticket in 1..=SLOTS as u64 {
-        assert!(rt; queue.put(amount, 0) == Ok(ticket));
-    }
-    Ok(queue)
-}
-
-/// Of two requests the second expires, and the first is served. Each outcome is told once.
-#[test]
-fn requests_expire_or_are_served(rt: HostRuntime) -> Result<(), Fail> {
-    let mut queue = RequestQueue::new(rt.alloc())?;
-    assert!(rt; queue.put(0, 9) == Err(QueueError::BadAmount));
-    assert!(rt; queue.put(6, 9) == Ok(1));
-    assert!(rt; queue.put(1, 3) == Ok(2));
-    assert!(rt; queue.total() == 7);
-    assert!(rt; queue.expire_one(4) == Some(2));
-    assert!(rt; queue.expire_one(4) == None);
-    assert!(rt; queue.status(2) == Status::Expired);
-    assert!(rt; queue.status(2) == Status::Unknown);
-    assert!(rt; queue.waiting() > 0);
-    queue.serve_front(5);
-    assert!(rt; queue.status(1) == Status::Spent(5));
-    assert!(rt; queue.status(1) == Status::Unknown);
-    Ok(())
-}
-
-/// A slot is free only once the outcome that took it was read.
-#[test]
-fn an_outcome_keeps_its_slot(rt: HostRuntime) -> Result<(), Fail> {
-    let mut queue = full_queue(&rt, rt.alloc(), 1)?;
-    assert!(rt; queue.put(1, 0) == Err(QueueError::QueueFull));
-    assert!(rt; queue.expire_one(1) == Some(1));
-    assert!(rt; queue.put(1, 0) == Err(QueueError::QueueFull));
-    assert!(rt; queue.status(1) == Status::Expired);
-    assert!(rt; queue.put(1, 0) == Ok(33));
-    Ok(())
-}
-
-/// A served request keeps its slot too, and an amount is judged before the slots are.
-#[test]
-fn a_served_request_keeps_its_slot(rt: HostRuntime) -> Result<(), Fail> {
-    let mut queue = full_queue(&rt, rt.alloc(), MAX_AMOUNT)?;
-    assert!(rt; queue.total() == 32 * MAX_AMOUNT);
-    assert!(rt; queue.put(MAX_AMOUNT + 1, 0) == Err(QueueError::BadAmount));
-    assert!(rt; queue.waiting() > 0);
-    queue.serve_front(7);
-    assert!(rt; queue.waiting() == 31);
-    assert!(rt; queue.put(1, 0) == Err(QueueError::QueueFull));
-    assert!(rt; queue.status(1) == Status::Spent(7));
-    assert!(rt; queue.put(1, 0) == Ok(33));
-    Ok(())
-}
-
-/// A deadline that is the time has not passed.
-#[test]
-fn an_equal_deadline_waits(rt: HostRuntime) -> Result<(), Fail> {
-    let mut queue = RequestQueue::new(rt.alloc())?;
-    assert!(rt; queue.put(1, 9) == Ok(1));
-    assert!(rt; queue.expire_one(9) == None);
-    assert!(rt; queue.status(1) == Status::Waiting);
-    assert!(rt; queue.expire_one(10) == Some(1));
-    assert!(rt; queue.status(1) == Status::Expired);
-    assert!(rt; queue.status(1) == Status::Unknown);
-    Ok(())
+/// A call of a queue, and what it answers.
+#[derive(Clone, Copy)]
+enum Call {
+    /// Amount and deadline of a request.
+    Put(u64, u64, Result<u64, QueueError>),
+    Total(u64),
+    Waiting(usize),
+    /// The time.
+    Expire(u64, Option<u64>),
+    /// The number of the entry that serves the front.
+    Serve(u64),
+    /// A ticket.
+    Status(u64, Status),
+    /// Ticket, amount and deadline of the front.
+    Front(u64, u64, u64),
+    NoFront,
 }
 
 // Whether the request of that ticket, for so many rights until that deadline, is the front.
@@ -81,51 +30,163 @@ fn is_at_front(queue: &RequestQueue, ticket: u64, amount: u64, deadline: u64) ->
     }
 }
 
-/// The front is the oldest request, whatever the deadlines. No status changes it.
-#[test]
-fn the_front_is_the_oldest(rt: HostRuntime) -> Result<(), Fail> {
-    let mut queue = RequestQueue::new(rt.alloc())?;
-    assert!(rt; queue.front() == None);
-    assert!(rt; queue.put(6, u64::MAX) == Ok(1));
-    assert!(rt; queue.put(5, 0) == Ok(2));
-    assert!(rt; queue.status(1) == Status::Waiting);
-    assert!(rt; is_at_front(&queue, 1, 6, u64::MAX));
-    assert!(rt; queue.waiting() > 0);
-    queue.serve_front(2);
-    assert!(rt; is_at_front(&queue, 2, 5, 0));
-    assert!(rt; queue.total() == 5);
-    assert!(rt; queue.expire_one(0) == None);
+fn serves(queue: &mut RequestQueue, number: u64) -> bool {
+    if queue.waiting() == 0 {
+        return false;
+    }
+    queue.serve_front(number);
+    true
+}
+
+fn answers(queue: &mut RequestQueue, call: Call) -> bool {
+    match call {
+        Call::Put(amount, deadline, ticket) => queue.put(amount, deadline) == ticket,
+        Call::Total(total) => queue.total() == total,
+        Call::Waiting(count) => queue.waiting() == count,
+        Call::Expire(time, ticket) => queue.expire_one(time) == ticket,
+        Call::Serve(number) => serves(queue, number),
+        Call::Status(ticket, status) => queue.status(ticket) == status,
+        Call::Front(ticket, amount, deadline) => is_at_front(queue, ticket, amount, deadline),
+        Call::NoFront => queue.front().is_none(),
+    }
+}
+
+fn answers_all(rt: &impl Abort, queue: &mut RequestQueue, calls: &[Call]) {
+    for (place, call) in calls.iter().enumerate() {
+        assert!(rt; answers(queue, *call), "call {place}");
+    }
+}
+
+// The same of a new queue.
+fn begins(rt: &impl Abort, alloc: Global, calls: &[Call]) -> Result<(), OutOfMemory> {
+    answers_all(rt, &mut RequestQueue::new(alloc)?, calls);
     Ok(())
 }
+
+// The same of a queue of 32 requests of this amount, with the deadline 0 and the tickets 1 to 32.
+fn goes_on(rt: &impl Abort, alloc: Global, amount: u64, calls: &[Call]) -> Result<(), OutOfMemory> {
+    let mut queue = RequestQueue::new(alloc)?;
+    for ticket in 1..=SLOTS as u64 {
+        assert!(rt; queue.put(amount, 0) == Ok(ticket));
+    }
+    answers_all(rt, &mut queue, calls);
+    Ok(())
+}
+
+const FIRST_SERVED: [Call; 11] = [
+    Call::Put(0, 9, Err(QueueError::BadAmount)),
+    Call::Put(6, 9, Ok(1)),
+    Call::Put(1, 3, Ok(2)),
+    Call::Total(7),
+    Call::Expire(4, Some(2)),
+    Call::Expire(4, None),
+    Call::Status(2, Status::Expired),
+    Call::Status(2, Status::Unknown),
+    Call::Serve(5),
+    Call::Status(1, Status::Spent(5)),
+    Call::Status(1, Status::Unknown),
+];
+
+/// Of two requests the second expires, and the first is served. Each outcome is told once.
+#[test]
+fn requests_expire_or_are_served(rt: HostRuntime) -> Result<(), OutOfMemory> {
+    begins(&rt, rt.alloc(), &FIRST_SERVED)
+}
+
+const OUTCOME_READ: [Call; 5] = [
+    Call::Put(1, 0, Err(QueueError::QueueFull)),
+    Call::Expire(1, Some(1)),
+    Call::Put(1, 0, Err(QueueError::QueueFull)),
+    Call::Status(1, Status::Expired),
+    Call::Put(1, 0, Ok(33)),
+];
+
+/// A slot is free only once the outcome that took it was read.
+#[test]
+fn an_outcome_keeps_its_slot(rt: HostRuntime) -> Result<(), OutOfMemory> {
+    goes_on(&rt, rt.alloc(), 1, &OUTCOME_READ)
+}
+
+const SERVED_READ: [Call; 7] = [
+    Call::Total(32 * MAX_AMOUNT),
+    Call::Put(MAX_AMOUNT + 1, 0, Err(QueueError::BadAmount)),
+    Call::Serve(7),
+    Call::Waiting(31),
+    Call::Put(1, 0, Err(QueueError::QueueFull)),
+    Call::Status(1, Status::Spent(7)),
+    Call::Put(1, 0, Ok(33)),
+];
+
+/// A served request keeps its slot too, and an amount is judged before the slots are.
+#[test]
+fn a_served_request_keeps_its_slot(rt: HostRuntime) -> Result<(), OutOfMemory> {
+    goes_on(&rt, rt.alloc(), MAX_AMOUNT, &SERVED_READ)
+}
+
+const EQUAL_DEADLINE: [Call; 6] = [
+    Call::Put(1, 9, Ok(1)),
+    Call::Expire(9, None),
+    Call::Status(1, Status::Waiting),
+    Call::Expire(10, Some(1)),
+    Call::Status(1, Status::Expired),
+    Call::Status(1, Status::Unknown),
+];
+
+/// A deadline that is the time has not passed.
+#[test]
+fn an_equal_deadline_waits(rt: HostRuntime) -> Result<(), OutOfMemory> {
+    begins(&rt, rt.alloc(), &EQUAL_DEADLINE)
+}
+
+const OLDEST_FIRST: [Call; 9] = [
+    Call::NoFront,
+    Call::Put(6, u64::MAX, Ok(1)),
+    Call::Put(5, 0, Ok(2)),
+    Call::Status(1, Status::Waiting),
+    Call::Front(1, 6, u64::MAX),
+    Call::Serve(2),
+    Call::Front(2, 5, 0),
+    Call::Total(5),
+    Call::Expire(0, None),
+];
+
+/// The front is the oldest request, whatever the deadlines. No status changes it.
+#[test]
+fn the_front_is_the_oldest(rt: HostRuntime) -> Result<(), OutOfMemory> {
+    begins(&rt, rt.alloc(), &OLDEST_FIRST)
+}
+
+const LATE_IN_ORDER: [Call; 8] = [
+    Call::Put(1, 5, Ok(1)),
+    Call::Put(2, 3, Ok(2)),
+    Call::Put(3, 2, Ok(3)),
+    Call::Expire(4, Some(2)),
+    Call::Expire(4, Some(3)),
+    Call::Expire(4, None),
+    Call::Front(1, 1, 5),
+    Call::Total(1),
+];
 
 /// Of several late requests the oldest expires first, and none that is not late.
 #[test]
-fn late_requests_expire_in_order(rt: HostRuntime) -> Result<(), Fail> {
-    let mut queue = RequestQueue::new(rt.alloc())?;
-    assert!(rt; queue.put(1, 5) == Ok(1));
-    assert!(rt; queue.put(2, 3) == Ok(2));
-    assert!(rt; queue.put(3, 2) == Ok(3));
-    assert!(rt; queue.expire_one(4) == Some(2));
-    assert!(rt; queue.expire_one(4) == Some(3));
-    assert!(rt; queue.expire_one(4) == None);
-    assert!(rt; is_at_front(&queue, 1, 1, 5));
-    assert!(rt; queue.total() == 1);
-    Ok(())
+fn late_requests_expire_in_order(rt: HostRuntime) -> Result<(), OutOfMemory> {
+    begins(&rt, rt.alloc(), &LATE_IN_ORDER)
 }
+
+const WAITS_TILL_SERVED: [Call; 9] = [
+    Call::Put(6, 0, Ok(1)),
+    Call::Total(6),
+    Call::Expire(0, None),
+    Call::Status(1, Status::Waiting),
+    Call::Serve(1),
+    Call::Total(0),
+    Call::NoFront,
+    Call::Status(1, Status::Spent(1)),
+    Call::Status(1, Status::Unknown),
+];
 
 /// A request waits, whatever the time, until its deadline has passed or it is served.
 #[test]
-fn a_request_waits_until_it_is_served(rt: HostRuntime) -> Result<(), Fail> {
-    let mut queue = RequestQueue::new(rt.alloc())?;
-    assert!(rt; queue.put(6, 0) == Ok(1));
-    assert!(rt; queue.total() == 6);
-    assert!(rt; queue.expire_one(0) == None);
-    assert!(rt; queue.status(1) == Status::Waiting);
-    assert!(rt; queue.waiting() > 0);
-    queue.serve_front(1);
-    assert!(rt; queue.total() == 0);
-    assert!(rt; queue.front() == None);
-    assert!(rt; queue.status(1) == Status::Spent(1));
-    assert!(rt; queue.status(1) == Status::Unknown);
-    Ok(())
+fn a_request_waits_until_it_is_served(rt: HostRuntime) -> Result<(), OutOfMemory> {
+    begins(&rt, rt.alloc(), &WAITS_TILL_SERVED)
 }
