@@ -1,4 +1,5 @@
 //! What a line of a running site's input is read as.
+use rights_types::SiteId;
 use site_words::{SiteCommand, read_command};
 
 /// A command by its name and its values; 0 stands for what is not there.
@@ -58,8 +59,7 @@ fn shown(command: SiteCommand) -> (&'static str, u64, u64) {
         SiteCommand::Outcome(ticket) => ("outcome", ticket, 0),
         SiteCommand::Tick(time) => ("tick", time, 0),
         SiteCommand::Status => ("status", 0, 0),
-        SiteCommand::Close(None) => ("close", 0, 0),
-        SiteCommand::Close(Some(heir)) => ("close", heir.number(), 0),
+        SiteCommand::Close(heir) => ("close", heir.map_or(0, SiteId::number), 0),
         SiteCommand::Quit => ("quit", 0, 0),
     }
 }
