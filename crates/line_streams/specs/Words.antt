@@ -24,6 +24,11 @@ abbrev pub names_of : {X : Type 0} → List (Bor (List ℕ) × X) → List (List
 names_of [] = []
 names_of (entry ∷ others) = (entry.0.now, entry.1) ∷ names_of others
 
+-- what a name means that stands alone
+abbrev pub alone : {X : Type 0} → X → List (List ℕ) → Option X
+alone meaning [] = Some meaning
+alone meaning (word ∷ words) = None
+
 -- the site or the number that the first word spells, and the words after it
 abbrev pub first_site : List (List ℕ) → Option (ℕ × List (List ℕ))
 first_site words = first_in 1 MAX_SITES words
@@ -38,7 +43,14 @@ only_site words = only_in 1 MAX_SITES words
 abbrev pub only_number : List (List ℕ) → Option ℕ
 only_number words = only_in 0 (2 ^ 64 - 1) words
 
--- the same of a site, where there is a word
+-- the site and the number that the two words spell
+unfoldable pub site_and_number : List (List ℕ) → Option (ℕ × ℕ)
+site_and_number words = do
+  s ← first_site words
+  n ← only_number s.1
+  Some (s.0, n)
+
+-- the site that the only word spells, where there is a word
 abbrev pub optional_site : List (List ℕ) → Option (Option ℕ)
 optional_site [] = Some None
 optional_site (word ∷ words) = do

@@ -8,6 +8,7 @@ mod write;
 
 pub use limit::LINE_LIMIT;
 pub use words::{
-    first_number, first_site, named, only_in, only_number, only_site, optional_site, split_word,
+    alone, first_number, first_site, named, only_in, only_number, only_site, optional_site,
+    site_and_number, split_word,
 };
 pub use write::{WriteFault, write_whole};

@@ -4,7 +4,7 @@ ghost use Rattle.std.specs.List.{slice_split};
 ghost use Rattle.rights_types.specs.Ranges.{IsSite};
 ghost use Rattle.entry_codec.specs.Moves.{first_number as first_in, only_number as only_in};
 ghost use Rattle.entry_codec.specs.Parts.{Finds};
-ghost use Rattle.line_streams.specs.Words.{words_left, named, names_of, first_site, only_site, optional_site, first_number, only_number};
+ghost use Rattle.line_streams.specs.Words.{words_left, named, names_of, alone, first_site, only_site, optional_site, first_number, only_number, site_and_number};
 
 use entry_codec::{first_decimal, split_first};
 use rights_types::{MAX_SITES, SiteId};
@@ -28,6 +28,16 @@ pub fn named<X: Copy>(table: &[(&[u8], X)], text: &[u8]) -> Option<X>
         }
     }
     None
+}
+
+/// What a name means that stands alone: no words are behind it.
+pub fn alone<X: Drop>(meaning: X, words: Option<&[u8]>) -> Option<X>
+    ensures { result ≡ alone meaning (words_left words.entry) }
+{
+    match words {
+        None => Some(meaning),
+        Some(_) => None,
+    }
 }
 
 /// The number in the range that the first word spells, and the words after it.
@@ -95,4 +105,14 @@ pub fn only_number(words: Option<&[u8]>) -> Option<u64>
     ensures { result ≡ only_number (words_left words.entry) }
 {
     only_in(words, 0, u64::MAX)
+}
+
+/// The site and the number that the two words spell.
+#[inline(always)]
+#[tactic(auto, unfolding(crate::specs::Words::site_and_number))]
+pub fn site_and_number(words: Option<&[u8]>) -> Option<(SiteId, u64)>
+    ensures { result ≡ site_and_number (words_left words.entry) }
+{
+    let (site, rest) = first_site(words)?;
+    Some((SiteId::known(site), only_number(rest)?))
 }

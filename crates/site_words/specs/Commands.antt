@@ -1,7 +1,7 @@
 -- The command of a site that a line spells, by the line's words.
 use Rattle.std.specs.Prelude.{ℕ, List, [], ◌∷◌, Option, Some, None, codes}
 use Rattle.entry_codec.specs.Moves.{◌>>=◌}
-use Rattle.line_streams.specs.Words.{words_of, named, first_site, first_number, only_number, optional_site}
+use Rattle.line_streams.specs.Words.{words_of, named, alone, first_number, only_number, optional_site, site_and_number}
 use Rattle.site_words.specs.declared.commands.Name.{Name}
 use Rattle.site_words.specs.declared.commands.Name.TheVariants.{Issue as AnIssue, Give as AGive, Spend as ASpend, Outcome as AnOutcome, Tick as ATick, Status as AStatus, Close as AClose, Quit as AQuit}
 use Rattle.site_words.specs.declared.commands.SiteCommand.{SiteCommand}
@@ -10,11 +10,8 @@ use Rattle.site_words.specs.declared.commands.SiteCommand.TheVariants.{Issue, Gi
 -- a command by the words behind its name
 
 -- the peer and the amount
-unfoldable pub give_in : List (List ℕ) → Option SiteCommand
-give_in words = do
-  peer ← first_site words
-  amount ← only_number peer.1
-  Some (Give peer.0 amount)
+abbrev pub give_in : List (List ℕ) → Option SiteCommand
+give_in words = site_and_number words >>= (λ gift. Some (Give gift.0 gift.1))
 
 -- the amount and the deadline
 unfoldable pub spend_in : List (List ℕ) → Option SiteCommand
@@ -22,11 +19,6 @@ spend_in words = do
   amount ← first_number words
   deadline ← only_number amount.1
   Some (Spend amount.0 deadline)
-
--- a command that has its name alone
-abbrev pub alone : SiteCommand → List (List ℕ) → Option SiteCommand
-alone command [] = Some command
-alone command (word ∷ words) = None
 
 -- a command by its name, and the words behind that
 abbrev pub command_by : Name → List (List ℕ) → Option SiteCommand

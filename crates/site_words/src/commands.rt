@@ -1,9 +1,11 @@
 //! The commands of a site that runs.
 ghost use Rattle.std.specs.Prelude.{◌≡◌};
 ghost use Rattle.line_streams.specs.Words.{words_left};
-ghost use Rattle.site_words.specs.Commands.{give_in, spend_in, alone, command_by, name_of, command_of};
+ghost use Rattle.site_words.specs.Commands.{give_in, spend_in, command_by, name_of, command_of};
 
-use line_streams::{first_number, first_site, named, only_number, optional_site, split_word};
+use line_streams::{
+    alone, first_number, named, only_number, optional_site, site_and_number, split_word,
+};
 use rights_types::SiteId;
 
 /// What a line asks of a site.
@@ -51,13 +53,11 @@ const NAMES: [(&[u8], Name); 8] = [
     (b"quit", Name::Quit),
 ];
 
-#[tactic(auto, unfolding(crate::specs::Commands::give_in))]
 fn read_give(words: Option<&[u8]>) -> Option<SiteCommand>
     ensures { result ≡ give_in (words_left words.entry) }
 {
-    let (peer, words) = first_site(words)?;
-    let amount = only_number(words)?;
-    Some(SiteCommand::Give(SiteId::known(peer), amount))
+    let (peer, amount) = site_and_number(words)?;
+    Some(SiteCommand::Give(peer, amount))
 }
 
 #[tactic(auto, unfolding(crate::specs::Commands::spend_in))]
@@ -67,16 +67,6 @@ fn read_spend(words: Option<&[u8]>) -> Option<SiteCommand>
     let (amount, words) = first_number(words)?;
     let deadline = only_number(words)?;
     Some(SiteCommand::Spend(amount, deadline))
-}
-
-/// A command that has its name alone.
-fn alone(command: SiteCommand, words: Option<&[u8]>) -> Option<SiteCommand>
-    ensures { result ≡ alone command (words_left words.entry) }
-{
-    match words {
-        None => Some(command),
-        Some(_) => None,
-    }
 }
 
 /// The command of this name, by the words behind it.

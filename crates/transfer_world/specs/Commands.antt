@@ -1,13 +1,12 @@
 -- The command of a line: its words, parted at each single space, and what they spell.
-use Rattle.std.specs.Prelude.{◌≡◌, ℕ, ◌-◌, ◌^◌, true, false, nat_le, List, [], ◌∷◌, ◌++◌, length, take, Option, Some, None, ◌==◌, if◌then◌else◌, codes}
-use Rattle.std.specs.List.{slice_split, join_with_byte}
+use Rattle.std.specs.Prelude.{◌≡◌, ℕ, ◌-◌, true, false, nat_le, List, [], ◌∷◌, ◌++◌, length, take, Option, Some, None, if◌then◌else◌, codes}
+use Rattle.std.specs.List.{join_with_byte}
 use Rattle.std.specs.Option.{option_map}
 use Rattle.std.specs.Borrow.{Bor}
-use Rattle.std.specs.Str.{bytes_eq}
 use Rattle.rights_types.specs.declared.moves.Move.{Move}
 use Rattle.rights_types.specs.declared.limits.TheConstants.{MIN_SITES, MAX_SITES, MAX_LINE}
 use Rattle.entry_codec.specs.Moves.{◌>>=◌, only_number as only_in, move_of}
-use Rattle.line_streams.specs.Words.{words_of, named, first_site, first_number, only_site, only_number, optional_site}
+use Rattle.line_streams.specs.Words.{words_of, named, alone, first_site, first_number, only_site, only_number, optional_site, site_and_number}
 use Rattle.world_core.specs.declared.event.Event.{Event}
 use Rattle.world_core.specs.declared.event.Event.TheVariants.{Post, Issue, Give, Spend, Serve, Expire, Status, Plan, Ask, Publish, Beat, Query, Arrive, Noise, Take, Close}
 use Rattle.transfer_world.specs.declared.script.word.SiteWord.{SiteWord}
@@ -80,12 +79,6 @@ abbrev pub IsWordIn : List ℕ → (Word × Bor (List ℕ)) → Type 0
 IsWordIn line found = word_in (words_of line) ≡ Some (found.0, words_of found.1.now)
 
 -- ---- values
-
-unfoldable pub site_and_number : List (List ℕ) → Option (ℕ × ℕ)
-site_and_number words = do
-  s ← first_site words
-  n ← only_number s.1
-  Some (s.0, n)
 
 unfoldable pub two_sites : List (List ℕ) → Option (ℕ × ℕ)
 two_sites words = do
@@ -184,10 +177,6 @@ sites_of words = do
   n ← only_in MIN_SITES MAX_SITES words
   Some (Sites n)
 
-abbrev pub report_of : {A : Type 0} → List (List ℕ) → Option (Command A)
-report_of [] = Some Report
-report_of (word ∷ words) = None
-
 -- the command of a first word, and its values
 abbrev pub command_by : {A : Type 0} → Word → List (List ℕ) → Option (Command A)
 command_by SaysSites words = sites_of words
@@ -195,7 +184,7 @@ command_by SaysPost words = act (post_of words)
 command_by (AtSite word) words = act (site_event word words)
 command_by (OnLink word) words = act (event_on_link word words)
 command_by SaysNoise words = act (noise_of words)
-command_by SaysReport words = report_of words
+command_by SaysReport words = alone Report words
 
 -- the command of these words
 abbrev pub command_with : {A : Type 0} → List (List ℕ) → Option (Command A)

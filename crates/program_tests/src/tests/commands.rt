@@ -76,6 +76,6 @@ fn is_read_as(line: &str, expected: Shown) -> bool {
 #[test]
 fn lines_ask_for_commands(rt: HostRuntime) {
     for (line, expected) in &LINES {
-        assert!(rt; is_read_as(line, *expected));
+        assert!(rt; is_read_as(line, *expected), "at {line:?}");
     }
 }

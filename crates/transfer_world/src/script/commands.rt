@@ -2,12 +2,13 @@
 ghost use Rattle.std.specs.Prelude.{◌≡◌, [], ◌∷◌, ◌++◌, ◌≤◌, length, vec_capacity, IfOk};
 ghost use Rattle.entry_codec.specs.Parts.{Finds};
 ghost use Rattle.line_streams.specs.Words.{words_of, words_left};
-ghost use Rattle.transfer_world.specs.Commands.{moves_in, site_and_number, two_sites, site_event, link_event, event_on_link, post_of, noise_parts, noise_of, sites_of, report_of, act, command_by, command_in, command_of};
+ghost use Rattle.transfer_world.specs.Commands.{moves_in, two_sites, site_event, link_event, event_on_link, post_of, noise_parts, noise_of, sites_of, act, command_by, command_in, command_of};
 
 use crate::script::word::{LinkWord, SiteWord, Word, first_word};
 use entry_codec::read_move;
 use line_streams::{
-    first_number, first_site, only_in, only_number, only_site, optional_site, split_word,
+    alone, first_number, first_site, only_in, only_number, only_site, optional_site,
+    site_and_number, split_word,
 };
 use rights_types::{MAX_LINE, MAX_SITES, MIN_SITES, Move, OutOfMemory, SiteId};
 use site_core::Line;
@@ -142,15 +143,6 @@ fn read_noise<A: Allocator>(
 }
 
 #[inline(always)]
-#[tactic(auto, unfolding(crate::specs::Commands::site_and_number))]
-fn site_and_number(values: Option<&[u8]>) -> Option<(SiteId, u64)>
-    ensures { result ≡ site_and_number (words_left values.entry) }
-{
-    let (site, rest) = first_site(values)?;
-    Some((SiteId::known(site), only_number(rest)?))
-}
-
-#[inline(always)]
 #[tactic(auto, unfolding(crate::specs::Commands::two_sites))]
 fn two_sites(values: Option<&[u8]>) -> Option<(SiteId, SiteId)>
     ensures { result ≡ two_sites (words_left values.entry) }
@@ -250,15 +242,6 @@ fn act<A: Allocator>(event: Option<Event<A>>) -> Option<Command<A>>
     Some(Command::Act(event?))
 }
 
-fn read_report<A: Allocator>(values: Option<&[u8]>) -> Option<Command<A>>
-    ensures { result ≡ report_of (words_left values.entry) }
-{
-    match values {
-        None => Some(Command::Report),
-        Some(_) => None,
-    }
-}
-
 /// The command of a word, and its values.
 #[tactic(auto, unfolding(crate::specs::Commands::command_by))]
 fn read_values<A: Allocator>(
@@ -274,7 +257,7 @@ fn read_values<A: Allocator>(
         Word::AtSite(word) => act(site_event(word, values)),
         Word::OnLink(word) => act(event_on_link(word, values)),
         Word::Noise => act(read_noise(alloc, values)?),
-        Word::Report => read_report(values),
+        Word::Report => alone(Command::Report, values),
     })
 }
 

@@ -58,13 +58,18 @@ fn answers_all(rt: &impl Abort, queue: &mut RequestQueue, calls: &[Call]) {
 }
 
 // The same of a new queue.
-fn begins(rt: &impl Abort, alloc: Global, calls: &[Call]) -> Result<(), OutOfMemory> {
+fn a_new_queue_answers(rt: &impl Abort, alloc: Global, calls: &[Call]) -> Result<(), OutOfMemory> {
     answers_all(rt, &mut RequestQueue::new(alloc)?, calls);
     Ok(())
 }
 
 // The same of a queue of 32 requests of this amount, with the deadline 0 and the tickets 1 to 32.
-fn goes_on(rt: &impl Abort, alloc: Global, amount: u64, calls: &[Call]) -> Result<(), OutOfMemory> {
+fn a_full_queue_answers(
+    rt: &impl Abort,
+    alloc: Global,
+    amount: u64,
+    calls: &[Call],
+) -> Result<(), OutOfMemory> {
     let mut queue = RequestQueue::new(alloc)?;
     for ticket in 1..=SLOTS as u64 {
         assert!(rt; queue.put(amount, 0) == Ok(ticket));
@@ -90,7 +95,7 @@ const FIRST_SERVED: [Call; 11] = [
 /// Of two requests the second expires, and the first is served. Each outcome is told once.
 #[test]
 fn requests_expire_or_are_served(rt: HostRuntime) -> Result<(), OutOfMemory> {
-    begins(&rt, rt.alloc(), &FIRST_SERVED)
+    a_new_queue_answers(&rt, rt.alloc(), &FIRST_SERVED)
 }
 
 const OUTCOME_READ: [Call; 5] = [
@@ -104,7 +109,7 @@ const OUTCOME_READ: [Call; 5] = [
 /// A slot is free only once the outcome that took it was read.
 #[test]
 fn an_outcome_keeps_its_slot(rt: HostRuntime) -> Result<(), OutOfMemory> {
-    goes_on(&rt, rt.alloc(), 1, &OUTCOME_READ)
+    a_full_queue_answers(&rt, rt.alloc(), 1, &OUTCOME_READ)
 }
 
 const SERVED_READ: [Call; 7] = [
@@ -120,7 +125,7 @@ const SERVED_READ: [Call; 7] = [
 /// A served request keeps its slot too, and an amount is judged before the slots are.
 #[test]
 fn a_served_request_keeps_its_slot(rt: HostRuntime) -> Result<(), OutOfMemory> {
-    goes_on(&rt, rt.alloc(), MAX_AMOUNT, &SERVED_READ)
+    a_full_queue_answers(&rt, rt.alloc(), MAX_AMOUNT, &SERVED_READ)
 }
 
 const EQUAL_DEADLINE: [Call; 6] = [
@@ -135,7 +140,7 @@ const EQUAL_DEADLINE: [Call; 6] = [
 /// A deadline that is the time has not passed.
 #[test]
 fn an_equal_deadline_waits(rt: HostRuntime) -> Result<(), OutOfMemory> {
-    begins(&rt, rt.alloc(), &EQUAL_DEADLINE)
+    a_new_queue_answers(&rt, rt.alloc(), &EQUAL_DEADLINE)
 }
 
 const OLDEST_FIRST: [Call; 9] = [
@@ -153,7 +158,7 @@ const OLDEST_FIRST: [Call; 9] = [
 /// The front is the oldest request, whatever the deadlines. No status changes it.
 #[test]
 fn the_front_is_the_oldest(rt: HostRuntime) -> Result<(), OutOfMemory> {
-    begins(&rt, rt.alloc(), &OLDEST_FIRST)
+    a_new_queue_answers(&rt, rt.alloc(), &OLDEST_FIRST)
 }
 
 const LATE_IN_ORDER: [Call; 8] = [
@@ -170,7 +175,7 @@ const LATE_IN_ORDER: [Call; 8] = [
 /// Of several late requests the oldest expires first, and none that is not late.
 #[test]
 fn late_requests_expire_in_order(rt: HostRuntime) -> Result<(), OutOfMemory> {
-    begins(&rt, rt.alloc(), &LATE_IN_ORDER)
+    a_new_queue_answers(&rt, rt.alloc(), &LATE_IN_ORDER)
 }
 
 const WAITS_TILL_SERVED: [Call; 9] = [
@@ -188,5 +193,5 @@ const WAITS_TILL_SERVED: [Call; 9] = [
 /// A request waits, whatever the time, until its deadline has passed or it is served.
 #[test]
 fn a_request_waits_until_it_is_served(rt: HostRuntime) -> Result<(), OutOfMemory> {
-    begins(&rt, rt.alloc(), &WAITS_TILL_SERVED)
+    a_new_queue_answers(&rt, rt.alloc(), &WAITS_TILL_SERVED)
 }
