@@ -25,6 +25,18 @@ behind_room {A} at text xs i d lt =
     let whole = ap (λ (ys : List A). length (behind at text ys)) (sym (take-append-drop (i + 1) xs)) ∙ ap length (behind-append at text (take (i + 1) xs) (drop (i + 1) xs)) ∙ length-append (behind at text (take (i + 1) xs)) (behind at text (drop (i + 1) xs)) in
     omega (arith, more, whole)
 
+-- what a loop that puts one text after the other has put, one step on
+pub one_more : {A : Type 0} (sep : ℕ) (text : A → List ℕ) (head : List ℕ) (xs : List A) (i : ℕ) (x : A) → i < length xs → x ≡ get_or xs i x
+    → head ++ behind sep text (take (i + 1) xs) ≡ (head ++ behind sep text (take i xs)) ++ sep ∷ text x
+one_more {A} sep text head xs i x lt is =
+    let so_far = behind sep text (take i xs) in
+    ap (λ (t : List ℕ). head ++ t) (behind_more sep text xs i x lt ∙ ap (λ (y : A). so_far ++ sep ∷ text y) (sym is))
+    ∙ sym (append_assoc head so_far (sep ∷ text x))
+
+-- and the next text stands behind its byte
+pub then_put : (before so_far next : List ℕ) (sep : ℕ) → ((before ++ so_far) ++ sep ∷ []) ++ next ≡ before ++ (so_far ++ sep ∷ next)
+then_put before so_far next sep = append_assoc (before ++ so_far) (sep ∷ []) next ∙ append_assoc before so_far (sep ∷ next)
+
 -- a first text and others, joined
 pub joined : {A : Type 0} (at : ℕ) (text : A → List ℕ) (x : List ℕ) (ys : List A) → join_with_byte at (x ∷ map text ys) ≡ x ++ behind at text ys
 joined at text x [] = sym (append-nil x)

@@ -1,5 +1,7 @@
 -- What the readers of a world say.
-use Rattle.std.proofs.Common.{◌≡◌, ℕ, suc, ◌+◌, ◌*◌, ◌<◌, ◌≤◌, false, List, [], length, drop, None, arith, sym, ap, subst, ◌∙◌, add-one}
+use Rattle.std.proofs.Common.{◌≡◌, ℕ, suc, ◌+◌, ◌-◌, ◌*◌, ◌<◌, ◌≤◌, false, List, [], length, drop, get_or, Some, None, arith, refl, sym, ap, subst, ◌∙◌, add-one}
+use Rattle.std.proofs.lemmas.Bool.{ne_eqb}
+use Rattle.std.proofs.lemmas.Option.{slice_get_read}
 use Rattle.std.proofs.Math.Seq.{drop-nil}
 use Rattle.rights_types.specs.Entries.{EntryValue}
 use Rattle.rights_types.specs.Chains.{IsChain, moves_of}
@@ -15,8 +17,8 @@ use Rattle.rights_protocol.proofs.Promises.{held_sum, way_is, kept_promises}
 use Rattle.rights_book.specs.Books.{sites}
 use Rattle.rights_book.specs.StandsFor.{StandsForApplied}
 use Rattle.site_core.specs.Desks.{DeskValue, new_desk}
-use Rattle.world_core.specs.Values.{LinkValue, WorldValue}
-use Rattle.world_core.specs.Worlds.{count, desk, row, log, list_of, applied, lists_of, held_by, on_way}
+use Rattle.world_core.specs.Values.{LinkValue, PacketValue, WorldValue}
+use Rattle.world_core.specs.Worlds.{count, desk, row, log, packet, list_of, applied, lists_of, held_by, on_way}
 use Rattle.world_core.specs.Sound.{SiteSound, IsWorld}
 use Rattle.world_core.proofs.IndexLaws.{none_at}
 
@@ -130,3 +132,11 @@ row_fits w o k is among lt =
     let whole : Promised (lists_of w) = kept_promises (lists_of w) is.kept in
     let part = sum_term n o (λ j. sum_sites n (λ s. on_way w j s)) among.0 among.1 in
     more_fits n k 16000000000000000000 (λ s. on_way w o s) lt (omega (arith, part, whole.headline.conserved, all_issued w is))
+
+-- ---- packets
+
+-- the packet of a number is the one that its index reads
+pub packet_read : (w : WorldValue) (number : ℕ) (p : PacketValue) → (number ≡ 0 → ⊥) → number ≤ length w.packets
+    → p ≡ get_or w.packets (number - 1) p → packet w number ≡ Some p
+packet_read w number p counted lt read =
+    rw (ne_eqb number 0 counted) (slice_get_read w.packets (length w.packets) (number - 1) p refl (omega (arith, counted)) read)

@@ -1,13 +1,27 @@
 use Rattle.std.proofs.Common.{◌≡◌, true}
 use Rattle.world_core.specs.Values.{WorldValue}
 use Rattle.world_core.proofs.EventPlaces.{site_known, lent}
-use Rattle.world_core.proofs.DeskCalls.{done}
+use Rattle.world_core.proofs.DeskCalls.{refused, done}
 use Rattle.request_queue.specs.Queues.{front_of}
 use Rattle.site_core.specs.Faults.{can_serve, serve_fault}
 use Rattle.world_core.specs.DeskEvents.{Serves}
 use Rattle.world_core.specs.declared.reply.Reply.TheVariants.{Served, Nothing}
 use Rattle.world_core.proofs.system.System.serve.Goals as goal
 use Rattle.world_core.proofs.system.System.serve.Goals.{in-Some, in-None}
+
+pub returns-in_err-ticket : goal.returns-in_err-ticket
+returns-in_err-ticket g c =
+    let there : WorldValue = record {
+      desks = c.self.inside.desks.items;
+      links = c.self.inside.links.items;
+      packets = c.self.inside.packets.items;
+      ended = c.self.inside.ended;
+    } in
+    let at = lent there c.args.self.now _ _ _ c.self.view_is c.index.ensures.value
+    (site_known c.args.self.now _ c.requires) c.index_mut.ensures.value in
+    refused {A = g.row.A.Denot} (λ d. serve_fault d) (λ d. can_serve d (front_of d.queue.waiting) ≡ true) (λ d. Serves d)
+    _ _ _ _ _ _ _ _ at c.in_err-ticket.ensures.refused c.in_err-ticket.ensures.memory c.in_err-ticket.ensures.err
+    c.from_residual.ensures.1
 
 pub returns : goal.returns
 returns g c =
