@@ -1,19 +1,20 @@
 //! What one other site sends: lines in, and entries out on a lane.
-ghost use Rattle.std.specs.Prelude.{◌≡◌, ◌≤◌, ◌<◌, ◌++◌, [], ◌∷◌, true, false, List, Option, IfOk, IfErr, OnOk, OnErr, IsErr, MatchResult, IsSome, length};
+ghost use Rattle.std.specs.Prelude.{◌≡◌, ◌≤◌, ◌<◌, ◌++◌, [], ◌∷◌, true, false, List, Option, Ok, IfOk, IfErr, OnOk, OnErr, IsErr, MatchResult, IsSome, length};
 ghost use Rattle.std.specs.Option.{option_map};
 ghost use Rattle.rights_types.specs.Entries.{EntryValue};
 ghost use Rattle.rights_types.specs.Chains.{IsChain, is_closed};
-ghost use Rattle.rights_types.specs.Messages.{QueryValue};
+ghost use Rattle.rights_types.specs.Messages.{QueryValue, MessageValue};
 ghost use Rattle.rights_types.specs.Messages.MessageValue.{AQuery};
-ghost use Rattle.entry_codec.specs.Reading.{reading};
+ghost use Rattle.entry_codec.specs.Reading.{reading, has_entries};
 ghost use Rattle.sub_buffer.specs.declared.arrivals.TheConstants.{MAX_VERDICTS};
 ghost use Rattle.sub_buffer.specs.Gaps.{GapOf, GapIs, StateOf};
 ghost use Rattle.sub_buffer.specs.Follows.{HasPut, Follows};
+ghost use Rattle.site_core.specs.declared.fault.InboundError.TheVariants.{OutOfMemory as NoMemory};
 ghost use Rattle.site_core.specs.Calls.{LineOf};
 ghost use Rattle.site_core.specs.Inbounds.{QueryOf, ready_in};
 ghost use Rattle.thread_parts.specs.Items.{IsOpen, IsEnded};
 ghost use Rattle.link_intake.specs.Intakes.{counts_of, with_verdict, all_counts, verdicts_of, ready_of, arrived_of, CanPut, PutsAll, PutsFront, with_end};
-ghost use Rattle.link_intake.specs.declared.intake.IntakeError.TheVariants.{LaneClosed as ClosedLane};
+ghost use Rattle.link_intake.specs.declared.intake.IntakeError.TheVariants.{Inbound as BadLine, LaneClosed as ClosedLane};
 ghost use Rattle.link_intake.specs.declared.intake.Arrived.TheVariants.{Entries as EntriesCame};
 
 use rights_types::{Ask, Deny, Entry, OutOfMemory, Query};
@@ -119,6 +120,8 @@ impl<A: Allocator + Copy> Intake<A> {
         ensures dead { self.old.inlet.dead ≡ true → IsErr result × (self.new.inlet ≡ self.old.inlet) }
         ensures lane { self.new.inlet.lane ≡ self.old.inlet.lane }
         ensures unfinished { self.new.finished ≡ false }
+        // Only entries take memory.
+        ensures memory { IfErr result (λ fault. fault ≡ BadLine NoMemory → (m : MessageValue) × (reading line.now ≡ Ok m) × (has_entries m ≡ true)) }
     {
         let arrival = match self.inbound.on_line(line) {
             Ok(arrival) => arrival,

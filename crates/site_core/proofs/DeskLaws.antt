@@ -11,7 +11,7 @@ use Rattle.rights_types.specs.declared.moves.Move.{Move}
 use Rattle.rights_types.specs.declared.moves.Move.TheVariants.{Issue, Spend, Grant, Give, Close, CloseAt, TakeBack}
 use Rattle.rights_types.proofs.Chains.{closed-push}
 use Rattle.rights_types.proofs.Sums.{moves_of-nil, moves_of-push, covers_both}
-use Rattle.origin_log.specs.Logs.{LogValue, next_entry, with_entry, published, is_special}
+use Rattle.origin_log.specs.Logs.{LogValue, next_entry, with_entry, is_special}
 use Rattle.rights_book.specs.Books.{BookValue, sites, held_by}
 use Rattle.rights_book.specs.Checks.{check_fault}
 use Rattle.rights_book.specs.Peers.{no_peer}
@@ -130,10 +130,10 @@ wrote old new ms is w h same =
     (record { same_me = ap (λ (m : ManagerValue). m.me) same; same_sites = ap (λ (m : ManagerValue). length m.peers) same })
     (λ past s. subst (λ (m : ManagerValue). IsAnswered m past) (sym same) s) (λ closed. absurd cc)
 
--- .. once an entry was published
-pub advanced : (d : DeskValue) (l : LedgerValue) (peer : ℕ) → IsDesk d → l ≡ record d.ledger { log = published d.ledger.log peer }
+-- .. whatever counts as published
+pub advanced : (d : DeskValue) (l : LedgerValue) (cursors : List ℕ) → IsDesk d → l ≡ record d.ledger { log = record d.ledger.log { cursors = cursors } }
     → IsDesk (record d { ledger = l })
-advanced d l peer is same =
+advanced d l cursors is same =
     subst (λ (x : LedgerValue). IsDesk (record d { ledger = x })) (sym same)
     (record { same_site = is.same_site; same_sites = is.same_sites; idle = is.idle; once = is.once; answered = is.answered })
 

@@ -10,7 +10,7 @@ use Rattle.rights_types.specs.Messages.MessageValue.{AnEntry, ABeat, ADenial}
 use Rattle.rights_types.specs.declared.moves.Move.{Move}
 use Rattle.rights_types.specs.declared.moves.Move.TheVariants.{Spend, Grant}
 use Rattle.entry_codec.specs.Spelling.{Spells}
-use Rattle.origin_log.specs.Logs.{LogValue, published}
+use Rattle.origin_log.specs.Logs.{LogValue, published, all_published}
 use Rattle.rights_book.specs.Books.{held_by, account, sites}
 use Rattle.request_queue.specs.declared.request.Request.{Request}
 use Rattle.request_queue.specs.declared.request.Outcome.TheVariants.{Expired}
@@ -100,6 +100,10 @@ published_if log p (Some m) = published log p
 
 abbrev pub after_publish : DeskValue → ℕ → DeskValue
 after_publish d p = record d { ledger = record d.ledger { log = published_if d.ledger.log p (next_push d.ledger.log p) } }
+
+-- all entries count as published to the peer, sent or not
+abbrev pub after_skip : DeskValue → ℕ → DeskValue
+after_skip d p = record d { ledger = record d.ledger { log = all_published d.ledger.log p } }
 
 abbrev pub beat_of : LogValue → MessageValue
 beat_of log = ABeat (record { origin = log.site; number = end log.entries })

@@ -116,6 +116,8 @@ impl<A: Allocator + Copy> Inbound<A> {
         ensures refused { InboundRefuses self.old (reading line.now) result }
         ensures ok { IfOk result (λ arrival. (m : MessageValue) × (reading line.now ≡ Ok m) × Arrives self.old m arrival self.new) }
         ensures err { OnErr result (self.new ≡ self.old) }
+        // Only entries take memory.
+        ensures memory { IfErr result (λ fault. fault ≡ NoMemory → (m : MessageValue) × (reading line.now ≡ Ok m) × (has_entries m ≡ true)) }
     {
         let message = self.read(line)?;
         Ok(self.take_in(message)?)
@@ -180,6 +182,7 @@ impl<A: Allocator + Copy> Inbound<A> {
         requires { message_fault self.old (value_of message) ≡ None }
         ensures ok { IfOk result (λ arrival. Arrives self.old (value_of message) arrival self.new) }
         ensures err { OnErr result (self.new ≡ self.old) }
+        ensures memory { OnErr result (has_entries (value_of message) ≡ true) }
     {
         match message {
             Message::Push(entry) => self.take_entry(entry),

@@ -12,4 +12,5 @@ mod retiring;
 mod sites;
 mod sixteen;
 mod sizes;
+mod sweeps;
 mod taking_back;

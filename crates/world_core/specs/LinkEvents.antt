@@ -213,9 +213,9 @@ pub record TakesNext (old : WorldValue) (s o number : ℕ) (back : Option ℕ) (
   pub back_is : back ≡ number_of_taking (owed_by (desk old s).ledger o next) after.ledger.log
   pub left : new ≡ with_desk (with_link old s o (with_applied before next)) s after
 
--- only the take of a closing entry with a frontier takes memory
+-- only the take of a closing entry with a frontier takes memory, at a site that has not closed
 abbrev pub TakesClosing : WorldValue → ℕ → ℕ → Type 0
-TakesClosing w s o = (e : EntryValue) × (slice_get (put w s o) (length (applied w s o)) ≡ Some e) × (numbers_in e.moves ≢ None)
+TakesClosing w s o = (is_closed (log w s) ≡ false) × (e : EntryValue) × (slice_get (put w s o) (length (applied w s o)) ≡ Some e) × (numbers_in e.moves ≢ None)
 
 abbrev pub TakeHappens : {A : Type 0} → WorldValue → ℕ → ℕ → Result (Reply A) WorldError → WorldValue → Type 0
 TakeHappens old s o (Ok (Taken number)) new = TakesNext old s o number None new

@@ -28,7 +28,9 @@ pub struct ForReplies {}
 impl Keeping for ForReplies {
     ghost keeps = { false };
 
-    fn keeps() -> bool {
+    fn keeps() -> bool
+        ensures { result ≡ false }
+    {
         false
     }
 }

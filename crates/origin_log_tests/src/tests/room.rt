@@ -112,6 +112,28 @@ fn an_answers_line_takes_no_spare_bytes(rt: HostRuntime) -> Result<(), Fail> {
     Ok(())
 }
 
+// Site 16 asks for so many of the longest entries, or for what lies behind all.
+fn query_for(rt: &impl Abort, count: u64) -> Query {
+    let (first, last) = if count == 0 {
+        (273, 300)
+    } else {
+        (1, count.saturating_mul(16))
+    };
+    Query::new(site(16), site(15), first, last).expect(rt, "a query")
+}
+
+/// The same of answers of 0 to 16 entries.
+#[test]
+fn answers_lines_of_every_size_take_no_spare_bytes(rt: HostRuntime) -> Result<(), Fail> {
+    let heap = LocalHeap::new(rt.alloc(), 1 << 18)?;
+    let log = longest_log(&rt, &heap).expect(&rt, "memory");
+    for count in 0..=16u64 {
+        let exact = line_takes_no_spare_bytes(&heap, &log, &query_for(&rt, count));
+        assert!(rt; exact, "{count} entries");
+    }
+    Ok(())
+}
+
 // Appends 33 short entries: for the last of them the index doubles its room.
 fn append_short<A: Allocator + Copy>(
     rt: &(impl Abort + AllocGlobal),

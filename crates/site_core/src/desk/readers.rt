@@ -1,5 +1,5 @@
 //! What a desk tells of its site.
-ghost use Rattle.std.specs.Prelude.{◌≡◌, ◌≢◌, ℕ, ◌+◌, ◌*◌, ◌≤◌, true, pos, List, []};
+ghost use Rattle.std.specs.Prelude.{◌≡◌, ◌≢◌, ℕ, ◌+◌, ◌*◌, ◌≤◌, true, pos, List, [], length};
 ghost use Rattle.rights_types.specs.Entries.{EntryValue};
 ghost use Rattle.rights_types.specs.Chains.{end, is_closed, moves_of, IsChain};
 ghost use Rattle.rights_types.specs.Rights.{issued, spent, out, to, back, taken_back, held, received, sum_sites, IsNeverShort};
@@ -156,6 +156,7 @@ impl<A: Allocator + Copy> Desk<A> {
         ensures value { result ≡ total_of self.now.queue.waiting }
         ensures range { result ≤ SLOTS * MAX_AMOUNT }
         ensures idle { has_closed self.now ≡ true → self.now.queue.waiting ≡ [] }
+        ensures few { length self.now.queue.waiting ≤ SLOTS }
     {
         self.queue.total()
     }

@@ -1,6 +1,7 @@
 //! Spends: those that are served at once, and those that wait.
-ghost use Rattle.std.specs.Prelude.{◌≡◌, true, IfOk, IfErr, OnOk, OnErr};
+ghost use Rattle.std.specs.Prelude.{◌≡◌, ◌<◌, ◌≤◌, true, IfOk, IfErr, IfSome, OnOk, OnErr, length};
 ghost use Rattle.request_queue.specs.Queues.{front_of};
+ghost use Rattle.request_queue.specs.declared.queue.TheConstants.{SLOTS};
 ghost use Rattle.request_queue.specs.Calls.{TellsOutcome};
 ghost use Rattle.site_core.specs.Faults.{can_spend, can_serve, spend_fault, serve_fault, expire_fault, DeskRefuses};
 ghost use Rattle.site_core.specs.Calls.{DeskSpends, DeskServes, DeskExpires, ExpiresLate};
@@ -8,7 +9,7 @@ ghost use Rattle.site_core.specs.declared.fault.DeskError.TheVariants.{OutOfMemo
 
 use crate::desk::Desk;
 use crate::fault::DeskError;
-use request_queue::{RequestQueue, Status};
+use request_queue::{RequestQueue, SLOTS, Status};
 use rights_types::{Amount, Move};
 use std::alloc::Allocator;
 
@@ -55,6 +56,8 @@ impl<A: Allocator + Copy> Desk<A> {
     pub fn serve(&mut self) -> Result<Option<(u64, u64)>, DeskError>
         ensures refused { DeskRefuses (serve_fault self.old) result }
         ensures ok { IfOk result (λ served. DeskServes self.old served self.new) }
+        ensures fewer { IfOk result (λ served. IfSome served (λ _. length self.new.queue.waiting < length self.old.queue.waiting)) }
+        ensures few { length self.old.queue.waiting ≤ SLOTS }
         ensures err { OnErr result (self.new ≡ self.old) }
         ensures memory { IfErr result (λ fault. fault ≡ NoMemory → can_serve self.old (front_of self.old.queue.waiting) ≡ true) }
     {

@@ -5,4 +5,5 @@ mod memory;
 mod refusals;
 mod sizes;
 mod steps;
+mod sweeps;
 mod texts;

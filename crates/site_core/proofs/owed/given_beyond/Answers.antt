@@ -11,7 +11,7 @@ pub overflow_add-given : goal.overflow_add-given
 overflow_add-given g c =
     let es : List EntryValue = c.args.log.now.entries in
     let e : EntryValue = c.in-Some.entry in
-    let before : IsBefore es c.loop-index.index e = entry_before es c.loop-index.index e c.loop-index-test.true c.in_ok-entry.ensures c.in-Some.is in
+    let before : IsBefore es c.loop-index.index e = entry_before es c.loop-index.index e c.loop-index-test.true c.in_ok-entry.ensures.value c.in-Some.is in
     omega (
       arith,
       c.loop-index.invariant.sum,
@@ -25,7 +25,7 @@ pub loop-index-preserved : goal.loop-index-preserved
 loop-index-preserved g c =
     let es : List EntryValue = c.args.log.now.entries in
     let e : EntryValue = c.in-Some.entry in
-    let before : IsBefore es c.loop-index.index e = entry_before es c.loop-index.index e c.loop-index-test.true c.in_ok-entry.ensures c.in-Some.is in
+    let before : IsBefore es c.loop-index.index e = entry_before es c.loop-index.index e c.loop-index-test.true c.in_ok-entry.ensures.value c.in-Some.is in
     let begins : c.args.number ≤ e.prev = omega (arith, c.prev.ensures.value) in
     record {
       within = omega (arith, c.loop-index.invariant.within);
@@ -57,7 +57,7 @@ returns-then-prev-number-clause-value g c =
     let es : List EntryValue = c.args.log.now.entries in
     let k = c.loop-index.index - 1 in
     let e : EntryValue = c.in-Some.entry in
-    let before : IsBefore es c.loop-index.index e = entry_before es c.loop-index.index e c.loop-index-test.true c.in_ok-entry.ensures c.in-Some.is in
+    let before : IsBefore es c.loop-index.index e = entry_before es c.loop-index.index e c.loop-index-test.true c.in_ok-entry.ensures.value c.in-Some.is in
     let later : All (λ (x : EntryValue). c.args.number ≤ x.prev) (drop (suc k) es) = rw (← before.place) at c.loop-index.invariant.later in
     let early : e.prev < c.args.number = omega (arith, c.prev.ensures.value) in
     omega (

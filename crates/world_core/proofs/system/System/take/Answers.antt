@@ -3,8 +3,9 @@ use Rattle.std.specs.List.{slice_get}
 use Rattle.std.proofs.lemmas.Result.{err_from_is_err_and}
 use Rattle.rights_types.specs.Chains.{is_closed}
 use Rattle.origin_log.specs.Logs.{LogValue}
+use Rattle.site_core.specs.Faults.{has_closed}
 use Rattle.world_core.specs.Values.{WorldValue}
-use Rattle.world_core.specs.Worlds.{put, applied}
+use Rattle.world_core.specs.Worlds.{log, put, applied}
 use Rattle.world_core.specs.LinkEvents.{TakesClosing}
 use Rattle.world_core.proofs.EventPlaces.{link_known, lent, unchanged}
 use Rattle.world_core.proofs.LinkCalls.{row_is, all_applied, CanApply, can_apply, takes}
@@ -91,8 +92,10 @@ returns-in_err-back g c =
     let next : slice_get (put w c.args.site c.args.origin) (length (applied w c.args.site c.args.origin))
     ≡ Some c.in-Some.entry.now = sym (rw (c.in-Some.is, links) at c.next.ensures) in
     let err = err_from_is_err_and c.from_residual.result c.from_residual.ensures.1 in
+    let unclosed = ap (λ (l : LogValue). is_closed l.entries) (sym c.log.ensures.value) ∙ sym c.if-closed.ensures in
+    let opened : is_closed (log w c.args.site) ≡ false = subst (λ d. has_closed d ≡ false) at.is unclosed in
     let closing : TakesClosing w c.args.site c.args.origin =
-    (c.in-Some.entry.now, next, λ none. (let bad : false ≡ true = c.in_err-back.ensures.memory none in absurd cc)) in
+    (opened, c.in-Some.entry.now, next, λ none. (let bad : false ≡ true = c.in_err-back.ensures.memory none in absurd cc)) in
     rw (err.1, err.2) (closing, unchanged there w _ _ _ c.apply.new.self at c.in_err-back.ensures.err)
 
 pub returns : goal.returns

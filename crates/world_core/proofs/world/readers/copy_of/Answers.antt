@@ -18,11 +18,11 @@ is_found es i within none =
 
 pub unreachable-requires : goal.unreachable-requires
 unreachable-requires g c =
-    is_found c.args.log.now.entries c.loop-index.index (omega (arith, c.len-index-end.ensures.value)) (sym c.in_ok-entry.ensures ∙ c.in-None.is)
+    is_found c.args.log.now.entries c.loop-index.index (omega (arith, c.len-index-end.ensures.value)) (sym c.in_ok-entry.ensures.value ∙ c.in-None.is)
 
 pub loop-index-preserved : goal.loop-index-preserved
 loop-index-preserved g c =
-    let at : slice_get c.args.log.now.entries c.loop-index.index ≡ Some c.in-Some.entry = sym c.in_ok-entry.ensures ∙ c.in-Some.is in
+    let at : slice_get c.args.log.now.entries c.loop-index.index ≡ Some c.in-Some.entry = sym c.in_ok-entry.ensures.value ∙ c.in-Some.is in
     let more = one_more c.args.log.now.entries c.loop-index.index c.in-Some.entry at in
     let pushed = c.in_ok-push-in-Some.ensures.items in
     cc

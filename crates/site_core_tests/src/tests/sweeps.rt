@@ -1,0 +1,333 @@
+//! Calls of desks over many sizes with ample memory. A call that gives up on one of them is proved, since it may
+//! always want memory, and is found here.
+use crate::tests::calls::{Counted, beat_line, hear, new_desk, post, publish, status};
+use crate::tests::sites::Sites;
+use refusing_allocator::Refusing;
+use rights_types::{Move, SiteId};
+use std::alloc::{AllocError, AllocGlobal, Global};
+use std::process::Abort;
+use std::test::Fail;
+use test_kit::{issue, site};
+
+// Says the command to the sites, which answer so.
+fn says(
+    rt: &(impl Abort + AllocGlobal),
+    sites: &mut Sites,
+    command: &str,
+    expected: &str,
+) -> Result<(), AllocError> {
+    let reply = sites.say(rt, command)?;
+    assert!(rt; reply.as_str() == expected, "{command}: {reply}");
+    Ok(())
+}
+
+const GREATEST_ISSUES: &str =
+    " I:1000000000 I:1000000000 I:1000000000 I:1000000000 I:1000000000 I:1000000000 \
+I:1000000000 I:1000000000 I:1000000000 I:1000000000 I:1000000000 I:1000000000 I:1000000000 I:1000000000 \
+I:1000000000 I:1000000000";
+
+const GREATEST_GIFTS: &str =
+    " R:16:1000000000 R:16:1000000000 R:16:1000000000 R:16:1000000000 R:16:1000000000 \
+R:16:1000000000 R:16:1000000000 R:16:1000000000 R:16:1000000000 R:16:1000000000 R:16:1000000000 \
+R:16:1000000000 R:16:1000000000 R:16:1000000000 R:16:1000000000 R:16:1000000000";
+
+// Site 15 posts 16 greatest issues and 16 greatest gifts, and publishes them to each other site.
+fn publish_greatest(rt: &(impl Abort + AllocGlobal), sites: &mut Sites) -> Result<(), AllocError> {
+    let issues = format!(in rt.alloc(); "E 15 0 16{GREATEST_ISSUES}")?;
+    let gifts = format!(in rt.alloc(); "E 15 16 32{GREATEST_GIFTS}")?;
+    says(
+        rt,
+        sites,
+        &format!(in rt.alloc(); "post 15{GREATEST_ISSUES}")?,
+        "number 16",
+    )?;
+    says(
+        rt,
+        sites,
+        &format!(in rt.alloc(); "post 15{GREATEST_GIFTS}")?,
+        "number 32",
+    )?;
+    for peer in 1..=16u64 {
+        if peer != 15 {
+            let command = format!(in rt.alloc(); "publish 15 {peer}")?;
+            says(rt, sites, &command, &issues)?;
+            says(rt, sites, &command, &gifts)?;
+            says(rt, sites, &command, "nothing")?;
+        }
+    }
+    let answer = format!(in rt.alloc(); "A 15 14;{issues};{gifts}")?;
+    says(rt, sites, "hear 15 Q 14 15 1 32", &answer)
+}
+
+/// The longest entries that a desk posts: 16 gifts of the greatest amount.
+#[test]
+fn the_longest_posts_are_published(rt: HostRuntime) -> Result<(), Fail> {
+    let memory = Refusing::new(rt.alloc(), u64::MAX);
+    let mut sites = Sites::new(&rt, &memory, 16)?;
+    publish_greatest(&rt, &mut sites)?;
+    Ok(())
+}
+
+// Site 1 applies entries of each other site, each of 16 moves, up to the number 9,999 and one more.
+fn apply_many(rt: &(impl Abort + AllocGlobal), desk: &mut Counted) -> Result<(), AllocError> {
+    for origin in 2..=16u64 {
+        for count in 0..625u64 {
+            let prev = count.saturating_mul(16);
+            let own = prev.saturating_add(16);
+            let entry = format!(in rt.alloc();
+                "E {origin} {prev} {own} I:1 I:1 I:1 I:1 I:1 I:1 I:1 I:1 I:1 I:1 I:1 I:1 I:1 I:1 I:1 I:1"
+            )?;
+            let _ = hear(rt, rt.alloc(), desk, &entry)?;
+        }
+    }
+    Ok(())
+}
+
+// The closing line of a site that applied so much.
+const LONG_CLOSE: &str =
+    "E 1 1 3 R:16:1000000000 K:0:10000:10000:10000:10000:10000:10000:10000:10000:10000:10000:\
+10000:10000:10000:10000:10000";
+
+fn publishes(
+    alloc: Global,
+    desk: &mut Counted,
+    peer: u64,
+    expected: &str,
+) -> Result<bool, AllocError> {
+    match SiteId::new(peer) {
+        Ok(peer) => Ok(publish(alloc, desk, peer)?.as_str() == expected),
+        Err(_) => Ok(false),
+    }
+}
+
+/// A closing entry of 16 numbers, with the greatest gift to an heir, is published to each site.
+#[test]
+fn the_longest_closing_entry_is_published(rt: HostRuntime) -> Result<(), Fail> {
+    let memory = Refusing::new(rt.alloc(), u64::MAX);
+    let mut desk = new_desk(&rt, &memory, 1, 16).expect(&rt, "memory");
+    apply_many(&rt, &mut desk)?;
+    assert!(rt; desk.issue(1_000_000_000) == Ok(1));
+    assert!(rt; desk.close(Some(site(16))) == Ok(3));
+    for peer in 2..=16u64 {
+        assert!(rt; publishes(rt.alloc(), &mut desk, peer, "E 1 0 1 I:1000000000")?);
+        assert!(rt; publishes(rt.alloc(), &mut desk, peer, LONG_CLOSE)?);
+        assert!(rt; publishes(rt.alloc(), &mut desk, peer, "nothing")?);
+    }
+    Ok(())
+}
+
+// Each site of a system issues 5, and tells each other site of it in every way.
+fn publish_all_round(
+    rt: &(impl Abort + AllocGlobal),
+    sites: &mut Sites,
+    count: u64,
+) -> Result<(), AllocError> {
+    for me in 1..=count {
+        says(
+            rt,
+            sites,
+            &format!(in rt.alloc(); "issue {me} 5")?,
+            "number 1",
+        )?;
+        for peer in 1..=count {
+            if me != peer {
+                let entry = format!(in rt.alloc(); "E {me} 0 1 I:5")?;
+                says(
+                    rt,
+                    sites,
+                    &format!(in rt.alloc(); "publish {me} {peer}")?,
+                    &entry,
+                )?;
+                let answer = format!(in rt.alloc(); "A {me} {peer};{entry}")?;
+                says(
+                    rt,
+                    sites,
+                    &format!(in rt.alloc(); "hear {me} Q {peer} {me} 1 1")?,
+                    &answer,
+                )?;
+                let beat = format!(in rt.alloc(); "B {me} 1")?;
+                says(
+                    rt,
+                    sites,
+                    &format!(in rt.alloc(); "beat {me} {peer}")?,
+                    &beat,
+                )?;
+                says(
+                    rt,
+                    sites,
+                    &format!(in rt.alloc(); "hear {peer} {entry}")?,
+                    "taken 1",
+                )?;
+            }
+        }
+    }
+    Ok(())
+}
+
+// Each site waits for all rights of all others, and asks for them. Nobody has any to spare.
+fn ask_all_round(
+    rt: &(impl Abort + AllocGlobal),
+    sites: &mut Sites,
+    count: u64,
+) -> Result<(), AllocError> {
+    for me in 1..=count {
+        let all = count.saturating_mul(5);
+        says(
+            rt,
+            sites,
+            &format!(in rt.alloc(); "spend {me} {all} 9")?,
+            "queued 1",
+        )?;
+        let asks = count.saturating_sub(1);
+        let asks = format!(in rt.alloc(); "asks {asks}")?;
+        says(rt, sites, &format!(in rt.alloc(); "plan {me}")?, &asks)?;
+    }
+    for me in 1..=count {
+        for peer in 1..=count {
+            if me != peer {
+                let ask = format!(in rt.alloc(); "W {me} {peer} 1 5")?;
+                says(rt, sites, &format!(in rt.alloc(); "ask {me} {peer}")?, &ask)?;
+                let denial = format!(in rt.alloc(); "D {peer} {me} 1")?;
+                let denied = format!(in rt.alloc(); "denied {denial}")?;
+                says(
+                    rt,
+                    sites,
+                    &format!(in rt.alloc(); "hear {peer} {ask}")?,
+                    &denied,
+                )?;
+                says(
+                    rt,
+                    sites,
+                    &format!(in rt.alloc(); "hear {me} {denial}")?,
+                    "noted",
+                )?;
+                says(
+                    rt,
+                    sites,
+                    &format!(in rt.alloc(); "ask {me} {peer}")?,
+                    "nothing",
+                )?;
+            }
+        }
+    }
+    Ok(())
+}
+
+/// Any two sites of systems of 2 to 16: entries, queries, beats, asks and denials.
+#[test]
+fn lines_of_any_two_sites(rt: HostRuntime) -> Result<(), Fail> {
+    for count in 2..=16u64 {
+        let memory = Refusing::new(rt.alloc(), u64::MAX);
+        let mut sites = Sites::new(&rt, &memory, count)?;
+        publish_all_round(&rt, &mut sites, count)?;
+        ask_all_round(&rt, &mut sites, count)?;
+    }
+    Ok(())
+}
+
+// A request waits, is served, and its outcome is read: with this ticket.
+fn serves_a_request(
+    rt: &(impl Abort + AllocGlobal),
+    sites: &mut Sites,
+    ticket: u64,
+) -> Result<(), AllocError> {
+    let issued = ticket.saturating_mul(2).saturating_sub(1);
+    let spent = ticket.saturating_mul(2);
+    says(
+        rt,
+        sites,
+        "spend 1 3 9",
+        &format!(in rt.alloc(); "queued {ticket}")?,
+    )?;
+    says(
+        rt,
+        sites,
+        &format!(in rt.alloc(); "status 1 {ticket}")?,
+        "waiting",
+    )?;
+    says(
+        rt,
+        sites,
+        "issue 1 3",
+        &format!(in rt.alloc(); "number {issued}")?,
+    )?;
+    says(
+        rt,
+        sites,
+        "serve 1",
+        &format!(in rt.alloc(); "served {ticket} {spent}")?,
+    )?;
+    says(
+        rt,
+        sites,
+        &format!(in rt.alloc(); "status 1 {ticket}")?,
+        &format!(in rt.alloc(); "spent {spent}")?,
+    )
+}
+
+/// Tickets go on beyond the number of slots, and each outcome is told.
+#[test]
+fn two_hundred_tickets(rt: HostRuntime) -> Result<(), Fail> {
+    let memory = Refusing::new(rt.alloc(), u64::MAX);
+    let mut sites = Sites::new(&rt, &memory, 2)?;
+    for ticket in 1..=200u64 {
+        serves_a_request(&rt, &mut sites, ticket)?;
+    }
+    Ok(())
+}
+
+// Whether the desk's log ends at that number, tells so to peers, and writes entries of 1 to 16 moves behind it, which it
+// answers with.
+fn goes_on_at(
+    rt: &(impl Abort + AllocGlobal),
+    desk: &mut Counted,
+    end: u64,
+) -> Result<bool, AllocError> {
+    let beat = format!(in rt.alloc(); "B 1 {end}")?;
+    let mut right = desk.number() == end && beat_line(rt.alloc(), desk, site(2))? == beat;
+    let mut words = String::new(rt.alloc());
+    let mut prev = end;
+    for count in 1..=16u64 {
+        words.push_str(" S:1")?;
+        let own = prev.saturating_add(count);
+        let number = format!(in rt.alloc(); "number {own}")?;
+        let query = format!(in rt.alloc(); "Q 2 1 {own} {own}")?;
+        let answer = format!(in rt.alloc(); "A 1 2;E 1 {prev} {own}{words}")?;
+        right = right
+            && post(rt.alloc(), desk, &words)? == number
+            && hear(rt, rt.alloc(), desk, &query)? == answer;
+        prev = own;
+    }
+    Ok(right)
+}
+
+// Entries of 16 moves up to a number that 16 divides.
+fn grow_to(rt: &impl Abort, desk: &mut Counted, end: u64) {
+    let entries = end.saturating_sub(desk.number()) / 16;
+    for _ in 0..entries {
+        assert!(rt; desk.post(&[issue(9); 16]).is_ok());
+    }
+}
+
+// What a desk says at a log's end of about 10^4 and 10^5. The entries that are written on the way have 136 moves.
+fn go_on_at_each_size(
+    rt: &(impl Abort + AllocGlobal),
+    desk: &mut Counted,
+) -> Result<(), AllocError> {
+    for size in [10_000u64, 100_000] {
+        grow_to(rt, desk, size);
+        let end = desk.number();
+        assert!(rt; end.saturating_add(16) > size);
+        assert!(rt; goes_on_at(rt, desk, end)?, "at {end}");
+    }
+    Ok(())
+}
+
+/// Beats, entries of every size and their answers at logs of 10^4 and 10^5.
+#[test]
+fn logs_of_a_hundred_thousand(rt: HostRuntime) -> Result<(), Fail> {
+    let memory = Refusing::new(rt.alloc(), u64::MAX);
+    let mut desk = new_desk(&rt, &memory, 1, 2).expect(&rt, "memory");
+    go_on_at_each_size(&rt, &mut desk)?;
+    Ok(())
+}
