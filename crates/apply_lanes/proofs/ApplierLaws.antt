@@ -1,5 +1,5 @@
 -- What an applier told, from item to item.
-use Rattle.std.proofs.Common.{◌≡◌, ◌≢◌, ℕ, ◌+◌, ◌≤◌, Bool, true, false, true≢false, ◌==◌, List, [], ◌∷◌, ◌++◌, length, Option, Some, None, IsSome, inl, inr, cond, nat_lt, refl, sym, ap, ◌∙◌, subst, arith, append-nil, append_assoc}
+use Rattle.std.proofs.Common.{◌≡◌, ◌≢◌, ℕ, ◌+◌, ◌≤◌, Bool, true, false, true≢false, ◌==◌, List, [], ◌∷◌, ◌++◌, length, Option, Some, None, Result, Ok, Err, IfOk, IsSome, inl, inr, cond, nat_lt, refl, sym, ap, ◌∙◌, subst, arith, append-nil, append_assoc}
 use Rattle.std.proofs.lemmas.Bool.{eq-eqb, ltb-false}
 use Rattle.rights_types.specs.Entries.{EntryValue, own}
 use Rattle.rights_types.specs.Chains.{end, closed_from, moves_of, IsChain, ChainFrom}
@@ -7,6 +7,7 @@ use Rattle.rights_types.specs.Rights.{to}
 use Rattle.rights_types.specs.declared.moves.Move.TheVariants.{TakeBack}
 use Rattle.rights_types.proofs.Chains.{chain_right, end-push}
 use Rattle.rights_types.proofs.Sums.{moves_of-nil, moves_of-push, to-append, to-cons, to-nil}
+use Rattle.rights_protocol.specs.Retiring.{numbers_in}
 use Rattle.rights_book.specs.Books.{BookValue, peer}
 use Rattle.site_core.specs.Ledgers.{owed_by, TakesBackIf}
 use Rattle.site_core.specs.Desks.{DeskValue}
@@ -16,9 +17,12 @@ use Rattle.thread_parts.specs.declared.item.Item.TheVariants.{Entry, End}
 use Rattle.thread_parts.specs.Ends.{OutletValue}
 use Rattle.thread_parts.specs.Items.{items_of, end_if, IsItemChain}
 use Rattle.apply_lanes.specs.Names.{DeskId}
-use Rattle.apply_lanes.specs.Kepts.{KeptValue, IsKept}
-use Rattle.apply_lanes.specs.Appliers.{ApplierValue, IsCounted, new_applier, in_hand, MovesOn, HasNext, Steps}
-use Rattle.apply_lanes.specs.Admissions.{site_fault}
+use Rattle.apply_lanes.specs.Kepts.{KeptValue, IsKept, SeatValue, told_nothing}
+use Rattle.apply_lanes.specs.Appliers.{ApplierValue, IsCounted, new_applier, in_hand, MovesOn, HasNext, ComesToDesk, LeavesHand, is_late, is_out_of_step, step_fault, StepRefuses, dropped, applied, Steps, StepFails}
+use Rattle.apply_lanes.specs.declared.applier.StepError.{StepError}
+use Rattle.apply_lanes.specs.declared.applier.StepError.TheVariants.{LaneClosed, OutOfStep, OutOfMemory}
+use Rattle.apply_lanes.specs.Admissions.{site_fault, GivesSeat}
+use Rattle.apply_lanes.specs.declared.seat.SeatsFull.{SeatsFull}
 use Rattle.apply_lanes.specs.declared.kept.AdmitFault.TheVariants.{NoSuchSite, SameSite}
 use Rattle.thread_parts.proofs.Items.{items_of-push, same_entries, empty_chain}
 use Rattle.apply_lanes.proofs.KeptLaws.{tallied_taking}
@@ -33,13 +37,13 @@ none_of None n = refl
 pub same_some : (e f : EntryValue) → Some e ≡ Some f → e ≡ f
 same_some e f is = cc
 
-module _ {A : Type 0} where
-  not_ended : (a : ApplierValue A) (e : EntryValue) → (a.ended ≡ true → a.hand ≡ None) → a.hand ≡ Some e → (b : Bool) → a.ended ≡ b → b ≡ false
+module _ {G A : Type 0} where
+  not_ended : (a : ApplierValue G A) (e : EntryValue) → (a.ended ≡ true → a.hand ≡ None) → a.hand ≡ Some e → (b : Bool) → a.ended ≡ b → b ≡ false
   not_ended a e empty is true ended = absurd (none_some e (sym (empty ended) ∙ is))
   not_ended a e empty is false ended = refl
 
   -- what was taken by an applier that dropped nothing, with e in hand
-  taken_with : (id : DeskId) (a : ApplierValue A) (e : EntryValue) → (c : IsCounted id a) → a.hand ≡ Some e → a.dropping ≡ false
+  taken_with : (id : DeskId) (a : ApplierValue G A) (e : EntryValue) → (c : IsCounted id a) → a.hand ≡ Some e → a.dropping ≡ false
       → a.outlet.taken ≡ items_of (c.applied ++ e ∷ [])
   taken_with id a e c is free =
       c.taken ∙ ap (λ b. items_of (c.applied ++ c.dropped ++ in_hand a.hand) ++ end_if b) (not_ended a e c.empty_hand is a.ended refl)
@@ -48,7 +52,7 @@ module _ {A : Type 0} where
       ∙ ap (λ h. items_of (c.applied ++ in_hand h)) is
 
   -- the entry in hand begins where the last one that was applied ended
-  pub hand_follows : (id : DeskId) (a : ApplierValue A) (e : EntryValue) → IsCounted id a → a.hand ≡ Some e → a.dropping ≡ false → e.prev ≡ a.number
+  pub hand_follows : (id : DeskId) (a : ApplierValue G A) (e : EntryValue) → IsCounted id a → a.hand ≡ Some e → a.dropping ≡ false → e.prev ≡ a.number
   hand_follows id a e c is free =
       let chain = c.chain in
       let es = same_entries (c.applied ++ e ∷ []) chain.1 chain.2 (sym (taken_with id a e c is free) ∙ chain.4) in
@@ -57,7 +61,7 @@ module _ {A : Type 0} where
       last.2 ∙ sym c.number
 
   -- it was applied
-  pub counted_apply : (id : DeskId) (a : ApplierValue A) (e : EntryValue) (n r : ℕ) → IsCounted id a → a.hand ≡ Some e → a.dropping ≡ false
+  pub counted_apply : (id : DeskId) (a : ApplierValue G A) (e : EntryValue) (n r : ℕ) → IsCounted id a → a.hand ≡ Some e → a.dropping ≡ false
       → n ≡ own e → r ≡ a.received + to id.site e.moves → IsCounted id (record a { hand = None; number = n; received = r })
   counted_apply id a e n r c is free last gift = record {
     applied = c.applied ++ e ∷ [];
@@ -76,7 +80,7 @@ module _ {A : Type 0} where
   }
 
   -- it was dropped
-  pub counted_drop : (id : DeskId) (a : ApplierValue A) (e : EntryValue) → IsCounted id a → a.hand ≡ Some e
+  pub counted_drop : (id : DeskId) (a : ApplierValue G A) (e : EntryValue) → IsCounted id a → a.hand ≡ Some e
       → IsCounted id (record a { hand = None; dropping = true })
   counted_drop id a e c is = record {
     applied = c.applied;
@@ -92,7 +96,7 @@ module _ {A : Type 0} where
   }
 
   -- all entries that were taken, where none is in hand
-  empty_taken : (id : DeskId) (a : ApplierValue A) → (c : IsCounted id a) → a.hand ≡ None → a.ended ≡ false
+  empty_taken : (id : DeskId) (a : ApplierValue G A) → (c : IsCounted id a) → a.hand ≡ None → a.ended ≡ false
       → a.outlet.taken ≡ items_of (c.applied ++ c.dropped)
   empty_taken id a c none free =
       c.taken ∙ ap (λ b. items_of (c.applied ++ c.dropped ++ in_hand a.hand) ++ end_if b) free
@@ -100,7 +104,7 @@ module _ {A : Type 0} where
       ∙ ap items_of (append-nil (c.applied ++ c.dropped))
 
   -- one more was taken
-  pub counted_take : (id : DeskId) (a : ApplierValue A) (e : EntryValue) (o : OutletValue A) → IsCounted id a → a.hand ≡ None → a.ended ≡ false
+  pub counted_take : (id : DeskId) (a : ApplierValue G A) (e : EntryValue) (o : OutletValue A) → IsCounted id a → a.hand ≡ None → a.ended ≡ false
       → o.taken ≡ a.outlet.taken ++ Entry e ∷ [] → IsItemChain o.taken → IsCounted id (record a { outlet = o; hand = Some e })
   counted_take id a e o c none free more chain = record {
     applied = c.applied;
@@ -117,7 +121,7 @@ module _ {A : Type 0} where
   }
 
   -- End was taken
-  pub counted_end : (id : DeskId) (a : ApplierValue A) (o : OutletValue A) → IsCounted id a → a.hand ≡ None → a.ended ≡ false
+  pub counted_end : (id : DeskId) (a : ApplierValue G A) (o : OutletValue A) → IsCounted id a → a.hand ≡ None → a.ended ≡ false
       → o.taken ≡ a.outlet.taken ++ End ∷ [] → IsItemChain o.taken → IsCounted id (record a { outlet = o; ended = true })
   counted_end id a o c none free more chain = record {
     applied = c.applied;
@@ -135,22 +139,70 @@ module _ {A : Type 0} where
 
 -- ---- steps
 
-module _ {A : Type 0} where
-  next_same : (h : Option EntryValue) (a b : ApplierValue A) (e : EntryValue) → HasNext h a e b → (b.origin ≡ a.origin) × (b.outlet.lane ≡ a.outlet.lane)
-  next_same None a b e is = (ap (λ (x : ApplierValue A). x.origin) is, ap (λ (x : ApplierValue A). x.outlet.lane) is)
-  next_same (Some f) a b e is = (ap (λ (x : ApplierValue A). x.origin) is.1, ap (λ (x : ApplierValue A). x.outlet.lane) is.1)
+-- no entry finds its lane closed
+not_closed : (late apart : Bool) → cond late None (cond apart (Some OutOfStep) None) ≡ Some LaneClosed → ⊥
+not_closed true apart h = cc
+not_closed false true h = cc
+not_closed false false h = cc
+
+module _ {G A : Type 0} where
+  next_same : (h : Option EntryValue) (a b : ApplierValue G A) (e : EntryValue) → HasNext h a e b → (b.origin ≡ a.origin) × (b.outlet.lane ≡ a.outlet.lane)
+  next_same None a b e is = (ap (λ (x : ApplierValue G A). x.origin) is, ap (λ (x : ApplierValue G A). x.outlet.lane) is)
+  next_same (Some f) a b e is = (ap (λ (x : ApplierValue G A). x.origin) is.1, ap (λ (x : ApplierValue G A). x.outlet.lane) is.1)
+
+  -- the next entry is in hand
+  pub next_hand : (h : Option EntryValue) (a b : ApplierValue G A) (e : EntryValue) → a.hand ≡ h → HasNext h a e b → b.hand ≡ Some e
+  next_hand None a b e was is = ap (λ (x : ApplierValue G A). x.hand) is
+  next_hand (Some f) a b e was is = ap (λ (x : ApplierValue G A). x.hand) is.1 ∙ was ∙ ap (λ (x : EntryValue). Some x) is.0
+
+  -- what becomes of the entry in hand keeps origin and lane
+  leaves_same : (id : DeskId) (late : Bool) (a b : ApplierValue G A) (e : EntryValue) → LeavesHand id late a e b → (b.origin ≡ a.origin) × (b.outlet.lane ≡ a.outlet.lane)
+  leaves_same id true a b e is = (ap (λ (x : ApplierValue G A). x.origin) is, ap (λ (x : ApplierValue G A). x.outlet.lane) is)
+  leaves_same id false a b e is = (ap (λ (x : ApplierValue G A). x.origin) is, ap (λ (x : ApplierValue G A). x.outlet.lane) is)
+
+  -- by what the two cases promise
+  pub leaves_hand : (id : DeskId) (late : Bool) (a b : ApplierValue G A) (e : EntryValue) → (late ≡ true → b ≡ dropped a) → (late ≡ false → b ≡ applied id a e)
+      → LeavesHand id late a e b
+  leaves_hand id true a b e gone kept = gone refl
+  leaves_hand id false a b e gone kept = kept refl
+
+  -- the applier that took its next entry, passed its gate and has the lock
+  pub comes_to_desk : (passes : G → ℕ → G → Type 0) (id : DeskId) (old taken mid : ApplierValue G A) (k : KeptValue)
+      → (old.ended ≡ false) × (e : EntryValue) × HasNext old.hand old e taken → passes taken.gate taken.origin mid.gate
+      → mid ≡ record taken { gate = mid.gate } → IsKept id k → (e : EntryValue) × ComesToDesk passes id old e k mid × (mid.hand ≡ Some e)
+  comes_to_desk passes id old taken mid k more passed rest kept = (
+    more.1,
+    record { unended = more.0; taken = taken; next = more.2; passed = passed; rest = rest; kept = kept },
+    ap (λ (x : ApplierValue G A). x.hand) rest ∙ next_hand old.hand old taken more.1 refl more.2,
+  )
+
+  -- .. and what it made of the entry
+  pub step_done : (passes : G → ℕ → G → Type 0) (id : DeskId) (old mid new : ApplierValue G A) (k : KeptValue) (e : EntryValue)
+      → ComesToDesk passes id old e k mid → step_fault mid k.desk e ≡ None → (is_late mid k.desk ≡ true → new ≡ dropped mid)
+      → (is_late mid k.desk ≡ false → new ≡ applied id mid e) → Steps passes id old true new
+  step_done passes id old mid new k e comes none gone kept = (e, k, mid, comes, none, leaves_hand id (is_late mid k.desk) mid new e gone kept)
+
+  -- .. or why it did not
+  pub step_failed : (passes : G → ℕ → G → Type 0) (id : DeskId) (old new : ApplierValue G A) (k : KeptValue) (e : EntryValue) (fault : StepError)
+      → ComesToDesk passes id old e k new → StepRefuses (step_fault new k.desk e) (Err fault)
+      → (fault ≡ OutOfMemory → ¬ (numbers_in e.moves ≡ None)) → StepFails passes id old fault new
+  step_failed passes id old new k e LaneClosed comes refused memory = absurd (not_closed (is_late new k.desk) (is_out_of_step new k.desk e) refused)
+  step_failed passes id old new k e OutOfStep comes refused memory = (e, k, comes, refused)
+  step_failed passes id old new k e OutOfMemory comes refused memory = (e, k, comes, refused, memory refl)
 
   -- a step keeps origin and lane
-  pub step_same : (id : DeskId) (a b : ApplierValue A) → Steps id a true b → (b.origin ≡ a.origin) × (b.outlet.lane ≡ a.outlet.lane)
-  step_same id a b s =
-      let n = next_same a.hand a s.2 s.1 s.3 in
-      elim s.4 [
-        | inl x ↦ (ap (λ (y : ApplierValue A). y.origin) x.1 ∙ n.0, ap (λ (y : ApplierValue A). y.outlet.lane) x.1 ∙ n.1)
-        | inr x ↦ (ap (λ (y : ApplierValue A). y.origin) x ∙ n.0, ap (λ (y : ApplierValue A). y.outlet.lane) x ∙ n.1)
-      ]
+  pub step_same : (passes : G → ℕ → G → Type 0) (id : DeskId) (a b : ApplierValue G A) → Steps passes id a true b → (b.origin ≡ a.origin) × (b.outlet.lane ≡ a.outlet.lane)
+  step_same passes id a b s =
+      let mid : ApplierValue G A = s.2 in
+      let comes : ComesToDesk passes id a s.0 s.1 mid = s.3 in
+      let next = next_same a.hand a comes.taken s.0 comes.next in
+      let last = leaves_same id (is_late mid s.1.desk) mid b s.0 s.5 in (
+        last.0 ∙ ap (λ (x : ApplierValue G A). x.origin) comes.rest ∙ next.0,
+        last.1 ∙ ap (λ (x : ApplierValue G A). x.outlet.lane) comes.rest ∙ next.1,
+      )
 
   -- a new applier
-  pub counted_new : (id : DeskId) (a : ApplierValue A) → a.outlet.taken ≡ [] → a.hand ≡ None → a.ended ≡ false → a.number ≡ 0 → a.received ≡ 0
+  pub counted_new : (id : DeskId) (a : ApplierValue G A) → a.outlet.taken ≡ [] → a.hand ≡ None → a.ended ≡ false → a.number ≡ 0 → a.received ≡ 0
       → IsCounted id a
   counted_new id a none empty free n r = record {
     applied = [];
@@ -162,6 +214,11 @@ module _ {A : Type 0} where
     received = r ∙ sym (ap (to id.site) moves_of-nil ∙ to-nil id.site);
     empty_hand = λ _. empty;
   }
+
+-- a new seat was told nothing
+pub seat_told : (old : KeptValue) (answer : Result SeatValue SeatsFull) (new : KeptValue) → GivesSeat old answer new → IfOk answer (λ s. s ≡ told_nothing)
+seat_told old (Ok s) new h = h.0
+seat_told old (Err full) new h = tt
 
 -- the origin of an applier is another site of the system
 by_test : (id : DeskId) (o : ℕ) (b c : Bool) → cond b (Some NoSuchSite) (cond c (Some SameSite) None) ≡ None → (b ≡ false) × (c ≡ false)

@@ -1,21 +1,36 @@
--- Which origins get an applier.
-use Rattle.std.specs.Prelude.{◌≡◌, ℕ, nat_lt, ◌==◌, Bool, true, false, List, Option, Some, None, if◌then◌else◌}
-use Rattle.rights_types.specs.Places.{at_site}
+-- Who gets a seat, and which origins get an applier.
+use Rattle.std.specs.Prelude.{◌≡◌, ℕ, nat_lt, ◌==◌, Bool, true, false, List, Option, Some, None, Result, Ok, Err, if◌then◌else◌}
+use Rattle.rights_types.specs.Places.{at_site, set_site}
+use Rattle.thread_parts.specs.Ends.{OutletValue}
+use Rattle.apply_lanes.specs.Kepts.{KeptValue, SeatValue, told_nothing, one_less}
+use Rattle.apply_lanes.specs.Appliers.{ApplierValue, new_applier}
+use Rattle.apply_lanes.specs.declared.seat.SeatsFull.{SeatsFull}
 use Rattle.apply_lanes.specs.declared.kept.AdmitFault.{AdmitFault}
 use Rattle.apply_lanes.specs.declared.kept.AdmitFault.TheVariants.{NoSuchSite, SameSite, Taken}
 use Rattle.apply_lanes.specs.Names.{DeskId}
 
+-- a seat was asked for, and this is the answer: there was one more, or none was left
+abbrev pub GivesSeat : KeptValue → Result SeatValue SeatsFull → KeptValue → Type 0
+GivesSeat old (Ok s) new =
+    (s ≡ told_nothing) × one_less old.issued new.issued × one_less old.spent new.spent
+    × (new ≡ record old { issued = new.issued; spent = new.spent })
+GivesSeat old (Err full) new = (old.issued.left ≡ 0) × (new ≡ old)
+
 -- why a site gets none at the desk, apart from one that it has already
 abbrev pub site_fault : DeskId → ℕ → Option AdmitFault
 site_fault id o = if nat_lt id.sites o then Some NoSuchSite else (if o == id.site then Some SameSite else None)
-
--- no applier for that site, by this fault
-abbrev pub Refuses : DeskId → ℕ → AdmitFault → Type 0
-Refuses id o Taken = site_fault id o ≡ None
-Refuses id o fault = site_fault id o ≡ Some fault
 
 -- whether the site has one is what these say, from site 1 on
 abbrev pub Admits : DeskId → List Bool → ℕ → Option AdmitFault → Type 0
 Admits id admitted o None = (site_fault id o ≡ None) × (at_site admitted o true ≡ false)
 Admits id admitted o (Some Taken) = (site_fault id o ≡ None) × (at_site admitted o true ≡ true)
 Admits id admitted o (Some fault) = site_fault id o ≡ Some fault
+
+-- the applier of o's log was given out: it is a new one, and the site has one from then on
+pub record GivesApplier {G A : Type 0} (id : DeskId) (old : KeptValue) (o : ℕ) (outlet : OutletValue A) (gate : G) (a : ApplierValue G A) (new : KeptValue) : Type 0 where
+  pub admits : Admits id old.admitted o None
+  pub fresh : a ≡ new_applier o outlet gate
+  pub admitted : new.admitted ≡ set_site old.admitted o true
+  pub number : one_less old.number new.number
+  pub received : one_less old.received new.received
+  pub rest : new ≡ record old { number = new.number; received = new.received; admitted = new.admitted }

@@ -1,9 +1,9 @@
 -- An applier: one thread's part in applying one log at a shared desk.
-use Rattle.std.specs.Prelude.{◌≡◌, ◌≢◌, ℕ, zero, suc, ◌+◌, ◌≤◌, ◌⊎◌, Bool, true, false, not, ◌==◌, ◌||◌, List, [], ◌∷◌, ◌++◌, length, Option, Some, None, Result, Ok, Err, if◌then◌else◌}
+use Rattle.std.specs.Prelude.{◌≡◌, ◌≢◌, ℕ, zero, suc, ◌+◌, ◌≤◌, Bool, true, false, not, ◌==◌, ◌||◌, List, [], ◌∷◌, ◌++◌, length, Option, Some, None, Result, Ok, Err, if◌then◌else◌}
 use Rattle.rights_types.specs.Entries.{EntryValue, own}
 use Rattle.rights_types.specs.Chains.{end, moves_of}
 use Rattle.rights_types.specs.Rights.{to}
-use Rattle.rights_protocol.specs.Retiring.{one_taking}
+use Rattle.rights_protocol.specs.Retiring.{numbers_in, one_taking}
 use Rattle.rights_book.specs.Books.{peer}
 use Rattle.site_core.specs.Ledgers.{owed_by, with_takings}
 use Rattle.site_core.specs.Desks.{DeskValue}
@@ -15,14 +15,15 @@ use Rattle.apply_lanes.specs.declared.applier.StepError.{StepError}
 use Rattle.apply_lanes.specs.declared.applier.StepError.TheVariants.{LaneClosed, OutOfStep, OutOfMemory}
 use Rattle.thread_parts.specs.Ends.{OutletValue}
 use Rattle.thread_parts.specs.Items.{items_of, end_if, IsItemChain}
-use Rattle.apply_lanes.specs.Kepts.{KeptValue, raised}
+use Rattle.apply_lanes.specs.Kepts.{KeptValue, IsKept, raised}
 use Rattle.apply_lanes.specs.Names.{DeskId}
 
--- whose log it applies; the end of its lane; the entry that it took and has not applied; whether it took End; whether
--- it has come to drop entries; and what it told the desk's tallies
-pub record ApplierValue (A : Type 0) : Type 0 where
+-- whose log it applies; the end of its lane; its gate; the entry that it took and has not applied; whether it took End;
+-- whether it has come to drop entries; and what it told the desk's tallies
+pub record ApplierValue (G A : Type 0) : Type 0 where
   pub origin : ℕ
   pub outlet : OutletValue A
+  pub gate : G
   pub hand : Option EntryValue
   pub ended : Bool
   pub dropping : Bool
@@ -39,10 +40,10 @@ abbrev pub in_hand : Option EntryValue → List EntryValue
 in_hand None = []
 in_hand (Some e) = e ∷ []
 
-module _ {A : Type 0} where
+module _ {G A : Type 0} where
   -- what was taken is what was applied, then what was dropped at a closed desk, then the entry in hand; number and
   -- received are those of what was applied
-  pub record IsCounted (id : DeskId) (a : ApplierValue A) : Type 0 where
+  pub record IsCounted (id : DeskId) (a : ApplierValue G A) : Type 0 where
     pub applied : List EntryValue
     pub dropped : List EntryValue
     pub taken : a.outlet.taken ≡ items_of (applied ++ dropped ++ in_hand a.hand) ++ end_if a.ended
@@ -53,32 +54,32 @@ module _ {A : Type 0} where
     pub empty_hand : a.ended ≡ true → a.hand ≡ None
 
   -- of every applier of the desk
-  pub record IsApplier (id : DeskId) (a : ApplierValue A) : Type 0 where
+  pub record IsApplier (id : DeskId) (a : ApplierValue G A) : Type 0 where
     pub site : a.origin ≤ id.sites
     pub other : a.origin ≢ id.site
     pub counted : IsCounted id a
 
-  abbrev pub new_applier : ℕ → OutletValue A → ApplierValue A
-  new_applier o outlet = record { origin = o; outlet = outlet; hand = None; ended = false; dropping = false; number = 0; received = 0 }
+  abbrev pub new_applier : ℕ → OutletValue A → G → ApplierValue G A
+  new_applier o outlet gate = record { origin = o; outlet = outlet; gate = gate; hand = None; ended = false; dropping = false; number = 0; received = 0 }
 
   -- ---- applying the entry in hand
 
   -- the desk had closed when the applier came to it, now or before: the entry is dropped
-  abbrev pub is_late : ApplierValue A → DeskValue → Bool
+  abbrev pub is_late : ApplierValue G A → DeskValue → Bool
   is_late a d = a.dropping || has_closed d
 
   -- the book has another number of that origin than the entry's previous one, or has its log closed
-  abbrev pub is_out_of_step : ApplierValue A → DeskValue → EntryValue → Bool
+  abbrev pub is_out_of_step : ApplierValue G A → DeskValue → EntryValue → Bool
   is_out_of_step a d e = let p = peer d.ledger.book a.origin in p.log.closed || not (p.log.end == e.prev)
 
-  abbrev pub step_fault : ApplierValue A → DeskValue → EntryValue → Option StepError
+  abbrev pub step_fault : ApplierValue G A → DeskValue → EntryValue → Option StepError
   step_fault a d e = if is_late a d then None else (if is_out_of_step a d e then Some OutOfStep else None)
 
   -- the entry was dropped, or applied: then the applier told its numbers and what it gives to the site
-  abbrev pub dropped : ApplierValue A → ApplierValue A
+  abbrev pub dropped : ApplierValue G A → ApplierValue G A
   dropped a = record a { hand = None; dropping = true }
 
-  abbrev pub applied : DeskId → ApplierValue A → EntryValue → ApplierValue A
+  abbrev pub applied : DeskId → ApplierValue G A → EntryValue → ApplierValue G A
   applied id a e = record a { hand = None; number = own e; received = a.received + to id.site e.moves }
 
 -- a refusal by this fault; where there is none, memory may be wanting
@@ -105,39 +106,65 @@ counted_on id k e d = record k { desk = d; number = raised k.number (length e.mo
 
 -- ---- a step
 
-module _ {A : Type 0} where
-  -- the lane's outlet after one item more
-  abbrev pub with_taken : OutletValue A → Item A → OutletValue A
-  with_taken o x = record o { taken = o.taken ++ x ∷ []; dead = false }
+-- the lane's outlet after one item more
+abbrev pub with_taken : {A : Type 0} → OutletValue A → Item A → OutletValue A
+with_taken o x = record o { taken = o.taken ++ x ∷ []; dead = false }
 
+module _ {G A : Type 0} where
   -- the entry e is in hand: the one that was, or the next that was taken
-  abbrev pub HasNext : Option EntryValue → ApplierValue A → EntryValue → ApplierValue A → Type 0
+  abbrev pub HasNext : Option EntryValue → ApplierValue G A → EntryValue → ApplierValue G A → Type 0
   HasNext None old e new = new ≡ record old { outlet = with_taken old.outlet (Entry e); hand = Some e }
   HasNext (Some f) old e new = (f ≡ e) × (new ≡ old)
 
   -- End was taken, now or before
-  abbrev pub HasEnded : Bool → ApplierValue A → ApplierValue A → Type 0
+  abbrev pub HasEnded : Bool → ApplierValue G A → ApplierValue G A → Type 0
   HasEnded true old new = new ≡ old
   HasEnded false old new = (old.hand ≡ None) × (new ≡ record old { outlet = with_taken old.outlet End; ended = true })
 
   -- the next entry is in hand; or there is none after End
-  abbrev pub Fills : ApplierValue A → Bool → ApplierValue A → Type 0
+  abbrev pub Fills : ApplierValue G A → Bool → ApplierValue G A → Type 0
   Fills old true new = (old.ended ≡ false) × (e : EntryValue) × HasNext old.hand old e new
   Fills old false new = HasEnded old.ended old new
 
+  -- with the entry e in hand the applier has passed its gate, and has the lock, whose value is k
+  pub record ComesToDesk (passes : G → ℕ → G → Type 0) (id : DeskId) (old : ApplierValue G A) (e : EntryValue) (k : KeptValue) (new : ApplierValue G A) : Type 0 where
+    pub unended : old.ended ≡ false
+    pub taken : ApplierValue G A
+    pub next : HasNext old.hand old e taken
+    pub passed : passes taken.gate taken.origin new.gate
+    pub rest : new ≡ record taken { gate = new.gate }
+    pub kept : IsKept id k
+
+  -- under the lock the entry in hand was dropped where the desk had closed, and else applied
+  abbrev pub LeavesHand : DeskId → Bool → ApplierValue G A → EntryValue → ApplierValue G A → Type 0
+  LeavesHand id true old e new = new ≡ dropped old
+  LeavesHand id false old e new = new ≡ applied id old e
+
   -- one entry more was applied or dropped; or there is none after End
-  abbrev pub Steps : DeskId → ApplierValue A → Bool → ApplierValue A → Type 0
-  Steps id old true new =
-      (old.ended ≡ false) × (e : EntryValue) × (mid : ApplierValue A) × HasNext old.hand old e mid
-      × (((mid.dropping ≡ false) × (new ≡ applied id mid e)) ⊎ (new ≡ dropped mid))
-  Steps id old false new = HasEnded old.ended old new
+  abbrev pub Steps : (G → ℕ → G → Type 0) → DeskId → ApplierValue G A → Bool → ApplierValue G A → Type 0
+  Steps passes id old true new =
+      (e : EntryValue) × (k : KeptValue) × (mid : ApplierValue G A) × ComesToDesk passes id old e k mid
+      × (step_fault mid k.desk e ≡ None) × LeavesHand id (is_late mid k.desk) mid e new
+  Steps passes id old false new = HasEnded old.ended old new
 
-  -- a step that failed: nothing came; or the next entry is in hand
-  abbrev pub StepFails : ApplierValue A → StepError → ApplierValue A → Type 0
-  StepFails old LaneClosed new = (old.hand ≡ None) × (new ≡ record old { outlet = record old.outlet { dead = true } })
-  StepFails old fault new = (old.ended ≡ false) × (e : EntryValue) × HasNext old.hand old e new
+  -- a step that failed: nothing came; or the desk has another number, or memory was wanting, and the entry is in hand
+  abbrev pub StepFails : (G → ℕ → G → Type 0) → DeskId → ApplierValue G A → StepError → ApplierValue G A → Type 0
+  StepFails passes id old LaneClosed new = (old.hand ≡ None) × (new ≡ record old { outlet = record old.outlet { dead = true } })
+  StepFails passes id old OutOfStep new =
+      (e : EntryValue) × (k : KeptValue) × ComesToDesk passes id old e k new × (step_fault new k.desk e ≡ Some OutOfStep)
+  StepFails passes id old OutOfMemory new =
+      (e : EntryValue) × (k : KeptValue) × ComesToDesk passes id old e k new × (step_fault new k.desk e ≡ None) × ¬ (numbers_in e.moves ≡ None)
 
-  -- so many entries were applied or dropped, and then came End
-  abbrev pub Runs : DeskId → ApplierValue A → ℕ → ApplierValue A → Type 0
-  Runs id old zero new = Steps id old false new
-  Runs id old (suc n) new = (mid : ApplierValue A) × Steps id old true mid × Runs id mid n new
+  -- so many entries were applied or dropped, one after another
+  abbrev pub Advances : (G → ℕ → G → Type 0) → DeskId → ApplierValue G A → ℕ → ApplierValue G A → Type 0
+  Advances passes id old zero new = new ≡ old
+  Advances passes id old (suc n) new = (last : ApplierValue G A) × Advances passes id old n last × Steps passes id last true new
+
+  -- so many were, and then came End
+  abbrev pub Runs : (G → ℕ → G → Type 0) → DeskId → ApplierValue G A → ℕ → ApplierValue G A → Type 0
+  Runs passes id old n new = (last : ApplierValue G A) × Advances passes id old n last × Steps passes id last false new
+
+  -- so many were, and then a step failed
+  abbrev pub RunFails : (G → ℕ → G → Type 0) → DeskId → ApplierValue G A → StepError → ApplierValue G A → Type 0
+  RunFails passes id old fault new =
+      (n : ℕ) × (last : ApplierValue G A) × Advances passes id old n last × StepFails passes id last fault new

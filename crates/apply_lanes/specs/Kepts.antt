@@ -6,6 +6,8 @@ use Rattle.rights_types.specs.Rights.{issued, spent, out, taken_back, sum_sites}
 use Rattle.rights_types.specs.Places.{at_site, set_site}
 use Rattle.rights_types.specs.declared.limits.TheConstants.{MAX_NUMBER, MAX_SITES}
 use Rattle.rights_book.specs.Books.{BookValue, sites, peer, received_by, held_by, applied_by}
+use Rattle.request_queue.specs.declared.request.Request.{Request}
+use Rattle.request_queue.specs.Queues.{front_of}
 use Rattle.site_core.specs.Desks.{DeskValue}
 use Rattle.site_core.specs.declared.desk.requests.Spending.{Spending}
 use Rattle.site_core.specs.declared.desk.requests.Spending.TheVariants.{Spent, Queued}
@@ -107,6 +109,10 @@ told_spent s n answer = record s { spent = s.spent + spent_by n answer }
 abbrev pub without_amount : Option (ℕ × ℕ × ℕ) → Option (ℕ × ℕ)
 without_amount None = None
 without_amount (Some (ticket, number, amount)) = Some (ticket, number)
+
+-- the ticket and the amount are those of the request at the front
+abbrev pub IsFront : List Request → ℕ × ℕ × ℕ → Type 0
+IsFront waiting (ticket, number, amount) = (deadline : ℕ) × (front_of waiting ≡ Some (ticket, amount, deadline))
 
 abbrev pub amount_of : Option (ℕ × ℕ × ℕ) → ℕ
 amount_of None = 0

@@ -1,6 +1,13 @@
 -- The end of a shared desk.
-use Rattle.std.specs.Prelude.{◌≡◌, ℕ, ◌+◌, List, sum_by}
-use Rattle.apply_lanes.specs.Kepts.{SeatValue}
+use Rattle.std.specs.Prelude.{◌≡◌, ℕ, ◌+◌, ◌-◌, not, ◌==◌, List, sum_by, Option, Some, None, if◌then◌else◌}
+use Rattle.rights_types.specs.Chains.{moves_of}
+use Rattle.rights_types.specs.Rights.{out, taken_back}
+use Rattle.rights_book.specs.Books.{held_by}
+use Rattle.site_core.specs.Desks.{DeskValue}
+use Rattle.apply_lanes.specs.Kepts.{KeptValue, SeatValue}
+use Rattle.apply_lanes.specs.declared.names.TheConstants.{SEATS, APPLIERS}
+use Rattle.apply_lanes.specs.declared.kept.Missing.{Missing}
+use Rattle.apply_lanes.specs.declared.kept.Missing.TheVariants.{Seat, Applier}
 use Rattle.apply_lanes.specs.Appliers.{AppliedValue}
 use Rattle.apply_lanes.specs.declared.stopping.Report.{Report}
 use Rattle.apply_lanes.specs.declared.stopping.Parts.{Parts}
@@ -34,6 +41,23 @@ pub record Reports (seats : List SeatValue) (shares : List AppliedValue) (r : Re
   pub applied : r.applied ≡ all_numbers shares
   pub received : r.received ≡ all_received shares
   pub held : r.held + r.given + r.spent ≡ r.issued + r.received + r.back
+
+-- .. and of what the desk gave, took back and holds, what the desk says
+pub record ReportsDesk (d : DeskValue) (r : Report) : Type 0 where
+  pub given : r.given ≡ out (moves_of d.ledger.log.entries)
+  pub back : r.back ≡ taken_back (moves_of d.ledger.log.entries)
+  pub held : r.held ≡ held_by d.ledger.book
+
+-- what is missing of all that was given out, where so many seats and appliers are there
+abbrev pub missing_of : KeptValue → ℕ → ℕ → Option Missing
+missing_of k seats appliers =
+    if not (seats == SEATS - k.issued.left) then Some Seat
+    else (if not (appliers == APPLIERS - k.number.left) then Some Applier else None)
+
+-- what a refusal says is missing
+abbrev pub missing_by : {D A : Type 0} → StopError D A → Missing
+missing_by (SeatMissing parts) = Seat
+missing_by (ApplierMissing parts) = Applier
 
 -- the parts that a refusal hands back
 abbrev pub parts_of : {D A : Type 0} → StopError D A → Parts D A

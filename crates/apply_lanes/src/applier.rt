@@ -3,7 +3,7 @@ ghost use Rattle.std.specs.Prelude.{◌≡◌, ◌≢◌, ℕ, ◌≤◌, true, 
 ghost use Rattle.rights_types.specs.Entries.{EntryValue};
 ghost use Rattle.rights_protocol.specs.Retiring.{numbers_in};
 ghost use Rattle.apply_lanes.specs.Appliers.{IsApplier, new_applier};
-ghost use Rattle.apply_lanes.specs.declared.applier.StepError.TheVariants.{OutOfMemory as NoMemory};
+ghost use Rattle.apply_lanes.specs.declared.applier.StepError.TheVariants.{OutOfMemory as NoMemory, LaneClosed as NothingCame};
 
 use crate::gate::Gate;
 use crate::kept::Kept;
@@ -45,15 +45,16 @@ pub struct Applier<D: DeskNames, G: Gate, A: Allocator = Global> {
 impl<D: DeskNames, G: Gate, A: Allocator> Model for Applier<D, G, A> {
     ghost use Rattle.apply_lanes.specs.Appliers.{ApplierValue, IsApplier};
 
-    ghost Value = { ApplierValue A };
+    ghost Value = { ApplierValue G A };
 
-    ghost view = { λ a. record { origin = a.origin; outlet = a.outlet; hand = a.hand; ended = a.ended; dropping = a.dropping; number = a.number; received = a.received } };
+    ghost view = { λ a. record { origin = a.origin; outlet = a.outlet; gate = a.gate; hand = a.hand; ended = a.ended; dropping = a.dropping; number = a.number; received = a.received } };
 
-    ghost invariant = { λ a. IsApplier D.id (record { origin = a.origin; outlet = a.outlet; hand = a.hand; ended = a.ended; dropping = a.dropping; number = a.number; received = a.received }) };
+    ghost invariant = { λ a. IsApplier D.id (record { origin = a.origin; outlet = a.outlet; gate = a.gate; hand = a.hand; ended = a.ended; dropping = a.dropping; number = a.number; received = a.received }) };
 }
 
 impl<D: DeskNames, G: Gate, A: Allocator> Applier<D, G, A> {
-    ghost use Rattle.apply_lanes.specs.Appliers.{ApplierValue, IsCounted, is_late, step_fault, StepRefuses, MovesOn, applied, dropped, counted_on, Fills, Steps, StepFails, Runs};
+    ghost use Rattle.apply_lanes.specs.Appliers.{ApplierValue, IsCounted, is_late, step_fault, StepRefuses, MovesOn, applied, dropped, counted_on, Fills, Steps, StepFails, Runs, RunFails};
+    ghost use Rattle.apply_lanes.specs.Kepts.{IsKept};
 
     /// Applies the entry in hand, under the lock whose value this is; at a closed desk it is dropped. A
     /// refusal leaves it in hand, and changes nothing.
@@ -67,6 +68,7 @@ impl<D: DeskNames, G: Gate, A: Allocator> Applier<D, G, A> {
         ensures same { (self.new.origin ≡ self.old.origin) × (self.new.outlet ≡ self.old.outlet) }
         ensures before { IsCounted D.id self.old }
         ensures after { IsCounted D.id self.new }
+        ensures kept { IsKept D.id kept.old }
         ensures err { OnErr result ((self.new ≡ self.old) × (kept.new ≡ kept.old)) }
         ensures memory { (e : EntryValue) → self.old.hand ≡ Some e → numbers_in e.moves ≡ None → IfErr result (λ fault. ¬ (fault ≡ NoMemory)) }
     {
@@ -104,7 +106,7 @@ impl<D: DeskNames, G: Gate, A: Allocator> Applier<D, G, A> {
         ensures hand { IfOk result (λ more. more ≡ true → IsSome self.new.hand) }
         ensures counted { IsCounted D.id self.new }
         ensures same { (self.new.origin ≡ self.old.origin) × (self.new.outlet.lane ≡ self.old.outlet.lane) }
-        ensures err { IfErr result (λ fault. StepFails self.old fault self.new) }
+        ensures err { IfErr result (λ fault. (fault ≡ NothingCame) × (self.old.hand ≡ None) × (self.new ≡ record self.old { outlet = record self.old.outlet { dead = true } })) }
         ensures ended { self.old.ended ≡ true → result ≡ Ok false }
     {
         if self.ended {
@@ -128,7 +130,8 @@ impl<D: DeskNames, G: Gate, A: Allocator> Applier<D, G, A> {
 
     // Passes the gate.
     fn pass<R: Wait + Clock>(&mut self, rt: &R)
-        ensures { self.new ≡ self.old }
+        ensures passes { G.passes self.old.gate self.old.origin self.new.gate }
+        ensures rest { self.new ≡ record self.old { gate = self.new.gate } }
     {
         self.gate.before_apply(rt, self.origin);
     }
@@ -140,11 +143,11 @@ impl<D: DeskNames, G: Gate, A: Allocator> Applier<D, G, A> {
         rt: &R,
         desk: &SharedDesk<D, B>,
     ) -> Result<bool, StepError>
-        ensures ok { IfOk result (λ more. Steps D.id self.old more self.new) }
+        ensures ok { IfOk result (λ more. Steps G.passes D.id self.old more self.new) }
         ensures ended { self.old.ended ≡ true → (result ≡ Ok false) × (self.new ≡ self.old) }
         ensures counted { IsCounted D.id self.new }
         ensures same { (self.new.origin ≡ self.old.origin) × (self.new.outlet.lane ≡ self.old.outlet.lane) }
-        ensures err { IfErr result (λ fault. StepFails self.old fault self.new) }
+        ensures err { IfErr result (λ fault. StepFails G.passes D.id self.old fault self.new) }
     {
         if !self.fill(rt)? {
             return Ok(false);
@@ -161,11 +164,10 @@ impl<D: DeskNames, G: Gate, A: Allocator> Applier<D, G, A> {
         rt: &R,
         desk: &SharedDesk<D, B>,
     ) -> Result<u64, StepError>
-        ensures ok { IfOk result (λ n. Runs D.id self.old n self.new) }
+        ensures ok { IfOk result (λ n. Runs G.passes D.id self.old n self.new) }
         ensures ended { OnOk result (self.new.ended ≡ true) }
         ensures counted { IsCounted D.id self.new }
-        // What a failed step leaves, the last one.
-        ensures err { IfErr result (λ fault. (last : ApplierValue A) × StepFails last fault self.new) }
+        ensures err { IfErr result (λ fault. RunFails G.passes D.id self.old fault self.new) }
         ensures same { (self.new.origin ≡ self.old.origin) × (self.new.outlet.lane ≡ self.old.outlet.lane) }
     {
         for count in 0..u64::MAX {

@@ -1,23 +1,27 @@
 //! The value under the lock of a shared desk: a desk, with the four tallies of what it did.
-ghost use Rattle.std.specs.Prelude.{◌≡◌, ◌≢◌, ◌+◌, ◌≤◌, ◌<◌, true, false, [], List, Option, Some, None, IfOk, IfErr, IfSome, IfNone, IsOk, OnOk, OnErr, MatchResult, length};
+ghost use Rattle.std.specs.Prelude.{◌≡◌, ◌≢◌, ◌+◌, ◌≤◌, ◌<◌, true, false, [], List, Option, Some, None, IfOk, IfErr, IfSome, IsOk, OnOk, OnErr, MatchResult, length};
 ghost use Rattle.rights_types.specs.Entries.{EntryValue};
 ghost use Rattle.rights_types.specs.Places.{at_site, set_site};
 ghost use Rattle.rights_types.specs.Rights.{to};
 ghost use Rattle.rights_protocol.specs.Retiring.{numbers_in};
 ghost use Rattle.rights_book.specs.Books.{sites, peer};
+ghost use Rattle.request_queue.specs.declared.queue.TheConstants.{SLOTS};
 ghost use Rattle.site_core.specs.Faults.{has_closed};
 ghost use Rattle.site_core.specs.Calls.{DeskApplies};
 ghost use Rattle.apply_lanes.specs.Names.{id_of, AreBlank, IsUnused};
 ghost use Rattle.apply_lanes.specs.Views.{IsViewOf};
-ghost use Rattle.apply_lanes.specs.Admissions.{Admits};
+ghost use Rattle.apply_lanes.specs.Admissions.{Admits, GivesSeat, GivesApplier};
 
+use crate::applier::Applier;
+use crate::gate::Gate;
 use crate::names::{APPLIERS, Blanks, DeskNames, IssuedBy, NumberOf, ReceivedBy, SEATS, SpentBy};
-use crate::seat::Seat;
+use crate::seat::{Seat, SeatsFull};
+use request_queue::SLOTS;
 use rights_types::{Entry, OutOfMemory, SiteId};
 use site_core::Desk;
 use std::alloc::{Allocator, Global};
 use std::marker::Model;
-use thread_parts::{DeskView, Portion, Tally};
+use thread_parts::{DeskView, Outlet, Portion, Tally};
 
 mod lines;
 mod requests;
@@ -56,11 +60,27 @@ pub enum AdmitFault {
     Taken,
 }
 
+/// An origin got no applier. What was handed over comes back.
+#[derive(Drop)]
+pub struct AdmitError<G: Gate, A: Allocator = Global> {
+    pub fault: AdmitFault,
+    pub outlet: Outlet<A>,
+    pub gate: G,
+}
+
+/// What is not back where a desk is to stop, in the order in which it is looked for.
+#[derive(Clone, Copy, Debug, PartialEq, Eq)]
+pub(crate) enum Missing {
+    Seat,
+    Applier,
+}
+
 /// The two portions of an applier: of the numbers applied, and of what was received.
 pub(crate) type Admission<D> = (Portion<NumberOf<D>>, Portion<ReceivedBy<D>>);
 
 impl<D: DeskNames, A: Allocator + Copy> Kept<D, A> {
-    ghost use Rattle.apply_lanes.specs.Kepts.{KeptValue, IsKept, IsInBalance, raised, one_less, told_nothing};
+    ghost use Rattle.apply_lanes.specs.Kepts.{KeptValue, IsKept, IsInBalance, raised, one_less};
+    ghost use Rattle.apply_lanes.specs.Stops.{missing_of};
 
     /// A fresh desk, which nobody has a seat at.
     pub(crate) fn open(desk: Desk<A>, blanks: Blanks) -> Kept<D, A>
@@ -93,10 +113,12 @@ impl<D: DeskNames, A: Allocator + Copy> Kept<D, A> {
         ensures value { result.now ≡ self.now.desk }
         ensures balance { IsInBalance self.now }
         ensures valid { IsKept D.id self.now }
+        ensures few { length self.now.desk.queue.waiting ≤ SLOTS }
     {
         let desk = &self.desk;
-        // For the proof: what the desk's readers say of its log.
+        // For the proof: what the desk's readers say of its log and queue.
         let _ = desk.log();
+        let _ = desk.queued();
         let _ = (desk.issued(), desk.spent(), desk.received(), desk.held());
         desk
     }
@@ -121,16 +143,18 @@ impl<D: DeskNames, A: Allocator + Copy> Kept<D, A> {
     }
 
     /// A new seat, if there is one left.
-    pub(crate) fn seat(&mut self) -> Option<Seat<D>>
-        ensures some { IfSome result (λ s. (s ≡ told_nothing) × one_less self.old.issued self.new.issued) }
-        ensures none { IfNone result ((self.old.issued.left ≡ 0) × (self.new ≡ self.old)) }
-        ensures rest { self.new ≡ record self.old { issued = self.new.issued; spent = self.new.spent } }
+    pub(crate) fn seat(&mut self) -> Result<Seat<D>, SeatsFull>
+        ensures seat { GivesSeat self.old result self.new }
+        ensures before { IsKept D.id self.old }
+        ensures after { IsKept D.id self.new }
     {
-        let issued = self.issued.split()?;
+        let Some(issued) = self.issued.split() else {
+            return Err(SeatsFull);
+        };
         let Some(used) = self.spent.split() else {
             unreachable!()
         };
-        Some(Seat {
+        Ok(Seat {
             issued,
             used,
             spent: 0,
@@ -138,10 +162,13 @@ impl<D: DeskNames, A: Allocator + Copy> Kept<D, A> {
         })
     }
 
-    /// The portions of the applier of that origin.
-    pub(crate) fn admit(&mut self, origin: SiteId) -> Result<Admission<D>, AdmitFault>
+    // The portions of the applier of that origin.
+    fn admit(&mut self, origin: SiteId) -> Result<Admission<D>, AdmitFault>
         ensures refused { MatchResult result (λ _. Admits D.id self.old.admitted origin None) (λ fault. Admits D.id self.old.admitted origin (Some fault)) }
-        ensures ok { IfOk result (λ p. (p.0 ≡ 0) × (p.1 ≡ 0) × (self.new.admitted ≡ set_site self.old.admitted origin true) × one_less self.old.number self.new.number) }
+        ensures ok { IfOk result (λ p. (p.0 ≡ 0) × (p.1 ≡ 0) × (self.new.admitted ≡ set_site self.old.admitted origin true)) }
+        ensures before { IsKept D.id self.old }
+        ensures after { IsKept D.id self.new }
+        ensures portions { OnOk result (one_less self.old.number self.new.number × one_less self.old.received self.new.received) }
         ensures err { OnErr result (self.new ≡ self.old) }
         ensures rest { self.new ≡ record self.old { number = self.new.number; received = self.new.received; admitted = self.new.admitted } }
     {
@@ -163,6 +190,53 @@ impl<D: DeskNames, A: Allocator + Copy> Kept<D, A> {
         };
         self.admitted[place] = true;
         Ok((number, received))
+    }
+
+    /// The applier of the log of that origin, which comes by this lane.
+    pub(crate) fn applier<G: Gate, B: Allocator>(
+        &mut self,
+        origin: SiteId,
+        outlet: Outlet<B>,
+        gate: G,
+    ) -> Result<Applier<D, G, B>, AdmitError<G, B>>
+        requires { outlet.taken ≡ [] }
+        ensures ok { IfOk result (λ a. GivesApplier D.id self.old origin outlet gate a self.new) }
+        ensures err { IfErr result (λ e. Admits D.id self.old.admitted origin (Some e.fault) × (self.new ≡ self.old)) }
+        ensures back { IfErr result (λ e. (e.outlet ≡ outlet) × (e.gate ≡ gate)) }
+        ensures before { IsKept D.id self.old }
+        ensures after { IsKept D.id self.new }
+    {
+        match self.admit(origin) {
+            Ok((number, received)) => Ok(Applier {
+                origin,
+                outlet,
+                gate,
+                hand: None,
+                ended: false,
+                dropping: false,
+                number,
+                received,
+            }),
+            Err(fault) => Err(AdmitError {
+                fault,
+                outlet,
+                gate,
+            }),
+        }
+    }
+
+    /// What is missing of all that was given out, where so many seats and appliers are there.
+    pub(crate) fn missing(&self, seats: usize, appliers: usize) -> Option<Missing>
+        ensures missing { result ≡ missing_of self.now seats appliers }
+        ensures valid { IsKept D.id self.now }
+    {
+        if seats as u64 != SEATS - self.issued.left() {
+            return Some(Missing::Seat);
+        }
+        if appliers as u64 != APPLIERS - self.number.left() {
+            return Some(Missing::Applier);
+        }
+        None
     }
 
     /// Applies the origin's next entry, and counts it.

@@ -14,10 +14,10 @@ mod stopping;
 
 pub use applier::{Applied, Applier, StepError};
 pub use gate::{Free, Gate};
-pub use kept::{AdmitFault, Kept};
+pub use kept::{AdmitError, AdmitFault, Kept};
 pub use link_intake::{Arrived, Intake, IntakeError, VerdictCounts};
 pub use names::{APPLIERS, Blanks, DeskNames, IssuedBy, NumberOf, ReceivedBy, SEATS, SpentBy};
-pub use seat::Seat;
-pub use shared_desk::{AdmitError, SeatsFull, SharedDesk};
+pub use seat::{Seat, SeatsFull};
+pub use shared_desk::SharedDesk;
 pub use stopping::{Parts, Report, StopError, stop};
 pub use thread_parts::{DeskView, Inlet, Item, LaneClosed, MAX_LANE, Outlet, Portion, Tally, lane};

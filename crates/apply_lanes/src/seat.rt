@@ -14,6 +14,10 @@ pub struct Seat<D: DeskNames> {
     pub(crate) served: u64,
 }
 
+/// All seats of the desk are given out.
+#[derive(Clone, Copy, Debug, PartialEq, Eq)]
+pub struct SeatsFull;
+
 impl<D: DeskNames> Model for Seat<D> {
     ghost use Rattle.std.specs.Prelude.{◌≡◌, ◌+◌};
     ghost use Rattle.apply_lanes.specs.Kepts.{SeatValue};

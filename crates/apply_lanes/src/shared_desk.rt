@@ -1,15 +1,15 @@
 //! A desk that threads share.
-ghost use Rattle.std.specs.Prelude.{◌≡◌, ◌<◌, ◌≤◌, [], IfOk, IfErr, MatchResult, None};
+ghost use Rattle.std.specs.Prelude.{◌≡◌, ◌<◌, ◌≤◌, [], Some, IfOk, IfErr};
 ghost use Rattle.apply_lanes.specs.Names.{id_of, AreBlank, IsUnused};
-ghost use Rattle.apply_lanes.specs.Kepts.{told_nothing};
+ghost use Rattle.apply_lanes.specs.Kepts.{KeptValue, IsKept, told_nothing};
 ghost use Rattle.apply_lanes.specs.Appliers.{new_applier};
-ghost use Rattle.apply_lanes.specs.Admissions.{site_fault, Refuses};
+ghost use Rattle.apply_lanes.specs.Admissions.{Admits, GivesSeat, GivesApplier};
 
 use crate::applier::Applier;
 use crate::gate::Gate;
-use crate::kept::{AdmitFault, Kept};
+use crate::kept::{AdmitError, Kept};
 use crate::names::{Blanks, DeskNames};
-use crate::seat::Seat;
+use crate::seat::{Seat, SeatsFull};
 use rights_types::SiteId;
 use site_core::Desk;
 use std::alloc::{Allocator, Global};
@@ -20,18 +20,6 @@ use thread_parts::Outlet;
 #[derive(Drop)]
 pub struct SharedDesk<D: DeskNames, A: Allocator = Global> {
     pub(crate) lock: Mutex<Kept<D, A>>,
-}
-
-/// All seats of the desk are given out.
-#[derive(Clone, Copy, Debug, PartialEq, Eq)]
-pub struct SeatsFull;
-
-/// An origin got no applier. What was handed over comes back.
-#[derive(Drop)]
-pub struct AdmitError<G: Gate, A: Allocator = Global> {
-    pub fault: AdmitFault,
-    pub outlet: Outlet<A>,
-    pub gate: G,
 }
 
 impl<D: DeskNames, A: Allocator + Copy> SharedDesk<D, A> {
@@ -54,9 +42,11 @@ impl<D: DeskNames, A: Allocator + Copy> SharedDesk<D, A> {
 
     /// A new seat, which was told nothing yet.
     pub fn seat<R: Wait>(&self, rt: &R) -> Result<Seat<D>, SeatsFull>
-        ensures { IfOk result (λ s. s ≡ told_nothing) }
+        ensures told { IfOk result (λ s. s ≡ told_nothing) }
+        ensures seat { (old : KeptValue) × (new : KeptValue) × IsKept D.id old × IsKept D.id new × GivesSeat old result new }
     {
-        self.lock(rt).seat().ok_or(SeatsFull)
+        // The desk decides, under its lock.
+        self.lock(rt).seat()
     }
 
     /// The applier of the log of that origin, which comes by this lane. It passes the gate before each lock.
@@ -68,26 +58,12 @@ impl<D: DeskNames, A: Allocator + Copy> SharedDesk<D, A> {
         gate: G,
     ) -> Result<Applier<D, G, B>, AdmitError<G, B>>
         requires { outlet.taken ≡ [] }
-        ensures refused { MatchResult result (λ _. site_fault D.id origin ≡ None) (λ e. Refuses D.id origin e.fault) }
-        ensures ok { IfOk result (λ a. a ≡ new_applier origin outlet) }
-        ensures err { IfErr result (λ e. (e.outlet ≡ outlet) × (e.gate ≡ gate)) }
+        ensures fresh { IfOk result (λ a. a ≡ new_applier origin outlet gate) }
+        ensures ok { IfOk result (λ a. (old : KeptValue) × (new : KeptValue) × IsKept D.id old × IsKept D.id new × GivesApplier D.id old origin outlet gate a new) }
+        ensures err { IfErr result (λ e. (kept : KeptValue) × IsKept D.id kept × Admits D.id kept.admitted origin (Some e.fault)) }
+        ensures back { IfErr result (λ e. (e.outlet ≡ outlet) × (e.gate ≡ gate)) }
     {
-        match self.lock(rt).admit(origin) {
-            Ok((number, received)) => Ok(Applier {
-                origin,
-                outlet,
-                gate,
-                hand: None,
-                ended: false,
-                dropping: false,
-                number,
-                received,
-            }),
-            Err(fault) => Err(AdmitError {
-                fault,
-                outlet,
-                gate,
-            }),
-        }
+        // The desk decides, under its lock.
+        self.lock(rt).applier(origin, outlet, gate)
     }
 }

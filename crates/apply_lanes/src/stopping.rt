@@ -1,11 +1,12 @@
 //! The end of a shared desk.
-ghost use Rattle.std.specs.Prelude.{◌≡◌, ◌+◌, ◌<◌, ◌≤◌, ◌^◌, IfOk, IfErr, length};
-ghost use Rattle.apply_lanes.specs.Stops.{all_issued, all_spent, all_served, all_numbers, all_received, Reports, parts_of};
+ghost use Rattle.std.specs.Prelude.{◌≡◌, ◌+◌, ◌<◌, ◌≤◌, ◌^◌, Some, None, IfOk, IfErr, MatchResult, length};
+ghost use Rattle.apply_lanes.specs.Kepts.{KeptValue, IsKept};
+ghost use Rattle.apply_lanes.specs.Stops.{all_issued, all_spent, all_served, all_numbers, all_received, Reports, ReportsDesk, missing_of, missing_by, parts_of};
 ghost use Rattle.thread_parts.specs.Tallies.{TallyValue};
 ghost use Rattle.apply_lanes.specs.declared.names.TheConstants.{SEATS, APPLIERS};
 
 use crate::applier::Applied;
-use crate::kept::Kept;
+use crate::kept::{Kept, Missing};
 use crate::names::{APPLIERS, DeskNames, IssuedBy, NumberOf, ReceivedBy, SEATS, SpentBy};
 use crate::seat::Seat;
 use crate::shared_desk::SharedDesk;
@@ -52,6 +53,10 @@ pub fn stop<D: DeskNames, A: Allocator + Copy>(
     parts: Parts<D, A>,
 ) -> Result<Report, StopError<D, A>>
     ensures ok { IfOk result (λ r. Reports parts.seats.items parts.applied.items r) }
+    ensures desk { IfOk result (λ r. (kept : KeptValue) × IsKept D.id kept
+        × (missing_of kept (length parts.seats.items) (length parts.applied.items) ≡ None) × ReportsDesk kept.desk r) }
+    ensures refused { IfErr result (λ e. (kept : KeptValue) × IsKept D.id kept
+        × (missing_of kept (length parts.seats.items) (length parts.applied.items) ≡ Some (missing_by e))) }
     ensures err { IfErr result (λ e. ((parts_of e).seats ≡ parts.seats) × ((parts_of e).applied ≡ parts.applied)) }
 {
     let Parts {
@@ -60,14 +65,69 @@ pub fn stop<D: DeskNames, A: Allocator + Copy>(
         applied,
     } = parts;
     let SharedDesk { lock } = desk;
-    let kept = lock.into_inner();
-    if kept.issued.left() + seats.len() as u64 != SEATS {
-        return Err(StopError::SeatMissing(again(kept, seats, applied)));
+    // The desk decides. What it refuses goes back under a lock as it is.
+    match end(lock.into_inner(), seats, applied) {
+        Ok(report) => Ok(report),
+        Err(unfinished) => Err(unfinished.again()),
     }
-    if kept.number.left() + applied.len() as u64 != APPLIERS {
-        return Err(StopError::ApplierMissing(again(kept, seats, applied)));
+}
+
+// A desk that does not stop, out of its lock.
+struct Unfinished<D: DeskNames, A: Allocator> {
+    missing: Missing,
+    kept: Kept<D, A>,
+    seats: Vec<Seat<D>, A>,
+    applied: Vec<Applied<D>, A>,
+}
+
+impl<D: DeskNames, A: Allocator + Copy> Unfinished<D, A> {
+    // The refusal, with the desk under a lock again.
+    fn again(self) -> StopError<D, A>
+        ensures missing { missing_by result ≡ self.missing }
+        ensures parts { ((parts_of result).seats ≡ self.seats) × ((parts_of result).applied ≡ self.applied) }
+    {
+        let Unfinished {
+            missing,
+            kept,
+            seats,
+            applied,
+        } = self;
+        let parts = Parts {
+            desk: SharedDesk {
+                lock: Mutex::new(kept),
+            },
+            seats,
+            applied,
+        };
+        match missing {
+            Missing::Seat => StopError::SeatMissing(parts),
+            Missing::Applier => StopError::ApplierMissing(parts),
+        }
     }
-    Ok(settle(kept, seats, applied))
+}
+
+// What the desk did, and all seats and appliers were told. Where one of them is missing the desk stays as it
+// is.
+fn end<D: DeskNames, A: Allocator + Copy>(
+    kept: Kept<D, A>,
+    seats: Vec<Seat<D>, A>,
+    applied: Vec<Applied<D>, A>,
+) -> Result<Report, Unfinished<D, A>>
+    ensures refused { MatchResult result (λ _. missing_of kept (length seats.items) (length applied.items) ≡ None)
+        (λ e. missing_of kept (length seats.items) (length applied.items) ≡ Some e.missing) }
+    ensures ok { IfOk result (λ r. Reports seats.items applied.items r × ReportsDesk kept.desk r) }
+    ensures err { IfErr result (λ e. (e.kept ≡ kept) × (e.seats ≡ seats) × (e.applied ≡ applied)) }
+    ensures kept { IsKept D.id kept }
+{
+    match kept.missing(seats.len(), applied.len()) {
+        Some(missing) => Err(Unfinished {
+            missing,
+            kept,
+            seats,
+            applied,
+        }),
+        None => Ok(settle(kept, seats, applied)),
+    }
 }
 
 // What the desk did, and all seats and appliers were told.
@@ -78,7 +138,8 @@ fn settle<D: DeskNames, A: Allocator + Copy>(
 ) -> Report
     requires seats { kept.issued.left + length seats.items ≡ SEATS }
     requires applied { kept.number.left + length applied.items ≡ APPLIERS }
-    ensures { Reports seats.items applied.items result }
+    ensures all { Reports seats.items applied.items result }
+    ensures desk { ReportsDesk kept.desk result }
 {
     let Kept {
         desk,
@@ -137,23 +198,6 @@ fn settle_applied<D: DeskNames, A: Allocator>(
     number.settle();
     received.settle();
     number.sum()
-}
-
-// The same parts.
-fn again<D: DeskNames, A: Allocator + Copy>(
-    kept: Kept<D, A>,
-    seats: Vec<Seat<D>, A>,
-    applied: Vec<Applied<D>, A>,
-) -> Parts<D, A>
-    ensures { (result.seats ≡ seats) × (result.applied ≡ applied) }
-{
-    Parts {
-        desk: SharedDesk {
-            lock: Mutex::new(kept),
-        },
-        seats,
-        applied,
-    }
 }
 
 // Takes in the portions of all seats, and answers what they were told: issued, spent and served.

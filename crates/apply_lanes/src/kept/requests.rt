@@ -1,9 +1,10 @@
 //! Calls under the lock by which a desk changes: what seats issue and spend, and all others.
-ghost use Rattle.std.specs.Prelude.{◌≡◌, ℕ, ◌≤◌, ◌∷◌, [], true, None, Some, IfOk, IfErr, OnOk, OnErr, IsOk, List};
+ghost use Rattle.std.specs.Prelude.{◌≡◌, ℕ, ◌<◌, ◌≤◌, ◌∷◌, [], true, None, Some, IfOk, IfErr, IfSome, OnOk, OnErr, IsOk, List, length};
 ghost use Rattle.rights_types.specs.Chains.{end};
 ghost use Rattle.rights_types.specs.declared.moves.Move.TheVariants.{Issue as Issues, Give as Gives};
 ghost use Rattle.rights_book.specs.Books.{sites};
 ghost use Rattle.request_queue.specs.Queues.{front_of};
+ghost use Rattle.request_queue.specs.declared.queue.TheConstants.{SLOTS};
 ghost use Rattle.request_queue.specs.Calls.{TellsOutcome};
 ghost use Rattle.transfer_manager.specs.Managers.{ended};
 ghost use Rattle.site_core.specs.Faults.{can_spend, can_serve, issue_fault, give_fault, spend_fault, serve_fault, expire_fault, close_fault, DeskRefuses};
@@ -13,13 +14,13 @@ ghost use Rattle.site_core.specs.declared.fault.DeskError.TheVariants.{OutOfMemo
 use crate::kept::Kept;
 use crate::names::DeskNames;
 use crate::seat::Seat;
-use request_queue::Status;
+use request_queue::{SLOTS, Status};
 use rights_types::{Ask, AskNumber, OutOfMemory, SiteId};
 use site_core::{AskReply, DeskError, Spending};
 use std::alloc::Allocator;
 
 impl<D: DeskNames, A: Allocator + Copy> Kept<D, A> {
-    ghost use Rattle.apply_lanes.specs.Kepts.{raised, told_issued, told_spent, told_served, spent_by, without_amount, amount_of};
+    ghost use Rattle.apply_lanes.specs.Kepts.{raised, told_issued, told_spent, told_served, spent_by, without_amount, amount_of, IsFront};
 
     /// Creates rights, by one entry whose number is answered.
     pub fn issue(&mut self, seat: &mut Seat<D>, amount: u64) -> Result<u64, DeskError>
@@ -66,6 +67,9 @@ impl<D: DeskNames, A: Allocator + Copy> Kept<D, A> {
     pub fn serve(&mut self, seat: &mut Seat<D>) -> Result<Option<(u64, u64, u64)>, DeskError>
         ensures refused { DeskRefuses (serve_fault self.old.desk) result }
         ensures ok { IfOk result (λ served. DeskServes self.old.desk (without_amount served) self.new.desk) }
+        ensures front { IfOk result (λ served. IfSome served (IsFront self.old.desk.queue.waiting)) }
+        ensures fewer { IfOk result (λ served. IfSome served (λ _. length self.new.desk.queue.waiting < length self.old.desk.queue.waiting)) }
+        ensures few { length self.old.desk.queue.waiting ≤ SLOTS }
         ensures tallies { IfOk result (λ served. self.new ≡ record self.old { desk = self.new.desk; spent = raised self.old.spent (amount_of served) }) }
         ensures told { IfOk result (λ served. seat.new ≡ told_served seat.old (amount_of served)) }
         ensures err { OnErr result ((self.new ≡ self.old) × (seat.new ≡ seat.old)) }

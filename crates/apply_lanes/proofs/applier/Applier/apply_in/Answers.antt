@@ -23,7 +23,7 @@ invariant_of-self-in-Ok g c =
     let i = c.self.invariant in
     let late : is_late c.args.self.now c.args.kept.now.desk ≡ false = sym c.is_late-is_late.ensures ∙ c.if-is_late.false in
     let now : c.args.self.now.dropping ≡ false = (or_parts c.args.self.now.dropping (has_closed c.args.kept.now.desk) late).0 in
-    let free = subst (λ (a : ApplierValue _). a.dropping ≡ false) (sym c.self.view_is) now in
+    let free = subst (λ (a : ApplierValue _ _). a.dropping ≡ false) (sym c.self.view_is) now in
     let number : c.apply.new.number ≡ own c.in-Some.entry = omega (arith, c.in-Ok.ensures.told.0, hand_follows _ _ _ i.counted c.in-Some.is free) in
     record { site = i.site; other = i.other; counted = counted_apply _ _ _ _ _ i.counted c.in-Some.is free number c.in-Ok.ensures.told.1 }
 
@@ -33,20 +33,22 @@ returns-in-Ok-clause-applied g c late =
     let entry : EntryValue = c.in-Some.entry in
     let id = g.D.DeskNames.id in
     let now : c.args.self.now.dropping ≡ false = (or_parts c.args.self.now.dropping (has_closed c.args.kept.now.desk) late).0 in
-    let free = subst (λ (a : ApplierValue _). a.dropping ≡ false) (sym c.self.view_is) now in
+    let free = subst (λ (a : ApplierValue _ _). a.dropping ≡ false) (sym c.self.view_is) now in
     let number : c.apply.new.number ≡ own entry = omega (arith, c.in-Ok.ensures.told.0, hand_follows _ _ _ i.counted c.in-Some.is free) in
-    let new : ApplierValue g.row.A.Denot = record {
+    let new : ApplierValue g.row.G.Denot g.row.A.Denot = record {
       origin = c.self.inside.origin;
       outlet = c.self.inside.outlet;
+      gate = c.self.inside.gate;
       hand = None;
       ended = c.self.inside.ended;
       dropping = c.self.inside.dropping;
       number = c.apply.new.number;
       received = c.apply.new.received;
     } in
-    let old : ApplierValue g.row.A.Denot = record {
+    let old : ApplierValue g.row.G.Denot g.row.A.Denot = record {
       origin = c.self.inside.origin;
       outlet = c.self.inside.outlet;
+      gate = c.self.inside.gate;
       hand = c.self.inside.hand;
       ended = c.self.inside.ended;
       dropping = c.self.inside.dropping;
@@ -54,7 +56,7 @@ returns-in-Ok-clause-applied g c late =
       received = c.self.inside.received;
     } in
     let of_entry : new ≡ applied id old entry = λ i. record old { hand = None; number = number i; received = c.in-Ok.ensures.told.1 i } in
-    subst (λ (a : ApplierValue g.row.A.Denot). (e : EntryValue) → a.hand ≡ Some e → new ≡ applied id a e) c.self.view_is
+    subst (λ (a : ApplierValue g.row.G.Denot g.row.A.Denot). (e : EntryValue) → a.hand ≡ Some e → new ≡ applied id a e) c.self.view_is
     (λ e held. of_entry ∙ ap (applied id old) (same_some entry e (sym c.in-Some.is ∙ held)))
 
 pub returns-in-Ok-clause-desk : goal.returns-in-Ok-clause-desk
@@ -62,13 +64,13 @@ returns-in-Ok-clause-desk g c late e held =
     let id = g.D.DeskNames.id in
     let entry : EntryValue = c.in-Some.entry in
     let new : KeptValue = c.apply.new.self in
-    let same : entry ≡ e = same_some entry e (sym c.in-Some.is ∙ ap (λ (a : ApplierValue _). a.hand) c.self.view_is ∙ held) in
+    let same : entry ≡ e = same_some entry e (sym c.in-Some.is ∙ ap (λ (a : ApplierValue _ _). a.hand) c.self.view_is ∙ held) in
     let at : entry.prev ≡ (peer c.kept.inside.desk.ledger.book c.self.inside.origin).log.end =
     sym c.prev.ensures.value ∙ sym c.if-applied-prev.false ∙ c.applied.ensures.value in
     let applies = subst (λ (k : KeptValue). DeskApplies k.desk c.self.inside.origin entry new.desk) (sym c.kept.view_is) c.in-Ok.ensures.ok in
     let tallies = subst (λ (k : KeptValue). new ≡ counted_on id k entry new.desk) (sym c.kept.view_is) c.in-Ok.ensures.tallies in
     let moves = moves_on _ _ new.desk c.self.inside.origin entry c.kept.invariant applies at in
-    subst (λ (x : KeptValue × ApplierValue g.row.A.Denot × EntryValue). MovesOn id.site x.0.desk x.1.origin x.2 new.desk × (new ≡ counted_on id x.0 x.2 new.desk))
+    subst (λ (x : KeptValue × ApplierValue g.row.G.Denot g.row.A.Denot × EntryValue). MovesOn id.site x.0.desk x.1.origin x.2 new.desk × (new ≡ counted_on id x.0 x.2 new.desk))
     (λ i. (c.kept.view_is i, c.self.view_is i, same i)) (moves, tallies)
 
 pub returns-in-Ok-clause-after : goal.returns-in-Ok-clause-after

@@ -1,9 +1,9 @@
-use Rattle.std.proofs.Common.{◌≡◌, ℕ, ◌+◌}
-use Rattle.apply_lanes.specs.Appliers.{ApplierValue, Runs}
+use Rattle.std.proofs.Common.{◌≡◌}
+use Rattle.apply_lanes.specs.Appliers.{Advances}
 use Rattle.apply_lanes.proofs.applier.Applier.run.Given as goal
 
--- a run from here on is one from the start, with the entries so far
+-- so many steps led from the start to here
 abbrev pub invariant-loop-count : goal.invariant-loop-count
 invariant-loop-count g l =
-    ((n : ℕ) (new : ApplierValue _) → Runs g.D.DeskNames.id l.self n new → Runs g.D.DeskNames.id l.initial.self (l.count + n) new)
+    Advances g.G.Gate.passes g.D.DeskNames.id l.initial.self l.count l.self
     × (l.self.origin ≡ l.initial.self.origin) × (l.self.outlet.lane ≡ l.initial.self.outlet.lane)

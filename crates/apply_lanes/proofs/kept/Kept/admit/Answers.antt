@@ -26,3 +26,6 @@ invariant_of-self g c =
 
 pub returns-clause-ok : goal.returns-clause-ok
 returns-clause-ok g c = search rules
+
+pub returns-clause-after : goal.returns-clause-after
+returns-clause-after g c = invariant_of-self g c

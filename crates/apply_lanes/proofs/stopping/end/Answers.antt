@@ -1,0 +1,13 @@
+use Rattle.std.proofs.Common.{◌≡◌, length, None, arith, sym, ◌∙◌}
+use Rattle.apply_lanes.proofs.StopLaws.{none_missing}
+use Rattle.apply_lanes.proofs.stopping.end.Goals as goal
+
+pub settle-requires-clause-seats : goal.settle-requires-clause-seats
+settle-requires-clause-seats g c =
+    let back = none_missing c.args.kept _ _ (sym c.missing.ensures.missing ∙ c.in-None.is) in
+    omega (arith, back.0, c.missing.ensures.valid.portioned.seats)
+
+pub settle-requires-clause-applied : goal.settle-requires-clause-applied
+settle-requires-clause-applied g c =
+    let back = none_missing c.args.kept _ _ (sym c.missing.ensures.missing ∙ c.in-None.is) in
+    omega (arith, back.1, c.missing.ensures.valid.portioned.appliers)
