@@ -2,3 +2,8 @@ pub mod WriteLaws
 pub mod CutLaws
 pub mod CountLaws
 pub mod WordLaws
+pub mod ReplyLaws
+pub mod CarryLaws
+pub mod LineLaws
+pub mod FeedLaws
+pub mod RunLaws

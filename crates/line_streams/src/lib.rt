@@ -1,14 +1,26 @@
-//! Lines of text over readers and writers: the words of a line, a text written whole, and how many lines a stream may
-//! bring.
+//! Lines of text over readers and writers: the words of a line, replies that wait to be written, a text written whole, and a
+//! conversation by lines, whatever answers them.
 #![tactic(auto)]
 
+mod fault;
+mod handler;
 mod limit;
+mod lines;
+mod put;
+mod read;
+mod replies;
 mod words;
 mod write;
 
+pub use fault::LineFault;
+pub use handler::{EndedBy, Goes, LineHandler};
 pub use limit::LINE_LIMIT;
+pub use lines::answer_lines;
+pub use put::MAX_DIGITS;
+pub use read::{ReadFault, read_some};
+pub use replies::{BLOCK, Replies};
 pub use words::{
     alone, first_number, first_site, named, only_in, only_number, only_site, optional_site,
     site_and_number, split_word,
 };
-pub use write::{WriteFault, write_whole};
+pub use write::{WriteFault, write_some, write_whole};

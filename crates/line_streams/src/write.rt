@@ -1,27 +1,45 @@
 //! Writing a text whole.
-ghost use Rattle.std.specs.Prelude.{OnOk, length, ◌<◌, ◌≤◌};
+ghost use Rattle.std.specs.Prelude.{OnOk, length, take, ◌<◌, ◌≤◌};
 ghost use Rattle.std.specs.Io.KnownBytes.{Appends};
 ghost use Rattle.line_streams.specs.Fronts.{AppendsFront};
 
+use crate::read::is_interrupted;
 use std::io::Write;
 
 /// A write failed, or took no byte.
 #[derive(Clone, Copy, Debug, PartialEq, Eq)]
 pub struct WriteFault;
 
+/// Writes once, again where it was interrupted, and answers how many bytes were taken: 0 where it failed.
+pub fn write_some<W: Write>(writer: &mut W, text: &[u8]) -> usize
+    ensures within { result ≤ length text.now }
+    ensures bytes { Appends (W.contents writer.old) (W.contents writer.new) (take result text.now) }
+{
+    'tries: for _ in 0..u64::MAX {
+        match writer.write(text) {
+            Ok(count) => return count,
+            Err(error) => {
+                if !is_interrupted(&error) {
+                    return 0;
+                }
+            }
+        }
+    }
+    0
+}
+
 /// Writes the text, in as many writes as it takes. Where that fails, a front of it is written.
-#[tactic(auto, using(crate::proofs::WriteLaws::wrote_more))]
 pub fn write_whole<W: Write>(writer: &mut W, text: &[u8]) -> Result<(), WriteFault>
     ensures whole { OnOk result (Appends (W.contents writer.old) (W.contents writer.new) text.now) }
     ensures front { AppendsFront (W.contents writer.old) (W.contents writer.new) text.now }
 {
     let mut done = 0;
     while done < text.len() {
-        match writer.write(&text[done..]) {
-            Ok(0) => return Err(WriteFault),
-            Ok(count) => done += count,
-            Err(_) => return Err(WriteFault),
+        let count = write_some(writer, &text[done..]);
+        if count == 0 {
+            return Err(WriteFault);
         }
+        done += count;
     }
     Ok(())
 }

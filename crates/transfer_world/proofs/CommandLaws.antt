@@ -49,23 +49,14 @@ text_whole text =
     let words = split_some (λ (b : ℕ). b == 32) text.now in
     rw words.2 (ap Some (ap (join_with_byte 32) (sym words.2) ∙ join_with_byte-slice_split 32 text.now))
 
-module _ {A : Type 0} (text : List ℕ) where
-  pub short_line : length text < 16384 → command_of {A = A} (text ++ 10 ∷ []) ≡ command_in text
+module _ {A : Type 0} (line : List ℕ) where
+  pub short_line : (text : List ℕ) → line ≡ text ++ 10 ∷ [] → length line ≤ 16384 → command_of {A = A} line ≡ command_in text
   unfolding command_of
-  short_line h =
-      let few : length (text ++ 10 ∷ []) ≤ 16384 = simp length-append (omega arith) in
-      let front : take (length (text ++ 10 ∷ []) - 1) (text ++ 10 ∷ []) ≡ text = take_at text (10 ∷ []) (length (text ++ 10 ∷ []) - 1) (omega (arith, length-append text (10 ∷ []))) in
-      rw (le-leb (length (text ++ 10 ∷ [])) 16384 few, front) refl
+  short_line text ended short =
+      let front : take (length line - 1) line ≡ text =
+      ap (λ (l : List ℕ). take (length line - 1) l) ended ∙ take_at text (10 ∷ []) (length line - 1) (omega (arith, ap length ended, length-append text (10 ∷ []))) in
+      rw (le-leb (length line) 16384 short, front) refl
 
-  pub long_line : 16384 ≤ length text → command_of {A = A} (text ++ 10 ∷ []) ≡ None
+  pub long_line : 16384 < length line → command_of {A = A} line ≡ None
   unfolding command_of
-  long_line h =
-      let many : 16384 < length (text ++ 10 ∷ []) = simp length-append (omega arith) in
-      rw (lt-leb (length (text ++ 10 ∷ [])) 16384 many) refl
-
--- no command needs more than the first 16384 bytes of its line
-pub cut_line : {A : Type 0} (text : List ℕ) → command_of {A = A} (take 16384 text ++ 10 ∷ []) ≡ command_of (text ++ 10 ∷ [])
-cut_line {A} text = elim (cases_lt (length text) 16384) [
-  | inl few ↦ ap (λ (l : List ℕ). command_of {A = A} (l ++ 10 ∷ [])) (take_all 16384 text (omega arith))
-  | inr many ↦ let full : length (take 16384 text) ≡ 16384 = length-take-le 16384 text many in long_line (take 16384 text) (omega (arith, full)) ∙ sym (long_line text many)
-]
+  long_line many = rw (lt-leb (length line) 16384 many) refl

@@ -2,36 +2,18 @@
 use Rattle.std.specs.Prelude.{ℕ, ◌-◌, ◌==◌, Bool, List, [], ◌∷◌, ◌++◌, length, take, Option, Some, None, Result, Ok, Err, if◌then◌else◌, decimal, codes}
 use Rattle.std.specs.List.{flat_map}
 use Rattle.std.specs.Option.{option_map}
-use Rattle.request_queue.specs.declared.request.Status.{Status}
-use Rattle.request_queue.specs.declared.request.Status.TheVariants.{Waiting, Spent as SpentAt, Expired as ExpiredUnserved, Unknown}
 use Rattle.rights_types.specs.Chains.{end, moves_of, is_closed}
 use Rattle.rights_types.specs.Rights.{sum_sites, issued, spent}
+use Rattle.site_core.specs.declared.desk.requests.Spending.TheVariants.{Spent as SpentAtOnce, Queued as QueuedUnder}
+use Rattle.reply_texts.specs.Texts.{number_text, spending_text, status_text, desk_error_name}
 use Rattle.world_core.specs.Values.{WorldValue}
 use Rattle.world_core.specs.Worlds.{log, put, applied, count, sites_of, packet, packet_text, held_by, on_way}
 use Rattle.world_core.specs.declared.reply.Verdict.{Verdict}
 use Rattle.world_core.specs.declared.reply.Verdict.TheVariants.{Ready, Held, Repeat, AfterClose, Full}
 use Rattle.world_core.specs.declared.reply.Reply.{Reply}
 use Rattle.world_core.specs.declared.reply.Reply.TheVariants.{Number, Spent, Queued, Served, Expired, Tells, Asks, Packet, Verdicts, HeardBeat, Granted, Denied, GrantedBefore, Old, Noted, Refused, Taken, TakenBack, Nothing}
-use Rattle.site_core.specs.declared.fault.DeskError.{DeskError}
-use Rattle.site_core.specs.declared.fault.DeskError.TheVariants.{Closed, BadCount, BadMove, BadAmount, NoSuchSite as NoSuchPeer, SameSite, PeerClosed, LogFull, Short, OutOfMemory as NoMemory, QueueFull, QueueBusy, HeldTooMuch, TimeWentBack}
 use Rattle.world_core.specs.declared.fault.WorldError.{WorldError}
 use Rattle.world_core.specs.declared.fault.WorldError.TheVariants.{Ended, NoSuchSite, NoPacket, NotForSite, Forged, Desk, OutOfMemory}
-
-abbrev pub desk_error_name : DeskError → List ℕ
-desk_error_name Closed = codes "Closed"
-desk_error_name BadCount = codes "BadCount"
-desk_error_name BadMove = codes "BadMove"
-desk_error_name BadAmount = codes "BadAmount"
-desk_error_name NoSuchPeer = codes "NoSuchSite"
-desk_error_name SameSite = codes "SameSite"
-desk_error_name PeerClosed = codes "PeerClosed"
-desk_error_name LogFull = codes "LogFull"
-desk_error_name Short = codes "Short"
-desk_error_name NoMemory = codes "OutOfMemory"
-desk_error_name QueueFull = codes "QueueFull"
-desk_error_name QueueBusy = codes "QueueBusy"
-desk_error_name HeldTooMuch = codes "HeldTooMuch"
-desk_error_name TimeWentBack = codes "TimeWentBack"
 
 abbrev pub error_name : WorldError → List ℕ
 error_name Ended = codes "Ended"
@@ -54,13 +36,6 @@ abbrev pub verdicts_text : List Verdict → List ℕ
 verdicts_text [] = codes "empty"
 verdicts_text (v ∷ vs) = verdict_text v ++ flat_map (λ v. 32 ∷ verdict_text v) vs
 
--- what became of a spend
-abbrev pub status_text : Status → List ℕ
-status_text Waiting = codes "waiting"
-status_text (SpentAt n) = codes "spent " ++ decimal n
-status_text ExpiredUnserved = codes "expired"
-status_text Unknown = codes "unknown"
-
 -- a line without its line feed
 abbrev pub unended : Option (List ℕ) → List ℕ
 unended None = []
@@ -72,9 +47,9 @@ packet_reply w n = codes "packet " ++ decimal n ++ codes " " ++ unended (option_
 
 -- a reply, which may name a packet of the world
 abbrev pub reply_text : {A : Type 0} → WorldValue → Reply A → List ℕ
-reply_text w (Number n) = codes "number " ++ decimal n
-reply_text w (Spent n) = codes "spent " ++ decimal n
-reply_text w (Queued ticket) = codes "queued " ++ decimal ticket
+reply_text w (Number n) = number_text n
+reply_text w (Spent n) = spending_text (SpentAtOnce n)
+reply_text w (Queued ticket) = spending_text (QueuedUnder ticket)
 reply_text w (Served ticket n) = codes "served " ++ decimal ticket ++ codes " " ++ decimal n
 reply_text w (Expired n) = codes "expired " ++ decimal n
 reply_text w (Tells status) = status_text status

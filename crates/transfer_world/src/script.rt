@@ -2,12 +2,9 @@
 
 mod answers;
 mod commands;
-mod fault;
-mod output;
-mod put;
 mod report;
 mod session;
 mod word;
 
-pub use fault::ScriptFault;
+pub use line_streams::LineFault as ScriptFault;
 pub use session::{run_last_script, run_script};

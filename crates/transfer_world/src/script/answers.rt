@@ -1,38 +1,19 @@
 //! What a command comes to, and its reply.
 ghost use Rattle.std.specs.Prelude.{◌≡◌, ◌<◌, ℕ, List, [], ◌∷◌, ◌++◌, Some, None, length, OnOk, OnErr};
 ghost use Rattle.std.specs.Option.{option_copied};
-ghost use Rattle.transfer_world.specs.Replies.{desk_error_name, error_name, verdict_text, verdicts_text, status_text, unended, packet_reply, reply_text, outcome_text};
+ghost use Rattle.line_streams.specs.Waiting.{AddsReply};
+ghost use Rattle.line_streams.specs.Handling.{IsGiven};
+ghost use Rattle.transfer_world.specs.Replies.{error_name, verdict_text, verdicts_text, unended, packet_reply, reply_text, outcome_text};
 ghost use Rattle.transfer_world.specs.Script.{CommandGets, LineGets};
 
 use crate::script::commands::{Command, read_command};
-use crate::script::output::{BLOCK, Replies};
 use crate::script::report::put_report;
-use request_queue::Status;
+use line_streams::Replies;
+use reply_texts::{desk_error_name, put_bad_command, put_number, put_spending, put_status};
 use rights_types::OutOfMemory;
-use site_core::DeskError;
+use site_core::Spending;
 use std::alloc::Allocator;
 use world_core::{Event, ForReplies, Reply, Verdict, World, WorldError};
-
-fn desk_error_name(error: DeskError) -> &'static [u8]
-    ensures { result.now ≡ desk_error_name error }
-{
-    match error {
-        DeskError::Closed => b"Closed",
-        DeskError::BadCount => b"BadCount",
-        DeskError::BadMove => b"BadMove",
-        DeskError::BadAmount => b"BadAmount",
-        DeskError::NoSuchSite => b"NoSuchSite",
-        DeskError::SameSite => b"SameSite",
-        DeskError::PeerClosed => b"PeerClosed",
-        DeskError::LogFull => b"LogFull",
-        DeskError::Short => b"Short",
-        DeskError::OutOfMemory => b"OutOfMemory",
-        DeskError::QueueFull => b"QueueFull",
-        DeskError::QueueBusy => b"QueueBusy",
-        DeskError::HeldTooMuch => b"HeldTooMuch",
-        DeskError::TimeWentBack => b"TimeWentBack",
-    }
-}
 
 fn error_name(error: WorldError) -> &'static [u8]
     ensures { result.now ≡ error_name error }
@@ -82,20 +63,8 @@ fn put_verdicts<A: Allocator>(
     }
 }
 
-fn put_status<A: Allocator>(replies: &mut Replies<A>, status: Status) -> Result<(), OutOfMemory>
-    ensures ok { OnOk result (replies.new.part ≡ replies.old.part ++ status_text status) }
-    ensures kept { replies.new.whole ≡ replies.old.whole }
-{
-    match status {
-        Status::Waiting => replies.put(b"waiting"),
-        Status::Spent(number) => replies.put_field(b"spent ", number),
-        Status::Expired => replies.put(b"expired"),
-        Status::Unknown => replies.put(b"unknown"),
-    }
-}
-
-fn put_reply<A: Allocator + Copy>(
-    replies: &mut Replies<A>,
+fn put_reply<A: Allocator + Copy, B: Allocator>(
+    replies: &mut Replies<B>,
     world: &World<A, ForReplies>,
     reply: Reply<A>,
 ) -> Result<(), OutOfMemory>
@@ -103,9 +72,9 @@ fn put_reply<A: Allocator + Copy>(
     ensures kept { replies.new.whole ≡ replies.old.whole }
 {
     match reply {
-        Reply::Number(number) => replies.put_field(b"number ", number),
-        Reply::Spent(number) => replies.put_field(b"spent ", number),
-        Reply::Queued(ticket) => replies.put_field(b"queued ", ticket),
+        Reply::Number(number) => put_number(replies, number),
+        Reply::Spent(number) => put_spending(replies, Spending::Spent(number)),
+        Reply::Queued(ticket) => put_spending(replies, Spending::Queued(ticket)),
         Reply::Served(ticket, number) => {
             replies.put_field(b"served ", ticket)?;
             replies.put_field(b" ", number)
@@ -136,8 +105,8 @@ fn put_reply<A: Allocator + Copy>(
 
 /// A packet's number, and its line without the line feed.
 #[inline(always)]
-fn put_packet<A: Allocator + Copy>(
-    replies: &mut Replies<A>,
+fn put_packet<A: Allocator + Copy, B: Allocator>(
+    replies: &mut Replies<B>,
     world: &World<A, ForReplies>,
     number: u64,
 ) -> Result<(), OutOfMemory>
@@ -159,8 +128,8 @@ fn put_line<A: Allocator>(replies: &mut Replies<A>, line: Option<&[u8]>) -> Resu
     }
 }
 
-fn put_outcome<A: Allocator + Copy>(
-    replies: &mut Replies<A>,
+fn put_outcome<A: Allocator + Copy, B: Allocator>(
+    replies: &mut Replies<B>,
     world: &World<A, ForReplies>,
     outcome: Result<Reply<A>, WorldError>,
 ) -> Result<(), OutOfMemory>
@@ -177,10 +146,10 @@ fn put_outcome<A: Allocator + Copy>(
 }
 
 /// Answers a command where there is no world yet, but for the end of its reply.
-fn answer_first<A: Allocator + Copy>(
+fn answer_first<A: Allocator + Copy, B: Allocator>(
     alloc: A,
     world: &mut Option<World<A, ForReplies>>,
-    replies: &mut Replies<A>,
+    replies: &mut Replies<B>,
     command: Command<A>,
 ) -> Result<(), OutOfMemory>
     requires { world.old ≡ None }
@@ -197,9 +166,9 @@ fn answer_first<A: Allocator + Copy>(
 
 /// Answers a command in a world, but for the end of its reply.
 #[inline(always)]
-fn answer_in<A: Allocator + Copy>(
+fn answer_in<A: Allocator + Copy, B: Allocator>(
     world: &mut World<A, ForReplies>,
-    replies: &mut Replies<A>,
+    replies: &mut Replies<B>,
     command: Command<A>,
 ) -> Result<(), OutOfMemory>
     ensures ok { OnOk result ((text : List ℕ) × CommandGets (Some world.old) (Some command) text (Some world.new)
@@ -207,7 +176,7 @@ fn answer_in<A: Allocator + Copy>(
     ensures kept { replies.new.whole ≡ replies.old.whole }
 {
     match command {
-        Command::Sites(_) => replies.put(b"error BadCommand"),
+        Command::Sites(_) => put_bad_command(replies),
         Command::Act(event) => {
             let outcome = world.step(event);
             put_outcome(replies, world, outcome)
@@ -218,10 +187,10 @@ fn answer_in<A: Allocator + Copy>(
 
 /// Answers a command, but for the end of its reply.
 #[inline(always)]
-fn answer<A: Allocator + Copy>(
+fn answer<A: Allocator + Copy, B: Allocator>(
     alloc: A,
     world: &mut Option<World<A, ForReplies>>,
-    replies: &mut Replies<A>,
+    replies: &mut Replies<B>,
     command: Option<Command<A>>,
 ) -> Result<(), OutOfMemory>
     ensures ok { OnOk result ((text : List ℕ) × CommandGets world.old command text world.new
@@ -229,7 +198,7 @@ fn answer<A: Allocator + Copy>(
     ensures kept { replies.new.whole ≡ replies.old.whole }
 {
     let Some(command) = command else {
-        return replies.put(b"error BadCommand");
+        return put_bad_command(replies);
     };
     match world {
         None => answer_first(alloc, world, replies, command),
@@ -238,17 +207,15 @@ fn answer<A: Allocator + Copy>(
 }
 
 /// Answers a line, given without its line feed.
-pub(crate) fn answer_line<A: Allocator + Copy>(
+pub(crate) fn answer_line<A: Allocator + Copy, B: Allocator>(
     alloc: A,
     world: &mut Option<World<A, ForReplies>>,
-    replies: &mut Replies<A>,
-    text: &[u8],
+    replies: &mut Replies<B>,
+    text: Option<&[u8]>,
 ) -> Result<(), OutOfMemory>
     requires ready { replies.old.part ≡ [] }
-    // So at most a block and this reply are not yet written.
-    requires room { length replies.old.whole < BLOCK }
-    ensures ok { OnOk result ((reply : List ℕ) × LineGets A world.old (text.now ++ 10 ∷ []) reply world.new
-        × (replies.new ≡ record { whole = replies.old.whole ++ (reply ++ 10 ∷ []); part = [] })) }
+    ensures ok { OnOk result ((line : List ℕ) → IsGiven line text.entry
+        → (reply : List ℕ) × LineGets A world.old line reply world.new × AddsReply replies.old replies.new reply) }
     ensures ready { OnOk result (replies.new.part ≡ []) }
     ensures kept { OnErr result (replies.new.whole ≡ replies.old.whole) }
 {

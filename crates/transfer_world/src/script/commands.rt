@@ -1,7 +1,8 @@
 //! What the lines of a script ask for.
-ghost use Rattle.std.specs.Prelude.{◌≡◌, [], ◌∷◌, ◌++◌, ◌≤◌, length, vec_capacity, IfOk};
+ghost use Rattle.std.specs.Prelude.{◌≡◌, ℕ, List, [], ◌≤◌, length, vec_capacity, IfOk};
 ghost use Rattle.entry_codec.specs.Parts.{Finds};
 ghost use Rattle.line_streams.specs.Words.{words_of, words_left};
+ghost use Rattle.line_streams.specs.Handling.{IsGiven};
 ghost use Rattle.transfer_world.specs.Commands.{moves_in, two_sites, site_event, link_event, event_on_link, post_of, noise_parts, noise_of, sites_of, act, command_by, command_in, command_of};
 
 use crate::script::word::{LinkWord, SiteWord, Word, first_word};
@@ -10,7 +11,7 @@ use line_streams::{
     alone, first_number, first_site, only_in, only_number, only_site, optional_site,
     site_and_number, split_word,
 };
-use rights_types::{MAX_LINE, MAX_SITES, MIN_SITES, Move, OutOfMemory, SiteId};
+use rights_types::{MAX_SITES, MIN_SITES, Move, OutOfMemory, SiteId};
 use site_core::Line;
 use std::alloc::Allocator;
 use std::marker::Model;
@@ -272,16 +273,15 @@ fn read_words<A: Allocator>(alloc: A, text: &[u8]) -> Result<Option<Command<A>>,
     }
 }
 
-/// The command of a line, given without its line feed.
+/// The command of a line, given without its line feed. A line that is too long is no command.
 pub(crate) fn read_command<A: Allocator>(
     alloc: A,
-    text: &[u8],
+    text: Option<&[u8]>,
 ) -> Result<Option<Command<A>>, OutOfMemory>
-    ensures { IfOk result (λ command. command ≡ command_of (text.now ++ 10 ∷ [])) }
+    ensures { (line : List ℕ) → IsGiven line text.entry → IfOk result (λ command. command ≡ command_of line) }
 {
-    if text.len() < MAX_LINE {
-        read_words(alloc, text)
-    } else {
-        Ok(None)
+    match text {
+        Some(text) => read_words(alloc, text),
+        None => Ok(None),
     }
 }

@@ -3,7 +3,7 @@ ghost use Rattle.std.specs.Prelude.{◌≡◌, ◌++◌, ◌≤◌, Bool, OnOk, 
 ghost use Rattle.world_core.specs.Worlds.{count};
 ghost use Rattle.transfer_world.specs.Replies.{bit, site_line, pair_line, other_line, pair_lines, total_text, report_text};
 
-use crate::script::output::Replies;
+use line_streams::Replies;
 use rights_types::{OutOfMemory, SiteId};
 use std::alloc::Allocator;
 use world_core::{ForReplies, World};
@@ -16,8 +16,8 @@ fn put_bit<A: Allocator>(replies: &mut Replies<A>, is_set: bool) -> Result<(), O
 }
 
 #[tactic(auto, unfolding(crate::specs::Replies::site_line))]
-fn put_site<A: Allocator + Copy>(
-    replies: &mut Replies<A>,
+fn put_site<A: Allocator + Copy, B: Allocator>(
+    replies: &mut Replies<B>,
     world: &World<A, ForReplies>,
     site: SiteId,
 ) -> Result<(), OutOfMemory>
@@ -35,8 +35,8 @@ fn put_site<A: Allocator + Copy>(
 }
 
 #[tactic(auto, unfolding(crate::specs::Replies::pair_line))]
-fn put_pair<A: Allocator + Copy>(
-    replies: &mut Replies<A>,
+fn put_pair<A: Allocator + Copy, B: Allocator>(
+    replies: &mut Replies<B>,
     world: &World<A, ForReplies>,
     site: SiteId,
     origin: SiteId,
@@ -53,8 +53,8 @@ fn put_pair<A: Allocator + Copy>(
 }
 
 /// The line of a pair, and none for a site and itself.
-fn put_other<A: Allocator + Copy>(
-    replies: &mut Replies<A>,
+fn put_other<A: Allocator + Copy, B: Allocator>(
+    replies: &mut Replies<B>,
     world: &World<A, ForReplies>,
     site: SiteId,
     origin: SiteId,
@@ -69,8 +69,8 @@ fn put_other<A: Allocator + Copy>(
 }
 
 #[tactic(auto, unfolding(crate::specs::Replies::pair_lines))]
-fn put_pairs<A: Allocator + Copy>(
-    replies: &mut Replies<A>,
+fn put_pairs<A: Allocator + Copy, B: Allocator>(
+    replies: &mut Replies<B>,
     world: &World<A, ForReplies>,
     site: SiteId,
 ) -> Result<(), OutOfMemory>
@@ -84,8 +84,8 @@ fn put_pairs<A: Allocator + Copy>(
 }
 
 #[tactic(auto, unfolding(crate::specs::Replies::total_text))]
-fn put_total<A: Allocator + Copy>(
-    replies: &mut Replies<A>,
+fn put_total<A: Allocator + Copy, B: Allocator>(
+    replies: &mut Replies<B>,
     world: &World<A, ForReplies>,
 ) -> Result<(), OutOfMemory>
     ensures ok { OnOk result (replies.new.part ≡ replies.old.part ++ total_text world.now) }
@@ -99,8 +99,8 @@ fn put_total<A: Allocator + Copy>(
 }
 
 /// The report, but for its last line feed.
-pub(crate) fn put_report<A: Allocator + Copy>(
-    replies: &mut Replies<A>,
+pub(crate) fn put_report<A: Allocator + Copy, B: Allocator>(
+    replies: &mut Replies<B>,
     world: &World<A, ForReplies>,
 ) -> Result<(), OutOfMemory>
     ensures ok { OnOk result (replies.new.part ≡ replies.old.part ++ report_text world.now) }

@@ -1,0 +1,68 @@
+-- What a conversation by lines did to its reader, its writer and its handler.
+use Rattle.std.specs.Prelude.{◌≡◌, ℕ, ◌<◌, ◌≤◌, ◌+◌, ◌⊎◌, List, [], ◌∷◌, ◌++◌, Option, None, Result, Ok, Err, length}
+use Rattle.std.specs.Io.KnownBytes.{Consumes, Appends}
+use Rattle.entry_codec.specs.Pieces.{pieces, unfinished}
+use Rattle.line_streams.specs.declared.limit.TheConstants.{LINE_LIMIT}
+use Rattle.line_streams.specs.Counting.{Parted, still}
+use Rattle.line_streams.specs.Handling.{Answering, LinesGet}
+use Rattle.line_streams.specs.declared.fault.LineFault.{LineFault}
+use Rattle.line_streams.specs.declared.fault.LineFault.TheVariants.{ReadFailed, WriteFailed, OutOfMemory, TooManyLines}
+use Rattle.line_streams.specs.declared.handler.EndedBy.{EndedBy}
+use Rattle.line_streams.specs.declared.handler.EndedBy.TheVariants.{Input, Handler}
+
+-- an unfinished last line gets its line feed
+abbrev pub last_line : List ℕ → List (List ℕ)
+last_line [] = []
+last_line (x ∷ xs) = ((x ∷ xs) ++ 10 ∷ []) ∷ []
+
+-- the lines of an input
+abbrev pub lines_of : List ℕ → List (List ℕ)
+lines_of input = pieces input ++ last_line (unfinished input)
+
+-- the list begins with front
+abbrev pub BeginsWith : {X : Type 0} → List X → List X → Type 0
+BeginsWith {X} xs front = (rest : List X) × (xs ≡ front ++ rest)
+
+-- the reader gave some input, some lines were replied to from the start on, and the writer took some text
+pub record Talk {S : Type 0} (answers : Answering S) (start : S) (given left held holds : Option (List ℕ)) : Type 0 where
+  pub portions : List (List ℕ)
+  pub input : List ℕ
+  pub lines : List (List ℕ)
+  pub replies : List ℕ
+  pub text : List ℕ
+  pub state : S
+  pub reads : Consumes given left input
+  pub parted : Parted portions input
+  pub answered : LinesGet answers start lines replies state
+  pub writes : Appends held holds text
+
+-- which lines were replied to, and how much of their replies was written. Lines, and reads that end none, are counted,
+-- and at `LINE_LIMIT` the conversation is given up
+abbrev pub EndsBy : {S : Type 0} → {answers : Answering S} → {start : S} → {given left held holds : Option (List ℕ)}
+    → Result EndedBy LineFault → Talk answers start given left held holds → Type 0
+EndsBy (Ok Input) talk =
+    (talk.lines ≡ lines_of talk.input) × (talk.text ≡ talk.replies) × (length talk.lines + still talk.portions < LINE_LIMIT)
+EndsBy (Ok Handler) talk = BeginsWith (lines_of talk.input) talk.lines × (talk.text ≡ talk.replies)
+EndsBy (Err ReadFailed) talk =
+    (talk.lines ≡ pieces talk.input) × (talk.text ≡ talk.replies) × (length talk.lines + still talk.portions < LINE_LIMIT)
+EndsBy (Err WriteFailed) talk = BeginsWith (lines_of talk.input) talk.lines × BeginsWith talk.replies talk.text
+EndsBy (Err OutOfMemory) talk = BeginsWith (lines_of talk.input) talk.lines × (talk.text ≡ talk.replies)
+EndsBy (Err TooManyLines) talk =
+    BeginsWith (lines_of talk.input) talk.lines × (talk.text ≡ talk.replies) × (LINE_LIMIT ≤ length (lines_of talk.input) + still talk.portions)
+
+-- the line behind those that were replied to ended the conversation
+pub record IsEnded {S : Type 0} (answers : Answering S) (all lines : List (List ℕ)) (state after : S) : Type 0 where
+  pub line : List ℕ
+  pub next : BeginsWith all (lines ++ line ∷ [])
+  pub ends : answers state line None after
+
+-- how the handler is left: as after the last reply, unless a line ended the conversation, or it found no memory
+abbrev pub Leaves : {S : Type 0} → {answers : Answering S} → {start : S} → {given left held holds : Option (List ℕ)}
+    → (S → S → Type 0) → Result EndedBy LineFault → Talk answers start given left held holds → S → Type 0
+Leaves fails (Ok Input) talk after = after ≡ talk.state
+Leaves {answers = answers} fails (Ok Handler) talk after = IsEnded answers (lines_of talk.input) talk.lines talk.state after
+Leaves fails (Err ReadFailed) talk after = after ≡ talk.state
+Leaves {answers = answers} fails (Err WriteFailed) talk after =
+    (after ≡ talk.state) ⊎ fails talk.state after ⊎ IsEnded answers (lines_of talk.input) talk.lines talk.state after
+Leaves fails (Err OutOfMemory) talk after = (after ≡ talk.state) ⊎ fails talk.state after
+Leaves fails (Err TooManyLines) talk after = after ≡ talk.state

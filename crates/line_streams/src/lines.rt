@@ -1,0 +1,256 @@
+//! A conversation by lines, from its first read to its last write.
+ghost use Rattle.std.specs.Prelude.{◌≡◌, ℕ, ◌+◌, ◌<◌, ◌≤◌, ◌↔◌, List, [], ◌∷◌, ◌++◌, Option, Ok, length, take, IsTrue, OnOk, OnErr, IfOk, IfErr, IsErrOf};
+ghost use Rattle.std.specs.Io.KnownBytes.{Consumes, IsAtEnd};
+ghost use Rattle.entry_codec.specs.Pieces.{pieces};
+ghost use Rattle.line_streams.specs.Counting.{Parted, counts_for, still};
+ghost use Rattle.line_streams.specs.Waiting.{IsEmpty};
+ghost use Rattle.line_streams.specs.Handling.{IsGiven, LineGets};
+ghost use Rattle.line_streams.specs.Talk.{Talk, EndsBy, Leaves};
+ghost use Rattle.line_streams.specs.Going.{IsNew, Going, Fails, Fed, Ran};
+ghost use Rattle.std.specs.Io.{ReadsAtMost};
+ghost use Rattle.std.specs.Io.KnownBytes.{ReadConsumes};
+
+use crate::fault::LineFault;
+use crate::handler::{EndedBy, Goes, LineHandler};
+use crate::limit::LINE_LIMIT;
+use crate::read::read_some;
+use crate::replies::{BLOCK, Replies};
+use memchr::memchr;
+use rights_types::{MAX_LINE, OutOfMemory};
+use std::alloc::Allocator;
+use std::io::{Read, Write};
+
+/// So many bytes are read at a time.
+const READ_SIZE: usize = 65536;
+
+/// A conversation at work.
+#[derive(Drop)]
+struct Conversation<A: Allocator> {
+    replies: Replies<A>,
+    /// The first bytes of a line that has not ended; those past the longest line are dropped.
+    carry: Vec<u8, A>,
+    /// Lines, and reads that ended no line.
+    count: u64,
+}
+
+/// Goes on with a line that has not ended.
+fn keep<A: Allocator>(carry: &mut Vec<u8, A>, bytes: &[u8]) -> Result<(), OutOfMemory>
+    requires { length carry.old.items ≤ MAX_LINE }
+    ensures { OnOk result (carry.new.items ≡ take MAX_LINE (carry.old.items ++ bytes.now)) }
+{
+    let room = MAX_LINE - carry.len();
+    if bytes.len() > room {
+        carry.extend_from_slice(&bytes[..room])?;
+    } else {
+        carry.extend_from_slice(bytes)?;
+    }
+    Ok(())
+}
+
+/// The text of a line, of which the first `MAX_LINE` bytes are given at least, unless the line is too long.
+fn within_limit(text: &[u8]) -> Option<&[u8]>
+    ensures { (whole : List ℕ) → take MAX_LINE whole ≡ take MAX_LINE text.now → IsGiven (whole ++ 10 ∷ []) result }
+{
+    if text.len() < MAX_LINE {
+        Some(text)
+    } else {
+        None
+    }
+}
+
+impl<A: Allocator> Conversation<A> {
+    /// Answers the line that ends after this text.
+    fn end_line<H: LineHandler>(
+        &mut self,
+        handler: &mut H,
+        text: &[u8],
+    ) -> Result<Goes, OutOfMemory>
+        requires ready { self.old.replies.part ≡ [] }
+        requires room { length self.old.replies.whole < BLOCK }
+        requires short { length self.old.carry.items ≤ MAX_LINE }
+        ensures line { IfOk result (λ goes. (front : List ℕ) → self.old.carry.items ≡ take MAX_LINE front
+            → LineGets H.answers goes handler.old ((front ++ text.now) ++ 10 ∷ []) handler.new self.old.replies self.new.replies) }
+        ensures ended { OnOk result (self.new.carry.items ≡ []) }
+        ensures ready { OnOk result (self.new.replies.part ≡ []) }
+        ensures kept { OnErr result (self.new.replies.whole ≡ self.old.replies.whole) }
+        ensures err { OnErr result (Fails H.fails handler.new handler.old) }
+        ensures count { self.new.count ≡ self.old.count }
+    {
+        if self.carry.is_empty() {
+            return handler.answer(within_limit(text), &mut self.replies);
+        }
+        keep(&mut self.carry, text)?;
+        let goes = handler.answer(within_limit(self.carry.as_slice()), &mut self.replies)?;
+        self.carry.clear();
+        Ok(goes)
+    }
+
+    /// Takes what was read, and answers each line that ends in it. Then less than a block of replies
+    /// waits.
+    fn feed<H: LineHandler, W: Write>(
+        &mut self,
+        handler: &mut H,
+        writer: &mut W,
+        bytes: &[u8],
+    ) -> Result<Goes, LineFault>
+        requires written { IsEmpty self.old.replies }
+        requires short { length self.old.carry.items ≤ MAX_LINE }
+        requires few { self.old.count < LINE_LIMIT }
+        ensures short { OnOk result (length self.new.carry.items ≤ MAX_LINE) }
+        ensures few { OnOk result (self.new.count < LINE_LIMIT) }
+        ensures counts { result ≡ Ok Goes.On → 0 < length bytes.now → self.new.count ≡ self.old.count + counts_for bytes.now }
+        ensures many { IsErrOf result LineFault.TooManyLines → LINE_LIMIT ≤ self.old.count + counts_for bytes.now }
+        ensures fed { (start : H) (input : List ℕ) (held : Option (List ℕ))
+            → Going H.answers start input handler.old held (W.contents writer.old) self.old.replies self.old.carry.items
+            → Fed H.answers H.fails start (input ++ bytes.now) held (W.contents writer.new) result handler.new self.new.replies self.new.carry.items }
+    {
+        let mut at = 0;
+        while let Some(length) = memchr(b'\n', &bytes[at..]) {
+            if let Goes::Ends = self.end_line(handler, &bytes[at..at + length])? {
+                return Ok(Goes::Ends);
+            }
+            at += length + 1;
+            self.count += 1;
+            if self.count == LINE_LIMIT {
+                return Err(LineFault::TooManyLines);
+            }
+            self.replies.pass_on(writer)?;
+        }
+        keep(&mut self.carry, &bytes[at..])?;
+        if at == 0 && !bytes.is_empty() {
+            self.count += 1;
+            if self.count == LINE_LIMIT {
+                return Err(LineFault::TooManyLines);
+            }
+        }
+        Ok(Goes::On)
+    }
+
+    /// Reads once. The read may wait, so no reply does.
+    fn read<R: Read>(&self, reader: &mut R, buffer: &mut [u8]) -> Result<usize, LineFault>
+        requires written { IsEmpty self.now.replies }
+        ensures bound { ReadsAtMost result buffer.new }
+        ensures bytes { ReadConsumes (R.remaining reader.old) (R.remaining reader.new) result buffer.new }
+        ensures failed { IfErr result (λ fault. fault ≡ LineFault.ReadFailed) }
+    {
+        Ok(read_some(reader, buffer)?)
+    }
+
+    /// Reads to the end of the input, or to a line that ends the conversation, and answers each line.
+    fn run<H: LineHandler, R: Read, W: Write>(
+        &mut self,
+        handler: &mut H,
+        reader: &mut R,
+        writer: &mut W,
+        buffer: &mut [u8],
+    ) -> Result<EndedBy, LineFault>
+        requires room { 0 < length buffer.old }
+        requires fresh { IsNew self.old.replies self.old.carry.items self.old.count }
+        ensures ran { (portions : List (List ℕ)) × (input : List ℕ) × Consumes (R.remaining reader.old) (R.remaining reader.new) input
+            × Parted portions input × Ran H.answers H.fails handler.old portions input (W.contents writer.old) (W.contents writer.new) result handler.new self.new.replies.whole }
+        ensures all { result ≡ Ok EndedBy.Input → IsAtEnd (R.remaining reader.new) }
+    {
+        'reads: loop {
+            if !handler.can_go_on() {
+                return Err(LineFault::OutOfMemory);
+            }
+            let length = self.read(reader, buffer)?;
+            if length == 0 {
+                break;
+            }
+            if let Goes::Ends = self.feed(handler, writer, &buffer[..length])? {
+                return Ok(EndedBy::Handler);
+            }
+            self.replies.write_to(writer)?;
+        }
+        self.end_input(handler, writer)
+    }
+
+    /// Answers a last line that has not ended.
+    fn end_input<H: LineHandler, W: Write>(
+        &mut self,
+        handler: &mut H,
+        writer: &mut W,
+    ) -> Result<EndedBy, LineFault>
+        requires written { IsEmpty self.old.replies }
+        requires short { length self.old.carry.items ≤ MAX_LINE }
+        requires few { self.old.count < LINE_LIMIT }
+        ensures { (start : H) (portions : List (List ℕ)) (input : List ℕ) (held : Option (List ℕ))
+            → self.old.count ≡ length (pieces input) + still portions
+            → Going H.answers start input handler.old held (W.contents writer.old) self.old.replies self.old.carry.items
+            → Ran H.answers H.fails start portions input held (W.contents writer.new) result handler.new self.new.replies.whole }
+    {
+        if self.carry.is_empty() {
+            return Ok(EndedBy::Input);
+        }
+        match self.feed(handler, writer, b"\n")? {
+            Goes::On => Ok(EndedBy::Input),
+            Goes::Ends => Ok(EndedBy::Handler),
+        }
+    }
+
+    /// Answers all that the reader gives, and writes what was answered, also before a fault.
+    fn run_whole<H: LineHandler, R: Read, W: Write>(
+        &mut self,
+        handler: &mut H,
+        reader: &mut R,
+        writer: &mut W,
+        buffer: &mut [u8],
+    ) -> Result<EndedBy, LineFault>
+        requires fresh { IsNew self.old.replies self.old.carry.items self.old.count }
+        requires room { 0 < length buffer.old }
+        ensures ends { (talk : Talk H.answers handler.old (R.remaining reader.old) (R.remaining reader.new) (W.contents writer.old) (W.contents writer.new))
+            × EndsBy result talk × Leaves H.fails result talk handler.new }
+        ensures all { result ≡ Ok EndedBy.Input → IsAtEnd (R.remaining reader.new) }
+    {
+        let result = self.run(handler, reader, writer, buffer);
+        if is_write_failure(result) {
+            return result;
+        }
+        self.replies.write_to(writer)?;
+        result
+    }
+}
+
+/// Room for what is read at a time.
+fn read_room<A: Allocator>(alloc: A) -> Result<Vec<u8, A>, OutOfMemory>
+    ensures { IfOk result (λ room. 0 < length room.items) }
+{
+    Ok(vec![in alloc; 0; READ_SIZE]?)
+}
+
+fn is_write_failure(ended: Result<EndedBy, LineFault>) -> bool
+    ensures { IsTrue result ↔ IsErrOf ended LineFault.WriteFailed }
+{
+    match ended {
+        Err(LineFault::WriteFailed) => true,
+        _ => false,
+    }
+}
+
+fn begin<A: Allocator + Copy>(alloc: A) -> Result<Conversation<A>, OutOfMemory>
+    ensures { IfOk result (λ c. IsNew c.replies c.carry.items c.count) }
+{
+    Ok(Conversation {
+        replies: Replies::new(alloc),
+        carry: Vec::with_capacity(alloc, MAX_LINE)?,
+        count: 0,
+    })
+}
+
+/// Reads lines to the end of the input, or to a line that ends the conversation, and writes the reply to each before the next
+/// read. An unfinished last line is a line too. What was answered before a fault is still written.
+pub fn answer_lines<A: Allocator + Copy, H: LineHandler, R: Read, W: Write>(
+    alloc: A,
+    handler: &mut H,
+    reader: &mut R,
+    writer: &mut W,
+) -> Result<EndedBy, LineFault>
+    ensures ends { (talk : Talk H.answers handler.old (R.remaining reader.old) (R.remaining reader.new) (W.contents writer.old) (W.contents writer.new))
+        × EndsBy result talk × Leaves H.fails result talk handler.new }
+    ensures all { result ≡ Ok EndedBy.Input → IsAtEnd (R.remaining reader.new) }
+{
+    let mut buffer = read_room(alloc)?;
+    let mut conversation = begin(alloc)?;
+    conversation.run_whole(handler, reader, writer, &mut buffer)
+}

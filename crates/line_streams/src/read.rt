@@ -1,0 +1,35 @@
+//! Reading once.
+ghost use Rattle.std.specs.Prelude.{◌≡◌, length};
+ghost use Rattle.std.specs.Io.{ReadsAtMost};
+ghost use Rattle.std.specs.Io.KnownBytes.{ReadConsumes};
+
+use std::io;
+use std::io::{ErrorKind, Read};
+
+/// A read failed.
+#[derive(Clone, Copy, Debug, PartialEq, Eq)]
+pub struct ReadFault;
+
+/// Reads once, again where it was interrupted. 0 bytes are the end, where there is room for any.
+pub fn read_some<R: Read>(reader: &mut R, room: &mut [u8]) -> Result<usize, ReadFault>
+    ensures same { length room.new ≡ length room.old }
+    ensures bound { ReadsAtMost result room.new }
+    ensures bytes { ReadConsumes (R.remaining reader.old) (R.remaining reader.new) result room.new }
+{
+    'tries: for _ in 0..u64::MAX {
+        match reader.read(room) {
+            Ok(length) => return Ok(length),
+            Err(error) => {
+                if !is_interrupted(&error) {
+                    return Err(ReadFault);
+                }
+            }
+        }
+    }
+    Err(ReadFault)
+}
+
+/// Whether a read or a write was interrupted, and is to be tried again.
+pub(crate) fn is_interrupted(error: &io::Error) -> bool {
+    error.kind() == ErrorKind::Interrupted
+}

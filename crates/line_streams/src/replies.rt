@@ -1,0 +1,131 @@
+//! Replies on their way to a writer.
+ghost use Rattle.std.specs.Prelude.{◌≡◌, ℕ, List, [], ◌++◌, ◌<◌, ◌≤◌, ◌+◌, length, decimal, OnOk, OnErr, IsOk};
+ghost use Rattle.std.specs.Io.KnownBytes.{Appends};
+ghost use Rattle.line_streams.specs.Fronts.{AppendsFront};
+ghost use Rattle.line_streams.specs.Waiting.{IsEmpty, AddsReply};
+
+use crate::put::{MAX_DIGITS, make_room, put_field, put_text};
+use crate::write::{WriteFault, write_whole};
+use rights_types::OutOfMemory;
+use std::alloc::Allocator;
+use std::io::Write;
+use std::marker::Model;
+
+/// Whole replies of so many bytes are written before the next line is answered.
+pub const BLOCK: usize = 65536;
+
+/// Replies that wait to be written: whole ones, and behind them the part of the next one that is made so far. So no
+/// refused growth leaves a part of a reply among the whole ones.
+#[derive(Drop)]
+pub struct Replies<A: Allocator> {
+    /// The replies, up to `end`. The bytes behind it are room, so that one test tells whether a word and its number fit.
+    bytes: Vec<u8, A>,
+    end: usize,
+    whole: usize,
+}
+
+impl<A: Allocator> Model for Replies<A> {
+    ghost use Rattle.std.specs.Prelude.{◌≤◌, ◌-◌, take, drop, vec_len};
+    ghost use Rattle.line_streams.specs.Waiting.{Waiting};
+
+    ghost Value = { Waiting };
+
+    ghost view = { λ r. record { whole = take r.whole r.bytes.items; part = drop r.whole (take r.end r.bytes.items); room = vec_len r.bytes - r.end } };
+
+    ghost invariant = { λ r. (r.whole ≤ r.end) × (r.end ≤ vec_len r.bytes) };
+}
+
+impl<A: Allocator> Replies<A> {
+    pub fn new(alloc: A) -> Replies<A>
+        ensures { IsEmpty result }
+    {
+        Replies {
+            bytes: Vec::new(alloc),
+            end: 0,
+            whole: 0,
+        }
+    }
+
+    /// Sees that the reply at work may take so many bytes more without a request for memory.
+    pub fn reserve(&mut self, count: usize) -> Result<(), OutOfMemory>
+        ensures ok { OnOk result (count ≤ self.new.room) }
+        ensures memory { count ≤ self.old.room → IsOk result }
+        ensures whole { self.new.whole ≡ self.old.whole }
+        ensures part { self.new.part ≡ self.old.part }
+        ensures room { self.old.room ≤ self.new.room }
+    {
+        make_room(&mut self.bytes, self.end, count)
+    }
+
+    /// Goes on with the reply at work. The words of replies are known at each call, so that a call in line copies them
+    /// by a store or two.
+    #[inline(always)]
+    pub fn put(&mut self, text: &[u8]) -> Result<(), OutOfMemory>
+        ensures ok { OnOk result (self.new.part ≡ self.old.part ++ text.now) }
+        ensures kept { self.new.whole ≡ self.old.whole }
+        ensures room { length text.now ≤ self.old.room → IsOk result }
+        ensures left { self.old.room ≤ self.new.room + length text.now }
+    {
+        make_room(&mut self.bytes, self.end, text.len())?;
+        self.end = put_text(self.bytes.as_mut_slice(), self.end, text);
+        Ok(())
+    }
+
+    /// A word and its number.
+    #[inline(always)]
+    pub fn put_field<const N: usize>(
+        &mut self,
+        word: &[u8; N],
+        number: u64,
+    ) -> Result<(), OutOfMemory>
+        ensures ok { OnOk result (self.new.part ≡ self.old.part ++ word.now ++ decimal number) }
+        ensures kept { self.new.whole ≡ self.old.whole }
+        ensures room { N + MAX_DIGITS ≤ self.old.room → IsOk result }
+        ensures left { self.old.room ≤ self.new.room + (N + MAX_DIGITS) }
+    {
+        make_room(&mut self.bytes, self.end, N + MAX_DIGITS)?;
+        self.end = put_field(self.bytes.as_mut_slice(), self.end, word, number);
+        Ok(())
+    }
+
+    /// Ends the reply at work with a line feed.
+    pub fn finish(&mut self) -> Result<(), OutOfMemory>
+        ensures ok { OnOk result (AddsReply self.old self.new self.old.part) }
+        ensures kept { OnErr result (self.new.whole ≡ self.old.whole) }
+        ensures room { 1 ≤ self.old.room → IsOk result }
+        ensures left { self.old.room ≤ self.new.room + 1 }
+    {
+        self.put(b"\n")?;
+        self.whole = self.end;
+        Ok(())
+    }
+
+    /// Writes the whole replies, and drops all. After an `Err` the writer has taken a front of
+    /// them.
+    pub fn write_to<W: Write>(&mut self, writer: &mut W) -> Result<(), WriteFault>
+        ensures whole { OnOk result (Appends (W.contents writer.old) (W.contents writer.new) self.old.whole) }
+        ensures empty { OnOk result (IsEmpty self.new) }
+        ensures front { OnErr result (AppendsFront (W.contents writer.old) (W.contents writer.new) self.old.whole) }
+    {
+        write_whole(writer, &self.bytes[..self.whole])?;
+        self.end = 0;
+        self.whole = 0;
+        Ok(())
+    }
+
+    /// Writes the whole replies once they are a block. After an `Err` the writer has taken a front
+    /// of them.
+    pub fn pass_on<W: Write>(&mut self, writer: &mut W) -> Result<(), WriteFault>
+        requires { self.old.part ≡ [] }
+        ensures whole { OnOk result ((text : List ℕ) × Appends (W.contents writer.old) (W.contents writer.new) text
+            × (self.old.whole ≡ text ++ self.new.whole)) }
+        ensures ready { OnOk result (self.new.part ≡ []) }
+        ensures room { OnOk result (length self.new.whole < BLOCK) }
+        ensures front { OnErr result (AppendsFront (W.contents writer.old) (W.contents writer.new) self.old.whole) }
+    {
+        if self.whole < BLOCK {
+            return Ok(());
+        }
+        self.write_to(writer)
+    }
+}

@@ -1,0 +1,8 @@
+//! The texts of what a desk answers, for scripts and for running sites, without the line feed at their end.
+#![tactic(auto)]
+
+mod texts;
+
+pub use texts::{
+    REPLY_ROOM, desk_error_name, put_bad_command, put_error, put_number, put_spending, put_status,
+};
