@@ -3,3 +3,4 @@ mod Found
 mod Parsers
 mod Peers
 mod SettingsLaws
+mod StatusLaws

@@ -4,31 +4,44 @@ use Rattle.entry_codec.specs.Moves.{◌>>=◌}
 use Rattle.line_streams.specs.Words.{words_of, named, alone, first_number, only_number, optional_site, site_and_number}
 use Rattle.site_words.specs.declared.commands.Name.{Name}
 use Rattle.site_words.specs.declared.commands.Name.TheVariants.{Issue as AnIssue, Give as AGive, Spend as ASpend, Outcome as AnOutcome, Tick as ATick, Status as AStatus, Close as AClose, Quit as AQuit}
+use Rattle.site_words.specs.declared.commands.DeskCommand.TheVariants.{Issue, Give, Spend, Outcome, Close}
 use Rattle.site_words.specs.declared.commands.SiteCommand.{SiteCommand}
-use Rattle.site_words.specs.declared.commands.SiteCommand.TheVariants.{Issue, Give, Spend, Outcome, Tick, Status, Close, Quit}
+use Rattle.site_words.specs.declared.commands.SiteCommand.TheVariants.{AtDesk, Tick, Status, Quit}
 
 -- a command by the words behind its name
 
+-- the amount
+abbrev pub issue_in : List (List ℕ) → Option SiteCommand
+issue_in words = only_number words >>= (λ amount. Some (AtDesk (Issue amount)))
+
 -- the peer and the amount
 abbrev pub give_in : List (List ℕ) → Option SiteCommand
-give_in words = site_and_number words >>= (λ gift. Some (Give gift.0 gift.1))
+give_in words = site_and_number words >>= (λ gift. Some (AtDesk (Give gift.0 gift.1)))
 
 -- the amount and the deadline
 unfoldable pub spend_in : List (List ℕ) → Option SiteCommand
 spend_in words = do
   amount ← first_number words
   deadline ← only_number amount.1
-  Some (Spend amount.0 deadline)
+  Some (AtDesk (Spend amount.0 deadline))
+
+-- the ticket
+abbrev pub outcome_in : List (List ℕ) → Option SiteCommand
+outcome_in words = only_number words >>= (λ ticket. Some (AtDesk (Outcome ticket)))
+
+-- the heir, if any
+abbrev pub close_in : List (List ℕ) → Option SiteCommand
+close_in words = optional_site words >>= (λ heir. Some (AtDesk (Close heir)))
 
 -- a command by its name, and the words behind that
 abbrev pub command_by : Name → List (List ℕ) → Option SiteCommand
-command_by AnIssue words = only_number words >>= (λ amount. Some (Issue amount))
+command_by AnIssue words = issue_in words
 command_by AGive words = give_in words
 command_by ASpend words = spend_in words
-command_by AnOutcome words = only_number words >>= (λ ticket. Some (Outcome ticket))
+command_by AnOutcome words = outcome_in words
 command_by ATick words = only_number words >>= (λ time. Some (Tick time))
 command_by AStatus words = alone Status words
-command_by AClose words = optional_site words >>= (λ heir. Some (Close heir))
+command_by AClose words = close_in words
 command_by AQuit words = alone Quit words
 
 unfoldable pub name_of : List ℕ → Option Name

@@ -2,6 +2,7 @@
 use Rattle.std.specs.Prelude.{ℕ, List, Bool, map, codes}
 use Rattle.serde_json.specs.Data.{Data, Members, array, boolean, member, no_members, number, object, unsigned}
 use Rattle.serde_json.specs.View.{items_of}
+use Rattle.serde_json.specs.Written.{compact_text}
 use Rattle.thread_parts.specs.declared.view.DeskView.{DeskView}
 use Rattle.site_words.specs.declared.status_object.PeerView.{PeerView}
 
@@ -37,3 +38,7 @@ status_data desk peers = object
     (member (codes "site") (whole desk.site)
     (member (codes "spent") (whole desk.spent)
     no_members)))))))))
+
+-- .. as a text with no space in it
+abbrev pub status_text : DeskView → List PeerView → List ℕ
+status_text desk peers = compact_text (status_data desk peers)

@@ -1,16 +1,16 @@
 //! The commands of a site that runs.
 ghost use Rattle.std.specs.Prelude.{◌≡◌};
 ghost use Rattle.line_streams.specs.Words.{words_left};
-ghost use Rattle.site_words.specs.Commands.{give_in, spend_in, command_by, name_of, command_of};
+ghost use Rattle.site_words.specs.Commands.{issue_in, give_in, spend_in, outcome_in, close_in, command_by, name_of, command_of};
 
 use line_streams::{
     alone, first_number, named, only_number, optional_site, site_and_number, split_word,
 };
 use rights_types::SiteId;
 
-/// What a line asks of a site.
+/// A command that the desk carries out alone, in one call.
 #[derive(Clone, Copy)]
-pub enum SiteCommand {
+pub enum DeskCommand {
     /// To create rights.
     Issue(u64),
     /// To give rights to a peer.
@@ -19,12 +19,19 @@ pub enum SiteCommand {
     Spend(u64, u64),
     /// To tell what became of a spend that waits.
     Outcome(u64),
+    /// To close the site, and to leave what it holds to an heir.
+    Close(Option<SiteId>),
+}
+
+/// What a line asks of a site.
+#[derive(Clone, Copy)]
+pub enum SiteCommand {
+    /// What the desk carries out alone.
+    AtDesk(DeskCommand),
     /// To do at this time all that is due: expire, serve, plan, and send to the peers.
     Tick(u64),
     /// To tell how the site and its links are.
     Status,
-    /// To close the site, and to leave what it holds to an heir.
-    Close(Option<SiteId>),
     /// To end the program.
     Quit,
 }
@@ -53,11 +60,18 @@ const NAMES: [(&[u8], Name); 8] = [
     (b"quit", Name::Quit),
 ];
 
+fn read_issue(words: Option<&[u8]>) -> Option<SiteCommand>
+    ensures { result ≡ issue_in (words_left words.entry) }
+{
+    let amount = only_number(words)?;
+    Some(SiteCommand::AtDesk(DeskCommand::Issue(amount)))
+}
+
 fn read_give(words: Option<&[u8]>) -> Option<SiteCommand>
     ensures { result ≡ give_in (words_left words.entry) }
 {
     let (peer, amount) = site_and_number(words)?;
-    Some(SiteCommand::Give(peer, amount))
+    Some(SiteCommand::AtDesk(DeskCommand::Give(peer, amount)))
 }
 
 #[tactic(auto, unfolding(crate::specs::Commands::spend_in))]
@@ -66,7 +80,21 @@ fn read_spend(words: Option<&[u8]>) -> Option<SiteCommand>
 {
     let (amount, words) = first_number(words)?;
     let deadline = only_number(words)?;
-    Some(SiteCommand::Spend(amount, deadline))
+    Some(SiteCommand::AtDesk(DeskCommand::Spend(amount, deadline)))
+}
+
+fn read_outcome(words: Option<&[u8]>) -> Option<SiteCommand>
+    ensures { result ≡ outcome_in (words_left words.entry) }
+{
+    let ticket = only_number(words)?;
+    Some(SiteCommand::AtDesk(DeskCommand::Outcome(ticket)))
+}
+
+fn read_close(words: Option<&[u8]>) -> Option<SiteCommand>
+    ensures { result ≡ close_in (words_left words.entry) }
+{
+    let heir = optional_site(words)?;
+    Some(SiteCommand::AtDesk(DeskCommand::Close(heir)))
 }
 
 /// The command of this name, by the words behind it.
@@ -74,13 +102,13 @@ fn command_by(name: Name, words: Option<&[u8]>) -> Option<SiteCommand>
     ensures { result ≡ command_by name (words_left words.entry) }
 {
     match name {
-        Name::Issue => Some(SiteCommand::Issue(only_number(words)?)),
+        Name::Issue => read_issue(words),
         Name::Give => read_give(words),
         Name::Spend => read_spend(words),
-        Name::Outcome => Some(SiteCommand::Outcome(only_number(words)?)),
+        Name::Outcome => read_outcome(words),
         Name::Tick => Some(SiteCommand::Tick(only_number(words)?)),
         Name::Status => alone(SiteCommand::Status, words),
-        Name::Close => Some(SiteCommand::Close(optional_site(words)?)),
+        Name::Close => read_close(words),
         Name::Quit => alone(SiteCommand::Quit, words),
     }
 }

@@ -1,7 +1,7 @@
 //! Why a site that runs stops.
 ghost use Rattle.std.specs.Prelude.{◌≡◌};
 
-use line_streams::WriteFault;
+use line_streams::{LineFault, WriteFault};
 use rights_types::OutOfMemory as NoMemory;
 use std::alloc::{AllocError, AllocFailed};
 use thiserror::Error;
@@ -63,5 +63,20 @@ impl From<WriteFault> for SiteFault {
 
     fn from(_error: WriteFault) -> SiteFault {
         SiteFault::WriteFailed
+    }
+}
+
+impl From<LineFault> for SiteFault {
+    ghost use Rattle.site_words.specs.Faults.{fault_of_lines};
+
+    ghost from_gives = { λ cause fault. fault ≡ fault_of_lines cause };
+
+    fn from(cause: LineFault) -> SiteFault {
+        match cause {
+            LineFault::ReadFailed => SiteFault::ReadFailed,
+            LineFault::WriteFailed => SiteFault::WriteFailed,
+            LineFault::OutOfMemory => SiteFault::OutOfMemory,
+            LineFault::TooManyLines => SiteFault::TooManyLines,
+        }
     }
 }

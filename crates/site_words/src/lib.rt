@@ -8,8 +8,8 @@ mod fault;
 mod status_object;
 mod words;
 
-pub use commands::{SiteCommand, read_command};
+pub use commands::{DeskCommand, SiteCommand, read_command};
 pub use config::{Config, PeerAddress};
 pub use fault::SiteFault;
-pub use status_object::{PeerView, status};
+pub use status_object::{PeerView, status, status_text};
 pub use words::{Command, HelpText, WordsFault, read_words};

@@ -2,7 +2,8 @@
 ghost use Rattle.std.specs.Prelude.{◌≡◌, IfOk, OnOk, map};
 ghost use Rattle.serde_json.specs.Data.{array, put as with_member};
 ghost use Rattle.serde_json.specs.View.{items_of, members_view, view};
-ghost use Rattle.site_words.specs.Status.{peer_data, rights_data, status_data, whole};
+ghost use Rattle.site_words.specs.Status.{peer_data, rights_data, status_data, status_text, whole};
+ghost use Rattle.std.specs.String.{string_bytes};
 
 use rights_types::{OutOfMemory, SiteId};
 use serde_json::{Map, Value, json, put};
@@ -79,4 +80,15 @@ pub fn status(alloc: Global, desk: &DeskView, peers: &[PeerView]) -> Result<Valu
     put(&mut members, alloc, "closed", Value::from(desk.closed))?;
     put(&mut members, alloc, "peers", peer_list(alloc, peers)?)?;
     Ok(Value::Object(members))
+}
+
+/// The text of the status object, on one line and with no space in it.
+pub fn status_text(
+    alloc: Global,
+    desk: &DeskView,
+    peers: &[PeerView],
+) -> Result<String, OutOfMemory>
+    ensures { IfOk result (λ text. string_bytes text ≡ status_text desk.now peers.now) }
+{
+    Ok(status(alloc, desk, peers)?.to_string(alloc)?)
 }
