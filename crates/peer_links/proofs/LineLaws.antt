@@ -1,76 +1,17 @@
--- Whole lines, one after another, and the pieces of a stream that are given as they end.
+-- The pieces of a stream, which are given as they end.
 use Rattle.std.proofs.Common.{◌≡◌, ℕ, ◌+◌, ◌-◌, ◌<◌, ◌≤◌, Bool, true, false, cond, List, [], ◌∷◌, ◌++◌, length, take, get_or, Option, Some, None, IfSome, IfNone, IsTrue, ◌↔◌, refl, sym, ap, subst, ◌∙◌, arith, append-nil, length-append, length-take, get_or-take}
-use Rattle.std.specs.List.{All}
 use Rattle.std.specs.Io.BufRead.{take_through}
 use Rattle.std.proofs.lemmas.Bool.{eqb-true, eq-eqb}
-use Rattle.std.proofs.lemmas.List.{take_all, take_at, take_more, drop_at}
-use Rattle.std.proofs.lemmas.List.Elements.{All-nil, All-push, All-append, All-head, All-tail}
-use Rattle.std.proofs.lemmas.List.Concat.{flat_map-append}
-use Rattle.std.specs.Io.KnownBytes.{Appends}
-use Rattle.std.proofs.KnownBytes.{Appends-nil, Appends-trans}
+use Rattle.std.proofs.lemmas.List.{take_all, take_more}
 use Rattle.memchr.specs.Find.{IsFirstByte, is_byte}
-use Rattle.entry_codec.specs.Pieces.{pieces, unfinished, IsLine}
+use Rattle.entry_codec.specs.Pieces.{pieces, unfinished}
 use Rattle.entry_codec.specs.Cutter.{CutterView, Holds, IsFed, view_of}
 use Rattle.entry_codec.specs.Cuts.{IsGiven, IsCut}
 use Rattle.entry_codec.specs.declared.cutter.Cut.{Cut}
 use Rattle.entry_codec.proofs.Pieces.{HasNoEnd, pieces_append, rest_append, no_piece, one_piece}
 use Rattle.entry_codec.proofs.Cuts.{first_is_position}
 use Rattle.entry_codec.proofs.Streams.{through_found, through_missed}
-use Rattle.line_streams.proofs.WriteLaws.{take_both}
-use Rattle.line_streams.specs.Fronts.{AppendsFront}
 use Rattle.peer_links.specs.Links.{IsFedAll}
-use Rattle.peer_links.specs.Outboxes.{AreLines, joined, front_in}
-
--- ---- whole lines
-
-pub lines_none : AreLines []
-lines_none = ([], All-nil IsLine, refl)
-
-pub lines_more : (xs ys : List ℕ) → AreLines xs → AreLines ys → AreLines (xs ++ ys)
-lines_more xs ys a b = (
-  a.0 ++ b.0,
-  All-append IsLine a.0 b.0 a.1 b.1,
-  rw (a.2, b.2) (sym (flat_map-append (λ (l : List ℕ). l) a.0 b.0)),
-)
-
-pub line_alone : (line : List ℕ) → IsLine line → AreLines line
-line_alone line h = (line ∷ [], All-push IsLine [] line (All-nil IsLine) h, sym (append-nil line))
-
-fits_front : (b : Bool) (line : List ℕ) (rest : List (List ℕ)) → IsLine line → All IsLine rest → All IsLine (cond b (line ∷ rest) [])
-fits_front true line rest h all = All-append IsLine (line ∷ []) rest (All-push IsLine [] line (All-nil IsLine) h) all
-fits_front false line rest h all = All-nil IsLine
-
-all_front : (room : ℕ) (lines : List (List ℕ)) → All IsLine lines → All IsLine (front_in room lines)
-all_front room [] all = All-nil IsLine
-all_front room (line ∷ lines) all =
-    fits_front _ line (front_in (room - length line) lines) (All-head IsLine line lines all) (all_front (room - length line) lines (All-tail IsLine line lines all))
-
-pub front_lines : (room : ℕ) (lines : List (List ℕ)) (text : List ℕ) → All IsLine lines → text ≡ joined (front_in room lines) → AreLines text
-front_lines room lines text all is = (front_in room lines, all_front room lines all, is)
-
--- ---- what was written
-
-pub wrote_lines : (a b c : Option (List ℕ)) (xs ys : List ℕ) → AreLines xs → AreLines ys → Appends a b xs → Appends b c ys
-    → (text : List ℕ) × AreLines text × Appends a c text
-wrote_lines a b c xs ys l m p q = (xs ++ ys, lines_more xs ys l m, Appends-trans a b c xs ys p q)
-
--- the same, of a text that was written whole
-pub wrote_all : (a b c : Option (List ℕ)) (xs ys : List ℕ) (n : ℕ) → AreLines xs → AreLines ys → Appends a b xs → length ys ≤ n → Appends b c (take n ys)
-    → (text : List ℕ) × AreLines text × Appends a c text
-wrote_all a b c xs ys n l m p all q = wrote_lines a b c xs ys l m p (subst (Appends b c) (take_all n ys all) q)
-
-pub wrote_front : (a b c : Option (List ℕ)) (xs ys : List ℕ) (n : ℕ) → AreLines xs → AreLines ys → Appends a b xs → n ≤ length ys → Appends b c (take n ys)
-    → (text : List ℕ) × AreLines text × AppendsFront a c text
-wrote_front a b c xs ys n l m p within q =
-    let front : take (length xs + n) (xs ++ ys) ≡ xs ++ take n ys =
-    take_both (length xs) n (xs ++ ys) ∙ rw (take_at xs ys (length xs) refl, drop_at xs ys (length xs) refl) refl in (
-      xs ++ ys,
-      lines_more xs ys l m,
-      (length xs + n, omega (arith, length-append xs ys), subst (Appends a c) (sym front) (Appends-trans a b c xs (take n ys) p q)),
-    )
-
-pub wrote_none : (a b : Option (List ℕ)) (xs : List ℕ) → AreLines xs → Appends a b xs → (text : List ℕ) × AreLines text × AppendsFront a b text
-wrote_none a b xs l p = wrote_front a b b xs [] 0 l lines_none p (omega arith) (Appends-nil b)
 
 -- ---- a stream of which all pieces were given
 

@@ -10,7 +10,7 @@ use Rattle.entry_codec.specs.Cutter.{CutterView}
 use Rattle.entry_codec.specs.Pieces.{pieces, IsLine}
 use Rattle.entry_codec.proofs.Lines.{is_line}
 use Rattle.site_core.specs.Calls.{LineOf}
-use Rattle.line_streams.specs.Counting.{counts_for}
+use Rattle.line_streams.specs.Counting.{counts_for, still}
 use Rattle.line_streams.proofs.CountLaws.{none_parted, parted_more, counted_more, lines_both}
 use Rattle.line_streams.proofs.WriteLaws.{take_both}
 use Rattle.peer_links.specs.Lines.{IsGivenFor}
@@ -20,12 +20,12 @@ use Rattle.peer_links.specs.declared.link.LinkFault.{LinkFault}
 use Rattle.peer_links.specs.declared.link.LinkFault.TheVariants.{ReadFailed, WriteFailed, TooManyLines, NoHello, LaneClosed, OutOfMemory}
 use Rattle.line_streams.specs.declared.limit.TheConstants.{LINE_LIMIT}
 
-pub gave_none : (a : Option (List ℕ)) → (gave : LinkGave a a) × (0 ≡ counted gave)
-gave_none a = (record { portions = []; input = []; reads = Consumes-nil a; parted = none_parted }, refl)
+pub gave_none : (a : Option (List ℕ)) → (gave : LinkGave a a) × (0 ≡ counted gave) × (gave.input ≡ [])
+gave_none a = (record { portions = []; input = []; reads = Consumes-nil a; parted = none_parted }, refl, refl)
 
 -- one read more
 pub gave_more : (a b c : Option (List ℕ)) (gave : LinkGave a b) (old : ℕ) → old ≡ counted gave → (bytes : List ℕ) → 0 < length bytes → Consumes b c bytes
-    → (new : LinkGave a c) × (counted new ≡ old + counts_for bytes)
+    → (new : LinkGave a c) × (counted new ≡ old + counts_for bytes) × (new.input ≡ gave.input ++ bytes) × (still new.portions ≡ still gave.portions + still (bytes ∷ []))
 gave_more a b c gave old count bytes some read = (
   record {
     portions = gave.portions ++ bytes ∷ [];
@@ -34,10 +34,12 @@ gave_more a b c gave old count bytes some read = (
     parted = parted_more gave.portions gave.input bytes gave.parted some;
   },
   omega (arith, count, counted_more gave.portions gave.input bytes),
+  refl,
+  omega (arith, counted_more gave.portions gave.input bytes, lines_both gave.input bytes),
 )
 
 -- nothing more
-pub gave_same : (a b c : Option (List ℕ)) (gave : LinkGave a b) → Consumes b c [] → (new : LinkGave a c) × (counted new ≡ counted gave)
+pub gave_same : (a b c : Option (List ℕ)) (gave : LinkGave a b) → Consumes b c [] → (new : LinkGave a c) × (counted new ≡ counted gave) × (new.input ≡ gave.input)
 gave_same a b c gave read = (
   record {
     portions = gave.portions;
@@ -45,6 +47,7 @@ gave_same a b c gave read = (
     reads = subst (Consumes a c) (append-nil gave.input) (Consumes-trans a b c gave.input [] gave.reads read);
     parted = gave.parted;
   },
+  refl,
   refl,
 )
 

@@ -5,7 +5,9 @@
 mod lines;
 mod link;
 mod outbox;
+mod source;
 
 pub use lines::{Piece, next_piece};
-pub use link::{LinkFault, Port, read_hello, read_link, write_link};
+pub use link::{DeskMessage, LinkFault, Port, read_hello, read_link, write_link};
 pub use outbox::{OUTBOX_LINES, Outbox, PutError};
+pub use source::{Batch, LineSource};

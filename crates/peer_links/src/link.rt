@@ -1,6 +1,9 @@
 //! One connection with a peer: its first line, the lines that come, and the lines that go.
 ghost use Rattle.std.specs.Prelude.{◌≡◌};
 ghost use Rattle.entry_codec.specs.Pieces.{IsLine};
+ghost use Rattle.peer_links.specs.Ports.{Heard};
+ghost use Rattle.peer_links.specs.Ports.Heard.{AMessage, ALine, AState};
+ghost use Rattle.peer_links.specs.declared.link.DeskMessage.{DeskMessage};
 ghost use Rattle.peer_links.specs.declared.link.LinkFault.TheVariants.{OutOfMemory as NoMemory};
 
 mod hello;
@@ -9,7 +12,7 @@ mod writing;
 
 pub use hello::read_hello;
 pub use reading::read_link;
-use rights_types::{Message, OutOfMemory};
+use rights_types::{Ask, Deny, OutOfMemory, Query};
 use std::io;
 use std::io::ErrorKind;
 use std::sync::Wait;
@@ -41,18 +44,39 @@ impl From<OutOfMemory> for LinkFault {
     }
 }
 
+/// A message of a peer that is for the desk.
+#[derive(Clone, Copy, Debug, PartialEq, Eq)]
+pub enum DeskMessage {
+    /// The peer asks for entries of the desk's log.
+    Query(Query),
+    /// The peer asks for rights.
+    Ask(Ask),
+    /// The peer denies an ask of the desk.
+    Deny(Deny),
+}
+
 /// What is done with what comes from a peer, entries aside, which go to a lane. It names no allocator: the
 /// check takes no impl of a trait that has one as a parameter.
 pub trait Port {
-    /// Takes a message for the desk: a query, an ask or a denial.
-    fn message<R: Wait>(&mut self, rt: &R, message: Message) -> Result<(), OutOfMemory>;
+    // The messages that it may be told.
+    ghost accepts: { DeskMessage → Type 0 };
+
+    // Told this in the first state, it may be left in the second one.
+    ghost hears: { Self → Heard → Self → Type 0 };
+
+    /// Takes a message for the desk.
+    fn message<R: Wait>(&mut self, rt: &R, message: DeskMessage) -> Result<(), OutOfMemory>
+        requires { accepts message }
+        ensures { hears self.old (AMessage message result) self.new };
 
     /// Takes a line for the peer, which asks for the entries that are missing.
     fn line<R: Wait>(&mut self, rt: &R, line: Vec<u8>)
-        requires { IsLine line.items };
+        requires { IsLine line.items }
+        ensures { hears self.old (ALine line.items) self.new };
 
     /// Is told after each line whether entries are missing, and how many are held until these come.
-    fn seen<R: Wait>(&mut self, rt: &R, state: State, held: usize);
+    fn seen<R: Wait>(&mut self, rt: &R, state: State, held: usize)
+        ensures { hears self.old (AState state held) self.new };
 }
 
 /// Whether a read or a write was interrupted, and may be tried again.

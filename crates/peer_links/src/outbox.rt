@@ -1,8 +1,11 @@
 //! The lines that wait to be sent to one peer.
 ghost use Rattle.std.specs.Prelude.{◌≡◌, ◌+◌, ◌≤◌, ◌==◌, ◌&&◌, not, false, true, [], ◌∷◌, ◌++◌, length, take, drop, IfOk, IfSome, IfNone};
+ghost use Rattle.std.specs.List.{All};
 ghost use Rattle.entry_codec.specs.Pieces.{IsLine};
-ghost use Rattle.peer_links.specs.Outboxes.{Puts, Batches, IsBatch, AreLines, joined, front_in};
+ghost use Rattle.peer_links.specs.Outboxes.{Puts, Batches, BeginsWith, TakesOldest, IsEmpty, front_in};
+ghost use Rattle.peer_links.specs.Sources.{AreLines, joined};
 
+use crate::source::{Batch, LineSource};
 use circular_buffer::HeapCircularBuffer;
 use rights_types::OutOfMemory;
 use std::alloc::{Allocator, Global};
@@ -19,17 +22,6 @@ pub enum PutError {
     Ended,
     /// As many lines wait as may.
     Full,
-}
-
-/// What is to be written next.
-#[derive(Drop)]
-pub(crate) enum Batch<A: Allocator> {
-    /// Nothing: the outbox has ended, and no line waits.
-    Over,
-    /// The lines that were copied to the front of the room, so many bytes. They wait on.
-    Copied(usize),
-    /// The oldest line, which is larger than the room. It was taken.
-    Large(Vec<u8, A>),
 }
 
 /// The lines that wait, the oldest first, and whether more may come.
@@ -108,8 +100,7 @@ impl<A: Allocator> Queue<A> {
     fn copy_front(&self, room: &mut [u8]) -> usize
         ensures within { result ≤ length room.old }
         ensures same { length room.new ≡ length room.old }
-        ensures copied { take result room.new ≡ joined (front_in (length room.old) self.now.lines) }
-        ensures lines { AreLines (take result room.new) }
+        ensures copied { AreLines (front_in (length room.old) self.now.lines) (take result room.new) }
     {
         let mut filled = 0;
         let mut count = 0;
@@ -125,10 +116,9 @@ impl<A: Allocator> Queue<A> {
     }
 
     /// What is to be written next.
-    fn next_batch(&mut self, room: &mut [u8]) -> Batch<A>
+    fn batch(&mut self, room: &mut [u8]) -> Batch<A>
         ensures same { length room.new ≡ length room.old }
         ensures batch { Batches self.old result room.new self.new }
-        ensures lines { IsBatch result room.new }
     {
         let filled = self.copy_front(room);
         if filled > 0 {
@@ -151,6 +141,25 @@ impl<A: Allocator> Queue<A> {
         ensures { self.new ≡ record self.old { lines = [] } }
     {
         self.lines.clear();
+    }
+}
+
+impl<A: Allocator> LineSource for Queue<A> {
+    type Memory = A;
+
+    ghost waits = { BeginsWith };
+
+    ghost takes = { TakesOldest };
+
+    ghost is_over = { IsEmpty };
+
+    /// What is to be written next. It waits for nothing.
+    fn next_batch<R: Wait>(&mut self, _rt: &R, room: &mut [u8]) -> Batch<A> {
+        self.batch(room)
+    }
+
+    fn take_front<R: Wait>(&mut self, _rt: &R, count: usize) {
+        self.drop_front(count);
     }
 }
 
@@ -212,22 +221,29 @@ impl<A: Allocator> Outbox<A> {
         self.changed.notify_all();
     }
 
-    /// What is to be written next. It waits for a line.
-    pub(crate) fn next_batch<R: Wait>(&self, rt: &R, room: &mut [u8]) -> Batch<A>
-        ensures same { length room.new ≡ length room.old }
-        ensures lines { IsBatch result room.new }
-    {
-        self.ready(rt).next_batch(room)
-    }
-
-    /// Drops so many of the oldest lines, or all.
-    pub(crate) fn drop_front<R: Wait>(&self, rt: &R, count: usize) {
-        self.queue.lock(rt).drop_front(count);
-    }
-
     /// The queue, once a line waits or the outbox has ended.
     fn ready<'a, R: Wait>(&'a self, rt: &R) -> MutexGuard<'a, Queue<A>> {
         self.changed
             .wait_while(rt, self.queue.lock(rt), |queue| queue.is_idle())
+    }
+}
+
+/// The lines that wait, for the one thread that writes them. Others may put lines between its calls, so it
+/// is only said that lines are whole.
+impl<A: Allocator> LineSource for &Outbox<A> {
+    type Memory = A;
+
+    ghost waits = { λ _ lines. All IsLine lines };
+
+    ghost takes = { λ _ line _. IsLine line };
+
+    ghost is_over = { λ _. Unit {0} };
+
+    fn next_batch<R: Wait>(&mut self, rt: &R, room: &mut [u8]) -> Batch<A> {
+        LineSource::next_batch(&mut *self.ready(rt), rt, room)
+    }
+
+    fn take_front<R: Wait>(&mut self, rt: &R, count: usize) {
+        self.queue.lock(rt).take_front(rt, count);
     }
 }

@@ -1,17 +1,22 @@
 //! The lines that come from a peer.
-ghost use Rattle.std.specs.Prelude.{◌≡◌, ℕ, ◌+◌, ◌<◌, ◌≤◌, ◌++◌, false, List, length, take, OnOk, IfOk, IfErr, IsErrOf, MatchResult};
+ghost use Rattle.std.specs.Prelude.{◌≡◌, ℕ, ◌+◌, ◌<◌, ◌≤◌, ◌++◌, [], ◌∷◌, false, List, length, take, OnOk, IfOk, IfErr, IfSome, IsErrOf, MatchResult};
 ghost use Rattle.std.specs.Io.KnownBytes.{Consumes, Keeps, IsAtEnd, ReadConsumes};
 ghost use Rattle.std.specs.Io.{ReadsAtMost};
-ghost use Rattle.line_streams.specs.Counting.{counts_for};
+ghost use Rattle.line_streams.specs.Counting.{counts_for, still};
 ghost use Rattle.peer_links.specs.Links.{IsFedAll, LinkGave, LinkEnds, IsOfIntake, MayFail};
+ghost use Rattle.peer_links.specs.Lines.{IsPiece};
+ghost use Rattle.sub_buffer.specs.Buffers.{SamePair};
+ghost use Rattle.peer_links.specs.Ports.{Heard, AcceptsPeer};
+ghost use Rattle.peer_links.specs.Turns.{InTurn};
+ghost use Rattle.peer_links.specs.Takes.{TakesInput, TakesLine, TakesPiece, AsksGap, HearsMessage, message_in, asks_again};
 ghost use Rattle.peer_links.specs.declared.link.LinkFault.{LinkFault};
 
 use crate::lines::{Piece, next_piece};
-use crate::link::{LinkFault, Port, is_interrupted};
+use crate::link::{DeskMessage, LinkFault, Port, is_interrupted};
 use entry_codec::LineCutter;
 use line_streams::LINE_LIMIT;
 use link_intake::{Arrived, Intake, IntakeError};
-use rights_types::Message;
+use rights_types::OutOfMemory;
 use site_core::InboundError;
 use std::alloc::Global;
 use std::io::Read;
@@ -21,7 +26,8 @@ use std::sync::Wait;
 const READ_SIZE: usize = 16_384;
 
 /// Takes in the lines of a connection to its end, behind its first one. An unfinished last line is
-/// dropped. The intake is not finished, and no line waits in the cutter.
+/// dropped. The intake is not finished, no line waits in the cutter, and the port accepts what the intake's
+/// origin may send to its site.
 pub fn read_link<R: Wait, I: Read, P: Port>(
     rt: &R,
     reader: &mut I,
@@ -31,10 +37,14 @@ pub fn read_link<R: Wait, I: Read, P: Port>(
 ) -> Result<(), LinkFault>
     requires cutter { (stream : List ℕ) × IsFedAll cutter.old stream }
     requires unfinished { intake.old.finished ≡ false }
-    ensures gave { (gave : LinkGave (I.remaining reader.old) (I.remaining reader.new)) × LinkEnds gave result }
+    requires accepts { AcceptsPeer P.accepts intake.old.inbound.buffer }
+    ensures gave { (gave : LinkGave (I.remaining reader.old) (I.remaining reader.new)) × LinkEnds gave result
+        × TakesInput P.hears (still gave.portions) cutter.old gave.input
+        intake.old port.old result intake.new port.new }
     ensures all { OnOk result (IsAtEnd (I.remaining reader.new)) }
     ensures unfinished { intake.new.finished ≡ false }
     ensures lane { intake.new.inlet.lane ≡ intake.old.inlet.lane }
+    ensures pair { SamePair intake.old.inbound.buffer intake.new.inbound.buffer }
 {
     let mut room = [0; READ_SIZE];
     let mut count = 0;
@@ -95,14 +105,18 @@ fn take_block<R: Wait, P: Port>(
     requires cutter { (stream : List ℕ) × IsFedAll cutter.old stream }
     requires few { count.old < LINE_LIMIT }
     requires unfinished { intake.old.finished ≡ false }
+    requires accepts { AcceptsPeer P.accepts intake.old.inbound.buffer }
     ensures fed { OnOk result ((stream : List ℕ) → IsFedAll cutter.old stream
         → IsFedAll cutter.new (stream ++ bytes.now)) }
     ensures few { OnOk result (count.new < LINE_LIMIT) }
     ensures counts { OnOk result (count.new ≡ count.old + counts_for bytes.now) }
     ensures many { IsErrOf result LinkFault.TooManyLines → LINE_LIMIT ≤ count.old + counts_for bytes.now }
     ensures may { IfErr result MayFail }
+    ensures takes { TakesInput P.hears (count.old + still (bytes.now ∷ [])) cutter.old bytes.now
+        intake.old port.old result intake.new port.new }
     ensures unfinished { intake.new.finished ≡ false }
     ensures lane { intake.new.inlet.lane ≡ intake.old.inlet.lane }
+    ensures pair { SamePair intake.old.inbound.buffer intake.new.inbound.buffer }
 {
     let mut at = 0;
     'pieces: while at < bytes.len() {
@@ -124,10 +138,14 @@ fn take_piece<R: Wait, P: Port>(
     intake: &mut Intake,
     port: &mut P,
 ) -> Result<(), LinkFault>
-    requires { intake.old.finished ≡ false }
+    requires unfinished { intake.old.finished ≡ false }
+    requires accepts { AcceptsPeer P.accepts intake.old.inbound.buffer }
     ensures may { IfErr result IsOfIntake }
+    ensures takes { (text : List ℕ) → IsPiece piece.entry text → (heard : List Heard)
+        × TakesPiece intake.old text result heard intake.new × InTurn P.hears port.old heard port.new }
     ensures unfinished { intake.new.finished ≡ false }
     ensures lane { intake.new.inlet.lane ≡ intake.old.inlet.lane }
+    ensures pair { SamePair intake.old.inbound.buffer intake.new.inbound.buffer }
 {
     let taken = match piece {
         Piece::Lent(line) => take_line(rt, line, intake, port),
@@ -145,10 +163,14 @@ fn take_line<R: Wait, P: Port>(
     intake: &mut Intake,
     port: &mut P,
 ) -> Result<(), LinkFault>
-    requires { intake.old.finished ≡ false }
+    requires unfinished { intake.old.finished ≡ false }
+    requires accepts { AcceptsPeer P.accepts intake.old.inbound.buffer }
     ensures may { IfErr result IsOfIntake }
+    ensures takes { (heard : List Heard)
+        × TakesLine intake.old line.now result heard intake.new × InTurn P.hears port.old heard port.new }
     ensures unfinished { intake.new.finished ≡ false }
     ensures lane { intake.new.inlet.lane ≡ intake.old.inlet.lane }
+    ensures pair { SamePair intake.old.inbound.buffer intake.new.inbound.buffer }
 {
     let arrived = match intake.on_line(rt, line) {
         Ok(arrived) => arrived,
@@ -156,13 +178,43 @@ fn take_line<R: Wait, P: Port>(
         Err(IntakeError::Inbound(_)) => return Ok(()),
         Err(IntakeError::LaneClosed) => return Err(LinkFault::LaneClosed),
     };
+    hand_over(rt, arrived, port)?;
+    ask_for_gap(rt, is_beat(&arrived), intake, port)?;
+    Ok(())
+}
+
+/// Whether a beat came, by which the gap is asked for again.
+fn is_beat(arrived: &Arrived) -> bool
+    ensures { result ≡ asks_again arrived.now }
+{
+    *arrived == Arrived::Beat
+}
+
+/// Hands over what a line says to the desk, if it says anything.
+fn hand_over<R: Wait, P: Port>(rt: &R, arrived: Arrived, port: &mut P) -> Result<(), OutOfMemory>
+    requires { IfSome (message_in arrived) P.accepts }
+    ensures { HearsMessage P.hears port.old (message_in arrived) result port.new }
+{
     match arrived {
-        Arrived::Query(query) => port.message(rt, Message::Query(query))?,
-        Arrived::Ask(ask) => port.message(rt, Message::Ask(ask))?,
-        Arrived::Deny(deny) => port.message(rt, Message::Deny(deny))?,
-        Arrived::Entries(_) | Arrived::Beat | Arrived::Hello => {}
+        Arrived::Query(query) => port.message(rt, DeskMessage::Query(query)),
+        Arrived::Ask(ask) => port.message(rt, DeskMessage::Ask(ask)),
+        Arrived::Deny(deny) => port.message(rt, DeskMessage::Deny(deny)),
+        Arrived::Entries(_) | Arrived::Beat | Arrived::Hello => Ok(()),
     }
-    if let Some(query) = intake.query_line(arrived == Arrived::Beat)? {
+}
+
+/// Asks for the entries that are missing: always with `again`, else where they are not those that were asked
+/// for last.
+fn ask_for_gap<R: Wait, P: Port>(
+    rt: &R,
+    again: bool,
+    intake: &mut Intake,
+    port: &mut P,
+) -> Result<(), OutOfMemory>
+    ensures { (heard : List Heard)
+        × AsksGap intake.old again result heard intake.new × InTurn P.hears port.old heard port.new }
+{
+    if let Some(query) = intake.query_line(again)? {
         port.line(rt, query);
     }
     Ok(())

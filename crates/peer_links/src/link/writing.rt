@@ -1,58 +1,67 @@
 //! The lines that go to a peer.
-ghost use Rattle.std.specs.Prelude.{◌≡◌, ℕ, ◌+◌, ◌≤◌, List, length, take, nat_lt, if◌then◌else◌, OnOk, IfErr};
+ghost use Rattle.std.specs.Prelude.{◌≡◌, ℕ, ◌+◌, ◌≤◌, List, [], ◌∷◌, length, take, nat_lt, if◌then◌else◌, OnOk};
 ghost use Rattle.std.specs.Io.KnownBytes.{Appends};
-ghost use Rattle.entry_codec.specs.Pieces.{pieces};
-ghost use Rattle.line_streams.specs.Fronts.{AppendsFront};
-ghost use Rattle.peer_links.specs.Outboxes.{AreLines};
-ghost use Rattle.peer_links.specs.declared.link.LinkFault.{LinkFault};
+ghost use Rattle.entry_codec.specs.Pieces.{pieces, IsLine};
+ghost use Rattle.peer_links.specs.Sources.{AreLines, SendsLines, WritesLines};
 
 use crate::lines::LINE_END;
 use crate::link::{LinkFault, is_interrupted};
-use crate::outbox::{Batch, Outbox};
+use crate::source::{Batch, LineSource};
 use memchr::memchr;
-use std::alloc::Allocator;
 use std::io::Write;
 use std::sync::Wait;
 
 /// So many bytes of lines that wait go into one write, at most.
 const ROOM: usize = 32_768;
 
-/// Writes the lines of the outbox as they come, until it has ended and none waits. Lines that wait
-/// together go into one write. Where a write fails, the line that it began with is lost or torn, and is
-/// never written again; those behind it wait for the next connection. It takes no memory.
-pub fn write_link<R: Wait, W: Write, A: Allocator>(
+/// Writes the lines of the source as they come, in order and each once, until it has ended and none waits.
+/// Lines that wait together go into one write. Where a write fails, the line that it was to go on with is
+/// lost or torn, and counts as taken; those behind it wait for the next connection. It takes no memory.
+pub fn write_link<R: Wait, W: Write, S: LineSource>(
     rt: &R,
     writer: &mut W,
-    outbox: &Outbox<A>,
+    source: &mut S,
 ) -> Result<(), LinkFault>
-    // What was written is whole lines,
-    ensures whole { OnOk result ((text : List ℕ) × AreLines text
-        × Appends (W.contents writer.old) (W.contents writer.new) text) }
-    // of which the last may be cut where a write failed.
-    ensures front { (text : List ℕ) × AreLines text
-        × AppendsFront (W.contents writer.old) (W.contents writer.new) text }
-    ensures failed { IfErr result (λ fault. fault ≡ LinkFault.WriteFailed) }
+    ensures sends { SendsLines S.takes source.old source.new (W.contents writer.old) (W.contents writer.new) result }
+    ensures over { OnOk result (S.is_over source.new) }
 {
     let mut room = [0; ROOM];
     'batches: for _ in rt.forever() {
-        match outbox.next_batch(rt, &mut room) {
+        match source.next_batch(rt, &mut room) {
             Batch::Over => return Ok(()),
-            Batch::Copied(length) => {
-                let lines = &room[..length];
-                let written = write_front(rt, writer, lines);
-                outbox.drop_front(rt, begun(lines, written));
-                if written < length {
-                    return Err(LinkFault::WriteFailed);
-                }
-            }
-            Batch::Large(line) => {
-                if write_front(rt, writer, &line) < line.len() {
-                    return Err(LinkFault::WriteFailed);
-                }
-            }
+            Batch::Copied(length) => write_copied(rt, writer, source, &room[..length])?,
+            Batch::Large(line) => write_line(rt, writer, &line)?,
         }
     }
     unreachable!()
+}
+
+/// Writes lines that wait at the front of the source, and takes those that were begun.
+fn write_copied<R: Wait, W: Write, S: LineSource>(
+    rt: &R,
+    writer: &mut W,
+    source: &mut S,
+    text: &[u8],
+) -> Result<(), LinkFault>
+    requires { (lines : List (List ℕ)) × S.waits source.old lines × AreLines lines text.now }
+    ensures { SendsLines S.takes source.old source.new (W.contents writer.old) (W.contents writer.new) result }
+{
+    let written = write_front(rt, writer, text);
+    source.take_front(rt, begun(text, written));
+    if written < text.len() {
+        return Err(LinkFault::WriteFailed);
+    }
+    Ok(())
+}
+
+/// Writes one line.
+fn write_line<R: Wait, W: Write>(rt: &R, writer: &mut W, line: &[u8]) -> Result<(), LinkFault>
+    ensures { WritesLines (W.contents writer.old) (W.contents writer.new) (line.now ∷ []) result }
+{
+    if write_front(rt, writer, line) < line.len() {
+        return Err(LinkFault::WriteFailed);
+    }
+    Ok(())
 }
 
 /// Writes the text, in as many writes as it takes, and answers how much of it was written when a write

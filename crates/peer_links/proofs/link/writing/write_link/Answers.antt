@@ -1,38 +1,32 @@
-use Rattle.std.proofs.Common.{ℕ, ◌≤◌, List, length, take, sym, subst, ◌∙◌, arith, length-take}
-use Rattle.entry_codec.specs.Pieces.{IsLine}
-use Rattle.peer_links.proofs.LineLaws.{line_alone, wrote_all, wrote_front, wrote_none}
+use Rattle.std.proofs.Common.{Ok, Err, ◌∙◌}
+use Rattle.std.proofs.lemmas.Result.{err_from_is_err_and}
+use Rattle.peer_links.proofs.WriteLaws.{sends_copied, sends_large}
 use Rattle.peer_links.proofs.link.writing.write_link.Goals as goal
 
-short : (n : ℕ) (xs : List ℕ) → length (take n xs) ≤ n
-short n xs = simp length-take (omega arith)
+pub batches-preserved-in-Continue-1 : goal.batches-preserved-in-Continue-1
+batches-preserved-in-Continue-1 g c =
+    let sent = sends_copied g.S.LineSource.takes c.args.source.now c.batches.source c.next_batch.new.self c.write_copied.new.source
+    (g.W.Write.contents c.args.writer.now) (g.W.Write.contents c.batches.writer) (g.W.Write.contents c.write_copied.new.writer) (Ok tt) c.batches.invariant.3 c.in-Copied.ensures.batch.2 c.in_ok-write_copied-in-Copied.ensures in
+    (tt, tt, c.next_batch.ensures.same ∙ c.batches.invariant.2, sent)
 
-pub returns-in-Over-clause-front : goal.returns-in-Over-clause-front
-returns-in-Over-clause-front g c =
-    let wrote = c.batches.invariant.3 in
-    wrote_none _ _ wrote.0 wrote.1 wrote.2
+pub returns-in_err-write_copied-in-Copied-clause-sends : goal.returns-in_err-write_copied-in-Copied-clause-sends
+returns-in_err-write_copied-in-Copied-clause-sends g c =
+    let p = err_from_is_err_and c.from_residual.result c.from_residual.ensures.1 in
+    rw (p.1, p.2)
+    (sends_copied g.S.LineSource.takes c.args.source.now c.batches.source c.next_batch.new.self c.write_copied.new.source
+    (g.W.Write.contents c.args.writer.now) (g.W.Write.contents c.batches.writer) (g.W.Write.contents c.write_copied.new.writer) (Err c.in_err-write_copied-in-Copied.field-0.0) c.batches.invariant.3 c.in-Copied.ensures.batch.2 c.in_err-write_copied-in-Copied.ensures)
 
-pub returns-then-written-length-clause-front : goal.returns-then-written-length-clause-front
-returns-then-written-length-clause-front g c =
-    let wrote = c.batches.invariant.3 in
-    let more = c.write_front-written.ensures in
-    wrote_front _ _ _ wrote.0 _ c.write_front-written.result wrote.1 c.in-Copied.ensures.lines.2 wrote.2 more.within more.bytes
-
-pub batches-preserved-else-written-length : goal.batches-preserved-else-written-length
-batches-preserved-else-written-length g c =
-    let wrote = c.batches.invariant.3 in
-    let more = c.write_front-written.ensures in
-    let all : length (take c.in-Copied.length c.next_batch.new.room) ≤ c.write_front-written.result = omega (arith, c.if-written-length.false, short c.in-Copied.length c.next_batch.new.room) in
-    (tt, tt, c.next_batch.ensures.same ∙ c.batches.invariant.2, wrote_all _ _ _ wrote.0 (take c.in-Copied.length c.next_batch.new.room) c.write_front-written.result wrote.1 c.in-Copied.ensures.lines.2 wrote.2 all more.bytes)
-
-pub returns-then-write_front-len-clause-front : goal.returns-then-write_front-len-clause-front
-returns-then-write_front-len-clause-front g c =
-    let wrote = c.batches.invariant.3 in
-    let line = line_alone c.deref.result.now (subst IsLine (sym c.deref.ensures.value) c.in-Large.ensures.lines) in
-    wrote_front _ _ _ wrote.0 c.deref.result.now c.write_front.result wrote.1 line wrote.2 c.write_front.ensures.within c.write_front.ensures.bytes
+pub returns-in_err-write_line-in-Large-clause-sends : goal.returns-in_err-write_line-in-Large-clause-sends
+returns-in_err-write_line-in-Large-clause-sends g c =
+    let p = err_from_is_err_and c.from_residual-in_err-write_line-in-Large.result c.from_residual-in_err-write_line-in-Large.ensures.1 in
+    rw (p.1, p.2)
+    (sends_large g.S.LineSource.takes c.args.source.now c.batches.source c.next_batch.new.self
+    (g.W.Write.contents c.args.writer.now) (g.W.Write.contents c.batches.writer) (g.W.Write.contents c.write_line.new.writer)
+    c.in-Large.line.items c.deref.result.now (Err c.in_err-write_line-in-Large.field-0.0) c.batches.invariant.3 c.in-Large.ensures.batch.0 c.in-Large.ensures.batch.2 c.deref.ensures.value c.in_err-write_line-in-Large.ensures)
 
 pub batches-preserved : goal.batches-preserved
 batches-preserved g c =
-    let wrote = c.batches.invariant.3 in
-    let line = line_alone c.deref.result.now (subst IsLine (sym c.deref.ensures.value) c.in-Large.ensures.lines) in
-    let all : length c.deref.result.now ≤ c.write_front.result = omega (arith, c.if-write_front-len.false, c.len.ensures, c.deref.ensures.len) in
-    (tt, tt, c.next_batch.ensures.same ∙ c.batches.invariant.2, wrote_all _ _ _ wrote.0 c.deref.result.now c.write_front.result wrote.1 line wrote.2 all c.write_front.ensures.bytes)
+    let sent = sends_large g.S.LineSource.takes c.args.source.now c.batches.source c.next_batch.new.self
+    (g.W.Write.contents c.args.writer.now) (g.W.Write.contents c.batches.writer) (g.W.Write.contents c.write_line.new.writer)
+    c.in-Large.line.items c.deref.result.now (Ok tt) c.batches.invariant.3 c.in-Large.ensures.batch.0 c.in-Large.ensures.batch.2 c.deref.ensures.value c.in_ok-write_line-in-Large.ensures in
+    (tt, tt, c.next_batch.ensures.same ∙ c.batches.invariant.2, sent)

@@ -1,9 +1,9 @@
 use Rattle.std.proofs.Common.{◌≡◌, ℕ, ◌+◌, ◌<◌, ◌++◌, List, [], ◌∷◌, take, drop, length, sym, ap, subst, ◌∙◌, arith}
 use Rattle.std.specs.List.{All}
 use Rattle.entry_codec.specs.Pieces.{IsLine}
-use Rattle.peer_links.specs.Outboxes.{Waiting, joined, front_in}
-use Rattle.peer_links.proofs.LineLaws.{front_lines}
-use Rattle.peer_links.proofs.QueueLaws.{texts, next_line, no_line, copied_on, copied_all, copied_last}
+use Rattle.peer_links.specs.Outboxes.{Waiting, front_in}
+use Rattle.peer_links.specs.Sources.{joined}
+use Rattle.peer_links.proofs.QueueLaws.{texts, next_line, no_line, copied_on, copied_all, copied_last, all_front}
 use Rattle.peer_links.proofs.outbox.Queue.copy_front.Goals as goal
 
 pub lines-preserved : goal.lines-preserved
@@ -35,13 +35,9 @@ returns-then-len-room-clause-copied g c =
     let same : texts c.self.inside.lines.items ≡ lines = ap (λ (w : Waiting). w.lines) c.self.view_is in
     let next = next_line c.self.inside.lines.items c.lines.count c.in-Some.line.now c.in-Some.ensures in
     let cut = subst (λ (l : List (List ℕ)). drop c.lines.count l ≡ line ∷ drop (c.lines.count + 1) l) same next.1 in
-    subst (λ (n : ℕ). take c.lines.filled c.lines.room ≡ joined (front_in n lines)) inv.0
-    (copied_all (length c.lines.room) c.lines.filled c.lines.count lines (take c.lines.filled c.lines.room) inv.3 line cut (omega (arith, c.if-len-room.true, c.len.ensures, c.in-Some.line.now.ok.0)))
-
-pub returns-then-len-room-clause-lines : goal.returns-then-len-room-clause-lines
-returns-then-len-room-clause-lines g c =
-    let same : texts c.self.inside.lines.items ≡ c.args.self.now.lines = ap (λ (w : Waiting). w.lines) c.self.view_is in
-    front_lines (length c.args.room.now) c.args.self.now.lines _ (subst (All IsLine) same c.self.invariant.2) (returns-then-len-room-clause-copied g c)
+    let text = subst (λ (n : ℕ). take c.lines.filled c.lines.room ≡ joined (front_in n lines)) inv.0
+    (copied_all (length c.lines.room) c.lines.filled c.lines.count lines (take c.lines.filled c.lines.room) inv.3 line cut (omega (arith, c.if-len-room.true, c.len.ensures, c.in-Some.line.now.ok.0))) in
+    (all_front (length c.args.room.now) lines (subst (All IsLine) same c.self.invariant.2), text)
 
 pub returns-in_default-clause-copied : goal.returns-in_default-clause-copied
 returns-in_default-clause-copied g c =
@@ -49,10 +45,6 @@ returns-in_default-clause-copied g c =
     let lines = c.args.self.now.lines in
     let same : texts c.self.inside.lines.items ≡ lines = ap (λ (w : Waiting). w.lines) c.self.view_is in
     let none = subst (λ (l : List (List ℕ)). drop c.lines.count l ≡ []) same (no_line c.self.inside.lines.items c.lines.count c.in_default.ensures) in
-    subst (λ (n : ℕ). take c.lines.filled c.lines.room ≡ joined (front_in n lines)) inv.0
-    (copied_last (length c.lines.room) c.lines.filled c.lines.count lines (take c.lines.filled c.lines.room) inv.3 none)
-
-pub returns-in_default-clause-lines : goal.returns-in_default-clause-lines
-returns-in_default-clause-lines g c =
-    let same : texts c.self.inside.lines.items ≡ c.args.self.now.lines = ap (λ (w : Waiting). w.lines) c.self.view_is in
-    front_lines (length c.args.room.now) c.args.self.now.lines _ (subst (All IsLine) same c.self.invariant.2) (returns-in_default-clause-copied g c)
+    let text = subst (λ (n : ℕ). take c.lines.filled c.lines.room ≡ joined (front_in n lines)) inv.0
+    (copied_last (length c.lines.room) c.lines.filled c.lines.count lines (take c.lines.filled c.lines.room) inv.3 none) in
+    (all_front (length c.args.room.now) lines (subst (All IsLine) same c.self.invariant.2), text)

@@ -1,5 +1,6 @@
 use Rattle.std.proofs.Common.{◌≡◌, ◌≤◌, ◌-◌, ◌++◌, length, take, drop}
-use Rattle.peer_links.specs.Outboxes.{joined, front_in}
+use Rattle.peer_links.specs.Outboxes.{front_in}
+use Rattle.peer_links.specs.Sources.{joined}
 use Rattle.peer_links.proofs.outbox.Queue.copy_front.Given as goal
 
 -- the front of the lines is what was copied, and what of the others finds room

@@ -1,0 +1,161 @@
+-- What the lines of a connection come to, at the intake and at the port.
+use Rattle.std.specs.Prelude.{◌≡◌, ℕ, ◌+◌, ◌<◌, ◌≤◌, ◌⊎◌, Bool, true, false, List, [], ◌∷◌, ◌++◌, length, Option, Some, None, Result, Ok, Err, IsErr}
+use Rattle.rights_types.specs.Messages.{QueryValue}
+use Rattle.rights_types.specs.Messages.MessageValue.{AQuery}
+use Rattle.rights_types.specs.declared.limits.TheConstants.{MAX_LINE}
+use Rattle.rights_types.specs.declared.fault.OutOfMemory.{OutOfMemory}
+use Rattle.entry_codec.specs.Pieces.{pieces_after, unfinished}
+use Rattle.entry_codec.specs.Cutter.{CutterView}
+use Rattle.entry_codec.specs.Reading.{reading}
+use Rattle.entry_codec.specs.Spelling.{Spells}
+use Rattle.sub_buffer.specs.Gaps.{GapOf, StateOf}
+use Rattle.sub_buffer.specs.declared.buffer.State.{State}
+use Rattle.site_core.specs.Inbounds.{QueryOf}
+use Rattle.site_core.specs.declared.fault.InboundError.TheVariants.{OutOfMemory as LineWants}
+use Rattle.line_streams.specs.declared.limit.TheConstants.{LINE_LIMIT}
+use Rattle.link_intake.specs.Intakes.{IntakeValue, IntakeRefuses, LineLeaves}
+use Rattle.link_intake.specs.declared.intake.Arrived.{Arrived}
+use Rattle.link_intake.specs.declared.intake.Arrived.TheVariants.{Beat, Query as CameQuery, Ask as CameAsk, Deny as CameDenial}
+use Rattle.link_intake.specs.declared.intake.IntakeError.{IntakeError}
+use Rattle.link_intake.specs.declared.intake.IntakeError.TheVariants.{Inbound, LaneClosed as FoundClosed}
+use Rattle.peer_links.specs.Links.{IsFedAll}
+use Rattle.peer_links.specs.Turns.{InTurn}
+use Rattle.peer_links.specs.Ports.{Heard}
+use Rattle.peer_links.specs.Ports.Heard.{AMessage, ALine, AState}
+use Rattle.peer_links.specs.declared.link.DeskMessage.{DeskMessage}
+use Rattle.peer_links.specs.declared.link.DeskMessage.TheVariants.{Query, Ask, Deny}
+use Rattle.peer_links.specs.declared.link.LinkFault.{LinkFault}
+use Rattle.peer_links.specs.declared.link.LinkFault.TheVariants.{ReadFailed, TooManyLines, LaneClosed, OutOfMemory as NoMemory}
+
+-- the pieces that end in these bytes, which come behind this stream
+abbrev pub pieces_behind : List ℕ → List ℕ → List (List ℕ)
+pieces_behind stream bytes = pieces_after (unfinished stream) bytes
+
+-- ---- one line
+
+-- what a line says to the desk
+abbrev pub message_in : Arrived → Option DeskMessage
+message_in (CameQuery q) = Some (Query q)
+message_in (CameAsk a) = Some (Ask a)
+message_in (CameDenial d) = Some (Deny d)
+message_in arrived = None
+
+-- a beat has the gap asked for again
+abbrev pub asks_again : Arrived → Bool
+asks_again Beat = true
+asks_again arrived = false
+
+-- the port was told the message, if there is one
+abbrev pub HearsMessage : {S : Type 0} → (S → Heard → S → Type 0) → S → Option DeskMessage → Result (Unit {0}) OutOfMemory → S → Type 0
+HearsMessage hears old None told new = (told ≡ Ok tt) × (new ≡ old)
+HearsMessage hears old (Some m) told new = hears old (AMessage m told) new
+
+-- the line of the query, unless there is no memory for it
+abbrev pub HearsQuery : Option QueryValue → Result (Unit {0}) OutOfMemory → List Heard → Type 0
+HearsQuery None (Ok _) heard = heard ≡ []
+HearsQuery None (Err _) heard = ⊥
+HearsQuery (Some q) (Ok _) heard = (text : List ℕ) × Spells (AQuery q) text × (heard ≡ ALine text ∷ [])
+HearsQuery (Some q) (Err _) heard = heard ≡ []
+
+-- want of memory ends a connection
+abbrev pub as_fault : Result (Unit {0}) OutOfMemory → Result (Unit {0}) LinkFault
+as_fault (Ok x) = Ok x
+as_fault (Err _) = Err NoMemory
+
+module _ {A : Type 0} where
+  -- the gap is asked for, where there is one to ask for
+  pub record AsksGap (old : IntakeValue A) (again : Bool) (asked : Result (Unit {0}) OutOfMemory) (heard : List Heard) (new : IntakeValue A) : Type 0 where
+    pub query : Option QueryValue
+    pub asks : QueryOf old.inbound again query new.inbound
+    pub rest : new ≡ record old { inbound = new.inbound }
+    pub hears : HearsQuery query asked heard
+
+  -- the gap is asked for, unless there was no memory for the message
+  abbrev pub AsksThen : Result (Unit {0}) OutOfMemory → IntakeValue A → Bool → Result (Unit {0}) LinkFault → List Heard → IntakeValue A → Type 0
+  AsksThen (Ok _) old again result heard new =
+      (asked : Result (Unit {0}) OutOfMemory) × AsksGap old again asked heard new × (result ≡ as_fault asked)
+  AsksThen (Err _) old again result heard new = (result ≡ Err NoMemory) × (heard ≡ []) × (new ≡ old)
+
+  -- the desk gets the message, if there is one, and then the gap is asked for
+  abbrev pub HandsOver : IntakeValue A → Option DeskMessage → Bool → Result (Unit {0}) LinkFault → List Heard → IntakeValue A → Type 0
+  HandsOver old None again result heard new = AsksThen (Ok tt) old again result heard new
+  HandsOver old (Some m) again result heard new =
+      (told : Result (Unit {0}) OutOfMemory) × (rest : List Heard) × (heard ≡ AMessage m told ∷ rest) × AsksThen told old again result rest new
+
+  -- what follows what the intake answered; a line that is no line for it is skipped
+  abbrev pub Follows : IntakeValue A → Result Arrived IntakeError → Result (Unit {0}) LinkFault → List Heard → IntakeValue A → Type 0
+  Follows old (Ok arrived) result heard new = HandsOver old (message_in arrived) (asks_again arrived) result heard new
+  Follows old (Err (Inbound LineWants)) result heard new = (result ≡ Err NoMemory) × (heard ≡ []) × (new ≡ old)
+  Follows old (Err (Inbound fault)) result heard new = (result ≡ Ok tt) × (heard ≡ []) × (new ≡ old)
+  Follows old (Err FoundClosed) result heard new = (result ≡ Err LaneClosed) × (heard ≡ []) × (new ≡ old)
+
+  -- the intake was given the line, and the port was told what came of it
+  pub record TakesLine (old : IntakeValue A) (line : List ℕ) (result : Result (Unit {0}) LinkFault) (heard : List Heard) (new : IntakeValue A) : Type 0 where
+    pub came : Result Arrived IntakeError
+    pub mid : IntakeValue A
+    pub refused : IntakeRefuses old.inbound (reading line) came
+    pub leaves : LineLeaves old (reading line) came mid
+    pub dead : old.inlet.dead ≡ true → IsErr came × (mid.inlet ≡ old.inlet)
+    pub follows : Follows mid came result heard new
+
+  -- ---- one piece
+
+  -- a piece that is too long for a line is skipped
+  abbrev pub TakesOrSkips : IntakeValue A → List ℕ → Result (Unit {0}) LinkFault → List Heard → IntakeValue A → Type 0
+  TakesOrSkips old piece result heard new =
+      ((length piece ≤ MAX_LINE) × TakesLine old piece result heard new)
+      ⊎ ((MAX_LINE < length piece) × (result ≡ Ok tt) × (heard ≡ []) × (new ≡ old))
+
+  -- whether entries are missing, and how many are held
+  abbrev pub Shows : IntakeValue A → Heard → Type 0
+  Shows i heard = (gap : Option QueryValue) × (state : State) × GapOf i.inbound.buffer gap × StateOf gap state
+      × (heard ≡ AState state (length i.inbound.buffer.held))
+
+  -- the piece was taken, and then the port was told how the intake stands
+  pub record TakesPiece (old : IntakeValue A) (piece : List ℕ) (result : Result (Unit {0}) LinkFault) (heard : List Heard) (new : IntakeValue A) : Type 0 where
+    pub told : List Heard
+    pub shown : Heard
+    pub takes : TakesOrSkips old piece result told new
+    pub shows : Shows new shown
+    pub whole : heard ≡ told ++ shown ∷ []
+
+  -- ---- many
+
+  -- these were taken in order
+  abbrev pub Takes : IntakeValue A → List (List ℕ) → List Heard → IntakeValue A → Type 0
+  Takes old [] heard new = (heard ≡ []) × (new ≡ old)
+  Takes old (piece ∷ pieces) heard new =
+      (mid : IntakeValue A) × (first : List Heard) × (rest : List Heard)
+      × TakesPiece old piece (Ok tt) first mid × Takes mid pieces rest new × (heard ≡ first ++ rest)
+
+  -- these were taken in order, and the last of them failed
+  pub record Breaks (old : IntakeValue A) (pieces : List (List ℕ)) (fault : LinkFault) (heard : List Heard) (new : IntakeValue A) : Type 0 where
+    pub front : List (List ℕ)
+    pub last : List ℕ
+    pub cut : pieces ≡ front ++ last ∷ []
+    pub mid : IntakeValue A
+    pub first : List Heard
+    pub rest : List Heard
+    pub takes : Takes old front first mid
+    pub breaks : TakesPiece mid last (Err fault) rest new
+    pub whole : heard ≡ first ++ rest
+
+  -- .. before this fault; too many lines, by the number of these and what was counted besides
+  abbrev pub Stops : ℕ → IntakeValue A → List (List ℕ) → LinkFault → List Heard → IntakeValue A → Type 0
+  Stops besides old pieces TooManyLines heard new = Takes old pieces heard new × (besides + length pieces ≡ LINE_LIMIT)
+  Stops besides old pieces LaneClosed heard new = Breaks old pieces LaneClosed heard new
+  Stops besides old pieces NoMemory heard new = Takes old pieces heard new ⊎ Breaks old pieces NoMemory heard new
+  Stops besides old pieces fault heard new = ⊥
+
+  -- all of these were taken, or a front of them before a fault
+  abbrev pub TakesTo : ℕ → IntakeValue A → List (List ℕ) → Result (Unit {0}) LinkFault → List Heard → IntakeValue A → Type 0
+  TakesTo besides old pieces (Ok _) heard new = Takes old pieces heard new
+  TakesTo besides old pieces (Err ReadFailed) heard new = Takes old pieces heard new
+  TakesTo besides old pieces (Err fault) heard new =
+      (front : List (List ℕ)) × (rest : List (List ℕ)) × (front ++ rest ≡ pieces) × Stops besides old front fault heard new
+
+-- the pieces of this input, behind all that the cutter was fed, were taken, and the port heard what they say
+abbrev pub TakesInput : {A S : Type 0} → (S → Heard → S → Type 0) → ℕ → CutterView → List ℕ → IntakeValue A → S → Result (Unit {0}) LinkFault → IntakeValue A → S → Type 0
+TakesInput hears besides cutter input old before result new after =
+    (stream : List ℕ) → IsFedAll cutter stream
+    → (heard : List Heard) × TakesTo besides old (pieces_behind stream input) result heard new × InTurn hears before heard after
