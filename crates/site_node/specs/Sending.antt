@@ -1,0 +1,126 @@
+-- What a tick sends to a peer: the entries that were not published to it, an ask, and a beat.
+use Rattle.std.specs.Prelude.{◌≡◌, ◌≢◌, ℕ, ◌+◌, suc, zero, ◌⊎◌, Bool, true, false, List, [], ◌∷◌, ◌++◌, map, Option, Some, None}
+use Rattle.std.specs.Option.{option_map}
+use Rattle.std.specs.declared.vec.Vec.{Vec}
+use Rattle.rights_types.specs.Messages.{MessageValue}
+use Rattle.rights_types.specs.Messages.MessageValue.{AnAsk}
+use Rattle.entry_codec.specs.Spelling.{Spells}
+use Rattle.transfer_manager.specs.Managers.{outstanding_ask}
+use Rattle.site_core.specs.Desks.{DeskValue}
+use Rattle.site_core.specs.Calls.{next_push, after_publish, after_skip, beat_of}
+use Rattle.apply_lanes.specs.Kepts.{KeptValue}
+
+-- the ask that is outstanding to that peer, as a message
+abbrev pub due_ask : DeskValue → ℕ → Option MessageValue
+due_ask d peer = option_map (λ ask. AnAsk ask) (outstanding_ask d.manager peer)
+
+-- the next entry that was not published to the peer, as a message
+abbrev pub next_entry : KeptValue → ℕ → Option MessageValue
+next_entry k peer = next_push k.desk.ledger.log peer
+
+-- of one line, how many found room
+abbrev pub count_of : Bool → ℕ
+count_of true = 1
+count_of false = 0
+
+-- the texts of lines that are kept
+abbrev pub texts : {Z : Type 0} → List (Vec ℕ Z) → List (List ℕ)
+texts lines = map (λ (line : Vec ℕ _). line.items) lines
+
+-- a sink that keeps the lines that find room, in order
+abbrev pub Collects : List (List ℕ) → List ℕ → Bool → List (List ℕ) → Type 0
+Collects before line true after = after ≡ before ++ line ∷ []
+Collects before line false after = after ≡ before
+
+-- Of a sink with this relation: from the sink before, a line, and whether that found room, to the sink behind.
+module _ {S : Type 0} (takes : S → List ℕ → Bool → S → Type 0) where
+  -- this line was offered; so many lines found room, one or none
+  pub record OffersLine (line : List ℕ) (before : S) (sent : ℕ) (after : S) : Type 0 where
+    pub room : Bool
+    pub taken : takes before line room after
+    pub counted : sent ≡ count_of room
+
+  -- the line of this message was
+  pub record Offers (message : MessageValue) (before : S) (sent : ℕ) (after : S) : Type 0 where
+    pub line : List ℕ
+    pub spells : Spells message line
+    pub offered : OffersLine line before sent after
+
+  -- .. where there is a message
+  abbrev pub OffersIf : Option MessageValue → S → ℕ → S → Type 0
+  OffersIf None before sent after = (sent ≡ 0) × (after ≡ before)
+  OffersIf (Some message) before sent after = Offers message before sent after
+
+  -- ---- entries
+
+  -- the next entry for the peer was published, and its line offered
+  pub record OffersNext (old : KeptValue) (peer : ℕ) (before : S) (sent : ℕ) (new : KeptValue) (after : S) : Type 0 where
+    pub message : MessageValue
+    pub next : next_entry old peer ≡ Some message
+    pub offers : Offers message before sent after
+    pub desk : new ≡ record old { desk = after_publish old.desk peer }
+
+  -- so many entries were, one after another, and the line of each found room
+  abbrev pub SendsMany : KeptValue → ℕ → S → ℕ → KeptValue → S → Type 0
+  SendsMany old peer before zero new after = (new ≡ old) × (after ≡ before)
+  SendsMany old peer before (suc n) new after =
+      (mid : KeptValue) × (between : S) × SendsMany old peer before n mid between × OffersNext mid peer between 1 new after
+
+  -- none is left
+  pub record NoneLeft (old : KeptValue) (peer : ℕ) (before : S) (new : KeptValue) (after : S) : Type 0 where
+    pub none : next_entry old peer ≡ None
+    pub same_desk : new ≡ old
+    pub same_sink : after ≡ before
+
+  -- the line of the next one found no room, and all that are left count as published, with no line offered
+  pub record SkipsRest (old : KeptValue) (peer : ℕ) (before : S) (new : KeptValue) (after : S) : Type 0 where
+    pub lost : KeptValue
+    pub next : OffersNext old peer before 0 lost after
+    pub skipped : new ≡ record lost { desk = after_skip lost.desk peer }
+
+  -- so many lines of entries found room; then none was left, or the next one found none
+  pub record OffersEntries (old : KeptValue) (peer : ℕ) (before : S) (sent : ℕ) (new : KeptValue) (after : S) : Type 0 where
+    pub mid : KeptValue
+    pub between : S
+    pub many : SendsMany old peer before sent mid between
+    pub rest : NoneLeft mid peer between new after ⊎ SkipsRest mid peer between new after
+
+  -- ---- all that is due
+
+  -- first the entries were offered, then the ask, and then the beat; so many lines found room
+  pub record OffersDue (old : KeptValue) (peer : ℕ) (before : S) (sent : ℕ) (new : KeptValue) (after : S) : Type 0 where
+    pub sent_entries : ℕ
+    pub with_entries : S
+    pub sent_ask : ℕ
+    pub with_ask : S
+    pub sent_beat : ℕ
+    pub entries : OffersEntries old peer before sent_entries new with_entries
+    pub ask : OffersIf (due_ask new.desk peer) with_entries sent_ask with_ask
+    pub beat : Offers (beat_of new.desk.ledger.log) with_ask sent_beat after
+    pub all_sent : sent ≡ sent_entries + sent_ask + sent_beat
+
+  -- ---- what was offered before memory was wanted that there was not: a front of what is due
+
+  -- some of the entries; the next one is not published
+  pub record StopsAtEntry (old : KeptValue) (peer : ℕ) (before : S) (new : KeptValue) (after : S) : Type 0 where
+    pub sent : ℕ
+    pub many : SendsMany old peer before sent new after
+    pub left : next_entry new peer ≢ None
+
+  -- the entries, and not the ask
+  pub record StopsAtAsk (old : KeptValue) (peer : ℕ) (before : S) (new : KeptValue) (after : S) : Type 0 where
+    pub sent : ℕ
+    pub entries : OffersEntries old peer before sent new after
+    pub ask : due_ask new.desk peer ≢ None
+
+  -- the entries and the ask, and not the beat
+  pub record StopsAtBeat (old : KeptValue) (peer : ℕ) (before : S) (new : KeptValue) (after : S) : Type 0 where
+    pub sent_entries : ℕ
+    pub with_entries : S
+    pub sent_ask : ℕ
+    pub entries : OffersEntries old peer before sent_entries new with_entries
+    pub ask : OffersIf (due_ask new.desk peer) with_entries sent_ask after
+
+  abbrev pub StopsShort : KeptValue → ℕ → S → KeptValue → S → Type 0
+  StopsShort old peer before new after =
+      StopsAtEntry old peer before new after ⊎ (StopsAtAsk old peer before new after ⊎ StopsAtBeat old peer before new after)

@@ -1,0 +1,54 @@
+-- What a client was told, over all that it said, and what its seat counts.
+use Rattle.std.specs.Prelude.{◌≡◌, ℕ, ◌+◌, List, [], ◌∷◌, sum_by, Result}
+use Rattle.request_queue.specs.declared.request.Request.{Request}
+use Rattle.request_queue.specs.Queues.{total_of}
+use Rattle.site_core.specs.declared.desk.requests.Spending.TheVariants.{Spent}
+use Rattle.site_core.specs.declared.fault.DeskError.{DeskError}
+use Rattle.apply_lanes.specs.Kepts.{KeptValue, SeatValue}
+use Rattle.site_words.specs.declared.commands.DeskCommand.{DeskCommand}
+use Rattle.site_words.specs.declared.commands.DeskCommand.TheVariants.{Issue, Spend}
+use Rattle.site_node.specs.declared.reply.Reply.{Reply}
+use Rattle.site_node.specs.declared.reply.Reply.TheVariants.{Number, Spending}
+use Rattle.site_node.specs.declared.tick.Ticked.{Ticked}
+use Rattle.site_node.specs.Acting.{Acts}
+use Rattle.site_node.specs.Ticking.{Ticks}
+
+-- a turn of a client: a command and its reply, or a tick at a time, with the requests that it served and what is told of it
+pub data Turn : Type 0 where
+  ACommand : DeskCommand → Reply → Turn
+  ATick : ℕ → List Request → Result Ticked DeskError → Turn
+
+-- the rights that were told as issued: those of an `issue` that was answered by a number
+abbrev pub told_as_issued : DeskCommand → Reply → ℕ
+told_as_issued (Issue amount) (Number number) = amount
+told_as_issued command reply = 0
+
+abbrev pub issued_in : Turn → ℕ
+issued_in (ACommand command reply) = told_as_issued command reply
+issued_in (ATick time served ticked) = 0
+
+-- the rights that were told as spent: those of a `spend` that was answered by `spent`, and of the requests that a tick served
+abbrev pub told_as_spent : DeskCommand → Reply → ℕ
+told_as_spent (Spend amount deadline) (Spending (Spent number)) = amount
+told_as_spent command reply = 0
+
+abbrev pub spent_in : Turn → ℕ
+spent_in (ACommand command reply) = told_as_spent command reply
+spent_in (ATick time served ticked) = total_of served
+
+-- the turn leads from one value of the seat to another, whatever the desk is: other clients and peers change it between
+-- any two turns
+abbrev pub HasTurn : SeatValue → Turn → SeatValue → Type 0
+HasTurn was (ACommand command reply) told = (old : KeptValue) × (new : KeptValue) × Acts old was command reply new told
+HasTurn was (ATick time served ticked) told =
+    (old : KeptValue) × (new : KeptValue) × Ticks old was time served ticked new told
+
+-- all turns of a client, one after another
+abbrev pub HasTurns : SeatValue → List Turn → SeatValue → Type 0
+HasTurns was [] told = told ≡ was
+HasTurns was (turn ∷ turns) told = (half : SeatValue) × HasTurn was turn half × HasTurns half turns told
+
+-- what the seat counts more is what the client was told
+pub record CountsTold (was : SeatValue) (turns : List Turn) (told : SeatValue) : Type 0 where
+  pub issued : told.issued ≡ was.issued + sum_by issued_in turns
+  pub spent : told.spent + told.served ≡ was.spent + was.served + sum_by spent_in turns

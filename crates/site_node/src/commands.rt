@@ -1,0 +1,63 @@
+//! The commands that the desk carries out alone.
+ghost use Rattle.apply_lanes.specs.Kepts.{SeatValue};
+ghost use Rattle.site_node.specs.Acting.{Acts, ActsIssue, ActsGive, ActsSpend, ActsOutcome, ActsClose};
+
+use crate::reply::Reply;
+use apply_lanes::{DeskNames, Kept, Seat};
+use rights_types::SiteId;
+use site_words::DeskCommand;
+
+/// Carries out a command at the desk, for this seat, and answers the reply.
+pub fn act<D: DeskNames>(kept: &mut Kept<D>, seat: &mut Seat<D>, command: DeskCommand) -> Reply
+    ensures { Acts kept.old seat.old command result kept.new seat.new }
+{
+    match command {
+        DeskCommand::Issue(amount) => issue(kept, seat, amount),
+        DeskCommand::Give(peer, amount) => give(kept, peer, amount),
+        DeskCommand::Spend(amount, deadline) => spend(kept, seat, amount, deadline),
+        DeskCommand::Outcome(ticket) => outcome(kept, ticket),
+        DeskCommand::Close(heir) => close(kept, heir),
+    }
+}
+
+fn issue<D: DeskNames>(kept: &mut Kept<D>, seat: &mut Seat<D>, amount: u64) -> Reply
+    ensures { ActsIssue kept.old seat.old amount result kept.new seat.new }
+{
+    match kept.issue(seat, amount) {
+        Ok(number) => Reply::Number(number),
+        Err(cause) => Reply::Refused(cause),
+    }
+}
+
+fn give<D: DeskNames>(kept: &mut Kept<D>, peer: SiteId, amount: u64) -> Reply
+    ensures { (seat : SeatValue) → ActsGive kept.old seat peer amount result kept.new seat }
+{
+    match kept.give_back(peer, amount) {
+        Ok(number) => Reply::Number(number),
+        Err(cause) => Reply::Refused(cause),
+    }
+}
+
+fn spend<D: DeskNames>(kept: &mut Kept<D>, seat: &mut Seat<D>, amount: u64, deadline: u64) -> Reply
+    ensures { ActsSpend kept.old seat.old amount deadline result kept.new seat.new }
+{
+    match kept.spend(seat, amount, deadline) {
+        Ok(spending) => Reply::Spending(spending),
+        Err(cause) => Reply::Refused(cause),
+    }
+}
+
+fn outcome<D: DeskNames>(kept: &mut Kept<D>, ticket: u64) -> Reply
+    ensures { (seat : SeatValue) → ActsOutcome kept.old seat ticket result kept.new seat }
+{
+    Reply::Outcome(kept.status(ticket))
+}
+
+fn close<D: DeskNames>(kept: &mut Kept<D>, heir: Option<SiteId>) -> Reply
+    ensures { (seat : SeatValue) → ActsClose kept.old seat heir result kept.new seat }
+{
+    match kept.close(heir) {
+        Ok(number) => Reply::Number(number),
+        Err(cause) => Reply::Refused(cause),
+    }
+}

@@ -1,0 +1,110 @@
+//! What a tick sends to a peer.
+ghost use Rattle.std.specs.Prelude.{◌≡◌, ◌≢◌, ℕ, ◌+◌, ◌≤◌, Bool, List, None, IfOk, OnErr};
+ghost use Rattle.rights_types.specs.declared.limits.TheConstants.{MAX_NUMBER};
+ghost use Rattle.entry_codec.specs.Pieces.{IsLine};
+ghost use Rattle.site_core.specs.Calls.{beat_of};
+ghost use Rattle.site_node.specs.Sending.{OffersLine, Offers, OffersIf, OffersEntries, OffersDue, StopsAtEntry, StopsShort, due_ask, Collects, texts};
+
+use apply_lanes::{DeskNames, Kept};
+use rights_types::{MAX_NUMBER, OutOfMemory, SiteId};
+
+/// Where the lines for one peer go, as its outbox.
+pub trait Sink {
+    /// From the sink before, a line, and whether the line found room, to the sink behind. An outbox whose lock hides
+    /// its lines has a relation that always holds: what is promised here is promised for every relation.
+    ghost takes: { Self → List ℕ → Bool → Self → Type 0 };
+
+    /// Offers a line. False where it found no room, and is lost.
+    fn offer(&mut self, line: Vec<u8>) -> bool
+        requires { IsLine line.items }
+        ensures { takes self.old line.items result self.new };
+}
+
+/// Keeps every line, as far as there is memory.
+impl Sink for Vec<Vec<u8>> {
+    ghost takes = { λ before line room after. Collects (texts before.items) line room (texts after.items) };
+
+    fn offer(&mut self, line: Vec<u8>) -> bool {
+        self.push(line).is_ok()
+    }
+}
+
+/// Offers all that is due to this peer: the line of each entry that was not published to it, of the ask that is
+/// outstanding to it, and of a beat. Answers how many lines found room. From the first entry that finds none on, entries
+/// count as published without a line, so this takes no longer than the lines that find room.
+pub fn send_due<D: DeskNames, S: Sink>(
+    kept: &mut Kept<D>,
+    peer: SiteId,
+    sink: &mut S,
+) -> Result<u64, OutOfMemory>
+    ensures ok { IfOk result (λ sent. OffersDue S.takes kept.old peer sink.old sent kept.new sink.new) }
+    ensures err { OnErr result (StopsShort S.takes kept.old peer sink.old kept.new sink.new) }
+    ensures range { IfOk result (λ sent. sent ≤ MAX_NUMBER + 2) }
+{
+    let entries = send_entries(kept, peer, sink)?;
+    let ask = send_ask(kept, peer, sink)?;
+    let beat = send_beat(kept, peer, sink)?;
+    Ok(entries + ask + beat)
+}
+
+/// Publishes the entries that were not published to the peer, and answers how many of their lines found room.
+fn send_entries<D: DeskNames, S: Sink>(
+    kept: &mut Kept<D>,
+    peer: SiteId,
+    sink: &mut S,
+) -> Result<u64, OutOfMemory>
+    ensures ok { IfOk result (λ sent. OffersEntries S.takes kept.old peer sink.old sent kept.new sink.new) }
+    ensures err { OnErr result (StopsAtEntry S.takes kept.old peer sink.old kept.new sink.new) }
+    ensures range { IfOk result (λ sent. sent ≤ MAX_NUMBER) }
+{
+    // For the proof: how long the log is, and how many cursors it has.
+    let _ = (kept.desk().log().len(), kept.desk().log().cursor(peer));
+    let _ = peer.number();
+    let mut sent = 0;
+    'entries: while let Some(line) = kept.publish(peer)? {
+        if offer(sink, line) == 0 {
+            kept.skip_unpublished(peer);
+            return Ok(sent);
+        }
+        sent += 1;
+    }
+    Ok(sent)
+}
+
+/// Offers the line of the ask that is outstanding, if one is.
+fn send_ask<D: DeskNames, S: Sink>(
+    kept: &Kept<D>,
+    peer: SiteId,
+    sink: &mut S,
+) -> Result<u64, OutOfMemory>
+    ensures ok { IfOk result (λ sent. OffersIf S.takes (due_ask kept.now.desk peer) sink.old sent sink.new) }
+    ensures err { OnErr result ((sink.new ≡ sink.old) × (due_ask kept.now.desk peer ≢ None)) }
+    ensures range { IfOk result (λ sent. sent ≤ 1) }
+{
+    match kept.ask_line(peer)? {
+        Some(line) => Ok(offer(sink, line)),
+        None => Ok(0),
+    }
+}
+
+fn send_beat<D: DeskNames, S: Sink>(
+    kept: &Kept<D>,
+    peer: SiteId,
+    sink: &mut S,
+) -> Result<u64, OutOfMemory>
+    ensures ok { IfOk result (λ sent. Offers S.takes (beat_of kept.now.desk.ledger.log) sink.old sent sink.new) }
+    ensures err { OnErr result (sink.new ≡ sink.old) }
+    ensures range { IfOk result (λ sent. sent ≤ 1) }
+{
+    let line = kept.beat_line(peer)?;
+    Ok(offer(sink, line))
+}
+
+/// Offers a line. 1 where it found room, else 0.
+pub(crate) fn offer<S: Sink>(sink: &mut S, line: Vec<u8>) -> u64
+    requires { IsLine line.items }
+    ensures offered { OffersLine S.takes line.items sink.old result sink.new }
+    ensures range { result ≤ 1 }
+{
+    sink.offer(line) as u64
+}
