@@ -1,1 +1,4 @@
-mod SentLines
+mod HearLaws
+mod LineLaws
+mod SendLaws
+mod ToldLaws

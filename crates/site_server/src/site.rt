@@ -5,13 +5,16 @@ ghost use Rattle.std.specs.Prelude.{◌≡◌};
 ghost use Rattle.apply_lanes.specs.Names.{id_of, AreBlank, IsUnused};
 
 mod console;
+mod outboxes;
 mod receiving;
 
 use crate::site::console::Console;
+use crate::site::outboxes::Outboxes;
 use crate::site::receiving::{Link, links_of};
 use apply_lanes::{Blanks, DeskNames, SharedDesk};
-use rights_types::OutOfMemory;
+use line_streams::LineFault;
 use site_core::Desk;
+use site_node::Peers;
 use site_sockets::{Peer, Site, begin_door, begin_sender};
 use site_words::{Config, SiteFault};
 use std::io::{Read, Write};
@@ -62,21 +65,17 @@ fn serve<
     requires id { D.id ≡ id_of desk blanks }
     requires blanks { AreBlank blanks }
     requires unused { IsUnused desk }
+    requires configured { (D.id.site ≡ config.now.id) × (D.id.sites ≡ config.now.sites) }
 {
     // Each thread owns its share of the desk: the check lends no thread a value of a type with a parameter.
     let desk = Arc::new(rt.alloc(), SharedDesk::<D>::new(desk, blanks))?;
-    let (links, console) = ends_of(rt, config, desk)?;
-    run_threads(rt, site, links, console, reader, writer)
-}
-
-/// What the threads of a site do at its desk: a link for each peer, and the console.
-fn ends_of<D: DeskNames, R: Wait + AllocGlobal>(
-    rt: &R,
-    config: &Config,
-    desk: Arc<SharedDesk<D>>,
-) -> Result<(Vec<Link<D>>, Console<D>), OutOfMemory> {
     let links = links_of(rt, rt.alloc(), config, &desk)?;
-    Ok((links, Console::new(rt, rt.alloc(), desk)?))
+    let Some(peers) = Outboxes::new(rt, desk.clone()?, site.peers()) else {
+        // The peers are the other sites of the configuration, so it does not come to this.
+        return Err(SiteFault::OutOfMemory);
+    };
+    let console = Console::new(rt, rt.alloc(), site, desk, peers)?;
+    run_threads(rt, site, links, console, reader, writer)
 }
 
 /// Answers the commands while the threads of the site run.
@@ -88,25 +87,27 @@ fn run_threads<
         + Clock
         + AllocGlobal
         + Sync,
+    P: Peers + Drop,
     I: Read + Drop,
     W: Write + Drop,
 >(
     rt: &R,
     site: &Site,
     links: Vec<Link<D>>,
-    console: Console<D>,
-    reader: I,
-    writer: W,
+    mut console: Console<'_, D, R, P>,
+    mut reader: I,
+    mut writer: W,
 ) -> Result<(), SiteFault> {
     thread::scope(thread::scope_env(), rt, |scope| {
         let ended = if begin_all(scope, rt, site, links) {
-            console.answer_all(rt, site, reader, writer)
+            console.answer_all(&mut reader, &mut writer)
         } else {
-            Err(SiteFault::OutOfMemory)
+            Err(LineFault::OutOfMemory)
         };
         site.shut_down(rt);
         ended
-    })
+    })?;
+    Ok(())
 }
 
 /// Starts all threads but that of the commands. False where one could not be started.

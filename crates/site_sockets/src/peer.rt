@@ -1,4 +1,5 @@
 //! What a site keeps of each other site.
+ghost use Rattle.std.specs.Prelude.{◌≡◌};
 ghost use Rattle.entry_codec.specs.Pieces.{IsLine};
 
 use crate::breaker::Breaker;
@@ -70,7 +71,10 @@ impl Peer {
     }
 
     /// What the status says of this peer, of which so much was applied.
-    pub fn view<R: Wait>(&self, rt: &R, applied: u64) -> PeerView {
+    pub fn view<R: Wait>(&self, rt: &R, applied: u64) -> PeerView
+        ensures site { result.site ≡ self.now.site }
+        ensures applied { result.applied ≡ applied }
+    {
         let seen = *self.seen.lock(rt);
         PeerView {
             site: self.site,

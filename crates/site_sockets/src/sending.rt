@@ -64,7 +64,7 @@ fn send_to<R: Net<Stream = TcpStream> + Wait + Clock + AllocGlobal>(
             continue;
         }
         let sent = introduce(rt.alloc(), site.id, &mut stream, line.as_slice())
-            && write_link(rt, &mut stream, &peer.outbox).is_ok();
+            && write_link(rt, &mut stream, &mut &peer.outbox).is_ok();
         peer.sending.release(rt);
         if sent {
             break;

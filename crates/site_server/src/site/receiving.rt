@@ -1,17 +1,19 @@
 //! Taking in what the peers have to say.
 ghost use Rattle.std.specs.Prelude.{◌≡◌, ◌≢◌, ◌≤◌, false, [], IfOk};
-ghost use Rattle.entry_codec.specs.Pieces.{IsLine};
+ghost use Rattle.site_server.specs.Hearing.{IsBufferAt, IsForDesk, HandlesAtDesk};
 
+use crate::site::outboxes::PeerOutbox;
 use apply_lanes::{
     Applier, DeskNames, Free, Intake, MAX_LANE, Outlet, SharedDesk, StepError, lane,
 };
-use origin_log::ReadError;
-use peer_links::{Port, read_link};
-use rights_types::{Ask, Deny, Message, OutOfMemory, Query, SiteId};
+use peer_links::{DeskMessage, Port, read_link};
+use rights_types::{OutOfMemory, SiteId};
 use site_core::Inbound;
+use site_node::{Sink, answer_ask, answer_query, note_denial};
 use site_sockets::{Connection, Peer, Site};
 use site_words::Config;
 use std::alloc::Global;
+use std::marker::Model;
 use std::sync::{Arc, Wait};
 use std::time::Clock;
 use sub_buffer::State;
@@ -29,7 +31,19 @@ pub(crate) struct Link<D: DeskNames> {
 pub(crate) struct Receiver<D: DeskNames> {
     desk: Arc<SharedDesk<D>>,
     intake: Intake,
-    ghost open: { intake.finished ≡ false },
+}
+
+impl<D: DeskNames> Model for Receiver<D> {
+    ghost use Rattle.std.specs.Prelude.{◌≡◌, false};
+    ghost use Rattle.std.specs.declared.alloc.Global.{Global};
+    ghost use Rattle.link_intake.specs.Intakes.{IntakeValue};
+    ghost use Rattle.site_server.specs.Hearing.{IsBufferAt};
+
+    ghost Value = { IntakeValue Global };
+
+    ghost view = { λ r. r.intake };
+
+    ghost invariant = { λ r. (r.intake.finished ≡ false) × IsBufferAt D.id r.intake.inbound.buffer };
 }
 
 /// The applying end of a link.
@@ -45,7 +59,9 @@ pub(crate) fn links_of<D: DeskNames, R: Wait>(
     alloc: Global,
     config: &Config,
     desk: &Arc<SharedDesk<D>>,
-) -> Result<Vec<Link<D>>, OutOfMemory> {
+) -> Result<Vec<Link<D>>, OutOfMemory>
+    requires { (D.id.site ≡ config.now.id) × (D.id.sites ≡ config.now.sites) }
+{
     let mut links = Vec::new(alloc);
     for peer in config.peers() {
         if let Some(link) = link_of(rt, alloc, config, desk, peer.site())? {
@@ -62,7 +78,9 @@ fn link_of<D: DeskNames, R: Wait>(
     config: &Config,
     desk: &Arc<SharedDesk<D>>,
     origin: SiteId,
-) -> Result<Option<Link<D>>, OutOfMemory> {
+) -> Result<Option<Link<D>>, OutOfMemory>
+    requires { (D.id.site ≡ config.now.id) × (D.id.sites ≡ config.now.sites) }
+{
     if origin == config.id() || origin.number() > config.sites() {
         return Ok(None);
     }
@@ -82,7 +100,8 @@ fn intake_of(
 ) -> Result<(Intake, Outlet), OutOfMemory>
     requires member { origin ≤ config.now.sites }
     requires other { origin ≢ config.now.id }
-    ensures { IfOk result (λ r. (r.0.finished ≡ false) × (r.1.taken ≡ [])) }
+    ensures ends { IfOk result (λ r. (r.0.finished ≡ false) × (r.1.taken ≡ [])) }
+    ensures pair { IfOk result (λ r. (r.0.inbound.buffer.me ≡ config.now.id) × (r.0.inbound.buffer.origin ≡ origin)) }
 {
     let (inlet, outlet) = lane(alloc, MAX_LANE)?;
     let inbound = Inbound::new(alloc, config.id(), origin, config.sites())?;
@@ -118,7 +137,8 @@ impl<D: DeskNames> LaneEnd<D> {
 
 impl<D: DeskNames> Receiver<D> {
     fn new(desk: &Arc<SharedDesk<D>>, intake: Intake) -> Result<Receiver<D>, OutOfMemory>
-        requires { intake.finished ≡ false }
+        requires open { intake.finished ≡ false }
+        requires of_desk { IsBufferAt D.id intake.inbound.buffer }
     {
         Ok(Receiver {
             desk: desk.clone()?,
@@ -135,7 +155,11 @@ impl<D: DeskNames> Receiver<D> {
             self.receive(rt, peer, connection);
             peer.mailbox.finish(rt);
         }
-        let _ = self.intake.finish(rt);
+        let Receiver {
+            desk: _,
+            mut intake,
+        } = self;
+        let _ = intake.finish(rt);
     }
 
     /// Reads one connection to its end, or to a fault, which ends it just as well.
@@ -147,71 +171,54 @@ impl<D: DeskNames> Receiver<D> {
         let mut port = SitePort {
             desk: &self.desk,
             peer,
+            outbox: PeerOutbox::new(rt, peer),
         };
         let _ = read_link(rt, &mut stream, &mut cutter, &mut self.intake, &mut port);
     }
 }
 
-/// What a reading thread does with what is not for its buffer: answers go into the peer's outbox, and what
-/// finds no room there is lost.
+/// What a reading thread does with what is not for its buffer. Messages go to the desk, under its lock, and what is answered
+/// into the peer's outbox.
 #[derive(Drop)]
-struct SitePort<'a, D: DeskNames> {
+struct SitePort<'a, D: DeskNames, S: Sink + Drop> {
     desk: &'a SharedDesk<D>,
     peer: &'a Peer,
+    outbox: S,
 }
 
-impl<D: DeskNames> SitePort<'_, D> {
-    fn answer<R: Wait>(&self, rt: &R, query: &Query) -> Result<(), OutOfMemory> {
-        let line = self.desk.lock(rt).on_query(query);
-        match line {
-            Ok(line) => {
-                self.peer.send(rt, line);
-                Ok(())
-            }
-            Err(ReadError::OutOfMemory) => Err(OutOfMemory),
-            Err(_) => Ok(()),
-        }
-    }
-
-    fn grant_or_deny<R: Wait>(&self, rt: &R, ask: &Ask) -> Result<(), OutOfMemory> {
-        let mut kept = self.desk.lock(rt);
-        let kept = &mut *kept;
-        if ask.asked() != kept.desk().site() || ask.asker().number() > kept.desk().sites() {
-            return Ok(());
-        }
-        let reply = kept.on_ask(ask)?;
-        if let Some(line) = reply.line {
-            self.peer.send(rt, line.into_bytes());
-        }
-        Ok(())
-    }
-
-    fn note_denial<R: Wait>(&self, rt: &R, deny: &Deny) {
-        let mut kept = self.desk.lock(rt);
-        let kept = &mut *kept;
-        if self.peer.site.number() <= kept.desk().sites() {
-            kept.on_deny(self.peer.site, deny.ask());
-        }
-    }
-}
-
-impl<D: DeskNames> Port for SitePort<'_, D> {
-    fn message<R: Wait>(&mut self, rt: &R, message: Message) -> Result<(), OutOfMemory> {
-        match message {
-            Message::Query(query) => self.answer(rt, &query),
-            Message::Ask(ask) => self.grant_or_deny(rt, &ask),
-            Message::Deny(deny) => {
-                self.note_denial(rt, &deny);
-                Ok(())
-            }
-            _ => Ok(()),
-        }
-    }
-
-    fn line<R: Wait>(&mut self, rt: &R, line: Vec<u8>)
-        requires { IsLine line.items }
+impl<D: DeskNames, S: Sink + Drop> SitePort<'_, D, S> {
+    fn handle<R: Wait>(&mut self, rt: &R, message: DeskMessage) -> Result<(), OutOfMemory>
+        requires { IsForDesk D.id message }
+        ensures { HandlesAtDesk S.takes D.id message self.old.outbox result self.new.outbox }
     {
-        self.peer.send(rt, line);
+        let mut kept = self.desk.lock(rt);
+        let kept = &mut *kept;
+        // For the proof: what holds whenever the lock is free.
+        let _ = kept.desk();
+        match message {
+            DeskMessage::Query(query) => answer_query(kept, &query, &mut self.outbox),
+            DeskMessage::Ask(ask) => answer_ask(kept, &ask, &mut self.outbox),
+            DeskMessage::Deny(denial) => {
+                note_denial(kept, &denial);
+                Ok(())
+            }
+        }
+    }
+}
+
+impl<D: DeskNames, S: Sink + Drop> Port for SitePort<'_, D, S> {
+    ghost use Rattle.site_server.specs.Hearing.{IsForDesk, Hears};
+
+    ghost accepts = { λ message. IsForDesk D.id message };
+
+    ghost hears = { λ before heard after. Hears S.takes D.id before.outbox heard after.outbox };
+
+    fn message<R: Wait>(&mut self, rt: &R, message: DeskMessage) -> Result<(), OutOfMemory> {
+        self.handle(rt, message)
+    }
+
+    fn line<R: Wait>(&mut self, _rt: &R, line: Vec<u8>) {
+        self.outbox.offer(line);
     }
 
     fn seen<R: Wait>(&mut self, rt: &R, state: State, held: usize) {

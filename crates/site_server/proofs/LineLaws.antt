@@ -1,0 +1,17 @@
+-- The command of a line, by what its handler is given of it.
+use Rattle.std.proofs.Common.{◌≡◌, ◌∙◌, ℕ, ◌-◌, ◌<◌, ◌≤◌, List, [], ◌∷◌, ◌++◌, length, take, Option, Some, None, refl, ap, arith, length-append}
+use Rattle.std.proofs.lemmas.Bool.{le-leb, lt-leb}
+use Rattle.std.proofs.lemmas.List.{take_at}
+use Rattle.std.specs.Borrow.{Bor}
+use Rattle.line_streams.specs.Handling.{IsGiven}
+use Rattle.site_words.specs.Commands.{command_of}
+use Rattle.site_server.specs.Replying.{asked}
+
+pub short_line : (line text : List ℕ) → line ≡ text ++ 10 ∷ [] → length line ≤ 16384 → asked line ≡ command_of text
+short_line line text ended short =
+    let front : take (length line - 1) line ≡ text =
+    ap (λ (l : List ℕ). take (length line - 1) l) ended ∙ take_at text (10 ∷ []) (length line - 1) (omega (arith, ap length ended, length-append text (10 ∷ []))) in
+    rw (le-leb (length line) 16384 short, front) refl
+
+pub long_line : (line : List ℕ) → 16384 < length line → asked line ≡ None
+long_line line many = rw (lt-leb (length line) 16384 many) refl

@@ -1,0 +1,84 @@
+-- What a client was told in the replies to its lines is what its seat counts.
+use Rattle.std.proofs.Common.{◌≡◌, ℕ, List, [], ◌∷◌, ◌++◌, Option, Some, None, Result, Ok, Err, inl, inr, refl, ap, sym, subst}
+use Rattle.line_streams.specs.Handling.{Answering, LineGets, LinesGet}
+use Rattle.line_streams.specs.Talk.{Talk, Leaves}
+use Rattle.line_streams.specs.Waiting.{Waiting}
+use Rattle.line_streams.specs.declared.fault.LineFault.{LineFault}
+use Rattle.line_streams.specs.declared.fault.LineFault.TheVariants.{ReadFailed, WriteFailed, OutOfMemory, TooManyLines}
+use Rattle.line_streams.specs.declared.handler.EndedBy.{EndedBy}
+use Rattle.line_streams.specs.declared.handler.EndedBy.TheVariants.{Input, Handler}
+use Rattle.line_streams.specs.declared.handler.Goes.{Goes}
+use Rattle.line_streams.specs.declared.handler.Goes.TheVariants.{On, Ends}
+use Rattle.apply_lanes.specs.Names.{DeskId}
+use Rattle.apply_lanes.specs.Kepts.{SeatValue}
+use Rattle.site_words.specs.declared.commands.SiteCommand.{SiteCommand}
+use Rattle.site_words.specs.declared.commands.SiteCommand.TheVariants.{AtDesk, Tick, Status, Quit}
+use Rattle.site_node.specs.Told.{Turn, ACommand, ATick, HasTurns}
+use Rattle.site_node.proofs.ToldLaws.{turns_count}
+use Rattle.site_server.specs.Replying.{asked, Says, Gets, GetsBy}
+use Rattle.site_server.specs.Conversations.{IsTurn, AreTurns, CountsReplies}
+
+both : (was half told : SeatValue) (first rest : List Turn) → HasTurns was first half → HasTurns half rest told → HasTurns was (first ++ rest) told
+both was half told [] rest h k = subst (λ (s : SeatValue). HasTurns s rest told) h k
+both was half told (turn ∷ first) rest h k = (h.0, h.1, both h.0 half told first rest h.2 k)
+
+module _ {P : Type 0} (size : P → ℕ) (sends : P → ℕ → ℕ → P → Type 0) (id : DeskId) where
+  -- one line
+  turns_of_line : (command : Option SiteCommand) (was : SeatValue) (before : P) (text : List ℕ) (told : SeatValue) (after : P)
+      → Says size sends id command was before text told after
+      → (turns : List Turn) × IsTurn command text turns × HasTurns was turns told
+  turns_of_line None was before text told after h = ([], refl, h.1)
+  turns_of_line (Some (AtDesk command)) was before text told after h =
+      let c = h.0 in (ACommand command c.reply ∷ [], (c.reply, refl, c.says), (told, (c.old, c.new, c.acts), refl))
+  turns_of_line (Some (Tick time)) was before text told after h =
+      let t = h.does.at_desk in
+      (ATick time t.served h.does.ticked ∷ [], (t.served, h.does.ticked, refl), (told, (t.old, t.new, t.ticks), refl))
+  turns_of_line (Some Status) was before text told after h = ([], refl, h.1)
+  turns_of_line (Some Quit) was before text told after h = absurd h
+
+  module _ {S : Type 0} (seat : S → SeatValue) (peers : S → P) where
+    -- what a handler with such a seat and such peers answers, and as what it is left without memory
+    abbrev pub Answers : Answering S
+    Answers before line reply after = Gets size sends id (asked line) (seat before) (peers before) reply (seat after) (peers after)
+
+    abbrev pub Fails : S → S → Type 0
+    Fails before after = (seat after ≡ seat before) × (peers after ≡ peers before)
+
+    -- the command of a line came to this
+    pub line_gets : (goes : Goes) (command : Option SiteCommand) (line : List ℕ) (old new : S) (waits waits' : Waiting) → command ≡ asked line
+        → GetsBy size sends goes id command (seat old) (peers old) waits (seat new) (peers new) waits' → LineGets Answers goes old line new waits waits'
+    line_gets On command line old new waits waits' same h =
+        subst (λ (c : Option SiteCommand). GetsBy size sends On id c (seat old) (peers old) waits (seat new) (peers new) waits') same h
+    line_gets Ends command line old new waits waits' same h =
+        subst (λ (c : Option SiteCommand). GetsBy size sends Ends id c (seat old) (peers old) waits (seat new) (peers new) waits') same h
+
+    turns_of : (start : S) (lines : List (List ℕ)) (text : List ℕ) (state : S) → LinesGet Answers start lines text state
+        → (turns : List Turn) × AreTurns lines text turns × HasTurns (seat start) turns (seat state)
+    turns_of start [] text state h = ([], (h.0, refl), ap seat h.1)
+    turns_of start (line ∷ lines) text state h =
+        let first = turns_of_line (asked line) (seat start) (peers start) h.0 (seat h.1) (peers h.1) h.3 in
+        let rest = turns_of h.1 lines h.2 state h.4 in (
+          first.0 ++ rest.0,
+          (h.0, h.2, first.0, rest.0, first.1, rest.1, h.5, refl),
+          both (seat start) (seat h.1) (seat state) first.0 rest.0 first.2 rest.2,
+        )
+
+    -- whatever ended a conversation, the seat is as after the last reply
+    seat_left : {given left held holds : Option (List ℕ)} (start after : S) (result : Result EndedBy LineFault) (talk : Talk Answers start given left held holds)
+        → Leaves Fails result talk after → seat after ≡ seat talk.state
+    seat_left start after (Ok Input) talk h = ap seat h
+    seat_left start after (Ok Handler) talk h = h.ends.1
+    seat_left start after (Err ReadFailed) talk h = ap seat h
+    seat_left start after (Err WriteFailed) talk (inl h) = ap seat h
+    seat_left start after (Err WriteFailed) talk (inr (inl h)) = h.0
+    seat_left start after (Err WriteFailed) talk (inr (inr h)) = h.ends.1
+    seat_left start after (Err OutOfMemory) talk (inl h) = ap seat h
+    seat_left start after (Err OutOfMemory) talk (inr h) = h.0
+    seat_left start after (Err TooManyLines) talk h = ap seat h
+
+    pub counts_replies : {given left held holds : Option (List ℕ)} (start after : S) (result : Result EndedBy LineFault) (talk : Talk Answers start given left held holds)
+        → Leaves Fails result talk after → CountsReplies (seat start) talk.lines talk.replies (seat after)
+    counts_replies start after result talk left =
+        let found = turns_of start talk.lines talk.replies talk.state talk.answered in
+        let has = subst (λ (s : SeatValue). HasTurns (seat start) found.0 s) (sym (seat_left start after result talk left)) found.2 in
+        record { turns = found.0; are_turns = found.1; has_turns = has; counted = turns_count (seat start) found.0 (seat after) has }

@@ -1,0 +1,34 @@
+-- The lines of a client and their replies, as the turns that its seat counts.
+use Rattle.std.specs.Prelude.{◌≡◌, ℕ, List, [], ◌∷◌, ◌++◌, Option, Some, None, Result}
+use Rattle.request_queue.specs.declared.request.Request.{Request}
+use Rattle.site_core.specs.declared.fault.DeskError.{DeskError}
+use Rattle.apply_lanes.specs.Kepts.{SeatValue}
+use Rattle.site_words.specs.declared.commands.SiteCommand.{SiteCommand}
+use Rattle.site_words.specs.declared.commands.SiteCommand.TheVariants.{AtDesk, Tick}
+use Rattle.site_node.specs.Texts.{reply_text}
+use Rattle.site_node.specs.Told.{Turn, HasTurns, CountsTold}
+use Rattle.site_node.specs.Told.{ACommand, ATick}
+use Rattle.site_node.specs.declared.reply.Reply.{Reply}
+use Rattle.site_node.specs.declared.tick.Ticked.{Ticked}
+use Rattle.site_server.specs.Replying.{asked}
+
+-- what a line asks for is one turn where the desk carries it out or it is a tick, and else none
+abbrev pub IsTurn : Option SiteCommand → List ℕ → List Turn → Type 0
+IsTurn (Some (AtDesk command)) text turns = (reply : Reply) × (turns ≡ ACommand command reply ∷ []) × (text ≡ reply_text reply)
+IsTurn (Some (Tick time)) text turns =
+    (served : List Request) × (ticked : Result Ticked DeskError) × (turns ≡ ATick time served ticked ∷ [])
+IsTurn command text turns = turns ≡ []
+
+-- the turns of these lines, whose replies this text has, each with its line feed
+abbrev pub AreTurns : List (List ℕ) → List ℕ → List Turn → Type 0
+AreTurns [] text turns = (text ≡ []) × (turns ≡ [])
+AreTurns (line ∷ lines) text turns =
+    (reply : List ℕ) × (more : List ℕ) × (first : List Turn) × (rest : List Turn)
+    × IsTurn (asked line) reply first × AreTurns lines more rest × (text ≡ (reply ++ 10 ∷ []) ++ more) × (turns ≡ first ++ rest)
+
+-- what the client was told as issued and as spent in the replies to these lines is what its seat counts more
+pub record CountsReplies (was : SeatValue) (lines : List (List ℕ)) (text : List ℕ) (told : SeatValue) : Type 0 where
+  pub turns : List Turn
+  pub are_turns : AreTurns lines text turns
+  pub has_turns : HasTurns was turns told
+  pub counted : CountsTold was turns told

@@ -1,0 +1,110 @@
+-- What each line of a client gets at a site that runs, and what that leaves of the client's seat and of the peers.
+use Rattle.std.specs.Prelude.{◌≡◌, ℕ, ◌-◌, nat_le, List, [], length, take, Option, Some, None, Result, Ok, Err, if◌then◌else◌}
+use Rattle.std.specs.List.{All}
+use Rattle.rights_types.specs.declared.limits.TheConstants.{MAX_LINE}
+use Rattle.rights_book.specs.Books.{peer}
+use Rattle.request_queue.specs.declared.request.Request.{Request}
+use Rattle.site_core.specs.Desks.{DeskValue}
+use Rattle.site_core.specs.declared.fault.DeskError.{DeskError}
+use Rattle.site_core.specs.declared.fault.DeskError.TheVariants.{OutOfMemory}
+use Rattle.thread_parts.specs.declared.view.DeskView.{DeskView}
+use Rattle.apply_lanes.specs.Names.{DeskId}
+use Rattle.apply_lanes.specs.Kepts.{KeptValue, SeatValue, IsKept}
+use Rattle.apply_lanes.specs.Views.{IsViewOf}
+use Rattle.line_streams.specs.Waiting.{Waiting, AddsReply}
+use Rattle.line_streams.specs.declared.handler.Goes.{Goes}
+use Rattle.line_streams.specs.declared.handler.Goes.TheVariants.{On, Ends}
+use Rattle.reply_texts.specs.Texts.{bad_command}
+use Rattle.site_words.specs.Commands.{command_of}
+use Rattle.site_words.specs.Status.{status_text}
+use Rattle.site_words.specs.declared.commands.DeskCommand.{DeskCommand}
+use Rattle.site_words.specs.declared.commands.SiteCommand.{SiteCommand}
+use Rattle.site_words.specs.declared.commands.SiteCommand.TheVariants.{AtDesk, Tick, Status, Quit}
+use Rattle.site_words.specs.declared.status_object.PeerView.{PeerView}
+use Rattle.site_node.specs.Acting.{Acts}
+use Rattle.site_node.specs.Texts.{reply_text, tick_text}
+use Rattle.site_node.specs.Ticking.{Ticks}
+use Rattle.site_node.specs.ToPeers.{SendsToFirst}
+use Rattle.site_node.specs.declared.reply.Reply.{Reply}
+use Rattle.site_node.specs.declared.tick.Ticked.{Ticked}
+
+-- the command of a line with its line feed; none where it has no form of a command, or more bytes than a line may have
+abbrev pub asked : List ℕ → Option SiteCommand
+asked line = if nat_le (length line) MAX_LINE then command_of (take (length line - 1) line) else None
+
+-- ---- replies
+
+-- the desk carried the command out, under its lock, and this is the reply
+pub record CarriesOut (id : DeskId) (was : SeatValue) (command : DeskCommand) (text : List ℕ) (told : SeatValue) : Type 0 where
+  pub old : KeptValue
+  pub new : KeptValue
+  pub reply : Reply
+  pub valid : IsKept id old
+  pub acts : Acts old was command reply new told
+  pub says : text ≡ reply_text reply
+
+-- all that is due at this time was done at the desk, under its lock
+pub record TicksAtDesk (id : DeskId) (was : SeatValue) (time : ℕ) (ticked : Result Ticked DeskError) (told : SeatValue) : Type 0 where
+  pub old : KeptValue
+  pub new : KeptValue
+  pub served : List Request
+  pub valid : IsKept id old
+  pub ticks : Ticks old was time served ticked new told
+
+-- so much of that log was applied at the desk
+abbrev pub IsApplied : DeskValue → PeerView → Type 0
+IsApplied d view = view.applied ≡ (peer d.ledger.book view.site).log.end
+
+-- the views are those of the desk at one moment; what a peer's buffer waits for is what was noted last
+pub record AreViews (id : DeskId) (view : DeskView) (peers : List PeerView) : Type 0 where
+  pub kept : KeptValue
+  pub valid : IsKept id kept
+  pub desk : IsViewOf kept.desk view
+  pub applied : All (IsApplied kept.desk) peers
+
+-- the status object of such views
+pub record TellsStatus (id : DeskId) (text : List ℕ) : Type 0 where
+  pub view : DeskView
+  pub peers : List PeerView
+  pub views : AreViews id view peers
+  pub says : text ≡ status_text view peers
+
+module _ {P : Type 0} (size : P → ℕ) (sends : P → ℕ → ℕ → P → Type 0) where
+  -- after a tick at the desk all peers are sent what is due to them, unless memory is wanted; after a refusal none is
+  abbrev pub ThenSends : Result Ticked DeskError → P → Result (Ticked × ℕ) DeskError → P → Type 0
+  ThenSends (Ok ticked) before (Ok (told, sent)) after = (told ≡ ticked) × SendsToFirst sends (size before) before sent after
+  ThenSends (Ok ticked) before (Err fault) after = fault ≡ OutOfMemory
+  ThenSends (Err fault) before result after = (result ≡ Err fault) × (after ≡ before)
+
+  pub record TicksAndSends (id : DeskId) (was : SeatValue) (before : P) (time : ℕ) (result : Result (Ticked × ℕ) DeskError) (told : SeatValue) (after : P) : Type 0 where
+    pub ticked : Result Ticked DeskError
+    pub at_desk : TicksAtDesk id was time ticked told
+    pub then_sends : ThenSends ticked before result after
+
+  -- .. and this is the reply
+  pub record DoesDue (id : DeskId) (was : SeatValue) (before : P) (time : ℕ) (text : List ℕ) (told : SeatValue) (after : P) : Type 0 where
+    pub result : Result (Ticked × ℕ) DeskError
+    pub does : TicksAndSends id was before time result told after
+    pub says : text ≡ tick_text result
+
+  -- ---- lines
+
+  -- the reply to what a line asks for, and what is left of the seat and the peers; `quit` gets none
+  abbrev pub Says : DeskId → Option SiteCommand → SeatValue → P → List ℕ → SeatValue → P → Type 0
+  Says id None was before text told after = (text ≡ bad_command) × (told ≡ was) × (after ≡ before)
+  Says id (Some (AtDesk command)) was before text told after = CarriesOut id was command text told × (after ≡ before)
+  Says id (Some (Tick time)) was before text told after = DoesDue id was before time text told after
+  Says id (Some Status) was before text told after = TellsStatus id text × (told ≡ was) × (after ≡ before)
+  Says id (Some Quit) was before text told after = ⊥
+
+  -- `quit` ends the conversation, and nothing else does
+  abbrev pub Gets : DeskId → Option SiteCommand → SeatValue → P → Option (List ℕ) → SeatValue → P → Type 0
+  Gets id command was before (Some text) told after = Says id command was before text told after
+  Gets id command was before None told after = (command ≡ Some Quit) × (told ≡ was) × (after ≡ before)
+
+  -- .. as replies that wait to be written
+  abbrev pub GetsBy : Goes → DeskId → Option SiteCommand → SeatValue → P → Waiting → SeatValue → P → Waiting → Type 0
+  GetsBy On id command was before waits told after waits' =
+      (text : List ℕ) × Gets id command was before (Some text) told after × AddsReply waits waits' text
+  GetsBy Ends id command was before waits told after waits' =
+      Gets id command was before None told after × (waits'.whole ≡ waits.whole) × (waits'.part ≡ [])
