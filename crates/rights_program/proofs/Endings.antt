@@ -1,7 +1,7 @@
 -- How the program may end, by what was asked for.
 use Rattle.std.proofs.Common.{◌≡◌, ◌≢◌, ◌∙◌, false, refl, sym, ap, subst, Err, arith, inl, inr, true≢false}
-use Rattle.transfer_world.specs.declared.ScriptFault.{ScriptFault}
-use Rattle.transfer_world.specs.declared.ScriptFault.TheVariants as script_fault
+use Rattle.line_streams.specs.declared.fault.LineFault.{LineFault}
+use Rattle.line_streams.specs.declared.fault.LineFault.TheVariants as script_fault
 use Rattle.site_words.specs.Asked.{Asked, help, nothing, script, site}
 use Rattle.rights_program.specs.Endings.{MayBeDone, MayStop, reads}
 use Rattle.rights_program.specs.Faults.{fault_of_script, fault_of_site, fault_of_words, status_of}
@@ -47,10 +47,13 @@ two_is_bad OutOfMemory is = absurd (omega (arith, is))
 two_is_bad TooManyLines is = absurd (omega (arith, is))
 
 -- a script
-pub script_may_stop : (a : Asked) (cause : ScriptFault) → a ≡ script → MayStop a (fault_of_script cause)
+pub script_may_be_done : (a : Asked) → a ≡ script → MayBeDone a
+script_may_be_done a same = subst MayBeDone (sym same) tt
+
+pub script_may_stop : (a : Asked) (cause : LineFault) → a ≡ script → MayStop a (fault_of_script cause)
 script_may_stop a cause same = subst (λ a. MayStop a (fault_of_script cause)) (sym same) (stops cause)
   where
-    stops : (cause : ScriptFault) → MayStop script (fault_of_script cause)
+    stops : (cause : LineFault) → MayStop script (fault_of_script cause)
     stops script_fault.ReadFailed = tt
     stops script_fault.WriteFailed = tt
     stops script_fault.OutOfMemory = tt
@@ -59,7 +62,7 @@ script_may_stop a cause same = subst (λ a. MayStop a (fault_of_script cause)) (
 pub script_reads : (a : Asked) → a ≡ script → reads a ≡ false → ⊥
 script_reads a same none = true≢false (sym (ap reads same) ∙ none)
 
-pub script_not_bad : (cause : ScriptFault) → fault_of_script cause ≢ BadCommandLine
+pub script_not_bad : (cause : LineFault) → fault_of_script cause ≢ BadCommandLine
 script_not_bad script_fault.ReadFailed same = cc
 script_not_bad script_fault.WriteFailed same = cc
 script_not_bad script_fault.OutOfMemory same = cc

@@ -1,11 +1,14 @@
 -- How the program ends.
-use Rattle.std.specs.Prelude.{◌≡◌, ◌==◌, ◌⊎◌, ℕ, Bool, true, false, List, [], length, ⊤, Option, Result, Ok, Err}
+use Rattle.std.specs.Prelude.{◌≡◌, ◌==◌, ◌⊎◌, ℕ, Bool, true, false, List, [], length, ⊤, Option, Result, Ok, Err, OnOk}
+use Rattle.std.specs.Io.KnownBytes.{Appends}
 use Rattle.line_streams.specs.Fronts.{AppendsFront}
+use Rattle.line_streams.specs.declared.write.WriteFault.{WriteFault}
 use Rattle.site_words.specs.Asked.{Asked, help, nothing, script, site}
 use Rattle.rights_program.specs.Faults.{line_of, status_of}
 use Rattle.site_words.specs.Settings.{Settings}
 use Rattle.site_words.specs.Words.{MayRefuse, RunsSite, WantsHelp}
 use Rattle.rights_program.specs.declared.fault.Fault.{Fault}
+use Rattle.rights_program.specs.declared.run.Ended.{Ended}
 use Rattle.rights_program.specs.declared.fault.Fault.TheVariants.{BadCommandLine, CannotListen, OutOfMemory, WriteFailed}
 
 -- done, or stopped by a fault
@@ -57,7 +60,11 @@ abbrev pub MayEnd : Asked → Ending → Type 0
 MayEnd asked (Ok done) = MayBeDone asked
 MayEnd asked (Err fault) = MayStop asked fault
 
--- the status, and what was printed on standard error, are those of one ending
-abbrev pub EndsWith : ℕ → Option (List ℕ) → Option (List ℕ) → Type 0
-EndsWith status old new =
-    (ending : Ending) × (status ≡ status_of_ending ending) × AppendsFront old new (line_of_ending ending)
+-- what was written of a text: all of it unless a write failed, and then a front of it
+abbrev pub Says : Option (List ℕ) → Option (List ℕ) → List ℕ → Result (Unit {0}) WriteFault → Type 0
+Says old new text said = AppendsFront old new text × OnOk said (Appends old new text)
+
+-- the status, and what was printed on standard error, are those of this ending
+abbrev pub EndsWith : Ended → Option (List ℕ) → Option (List ℕ) → Ending → Type 0
+EndsWith ended old new ending =
+    (ended.status ≡ status_of_ending ending) × Says old new (line_of_ending ending) ended.said

@@ -8,8 +8,8 @@ use Rattle.site_words.specs.declared.words.WordsFault.{WordsFault}
 use Rattle.site_words.specs.declared.words.WordsFault.TheVariants as words
 use Rattle.site_words.specs.declared.fault.SiteFault.{SiteFault}
 use Rattle.site_words.specs.declared.fault.SiteFault.TheVariants as site
-use Rattle.transfer_world.specs.declared.ScriptFault.{ScriptFault}
-use Rattle.transfer_world.specs.declared.ScriptFault.TheVariants as script
+use Rattle.line_streams.specs.declared.fault.LineFault.{LineFault}
+use Rattle.line_streams.specs.declared.fault.LineFault.TheVariants as script
 
 -- the exit status
 abbrev pub status_of : Fault → ℕ
@@ -41,7 +41,7 @@ abbrev pub fault_of_words : WordsFault → Fault
 fault_of_words words.Refused = BadCommandLine
 fault_of_words words.OutOfMemory = OutOfMemory
 
-abbrev pub fault_of_script : ScriptFault → Fault
+abbrev pub fault_of_script : LineFault → Fault
 fault_of_script script.ReadFailed = ReadFailed
 fault_of_script script.WriteFailed = WriteFailed
 fault_of_script script.OutOfMemory = OutOfMemory

@@ -1,3 +1,5 @@
+pub mod Arguments
+pub mod Commands
 pub mod Endings
 pub mod Faults
 pub mod Scripts

@@ -1,16 +1,22 @@
 //! The words that the process was given.
-ghost use Rattle.std.specs.Prelude.{◌≡◌, IfErr};
+ghost use Rattle.std.specs.Prelude.{◌≡◌, IfErr, IfOk, Result, drop, false, map};
 ghost use Rattle.std.specs.IoError.{error_kind};
-ghost use Rattle.site_words.specs.Asked.{nothing};
-ghost use Rattle.rights_program.specs.Endings.{EndsWith, MayStop};
+ghost use Rattle.std.specs.String.{string_bytes};
+ghost use Rattle.std.specs.declared.alloc.Global.{Global};
+ghost use Rattle.clap.specs.Walk.{texts};
+ghost use Rattle.site_words.specs.Asked.{asked_by, nothing, script};
+ghost use Rattle.site_words.specs.Words.{MayRefuse};
+ghost use Rattle.rights_program.specs.Arguments.{arguments};
+ghost use Rattle.rights_program.specs.Endings.{EndsWith, MayEnd, MayStop, reads};
 ghost use Rattle.rights_program.specs.Faults.{fault_of_given};
+ghost use Rattle.rights_program.specs.Scripts.{Answered};
 ghost use Rattle.rights_program.specs.declared.fault.Fault.{Fault};
 
 use crate::fault::Fault;
-use crate::run::{report, run_words};
+use crate::run::{Ended, report, run_words};
 use site_words::{Config, SiteFault};
-use std::alloc::{Allocator, Global};
-use std::env::{Args, Env};
+use std::alloc::{AllocError, Allocator, Global};
+use std::env::Env;
 use std::io::{ErrorKind, Read, Write};
 use std::{env, io};
 
@@ -24,52 +30,82 @@ fn fault_of_given(error: io::Error) -> Fault
     }
 }
 
-/// The words behind the program's name.
-fn words_behind<A: Allocator + Clone>(alloc: A, given: Args<A>) -> Result<Vec<String<A>, A>, Fault>
-    ensures { IfErr result (λ fault. fault ≡ Fault.OutOfMemory) }
-{
-    Ok(given.skip(1).collect(alloc)?)
-}
-
-/// The texts of these words.
-fn texts_of<'a, A: Allocator + Clone>(
-    alloc: A,
-    words: &'a [String<A>],
-) -> Result<Vec<&'a str, A>, Fault>
-    ensures { IfErr result (λ fault. fault ≡ Fault.OutOfMemory) }
-{
-    Ok(words.iter().map(|word| word.as_str()).collect(alloc)?)
-}
-
-/// The words that the process was given, without its name.
+/// The words that the process was given, its name among them.
 fn given_words<V: Env + Alloc>(env: &V) -> Result<Vec<String<V::A>, V::A>, Fault>
     ensures { IfErr result (λ fault. MayStop nothing fault) }
 {
     match env::args(env) {
-        Ok(given) => words_behind(env.alloc(), given),
+        Ok(given) => Ok(given.collect(env.alloc())?),
         Err(error) => Err(fault_of_given(error)),
     }
 }
 
-/// Runs the program on the words that its process was given, and answers the exit status. Where they
-/// cannot be told, `errors` is told why.
+/// The texts of these words.
+fn texts_of<'a, A: Allocator>(
+    alloc: Global,
+    words: &'a [String<A>],
+) -> Result<Vec<&'a str>, AllocError>
+    ensures { IfOk result (λ found. texts found.items ≡ map string_bytes words.now) }
+{
+    words.iter().map(|word| word.as_str()).collect(alloc)
+}
+
+/// The words behind the first one.
+fn behind_name<'a>(words: &'a [&'a str]) -> &'a [&'a str]
+    ensures { texts result.now ≡ drop 1 (texts words.now) }
+{
+    match words {
+        [_name, rest @ ..] => rest,
+        [] => words,
+    }
+}
+
+/// Runs the program on the words of its process, of which the first is its name, as `run_words` does on those behind it.
+pub fn run_arguments<
+    F: FnOnce(Config, &mut R, &mut W) -> Result<(), SiteFault>,
+    A: Allocator,
+    R: Read,
+    W: Write,
+    E: Write,
+>(
+    alloc: Global,
+    run: F,
+    words: &[String<A>],
+    reader: &mut R,
+    writer: &mut W,
+    errors: &mut E,
+) -> Ended
+    requires { F.IsAlwaysCallable run }
+    ensures ends { (ending : Result (Unit {0}) Fault) × MayEnd (asked_by (arguments words.now)) ending
+        × (asked_by (arguments words.now) ≡ script
+        → Answered Global (R.remaining reader.old) (R.remaining reader.new) (W.contents writer.old) (W.contents writer.new) ending)
+        × EndsWith result (E.contents errors.old) (E.contents errors.new) ending }
+    ensures refused { result.status ≡ 2 → MayRefuse (asked_by (arguments words.now)) × (reader.new ≡ reader.old) × (writer.new ≡ writer.old) }
+    ensures unread { reads (asked_by (arguments words.now)) ≡ false → reader.new ≡ reader.old }
+    ensures unwritten { asked_by (arguments words.now) ≡ nothing → writer.new ≡ writer.old }
+    ensures quiet { result.status ≡ 0 → errors.new ≡ errors.old }
+{
+    let texts = match texts_of(alloc, words) {
+        Ok(texts) => texts,
+        Err(AllocError) => return report(errors, Fault::OutOfMemory),
+    };
+    run_words(alloc, run, behind_name(&texts), reader, writer, errors)
+}
+
+/// Runs the program on the words that its process was given. Where they cannot be told, `errors` is told why. No contract
+/// says what words those are: the rest is `run_arguments`.
 pub fn run_given<
     F: FnOnce(Config, &mut R, &mut W) -> Result<(), SiteFault>,
     V: Env + Alloc,
     R: Read,
     W: Write,
     E: Write,
->(alloc: Global, run: F, env: &V, reader: &mut R, writer: &mut W, errors: &mut E) -> u8
+>(alloc: Global, run: F, env: &V, reader: &mut R, writer: &mut W, errors: &mut E) -> Ended
     requires { F.IsAlwaysCallable run }
-    ensures { EndsWith result (E.contents errors.old) (E.contents errors.new) }
+    ensures { (ending : Result (Unit {0}) Fault) × EndsWith result (E.contents errors.old) (E.contents errors.new) ending }
 {
-    let words = match given_words(env) {
-        Ok(words) => words,
-        Err(fault) => return report(errors, fault),
-    };
-    let texts = match texts_of(env.alloc(), words.as_slice()) {
-        Ok(texts) => texts,
-        Err(fault) => return report(errors, fault),
-    };
-    run_words(alloc, run, texts.as_slice(), reader, writer, errors)
+    match given_words(env) {
+        Ok(words) => run_arguments(alloc, run, &words, reader, writer, errors),
+        Err(fault) => report(errors, fault),
+    }
 }

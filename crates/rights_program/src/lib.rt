@@ -7,5 +7,5 @@ mod given;
 mod run;
 
 pub use fault::Fault;
-pub use given::run_given;
-pub use run::run_words;
+pub use given::{run_arguments, run_given};
+pub use run::{Ended, run_words};

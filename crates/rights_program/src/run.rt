@@ -3,31 +3,62 @@ ghost use Rattle.std.specs.Prelude.{◌≡◌, false, Result, Err};
 ghost use Rattle.std.specs.declared.alloc.Global.{Global};
 ghost use Rattle.clap.specs.Walk.{texts};
 ghost use Rattle.site_words.specs.Asked.{asked_by, nothing, script};
-ghost use Rattle.rights_program.specs.Endings.{MayEnd, reads, line_of_ending, status_of_ending};
+ghost use Rattle.rights_program.specs.Commands.{Does, IsHelp};
+ghost use Rattle.rights_program.specs.Endings.{EndsWith, MayEnd, Says, reads};
 ghost use Rattle.rights_program.specs.Faults.{line_of, status_of};
-ghost use Rattle.line_streams.specs.Fronts.{AppendsFront};
 ghost use Rattle.rights_program.specs.Scripts.{Answered};
 ghost use Rattle.site_words.specs.Words.{MayRefuse};
 ghost use Rattle.rights_program.specs.declared.fault.Fault.{Fault};
 
 use crate::fault::Fault;
-use line_streams::write_whole;
+use line_streams::{WriteFault, write_whole};
 use site_words::{Command, Config, SiteFault, read_words};
 use std::alloc::Global;
 use std::io::{Read, Write};
 use transfer_world::run_last_script;
 
-/// Says why the program stops, and answers the exit status. What cannot be said is left out.
-pub(crate) fn report<E: Write>(errors: &mut E, fault: Fault) -> u8
-    ensures status { result ≡ status_of fault }
-    ensures says { AppendsFront (E.contents errors.old) (E.contents errors.new) (line_of fault) }
+/// How the program ended.
+#[derive(Clone, Copy, Debug, PartialEq, Eq)]
+pub struct Ended {
+    /// The exit status: 0 to 2.
+    pub status: u8,
+    /// Whether the line that says why it stopped was written whole. Where it did not stop there is no such line.
+    pub said: Result<(), WriteFault>,
+}
+
+/// Says why the program stops. Where a write fails, the rest of that is left out.
+pub(crate) fn report<E: Write>(errors: &mut E, fault: Fault) -> Ended
+    ensures status { result.status ≡ status_of fault }
+    ensures says { Says (E.contents errors.old) (E.contents errors.new) (line_of fault) result.said }
 {
-    let _ = write_whole(errors, fault.line());
-    fault.status()
+    Ended {
+        status: fault.status(),
+        said: write_whole(errors, fault.line()),
+    }
+}
+
+/// Does what a command says: a script is run, a site by `run`, and a help text is printed whole.
+#[tactic(auto, using(crate::proofs::Commands::commands))]
+fn carry_out<F: FnOnce(Config, &mut R, &mut W) -> Result<(), SiteFault>, R: Read, W: Write>(
+    alloc: Global,
+    run: F,
+    command: Command,
+    reader: &mut R,
+    writer: &mut W,
+) -> Result<(), Fault>
+    requires { F.IsAlwaysCallable run }
+    ensures does { Does Global command (R.remaining reader.old) (R.remaining reader.new) (W.contents writer.old) (W.contents writer.new) result }
+    ensures unread { IsHelp command → reader.new ≡ reader.old }
+{
+    match command {
+        Command::Sim => Ok(run_last_script(alloc, reader, writer)?),
+        Command::Run(config) => Ok(run(config, reader, writer)?),
+        Command::Help(text) => Ok(write_whole(writer, text.as_bytes())?),
+    }
 }
 
 /// Does what the words ask for.
-#[tactic(auto, using(crate::proofs::Endings::endings))]
+#[tactic(auto, using(crate::proofs::Commands::commands, crate::proofs::Endings::words_may_stop))]
 fn run_command<F: FnOnce(Config, &mut R, &mut W) -> Result<(), SiteFault>, R: Read, W: Write>(
     alloc: Global,
     run: F,
@@ -43,37 +74,35 @@ fn run_command<F: FnOnce(Config, &mut R, &mut W) -> Result<(), SiteFault>, R: Re
     ensures unwritten { asked_by (texts words.now) ≡ nothing → writer.new ≡ writer.old }
     ensures refused { result ≡ Err Fault.BadCommandLine → (reader.new ≡ reader.old) × (writer.new ≡ writer.old) }
 {
-    match read_words(alloc, words)? {
-        Command::Sim => run_last_script(alloc, reader, writer)?,
-        Command::Run(config) => run(config, reader, writer)?,
-        Command::Help(text) => write_whole(writer, text.as_bytes())?,
-    }
-    Ok(())
+    let command = read_words(alloc, words)?;
+    carry_out(alloc, run, command, reader, writer)
 }
 
-/// Runs the program on its words, without its name: does what they ask for, a site by `run`, says on
-/// `errors` what stopped it, and answers the exit status.
+/// Runs the program on its words, without its name: does what they ask for, a site by `run`, and says on
+/// `errors` what stopped it.
 pub fn run_words<
     F: FnOnce(Config, &mut R, &mut W) -> Result<(), SiteFault>,
     R: Read,
     W: Write,
     E: Write,
->(alloc: Global, run: F, words: &[&str], reader: &mut R, writer: &mut W, errors: &mut E) -> u8
+>(alloc: Global, run: F, words: &[&str], reader: &mut R, writer: &mut W, errors: &mut E) -> Ended
     requires { F.IsAlwaysCallable run }
     // The status and the line on `errors` are those of one ending, which the words allow. Where they
     // ask for it, the script was answered, and ended so.
     ensures ends { (ending : Result (Unit {0}) Fault) × MayEnd (asked_by (texts words.now)) ending
         × (asked_by (texts words.now) ≡ script
         → Answered Global (R.remaining reader.old) (R.remaining reader.new) (W.contents writer.old) (W.contents writer.new) ending)
-        × (result ≡ status_of_ending ending)
-        × AppendsFront (E.contents errors.old) (E.contents errors.new) (line_of_ending ending) }
-    ensures refused { result ≡ 2 → MayRefuse (asked_by (texts words.now)) × (reader.new ≡ reader.old) × (writer.new ≡ writer.old) }
+        × EndsWith result (E.contents errors.old) (E.contents errors.new) ending }
+    ensures refused { result.status ≡ 2 → MayRefuse (asked_by (texts words.now)) × (reader.new ≡ reader.old) × (writer.new ≡ writer.old) }
     ensures unread { reads (asked_by (texts words.now)) ≡ false → reader.new ≡ reader.old }
     ensures unwritten { asked_by (texts words.now) ≡ nothing → writer.new ≡ writer.old }
-    ensures quiet { result ≡ 0 → errors.new ≡ errors.old }
+    ensures quiet { result.status ≡ 0 → errors.new ≡ errors.old }
 {
     match run_command(alloc, run, words, reader, writer) {
-        Ok(()) => 0,
+        Ok(()) => Ended {
+            status: 0,
+            said: Ok(()),
+        },
         Err(fault) => report(errors, fault),
     }
 }

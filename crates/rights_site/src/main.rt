@@ -6,12 +6,13 @@ use site_server::run_site;
 use std::process::ExitCode;
 
 fn main(rt: HostRuntime) -> ExitCode {
-    ExitCode::from(run_given(
+    let ended = run_given(
         rt.alloc(),
         |config, reader, writer| run_site(&rt, config, reader, writer),
         &rt,
         &mut rt.stdin(),
         &mut rt.stdout(),
         &mut rt.stderr(),
-    ))
+    );
+    ExitCode::from(ended.status)
 }

@@ -1,4 +1,4 @@
-use Rattle.std.proofs.Common.{◌∙◌, sym, ap, subst, refl, Ok, Err, Global}
+use Rattle.std.proofs.Common.{◌∙◌, sym, ap, subst, Err, Global}
 use Rattle.std.proofs.lemmas.Result.{err_from_is_err_and}
 use Rattle.clap.specs.Walk.{texts}
 use Rattle.site_words.specs.Asked.{asked_by}
@@ -7,23 +7,8 @@ use Rattle.rights_program.specs.Scripts.{Answered}
 use Rattle.rights_program.proofs.ScriptLaws.{none_answered}
 use Rattle.rights_program.proofs.run.run_command.Goals as goal
 
--- src/run.rt:40:11
-pub returns-in_err-read_words-clause-answered : goal.returns-in_err-read_words-clause-answered
-returns-in_err-read_words-clause-answered g c same =
+pub returns-in_err-command-clause-answered : goal.returns-in_err-command-clause-answered
+returns-in_err-command-clause-answered g c same =
     let p = err_from_is_err_and c.from_residual.result c.from_residual.ensures.1 in
     subst (λ (e : Ending). Answered Global (g.R.Read.remaining c.args.reader.now) (g.R.Read.remaining c.args.reader.now) (g.W.Write.contents c.args.writer.now) (g.W.Write.contents c.args.writer.now) e) (sym (p.1 ∙ ap Err p.2))
-    (none_answered Global (g.R.Read.remaining c.args.reader.now) (g.W.Write.contents c.args.writer.now) (asked_by (texts c.args.words.now)) c.in_err-read_words.field-0.0 c.in_err-read_words.ensures same)
-
--- src/run.rt:41:25
-pub returns-in_err-run_last_script-in-Sim-clause-answered :
-    goal.returns-in_err-run_last_script-in-Sim-clause-answered
-returns-in_err-run_last_script-in-Sim-clause-answered g c same =
-    let p = err_from_is_err_and c.from_residual-in_err-run_last_script-in-Sim.result c.from_residual-in_err-run_last_script-in-Sim.ensures.1 in
-    let ran = c.in_err-run_last_script-in-Sim.ensures.ends in
-    (Err c.in_err-run_last_script-in-Sim.field-0.0, p.1 ∙ ap Err p.2, ran.0, ran.1)
-
--- src/run.rt:28:1
-pub returns-in_ok-run_last_script-in-Sim-clause-answered :
-    goal.returns-in_ok-run_last_script-in-Sim-clause-answered
-returns-in_ok-run_last_script-in-Sim-clause-answered g c same =
-    let ran = c.in_ok-run_last_script-in-Sim.ensures.ends in (Ok tt, refl, ran.0, ran.1)
+    (none_answered Global (g.R.Read.remaining c.args.reader.now) (g.W.Write.contents c.args.writer.now) (asked_by (texts c.args.words.now)) c.in_err-command.field-0.0 c.in_err-command.ensures same)

@@ -1,0 +1,30 @@
+-- What the program did of a command.
+use Rattle.std.specs.Prelude.{◌≡◌, ⊤, ℕ, List, Option, Result, Ok, Err}
+use Rattle.std.specs.Io.KnownBytes.{Appends}
+use Rattle.line_streams.specs.Fronts.{AppendsFront}
+use Rattle.site_words.specs.declared.fault.SiteFault.{SiteFault}
+use Rattle.site_words.specs.declared.words.Command.{Command}
+use Rattle.site_words.specs.declared.words.Command.TheVariants.{Sim, Run, Help}
+use Rattle.rights_program.specs.Endings.{Ending}
+use Rattle.rights_program.specs.Faults.{fault_of_site}
+use Rattle.rights_program.specs.Scripts.{Answered}
+use Rattle.rights_program.specs.declared.fault.Fault.TheVariants.{WriteFailed}
+
+abbrev pub ending_of_site : Result (Unit {0}) SiteFault → Ending
+ending_of_site (Ok done) = Ok done
+ending_of_site (Err fault) = Err (fault_of_site fault)
+
+-- a text was printed whole, or a write failed behind a front of it
+abbrev pub Prints : Option (List ℕ) → Option (List ℕ) → List ℕ → Ending → Type 0
+Prints held holds text (Ok done) = Appends held holds text
+Prints held holds text (Err fault) = (fault ≡ WriteFailed) × AppendsFront held holds text
+
+-- a script is answered, the program ends as its site does, and a help text is printed
+abbrev pub Does : Type 0 → Command → Option (List ℕ) → Option (List ℕ) → Option (List ℕ) → Option (List ℕ) → Ending → Type 0
+Does A Sim given left held holds ending = Answered A given left held holds ending
+Does A (Run config) given left held holds ending = (ended : Result (Unit {0}) SiteFault) × (ending ≡ ending_of_site ended)
+Does A (Help text) given left held holds ending = Prints held holds text ending
+
+abbrev pub IsHelp : Command → Type 0
+IsHelp (Help text) = ⊤
+IsHelp command = ⊥
