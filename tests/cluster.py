@@ -50,6 +50,8 @@ class Cluster:
     """Sites on loopback that know each other, some of them by way of a proxy."""
 
     program = PROGRAM
+    # The class of its sites.
+    kind = Site
 
     def __init__(self, count, started=None, routes=None, programs=None):
         """`started` are the sites that are started here, all without it; `routes` has the address that site
@@ -68,7 +70,7 @@ class Cluster:
             for peer in range(1, self.count + 1)
             if peer != number
         }
-        site = Site(number, self.count, at(self.ports[number - 1]), peers, self.programs.get(number, self.program))
+        site = self.kind(number, self.count, at(self.ports[number - 1]), peers, self.programs.get(number, self.program))
         self.sites[number] = site
         # It listens before it answers.
         site.status()

@@ -9,6 +9,7 @@ Each test binds to free ports, ends by itself, and says what it expected where i
 
 import os
 import socket
+import struct
 import subprocess
 import sys
 import threading
@@ -17,7 +18,26 @@ import time
 from cluster import BUILT, PROGRAM, Cluster, Proxy, Site, SiteEnded, at, expect, free_ports, sees, wait_for
 
 program = sys.argv[1] if len(sys.argv) > 1 else PROGRAM
-Cluster.program = program
+
+
+class TickingSite(Site):
+    """A site each of whose ticks is carried out, or is refused as its time went back."""
+
+    time = 0
+
+    def ask_all(self, commands):
+        replies = super().ask_all(commands)
+        for command, reply in zip(commands, replies):
+            name, *words = command.split(" ")
+            if name == "tick":
+                went_back = int(words[0]) < self.time
+                wanted = "error TimeWentBack" if went_back else "tick expired "
+                expect(reply[: len(wanted)], wanted, command)
+                self.time = max(self.time, int(words[0]))
+        return replies
+
+
+Cluster.program, Cluster.kind = program, TickingSite
 
 
 def connect(cluster, number, text=b""):
@@ -124,6 +144,29 @@ def a_closed_sites_rights_are_taken_back():
         expect(sites[2].ask("give 3 1"), "error PeerClosed")
 
 
+def waiting_spends_are_served_by_one_tick():
+    with Cluster(2, started=[1]) as sites:
+        expect(sites[1].ask_all(["spend 2 9"] * 5), [f"queued {ticket}" for ticket in range(1, 6)])
+        with connect(sites, 1, b"H 2\nE 2 0 2 I:11 R:1:11\n"):
+            wait_for("site 1 holds 11", sees(sites[1], None, held=11))
+        expect(sites[1].ask("tick 1"), "tick expired 0 served 5 asks 0 sent 6")
+        expect([sites[1].ask(f"outcome {n}") for n in range(1, 6)], [f"spent {n}" for n in range(1, 6)])
+        expect(sites[1].status()["held"], 1)
+
+
+def outcomes_that_nobody_reads():
+    """32 spends wait or have outcomes that were not read, and no more."""
+    with Cluster(2, started=[1]) as sites:
+        wanted = [f"queued {ticket}" for ticket in range(1, 33)] + ["error QueueFull"]
+        expect(sites[1].ask_all(["spend 1 5"] * 33), wanted)
+        expect(sites[1].ask("tick 6"), "tick expired 32 served 0 asks 0 sent 1")
+        expect(sites[1].ask_all(["spend 1 9"] * 40), ["error QueueFull"] * 40)
+        expect(sites[1].ask_all(["outcome 7", "outcome 7"]), ["expired", "unknown"])
+        expect(sites[1].ask_all(["spend 1 9", "spend 1 9"]), ["queued 33", "error QueueFull"])
+        replies = sites[1].ask_all([f"outcome {ticket}" for ticket in range(1, 34)])
+        expect(replies, ["expired"] * 6 + ["unknown"] + ["expired"] * 25 + ["waiting"])
+
+
 def lines_of_the_last_tick_go_out():
     """Rights that a closing site leaves to an heir arrive, though the site ends at once."""
     with Cluster(2) as sites:
@@ -160,10 +203,37 @@ def replies_come_at_once():
 
 
 def an_unfinished_last_line_is_a_command():
-    port, other = free_ports(2)
-    words = [program, "run", "--id", "1", "--sites", "2", "--listen", at(port), f"2={at(other)}"]
-    done = subprocess.run(words, input=b"issue 3\nspend 1 1", capture_output=True, timeout=10)
+    done = subprocess.run(site_words(), input=b"issue 3\nspend 1 1", capture_output=True, timeout=10)
     expect((done.returncode, done.stdout, done.stderr), (0, b"number 1\nspent 2\n", b""))
+
+
+def site_words():
+    own, other = free_ports(2)
+    return [program, "run", "--id", "1", "--sites", "2", "--listen", at(own), f"2={at(other)}"]
+
+
+def stream_that_is_reset(text):
+    """A stream that brings this text, and then fails."""
+    with socket.create_server(("127.0.0.1", 0)) as server:
+        writer = socket.create_connection(server.getsockname())
+        reader, _ = server.accept()
+        writer.sendall(text)
+        # To close it is to reset it.
+        writer.setsockopt(socket.SOL_SOCKET, socket.SO_LINGER, struct.pack("ii", 1, 0))
+        writer.close()
+        return reader
+
+
+def replies_before_a_read_that_fails():
+    with stream_that_is_reset(b"issue 3\nspend 1 1\nstatus") as stream:
+        done = subprocess.run(site_words(), stdin=stream, capture_output=True, timeout=10)
+    expect((done.returncode, done.stdout, done.stderr), (1, b"number 1\nspent 2\n", b"rights-site: read failed\n"))
+    folder = os.open(".", os.O_RDONLY)
+    try:
+        done = subprocess.run(site_words(), stdin=folder, capture_output=True, timeout=10)
+    finally:
+        os.close(folder)
+    expect((done.returncode, done.stdout, done.stderr), (1, b"", b"rights-site: read failed\n"), "of a folder")
 
 
 def dead_peers_hold_nothing_up():
@@ -236,6 +306,58 @@ def the_newest_connection_is_heard():
                     expect(old.recv(1), b"")
                 except ConnectionResetError:
                     pass
+
+
+def a_link_may_be_silent():
+    """Six seconds, which is longer than a first line may take: lines come then as before, both ways."""
+    with socket.create_server(("127.0.0.1", 0)) as ear:
+        with Cluster(2, started=[1], routes={(1, 2): at(ear.getsockname()[1])}) as sites:
+            sites[1].ask("tick 1")
+            heard = ear.accept()[0]
+            heard.settimeout(5)
+            with connect(sites, 1, b"H 2\nE 2 0 2 I:9 R:1:3\n") as stream, heard, heard.makefile("rb") as lines:
+                wait_for("site 1 heard site 2", sees(sites[1], None, received=3))
+                expect([lines.readline(), lines.readline()], [b"H 1\n", b"B 1 0\n"])
+                time.sleep(6)
+                stream.sendall(b"E 2 2 3 R:1:4\n")
+                wait_for("site 1 heard site 2 again", sees(sites[1], None, received=7), 3)
+                sites[1].ask_all(["spend 7 1", "tick 1"])
+                expect([lines.readline(), lines.readline()], [b"E 1 0 1 S:7\n", b"B 1 1\n"], "on the same connection")
+
+
+def an_entry_of_sixteen_moves():
+    with Cluster(2, started=[1]) as sites:
+        moves = b" ".join(b"R:1:%d" % n for n in range(1, 17))
+        with connect(sites, 1, b"H 2\nE 2 0 16 " + moves + b"\nE 2 16 33 " + moves + b" I:1\n"):
+            wait_for("site 1 applied 16 moves", sees(sites[1], 2, applied=16))
+            expect(sites[1].status()["received"], 136)
+        with connect(sites, 1, b"H 2\nA 2 1;E 2 16 32 " + moves + b"\n"):
+            wait_for("site 1 applied 16 moves of an answer", sees(sites[1], 2, applied=32, buffering=False))
+            expect(sites[1].status()["received"], 272)
+
+
+def entries_are_held():
+    """The status of a site that holds 60 entries, and of one that holds 64 and lost more."""
+    with Cluster(2, started=[1]) as sites:
+
+        def says(applied, held, received):
+            peer = f'{{"applied":{applied},"buffering":{str(held > 0).lower()},"held":{held},"site":2}}'
+            wanted = (
+                f'{{"closed":false,"held":{received},"issued":0,"number":0,"peers":[{peer}],'
+                f'"queued":0,"received":{received},"site":1,"spent":0}}'
+            )
+            wait_for(wanted, lambda: sites[1].ask("status") == wanted)
+
+        later = [b"E 2 %d %d R:1:1\n" % (n, n + 1) for n in range(1, 71)]
+        with connect(sites, 1, b"H 2\n" + b"".join(later[:60])) as stream:
+            says(0, 60, 0)
+            stream.sendall(b"".join(later[60:]))
+            says(0, 64, 0)
+            # The last six were lost, so they are missing still.
+            stream.sendall(b"E 2 0 1 R:1:1\n")
+            wait_for("site 1 applied 65", sees(sites[1], 2, applied=65, buffering=True, held=0))
+            stream.sendall(b"".join(later[64:]))
+            says(71, 0, 71)
 
 
 def bad_lines_are_skipped():
@@ -379,15 +501,21 @@ def main():
         a_lost_entry_is_asked_for,
         a_cut_connection_heals,
         a_closed_sites_rights_are_taken_back,
+        waiting_spends_are_served_by_one_tick,
+        outcomes_that_nobody_reads,
         lines_of_the_last_tick_go_out,
         a_site_ends_and_others_go_on,
         replies_come_at_once,
         an_unfinished_last_line_is_a_command,
+        replies_before_a_read_that_fails,
         dead_peers_hold_nothing_up,
         strangers_are_turned_away,
         silence_is_cut_off,
         a_silent_peer_holds_up_nobody,
         the_newest_connection_is_heard,
+        a_link_may_be_silent,
+        an_entry_of_sixteen_moves,
+        entries_are_held,
         bad_lines_are_skipped,
         a_flood_grows_nothing,
         a_peer_that_reads_nothing,

@@ -8,7 +8,8 @@ something to do.
 
 import random
 
-from script_model import ANY, GREATEST, MOST_BYTES, Model
+from line_model import ANY, GREATEST, MOST_BYTES
+from script_model import Model
 
 # The greatest deadline and time.
 LATEST = ANY[-1]
@@ -43,7 +44,7 @@ def can_take(world, s, o):
 
 def has_gap(world, s, o):
     """Entries of o are missing at s."""
-    return world.gap(s, o) is not None
+    return world.sites[s].peers[o].buffer.gap is not None
 
 
 def has_ask(world, s, o):

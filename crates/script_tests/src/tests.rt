@@ -1,10 +1,12 @@
 //! Scripts and events with ample memory, and with each growth refused.
 
 mod events;
+mod heaps;
 mod memory;
 mod script;
 mod session;
 mod sizes;
+mod sweeps;
 mod writers;
 
 use std::alloc::Global;

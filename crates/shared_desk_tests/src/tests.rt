@@ -1,4 +1,5 @@
 //! Shared desks, lanes and tallies by their public calls alone.
+mod appliers;
 mod desks;
 mod failing;
 mod gates;

@@ -1,6 +1,6 @@
 //! What a line of a running site's input is read as.
 use rights_types::SiteId;
-use site_words::{SiteCommand, read_command};
+use site_words::{DeskCommand, SiteCommand, read_command};
 
 /// A command by its name and its values; 0 stands for what is not there.
 type Shown = Option<(&'static str, u64, u64)>;
@@ -53,14 +53,20 @@ const LINES: [(&str, Shown); 40] = [
 
 fn shown(command: SiteCommand) -> (&'static str, u64, u64) {
     match command {
-        SiteCommand::Issue(amount) => ("issue", amount, 0),
-        SiteCommand::Give(peer, amount) => ("give", peer.number(), amount),
-        SiteCommand::Spend(amount, deadline) => ("spend", amount, deadline),
-        SiteCommand::Outcome(ticket) => ("outcome", ticket, 0),
+        SiteCommand::AtDesk(command) => shown_at_desk(command),
         SiteCommand::Tick(time) => ("tick", time, 0),
         SiteCommand::Status => ("status", 0, 0),
-        SiteCommand::Close(heir) => ("close", heir.map_or(0, SiteId::number), 0),
         SiteCommand::Quit => ("quit", 0, 0),
+    }
+}
+
+fn shown_at_desk(command: DeskCommand) -> (&'static str, u64, u64) {
+    match command {
+        DeskCommand::Issue(amount) => ("issue", amount, 0),
+        DeskCommand::Give(peer, amount) => ("give", peer.number(), amount),
+        DeskCommand::Spend(amount, deadline) => ("spend", amount, deadline),
+        DeskCommand::Outcome(ticket) => ("outcome", ticket, 0),
+        DeskCommand::Close(heir) => ("close", heir.map_or(0, SiteId::number), 0),
     }
 }
 

@@ -91,7 +91,7 @@ fn ends_with(alloc: Global, of_site: Result<(), SiteFault>, status: u8, line: &s
         &mut Full,
         &mut errors,
     );
-    answer == status && errors.as_slice() == line.as_bytes()
+    answer.status == status && errors.as_slice() == line.as_bytes()
 }
 
 /// What its site ends with is what the program ends with.
@@ -158,7 +158,9 @@ fn writes_slowly(alloc: Global, words: &[&str], status: u8, text: &[u8], line: &
         &mut writer,
         &mut errors,
     );
-    answer == status && writer.text.as_slice() == text && errors.text.as_slice() == line.as_bytes()
+    answer.status == status
+        && writer.text.as_slice() == text
+        && errors.text.as_slice() == line.as_bytes()
 }
 
 /// The same of words that ask for help, with its text.
@@ -205,9 +207,9 @@ fn ending_with(alloc: Global, words: &[&[u8]], granted: u64, status: u8, line: &
         &mut errors,
     );
     let refused = refusing.refused();
-    if answer == 1 && refused && errors.as_slice() == OUT_OF_MEMORY.as_bytes() {
+    if answer.status == 1 && refused && errors.as_slice() == OUT_OF_MEMORY.as_bytes() {
         Ending::Stopped
-    } else if answer != status || errors.as_slice() != line.as_bytes() {
+    } else if answer.status != status || errors.as_slice() != line.as_bytes() {
         Ending::Wrong
     } else if refused {
         Ending::Managed

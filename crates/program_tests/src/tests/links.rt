@@ -1,4 +1,5 @@
 //! Connections without sockets: readers and writers that break, that are slow, or that are interrupted.
+mod entries;
 mod hello;
 mod pieces;
 mod ports;

@@ -10,6 +10,7 @@ use std::alloc::{Allocator, Global};
 use std::sync::Wait;
 use std::thread;
 use std::thread::Threads;
+use std::time::{Clock, Duration};
 use test_kit::requests_of;
 
 /// The beat of site 1 with this number.
@@ -162,6 +163,25 @@ fn two_threads_put_and_one_takes(rt: HostRuntime) {
     );
     assert!(rt; put);
     assert_eq!(rt; taken, 200);
+}
+
+/// Puts a beat once another thread has had time to wait for it, and answers whether it found room.
+fn put_late<R: Wait + Clock>(rt: &R, alloc: Global, outbox: &Outbox) -> bool {
+    thread::sleep(rt, Duration::from_millis(50));
+    put_beats(rt, alloc, outbox, 7, 8)
+}
+
+#[test]
+fn a_put_wakes_a_taker(rt: HostRuntime) {
+    let outbox = Outbox::new(rt.alloc()).expect(&rt, "memory");
+    let alloc = rt.alloc();
+    let (put, taken) = thread::join(
+        &rt,
+        || put_late(&rt, alloc, &outbox),
+        || takes_beats(&rt, alloc, &outbox, 7, 8),
+    );
+    assert!(rt; put);
+    assert!(rt; taken);
 }
 
 /// Whether an outbox is made, or refused for want of memory alone; where it is made, nothing that it is

@@ -44,6 +44,48 @@ impl Write for Full {
     }
 }
 
+/// A stream of which every other call is interrupted, the first one too.
+#[derive(Drop)]
+struct Interrupted<S> {
+    stream: S,
+    was_interrupted: bool,
+}
+
+impl<S> Interrupted<S> {
+    fn new(stream: S) -> Interrupted<S> {
+        Interrupted {
+            stream,
+            was_interrupted: false,
+        }
+    }
+
+    fn interrupt(&mut self) -> io::Result<()> {
+        self.was_interrupted = !self.was_interrupted;
+        if self.was_interrupted {
+            return Err(io::Error::from(ErrorKind::Interrupted));
+        }
+        Ok(())
+    }
+}
+
+impl<S: Read> Read for Interrupted<S> {
+    fn read(&mut self, buf: &mut [u8]) -> io::Result<usize> {
+        self.interrupt()?;
+        self.stream.read(buf)
+    }
+}
+
+impl<S: Write> Write for Interrupted<S> {
+    fn write(&mut self, buf: &[u8]) -> io::Result<usize> {
+        self.interrupt()?;
+        self.stream.write(buf)
+    }
+
+    fn flush(&mut self) -> io::Result<()> {
+        self.stream.flush()
+    }
+}
+
 const SCRIPT: &[u8] =
     b"report\ntake 1 2\nnoise\nsites 1\nsites 17\nsites 02\nsites +2\nsites 2 2\nsites 2 \nsites\nsites 2\nsites 2\nsites 3\npost 3 I:5\npost 17 I:5\npost 0 I:5\npost 1 \npost  1 I:5\npost 1 I:0\npost\npublish 1 3\npublish 1 1\npublish 1\npublish 1 2 3\narrive 1 18446744073709551615\narrive 1 18446744073709551616\narrive 1 99999999999999999999\narrive 1 0\narrive 1 00\narrive 3 1\narrive 1\t1\narrive 1 1\r\n\ntake 2 1 \ntake 2 2\nTake 2 1\nreport 1\nreport";
 
@@ -99,6 +141,18 @@ fn long_lines(rt: HostRuntime) {
     for step in [16383, 16384, 16385, 65536] {
         assert!(rt; is_replied_slowly(rt.alloc(), &script, step, expected));
     }
+}
+
+#[test]
+fn interrupted_calls_are_tried_again(rt: HostRuntime) {
+    let mut reader = Interrupted::new(FewAtATime {
+        rest: SCRIPT,
+        step: 100,
+    });
+    let mut out = Interrupted::new(Vec::new(rt.alloc()));
+    let result = run_script(rt.alloc(), &mut reader, &mut out);
+    assert!(rt; result == Ok(()));
+    assert!(rt; out.stream.as_slice() == REPLIES);
 }
 
 #[test]

@@ -25,6 +25,8 @@ struct Meeting {
 }
 
 impl Gate for Meeting {
+    ghost passes = { λ _ _ _. Unit {0} };
+
     fn before_apply<R: Wait + Clock>(&mut self, rt: &R, _origin: SiteId) {
         self.come.fetch_add(1, Ordering::SeqCst);
         for _ in 0..10_000 {
@@ -125,6 +127,10 @@ fn met_at<D: DeskNames + Send + Sync, R: Threads + Wait + Clock + Abort + Sync>(
     let (come, late) = (counter(rt, alloc), counter(rt, alloc));
     let (one, other) = (gate(rt, &come, &late), gate(rt, &come, &late));
     let applied = applied_at(rt, alloc, desk, one, other);
+    assert!(rt;
+        come.load(Ordering::SeqCst) == 2,
+        "a gate was not passed once"
+    );
     assert!(rt; late.load(Ordering::SeqCst) == 0, "a gate waited too long");
     applied
 }

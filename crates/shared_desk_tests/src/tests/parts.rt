@@ -60,7 +60,7 @@ fn a_missing_seat<D: DeskNames, R: Wait + Abort>(
 {
     let desk = SharedDesk::<D>::new(desk, blanks);
     let seats = a_seat(rt, alloc, &desk);
-    let missing = seat_at(rt, &desk);
+    let mut missing = seat_at(rt, &desk);
     let parts = Parts {
         desk,
         seats,
@@ -71,6 +71,7 @@ fn a_missing_seat<D: DeskNames, R: Wait + Abort>(
         seats,
         applied,
     } = without_a_seat(rt, parts);
+    issue(rt, &desk, &mut missing, 5);
     let parts = Parts {
         desk,
         seats: pushed(rt, seats, missing),
@@ -79,17 +80,17 @@ fn a_missing_seat<D: DeskNames, R: Wait + Abort>(
     report_of(rt, parts)
 }
 
-/// A desk stops once all seats are back.
+/// A desk stops once all seats are back, and goes on until then.
 #[test]
 fn no_stop_without_a_seat(rt: HostRuntime) {
     let desk = desk_among(&rt, rt.alloc(), 2);
     let report = a_missing_seat::<Brand, HostRuntime>(&rt, rt.alloc(), desk, Blanks::new());
-    assert!(rt; report.issued == 10 && report.spent == 0);
-    assert!(rt; report.given == 3 && report.held == 7);
+    assert!(rt; report.issued == 15 && report.spent == 0);
+    assert!(rt; report.given == 3 && report.held == 12);
 }
 
-// Why an applier of that origin is refused, and that its lane comes back.
-fn refusal<D: DeskNames, R: Wait + Abort>(
+/// Why an applier of that origin is refused, and that its lane comes back.
+pub(crate) fn refusal<D: DeskNames, R: Wait + Abort>(
     rt: &R,
     alloc: Global,
     desk: &SharedDesk<D>,

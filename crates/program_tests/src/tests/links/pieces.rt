@@ -1,14 +1,12 @@
 //! Lines of every length, with ample memory, and those that want memory where it is refused. A body that
 //! gives up on some length is proved, since it may always want memory, and is found here.
 use crate::tests::links::hello::left_without_hello;
-use crate::tests::links::reading::is_told_first;
 use crate::tests::outbox::long_line;
 use entry_codec::LineCutter;
 use peer_links::{Piece, next_piece};
 use refusing_allocator::Refusing;
 use rights_types::{MAX_LINE, OutOfMemory};
 use std::alloc::{Allocator, Global};
-use std::sync::Wait;
 use test_kit::requests_of;
 
 /// So many lengths of lines are tried, up to one byte more than a line may have.
@@ -89,25 +87,6 @@ fn line_is_given(alloc: &Refusing<Global>) -> bool {
 fn each_growth_for_a_piece_refused(rt: HostRuntime) {
     let requests = requests_of(rt.alloc(), |alloc| line_is_given(alloc));
     assert_eq!(rt; requests, Some(2));
-}
-
-/// Whether the text is taken in once a line feed ends it. It is one byte longer then, and has no line feed.
-fn next_comes<R: Wait>(rt: &R, alloc: Global, text: &mut Vec<u8>) -> bool {
-    if text.push(b'\n').is_err() {
-        return false;
-    }
-    // It comes by two reads, so that it is copied.
-    let told = is_told_first(rt, alloc, text, text.len() / 2 + 1, b"n0\n");
-    text.pop();
-    told && text.push(b'x').is_ok()
-}
-
-#[test]
-fn lines_of_every_length_come(rt: HostRuntime) {
-    let mut text = Vec::new(rt.alloc());
-    for length in 1..=LENGTHS {
-        assert!(rt; next_comes(&rt, rt.alloc(), &mut text), "{length} bytes");
-    }
 }
 
 /// Lengths of lines: the short ones, and of the others those about the multiples of 128.

@@ -3,8 +3,8 @@ ghost use Rattle.std.specs.Prelude.{◌≡◌, [], false, IfOk};
 ghost use Rattle.entry_codec.specs.Pieces.{IsLine};
 
 use apply_lanes::{Intake, Outlet, lane};
-use peer_links::Port;
-use rights_types::{Message, OutOfMemory, SiteId};
+use peer_links::{DeskMessage, Port};
+use rights_types::{OutOfMemory, SiteId};
 use site_core::Inbound;
 use std::alloc::Global;
 use std::sync::Wait;
@@ -18,12 +18,15 @@ pub(crate) struct Noting {
 }
 
 impl Port for Noting {
-    fn message<R: Wait>(&mut self, _rt: &R, message: Message) -> Result<(), OutOfMemory> {
+    ghost accepts = { λ _. Unit {0} };
+
+    ghost hears = { λ _ _ _. Unit {0} };
+
+    fn message<R: Wait>(&mut self, _rt: &R, message: DeskMessage) -> Result<(), OutOfMemory> {
         let note: &[u8] = match message {
-            Message::Query(_) => b"Q\n",
-            Message::Ask(_) => b"W\n",
-            Message::Deny(_) => b"D\n",
-            _ => b"?\n",
+            DeskMessage::Query(_) => b"Q\n",
+            DeskMessage::Ask(_) => b"W\n",
+            DeskMessage::Deny(_) => b"D\n",
         };
         self.text.extend_from_slice(note)?;
         Ok(())
@@ -56,7 +59,11 @@ impl Port for Noting {
 pub(crate) struct Lacking;
 
 impl Port for Lacking {
-    fn message<R: Wait>(&mut self, _rt: &R, _message: Message) -> Result<(), OutOfMemory> {
+    ghost accepts = { λ _. Unit {0} };
+
+    ghost hears = { λ _ _ _. Unit {0} };
+
+    fn message<R: Wait>(&mut self, _rt: &R, _message: DeskMessage) -> Result<(), OutOfMemory> {
         Err(OutOfMemory)
     }
 

@@ -1,6 +1,7 @@
 //! Lines that come, over connections that are cut.
 ghost use Rattle.std.specs.Prelude.{◌≡◌, false, IfSome};
 ghost use Rattle.thread_parts.specs.Items.{IsOpen};
+ghost use Rattle.peer_links.specs.declared.link.DeskMessage.{DeskMessage};
 
 use crate::tests::links::hello::first_line;
 use crate::tests::links::ports::{Lacking, Noting, link_in};
@@ -23,7 +24,8 @@ fn connect<R: Wait, I: Read, P: Port>(
     reader: &mut I,
     port: &mut P,
 ) -> Result<(), LinkFault>
-    requires { intake.old.finished ≡ false }
+    requires unfinished { intake.old.finished ≡ false }
+    requires accepts { (m : DeskMessage) → P.accepts m }
     ensures { intake.new.finished ≡ false }
 {
     let mut cutter = LineCutter::new(alloc)?;
@@ -50,7 +52,7 @@ fn comes<R: Wait, I: Read>(
 
 /// Whether a connection with this text, of which each read gives at most `step` bytes, is read to its end, and
 /// the port is told that.
-fn is_told<R: Wait>(
+pub(crate) fn is_told<R: Wait>(
     rt: &R,
     alloc: Global,
     intake: &mut Intake,
@@ -92,7 +94,7 @@ pub(crate) fn is_told_first<R: Wait>(
 }
 
 /// The own number of the next item, if it is an entry.
-fn take_own<R: Wait>(rt: &R, outlet: &mut Outlet) -> Option<u64>
+pub(crate) fn take_own<R: Wait>(rt: &R, outlet: &mut Outlet) -> Option<u64>
     requires { IsOpen outlet.old.taken }
     ensures { IfSome result (λ _. IsOpen outlet.new.taken) }
 {
@@ -201,11 +203,11 @@ fn a_long_line_is_skipped(rt: HostRuntime) {
 #[test]
 fn a_read_that_is_interrupted_is_tried_again(rt: HostRuntime) {
     let mut reader = Interrupted {
-        rest: b"B 1 5\n",
+        rest: LINES,
+        step: 5,
         interrupted: false,
     };
-    let told = b"Q 2 1 1 5\nb0\n";
-    assert!(rt; comes_first(&rt, rt.alloc(), &mut reader, Ok(()), told));
+    assert!(rt; comes_first(&rt, rt.alloc(), &mut reader, Ok(()), TOLD));
 }
 
 #[test]

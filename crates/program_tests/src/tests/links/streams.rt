@@ -1,7 +1,10 @@
 //! Readers and writers that break.
-use std::alloc::Allocator;
+use crate::tests::outbox::put_beats;
+use peer_links::Outbox;
+use std::alloc::{Allocator, Global};
 use std::io;
 use std::io::{ErrorKind, Read, Write};
+use std::sync::Wait;
 
 /// A writer that takes so many bytes in all, and then fails.
 #[derive(Drop)]
@@ -35,6 +38,8 @@ impl<A: Allocator> Write for Torn<A> {
 pub(crate) struct Counting<A: Allocator> {
     /// What was written.
     pub(crate) text: Vec<u8, A>,
+    /// The most bytes that one write takes.
+    pub(crate) step: usize,
     /// How many writes took bytes.
     pub(crate) writes: u64,
     pub(crate) interrupted: bool,
@@ -48,10 +53,11 @@ impl<A: Allocator> Write for Counting<A> {
         }
         self.interrupted = false;
         self.writes = self.writes.wrapping_add(1);
-        if self.text.extend_from_slice(buf).is_err() {
+        let count = buf.len().min(self.step);
+        if self.text.extend_from_slice(&buf[..count]).is_err() {
             return Err(io::Error::from(ErrorKind::OutOfMemory));
         }
-        Ok(buf.len())
+        Ok(count)
     }
 
     fn flush(&mut self) -> io::Result<()> {
@@ -85,6 +91,8 @@ impl Read for Failing<'_> {
 pub(crate) struct Interrupted<'a> {
     /// What is still to be read.
     pub(crate) rest: &'a [u8],
+    /// The most bytes that one read gives.
+    pub(crate) step: usize,
     pub(crate) interrupted: bool,
 }
 
@@ -95,9 +103,48 @@ impl Read for Interrupted<'_> {
             return Err(io::Error::from(ErrorKind::Interrupted));
         }
         self.interrupted = false;
-        let count = buf.len().min(self.rest.len());
+        let count = buf.len().min(self.step).min(self.rest.len());
         buf[..count].copy_from_slice(&self.rest[..count]);
         self.rest = &self.rest[count..];
         Ok(count)
+    }
+}
+
+/// A writer that puts the next beat into the outbox at each write, so that each write is of one line, and
+/// ends the outbox behind the last one.
+#[derive(Drop)]
+pub(crate) struct Feeding<'a, R: Wait> {
+    pub(crate) rt: &'a R,
+    pub(crate) alloc: Global,
+    pub(crate) outbox: &'a Outbox,
+    /// The number of the next beat.
+    pub(crate) next: u64,
+    /// The number behind that of the last one.
+    pub(crate) end: u64,
+    /// What was written.
+    pub(crate) text: Vec<u8>,
+}
+
+impl<R: Wait> Write for Feeding<'_, R> {
+    fn write(&mut self, buf: &[u8]) -> io::Result<usize> {
+        if self.text.extend_from_slice(buf).is_err() {
+            return Err(io::Error::from(ErrorKind::OutOfMemory));
+        }
+        if self.next == self.end {
+            self.outbox.end(self.rt);
+        } else if put_beats(
+            self.rt,
+            self.alloc,
+            self.outbox,
+            self.next,
+            self.next.wrapping_add(1),
+        ) {
+            self.next = self.next.wrapping_add(1);
+        }
+        Ok(buf.len())
+    }
+
+    fn flush(&mut self) -> io::Result<()> {
+        Ok(())
     }
 }

@@ -1,10 +1,11 @@
 //! Lines that go, to writers that are slow, full or broken.
 ghost use Rattle.std.specs.Prelude.{◌≤◌};
 
-use crate::tests::links::streams::{Counting, Torn};
-use crate::tests::outbox::{long_line, put_beats};
+use crate::tests::links::streams::{Counting, Feeding, Torn};
+use crate::tests::outbox::{beat, long_line, put_beats};
 use peer_links::{LinkFault, Outbox, write_link};
 use refusing_allocator::Refusing;
+use rights_types::OutOfMemory;
 use std::alloc::Global;
 use std::sync::Wait;
 use test_kit::Slow;
@@ -27,7 +28,7 @@ fn gives<R: Wait>(rt: &R, alloc: Global, outbox: &Outbox, step: usize, text: &[u
         text: Vec::new(alloc),
         step,
     };
-    write_link(rt, &mut writer, outbox).is_ok() && writer.text.as_slice() == text
+    write_link(rt, &mut writer, &mut &*outbox).is_ok() && writer.text.as_slice() == text
 }
 
 /// Whether a writer that fails behind so many bytes gets this text, and the failure is told.
@@ -36,18 +37,26 @@ fn is_torn<R: Wait>(rt: &R, alloc: Global, outbox: &Outbox, room: usize, text: &
         text: Vec::new(alloc),
         room,
     };
-    write_link(rt, &mut torn, outbox) == Err(LinkFault::WriteFailed) && torn.text.as_slice() == text
+    write_link(rt, &mut torn, &mut &*outbox) == Err(LinkFault::WriteFailed)
+        && torn.text.as_slice() == text
 }
 
-/// How many writes give this text to the outbox's end, where each is interrupted first. `None` where another
-/// text is given.
-fn writes_of<R: Wait>(rt: &R, alloc: Global, outbox: &Outbox, text: &[u8]) -> Option<u64> {
+/// How many writes of at most `step` bytes give this text to the outbox's end, where each is interrupted
+/// first. `None` where another text is given.
+fn writes_of<R: Wait>(
+    rt: &R,
+    alloc: Global,
+    outbox: &Outbox,
+    step: usize,
+    text: &[u8],
+) -> Option<u64> {
     let mut writer = Counting {
         text: Vec::new(alloc),
+        step,
         writes: 0,
         interrupted: false,
     };
-    let written = write_link(rt, &mut writer, outbox);
+    let written = write_link(rt, &mut writer, &mut &*outbox);
     if written.is_ok() && writer.text.as_slice() == text {
         Some(writer.writes)
     } else {
@@ -94,15 +103,56 @@ fn a_writer_that_takes_no_byte(rt: HostRuntime) {
         text: Vec::new(rt.alloc()),
         step: 0,
     };
-    let written = write_link(&rt, &mut writer, &outbox);
+    let written = write_link(&rt, &mut writer, &mut &outbox);
     assert_eq!(rt; written, Err(LinkFault::WriteFailed));
 }
 
 #[test]
 fn lines_that_wait_go_by_one_write(rt: HostRuntime) {
     let outbox = five_beats(&rt, rt.alloc()).expect(&rt, "five beats");
-    let writes = writes_of(&rt, rt.alloc(), &outbox, FIVE_BEATS);
+    let writes = writes_of(&rt, rt.alloc(), &outbox, 1000, FIVE_BEATS);
     assert_eq!(rt; writes, Some(1));
+}
+
+#[test]
+fn a_write_that_is_interrupted_goes_on(rt: HostRuntime) {
+    let outbox = five_beats(&rt, rt.alloc()).expect(&rt, "five beats");
+    let writes = writes_of(&rt, rt.alloc(), &outbox, 4, FIVE_BEATS);
+    assert_eq!(rt; writes, Some(8));
+}
+
+/// The beats that are written one at a time, up to this number, each put while the one before it is written.
+fn beats_one_by_one<R: Wait>(rt: &R, alloc: Global, end: u64) -> Option<Vec<u8>> {
+    let outbox = Outbox::new(alloc).ok()?;
+    if !put_beats(rt, alloc, &outbox, 0, 1) {
+        return None;
+    }
+    let mut writer = Feeding {
+        rt,
+        alloc,
+        outbox: &outbox,
+        next: 1,
+        end,
+        text: Vec::new(alloc),
+    };
+    write_link(rt, &mut writer, &mut &outbox).ok()?;
+    Some(writer.text)
+}
+
+/// The beats with the numbers below this one.
+fn beats_below(alloc: Global, end: u64) -> Result<Vec<u8>, OutOfMemory> {
+    let mut text = Vec::new(alloc);
+    for number in 0..end {
+        text.extend_from_slice(&beat(alloc, number)?)?;
+    }
+    Ok(text)
+}
+
+#[test]
+fn many_writes_over_one_link(rt: HostRuntime) {
+    let wanted = beats_below(rt.alloc(), 2_000).expect(&rt, "memory");
+    let written = beats_one_by_one(&rt, rt.alloc(), 2_000).expect(&rt, "all is written");
+    assert!(rt; written == wanted);
 }
 
 /// Puts a line of so many bytes, adds it to the text, and answers whether there was room for it.
@@ -131,7 +181,7 @@ fn lines_of_any_length_go(rt: HostRuntime) {
         assert!(rt; put_long(&rt, rt.alloc(), &outbox, &mut text, length));
     }
     outbox.end(&rt);
-    let writes = writes_of(&rt, rt.alloc(), &outbox, &text);
+    let writes = writes_of(&rt, rt.alloc(), &outbox, 100_000, &text);
     assert_eq!(rt; writes, Some(8));
 }
 
@@ -163,7 +213,7 @@ fn are_written<R: Wait>(rt: &R, alloc: Global, memory: &Refusing<Global>) -> boo
         text: Vec::new(alloc),
         step: 100,
     };
-    put && write_link(rt, &mut writer, &outbox).is_ok()
+    put && write_link(rt, &mut writer, &mut &outbox).is_ok()
 }
 
 #[test]
