@@ -401,7 +401,7 @@ def an_entry_of_other_moves_under_an_old_number_is_a_repeat(trial):
 def a_held_entry_stays_as_it_came(trial):
     first, second, third = entries(2, "I:1", "R:1:2", "R:1:3")
     trial.hear(2, second)
-    trial.hear(2, *entries(2, "R:1:9 R:1:9", prev=1))
+    trial.hear(2, *entries(2, "R:1:9", prev=1))
     trial.hear(2, "A 2 1;" + entries(2, "R:1:7", prev=1)[0])
     trial.hear(2, first)
     trial.hear(2, third)
