@@ -1,6 +1,9 @@
 //! What the threads of a site share, beside its desk.
 
-use crate::door::Door;
+use crate::clients::{Clients, wake};
+use crate::door::WAITING;
+use crate::hall::Hall;
+use crate::moments::Moments;
 use crate::peer::{Peer, peers_of};
 use crate::sending::Senders;
 use rights_types::{OutOfMemory, SiteId};
@@ -15,7 +18,10 @@ use std::time::{Clock, Duration};
 /// How many seconds an attempt to connect may take.
 pub(crate) const CONNECT_SECONDS: u64 = 1;
 
-/// How many seconds lines that wait are still written for after the last command.
+/// How many seconds requests that have begun are still answered for after the last command.
+const LAST_REPLIES_SECONDS: u64 = 1;
+
+/// How many seconds lines that wait are still written for after that.
 const LAST_LINES_SECONDS: u64 = 1;
 
 /// How many milliseconds the accepting thread rests where a connection could not be accepted.
@@ -28,8 +34,12 @@ pub struct Site {
     listener: TcpListener,
     /// The other sites, in order.
     peers: Vec<Peer>,
-    pub(crate) door: Door,
+    /// The connections that wait for their first line.
+    pub(crate) door: Hall,
     pub(crate) senders: Senders,
+    /// Where clients connect, if they may.
+    pub clients: Option<Clients>,
+    pub moments: Moments,
     /// An applier met a refused request for memory.
     out_of_memory: AtomicBool,
 }
@@ -40,19 +50,25 @@ impl Site {
         rt: &R,
         config: &Config,
     ) -> Result<Site, SiteFault> {
-        match TcpListener::bind(rt, config.listen()) {
-            Ok(listener) => Ok(Site::new(rt.alloc(), config, listener)?),
-            Err(_) => Err(SiteFault::CannotListen),
-        }
+        let listener = listen(rt, config.listen())?;
+        let clients = clients_of(rt, config)?;
+        Ok(Site::new(rt.alloc(), config, listener, clients)?)
     }
 
-    fn new(alloc: Global, config: &Config, listener: TcpListener) -> Result<Site, OutOfMemory> {
+    fn new(
+        alloc: Global,
+        config: &Config,
+        listener: TcpListener,
+        clients: Option<Clients>,
+    ) -> Result<Site, OutOfMemory> {
         Ok(Site {
             id: config.id(),
             listener,
             peers: peers_of(alloc, config)?,
-            door: Door::new(alloc)?,
+            door: Hall::new(alloc, WAITING)?,
             senders: Senders::new(),
+            clients,
+            moments: Moments::new(),
             out_of_memory: AtomicBool::new(false),
         })
     }
@@ -94,20 +110,52 @@ impl Site {
         None
     }
 
-    /// Ends all threads: lines that wait are still sent for a while, and then no stream is left open.
+    /// Ends all threads: requests that have begun are still answered and lines that wait still sent for a while, and then
+    /// no stream is left open.
     pub fn shut_down<R: Net<Stream = TcpStream> + Wait + Clock>(&self, rt: &R) {
+        self.moments.end(rt);
+        if let Some(clients) = &self.clients {
+            clients.end(rt, Duration::from_secs(LAST_REPLIES_SECONDS));
+        }
         for peer in &self.peers {
             peer.outbox.end(rt);
         }
         self.senders
             .wait_for_all(rt, Duration::from_secs(LAST_LINES_SECONDS));
+        self.close(rt);
+    }
+
+    /// Leaves no stream open.
+    fn close<R: Net<Stream = TcpStream> + Wait>(&self, rt: &R) {
+        if let Some(clients) = &self.clients {
+            clients.close(rt);
+        }
         self.door.close(rt);
         for peer in &self.peers {
             peer.close(rt);
         }
-        // The accepting thread wakes by one more connection.
-        if let Ok(address) = self.listener.local_addr() {
-            let _ = TcpStream::connect_timeout(rt, &address, Duration::from_secs(CONNECT_SECONDS));
-        }
+        wake(rt, &self.listener);
     }
+}
+
+fn listen<R: Net<Listener = TcpListener, Stream = TcpStream>>(
+    rt: &R,
+    address: &str,
+) -> Result<TcpListener, SiteFault> {
+    match TcpListener::bind(rt, address) {
+        Ok(listener) => Ok(listener),
+        Err(_) => Err(SiteFault::CannotListen),
+    }
+}
+
+/// Where clients may connect, if the configuration says so.
+fn clients_of<R: Net<Listener = TcpListener, Stream = TcpStream> + AllocGlobal>(
+    rt: &R,
+    config: &Config,
+) -> Result<Option<Clients>, SiteFault> {
+    let Some(address) = config.http() else {
+        return Ok(None);
+    };
+    let listener = listen(rt, address)?;
+    Ok(Some(Clients::new(rt.alloc(), listener, config.log())?))
 }

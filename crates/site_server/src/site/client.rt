@@ -1,5 +1,5 @@
-//! What the lines of a site's input are answered. The node decides what is done and replied; this decides under which hold
-//! of the desk's lock it is done.
+//! What a client of a site is answered. The node decides what is done and replied; this decides under which hold of the
+//! desk's lock it is done.
 ghost use Rattle.std.specs.Prelude.{◌≡◌, ◌++◌, List, ℕ, [], IfOk, OnOk, OnErr, Ok};
 ghost use Rattle.std.specs.List.{All};
 ghost use Rattle.std.specs.Io.KnownBytes.{IsAtEnd};
@@ -12,27 +12,51 @@ ghost use Rattle.site_words.specs.Status.{status_text};
 ghost use Rattle.site_server.specs.Replying.{asked, CarriesOut, TicksAtDesk, AreViews, IsApplied, TellsStatus, TicksAndSends, DoesDue, Gets, GetsBy};
 ghost use Rattle.site_server.specs.Conversations.{CountsReplies};
 
-use apply_lanes::{DeskNames, DeskView, Seat, SharedDesk};
+use crate::site::bell::{Bell, SiteBell};
+use crate::site::outboxes::Outboxes;
+use crate::site::shared::Shared;
+use apply_lanes::{DeskNames, DeskView, Seat};
 use line_streams::{EndedBy, Goes, LineFault, LineHandler, Replies, answer_lines};
-use reply_texts::put_bad_command;
+use reply_texts::{REPLY_ROOM, put_bad_command};
+use request_queue::Status;
 use rights_types::OutOfMemory;
-use site_core::{Desk, DeskError};
-use site_node::{Peers, TICK_ROOM, Ticked, answer_command, answer_tick, send_to_all, serve_due};
+use site_core::{Desk, DeskError, Spending};
+use site_node::{
+    Peers, Reply, TICK_ROOM, Ticked, act, answer_reply, answer_tick, send_to_all, serve_due,
+};
 use site_sockets::Site;
 use site_words::{DeskCommand, PeerView, SiteCommand, read_command, status_text};
 use std::alloc::{Allocator, Global};
 use std::io::{Read, Write};
 use std::sync::{Arc, Wait};
 
-/// What answers the commands of a site: a seat at its desk, and its peers.
+/// A client of a site: a seat at its desk, its peers, and what tells of its ticks.
 #[derive(Drop)]
-pub(crate) struct Console<'a, D: DeskNames, R: Wait, P: Peers + Drop> {
+pub(crate) struct SiteClient<'a, D: DeskNames, R: Wait, P: Peers + Drop, B: Bell + Drop> {
     rt: &'a R,
     alloc: Global,
     site: &'a Site,
-    desk: Arc<SharedDesk<D>>,
+    shared: Arc<Shared<D>>,
     seat: Seat<D>,
     peers: P,
+    bell: B,
+}
+
+/// A client of a site that runs.
+pub(crate) type ClientOf<'a, D, R> = SiteClient<'a, D, R, Outboxes<'a, D, R>, SiteBell<'a, R>>;
+
+/// A client with the seat of this place. None where that seat is taken, or there is no memory; then no seat is taken.
+pub(crate) fn client_at<'a, D: DeskNames, R: Wait + AllocGlobal>(
+    rt: &'a R,
+    site: &'a Site,
+    shared: &Arc<Shared<D>>,
+    place: usize,
+) -> Option<ClientOf<'a, D, R>> {
+    let peers = Outboxes::new(rt, shared.clone().ok()?, site.peers())?;
+    let bell = SiteBell::new(rt, &site.moments);
+    let desk = shared.clone().ok()?;
+    let seat = shared.seats.take(rt, place)?;
+    Some(SiteClient::new(rt, rt.alloc(), site, desk, seat, peers, bell))
 }
 
 /// The command that a line spells, given without its line feed; `None` stands for a line that is too long.
@@ -40,6 +64,14 @@ fn command_in(text: Option<&[u8]>) -> Option<SiteCommand>
     ensures { (line : List ℕ) → IsGiven line text.entry → result ≡ asked line }
 {
     read_command(text?)
+}
+
+/// Whether a spend still waits, by what was told of it.
+fn is_waiting(reply: Reply) -> bool {
+    match reply {
+        Reply::Outcome(Status::Waiting) => true,
+        _ => false,
+    }
 }
 
 /// Adds that a line is no command.
@@ -68,29 +100,36 @@ fn add_status<A: Allocator>(
     replies.finish()
 }
 
-impl<'a, D: DeskNames, R: Wait, P: Peers + Drop> Console<'a, D, R, P> {
-    /// A console with a seat of its own.
+impl<'a, D: DeskNames, R: Wait, P: Peers + Drop, B: Bell + Drop> SiteClient<'a, D, R, P, B> {
+    /// A client with this seat.
     pub(crate) fn new(
         rt: &'a R,
         alloc: Global,
         site: &'a Site,
-        desk: Arc<SharedDesk<D>>,
+        shared: Arc<Shared<D>>,
+        seat: Seat<D>,
         peers: P,
-    ) -> Result<Console<'a, D, R, P>, OutOfMemory>
-        ensures { IfOk result (λ console. console.seat ≡ told_nothing) }
+        bell: B,
+    ) -> SiteClient<'a, D, R, P, B>
+        ensures { result.seat ≡ seat }
     {
-        let Ok(seat) = desk.seat(rt) else {
-            // This is the first seat of many, so it does not come to this.
-            return Err(OutOfMemory);
-        };
-        Ok(Console {
+        SiteClient {
             rt,
             alloc,
             site,
-            desk,
+            shared,
             seat,
             peers,
-        })
+            bell,
+        }
+    }
+
+    /// The seat, of which the client is taken apart.
+    pub(crate) fn into_seat(self) -> Seat<D>
+        ensures { result ≡ self.seat }
+    {
+        let SiteClient { seat, .. } = self;
+        seat
     }
 
     /// Answers each line of the input till `quit` or its end. Whatever ends it, what the client was told as issued and as
@@ -108,7 +147,7 @@ impl<'a, D: DeskNames, R: Wait, P: Peers + Drop> Console<'a, D, R, P> {
         answer_lines(self.alloc, self, reader, writer)
     }
 
-    /// Carries out a command at the desk, and adds its reply.
+    /// Carries out a command, and adds its reply.
     fn carry_out<A: Allocator>(
         &mut self,
         command: DeskCommand,
@@ -119,11 +158,59 @@ impl<'a, D: DeskNames, R: Wait, P: Peers + Drop> Console<'a, D, R, P> {
         ensures err { OnErr result ((self.new.seat ≡ self.old.seat) × (replies.new.whole ≡ replies.old.whole)) }
         ensures peers { self.new.peers ≡ self.old.peers }
     {
-        let mut kept = self.desk.lock(self.rt);
+        // First, so that no command is carried out whose reply finds no room.
+        replies.reserve(REPLY_ROOM)?;
+        let reply = self.act(command);
+        answer_reply(replies, reply);
+        Ok(())
+    }
+
+    /// The same where the client waits for what becomes of a spend.
+    fn settle_command<A: Allocator>(
+        &mut self,
+        command: DeskCommand,
+        replies: &mut Replies<A>,
+    ) -> Result<(), OutOfMemory> {
+        replies.reserve(REPLY_ROOM)?;
+        // Before, so that no tick behind it is missed.
+        let seen = self.bell.count();
+        let reply = self.act(command);
+        let settled = self.settled(reply, seen);
+        answer_reply(replies, settled);
+        Ok(())
+    }
+
+    /// Carries out a command at the desk, under its lock.
+    fn act(&mut self, command: DeskCommand) -> Reply {
+        let mut kept = self.shared.lock(self.rt);
         let kept = &mut *kept;
         // For the proof: what holds whenever the lock is free.
         let _ = kept.desk();
-        answer_command(kept, &mut self.seat, command, replies)
+        act(kept, &mut self.seat, command)
+    }
+
+    /// What becomes of a spend that waits, from so many ticks on; else the reply itself.
+    fn settled(&mut self, reply: Reply, seen: u64) -> Reply {
+        match reply {
+            Reply::Spending(Spending::Queued(ticket)) => self.outcome(ticket, seen),
+            _ => reply,
+        }
+    }
+
+    /// Waits, tick by tick, for what becomes of the spend of this ticket, and reads it, which frees its slot. At the end
+    /// of the site it is told as queued.
+    fn outcome(&mut self, ticket: u64, mut seen: u64) -> Reply {
+        for _ in self.rt.forever() {
+            let Some(count) = self.bell.next(seen) else {
+                return Reply::Spending(Spending::Queued(ticket));
+            };
+            seen = count;
+            let reply = self.act(DeskCommand::Outcome(ticket));
+            if !is_waiting(reply) {
+                return reply;
+            }
+        }
+        unreachable!()
     }
 
     /// Does all that is due at this time, and adds the reply.
@@ -139,12 +226,19 @@ impl<'a, D: DeskNames, R: Wait, P: Peers + Drop> Console<'a, D, R, P> {
         Ok(())
     }
 
+    /// Does what is due at this time, which is the wall clock's, and tells nobody.
+    pub(crate) fn tick_alone(&mut self, time: u64) {
+        let _ = self.tick_and_send(time);
+    }
+
     /// Does what is due at the desk under its lock, and then sends to each peer what is due to it. In between, entries of
     /// peers may be applied.
     fn tick_and_send(&mut self, time: u64) -> Result<(Ticked, u64), DeskError>
         ensures { TicksAndSends P.size P.sends D.id self.old.seat self.old.peers time result self.new.seat self.new.peers }
     {
-        let ticked = self.tick_at_desk(time)?;
+        let ticked = self.tick_at_desk(time);
+        self.bell.ring();
+        let ticked = ticked?;
         let sent = send_to_all(&mut self.peers)?;
         Ok((ticked, sent))
     }
@@ -153,7 +247,7 @@ impl<'a, D: DeskNames, R: Wait, P: Peers + Drop> Console<'a, D, R, P> {
         ensures ticks { TicksAtDesk D.id self.old.seat time result self.new.seat }
         ensures peers { self.new.peers ≡ self.old.peers }
     {
-        let mut kept = self.desk.lock(self.rt);
+        let mut kept = self.shared.lock(self.rt);
         let kept = &mut *kept;
         // For the proof: what holds whenever the lock is free.
         let _ = kept.desk();
@@ -174,7 +268,7 @@ impl<'a, D: DeskNames, R: Wait, P: Peers + Drop> Console<'a, D, R, P> {
     fn views(&self) -> Result<(DeskView, Vec<PeerView>), OutOfMemory>
         ensures { IfOk result (λ views. AreViews D.id views.0 views.1.items) }
     {
-        let kept = self.desk.lock(self.rt);
+        let kept = self.shared.lock(self.rt);
         let kept = &*kept;
         let peers = self.peer_views(kept.desk())?;
         Ok((kept.view(), peers))
@@ -212,7 +306,9 @@ impl<'a, D: DeskNames, R: Wait, P: Peers + Drop> Console<'a, D, R, P> {
     }
 }
 
-impl<D: DeskNames, R: Wait, P: Peers + Drop> LineHandler for Console<'_, D, R, P> {
+impl<D: DeskNames, R: Wait, P: Peers + Drop, B: Bell + Drop> LineHandler
+    for SiteClient<'_, D, R, P, B>
+{
     ghost use Rattle.site_server.specs.Replying.{asked, Gets};
 
     ghost answers = { λ before line text after. Gets P.size P.sends D.id (asked line) before.seat before.peers text after.seat after.peers };
