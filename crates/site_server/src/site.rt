@@ -159,7 +159,7 @@ fn begin_peer<'s, E, D: DeskNames + Send + Sync + 's, R: Host>(
 }
 
 /// Starts the threads that read what this peer says and apply it. False where one could not be started.
-fn begin_link<'s, E, D: DeskNames + Send + Sync + 's, R: Wait + Clock + Eprint + Sync>(
+fn begin_link<'s, E, D: DeskNames + Send + Sync + 's, R: Wait + Clock + Eprint + AllocGlobal + Sync>(
     scope: &Scope<'s, E>,
     rt: &'s R,
     site: &'s Site,

@@ -9,6 +9,7 @@ use crate::sending::Senders;
 use rights_types::{OutOfMemory, SiteId};
 use site_words::{Config, SiteFault};
 use std::alloc::Global;
+use std::io::Eprint;
 use std::net::{Net, TcpListener, TcpStream};
 use std::sync::Wait;
 use std::sync::atomic::{AtomicBool, Ordering};
@@ -71,6 +72,20 @@ impl Site {
             moments: Moments::new(),
             out_of_memory: AtomicBool::new(false),
         })
+    }
+
+    /// Says where the site listens, if what happens is to be said.
+    pub fn announce<R: Eprint>(&self, rt: &R, config: &Config) {
+        if !config.log() {
+            return;
+        }
+        let (id, sites, listen) = (config.id().number(), config.sites(), config.listen());
+        let _ = match config.http() {
+            Some(http) => {
+                eprintln!(rt; "rights-site: site {} of {} listens on {}, http on {}", id, sites, listen, http)
+            }
+            None => eprintln!(rt; "rights-site: site {} of {} listens on {}", id, sites, listen),
+        };
     }
 
     /// The other sites, in order.

@@ -21,6 +21,7 @@ use reply_texts::{REPLY_ROOM, put_bad_command};
 use request_queue::Status;
 use rights_types::OutOfMemory;
 use site_core::{Desk, DeskError, Spending};
+use site_http::Client;
 use site_node::{
     Peers, Reply, TICK_ROOM, Ticked, act, answer_reply, answer_tick, send_to_all, serve_due,
 };
@@ -327,5 +328,44 @@ impl<D: DeskNames, R: Wait, P: Peers + Drop, B: Bell + Drop> LineHandler
         replies: &mut Replies<A>,
     ) -> Result<Goes, OutOfMemory> {
         self.answer_command(command_in(text), replies)
+    }
+}
+
+impl<D: DeskNames, R: Wait, P: Peers + Drop, B: Bell + Drop> Client for SiteClient<'_, D, R, P, B> {
+    fn reply(
+        &mut self,
+        text: Option<&[u8]>,
+        replies: &mut Replies<Global>,
+    ) -> Result<(), OutOfMemory> {
+        match command_in(text) {
+            Some(SiteCommand::Quit) => refuse(replies),
+            command => {
+                self.answer_command(command, replies)?;
+                Ok(())
+            }
+        }
+    }
+
+    fn settle(
+        &mut self,
+        text: Option<&[u8]>,
+        replies: &mut Replies<Global>,
+    ) -> Result<(), OutOfMemory> {
+        match command_in(text) {
+            Some(SiteCommand::AtDesk(command)) => self.settle_command(command, replies),
+            _ => self.reply(text, replies),
+        }
+    }
+
+    fn put_status(&self, replies: &mut Replies<Global>) -> Result<(), OutOfMemory> {
+        self.tell_status(replies)
+    }
+
+    fn put_metrics(&self, replies: &mut Replies<Global>) -> Result<(), OutOfMemory> {
+        self.tell_status(replies)
+    }
+
+    fn is_closed(&self) -> bool {
+        self.shared.lock(self.rt).view().closed
     }
 }

@@ -157,7 +157,7 @@ impl<D: DeskNames> Receiver<D> {
     }
 
     /// Reads the connections of this peer, one after another, till the mailbox is closed.
-    pub(crate) fn receive_all<R: Wait + Eprint>(mut self, rt: &R, peer: &Peer) {
+    pub(crate) fn receive_all<R: Wait + Eprint + AllocGlobal>(mut self, rt: &R, peer: &Peer) {
         for _ in rt.forever() {
             let Some(connection) = peer.mailbox.take(rt) else {
                 break;
@@ -175,7 +175,7 @@ impl<D: DeskNames> Receiver<D> {
     }
 
     /// Reads one connection to its end, or to a fault, which ends it just as well.
-    fn receive<R: Wait + Eprint>(&mut self, rt: &R, peer: &Peer, connection: Connection) {
+    fn receive<R: Wait + Eprint + AllocGlobal>(&mut self, rt: &R, peer: &Peer, connection: Connection) {
         let Connection {
             mut stream,
             mut cutter,
@@ -200,7 +200,7 @@ struct SitePort<'a, D: DeskNames, E, S: Sink + Drop> {
     outbox: S,
 }
 
-impl<D: DeskNames, E: Wait + Eprint, S: Sink + Drop> SitePort<'_, D, E, S> {
+impl<D: DeskNames, E: Wait + Eprint + AllocGlobal, S: Sink + Drop> SitePort<'_, D, E, S> {
     fn handle(&mut self, message: DeskMessage) -> Result<(), OutOfMemory>
         requires { IsForDesk D.id message }
         ensures { HandlesAtDesk S.takes D.id message self.old.outbox result self.new.outbox }
@@ -221,14 +221,14 @@ impl<D: DeskNames, E: Wait + Eprint, S: Sink + Drop> SitePort<'_, D, E, S> {
 
     /// Notes which entries a query asks for.
     fn note_query(&self, line: &[u8]) {
-        if let Ok(Message::Query(query)) = read_line(Global, line) {
+        if let Ok(Message::Query(query)) = read_line(self.rt.alloc(), line) {
             self.peer.events.lacks(self.rt, query.first(), query.last());
         }
     }
 
     /// Notes a beat below what was applied of the peer's log.
     fn note_beat(&self, line: &[u8]) {
-        let Ok(Message::Beat(beat)) = read_line(Global, line) else {
+        let Ok(Message::Beat(beat)) = read_line(self.rt.alloc(), line) else {
             return;
         };
         let applied = self.shared.lock(self.rt).desk().applied(self.peer.site);
@@ -248,7 +248,7 @@ fn skip_cause(why: Skipped) -> SkipCause {
     }
 }
 
-impl<D: DeskNames, E: Wait + Eprint, S: Sink + Drop> Port for SitePort<'_, D, E, S> {
+impl<D: DeskNames, E: Wait + Eprint + AllocGlobal, S: Sink + Drop> Port for SitePort<'_, D, E, S> {
     ghost use Rattle.site_server.specs.Hearing.{IsForDesk, Hears};
 
     ghost accepts = { λ message. IsForDesk D.id message };

@@ -25,7 +25,7 @@ fn converse<C: Client + Drop, I: Read, W: Write>(
     writer: &mut W,
 ) -> C {
     let mut connection = Connection::new(alloc, keys, service_config());
-    let mut service = ClientService::new(client);
+    let mut service = ClientService::new(alloc, client);
     let _ = serve(&mut connection, &mut service, reader, writer);
     service.into_client()
 }

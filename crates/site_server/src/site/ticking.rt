@@ -50,10 +50,13 @@ pub(crate) fn begin_ticks<'s, E, D: DeskNames + Send + Sync + 's, R: Host>(
     every: Option<u64>,
     shared: &Arc<Shared<D>>,
 ) -> bool {
-    let (Some(every), Ok(shared)) = (every, shared.clone()) else {
-        return every.is_none();
+    let Some(every) = every else {
+        return true;
     };
-    scope
-        .spawn(move || keep_time(rt, site, every, shared))
-        .is_ok()
+    match shared.clone() {
+        Ok(shared) => scope
+            .spawn(move || keep_time(rt, site, every, shared))
+            .is_ok(),
+        Err(_) => false,
+    }
 }
