@@ -117,5 +117,7 @@ impl PeerCounters {
 }
 
 fn add(counter: &AtomicU64, count: u64) {
-    counter.fetch_add(count, Ordering::SeqCst);
+    if count > 0 {
+        counter.fetch_add(count, Ordering::SeqCst);
+    }
 }

@@ -1,5 +1,5 @@
 //! Replies to what was done. Room for them is reserved before it is done, so nothing is done whose reply finds no room.
-ghost use Rattle.std.specs.Prelude.{◌≡◌, ◌≤◌, []};
+ghost use Rattle.std.specs.Prelude.{◌≡◌, ◌+◌, ◌≤◌, [], length};
 ghost use Rattle.line_streams.specs.Waiting.{AddsReply};
 ghost use Rattle.site_node.specs.Texts.{reply_text, tick_text};
 
@@ -15,7 +15,8 @@ use std::alloc::Allocator;
 pub fn answer_reply<A: Allocator>(replies: &mut Replies<A>, reply: Reply)
     requires room { REPLY_ROOM ≤ replies.old.room }
     requires fresh { replies.old.part ≡ [] }
-    ensures { AddsReply replies.old replies.new (reply_text reply) }
+    ensures added { AddsReply replies.old replies.new (reply_text reply) }
+    ensures short { length replies.new.whole ≤ length replies.old.whole + REPLY_ROOM }
 {
     put_reply(replies, reply).unwrap();
     replies.finish().unwrap();
@@ -26,7 +27,8 @@ pub fn answer_reply<A: Allocator>(replies: &mut Replies<A>, reply: Reply)
 pub fn answer_tick<A: Allocator>(replies: &mut Replies<A>, told: Result<(Ticked, u64), DeskError>)
     requires room { TICK_ROOM ≤ replies.old.room }
     requires fresh { replies.old.part ≡ [] }
-    ensures { AddsReply replies.old replies.new (tick_text told) }
+    ensures added { AddsReply replies.old replies.new (tick_text told) }
+    ensures short { length replies.new.whole ≤ length replies.old.whole + TICK_ROOM }
 {
     match told {
         Ok((ticked, sent)) => put_ticked(replies, ticked, sent).unwrap(),

@@ -1,5 +1,5 @@
 //! The texts of replies, without the line feed at their end.
-ghost use Rattle.std.specs.Prelude.{◌≡◌, ◌≤◌, ◌++◌, OnOk, IsOk};
+ghost use Rattle.std.specs.Prelude.{◌≡◌, ◌<◌, ◌≤◌, ◌++◌, length, OnOk, IsOk};
 ghost use Rattle.site_node.specs.Texts.{reply_text, ticked_text};
 
 use crate::reply::Reply;
@@ -20,6 +20,7 @@ pub(crate) fn put_reply<A: Allocator>(
     ensures ok { OnOk result (replies.new.part ≡ replies.old.part ++ reply_text reply) }
     ensures kept { replies.new.whole ≡ replies.old.whole }
     ensures room { REPLY_ROOM ≤ replies.old.room → IsOk result × (1 ≤ replies.new.room) }
+    ensures short { length (reply_text reply) < REPLY_ROOM }
 {
     match reply {
         Reply::Number(number) => put_number(replies, number),
@@ -38,6 +39,7 @@ pub(crate) fn put_ticked<A: Allocator>(
     ensures ok { OnOk result (replies.new.part ≡ replies.old.part ++ ticked_text ticked sent) }
     ensures kept { replies.new.whole ≡ replies.old.whole }
     ensures room { TICK_ROOM ≤ replies.old.room → IsOk result × (1 ≤ replies.new.room) }
+    ensures short { length (ticked_text ticked sent) < TICK_ROOM }
 {
     replies.put_field(b"tick expired ", ticked.expired)?;
     replies.put_field(b" served ", ticked.served)?;

@@ -29,7 +29,7 @@ module _ {P : Type 0} (size : P → ℕ) (sends : P → ℕ → ℕ → P → Ty
       → (turns : List Turn) × IsTurn command text turns × HasTurns was turns told
   turns_of_line None was before text told after h = ([], refl, h.1)
   turns_of_line (Some (AtDesk command)) was before text told after h =
-      let c = h.0 in (ACommand command c.reply ∷ [], (c.reply, refl, c.says), (told, (c.old, c.new, c.acts), refl))
+      let c = h.0 in (ACommand command c.reply ∷ [], (c.reply, refl, c.says), (told, (c.at_desk.old, c.at_desk.new, c.at_desk.acts), refl))
   turns_of_line (Some (Tick time)) was before text told after h =
       let t = h.does.at_desk in
       (ATick time t.served h.does.ticked ∷ [], (t.served, h.does.ticked, refl), (told, (t.old, t.new, t.ticks), refl))

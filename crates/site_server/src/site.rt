@@ -6,11 +6,14 @@ ghost use Rattle.apply_lanes.specs.Names.{id_of, AreBlank, IsUnused};
 
 mod bell;
 mod client;
+mod connection;
 mod ending;
 mod host;
+mod measuring;
 mod outboxes;
 mod receiving;
 mod serving;
+mod settling;
 mod shared;
 mod slots;
 mod starting;
@@ -159,13 +162,12 @@ fn begin_peer<'s, E, D: DeskNames + Send + Sync + 's, R: Host>(
 }
 
 /// Starts the threads that read what this peer says and apply it. False where one could not be started.
-fn begin_link<'s, E, D: DeskNames + Send + Sync + 's, R: Wait + Clock + Eprint + AllocGlobal + Sync>(
-    scope: &Scope<'s, E>,
-    rt: &'s R,
-    site: &'s Site,
-    peer: &'s Peer,
-    link: Link<D>,
-) -> bool {
+fn begin_link<
+    's,
+    E,
+    D: DeskNames + Send + Sync + 's,
+    R: Wait + Clock + Eprint + AllocGlobal + Sync,
+>(scope: &Scope<'s, E>, rt: &'s R, site: &'s Site, peer: &'s Peer, link: Link<D>) -> bool {
     let Link {
         receiver,
         applier,

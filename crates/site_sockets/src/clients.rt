@@ -4,13 +4,12 @@ use crate::hall::Hall;
 use crate::patient::Patient;
 use rights_types::OutOfMemory;
 use std::alloc::Global;
-use std::io;
 use std::io::{Eprint, Read};
 use std::net::{Net, Shutdown, TcpListener, TcpStream};
 use std::sync::Wait;
 use std::sync::atomic::{AtomicBool, Ordering};
-use std::thread;
 use std::time::{Clock, Duration};
+use std::{io, thread};
 
 /// How many clients may be connected at a time. A further one is turned away.
 pub const CLIENTS: usize = 63;
@@ -100,8 +99,7 @@ impl Clients {
             return;
         }
         if let Ok(address) = stream.peer_addr() {
-            let _ = eprintln!(
-                rt;
+            let _ = eprintln!(rt;
                 "rights-site: client {}: turned away: {} clients are connected",
                 address, CLIENTS
             );

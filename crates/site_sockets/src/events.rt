@@ -2,6 +2,7 @@
 //! thread notes its own.
 
 use rights_types::SiteId;
+use site_metrics::PeerCounters;
 use std::io::Eprint;
 use std::sync::atomic::{AtomicBool, AtomicU64, Ordering};
 
@@ -24,7 +25,8 @@ impl SkipCause {
             SkipCause::TooLong => "they are too long",
             SkipCause::NoMessage => "they are no messages",
             SkipCause::WrongOrigin => "another site sent them",
-            SkipCause::BadSite => "they are for another site, or name one that the system does not have",
+            SkipCause::BadSite =>
+                "they are for another site, or name one that the system does not have",
         }
     }
 
@@ -39,41 +41,19 @@ impl SkipCause {
     }
 }
 
-/// How often things happened on the links with a peer, and whether its connections stand.
-#[derive(Clone, Copy, Debug, PartialEq, Eq)]
-pub struct LinkCounts {
-    /// Whether a connection stands by which lines of the peer come.
-    pub receiving: bool,
-    /// Whether one stands by which lines go to it.
-    pub sending: bool,
-    /// Lines that came.
-    pub lines: u64,
-    /// Those of them that were skipped.
-    pub refused: u64,
-    /// Lines that found no room in the outbox, or were lost by a failed connection or write.
-    pub dropped: u64,
-    /// Beats below what was applied of the peer's log.
-    pub went_back: u64,
-}
-
 /// What happened on the links with one peer since the site began.
 #[derive(Drop)]
 pub struct LinkEvents {
     site: SiteId,
     /// Whether events are written to standard error.
     log: bool,
-    receiving: AtomicBool,
-    sending: AtomicBool,
+    counters: PeerCounters,
     /// Whether sending failed, and was not taken up again.
     failed: AtomicBool,
     /// Whether entries are missing.
     lacking: AtomicBool,
     /// The causes for which lines were skipped since one was taken.
     skipping: AtomicU64,
-    lines: AtomicU64,
-    refused: AtomicU64,
-    dropped: AtomicU64,
-    went_back: AtomicU64,
 }
 
 impl LinkEvents {
@@ -81,48 +61,47 @@ impl LinkEvents {
         LinkEvents {
             site,
             log,
-            receiving: AtomicBool::new(false),
-            sending: AtomicBool::new(false),
+            counters: PeerCounters::new(),
             failed: AtomicBool::new(false),
             lacking: AtomicBool::new(false),
             skipping: AtomicU64::new(0),
-            lines: AtomicU64::new(0),
-            refused: AtomicU64::new(0),
-            dropped: AtomicU64::new(0),
-            went_back: AtomicU64::new(0),
         }
     }
 
-    /// All counts so far.
-    pub fn counts(&self) -> LinkCounts {
-        LinkCounts {
-            receiving: self.receiving.load(Ordering::Relaxed),
-            sending: self.sending.load(Ordering::Relaxed),
-            lines: self.lines.load(Ordering::Relaxed),
-            refused: self.refused.load(Ordering::Relaxed),
-            dropped: self.dropped.load(Ordering::Relaxed),
-            went_back: self.went_back.load(Ordering::Relaxed),
-        }
+    /// What was counted.
+    pub fn counters(&self) -> &PeerCounters {
+        &self.counters
     }
 
     /// A connection is read by which lines of the peer come.
     pub fn receives<R: Eprint>(&self, rt: &R) {
-        if !self.receiving.swap(true, Ordering::Relaxed) && self.log {
-            let _ = eprintln!(rt; "rights-site: peer {}: receives from it", self.site.number());
+        let is_new = !self.counters.is_receiving();
+        self.counters.set_receiving(true);
+        if is_new && self.log {
+            let _ = eprintln!(rt;
+                "rights-site: peer {}: receives from it",
+                self.site.number()
+            );
         }
     }
 
     /// That connection ended.
     pub fn receives_no_more<R: Eprint>(&self, rt: &R) {
-        if self.receiving.swap(false, Ordering::Relaxed) && self.log {
-            let _ = eprintln!(rt; "rights-site: peer {}: receives from it no more", self.site.number());
+        self.counters.set_receiving(false);
+        if self.log {
+            let _ = eprintln!(rt;
+                "rights-site: peer {}: receives from it no more",
+                self.site.number()
+            );
         }
     }
 
     /// A connection stands by which lines go to the peer.
     pub(crate) fn sends<R: Eprint>(&self, rt: &R) {
         self.failed.store(false, Ordering::Relaxed);
-        if !self.sending.swap(true, Ordering::Relaxed) && self.log {
+        let is_new = !self.counters.is_sending();
+        self.counters.set_sending(true);
+        if is_new && self.log {
             let _ = eprintln!(rt; "rights-site: peer {}: sends to it", self.site.number());
         }
     }
@@ -130,25 +109,24 @@ impl LinkEvents {
     /// No such connection stands any more, or none could be made. A line was lost by it.
     pub(crate) fn sends_no_more<R: Eprint>(&self, rt: &R, cause: &str) {
         self.drops_line();
-        self.sending.store(false, Ordering::Relaxed);
+        self.counters.set_sending(false);
         if !self.failed.swap(true, Ordering::Relaxed) && self.log {
             let site = self.site.number();
-            let _ = eprintln!(rt; "rights-site: peer {}: sends to it no more: {}", site, cause);
+            let _ = eprintln!(rt;
+                "rights-site: peer {}: sends to it no more: {}",
+                site, cause
+            );
         }
     }
 
     /// A line for the peer was lost.
     pub(crate) fn drops_line(&self) {
-        self.dropped.fetch_add(1, Ordering::Relaxed);
+        self.counters.note_dropped(1);
     }
 
-    /// A line of the peer came, and was taken, unless `skips` is told too.
-    pub fn takes_line(&self) {
-        self.lines.fetch_add(1, Ordering::Relaxed);
-    }
-
-    /// That line ended a row of skipped ones, if there was one.
-    pub fn skips_no_more(&self) {
+    /// A line of the peer was taken.
+    pub fn takes(&self) {
+        self.counters.note_lines(1, 0);
         if self.skipping.load(Ordering::Relaxed) != 0 {
             self.skipping.store(0, Ordering::Relaxed);
         }
@@ -156,7 +134,7 @@ impl LinkEvents {
 
     /// A line of the peer was skipped.
     pub fn skips<R: Eprint>(&self, rt: &R, cause: SkipCause) {
-        self.refused.fetch_add(1, Ordering::Relaxed);
+        self.counters.note_lines(1, 1);
         let bit = cause.bit();
         let is_new = self.skipping.fetch_or(bit, Ordering::Relaxed) & bit == 0;
         if is_new && self.log {
@@ -169,7 +147,10 @@ impl LinkEvents {
     pub fn lacks<R: Eprint>(&self, rt: &R, first: u64, last: u64) {
         if !self.lacking.swap(true, Ordering::Relaxed) && self.log {
             let site = self.site.number();
-            let _ = eprintln!(rt; "rights-site: peer {}: lacks {} to {} of its log", site, first, last);
+            let _ = eprintln!(rt;
+                "rights-site: peer {}: lacks {} to {} of its log",
+                site, first, last
+            );
         }
     }
 
@@ -185,10 +166,11 @@ impl LinkEvents {
 
     /// The peer says that its log ends at a number below what was applied of it.
     pub fn goes_back<R: Eprint>(&self, rt: &R, says: u64, applied: u64) {
-        if self.went_back.fetch_add(1, Ordering::Relaxed) == 0 && self.log {
+        let is_new = self.counters.went_back() == 0;
+        self.counters.note_went_back();
+        if is_new && self.log {
             let site = self.site.number();
-            let _ = eprintln!(
-                rt;
+            let _ = eprintln!(rt;
                 "rights-site: peer {}: its log went back: it says {}, and {} were applied. It was started anew, or runs twice",
                 site, says, applied
             );

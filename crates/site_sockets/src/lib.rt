@@ -16,7 +16,7 @@ mod site;
 
 pub use clients::{CLIENTS, Caller, Clients, hurried, part};
 pub use door::begin_door;
-pub use events::{LinkCounts, LinkEvents, SkipCause};
+pub use events::{LinkEvents, SkipCause};
 pub use mailbox::{Connection, Mailbox};
 pub use moments::Moments;
 pub use peer::Peer;

@@ -46,11 +46,9 @@ impl Moments {
 
     /// Waits until there were other than so many ticks, and answers how many. None at the end of the site.
     pub fn next<R: Wait>(&self, rt: &R, seen: u64) -> Option<u64> {
-        let state = self
-            .ticked
-            .wait_while(rt, self.state.lock(rt), |state| {
-                state.ticks == seen && !state.has_ended
-            });
+        let state = self.ticked.wait_while(rt, self.state.lock(rt), |state| {
+            state.ticks == seen && !state.has_ended
+        });
         if state.has_ended {
             return None;
         }
@@ -59,9 +57,9 @@ impl Moments {
 
     /// Waits for so long, or for the end of the site. False at the end.
     pub fn rest<R: Wait + Clock>(&self, rt: &R, time: Duration) -> bool {
-        let (state, _) =
-            self.ended
-                .wait_timeout_while(rt, self.state.lock(rt), time, |state| !state.has_ended);
+        let (state, _) = self
+            .ended
+            .wait_timeout_while(rt, self.state.lock(rt), time, |state| !state.has_ended);
         !state.has_ended
     }
 

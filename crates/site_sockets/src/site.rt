@@ -7,6 +7,7 @@ use crate::moments::Moments;
 use crate::peer::{Peer, peers_of};
 use crate::sending::Senders;
 use rights_types::{OutOfMemory, SiteId};
+use site_metrics::Counters;
 use site_words::{Config, SiteFault};
 use std::alloc::Global;
 use std::io::Eprint;
@@ -41,6 +42,8 @@ pub struct Site {
     /// Where clients connect, if they may.
     pub clients: Option<Clients>,
     pub moments: Moments,
+    /// The commands that were answered.
+    pub commands: Counters,
     /// An applier met a refused request for memory.
     out_of_memory: AtomicBool,
 }
@@ -70,6 +73,7 @@ impl Site {
             senders: Senders::new(),
             clients,
             moments: Moments::new(),
+            commands: Counters::new(),
             out_of_memory: AtomicBool::new(false),
         })
     }
@@ -82,9 +86,15 @@ impl Site {
         let (id, sites, listen) = (config.id().number(), config.sites(), config.listen());
         let _ = match config.http() {
             Some(http) => {
-                eprintln!(rt; "rights-site: site {} of {} listens on {}, http on {}", id, sites, listen, http)
+                eprintln!(rt;
+                    "rights-site: site {} of {} listens on {}, http on {}",
+                    id, sites, listen, http
+                )
             }
-            None => eprintln!(rt; "rights-site: site {} of {} listens on {}", id, sites, listen),
+            None => eprintln!(rt;
+                "rights-site: site {} of {} listens on {}",
+                id, sites, listen
+            ),
         };
     }
 
@@ -96,6 +106,14 @@ impl Site {
     /// The peer of that number, if the system has it.
     pub fn peer(&self, site: SiteId) -> Option<&Peer> {
         self.peers.iter().find(|peer| peer.site == site)
+    }
+
+    /// How many clients are connected.
+    pub fn client_count<R: Wait>(&self, rt: &R) -> usize {
+        match &self.clients {
+            Some(clients) => clients.count(rt),
+            None => 0,
+        }
     }
 
     /// Notes that the program can't go on for want of memory. The command thread ends it at its next read.

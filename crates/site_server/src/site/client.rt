@@ -1,15 +1,14 @@
 //! What a client of a site is answered. The node decides what is done and replied; this decides under which hold of the
 //! desk's lock it is done.
-ghost use Rattle.std.specs.Prelude.{◌≡◌, ◌++◌, List, ℕ, [], IfOk, OnOk, OnErr, Ok};
+ghost use Rattle.std.specs.Prelude.{◌≡◌, ◌++◌, ◌+◌, ◌≤◌, ◌⊎◌, List, ℕ, [], length, IfOk, OnOk, OnErr, Result, Ok};
 ghost use Rattle.std.specs.List.{All};
 ghost use Rattle.std.specs.Io.KnownBytes.{IsAtEnd};
 ghost use Rattle.line_streams.specs.Handling.{IsGiven};
 ghost use Rattle.line_streams.specs.Talk.{Talk, EndsBy};
 ghost use Rattle.line_streams.specs.Waiting.{AddsReply};
-ghost use Rattle.apply_lanes.specs.Kepts.{told_nothing};
 ghost use Rattle.reply_texts.specs.Texts.{bad_command};
 ghost use Rattle.site_words.specs.Status.{status_text};
-ghost use Rattle.site_server.specs.Replying.{asked, CarriesOut, TicksAtDesk, AreViews, IsApplied, TellsStatus, TicksAndSends, DoesDue, Gets, GetsBy};
+ghost use Rattle.site_server.specs.Replying.{asked, ActsAtDesk, CarriesOut, TicksAtDesk, AreViews, IsApplied, TellsStatus, TicksAndSends, DoesDue, Gets, GetsBy};
 ghost use Rattle.site_server.specs.Conversations.{CountsReplies};
 
 use crate::site::bell::{Bell, SiteBell};
@@ -18,10 +17,8 @@ use crate::site::shared::Shared;
 use apply_lanes::{DeskNames, DeskView, Seat};
 use line_streams::{EndedBy, Goes, LineFault, LineHandler, Replies, answer_lines};
 use reply_texts::{REPLY_ROOM, put_bad_command};
-use request_queue::Status;
 use rights_types::OutOfMemory;
-use site_core::{Desk, DeskError, Spending};
-use site_http::Client;
+use site_core::{Desk, DeskError};
 use site_node::{
     Peers, Reply, TICK_ROOM, Ticked, act, answer_reply, answer_tick, send_to_all, serve_due,
 };
@@ -29,18 +26,28 @@ use site_sockets::Site;
 use site_words::{DeskCommand, PeerView, SiteCommand, read_command, status_text};
 use std::alloc::{Allocator, Global};
 use std::io::{Read, Write};
+use std::marker::Model;
 use std::sync::{Arc, Wait};
 
 /// A client of a site: a seat at its desk, its peers, and what tells of its ticks.
 #[derive(Drop)]
 pub(crate) struct SiteClient<'a, D: DeskNames, R: Wait, P: Peers + Drop, B: Bell + Drop> {
-    rt: &'a R,
-    alloc: Global,
-    site: &'a Site,
-    shared: Arc<Shared<D>>,
-    seat: Seat<D>,
-    peers: P,
-    bell: B,
+    pub(crate) rt: &'a R,
+    pub(crate) alloc: Global,
+    pub(crate) site: &'a Site,
+    pub(crate) shared: Arc<Shared<D>>,
+    pub(crate) seat: Seat<D>,
+    pub(crate) peers: P,
+    pub(crate) bell: B,
+}
+
+impl<'a, D: DeskNames, R: Wait, P: Peers + Drop, B: Bell + Drop> Model
+    for SiteClient<'a, D, R, P, B> {
+    ghost use Rattle.site_server.specs.Connections.{ClientValue};
+
+    ghost Value = { ClientValue P B };
+
+    ghost view = { λ c. record { seat = c.seat; peers = c.peers; bell = c.bell } };
 }
 
 /// A client of a site that runs.
@@ -61,22 +68,14 @@ pub(crate) fn client_at<'a, D: DeskNames, R: Wait + AllocGlobal>(
 }
 
 /// The command that a line spells, given without its line feed; `None` stands for a line that is too long.
-fn command_in(text: Option<&[u8]>) -> Option<SiteCommand>
+pub(crate) fn command_in(text: Option<&[u8]>) -> Option<SiteCommand>
     ensures { (line : List ℕ) → IsGiven line text.entry → result ≡ asked line }
 {
     read_command(text?)
 }
 
-/// Whether a spend still waits, by what was told of it.
-fn is_waiting(reply: Reply) -> bool {
-    match reply {
-        Reply::Outcome(Status::Waiting) => true,
-        _ => false,
-    }
-}
-
 /// Adds that a line is no command.
-fn refuse<A: Allocator>(replies: &mut Replies<A>) -> Result<(), OutOfMemory>
+pub(crate) fn refuse<A: Allocator>(replies: &mut Replies<A>) -> Result<(), OutOfMemory>
     requires { replies.old.part ≡ [] }
     ensures ok { OnOk result (AddsReply replies.old replies.new bad_command) }
     ensures err { OnErr result (replies.new.whole ≡ replies.old.whole) }
@@ -86,7 +85,7 @@ fn refuse<A: Allocator>(replies: &mut Replies<A>) -> Result<(), OutOfMemory>
 }
 
 /// Adds the status object of these views.
-fn add_status<A: Allocator>(
+pub(crate) fn add_status<A: Allocator>(
     alloc: Global,
     desk: &DeskView,
     peers: &[PeerView],
@@ -112,7 +111,7 @@ impl<'a, D: DeskNames, R: Wait, P: Peers + Drop, B: Bell + Drop> SiteClient<'a, 
         peers: P,
         bell: B,
     ) -> SiteClient<'a, D, R, P, B>
-        ensures { result.seat ≡ seat }
+        ensures { result ≡ record { seat = seat; peers = peers; bell = bell } }
     {
         SiteClient {
             rt,
@@ -156,8 +155,9 @@ impl<'a, D: DeskNames, R: Wait, P: Peers + Drop, B: Bell + Drop> SiteClient<'a, 
     ) -> Result<(), OutOfMemory>
         requires { replies.old.part ≡ [] }
         ensures ok { OnOk result ((text : List ℕ) × CarriesOut D.id self.old.seat command text self.new.seat × AddsReply replies.old replies.new text) }
-        ensures err { OnErr result ((self.new.seat ≡ self.old.seat) × (replies.new.whole ≡ replies.old.whole)) }
-        ensures peers { self.new.peers ≡ self.old.peers }
+        ensures short { OnOk result (length replies.new.whole ≤ length replies.old.whole + REPLY_ROOM) }
+        ensures err { OnErr result ((self.new ≡ self.old) × (replies.new.whole ≡ replies.old.whole)) }
+        ensures rest { self.new ≡ record self.old { seat = self.new.seat } }
     {
         // First, so that no command is carried out whose reply finds no room.
         replies.reserve(REPLY_ROOM)?;
@@ -166,23 +166,11 @@ impl<'a, D: DeskNames, R: Wait, P: Peers + Drop, B: Bell + Drop> SiteClient<'a, 
         Ok(())
     }
 
-    /// The same where the client waits for what becomes of a spend.
-    fn settle_command<A: Allocator>(
-        &mut self,
-        command: DeskCommand,
-        replies: &mut Replies<A>,
-    ) -> Result<(), OutOfMemory> {
-        replies.reserve(REPLY_ROOM)?;
-        // Before, so that no tick behind it is missed.
-        let seen = self.bell.count();
-        let reply = self.act(command);
-        let settled = self.settled(reply, seen);
-        answer_reply(replies, settled);
-        Ok(())
-    }
-
     /// Carries out a command at the desk, under its lock.
-    fn act(&mut self, command: DeskCommand) -> Reply {
+    pub(crate) fn act(&mut self, command: DeskCommand) -> Reply
+        ensures acts { ActsAtDesk D.id self.old.seat command result self.new.seat }
+        ensures rest { self.new ≡ record self.old { seat = self.new.seat } }
+    {
         let mut kept = self.shared.lock(self.rt);
         let kept = &mut *kept;
         // For the proof: what holds whenever the lock is free.
@@ -190,35 +178,12 @@ impl<'a, D: DeskNames, R: Wait, P: Peers + Drop, B: Bell + Drop> SiteClient<'a, 
         act(kept, &mut self.seat, command)
     }
 
-    /// What becomes of a spend that waits, from so many ticks on; else the reply itself.
-    fn settled(&mut self, reply: Reply, seen: u64) -> Reply {
-        match reply {
-            Reply::Spending(Spending::Queued(ticket)) => self.outcome(ticket, seen),
-            _ => reply,
-        }
-    }
-
-    /// Waits, tick by tick, for what becomes of the spend of this ticket, and reads it, which frees its slot. At the end
-    /// of the site it is told as queued.
-    fn outcome(&mut self, ticket: u64, mut seen: u64) -> Reply {
-        for _ in self.rt.forever() {
-            let Some(count) = self.bell.next(seen) else {
-                return Reply::Spending(Spending::Queued(ticket));
-            };
-            seen = count;
-            let reply = self.act(DeskCommand::Outcome(ticket));
-            if !is_waiting(reply) {
-                return reply;
-            }
-        }
-        unreachable!()
-    }
-
     /// Does all that is due at this time, and adds the reply.
     fn tick<A: Allocator>(&mut self, time: u64, replies: &mut Replies<A>) -> Result<(), OutOfMemory>
         requires { replies.old.part ≡ [] }
         ensures ok { OnOk result ((text : List ℕ) × DoesDue P.size P.sends D.id self.old.seat self.old.peers time text self.new.seat self.new.peers × AddsReply replies.old replies.new text) }
-        ensures err { OnErr result ((self.new.seat ≡ self.old.seat) × (self.new.peers ≡ self.old.peers) × (replies.new.whole ≡ replies.old.whole)) }
+        ensures short { OnOk result (length replies.new.whole ≤ length replies.old.whole + TICK_ROOM) }
+        ensures err { OnErr result ((self.new ≡ self.old) × (replies.new.whole ≡ replies.old.whole)) }
     {
         // First, so that no tick is done whose reply finds no room.
         replies.reserve(TICK_ROOM)?;
@@ -228,7 +193,9 @@ impl<'a, D: DeskNames, R: Wait, P: Peers + Drop, B: Bell + Drop> SiteClient<'a, 
     }
 
     /// Does what is due at this time, which is the wall clock's, and tells nobody.
-    pub(crate) fn tick_alone(&mut self, time: u64) {
+    pub(crate) fn tick_alone(&mut self, time: u64)
+        ensures { (told : Result (Ticked × ℕ) DeskError) × TicksAndSends P.size P.sends D.id self.old.seat self.old.peers time told self.new.seat self.new.peers }
+    {
         let _ = self.tick_and_send(time);
     }
 
@@ -246,7 +213,7 @@ impl<'a, D: DeskNames, R: Wait, P: Peers + Drop, B: Bell + Drop> SiteClient<'a, 
 
     fn tick_at_desk(&mut self, time: u64) -> Result<Ticked, DeskError>
         ensures ticks { TicksAtDesk D.id self.old.seat time result self.new.seat }
-        ensures peers { self.new.peers ≡ self.old.peers }
+        ensures rest { self.new ≡ record self.old { seat = self.new.seat } }
     {
         let mut kept = self.shared.lock(self.rt);
         let kept = &mut *kept;
@@ -256,7 +223,10 @@ impl<'a, D: DeskNames, R: Wait, P: Peers + Drop, B: Bell + Drop> SiteClient<'a, 
     }
 
     /// Adds the status object.
-    fn tell_status<A: Allocator>(&self, replies: &mut Replies<A>) -> Result<(), OutOfMemory>
+    pub(crate) fn tell_status<A: Allocator>(
+        &self,
+        replies: &mut Replies<A>,
+    ) -> Result<(), OutOfMemory>
         requires { replies.old.part ≡ [] }
         ensures ok { OnOk result ((text : List ℕ) × TellsStatus D.id text × AddsReply replies.old replies.new text) }
         ensures err { OnErr result (replies.new.whole ≡ replies.old.whole) }
@@ -266,7 +236,7 @@ impl<'a, D: DeskNames, R: Wait, P: Peers + Drop, B: Bell + Drop> SiteClient<'a, 
     }
 
     /// The views of the desk and of its peers.
-    fn views(&self) -> Result<(DeskView, Vec<PeerView>), OutOfMemory>
+    pub(crate) fn views(&self) -> Result<(DeskView, Vec<PeerView>), OutOfMemory>
         ensures { IfOk result (λ views. AreViews D.id views.0 views.1.items) }
     {
         let kept = self.shared.lock(self.rt);
@@ -286,15 +256,21 @@ impl<'a, D: DeskNames, R: Wait, P: Peers + Drop, B: Bell + Drop> SiteClient<'a, 
         Ok(peers)
     }
 
+    /// Counts a reply.
+    pub(crate) fn count_reply(&self, reply: &[u8]) {
+        self.site.commands.note_replies(reply);
+    }
+
     /// Answers what a line asks for; `None` is no command.
-    fn answer_command<A: Allocator>(
+    pub(crate) fn answer_command<A: Allocator>(
         &mut self,
         command: Option<SiteCommand>,
         replies: &mut Replies<A>,
     ) -> Result<Goes, OutOfMemory>
         requires { replies.old.part ≡ [] }
         ensures ok { IfOk result (λ goes. GetsBy P.size P.sends goes D.id command self.old.seat self.old.peers replies.old self.new.seat self.new.peers replies.new) }
-        ensures err { OnErr result ((self.new.seat ≡ self.old.seat) × (self.new.peers ≡ self.old.peers) × (replies.new.whole ≡ replies.old.whole)) }
+        ensures short { OnOk result ((length replies.new.whole ≤ length replies.old.whole + TICK_ROOM) ⊎ (self.new ≡ self.old)) }
+        ensures err { OnErr result ((self.new ≡ self.old) × (replies.new.whole ≡ replies.old.whole)) }
     {
         match command {
             None => refuse(replies)?,
@@ -308,8 +284,7 @@ impl<'a, D: DeskNames, R: Wait, P: Peers + Drop, B: Bell + Drop> SiteClient<'a, 
 }
 
 impl<D: DeskNames, R: Wait, P: Peers + Drop, B: Bell + Drop> LineHandler
-    for SiteClient<'_, D, R, P, B>
-{
+    for SiteClient<'_, D, R, P, B> {
     ghost use Rattle.site_server.specs.Replying.{asked, Gets};
 
     ghost answers = { λ before line text after. Gets P.size P.sends D.id (asked line) before.seat before.peers text after.seat after.peers };
@@ -327,45 +302,9 @@ impl<D: DeskNames, R: Wait, P: Peers + Drop, B: Bell + Drop> LineHandler
         text: Option<&[u8]>,
         replies: &mut Replies<A>,
     ) -> Result<Goes, OutOfMemory> {
-        self.answer_command(command_in(text), replies)
-    }
-}
-
-impl<D: DeskNames, R: Wait, P: Peers + Drop, B: Bell + Drop> Client for SiteClient<'_, D, R, P, B> {
-    fn reply(
-        &mut self,
-        text: Option<&[u8]>,
-        replies: &mut Replies<Global>,
-    ) -> Result<(), OutOfMemory> {
-        match command_in(text) {
-            Some(SiteCommand::Quit) => refuse(replies),
-            command => {
-                self.answer_command(command, replies)?;
-                Ok(())
-            }
-        }
-    }
-
-    fn settle(
-        &mut self,
-        text: Option<&[u8]>,
-        replies: &mut Replies<Global>,
-    ) -> Result<(), OutOfMemory> {
-        match command_in(text) {
-            Some(SiteCommand::AtDesk(command)) => self.settle_command(command, replies),
-            _ => self.reply(text, replies),
-        }
-    }
-
-    fn put_status(&self, replies: &mut Replies<Global>) -> Result<(), OutOfMemory> {
-        self.tell_status(replies)
-    }
-
-    fn put_metrics(&self, replies: &mut Replies<Global>) -> Result<(), OutOfMemory> {
-        self.tell_status(replies)
-    }
-
-    fn is_closed(&self) -> bool {
-        self.shared.lock(self.rt).view().closed
+        let before = replies.whole().len();
+        let goes = self.answer_command(command_in(text), replies)?;
+        self.count_reply(&replies.whole()[before..]);
+        Ok(goes)
     }
 }

@@ -48,8 +48,7 @@ pub(crate) fn stop_desk<D: DeskNames>(
 
 /// Says what the site did, as one line.
 pub(crate) fn say_report<R: Eprint>(rt: &R, report: &Report) {
-    let _ = eprintln!(
-        rt;
+    let _ = eprintln!(rt;
         "rights-site: ended: issued {} spent {} given {} received {} held {}; told issued {} spent {} served {}",
         report.issued,
         report.spent,

@@ -9,8 +9,7 @@ use std::thread::Threads;
 use std::time::Clock;
 
 /// What a site needs of its process: sockets, threads, locks, clocks, files, its standard error, and memory.
-pub trait Host:
-    Net<Listener = TcpListener, Stream = TcpStream>
+pub trait Host: Net<Listener = TcpListener, Stream = TcpStream>
     + Threads
     + Wait
     + Clock
@@ -18,9 +17,7 @@ pub trait Host:
     + Eprint
     + RandomSource
     + AllocGlobal
-    + Sync
-{
-}
+    + Sync {}
 
 impl<
     R: Net<Listener = TcpListener, Stream = TcpStream>
@@ -32,6 +29,4 @@ impl<
         + RandomSource
         + AllocGlobal
         + Sync,
-> Host for R
-{
-}
+> Host for R {}

@@ -175,7 +175,12 @@ impl<D: DeskNames> Receiver<D> {
     }
 
     /// Reads one connection to its end, or to a fault, which ends it just as well.
-    fn receive<R: Wait + Eprint + AllocGlobal>(&mut self, rt: &R, peer: &Peer, connection: Connection) {
+    fn receive<R: Wait + Eprint + AllocGlobal>(
+        &mut self,
+        rt: &R,
+        peer: &Peer,
+        connection: Connection,
+    ) {
         let Connection {
             mut stream,
             mut cutter,
@@ -265,7 +270,6 @@ impl<D: DeskNames, E: Wait + Eprint + AllocGlobal, S: Sink + Drop> Port for Site
     }
 
     fn seen<R: Wait>(&mut self, rt: &R, state: State, held: usize) {
-        self.peer.events.takes_line();
         if state != State::Buffering {
             self.peer.events.lacks_nothing(self.rt);
         }
@@ -277,7 +281,7 @@ impl<D: DeskNames, E: Wait + Eprint + AllocGlobal, S: Sink + Drop> Port for Site
     }
 
     fn taken<R: Wait>(&self, _rt: &R, line: &[u8], is_beat: bool) {
-        self.peer.events.skips_no_more();
+        self.peer.events.takes();
         if is_beat {
             self.note_beat(line);
         }

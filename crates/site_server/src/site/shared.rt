@@ -14,9 +14,9 @@ use std::sync::{MutexGuard, Wait};
 pub(crate) const COMMANDS: usize = CLIENTS;
 
 /// The place of the seat of the site's own ticks.
-pub(crate) const TICKS: usize = CLIENTS + 1;
+pub(crate) const TICKS: usize = COMMANDS + 1;
 
-const PLACES: usize = CLIENTS + 2;
+const PLACES: usize = TICKS + 1;
 
 /// The desk of a site under its lock, the seats that no thread has, and what appliers told that are done.
 #[derive(Drop)]
@@ -46,12 +46,15 @@ impl<D: DeskNames> Shared<D> {
         self.desk.lock(rt)
     }
 
-    /// Puts a seat at each place.
+    /// Puts a seat at each place. The desk has as many.
     pub(crate) fn give_seats<R: Wait>(&self, rt: &R) {
-        for count in 0..PLACES {
+        for place in 0..TICKS {
             if let Ok(seat) = self.desk.seat(rt) {
-                self.seats.put(rt, PLACES - 1 - count, seat);
+                self.seats.put(rt, place, seat);
             }
+        }
+        if let Ok(seat) = self.desk.clock_seat(rt) {
+            self.seats.put(rt, TICKS, seat);
         }
     }
 
