@@ -1,3 +1,4 @@
+mod CallLaws
 mod HearLaws
 mod LineLaws
 mod SendLaws

@@ -304,7 +304,9 @@ impl<D: DeskNames, R: Wait, P: Peers + Drop, B: Bell + Drop> LineHandler
     ) -> Result<Goes, OutOfMemory> {
         let before = replies.whole().len();
         let goes = self.answer_command(command_in(text), replies)?;
-        self.count_reply(&replies.whole()[before..]);
+        if let Some(reply) = replies.whole().get(before..) {
+            self.count_reply(reply);
+        }
         Ok(goes)
     }
 }

@@ -54,14 +54,13 @@ impl<D: DeskNames, R: Wait, P: Peers + Drop, B: Bell + Drop> SiteClient<'_, D, R
 }
 
 impl<D: DeskNames, R: Wait, P: Peers + Drop, B: Bell + Drop> Client for SiteClient<'_, D, R, P, B> {
-    ghost use Rattle.std.specs.Prelude.{Unit, ◌×◌, ◌≡◌};
-    ghost use Rattle.site_server.specs.Replying.{asked, TellsStatus};
-    ghost use Rattle.site_server.specs.Connections.{Tells, TellsSettled};
+    ghost use Rattle.site_server.specs.Replying.{TellsStatus};
+    ghost use Rattle.site_server.specs.Connections.{Answers, Settled};
     ghost use Rattle.site_server.specs.Measuring.{TellsMetrics, TellsClosed};
 
-    ghost answers = { λ before line text after. Tells P.size P.sends D.id (asked line) before.seat before.peers text after.seat after.peers };
+    ghost answers = { Answers P.size P.sends B.has_ended D.id };
 
-    ghost settles = { λ before line text after. TellsSettled P.size P.sends (B.has_ended before.bell) D.id (asked line) before.seat before.peers text after.seat after.peers };
+    ghost settles = { Settled P.size P.sends B.has_ended D.id };
 
     ghost status = { λ _ text. TellsStatus D.id text };
 

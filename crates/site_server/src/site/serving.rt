@@ -1,18 +1,24 @@
 //! Clients over HTTP: a thread and a seat for each connection.
-ghost use Rattle.std.specs.Prelude.{◌≡◌};
+ghost use Rattle.std.specs.Prelude.{◌≡◌, ◌×◌};
+ghost use Rattle.site_http.specs.Responding.{Responds};
+ghost use Rattle.site_http.specs.declared.config.TheConstants.{SERVICE};
+ghost use Rattle.site_server.specs.Requests.{Conversed, CountsCalls};
+ghost use Rattle.site_server.specs.Connections.{Responded};
 
-use crate::site::client::client_at;
+use crate::site::bell::Bell;
+use crate::site::client::{SiteClient, client_at};
 use crate::site::host::Host;
 use crate::site::shared::Shared;
 use apply_lanes::DeskNames;
 use http_server::{Connection, serve};
 use site_http::{Busy, Client, ClientService, service_config};
+use site_node::Peers;
 use site_sockets::{Caller, Clients, Site, hurried, part};
 use std::alloc::Global;
 use std::hash::RandomState;
 use std::io::{Read, Write};
 use std::net::TcpStream;
-use std::sync::Arc;
+use std::sync::{Arc, Wait};
 use std::thread;
 use std::thread::Scope;
 
@@ -23,28 +29,50 @@ fn converse<C: Client + Drop, I: Read, W: Write>(
     client: C,
     reader: &mut I,
     writer: &mut W,
-) -> C {
+) -> C
+    ensures { Conversed (Responds C.answers C.settles C.status C.metrics C.closed) SERVICE
+        (I.remaining reader.old) (I.remaining reader.new) (W.contents writer.old) (W.contents writer.new) client result }
+{
     let mut connection = Connection::new(alloc, keys, service_config());
     let mut service = ClientService::new(alloc, client);
     let _ = serve(&mut connection, &mut service, reader, writer);
     service.into_client()
 }
 
-/// Answers the requests of a connection with the seat of its place, which is put back. None where there was no memory to
-/// begin with; then no seat was taken.
+/// The same for a client with a seat. Whatever ends the connection, what the client was told as issued and as spent is what
+/// the seat counts more.
+fn answer_requests<'a, D: DeskNames, R: Wait, P: Peers + Drop, B: Bell + Drop, I: Read, W: Write>(
+    alloc: Global,
+    keys: RandomState,
+    client: SiteClient<'a, D, R, P, B>,
+    reader: &mut I,
+    writer: &mut W,
+) -> SiteClient<'a, D, R, P, B>
+    ensures { (talk : Conversed (Responded P.size P.sends B.has_ended D.id) SERVICE
+        (I.remaining reader.old) (I.remaining reader.new) (W.contents writer.old) (W.contents writer.new) client result)
+        × CountsCalls client.seat talk.history.calls result.seat }
+{
+    converse(alloc, keys, client, reader, writer)
+}
+
+/// Answers the requests of a connection with the seat of its place, which is put back. Where there is no memory to begin
+/// with, no seat is taken.
 fn seat_client<D: DeskNames, R: Host>(
     rt: &R,
     site: &Site,
     shared: &Arc<Shared<D>>,
     stream: &TcpStream,
     place: usize,
-) -> Option<()> {
-    let keys = RandomState::new(rt).ok()?;
-    let client = client_at(rt, site, shared, place)?;
+) {
+    let Ok(keys) = RandomState::new(rt) else {
+        return;
+    };
+    let Some(client) = client_at(rt, site, shared, place) else {
+        return;
+    };
     let (mut reader, mut writer) = (stream, stream);
-    let client = converse(rt.alloc(), keys, client, &mut reader, &mut writer);
+    let client = answer_requests(rt.alloc(), keys, client, &mut reader, &mut writer);
     shared.seats.put(rt, place, client.into_seat());
-    Some(())
 }
 
 /// Deals with the client that has this place, till it goes.
@@ -56,7 +84,7 @@ fn attend<D: DeskNames, R: Host>(
     stream: TcpStream,
     place: usize,
 ) {
-    let _ = seat_client(rt, site, &shared, &stream, place);
+    seat_client(rt, site, &shared, &stream, place);
     part(rt, &stream);
     clients.leave(rt, place);
 }
