@@ -7,3 +7,4 @@ pub mod Outboxes
 pub mod Hearing
 pub mod Conversations
 pub mod Requests
+pub mod Ending

@@ -49,7 +49,8 @@ impl Moments {
         let state = self.ticked.wait_while(rt, self.state.lock(rt), |state| {
             state.ticks == seen && !state.has_ended
         });
-        if state.has_ended {
+        // A tick that came before the end is told first.
+        if state.ticks == seen {
             return None;
         }
         Some(state.ticks)

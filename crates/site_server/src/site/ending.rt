@@ -1,5 +1,6 @@
 //! The end of a site: its desk stops, and says what it did and what its clients were told.
-ghost use Rattle.std.specs.Prelude.{◌≡◌, IfOk};
+ghost use Rattle.std.specs.Prelude.{IfOk};
+ghost use Rattle.site_server.specs.Ending.{StopsDesk};
 
 use crate::site::shared::Shared;
 use apply_lanes::{DeskNames, Parts, Report, stop};
@@ -26,7 +27,9 @@ impl From<OutOfMemory> for NoReport {
 pub(crate) fn stop_desk<D: DeskNames>(
     alloc: Global,
     shared: Arc<Shared<D>>,
-) -> Result<Report, NoReport> {
+) -> Result<Report, NoReport>
+    ensures { IfOk result (λ report. StopsDesk D.id report) }
+{
     let Ok(shared) = Arc::try_unwrap(shared) else {
         return Err(NoReport::Missing);
     };
