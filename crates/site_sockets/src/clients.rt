@@ -146,7 +146,7 @@ fn prepare(stream: &TcpStream) -> io::Result<()> {
 }
 
 /// A stream of which no more is read than comes in a second, however slowly: that of who is turned away.
-pub fn hurried<'a, R: Clock>(rt: &'a R, stream: &'a TcpStream) -> io::Result<impl Read + Drop> {
+pub fn hurried<'a, R: Clock>(rt: &'a R, stream: &'a TcpStream) -> io::Result<Patient<'a, R>> {
     Patient::new(rt, stream, Duration::from_secs(LAST_READ_SECONDS))
 }
 

@@ -19,6 +19,7 @@ pub use door::begin_door;
 pub use events::{LinkEvents, SkipCause};
 pub use mailbox::{Connection, Mailbox};
 pub use moments::Moments;
+pub use patient::Patient;
 pub use peer::Peer;
 pub use sending::begin_sender;
 pub use site::Site;

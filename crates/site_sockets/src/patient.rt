@@ -7,7 +7,7 @@ use std::time::{Clock, Duration, Instant};
 
 /// A stream that is read till a moment. A read behind it fails.
 #[derive(Drop)]
-pub(crate) struct Patient<'a, R> {
+pub struct Patient<'a, R> {
     rt: &'a R,
     stream: &'a TcpStream,
     since: Instant,
