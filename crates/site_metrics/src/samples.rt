@@ -15,6 +15,7 @@ use rights_types::OutOfMemory;
 use std::alloc::Allocator;
 
 /// A gauge with one value, at the beginning of the text, with no line feed before it.
+#[tactic(auto, using(crate::proofs::TextLaws::first_alone))]
 pub(crate) fn put_first_gauge<A: Allocator>(
     replies: &mut Replies<A>,
     name: &[u8],
@@ -29,6 +30,7 @@ pub(crate) fn put_first_gauge<A: Allocator>(
 }
 
 /// A gauge with one value.
+#[tactic(auto, using(crate::proofs::TextLaws::led_alone))]
 pub(crate) fn put_gauge<A: Allocator>(
     replies: &mut Replies<A>,
     name: &[u8],
@@ -38,11 +40,12 @@ pub(crate) fn put_gauge<A: Allocator>(
     ensures ok { OnOk result (replies.new.part ≡ replies.old.part ++ led_lines (gauge name.now help.now (alone value))) }
     ensures kept { replies.new.whole ≡ replies.old.whole }
 {
-    put_next_head(replies, name, help, b"gauge")?;
+    put_gauge_head(replies, name, help)?;
     put_value(replies, name, value)
 }
 
 /// A counter with one value.
+#[tactic(auto, using(crate::proofs::TextLaws::led_alone))]
 pub(crate) fn put_counter<A: Allocator>(
     replies: &mut Replies<A>,
     name: &[u8],
@@ -52,11 +55,12 @@ pub(crate) fn put_counter<A: Allocator>(
     ensures ok { OnOk result (replies.new.part ≡ replies.old.part ++ led_lines (counter name.now help.now (alone value))) }
     ensures kept { replies.new.whole ≡ replies.old.whole }
 {
-    put_next_head(replies, name, help, b"counter")?;
+    put_counter_head(replies, name, help)?;
     put_value(replies, name, value)
 }
 
 /// A gauge with a value for each peer.
+#[tactic(auto, using(crate::proofs::TextLaws::led_peers))]
 pub(crate) fn put_peer_gauge<A: Allocator>(
     replies: &mut Replies<A>,
     name: &[u8],
@@ -67,11 +71,12 @@ pub(crate) fn put_peer_gauge<A: Allocator>(
     ensures ok { OnOk result (replies.new.part ≡ replies.old.part ++ led_lines (gauge name.now help.now (by_peer (peer_value value) peers.now))) }
     ensures kept { replies.new.whole ≡ replies.old.whole }
 {
-    put_next_head(replies, name, help, b"gauge")?;
+    put_gauge_head(replies, name, help)?;
     put_peer_values(replies, name, peers, value)
 }
 
 /// A counter with a value for each peer.
+#[tactic(auto, using(crate::proofs::TextLaws::led_peers))]
 pub(crate) fn put_peer_counter<A: Allocator>(
     replies: &mut Replies<A>,
     name: &[u8],
@@ -82,11 +87,12 @@ pub(crate) fn put_peer_counter<A: Allocator>(
     ensures ok { OnOk result (replies.new.part ≡ replies.old.part ++ led_lines (counter name.now help.now (by_peer (peer_value value) peers.now))) }
     ensures kept { replies.new.whole ≡ replies.old.whole }
 {
-    put_next_head(replies, name, help, b"counter")?;
+    put_counter_head(replies, name, help)?;
     put_peer_values(replies, name, peers, value)
 }
 
 /// A counter with a count for each name of a refusal.
+#[tactic(auto, using(crate::proofs::TextLaws::led_names))]
 pub(crate) fn put_name_counter<A: Allocator>(
     replies: &mut Replies<A>,
     name: &[u8],
@@ -96,7 +102,7 @@ pub(crate) fn put_name_counter<A: Allocator>(
     ensures ok { OnOk result (replies.new.part ≡ replies.old.part ++ led_lines (counter name.now help.now (by_name counts.now))) }
     ensures kept { replies.new.whole ≡ replies.old.whole }
 {
-    put_next_head(replies, name, help, b"counter")?;
+    put_counter_head(replies, name, help)?;
     put_name_counts(replies, name, counts)
 }
 
@@ -113,17 +119,28 @@ fn put_head<A: Allocator>(
     put_words(replies, b"\n# TYPE ", name, kind)
 }
 
-fn put_next_head<A: Allocator>(
+fn put_gauge_head<A: Allocator>(
     replies: &mut Replies<A>,
     name: &[u8],
     help: &[u8],
-    kind: &[u8],
 ) -> Result<(), OutOfMemory>
-    ensures ok { OnOk result (replies.new.part ≡ replies.old.part ++ (10 ∷ help_line name.now help.now ++ 10 ∷ type_line name.now kind.now)) }
+    ensures ok { OnOk result (replies.new.part ≡ replies.old.part ++ (10 ∷ help_line name.now help.now ++ 10 ∷ type_line name.now (codes "gauge"))) }
     ensures kept { replies.new.whole ≡ replies.old.whole }
 {
     replies.put(b"\n")?;
-    put_head(replies, name, help, kind)
+    put_head(replies, name, help, b"gauge")
+}
+
+fn put_counter_head<A: Allocator>(
+    replies: &mut Replies<A>,
+    name: &[u8],
+    help: &[u8],
+) -> Result<(), OutOfMemory>
+    ensures ok { OnOk result (replies.new.part ≡ replies.old.part ++ (10 ∷ help_line name.now help.now ++ 10 ∷ type_line name.now (codes "counter"))) }
+    ensures kept { replies.new.whole ≡ replies.old.whole }
+{
+    replies.put(b"\n")?;
+    put_head(replies, name, help, b"counter")
 }
 
 fn put_words<A: Allocator>(
