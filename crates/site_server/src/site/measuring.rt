@@ -16,10 +16,19 @@ use site_sockets::{Peer, Site};
 use std::alloc::Allocator;
 use std::sync::Wait;
 
+/// What is read of a desk at one moment.
+struct DeskValues {
+    view: DeskView,
+    /// The slots of its queue that spends take which wait, and those of outcomes that nobody has read.
+    waiting: usize,
+    unread: usize,
+}
+
 /// The values of a site whose desk looks so.
-fn metrics_of<R: Wait>(rt: &R, site: &Site, desk: &DeskView) -> Metrics
-    ensures { HasValues desk.now result }
+fn metrics_of<R: Wait>(rt: &R, site: &Site, values: DeskValues) -> Metrics
+    ensures { HasValues values result }
 {
+    let desk = values.view;
     Metrics {
         held: desk.held,
         queued: desk.queued,
@@ -30,8 +39,8 @@ fn metrics_of<R: Wait>(rt: &R, site: &Site, desk: &DeskView) -> Metrics
         taken_back: desk.back,
         log_number: desk.number,
         closed: desk.closed,
-        requests_waiting: 0,
-        outcomes_unread: 0,
+        requests_waiting: values.waiting as u64,
+        outcomes_unread: values.unread as u64,
         clients: site.client_count(rt) as u64,
         commands: site.commands.commands(),
         refused: site.commands.refused(),
@@ -78,17 +87,22 @@ impl<D: DeskNames, R: Wait, P: Peers + Drop, B: Bell + Drop> SiteClient<'_, D, R
         ensures { IfOk result (λ values. AreMetrics D.id values.0 values.1.items) }
     {
         let (desk, peers) = self.desk_values()?;
-        Ok((metrics_of(self.rt, self.site, &desk), peers))
+        Ok((metrics_of(self.rt, self.site, desk), peers))
     }
 
-    /// The view of the desk and the values of its peers.
-    fn desk_values(&self) -> Result<(DeskView, Vec<PeerMetrics>), OutOfMemory>
+    /// The values of the desk and of its peers.
+    fn desk_values(&self) -> Result<(DeskValues, Vec<PeerMetrics>), OutOfMemory>
         ensures { IfOk result (λ values. AreValues D.id values.0 values.1.items) }
     {
         let kept = self.shared.lock(self.rt);
         let kept = &*kept;
         let peers = self.peer_metrics(kept.desk())?;
-        Ok((kept.view(), peers))
+        let values = DeskValues {
+            view: kept.view(),
+            waiting: kept.desk().requests_waiting(),
+            unread: kept.desk().outcomes_unread(),
+        };
+        Ok((values, peers))
     }
 
     /// Of each peer, how far the desk has applied its log, and what was counted of it.
