@@ -46,6 +46,8 @@ pub struct Site {
     pub commands: Counters,
     /// An applier met a refused request for memory.
     out_of_memory: AtomicBool,
+    /// All connections were shut down.
+    is_over: AtomicBool,
 }
 
 impl Site {
@@ -75,6 +77,7 @@ impl Site {
             moments: Moments::new(),
             commands: Counters::new(),
             out_of_memory: AtomicBool::new(false),
+            is_over: AtomicBool::new(false),
         })
     }
 
@@ -126,6 +129,11 @@ impl Site {
         self.out_of_memory.load(Ordering::SeqCst)
     }
 
+    /// Whether all connections were shut down: nobody gets a reply any more.
+    pub fn is_over(&self) -> bool {
+        self.is_over.load(Ordering::SeqCst)
+    }
+
     /// The next connection that finds a place to wait for its first line at. None once the site ends.
     pub(crate) fn next_caller<R: Wait + Clock>(&self, rt: &R) -> Option<(TcpStream, usize)> {
         for stream in self.listener.incoming() {
@@ -160,6 +168,7 @@ impl Site {
 
     /// Leaves no stream open.
     fn close<R: Net<Stream = TcpStream> + Wait>(&self, rt: &R) {
+        self.is_over.store(true, Ordering::SeqCst);
         if let Some(clients) = &self.clients {
             clients.close(rt);
         }

@@ -15,7 +15,8 @@ use std::alloc::Global;
 use std::sync::Wait;
 
 impl<D: DeskNames, R: Wait, P: Peers + Drop, B: Bell + Drop> SiteClient<'_, D, R, P, B> {
-    /// Answers what a line asks for. Nothing ends the site: `quit` is no command here.
+    /// Answers what a line asks for. Nothing ends the site: `quit` is no command here. Once nobody gets a reply any more,
+    /// the rest of a request is not carried out, as for want of memory.
     fn tell(
         &mut self,
         command: Option<SiteCommand>,
@@ -26,6 +27,9 @@ impl<D: DeskNames, R: Wait, P: Peers + Drop, B: Bell + Drop> SiteClient<'_, D, R
         ensures short { OnOk result ((length replies.new.whole ≤ length replies.old.whole + TICK_ROOM) ⊎ (self.new ≡ self.old)) }
         ensures err { OnErr result (self.new ≡ self.old) }
     {
+        if self.site.is_over() {
+            return Err(OutOfMemory);
+        }
         match command {
             Some(SiteCommand::Quit) => refuse(replies),
             _ => {
