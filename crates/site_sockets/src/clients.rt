@@ -4,7 +4,7 @@ use crate::hall::Hall;
 use crate::patient::Patient;
 use rights_types::OutOfMemory;
 use std::alloc::Global;
-use std::io::{Eprint, Read};
+use std::io::{Eprint, Read, Write};
 use std::net::{Net, Shutdown, TcpListener, TcpStream};
 use std::sync::Wait;
 use std::sync::atomic::{AtomicBool, Ordering};
@@ -106,6 +106,15 @@ impl Clients {
         }
     }
 
+    /// The stream of the client at this place, to be read and written.
+    pub fn stream<'a>(&'a self, stream: &'a TcpStream, place: usize) -> ClientStream<'a> {
+        ClientStream {
+            hall: &self.hall,
+            stream,
+            place,
+        }
+    }
+
     /// The client at this place has gone.
     pub fn leave<R: Wait>(&self, rt: &R, place: usize) {
         self.hall.leave(rt, place);
@@ -116,10 +125,10 @@ impl Clients {
         self.porch.leave(rt, place);
     }
 
-    /// Lets no client in any more, and reads none. Waits until all that were read are answered, or the time is over.
+    /// Lets no client in any more, and no request begin. Waits until those that have begun are answered, or the time is over.
     pub(crate) fn end<R: Net<Stream = TcpStream> + Wait + Clock>(&self, rt: &R, time: Duration) {
-        self.hall.close_input(rt);
-        self.porch.close_input(rt);
+        self.hall.end(rt);
+        self.porch.end(rt);
         wake(rt, &self.listener);
         self.hall.wait_until_empty(rt, time);
     }
@@ -128,6 +137,42 @@ impl Clients {
     pub(crate) fn close<R: Wait>(&self, rt: &R) {
         self.hall.close(rt);
         self.porch.close(rt);
+    }
+}
+
+/// The stream of a client. A request begins with what is read, and ends with what is written; where several are sent
+/// at once, the rest of them counts as one only once more of it is read.
+#[derive(Drop)]
+pub struct ClientStream<'a> {
+    hall: &'a Hall,
+    stream: &'a TcpStream,
+    place: usize,
+}
+
+impl Read for ClientStream<'_> {
+    fn read(&mut self, buf: &mut [u8]) -> io::Result<usize> {
+        if self.hall.is_done(self.place) {
+            return Ok(0);
+        }
+        let mut stream = self.stream;
+        let count = stream.read(buf)?;
+        if count > 0 {
+            self.hall.set_idle(self.place, false);
+        }
+        Ok(count)
+    }
+}
+
+impl Write for ClientStream<'_> {
+    fn write(&mut self, buf: &[u8]) -> io::Result<usize> {
+        let mut stream = self.stream;
+        let count = stream.write(buf)?;
+        self.hall.set_idle(self.place, true);
+        Ok(count)
+    }
+
+    fn flush(&mut self) -> io::Result<()> {
+        Ok(())
     }
 }
 

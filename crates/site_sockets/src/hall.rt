@@ -3,6 +3,7 @@
 use rights_types::OutOfMemory;
 use std::alloc::Global;
 use std::net::{Shutdown, TcpStream};
+use std::sync::atomic::{AtomicBool, Ordering};
 use std::sync::{Condvar, CondvarTimeouts, Mutex, Wait};
 use std::time::{Clock, Duration};
 
@@ -12,6 +13,10 @@ pub(crate) struct Hall {
     state: Mutex<State>,
     /// Told whenever a place is free again.
     freed: Condvar,
+    /// Of each place, whether its connection waits for something to begin.
+    idle: Vec<AtomicBool>,
+    /// Whether nothing is to begin any more.
+    is_ending: AtomicBool,
 }
 
 #[derive(Drop)]
@@ -40,9 +45,20 @@ impl State {
         self.places.iter().flatten().count()
     }
 
-    fn shut_down(&self, how: Shutdown) {
+    fn shut_down(&self) {
         for stream in self.places.iter().flatten() {
-            let _ = stream.shutdown(how);
+            let _ = stream.shutdown(Shutdown::Both);
+        }
+    }
+
+    /// Ends the input of those that are idle.
+    fn end_idle(&self, idle: &[AtomicBool]) {
+        for (stream, idle) in self.places.iter().zip(idle) {
+            if let Some(stream) = stream {
+                if idle.load(Ordering::SeqCst) {
+                    let _ = stream.shutdown(Shutdown::Read);
+                }
+            }
         }
     }
 }
@@ -51,8 +67,10 @@ impl Hall {
     /// So many free places.
     pub(crate) fn new(alloc: Global, size: usize) -> Result<Hall, OutOfMemory> {
         let mut places = Vec::with_capacity(alloc, size)?;
+        let mut idle = Vec::with_capacity(alloc, size)?;
         for _ in 0..size {
             places.push(None)?;
+            idle.push(AtomicBool::new(true))?;
         }
         Ok(Hall {
             state: Mutex::new(State {
@@ -60,12 +78,16 @@ impl Hall {
                 places,
             }),
             freed: Condvar::new(),
+            idle,
+            is_ending: AtomicBool::new(false),
         })
     }
 
     /// A place for the connection, counted from 0. None where all are taken, or the hall is closed.
     pub(crate) fn enter<R: Wait>(&self, rt: &R, stream: &TcpStream) -> Option<usize> {
-        self.state.lock(rt).enter(stream)
+        let place = self.state.lock(rt).enter(stream)?;
+        self.set_idle(place, true);
+        Some(place)
     }
 
     /// The connection at this place is dealt with no more.
@@ -83,12 +105,28 @@ impl Hall {
         self.state.lock(rt).is_closed
     }
 
-    /// Lets none in any more. Who is in has come to the end of its input, and may still be written to.
-    pub(crate) fn close_input<R: Wait>(&self, rt: &R) {
+    /// Notes whether the connection at this place waits for something to begin.
+    pub(crate) fn set_idle(&self, place: usize, is_idle: bool) {
+        if let Some(idle) = self.idle.get(place) {
+            idle.store(is_idle, Ordering::SeqCst);
+        }
+    }
+
+    /// Whether the connection at this place has come to its end: it is idle, and nothing is to begin any more.
+    pub(crate) fn is_done(&self, place: usize) -> bool {
+        match self.idle.get(place) {
+            Some(idle) => self.is_ending.load(Ordering::SeqCst) && idle.load(Ordering::SeqCst),
+            None => true,
+        }
+    }
+
+    /// Lets none in any more. Who is idle has come to the end of its input, and so has who becomes so.
+    pub(crate) fn end<R: Wait>(&self, rt: &R) {
         let mut state = self.state.lock(rt);
         let state = &mut *state;
         state.is_closed = true;
-        state.shut_down(Shutdown::Read);
+        self.is_ending.store(true, Ordering::SeqCst);
+        state.end_idle(self.idle.as_slice());
     }
 
     /// Waits until no place is taken, or the time is over.
@@ -103,6 +141,6 @@ impl Hall {
         let mut state = self.state.lock(rt);
         let state = &mut *state;
         state.is_closed = true;
-        state.shut_down(Shutdown::Both);
+        state.shut_down();
     }
 }

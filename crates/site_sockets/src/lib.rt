@@ -14,7 +14,7 @@ mod peer;
 mod sending;
 mod site;
 
-pub use clients::{CLIENTS, Caller, Clients, hurried, part};
+pub use clients::{CLIENTS, Caller, ClientStream, Clients, hurried, part};
 pub use door::begin_door;
 pub use events::{LinkEvents, SkipCause};
 pub use mailbox::{Connection, Mailbox};

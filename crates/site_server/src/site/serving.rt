@@ -60,6 +60,7 @@ fn answer_requests<'a, D: DeskNames, R: Wait, P: Peers + Drop, B: Bell + Drop, I
 fn seat_client<D: DeskNames, R: Host>(
     rt: &R,
     site: &Site,
+    clients: &Clients,
     shared: &Arc<Shared<D>>,
     stream: &TcpStream,
     place: usize,
@@ -70,7 +71,8 @@ fn seat_client<D: DeskNames, R: Host>(
     let Some(client) = client_at(rt, site, shared, place) else {
         return;
     };
-    let (mut reader, mut writer) = (stream, stream);
+    let mut reader = clients.stream(stream, place);
+    let mut writer = clients.stream(stream, place);
     let client = answer_requests(rt.alloc(), keys, client, &mut reader, &mut writer);
     shared.seats.put(rt, place, client.into_seat());
 }
@@ -84,7 +86,7 @@ fn attend<D: DeskNames, R: Host>(
     stream: TcpStream,
     place: usize,
 ) {
-    seat_client(rt, site, &shared, &stream, place);
+    seat_client(rt, site, clients, &shared, &stream, place);
     part(rt, &stream);
     clients.leave(rt, place);
 }

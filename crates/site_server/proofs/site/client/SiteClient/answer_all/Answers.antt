@@ -1,5 +1,5 @@
 use Rattle.site_server.proofs.ToldLaws.{counts_replies}
-use Rattle.site_server.proofs.site.console.Console.answer_all.Goals as goal
+use Rattle.site_server.proofs.site.client.SiteClient.answer_all.Goals as goal
 
 pub returns-clause-ends : goal.returns-clause-ends
 returns-clause-ends g c =

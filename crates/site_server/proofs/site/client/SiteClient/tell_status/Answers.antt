@@ -1,5 +1,5 @@
 use Rattle.site_server.proofs.SendLaws.{tells_status}
-use Rattle.site_server.proofs.site.console.Console.tell_status.Goals as goal
+use Rattle.site_server.proofs.site.client.SiteClient.tell_status.Goals as goal
 
 pub returns-clause-ok : goal.returns-clause-ok
 returns-clause-ok g c =
