@@ -1,5 +1,5 @@
 -- One line more of a text of replies.
-use Rattle.std.proofs.Common.{◌≡◌, ◌≢◌, ℕ, ◌+◌, ◌<◌, ◌≤◌, cond, List, [], ◌∷◌, ◌++◌, length, take, drop, refl, ap, ◌∙◌, sym, arith, append-nil, take-append-drop}
+use Rattle.std.proofs.Common.{◌≡◌, ℕ, ◌+◌, ◌≤◌, cond, List, [], ◌∷◌, ◌++◌, length, take, drop, ap, ◌∙◌, sym, arith, append-nil, take-append-drop}
 use Rattle.std.specs.Prelude.{Decides}
 use Rattle.std.specs.Bool.{one_answer}
 use Rattle.std.specs.Str.{bytes_eq}
@@ -37,8 +37,16 @@ same_test line text =
 pub refused_more : (place : ℕ) (lines : List (List ℕ)) (line : List ℕ) → refused_lines place (lines ++ (line ++ 10 ∷ []) ∷ []) ≡ refused_lines place lines + one_where_refused place line
 refused_more place lines line =
     let more = sum_by-append (λ (l : List ℕ). cond (bytes_eq l (refusal_text place ++ 10 ∷ [])) 1 0) lines ((line ++ 10 ∷ []) ∷ []) in
-    let same = ap (λ b. cond b 1 0) (same_test line (refusal_text place)) in
+    let same = ap {B = ℕ} (λ b. cond b 1 0) (same_test line (refusal_text place)) in
     omega (arith, more, same)
 
 pub few_refused : (place : ℕ) (lines : List (List ℕ)) → refused_lines place lines ≤ length lines
 few_refused place lines = count_by-le-length (λ line. bytes_eq line (refusal_text place ++ 10 ∷ [])) lines
+
+-- one line more of a text was counted
+pub counted_line : (old new place : ℕ) (reply line : List ℕ) (before after : List (List ℕ)) → reply ≡ line → after ≡ before ++ (line ++ 10 ∷ []) ∷ []
+    → old ≡ refused_lines place before → new ≡ old + one_where_refused place reply → new ≡ refused_lines place after
+counted_line old new place reply line before after same all counted more =
+    let last : one_where_refused place reply ≡ one_where_refused place line = ap {B = ℕ} (one_where_refused place) same in
+    let whole : refused_lines place after ≡ refused_lines place before + one_where_refused place line = ap {B = ℕ} (refused_lines place) all ∙ refused_more place before line in
+    more ∙ ap {B = ℕ} (λ k. k + one_where_refused place reply) counted ∙ ap {B = ℕ} (λ k. refused_lines place before + k) last ∙ sym whole

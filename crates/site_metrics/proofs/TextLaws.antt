@@ -96,13 +96,13 @@ module _ (text : List ℕ) where
   pub all_parts : (m : Metrics) (peers : List PeerMetrics)
       → ((((text ++ drop 1 (flat_map led_lines (rights_metrics m))) ++ flat_map led_lines (state_metrics m)) ++ flat_map led_lines (client_metrics m)) ++ flat_map led_lines (log_metrics peers)) ++ flat_map led_lines (line_metrics peers)
       ≡ text ++ drop 1 (flat_map led_lines (all_metrics m peers))
-  all_parts m peers = parts _ _ (state_metrics m) (client_metrics m) (log_metrics peers) (line_metrics peers)
+  all_parts m peers = parts _ (drop 1 (rights_metrics m)) (state_metrics m) (client_metrics m) (log_metrics peers) (line_metrics peers)
 
   pub whole_text : (m : Metrics) (peers : List PeerMetrics) → text ++ (drop 1 (flat_map led_lines (all_metrics m peers)) ++ 10 ∷ []) ≡ text ++ metrics_text m peers
-  whole_text m peers = ap (λ (t : List ℕ). text ++ t) (moved _ _)
+  whole_text m peers = ap (λ (t : List ℕ). text ++ t) (moved _ (drop 1 (all_metrics m peers)))
 
 module _ (name help kind : List ℕ) where
-  abbrev head : List ℕ
+  abbrev pub head : List ℕ
   head = 10 ∷ help_line name help ++ 10 ∷ type_line name kind
 
   module _ (value : ℕ) where
@@ -133,3 +133,23 @@ module _ (name help kind : List ℕ) where
       sym (append_assoc (10 ∷ help_line name help) (10 ∷ type_line name kind) (led (map (sample_line name) (by_name counts))))
       ∙ ap (λ (t : List ℕ). head ++ t) (flat_map-map (λ (line : List ℕ). 10 ∷ line) (sample_line name) (by_name counts)
       ∙ flat_map-map (λ (s : Sample). 10 ∷ sample_line name s) name_sample (zip refusal_names counts))
+
+  -- .. put behind a text
+  module _ (text : List ℕ) where
+    pub put_alone : (value : ℕ)
+        → (text ++ head) ++ 10 ∷ sample_line name (record { labels = []; value = value }) ≡ text ++ led_lines (record { name = name; help = help; kind = kind; samples = alone value })
+    put_alone value = append_assoc text head (10 ∷ sample_line name (record { labels = []; value = value })) ∙ ap (λ (t : List ℕ). text ++ t) (sym (led_alone value))
+
+    pub put_first : (value : ℕ)
+        → (text ++ (help_line name help ++ 10 ∷ type_line name kind)) ++ 10 ∷ sample_line name (record { labels = []; value = value })
+        ≡ text ++ drop 1 (led_lines (record { name = name; help = help; kind = kind; samples = alone value }))
+    put_first value =
+        append_assoc text (help_line name help ++ 10 ∷ type_line name kind) (10 ∷ sample_line name (record { labels = []; value = value })) ∙ ap (λ (t : List ℕ). text ++ t) (sym (first_alone value))
+
+    pub put_peers : (value : PeerMetrics → ℕ) (peers : List PeerMetrics)
+        → (text ++ head) ++ flat_map (λ p. 10 ∷ sample_line name (peer_sample value p)) peers ≡ text ++ led_lines (record { name = name; help = help; kind = kind; samples = by_peer value peers })
+    put_peers value peers = append_assoc text head (flat_map (λ p. 10 ∷ sample_line name (peer_sample value p)) peers) ∙ ap (λ (t : List ℕ). text ++ t) (sym (led_peers value peers))
+
+    pub put_names : (counts : List ℕ)
+        → (text ++ head) ++ flat_map (λ e. 10 ∷ sample_line name (name_sample e)) (zip refusal_names counts) ≡ text ++ led_lines (record { name = name; help = help; kind = kind; samples = by_name counts })
+    put_names counts = append_assoc text head (flat_map (λ e. 10 ∷ sample_line name (name_sample e)) (zip refusal_names counts)) ∙ ap (λ (t : List ℕ). text ++ t) (sym (led_names counts))

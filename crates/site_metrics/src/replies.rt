@@ -18,27 +18,23 @@ pub fn count_replies(text: &[u8]) -> ReplyCounts
     ensures lines { result.lines ≡ length (pieces text.now) }
     ensures refused { (place : ℕ) → place < REFUSAL_COUNT → get_or result.refused place 0 ≡ refused_lines place (pieces text.now) }
 {
-    let mut counts = ReplyCounts {
-        lines: 0,
-        refused: [0; REFUSAL_COUNT],
-    };
+    let mut lines = 0;
+    let mut refused = [0; REFUSAL_COUNT];
     let mut at = 0;
     'lines: while let Some(length) = memchr(b'\n', &text[at..]) {
-        count_reply(&mut counts, &text[at..at + length]);
+        count_refusal(&mut refused, &text[at..at + length]);
+        lines += 1;
         at += length + 1;
     }
-    counts
+    ReplyCounts { lines, refused }
 }
 
-/// One line more, without its line feed.
-fn count_reply(counts: &mut ReplyCounts, reply: &[u8])
-    requires lines { counts.old.lines + 1 < 2 ^ 64 }
-    requires refused { (place : ℕ) → place < REFUSAL_COUNT → get_or counts.old.refused place 0 + 1 < 2 ^ 64 }
-    ensures lines { counts.new.lines ≡ counts.old.lines + 1 }
-    ensures refused { (place : ℕ) → place < REFUSAL_COUNT → get_or counts.new.refused place 0 ≡ get_or counts.old.refused place 0 + one_where_refused place reply.now }
+/// Counts the refusal that a reply tells, where it tells one.
+fn count_refusal(refused: &mut [u64; REFUSAL_COUNT], reply: &[u8])
+    requires { (place : ℕ) → place < REFUSAL_COUNT → get_or refused.old place 0 + 1 < 2 ^ 64 }
+    ensures { (place : ℕ) → place < REFUSAL_COUNT → get_or refused.new place 0 ≡ get_or refused.old place 0 + one_where_refused place reply.now }
 {
-    counts.lines += 1;
     if let Some(place) = refusal_place(reply) {
-        counts.refused[place] += 1;
+        refused[place] += 1;
     }
 }

@@ -15,7 +15,6 @@ use rights_types::OutOfMemory;
 use std::alloc::Allocator;
 
 /// A gauge with one value, at the beginning of the text, with no line feed before it.
-#[tactic(auto, using(crate::proofs::TextLaws::first_alone))]
 pub(crate) fn put_first_gauge<A: Allocator>(
     replies: &mut Replies<A>,
     name: &[u8],
@@ -30,7 +29,6 @@ pub(crate) fn put_first_gauge<A: Allocator>(
 }
 
 /// A gauge with one value.
-#[tactic(auto, using(crate::proofs::TextLaws::led_alone))]
 pub(crate) fn put_gauge<A: Allocator>(
     replies: &mut Replies<A>,
     name: &[u8],
@@ -45,7 +43,6 @@ pub(crate) fn put_gauge<A: Allocator>(
 }
 
 /// A counter with one value.
-#[tactic(auto, using(crate::proofs::TextLaws::led_alone))]
 pub(crate) fn put_counter<A: Allocator>(
     replies: &mut Replies<A>,
     name: &[u8],
@@ -60,7 +57,6 @@ pub(crate) fn put_counter<A: Allocator>(
 }
 
 /// A gauge with a value for each peer.
-#[tactic(auto, using(crate::proofs::TextLaws::led_peers))]
 pub(crate) fn put_peer_gauge<A: Allocator>(
     replies: &mut Replies<A>,
     name: &[u8],
@@ -76,7 +72,6 @@ pub(crate) fn put_peer_gauge<A: Allocator>(
 }
 
 /// A counter with a value for each peer.
-#[tactic(auto, using(crate::proofs::TextLaws::led_peers))]
 pub(crate) fn put_peer_counter<A: Allocator>(
     replies: &mut Replies<A>,
     name: &[u8],
@@ -92,7 +87,6 @@ pub(crate) fn put_peer_counter<A: Allocator>(
 }
 
 /// A counter with a count for each name of a refusal.
-#[tactic(auto, using(crate::proofs::TextLaws::led_names))]
 pub(crate) fn put_name_counter<A: Allocator>(
     replies: &mut Replies<A>,
     name: &[u8],

@@ -1,7 +1,7 @@
 //! The text of all metrics.
 ghost use Rattle.std.specs.Prelude.{◌≡◌, ◌++◌, [], drop, flat_map, OnOk, OnErr};
 ghost use Rattle.site_metrics.specs.Format.{led_lines};
-ghost use Rattle.site_metrics.specs.Table.{rights_metrics, state_metrics, client_metrics, log_metrics, line_metrics, all_metrics, metrics_text};
+ghost use Rattle.site_metrics.specs.Table.{rights_metrics, state_metrics, client_metrics, log_metrics, line_metrics, all_metrics, metrics_text, bit};
 
 use crate::metrics::{Metrics, PeerMetrics};
 use crate::peer_value::PeerValue;
@@ -107,7 +107,7 @@ fn put_state<A: Allocator>(metrics: &Metrics, replies: &mut Replies<A>) -> Resul
         replies,
         b"rights_closed",
         b"1 once the site has closed, else 0.",
-        metrics.closed as u64,
+        bit(metrics.closed),
     )?;
     put_gauge(
         replies,
@@ -233,4 +233,11 @@ fn put_lines<A: Allocator>(
         peers,
         PeerValue::WentBack,
     )
+}
+
+/// 1 where it is so, else 0.
+fn bit(value: bool) -> u64
+    ensures { result ≡ bit value }
+{
+    value as u64
 }

@@ -7,10 +7,10 @@ use Rattle.site_metrics.proofs.replies.count_replies.Given as goal
 abbrev pub invariant-lines : goal.invariant-lines
 invariant-lines l = record {
   within : l.at ≤ length l.text;
-  few : l.counts.lines ≤ l.at;
-  lines : l.counts.lines ≡ length (pieces (take l.at l.text));
+  few : l.lines ≤ l.at;
+  lines : l.lines ≡ length (pieces (take l.at l.text));
   ended : unfinished (take l.at l.text) ≡ [];
-  refused : (place : ℕ) → place < 15 → get_or l.counts.refused place 0 ≡ refused_lines place (pieces (take l.at l.text));
+  refused : (place : ℕ) → place < 15 → get_or l.refused place 0 ≡ refused_lines place (pieces (take l.at l.text));
 }
 
 abbrev pub decreases-lines : goal.decreases-lines
