@@ -4,7 +4,7 @@ ghost use Rattle.line_streams.specs.Waiting.{AddsReply};
 ghost use Rattle.site_node.specs.Texts.{reply_text, tick_text};
 
 use crate::reply::Reply;
-use crate::texts::{TICK_ROOM, put_reply, put_ticked};
+use crate::texts::{TICK_ROOM, put_reply, put_ticked, reply_fits, tick_fits};
 use crate::tick::Ticked;
 use line_streams::Replies;
 use reply_texts::{REPLY_ROOM, put_error};
@@ -18,6 +18,7 @@ pub fn answer_reply<A: Allocator>(replies: &mut Replies<A>, reply: Reply)
     ensures added { AddsReply replies.old replies.new (reply_text reply) }
     ensures short { length replies.new.whole ≤ length replies.old.whole + REPLY_ROOM }
 {
+    reply_fits(reply);
     put_reply(replies, reply).unwrap();
     replies.finish().unwrap();
 }
@@ -30,6 +31,7 @@ pub fn answer_tick<A: Allocator>(replies: &mut Replies<A>, told: Result<(Ticked,
     ensures added { AddsReply replies.old replies.new (tick_text told) }
     ensures short { length replies.new.whole ≤ length replies.old.whole + TICK_ROOM }
 {
+    tick_fits(told);
     match told {
         Ok((ticked, sent)) => put_ticked(replies, ticked, sent).unwrap(),
         Err(cause) => put_error(replies, cause).unwrap(),
