@@ -2,4 +2,5 @@ mod CallLaws
 mod HearLaws
 mod LineLaws
 mod SendLaws
+mod SettleLaws
 mod ToldLaws

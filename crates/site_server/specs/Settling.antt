@@ -1,6 +1,5 @@
 -- What a client gets that waits for what becomes of its spend.
-use Rattle.std.specs.Prelude.{◌≡◌, ◌≢◌, ◌×◌, ◌⊎◌, ℕ, List}
-use Rattle.request_queue.specs.declared.request.Status.{Status}
+use Rattle.std.specs.Prelude.{◌≡◌, ◌⊎◌, ℕ, Bool, true, false, List}
 use Rattle.request_queue.specs.declared.request.Status.TheVariants.{Waiting}
 use Rattle.site_core.specs.declared.desk.requests.Spending.TheVariants.{Queued}
 use Rattle.apply_lanes.specs.Names.{DeskId}
@@ -12,12 +11,15 @@ use Rattle.site_node.specs.declared.reply.Reply.{Reply}
 use Rattle.site_node.specs.declared.reply.Reply.TheVariants.{Spending, Outcome}
 use Rattle.site_server.specs.Replying.{ActsAtDesk}
 
+-- it is told that a spend still waits
+abbrev pub still_waits : Reply → Bool
+still_waits (Outcome Waiting) = true
+still_waits reply = false
+
 -- of the spend with this ticket the desk told, under its lock, what became of it: it does not wait any more
 pub record TellsOutcome (id : DeskId) (seat : SeatValue) (ticket : ℕ) (settled : Reply) : Type 0 where
-  pub status : Status
-  pub decided : status ≢ Waiting
-  pub told : settled ≡ Outcome status
   pub at_desk : ActsAtDesk id seat (AsksOutcome ticket) settled seat
+  pub decided : still_waits settled ≡ false
 
 -- what a client is told that waits, in place of a reply: of a spend that was queued what became of it, or, where the site has
 -- ended, that it is queued; else the reply itself

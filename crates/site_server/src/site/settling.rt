@@ -1,10 +1,9 @@
 //! What a client is answered that waits for what becomes of its spend.
-ghost use Rattle.std.specs.Prelude.{◌≡◌, ◌+◌, ◌≤◌, ◌⊎◌, ◌×◌, ◌≢◌, ◌↔◌, [], List, ℕ, length, IsTrue, OnOk, OnErr};
+ghost use Rattle.std.specs.Prelude.{◌≡◌, ◌+◌, ◌≤◌, [], List, ℕ, length, OnOk, OnErr};
 ghost use Rattle.line_streams.specs.Waiting.{AddsReply};
-ghost use Rattle.site_node.specs.declared.reply.Reply.TheVariants.{Spending as Spends, Outcome as Outcomes};
+ghost use Rattle.site_node.specs.declared.reply.Reply.TheVariants.{Spending as Spends};
 ghost use Rattle.site_core.specs.declared.desk.requests.Spending.TheVariants.{Queued as IsQueued};
-ghost use Rattle.request_queue.specs.declared.request.Status.TheVariants.{Waiting as Waits};
-ghost use Rattle.site_server.specs.Settling.{Settles, SettlesCommand};
+ghost use Rattle.site_server.specs.Settling.{Settles, SettlesCommand, still_waits};
 
 use crate::site::bell::Bell;
 use crate::site::client::SiteClient;
@@ -75,7 +74,7 @@ impl<D: DeskNames, R: Wait, P: Peers + Drop, B: Bell + Drop> SiteClient<'_, D, R
 
 /// Whether a spend still waits, by what was told of it.
 fn is_waiting(reply: Reply) -> bool
-    ensures { IsTrue result ↔ (reply ≡ Outcomes Waits) }
+    ensures { result ≡ still_waits reply }
 {
     match reply {
         Reply::Outcome(Status::Waiting) => true,
