@@ -2,7 +2,10 @@
 use Rattle.std.proofs.Common.{◌≡◌, ◌∙◌, ◌×◌, ◌⊎◌, ℕ, List, [], ◌∷◌, ◌++◌, append-nil, Bool, Option, Some, None, inl, inr, refl, ap, sym, subst}
 use Rattle.http.specs.declared.request.Request.{Request}
 use Rattle.http.specs.Request.{body_of}
-use Rattle.http_server.specs.Exchange.{Call, Chain}
+use Rattle.std.specs.Io.KnownBytes.{Appends, Consumes}
+use Rattle.http_server.specs.Exchange.{Call, Calls, Chain}
+use Rattle.http_server.specs.History.{History, IsServed, new_history}
+use Rattle.http_server.specs.declared.state.Config.{Config}
 use Rattle.http_server.specs.declared.response.Response.{Response}
 use Rattle.line_streams.specs.Talk.{lines_of}
 use Rattle.apply_lanes.specs.Names.{DeskId}
@@ -24,7 +27,7 @@ use Rattle.site_server.specs.Measuring.{TellsMetrics, TellsClosed}
 use Rattle.site_server.specs.Settling.{Settles, SettlesCommand}
 use Rattle.site_server.specs.Connections.{ClientValue, Tells, TellsSettled, Answers, Settled, Responded}
 use Rattle.site_server.specs.Conversations.{IsTurn}
-use Rattle.site_server.specs.Requests.{IsSettledTurn, IsQueued, AreTurnsOf, AreBodyTurns, AreRouteTurns, AreCallTurns, AreCallsTurns, CountsCalls}
+use Rattle.site_server.specs.Requests.{IsSettledTurn, IsQueued, AreTurnsOf, AreBodyTurns, AreRouteTurns, AreCallTurns, AreCallsTurns, Conversed, CountsCalls}
 use Rattle.site_server.proofs.ToldLaws.{turns_of_line, both}
 
 -- a line has turns that lead from one value of the seat to another
@@ -153,3 +156,19 @@ module _ {P : Type 0} (size : P → ℕ) (sends : P → ℕ → ℕ → P → Ty
     counts_calls old calls new h =
         let found = turns_of_calls old calls new h in
         record { turns = found.0; are_turns = found.1; has_turns = found.2; counted = turns_count old.seat found.0 new.seat found.2 }
+
+-- a connection from its beginning on
+pub conversed : {S : Type 0} (answers : S → Request (List ℕ) → Response → S → Type 0) (config : Config) (given left held holds : Option (List ℕ)) (old new : S) (before after : History)
+    → before ≡ new_history → ∥ IsServed config after ∥₁
+    → (more : List ℕ) × Consumes given left more × (after.received ≡ before.received ++ more)
+    → (more : List ℕ) × Appends held holds more × (after.sent ≡ before.sent ++ more)
+    → Calls answers old new before.calls after.calls
+    → Conversed answers config given left held holds old new
+conversed answers config given left held holds old new before after fresh served read written calls =
+    record {
+      history = after;
+      served = served;
+      read = subst (λ (m : List ℕ). Consumes given left m) (sym (read.2 ∙ ap (λ (h : History). h.received ++ read.0) fresh)) read.1;
+      written = subst (λ (m : List ℕ). Appends held holds m) (sym (written.2 ∙ ap (λ (h : History). h.sent ++ written.0) fresh)) written.1;
+      calls = subst (λ (cs : List Call). Chain answers old cs new) (sym (calls.1 ∙ ap (λ (h : History). h.calls ++ calls.0) fresh)) calls.2;
+    }
