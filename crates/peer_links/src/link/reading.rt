@@ -184,10 +184,10 @@ fn take_line<R: Wait, P: Port>(
         }
         Err(IntakeError::LaneClosed) => return Err(LinkFault::LaneClosed),
     };
-    let is_beat = is_beat(&arrived);
-    port.taken(rt, line, is_beat);
+    let again = is_beat(&arrived);
+    port.taken(rt, line, again);
     hand_over(rt, arrived, port)?;
-    ask_for_gap(rt, is_beat, intake, port)?;
+    ask_for_gap(rt, again, intake, port)?;
     Ok(())
 }
 
