@@ -49,14 +49,19 @@ _rights_site_run() {
             mapfile -t COMPREPLY < <(compgen -W "$(echo {2..16})" -- "$current")
             return
             ;;
-        # An address is the caller's to say: where this site listens, or after 'J='.
-        --listen | [1-9]*)
+        --once)
+            compopt -o filenames 2>/dev/null
+            mapfile -t COMPREPLY < <(compgen -f -- "$current")
+            return
+            ;;
+        # An address is the caller's to say: where this site listens, or after 'J='. So is how often it ticks.
+        --listen | --http | --tick | [1-9]*)
             return
             ;;
     esac
     [[ $current == *=* ]] && return
 
-    for word in --id --sites --listen --help; do
+    for word in --id --sites --listen --http --tick --once --log --help; do
         [[ " ${COMP_WORDS[*]:1:COMP_CWORD-1} " == *" $word "* ]] || options+="$word "
     done
     [[ $sites =~ ^([2-9]|1[0-6])$ ]] || sites=16

@@ -21,7 +21,7 @@ use Rattle.apply_lanes.specs.Kepts.{KeptValue, IsKept, SeatValue, told_nothing}
 use Rattle.apply_lanes.specs.Appliers.{ApplierValue, IsCounted, new_applier, in_hand, MovesOn, HasNext, ComesToDesk, LeavesHand, is_late, is_out_of_step, step_fault, StepRefuses, dropped, applied, Steps, StepFails}
 use Rattle.apply_lanes.specs.declared.applier.StepError.{StepError}
 use Rattle.apply_lanes.specs.declared.applier.StepError.TheVariants.{LaneClosed, OutOfStep, OutOfMemory}
-use Rattle.apply_lanes.specs.Admissions.{site_fault, GivesSeat}
+use Rattle.apply_lanes.specs.Admissions.{site_fault, GivesSeat, GivesClockSeat}
 use Rattle.apply_lanes.specs.declared.seat.SeatsFull.{SeatsFull}
 use Rattle.apply_lanes.specs.declared.kept.AdmitFault.TheVariants.{NoSuchSite, SameSite}
 use Rattle.thread_parts.proofs.Items.{items_of-push, same_entries, empty_chain}
@@ -219,6 +219,10 @@ module _ {G A : Type 0} where
 pub seat_told : (old : KeptValue) (answer : Result SeatValue SeatsFull) (new : KeptValue) → GivesSeat old answer new → IfOk answer (λ s. s ≡ told_nothing)
 seat_told old (Ok s) new h = h.0
 seat_told old (Err full) new h = tt
+
+pub clock_seat_told : (old : KeptValue) (answer : Result SeatValue SeatsFull) (new : KeptValue) → GivesClockSeat old answer new → IfOk answer (λ s. s ≡ told_nothing)
+clock_seat_told old (Ok s) new h = h.0
+clock_seat_told old (Err full) new h = tt
 
 -- the origin of an applier is another site of the system
 by_test : (id : DeskId) (o : ℕ) (b c : Bool) → cond b (Some NoSuchSite) (cond c (Some SameSite) None) ≡ None → (b ≡ false) × (c ≡ false)

@@ -27,7 +27,7 @@ use Rattle.site_core.specs.Ledgers.{LedgerValue, owed_by, frontier_of, TakesBack
 use Rattle.site_core.specs.Desks.{DeskValue}
 use Rattle.thread_parts.specs.Tallies.{TallyValue}
 use Rattle.apply_lanes.specs.Names.{DeskId, IsUnused}
-use Rattle.apply_lanes.specs.Kepts.{KeptValue, IsKept, IsTallied, IsPortioned, admitted_count, raised}
+use Rattle.apply_lanes.specs.Kepts.{KeptValue, IsKept, IsTallied, IsPortioned, admitted_count, raised, one_less}
 
 -- ---- tallies
 
@@ -50,6 +50,7 @@ portioned : (k : KeptValue) (d : DeskValue) (i s n r : TallyValue) → IsPortion
     → SamePortions k.number n → SamePortions k.received r → IsPortioned (record k { desk = d; issued = i; spent = s; number = n; received = r })
 portioned k d i s n r p a b c e = record {
   seats = omega (arith, p.seats, a.left);
+  clock = omega (arith, p.clock, a.left);
   both = b.left ∙ p.both ∙ sym a.left;
   places = p.places;
   appliers = omega (arith, p.appliers, c.left);
@@ -260,6 +261,7 @@ kept_admit id k i n r is within free of_number less of_received fewer =
       };
       portioned = record {
         seats = p.seats;
+        clock = p.clock;
         both = p.both;
         places = length-set k.admitted i true ∙ p.places;
         appliers = omega (arith, p.appliers, more, less);
@@ -305,9 +307,9 @@ nothing_tallied d is i s r =
     }
 
 pub opens : (id : DeskId) (d : DeskValue) (i s n r : TallyValue) (bs : List Bool) → id.site ≡ d.ledger.log.site → id.sites ≡ sites d.ledger.book
-    → d.ledger.book.me ≡ d.ledger.log.site → sites d.ledger.book ≤ 16 → IsTallied d.ledger.book 0 0 0 0 → i ≡ record { sum = 0; left = 64; returned = 0 }
-    → s ≡ record { sum = 0; left = 64; returned = 0 } → n ≡ record { sum = 0; left = 16; returned = 0 } → r ≡ record { sum = 0; left = 16; returned = 0 }
-    → length bs ≡ 16 → admitted_count bs ≡ 0 → IsKept id (record { desk = d; issued = i; spent = s; number = n; received = r; admitted = bs })
+    → d.ledger.book.me ≡ d.ledger.log.site → sites d.ledger.book ≤ 16 → IsTallied d.ledger.book 0 0 0 0 → i ≡ record { sum = 0; left = 65; returned = 0 }
+    → s ≡ record { sum = 0; left = 65; returned = 0 } → n ≡ record { sum = 0; left = 16; returned = 0 } → r ≡ record { sum = 0; left = 16; returned = 0 }
+    → length bs ≡ 16 → admitted_count bs ≡ 0 → IsKept id (record { desk = d; issued = i; spent = s; number = n; received = r; admitted = bs; clock_given = false })
 opens id d i s n r bs site count me few tallied hi hs hn hr places none = record {
   site = sym site;
   same_me = me ∙ sym site;
@@ -322,6 +324,7 @@ opens id d i s n r bs site count me few tallied hi hs hn hr places none = record
   };
   portioned = record {
     seats = omega (arith, ap (λ (t : TallyValue). t.left) hi);
+    clock = omega (arith, ap (λ (t : TallyValue). t.left) hi);
     both = ap (λ (t : TallyValue). t.left) hs ∙ sym (ap (λ (t : TallyValue). t.left) hi);
     places = places;
     appliers = omega (arith, ap (λ (t : TallyValue). t.left) hn, none);

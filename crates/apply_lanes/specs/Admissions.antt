@@ -1,20 +1,28 @@
 -- Who gets a seat, and which origins get an applier.
-use Rattle.std.specs.Prelude.{◌≡◌, ℕ, nat_lt, ◌==◌, Bool, true, false, List, Option, Some, None, Result, Ok, Err, if◌then◌else◌}
+use Rattle.std.specs.Prelude.{◌≡◌, ℕ, ◌+◌, nat_lt, ◌==◌, Bool, true, false, List, Option, Some, None, Result, Ok, Err, if◌then◌else◌}
 use Rattle.rights_types.specs.Places.{at_site, set_site}
 use Rattle.thread_parts.specs.Ends.{OutletValue}
-use Rattle.apply_lanes.specs.Kepts.{KeptValue, SeatValue, told_nothing, one_less}
+use Rattle.apply_lanes.specs.Kepts.{KeptValue, SeatValue, told_nothing, one_less, seats_left}
 use Rattle.apply_lanes.specs.Appliers.{ApplierValue, new_applier}
 use Rattle.apply_lanes.specs.declared.seat.SeatsFull.{SeatsFull}
 use Rattle.apply_lanes.specs.declared.kept.AdmitFault.{AdmitFault}
 use Rattle.apply_lanes.specs.declared.kept.AdmitFault.TheVariants.{NoSuchSite, SameSite, Taken}
 use Rattle.apply_lanes.specs.Names.{DeskId}
 
--- a seat was asked for, and this is the answer: there was one more, or none was left
+-- a seat was asked for, and this is the answer: there was one more, or none was left beside the clock's
 abbrev pub GivesSeat : KeptValue → Result SeatValue SeatsFull → KeptValue → Type 0
 GivesSeat old (Ok s) new =
-    (s ≡ told_nothing) × one_less old.issued new.issued × one_less old.spent new.spent
+    (s ≡ told_nothing) × one_less old.issued new.issued × one_less old.spent new.spent × (seats_left new + 1 ≡ seats_left old)
     × (new ≡ record old { issued = new.issued; spent = new.spent })
-GivesSeat old (Err full) new = (old.issued.left ≡ 0) × (new ≡ old)
+GivesSeat old (Err full) new = (seats_left old ≡ 0) × (new ≡ old)
+
+-- the clock's seat was asked for, and this is the answer: it was given out now, of none that are left for others, or
+-- before
+abbrev pub GivesClockSeat : KeptValue → Result SeatValue SeatsFull → KeptValue → Type 0
+GivesClockSeat old (Ok s) new =
+    (s ≡ told_nothing) × one_less old.issued new.issued × one_less old.spent new.spent × (seats_left new ≡ seats_left old)
+    × (old.clock_given ≡ false) × (new ≡ record old { issued = new.issued; spent = new.spent; clock_given = true })
+GivesClockSeat old (Err full) new = (old.clock_given ≡ true) × (new ≡ old)
 
 -- why a site gets none at the desk, apart from one that it has already
 abbrev pub site_fault : DeskId → ℕ → Option AdmitFault

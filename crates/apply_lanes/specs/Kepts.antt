@@ -1,5 +1,5 @@
 -- The value under the lock of a shared desk, and what its seats were told.
-use Rattle.std.specs.Prelude.{◌≡◌, ℕ, ◌+◌, ◌≤◌, Bool, List, [], length, Option, Some, None, count_by, sum_by}
+use Rattle.std.specs.Prelude.{◌≡◌, ℕ, ◌+◌, ◌-◌, ◌≤◌, Bool, if◌then◌else◌, List, [], length, Option, Some, None, count_by, sum_by}
 use Rattle.std.specs.List.{slice_index_or}
 use Rattle.rights_types.specs.Chains.{moves_of, IsChain}
 use Rattle.rights_types.specs.Rights.{issued, spent, out, taken_back, sum_sites}
@@ -15,7 +15,7 @@ use Rattle.apply_lanes.specs.declared.names.TheConstants.{SEATS, APPLIERS}
 use Rattle.apply_lanes.specs.Names.{DeskId}
 use Rattle.thread_parts.specs.Tallies.{TallyValue}
 
--- the desk, its four tallies, and which sites have an applier of their logs
+-- the desk, its four tallies, which sites have an applier of their logs, and whether the clock's seat was given out
 pub record KeptValue : Type 0 where
   pub desk : DeskValue
   pub issued : TallyValue
@@ -23,6 +23,7 @@ pub record KeptValue : Type 0 where
   pub number : TallyValue
   pub received : TallyValue
   pub admitted : List Bool
+  pub clock_given : Bool
 
 -- ---- what the lock keeps
 
@@ -38,9 +39,23 @@ pub record IsTallied (b : BookValue) (issued spent number received : ℕ) : Type
 abbrev pub admitted_count : List Bool → ℕ
 admitted_count bs = count_by (λ b. b) bs
 
--- each seat has a portion of two tallies, each applier one of the two others, and none has come back
+-- portions that are kept for the clock's seat: one, until it is given out
+abbrev pub for_clock : KeptValue → ℕ
+for_clock k = if k.clock_given then 0 else 1
+
+-- seats that are left for others than the clock
+abbrev pub seats_left : KeptValue → ℕ
+seats_left k = k.issued.left - for_clock k
+
+-- seats that were given out, the clock's among them
+abbrev pub seats_given : KeptValue → ℕ
+seats_given k = SEATS + 1 - k.issued.left
+
+-- each seat has a portion of two tallies, each applier one of the two others, none has come back, and that of the
+-- clock is there until it is given out
 pub record IsPortioned (k : KeptValue) : Type 0 where
-  pub seats : k.issued.left ≤ SEATS
+  pub seats : k.issued.left ≤ SEATS + for_clock k
+  pub clock : for_clock k ≤ k.issued.left
   pub both : k.spent.left ≡ k.issued.left
   pub places : length k.admitted ≡ APPLIERS
   pub appliers : k.number.left + admitted_count k.admitted ≡ APPLIERS

@@ -26,10 +26,10 @@ id_of d blanks = record {
   sites = sites d.ledger.book;
 }
 
--- a part for each seat or applier, and one for the desk
+-- a part for each seat, the clock's among them, and each applier, and one for the desk
 pub record AreBlank (blanks : Blanks) : Type 0 where
-  pub issued : blanks.issued.parts ≡ SEATS + 1
-  pub spent : blanks.spent.parts ≡ SEATS + 1
+  pub issued : blanks.issued.parts ≡ SEATS + 2
+  pub spent : blanks.spent.parts ≡ SEATS + 2
   pub number : blanks.number.parts ≡ APPLIERS + 1
   pub received : blanks.received.parts ≡ APPLIERS + 1
 

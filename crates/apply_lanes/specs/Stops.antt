@@ -4,8 +4,8 @@ use Rattle.rights_types.specs.Chains.{moves_of}
 use Rattle.rights_types.specs.Rights.{out, taken_back}
 use Rattle.rights_book.specs.Books.{held_by}
 use Rattle.site_core.specs.Desks.{DeskValue}
-use Rattle.apply_lanes.specs.Kepts.{KeptValue, SeatValue}
-use Rattle.apply_lanes.specs.declared.names.TheConstants.{SEATS, APPLIERS}
+use Rattle.apply_lanes.specs.Kepts.{KeptValue, SeatValue, seats_given}
+use Rattle.apply_lanes.specs.declared.names.TheConstants.{APPLIERS}
 use Rattle.apply_lanes.specs.declared.kept.Missing.{Missing}
 use Rattle.apply_lanes.specs.declared.kept.Missing.TheVariants.{Seat, Applier}
 use Rattle.apply_lanes.specs.Appliers.{AppliedValue}
@@ -48,10 +48,11 @@ pub record ReportsDesk (d : DeskValue) (r : Report) : Type 0 where
   pub back : r.back ≡ taken_back (moves_of d.ledger.log.entries)
   pub held : r.held ≡ held_by d.ledger.book
 
--- what is missing of all that was given out, where so many seats and appliers are there
+-- what is missing of all that was given out, where so many seats and appliers are there; the clock's seat is one of
+-- the seats
 abbrev pub missing_of : KeptValue → ℕ → ℕ → Option Missing
 missing_of k seats appliers =
-    if not (seats == SEATS - k.issued.left) then Some Seat
+    if not (seats == seats_given k) then Some Seat
     else (if not (appliers == APPLIERS - k.number.left) then Some Applier else None)
 
 -- what a refusal says is missing

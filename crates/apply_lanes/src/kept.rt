@@ -9,8 +9,9 @@ ghost use Rattle.request_queue.specs.declared.queue.TheConstants.{SLOTS};
 ghost use Rattle.site_core.specs.Faults.{has_closed};
 ghost use Rattle.site_core.specs.Calls.{DeskApplies};
 ghost use Rattle.apply_lanes.specs.Names.{id_of, AreBlank, IsUnused};
+ghost use Rattle.apply_lanes.specs.Kepts.{one_less, told_nothing};
 ghost use Rattle.apply_lanes.specs.Views.{IsViewOf};
-ghost use Rattle.apply_lanes.specs.Admissions.{Admits, GivesSeat, GivesApplier};
+ghost use Rattle.apply_lanes.specs.Admissions.{Admits, GivesSeat, GivesClockSeat, GivesApplier};
 
 use crate::applier::Applier;
 use crate::gate::Gate;
@@ -37,6 +38,8 @@ pub struct Kept<D: DeskNames, A: Allocator = Global> {
     pub(crate) received: Tally<ReceivedBy<D>>,
     // Whether an applier was given out, of each site's log.
     pub(crate) admitted: [bool; 16],
+    // Whether the clock's seat was given out. Until then a portion of `issued` and of `spent` is kept for it.
+    pub(crate) clock_given: bool,
 }
 
 impl<D: DeskNames, A: Allocator> Model for Kept<D, A> {
@@ -44,9 +47,9 @@ impl<D: DeskNames, A: Allocator> Model for Kept<D, A> {
 
     ghost Value = { KeptValue };
 
-    ghost view = { λ k. record { desk = k.desk; issued = k.issued; spent = k.spent; number = k.number; received = k.received; admitted = k.admitted } };
+    ghost view = { λ k. record { desk = k.desk; issued = k.issued; spent = k.spent; number = k.number; received = k.received; admitted = k.admitted; clock_given = k.clock_given } };
 
-    ghost invariant = { λ k. IsKept D.id (record { desk = k.desk; issued = k.issued; spent = k.spent; number = k.number; received = k.received; admitted = k.admitted }) };
+    ghost invariant = { λ k. IsKept D.id (record { desk = k.desk; issued = k.issued; spent = k.spent; number = k.number; received = k.received; admitted = k.admitted; clock_given = k.clock_given }) };
 }
 
 /// Why an origin gets no applier, in the order in which the causes are looked for.
@@ -79,7 +82,7 @@ pub(crate) enum Missing {
 pub(crate) type Admission<D> = (Portion<NumberOf<D>>, Portion<ReceivedBy<D>>);
 
 impl<D: DeskNames, A: Allocator + Copy> Kept<D, A> {
-    ghost use Rattle.apply_lanes.specs.Kepts.{KeptValue, IsKept, IsInBalance, raised, one_less};
+    ghost use Rattle.apply_lanes.specs.Kepts.{KeptValue, IsKept, IsInBalance, raised};
     ghost use Rattle.apply_lanes.specs.Stops.{missing_of};
 
     /// A fresh desk, which nobody has a seat at.
@@ -100,11 +103,12 @@ impl<D: DeskNames, A: Allocator + Copy> Kept<D, A> {
         } = blanks;
         Kept {
             desk,
-            issued: Tally::open(issued, SEATS),
-            spent: Tally::open(spent, SEATS),
+            issued: Tally::open(issued, SEATS + 1),
+            spent: Tally::open(spent, SEATS + 1),
             number: Tally::open(number, APPLIERS),
             received: Tally::open(received, APPLIERS),
             admitted: [false; 16],
+            clock_given: false,
         }
     }
 
@@ -142,24 +146,30 @@ impl<D: DeskNames, A: Allocator + Copy> Kept<D, A> {
         }
     }
 
-    /// A new seat, if there is one left.
+    /// A new seat, if there is one left beside the clock's.
     pub(crate) fn seat(&mut self) -> Result<Seat<D>, SeatsFull>
         ensures seat { GivesSeat self.old result self.new }
         ensures before { IsKept D.id self.old }
         ensures after { IsKept D.id self.new }
     {
-        let Some(issued) = self.issued.split() else {
+        let for_clock = u64::from(!self.clock_given);
+        if self.issued.left() == for_clock {
             return Err(SeatsFull);
-        };
-        let Some(used) = self.spent.split() else {
-            unreachable!()
-        };
-        Ok(Seat {
-            issued,
-            used,
-            spent: 0,
-            served: 0,
-        })
+        }
+        Ok(new_seat(&mut self.issued, &mut self.spent))
+    }
+
+    /// The clock's seat, if it was not given out yet. It is none of those that `seat` gives.
+    pub(crate) fn clock_seat(&mut self) -> Result<Seat<D>, SeatsFull>
+        ensures seat { GivesClockSeat self.old result self.new }
+        ensures before { IsKept D.id self.old }
+        ensures after { IsKept D.id self.new }
+    {
+        if self.clock_given {
+            return Err(SeatsFull);
+        }
+        self.clock_given = true;
+        Ok(new_seat(&mut self.issued, &mut self.spent))
     }
 
     // The portions of the applier of that origin.
@@ -230,7 +240,7 @@ impl<D: DeskNames, A: Allocator + Copy> Kept<D, A> {
         ensures missing { result ≡ missing_of self.now seats appliers }
         ensures valid { IsKept D.id self.now }
     {
-        if seats as u64 != SEATS - self.issued.left() {
+        if seats as u64 != SEATS + 1 - self.issued.left() {
             return Some(Missing::Seat);
         }
         if appliers as u64 != APPLIERS - self.number.left() {
@@ -266,5 +276,24 @@ impl<D: DeskNames, A: Allocator + Copy> Kept<D, A> {
         self.number.add(number, entry.own() - entry.prev());
         self.received.add(received, gift);
         Ok(())
+    }
+}
+
+// A new seat, by one portion of each tally.
+fn new_seat<D: DeskNames>(issued: &mut Tally<IssuedBy<D>>, spent: &mut Tally<SpentBy<D>>) -> Seat<D>
+    requires left { 1 ≤ issued.old.left }
+    requires both { spent.old.left ≡ issued.old.left }
+    ensures told { result ≡ told_nothing }
+    ensures issued { one_less issued.old issued.new }
+    ensures spent { one_less spent.old spent.new }
+{
+    let (Some(issued), Some(used)) = (issued.split(), spent.split()) else {
+        unreachable!()
+    };
+    Seat {
+        issued,
+        used,
+        spent: 0,
+        served: 0,
     }
 }

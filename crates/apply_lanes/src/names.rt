@@ -4,7 +4,7 @@ ghost use Rattle.apply_lanes.specs.Names.{DeskId};
 use std::marker::{Brand, PhantomData};
 use std::sync::ledger::{Blank, Ledger};
 
-/// Seats of one shared desk, at most.
+/// Seats of one shared desk, at most, beside that of its site's clock.
 pub const SEATS: u64 = 64;
 
 /// Appliers of one shared desk, at most: one for each site that a system can have.
@@ -38,8 +38,8 @@ impl Blanks {
         ensures { AreBlank result }
     {
         Blanks {
-            issued: Blank::new(SEATS + 1),
-            spent: Blank::new(SEATS + 1),
+            issued: Blank::new(SEATS + 2),
+            spent: Blank::new(SEATS + 2),
             number: Blank::new(APPLIERS + 1),
             received: Blank::new(APPLIERS + 1),
         }
@@ -52,7 +52,7 @@ pub struct IssuedBy<D: DeskNames>(PhantomData<D>);
 impl<D: DeskNames> Ledger for IssuedBy<D> {
     ghost name = { D.id.issued };
 
-    ghost parts = { 65 };
+    ghost parts = { 66 };
 }
 
 /// The ledger of what was spent.
@@ -61,7 +61,7 @@ pub struct SpentBy<D: DeskNames>(PhantomData<D>);
 impl<D: DeskNames> Ledger for SpentBy<D> {
     ghost name = { D.id.spent };
 
-    ghost parts = { 65 };
+    ghost parts = { 66 };
 }
 
 /// The ledger of the numbers that were applied.

@@ -14,7 +14,7 @@ pub struct Seat<D: DeskNames> {
     pub(crate) served: u64,
 }
 
-/// All seats of the desk are given out.
+/// All seats of the desk are given out; of the clock's, that it was given before.
 #[derive(Clone, Copy, Debug, PartialEq, Eq)]
 pub struct SeatsFull;
 

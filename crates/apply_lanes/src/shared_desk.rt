@@ -3,7 +3,7 @@ ghost use Rattle.std.specs.Prelude.{◌≡◌, ◌<◌, ◌≤◌, [], Some, IfO
 ghost use Rattle.apply_lanes.specs.Names.{id_of, AreBlank, IsUnused};
 ghost use Rattle.apply_lanes.specs.Kepts.{KeptValue, IsKept, told_nothing};
 ghost use Rattle.apply_lanes.specs.Appliers.{new_applier};
-ghost use Rattle.apply_lanes.specs.Admissions.{Admits, GivesSeat, GivesApplier};
+ghost use Rattle.apply_lanes.specs.Admissions.{Admits, GivesSeat, GivesClockSeat, GivesApplier};
 
 use crate::applier::Applier;
 use crate::gate::Gate;
@@ -40,13 +40,22 @@ impl<D: DeskNames, A: Allocator + Copy> SharedDesk<D, A> {
         self.lock.lock(rt)
     }
 
-    /// A new seat, which was told nothing yet.
+    /// A new seat, which was told nothing yet: one of at most `SEATS`, beside the clock's.
     pub fn seat<R: Wait>(&self, rt: &R) -> Result<Seat<D>, SeatsFull>
         ensures told { IfOk result (λ s. s ≡ told_nothing) }
         ensures seat { (old : KeptValue) × (new : KeptValue) × IsKept D.id old × IsKept D.id new × GivesSeat old result new }
     {
         // The desk decides, under its lock.
         self.lock(rt).seat()
+    }
+
+    /// The seat of the site's clock, which was told nothing yet. It is given once, and none of the `SEATS` others.
+    pub fn clock_seat<R: Wait>(&self, rt: &R) -> Result<Seat<D>, SeatsFull>
+        ensures told { IfOk result (λ s. s ≡ told_nothing) }
+        ensures seat { (old : KeptValue) × (new : KeptValue) × IsKept D.id old × IsKept D.id new × GivesClockSeat old result new }
+    {
+        // The desk decides, under its lock.
+        self.lock(rt).clock_seat()
     }
 
     /// The applier of the log of that origin, which comes by this lane. It passes the gate before each lock.

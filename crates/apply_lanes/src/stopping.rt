@@ -136,7 +136,7 @@ fn settle<D: DeskNames, A: Allocator + Copy>(
     seats: Vec<Seat<D>, A>,
     applied: Vec<Applied<D>, A>,
 ) -> Report
-    requires seats { kept.issued.left + length seats.items ≡ SEATS }
+    requires seats { kept.issued.left + length seats.items ≡ SEATS + 1 }
     requires applied { kept.number.left + length applied.items ≡ APPLIERS }
     ensures all { Reports seats.items applied.items result }
     ensures desk { ReportsDesk kept.desk result }
@@ -148,6 +148,7 @@ fn settle<D: DeskNames, A: Allocator + Copy>(
         number,
         received,
         admitted: _,
+        clock_given: _,
     } = kept;
     let (told_issued, told_spent, told_served) = settle_seats(issued, spent, seats);
     let applied = settle_applied(number, received, applied);
@@ -171,7 +172,7 @@ fn settle_seats<D: DeskNames, A: Allocator>(
     mut spent: Tally<SpentBy<D>>,
     seats: Vec<Seat<D>, A>,
 ) -> (u64, u64, u64)
-    requires room { (issued.left + length seats.items ≡ SEATS) × (spent.left + length seats.items ≡ SEATS) }
+    requires room { (issued.left + length seats.items ≡ SEATS + 1) × (spent.left + length seats.items ≡ SEATS + 1) }
     requires none { (issued.returned ≡ 0) × (spent.returned ≡ 0) }
     requires fits { (issued.sum < 2 ^ 64) × (spent.sum < 2 ^ 64) }
     ensures told { (result.0 ≡ all_issued seats.items) × (result.1 ≡ all_spent seats.items) × (result.2 ≡ all_served seats.items) }
@@ -206,12 +207,12 @@ fn collect_seats<D: DeskNames, A: Allocator>(
     spent: &mut Tally<SpentBy<D>>,
     seats: Vec<Seat<D>, A>,
 ) -> (u64, u64, u64)
-    requires room { (issued.old.left + length seats.items ≡ SEATS) × (spent.old.left + length seats.items ≡ SEATS) }
+    requires room { (issued.old.left + length seats.items ≡ SEATS + 1) × (spent.old.left + length seats.items ≡ SEATS + 1) }
     requires none { (issued.old.returned ≡ 0) × (spent.old.returned ≡ 0) }
     requires fits { (issued.old.sum < 2 ^ 64) × (spent.old.sum < 2 ^ 64) }
     ensures told { (result.0 ≡ all_issued seats.items) × (result.1 ≡ all_spent seats.items) × (result.2 ≡ all_served seats.items) }
-    ensures issued { issued.new ≡ record issued.old { left = SEATS; returned = all_issued seats.items } }
-    ensures spent { spent.new ≡ record spent.old { left = SEATS; returned = all_spent seats.items + all_served seats.items } }
+    ensures issued { issued.new ≡ record issued.old { left = SEATS + 1; returned = all_issued seats.items } }
+    ensures spent { spent.new ≡ record spent.old { left = SEATS + 1; returned = all_spent seats.items + all_served seats.items } }
 {
     let (mut told_issued, mut told_spent, mut told_served) = (0u64, 0u64, 0u64);
     for seat in seats {

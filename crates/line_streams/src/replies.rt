@@ -100,6 +100,21 @@ impl<A: Allocator> Replies<A> {
         Ok(())
     }
 
+    /// The whole replies.
+    pub fn whole(&self) -> &[u8]
+        ensures { result.now ≡ self.now.whole }
+    {
+        &self.bytes[..self.whole]
+    }
+
+    /// Drops all, and keeps the memory.
+    pub fn clear(&mut self)
+        ensures { IsEmpty self.new }
+    {
+        self.end = 0;
+        self.whole = 0;
+    }
+
     /// Writes the whole replies, and drops all. After an `Err` the writer has taken a front of
     /// them.
     pub fn write_to<W: Write>(&mut self, writer: &mut W) -> Result<(), WriteFault>

@@ -8,6 +8,6 @@ mod outbox;
 mod source;
 
 pub use lines::{Piece, next_piece};
-pub use link::{DeskMessage, LinkFault, Port, read_hello, read_link, write_link};
+pub use link::{DeskMessage, LinkFault, Port, Skipped, read_hello, read_link, write_link};
 pub use outbox::{OUTBOX_LINES, Outbox, PutError};
 pub use source::{Batch, LineSource};

@@ -13,6 +13,7 @@ mod writing;
 pub use hello::read_hello;
 pub use reading::read_link;
 use rights_types::{Ask, Deny, OutOfMemory, Query};
+use site_core::InboundError;
 use std::io;
 use std::io::ErrorKind;
 use std::sync::Wait;
@@ -55,6 +56,15 @@ pub enum DeskMessage {
     Deny(Deny),
 }
 
+/// Why a line is skipped.
+#[derive(Clone, Copy, Debug, PartialEq, Eq)]
+pub enum Skipped {
+    /// It has more than `MAX_LINE` bytes.
+    Long,
+    /// The intake does not take it.
+    Refused(InboundError),
+}
+
 /// What is done with what comes from a peer, entries aside, which go to a lane. It names no allocator: the
 /// check takes no impl of a trait that has one as a parameter.
 pub trait Port {
@@ -77,6 +87,12 @@ pub trait Port {
     /// Is told after each line whether entries are missing, and how many are held until these come.
     fn seen<R: Wait>(&mut self, rt: &R, state: State, held: usize)
         ensures { hears self.old (AState state held) self.new };
+
+    /// Is told that a line was skipped. It can note that in places that other threads share alone.
+    fn skipped<R: Wait>(&self, _rt: &R, _why: Skipped) {}
+
+    /// Is told of a line that was taken in, and whether it is a beat, likewise.
+    fn taken<R: Wait>(&self, _rt: &R, _line: &[u8], _is_beat: bool) {}
 }
 
 /// Whether a read or a write was interrupted, and may be tried again.

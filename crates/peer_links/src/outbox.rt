@@ -64,6 +64,13 @@ impl<A: Allocator> Queue<A> {
         self.lines.is_empty() && !self.ended
     }
 
+    fn len(&self) -> usize
+        ensures value { result ≡ length self.now.lines }
+        ensures few { result ≤ OUTBOX_LINES }
+    {
+        self.lines.len()
+    }
+
     fn put(&mut self, line: Vec<u8, A>) -> Result<(), PutError>
         requires { IsLine line.items }
         ensures { Puts self.old line.items result self.new }
@@ -204,6 +211,13 @@ impl<A: Allocator> Outbox<A> {
         ensures { IfSome result (λ line. IsLine line.items) }
     {
         self.ready(rt).take()
+    }
+
+    /// How many lines wait.
+    pub fn len<R: Wait>(&self, rt: &R) -> usize
+        ensures { result ≤ OUTBOX_LINES }
+    {
+        self.queue.lock(rt).len()
     }
 
     /// Ends the outbox: no line is put from then on.

@@ -122,6 +122,14 @@ impl<A: Allocator> RequestQueue<A> {
         self.waiting.len()
     }
 
+    /// How many outcomes were not read yet.
+    pub fn unread(&self) -> usize
+        ensures value { result ≡ length self.now.outcomes }
+        ensures valid { IsQueue self.now }
+    {
+        self.outcomes.len()
+    }
+
     /// What became of the request of this ticket. An outcome is read once: reading it frees its
     /// slot, and the ticket is then unknown.
     pub fn status(&mut self, ticket: u64) -> Status

@@ -7,7 +7,7 @@ use Rattle.rights_program.specs.Endings.{MayBeDone, MayStop, reads}
 use Rattle.rights_program.specs.Faults.{fault_of_script, fault_of_site, fault_of_words, status_of}
 use Rattle.site_words.specs.Settings.{Settings}
 use Rattle.site_words.specs.Words.{MayAnswer, MayRefuse, RunsSite, WantsHelp}
-use Rattle.rights_program.specs.declared.fault.Fault.TheVariants.{BadCommandLine, CannotListen, OutOfMemory, ReadFailed, TooManyLines, WriteFailed}
+use Rattle.rights_program.specs.declared.fault.Fault.TheVariants.{BadCommandLine, CannotCreateStartFile, CannotListen, OutOfMemory, ReadFailed, StartedBefore, TooManyLines, WriteFailed}
 use Rattle.rights_program.specs.declared.fault.Fault.{Fault}
 use Rattle.site_words.specs.declared.fault.SiteFault.{SiteFault}
 use Rattle.site_words.specs.declared.fault.SiteFault.TheVariants as site_fault
@@ -40,6 +40,8 @@ stopped_refuses nothing h = h
 -- the status 2 tells of a refusal
 pub two_is_bad : (fault : Fault) → status_of fault ≡ 2 → fault ≡ BadCommandLine
 two_is_bad BadCommandLine is = refl
+two_is_bad StartedBefore is = absurd (omega (arith, is))
+two_is_bad CannotCreateStartFile is = absurd (omega (arith, is))
 two_is_bad CannotListen is = absurd (omega (arith, is))
 two_is_bad ReadFailed is = absurd (omega (arith, is))
 two_is_bad WriteFailed is = absurd (omega (arith, is))
@@ -71,6 +73,8 @@ script_not_bad script_fault.TooManyLines same = cc
 -- a site
 pub site_may_stop : (a : Asked) (s : Settings) (cause : SiteFault) → RunsSite a s → MayStop a (fault_of_site cause)
 site_may_stop script s cause runs = absurd runs
+site_may_stop (site kinds rows) s site_fault.StartedBefore runs = (s, runs)
+site_may_stop (site kinds rows) s site_fault.CannotCreateStartFile runs = (s, runs)
 site_may_stop (site kinds rows) s site_fault.CannotListen runs = (s, runs)
 site_may_stop (site kinds rows) s site_fault.ReadFailed runs = (s, runs)
 site_may_stop (site kinds rows) s site_fault.WriteFailed runs = inl (s, runs)
@@ -98,6 +102,8 @@ pub site_no_nothing : (a : Asked) (s : Settings) → RunsSite a s → a ≡ noth
 site_no_nothing a s runs same = subst (λ a. RunsSite a s) same runs
 
 pub site_not_bad : (cause : SiteFault) → fault_of_site cause ≢ BadCommandLine
+site_not_bad site_fault.StartedBefore same = cc
+site_not_bad site_fault.CannotCreateStartFile same = cc
 site_not_bad site_fault.CannotListen same = cc
 site_not_bad site_fault.ReadFailed same = cc
 site_not_bad site_fault.WriteFailed same = cc

@@ -9,7 +9,7 @@ use Rattle.site_words.specs.Settings.{Settings}
 use Rattle.site_words.specs.Words.{MayRefuse, RunsSite, WantsHelp}
 use Rattle.rights_program.specs.declared.fault.Fault.{Fault}
 use Rattle.rights_program.specs.declared.run.Ended.{Ended}
-use Rattle.rights_program.specs.declared.fault.Fault.TheVariants.{BadCommandLine, CannotListen, OutOfMemory, WriteFailed}
+use Rattle.rights_program.specs.declared.fault.Fault.TheVariants.{BadCommandLine, CannotCreateStartFile, CannotListen, OutOfMemory, StartedBefore, WriteFailed}
 
 -- done, or stopped by a fault
 abbrev pub Ending : Type 0
@@ -43,6 +43,8 @@ MayBeDone asked = ⊤
 -- the faults that may stop the program, by what was asked for
 abbrev pub MayStop : Asked → Fault → Type 0
 MayStop script BadCommandLine = ⊥
+MayStop script StartedBefore = ⊥
+MayStop script CannotCreateStartFile = ⊥
 MayStop script CannotListen = ⊥
 MayStop script fault = ⊤
 MayStop (site kinds rows) BadCommandLine = MayRefuse (site kinds rows)

@@ -3,7 +3,7 @@ use Rattle.std.specs.Prelude.{ℕ, List, [], ◌∷◌, ◌++◌, codes}
 use Rattle.std.specs.declared.io.ErrorKind.{ErrorKind}
 use Rattle.std.specs.declared.io.ErrorKind.TheVariants.{InvalidData}
 use Rattle.rights_program.specs.declared.fault.Fault.{Fault}
-use Rattle.rights_program.specs.declared.fault.Fault.TheVariants.{BadCommandLine, CannotListen, OutOfMemory, ReadFailed, TooManyLines, WriteFailed}
+use Rattle.rights_program.specs.declared.fault.Fault.TheVariants.{BadCommandLine, CannotCreateStartFile, CannotListen, OutOfMemory, ReadFailed, StartedBefore, TooManyLines, WriteFailed}
 use Rattle.site_words.specs.declared.words.WordsFault.{WordsFault}
 use Rattle.site_words.specs.declared.words.WordsFault.TheVariants as words
 use Rattle.site_words.specs.declared.fault.SiteFault.{SiteFault}
@@ -14,6 +14,8 @@ use Rattle.line_streams.specs.declared.fault.LineFault.TheVariants as script
 -- the exit status
 abbrev pub status_of : Fault → ℕ
 status_of BadCommandLine = 2
+status_of StartedBefore = 1
+status_of CannotCreateStartFile = 1
 status_of CannotListen = 1
 status_of ReadFailed = 1
 status_of WriteFailed = 1
@@ -22,6 +24,8 @@ status_of TooManyLines = 1
 
 abbrev pub fault_text : Fault → List ℕ
 fault_text BadCommandLine = codes "rights-site: bad command line"
+fault_text StartedBefore = codes "rights-site: was started before"
+fault_text CannotCreateStartFile = codes "rights-site: cannot create the start file"
 fault_text CannotListen = codes "rights-site: cannot listen"
 fault_text ReadFailed = codes "rights-site: read failed"
 fault_text WriteFailed = codes "rights-site: write failed"
@@ -48,6 +52,8 @@ fault_of_script script.OutOfMemory = OutOfMemory
 fault_of_script script.TooManyLines = TooManyLines
 
 abbrev pub fault_of_site : SiteFault → Fault
+fault_of_site site.StartedBefore = StartedBefore
+fault_of_site site.CannotCreateStartFile = CannotCreateStartFile
 fault_of_site site.CannotListen = CannotListen
 fault_of_site site.ReadFailed = ReadFailed
 fault_of_site site.WriteFailed = WriteFailed

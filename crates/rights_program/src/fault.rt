@@ -13,7 +13,11 @@ use transfer_world::ScriptFault;
 pub enum Fault {
     /// The command line is refused.
     BadCommandLine,
-    /// The address of a site is none that can be listened on.
+    /// The file that a site creates at its start exists: a site of this number was started before.
+    StartedBefore,
+    /// The file that a site creates at its start cannot be created.
+    CannotCreateStartFile,
+    /// An address of a site is none that can be listened on.
     CannotListen,
     /// Reading the commands failed.
     ReadFailed,
@@ -42,6 +46,8 @@ impl Fault {
     {
         match self {
             Fault::BadCommandLine => b"rights-site: bad command line\n",
+            Fault::StartedBefore => b"rights-site: was started before\n",
+            Fault::CannotCreateStartFile => b"rights-site: cannot create the start file\n",
             Fault::CannotListen => b"rights-site: cannot listen\n",
             Fault::ReadFailed => b"rights-site: read failed\n",
             Fault::WriteFailed => b"rights-site: write failed\n",
@@ -102,6 +108,8 @@ impl From<SiteFault> for Fault {
 
     fn from(cause: SiteFault) -> Fault {
         match cause {
+            SiteFault::StartedBefore => Fault::StartedBefore,
+            SiteFault::CannotCreateStartFile => Fault::CannotCreateStartFile,
             SiteFault::CannotListen => Fault::CannotListen,
             SiteFault::ReadFailed => Fault::ReadFailed,
             SiteFault::WriteFailed => Fault::WriteFailed,

@@ -17,7 +17,7 @@ mod sending;
 mod texts;
 mod tick;
 
-pub use answer::{answer_command, answer_tick};
+pub use answer::{answer_reply, answer_tick};
 pub use commands::act;
 pub use messages::{answer_ask, answer_query, note_denial};
 pub use peers::{Peers, send_to_all};

@@ -1,12 +1,14 @@
 //! The texts of replies, without the line feed at their end.
-ghost use Rattle.std.specs.Prelude.{◌≡◌, ◌≤◌, ◌++◌, OnOk, IsOk};
-ghost use Rattle.site_node.specs.Texts.{reply_text, ticked_text};
+ghost use Rattle.std.specs.Prelude.{◌≡◌, ◌<◌, ◌≤◌, ◌++◌, length, decimal, OnOk, IsOk};
+ghost use Rattle.site_node.specs.Texts.{reply_text, ticked_text, tick_text};
 
 use crate::reply::Reply;
 use crate::tick::Ticked;
-use line_streams::Replies;
-use reply_texts::{REPLY_ROOM, put_error, put_number, put_spending, put_status};
+use line_streams::{MAX_DIGITS, Replies};
+use reply_texts::{REPLY_ROOM, desk_error_name, put_error, put_number, put_spending, put_status};
+use request_queue::Status;
 use rights_types::OutOfMemory;
+use site_core::{DeskError, Spending};
 use std::alloc::Allocator;
 
 /// No reply to a tick is longer, the line feed behind it included.
@@ -43,4 +45,42 @@ pub(crate) fn put_ticked<A: Allocator>(
     replies.put_field(b" served ", ticked.served)?;
     replies.put_field(b" asks ", ticked.asks)?;
     replies.put_field(b" sent ", sent)
+}
+
+/// For the proof: no number has more digits.
+fn digits_fit(number: u64)
+    ensures { length (decimal number) ≤ MAX_DIGITS }
+{}
+
+/// For the proof: a reply to a command has room in what is reserved for it.
+pub(crate) fn reply_fits(reply: Reply)
+    ensures { length (reply_text reply) < REPLY_ROOM }
+{
+    match reply {
+        Reply::Number(number) => digits_fit(number),
+        Reply::Spending(Spending::Spent(number)) => digits_fit(number),
+        Reply::Spending(Spending::Queued(ticket)) => digits_fit(ticket),
+        Reply::Outcome(Status::Spent(number)) => digits_fit(number),
+        Reply::Outcome(Status::Waiting | Status::Expired | Status::Unknown) => {}
+        Reply::Refused(cause) => {
+            let _ = desk_error_name(cause);
+        }
+    }
+}
+
+/// For the proof: so has the reply to a tick.
+pub(crate) fn tick_fits(told: Result<(Ticked, u64), DeskError>)
+    ensures { length (tick_text told) < TICK_ROOM }
+{
+    match told {
+        Ok((ticked, sent)) => {
+            digits_fit(ticked.expired);
+            digits_fit(ticked.served);
+            digits_fit(ticked.asks);
+            digits_fit(sent);
+        }
+        Err(cause) => {
+            let _ = desk_error_name(cause);
+        }
+    }
 }

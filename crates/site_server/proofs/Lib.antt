@@ -1,4 +1,6 @@
+mod CallLaws
 mod HearLaws
 mod LineLaws
 mod SendLaws
+mod SettleLaws
 mod ToldLaws

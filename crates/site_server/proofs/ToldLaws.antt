@@ -18,18 +18,18 @@ use Rattle.site_node.proofs.ToldLaws.{turns_count}
 use Rattle.site_server.specs.Replying.{asked, Says, Gets, GetsBy}
 use Rattle.site_server.specs.Conversations.{IsTurn, AreTurns, CountsReplies}
 
-both : (was half told : SeatValue) (first rest : List Turn) → HasTurns was first half → HasTurns half rest told → HasTurns was (first ++ rest) told
+pub both : (was half told : SeatValue) (first rest : List Turn) → HasTurns was first half → HasTurns half rest told → HasTurns was (first ++ rest) told
 both was half told [] rest h k = subst (λ (s : SeatValue). HasTurns s rest told) h k
 both was half told (turn ∷ first) rest h k = (h.0, h.1, both h.0 half told first rest h.2 k)
 
 module _ {P : Type 0} (size : P → ℕ) (sends : P → ℕ → ℕ → P → Type 0) (id : DeskId) where
   -- one line
-  turns_of_line : (command : Option SiteCommand) (was : SeatValue) (before : P) (text : List ℕ) (told : SeatValue) (after : P)
+  pub turns_of_line : (command : Option SiteCommand) (was : SeatValue) (before : P) (text : List ℕ) (told : SeatValue) (after : P)
       → Says size sends id command was before text told after
       → (turns : List Turn) × IsTurn command text turns × HasTurns was turns told
   turns_of_line None was before text told after h = ([], refl, h.1)
   turns_of_line (Some (AtDesk command)) was before text told after h =
-      let c = h.0 in (ACommand command c.reply ∷ [], (c.reply, refl, c.says), (told, (c.old, c.new, c.acts), refl))
+      let c = h.0 in (ACommand command c.reply ∷ [], (c.reply, refl, c.says), (told, (c.at_desk.old, c.at_desk.new, c.at_desk.acts), refl))
   turns_of_line (Some (Tick time)) was before text told after h =
       let t = h.does.at_desk in
       (ATick time t.served h.does.ticked ∷ [], (t.served, h.does.ticked, refl), (told, (t.old, t.new, t.ticks), refl))

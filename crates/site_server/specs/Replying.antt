@@ -35,12 +35,16 @@ asked line = if nat_le (length line) MAX_LINE then command_of (take (length line
 -- ---- replies
 
 -- the desk carried the command out, under its lock, and this is the reply
-pub record CarriesOut (id : DeskId) (was : SeatValue) (command : DeskCommand) (text : List ℕ) (told : SeatValue) : Type 0 where
+pub record ActsAtDesk (id : DeskId) (was : SeatValue) (command : DeskCommand) (reply : Reply) (told : SeatValue) : Type 0 where
   pub old : KeptValue
   pub new : KeptValue
-  pub reply : Reply
   pub valid : IsKept id old
   pub acts : Acts old was command reply new told
+
+-- .. and this is its text
+pub record CarriesOut (id : DeskId) (was : SeatValue) (command : DeskCommand) (text : List ℕ) (told : SeatValue) : Type 0 where
+  pub reply : Reply
+  pub at_desk : ActsAtDesk id was command reply told
   pub says : text ≡ reply_text reply
 
 -- all that is due at this time was done at the desk, under its lock

@@ -4,56 +4,58 @@
 ghost use Rattle.std.specs.Prelude.{◌≡◌};
 ghost use Rattle.apply_lanes.specs.Names.{id_of, AreBlank, IsUnused};
 
-mod console;
+mod bell;
+mod client;
+mod connection;
+mod ending;
+mod host;
+mod measuring;
 mod outboxes;
 mod receiving;
+mod serving;
+mod settling;
+mod shared;
+mod slots;
+mod starting;
+mod ticking;
 
-use crate::site::console::Console;
-use crate::site::outboxes::Outboxes;
+use crate::site::client::client_at;
+use crate::site::ending::{say_no_report, say_report, stop_desk};
+pub use crate::site::host::Host;
 use crate::site::receiving::{Link, links_of};
-use apply_lanes::{Blanks, DeskNames, SharedDesk};
+use crate::site::serving::begin_clients;
+use crate::site::shared::{COMMANDS, Shared};
+use crate::site::starting::start_once;
+use crate::site::ticking::begin_ticks;
+use apply_lanes::{Blanks, DeskNames};
 use line_streams::LineFault;
 use site_core::Desk;
-use site_node::Peers;
 use site_sockets::{Peer, Site, begin_door, begin_sender};
 use site_words::{Config, SiteFault};
-use std::io::{Read, Write};
+use std::io::{Eprint, Read, Write};
 use std::marker::Brand;
-use std::net::{Net, TcpListener, TcpStream};
 use std::sync::{Arc, Wait};
 use std::thread;
-use std::thread::{Scope, Threads};
+use std::thread::Scope;
 use std::time::Clock;
 
 /// Runs one site till `quit` or the end of its commands. It listens before it reads the first one. Replies
 /// are written before each read, so they never wait for further commands.
-pub fn run_site<
-    R: Net<Listener = TcpListener, Stream = TcpStream>
-        + Threads
-        + Wait
-        + Clock
-        + AllocGlobal
-        + Sync,
-    I: Read,
-    W: Write,
->(rt: &R, config: Config, reader: &mut I, writer: &mut W) -> Result<(), SiteFault> {
+pub fn run_site<R: Host, I: Read, W: Write>(
+    rt: &R,
+    config: Config,
+    reader: &mut I,
+    writer: &mut W,
+) -> Result<(), SiteFault> {
+    start_once(rt, config.once())?;
     let site = Site::open(rt, &config)?;
+    site.announce(rt, &config);
     let desk = Desk::new(rt.alloc(), config.id(), config.sites())?;
     serve::<Brand, R, &mut I, &mut W>(rt, &config, &site, desk, Blanks::new(), reader, writer)
 }
 
-/// Starts the threads of a site, answers its commands, and ends the threads.
-fn serve<
-    D: DeskNames + Send + Sync,
-    R: Net<Listener = TcpListener, Stream = TcpStream>
-        + Threads
-        + Wait
-        + Clock
-        + AllocGlobal
-        + Sync,
-    I: Read + Drop,
-    W: Write + Drop,
->(
+/// Starts the threads of a site, answers its commands, ends the threads, and stops the desk.
+fn serve<D: DeskNames + Send + Sync, R: Host, I: Read + Drop, W: Write + Drop>(
     rt: &R,
     config: &Config,
     site: &Site,
@@ -68,61 +70,76 @@ fn serve<
     requires configured { (D.id.site ≡ config.now.id) × (D.id.sites ≡ config.now.sites) }
 {
     // Each thread owns its share of the desk: the check lends no thread a value of a type with a parameter.
-    let desk = Arc::new(rt.alloc(), SharedDesk::<D>::new(desk, blanks))?;
-    let links = links_of(rt, rt.alloc(), config, &desk)?;
-    let Some(peers) = Outboxes::new(rt, desk.clone()?, site.peers()) else {
-        // The peers are the other sites of the configuration, so it does not come to this.
-        return Err(SiteFault::OutOfMemory);
-    };
-    let console = Console::new(rt, rt.alloc(), site, desk, peers)?;
-    run_threads(rt, site, links, console, reader, writer)
+    let shared = Arc::new(rt.alloc(), Shared::<D>::new(rt.alloc(), desk, blanks)?)?;
+    shared.give_seats(rt);
+    let links = links_of(rt, rt.alloc(), config, &shared)?;
+    let ended = run_threads(rt, site, config.tick(), &shared, links, reader, writer);
+    stop_site(rt, site, shared);
+    Ok(ended?)
+}
+
+/// Stops the desk of a site whose threads have ended, and says what it did, where clients could connect.
+fn stop_site<D: DeskNames, R: Host>(rt: &R, site: &Site, shared: Arc<Shared<D>>) {
+    match stop_desk(rt.alloc(), shared) {
+        Ok(report) => {
+            if site.clients.is_some() {
+                say_report(rt, &report);
+            }
+        }
+        Err(why) => say_no_report(rt, why),
+    }
 }
 
 /// Answers the commands while the threads of the site run.
-fn run_threads<
-    D: DeskNames + Send + Sync,
-    R: Net<Listener = TcpListener, Stream = TcpStream>
-        + Threads
-        + Wait
-        + Clock
-        + AllocGlobal
-        + Sync,
-    P: Peers + Drop,
-    I: Read + Drop,
-    W: Write + Drop,
->(
+fn run_threads<D: DeskNames + Send + Sync, R: Host, I: Read + Drop, W: Write + Drop>(
     rt: &R,
     site: &Site,
+    every: Option<u64>,
+    shared: &Arc<Shared<D>>,
     links: Vec<Link<D>>,
-    mut console: Console<'_, D, R, P>,
     mut reader: I,
     mut writer: W,
-) -> Result<(), SiteFault> {
+) -> Result<(), LineFault> {
     thread::scope(thread::scope_env(), rt, |scope| {
-        let ended = if begin_all(scope, rt, site, links) {
-            console.answer_all(&mut reader, &mut writer)
+        let ended = if begin_all(scope, rt, site, every, shared, links) {
+            answer_commands(rt, site, shared, &mut reader, &mut writer)
         } else {
             Err(LineFault::OutOfMemory)
         };
         site.shut_down(rt);
         ended
-    })?;
+    })
+}
+
+/// Answers the commands with their seat, which is put back.
+fn answer_commands<D: DeskNames, R: Host, I: Read, W: Write>(
+    rt: &R,
+    site: &Site,
+    shared: &Arc<Shared<D>>,
+    reader: &mut I,
+    writer: &mut W,
+) -> Result<(), LineFault> {
+    let Some(mut client) = client_at(rt, site, shared, COMMANDS) else {
+        return Err(LineFault::OutOfMemory);
+    };
+    let ended = client.answer_all(reader, writer);
+    shared.seats.put(rt, COMMANDS, client.into_seat());
+    ended?;
     Ok(())
 }
 
 /// Starts all threads but that of the commands. False where one could not be started.
-fn begin_all<
-    's,
-    E,
-    D: DeskNames + Send + Sync + 's,
-    R: Net<Listener = TcpListener, Stream = TcpStream>
-        + Threads
-        + Wait
-        + Clock
-        + AllocGlobal
-        + Sync,
->(scope: &Scope<'s, E>, rt: &'s R, site: &'s Site, links: Vec<Link<D>>) -> bool {
+fn begin_all<'s, E, D: DeskNames + Send + Sync + 's, R: Host>(
+    scope: &Scope<'s, E>,
+    rt: &'s R,
+    site: &'s Site,
+    every: Option<u64>,
+    shared: &Arc<Shared<D>>,
+    links: Vec<Link<D>>,
+) -> bool {
     let mut has_all = begin_door(scope, rt, site);
+    has_all &= begin_clients(scope, rt, site, shared);
+    has_all &= begin_ticks(scope, rt, site, every, shared);
     for link in links {
         has_all &= begin_peer(scope, rt, site, link);
     }
@@ -130,17 +147,12 @@ fn begin_all<
 }
 
 /// Starts the threads that deal with one peer. False where one could not be started.
-fn begin_peer<
-    's,
-    E,
-    D: DeskNames + Send + Sync + 's,
-    R: Net<Listener = TcpListener, Stream = TcpStream>
-        + Threads
-        + Wait
-        + Clock
-        + AllocGlobal
-        + Sync,
->(scope: &Scope<'s, E>, rt: &'s R, site: &'s Site, link: Link<D>) -> bool {
+fn begin_peer<'s, E, D: DeskNames + Send + Sync + 's, R: Host>(
+    scope: &Scope<'s, E>,
+    rt: &'s R,
+    site: &'s Site,
+    link: Link<D>,
+) -> bool {
     match site.peer(link.origin) {
         Some(peer) => {
             begin_link(scope, rt, site, peer, link) && begin_sender(scope, rt, site, peer)
@@ -150,13 +162,12 @@ fn begin_peer<
 }
 
 /// Starts the threads that read what this peer says and apply it. False where one could not be started.
-fn begin_link<'s, E, D: DeskNames + Send + Sync + 's, R: Wait + Clock + Sync>(
-    scope: &Scope<'s, E>,
-    rt: &'s R,
-    site: &'s Site,
-    peer: &'s Peer,
-    link: Link<D>,
-) -> bool {
+fn begin_link<
+    's,
+    E,
+    D: DeskNames + Send + Sync + 's,
+    R: Wait + Clock + Eprint + AllocGlobal + Sync,
+>(scope: &Scope<'s, E>, rt: &'s R, site: &'s Site, peer: &'s Peer, link: Link<D>) -> bool {
     let Link {
         receiver,
         applier,

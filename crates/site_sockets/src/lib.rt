@@ -3,14 +3,23 @@
 #![tactic(auto)]
 
 mod breaker;
+mod clients;
 mod door;
+mod events;
+mod hall;
 mod mailbox;
+mod moments;
+mod patient;
 mod peer;
 mod sending;
 mod site;
 
+pub use clients::{CLIENTS, Caller, ClientStream, Clients, hurried, part};
 pub use door::begin_door;
+pub use events::{LinkEvents, SkipCause};
 pub use mailbox::{Connection, Mailbox};
+pub use moments::Moments;
+pub use patient::Patient;
 pub use peer::Peer;
 pub use sending::begin_sender;
 pub use site::Site;

@@ -3,6 +3,7 @@ ghost use Rattle.std.specs.Prelude.{◌≡◌};
 ghost use Rattle.entry_codec.specs.Pieces.{IsLine};
 
 use crate::breaker::Breaker;
+use crate::events::LinkEvents;
 use crate::mailbox::Mailbox;
 use peer_links::Outbox;
 use rights_types::{OutOfMemory, SiteId};
@@ -29,17 +30,20 @@ pub struct Peer {
     pub(crate) sending: Breaker,
     /// The connections that it made.
     pub mailbox: Mailbox,
+    /// What happened on the links with it.
+    pub events: LinkEvents,
     seen: Mutex<Seen>,
 }
 
 impl Peer {
-    fn new(alloc: Global, site: SiteId, address: &str) -> Result<Peer, OutOfMemory> {
+    fn new(alloc: Global, site: SiteId, address: &str, log: bool) -> Result<Peer, OutOfMemory> {
         Ok(Peer {
             site,
             address: String::from_str(alloc, address)?,
             outbox: Outbox::new(alloc)?,
             sending: Breaker::new(),
             mailbox: Mailbox::new(),
+            events: LinkEvents::new(site, log),
             seen: Mutex::new(Seen {
                 buffering: false,
                 held: 0,
@@ -51,7 +55,16 @@ impl Peer {
     pub fn send<R: Wait>(&self, rt: &R, line: Vec<u8>) -> bool
         requires { IsLine line.items }
     {
-        self.outbox.put(rt, line).is_ok()
+        let has_room = self.outbox.put(rt, line).is_ok();
+        if !has_room {
+            self.events.drops_line();
+        }
+        has_room
+    }
+
+    /// How many lines wait to be sent.
+    pub fn waiting<R: Wait>(&self, rt: &R) -> usize {
+        self.outbox.len(rt)
     }
 
     /// Notes the state of the buffer after a line.
@@ -89,7 +102,7 @@ impl Peer {
 pub(crate) fn peers_of(alloc: Global, config: &Config) -> Result<Vec<Peer>, OutOfMemory> {
     let mut peers = Vec::new(alloc);
     for peer in config.peers() {
-        peers.push(Peer::new(alloc, peer.site(), peer.address())?)?;
+        peers.push(Peer::new(alloc, peer.site(), peer.address(), config.log())?)?;
     }
     Ok(peers)
 }

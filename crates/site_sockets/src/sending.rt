@@ -7,6 +7,7 @@ use line_streams::write_whole;
 use peer_links::write_link;
 use rights_types::{Message, SiteId};
 use std::alloc::Global;
+use std::io::Eprint;
 use std::net::{Net, TcpListener, TcpStream, ToSocketAddrs};
 use std::sync::{Condvar, CondvarTimeouts, Mutex, Wait};
 use std::thread::{Scope, Threads};
@@ -48,7 +49,7 @@ impl Senders {
 
 /// Sends what waits for this peer, till its outbox has ended and is empty. A line that is taken while
 /// there is no connection makes one attempt to connect, and is lost where that fails.
-fn send_to<R: Net<Stream = TcpStream> + Wait + Clock + AllocGlobal>(
+fn send_to<R: Net<Stream = TcpStream> + Wait + Clock + AllocGlobal + Eprint>(
     rt: &R,
     site: &Site,
     peer: &Peer,
@@ -57,20 +58,36 @@ fn send_to<R: Net<Stream = TcpStream> + Wait + Clock + AllocGlobal>(
         let Some(line) = peer.outbox.take(rt) else {
             break;
         };
-        let Some(mut stream) = connect(rt, peer.address.as_str()) else {
+        let Some(stream) = connect(rt, peer.address.as_str()) else {
+            peer.events.sends_no_more(rt, "it cannot be connected to");
             continue;
         };
-        if !peer.sending.hold(rt, &stream) {
-            continue;
-        }
-        let sent = introduce(rt.alloc(), site.id, &mut stream, line.as_slice())
-            && write_link(rt, &mut stream, &mut &peer.outbox).is_ok();
-        peer.sending.release(rt);
-        if sent {
+        if send_by(rt, site, peer, stream, line) {
             break;
         }
     }
     site.senders.finish(rt);
+}
+
+/// Sends this line and all that waits behind it by a connection. False where that failed, or the site has ended.
+fn send_by<R: Wait + AllocGlobal + Eprint>(
+    rt: &R,
+    site: &Site,
+    peer: &Peer,
+    mut stream: TcpStream,
+    line: Vec<u8>,
+) -> bool {
+    if !peer.sending.hold(rt, &stream) {
+        return false;
+    }
+    peer.events.sends(rt);
+    let is_sent = introduce(rt.alloc(), site.id, &mut stream, line.as_slice())
+        && write_link(rt, &mut stream, &mut &peer.outbox).is_ok();
+    peer.sending.release(rt);
+    if !is_sent {
+        peer.events.sends_no_more(rt, "a write failed");
+    }
+    is_sent
 }
 
 /// Writes the first line of a connection, and the line that it was made for. False where that fails.
@@ -105,6 +122,7 @@ pub fn begin_sender<
         + Wait
         + Clock
         + AllocGlobal
+        + Eprint
         + Sync,
 >(scope: &Scope<'s, E>, rt: &'s R, site: &'s Site, peer: &'s Peer) -> bool {
     site.senders.begin(rt);

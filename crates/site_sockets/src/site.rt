@@ -1,11 +1,16 @@
 //! What the threads of a site share, beside its desk.
 
-use crate::door::Door;
+use crate::clients::{Clients, wake};
+use crate::door::WAITING;
+use crate::hall::Hall;
+use crate::moments::Moments;
 use crate::peer::{Peer, peers_of};
 use crate::sending::Senders;
 use rights_types::{OutOfMemory, SiteId};
+use site_metrics::Counters;
 use site_words::{Config, SiteFault};
 use std::alloc::Global;
+use std::io::Eprint;
 use std::net::{Net, TcpListener, TcpStream};
 use std::sync::Wait;
 use std::sync::atomic::{AtomicBool, Ordering};
@@ -15,7 +20,10 @@ use std::time::{Clock, Duration};
 /// How many seconds an attempt to connect may take.
 pub(crate) const CONNECT_SECONDS: u64 = 1;
 
-/// How many seconds lines that wait are still written for after the last command.
+/// How many seconds requests that have begun are still answered for after the last command.
+const LAST_REPLIES_SECONDS: u64 = 1;
+
+/// How many seconds lines that wait are still written for after that.
 const LAST_LINES_SECONDS: u64 = 1;
 
 /// How many milliseconds the accepting thread rests where a connection could not be accepted.
@@ -28,10 +36,18 @@ pub struct Site {
     listener: TcpListener,
     /// The other sites, in order.
     peers: Vec<Peer>,
-    pub(crate) door: Door,
+    /// The connections that wait for their first line.
+    pub(crate) door: Hall,
     pub(crate) senders: Senders,
+    /// Where clients connect, if they may.
+    pub clients: Option<Clients>,
+    pub moments: Moments,
+    /// The commands that were answered.
+    pub commands: Counters,
     /// An applier met a refused request for memory.
     out_of_memory: AtomicBool,
+    /// All connections were shut down.
+    is_over: AtomicBool,
 }
 
 impl Site {
@@ -40,21 +56,49 @@ impl Site {
         rt: &R,
         config: &Config,
     ) -> Result<Site, SiteFault> {
-        match TcpListener::bind(rt, config.listen()) {
-            Ok(listener) => Ok(Site::new(rt.alloc(), config, listener)?),
-            Err(_) => Err(SiteFault::CannotListen),
-        }
+        let listener = listen(rt, config.listen())?;
+        let clients = clients_of(rt, config)?;
+        Ok(Site::new(rt.alloc(), config, listener, clients)?)
     }
 
-    fn new(alloc: Global, config: &Config, listener: TcpListener) -> Result<Site, OutOfMemory> {
+    fn new(
+        alloc: Global,
+        config: &Config,
+        listener: TcpListener,
+        clients: Option<Clients>,
+    ) -> Result<Site, OutOfMemory> {
         Ok(Site {
             id: config.id(),
             listener,
             peers: peers_of(alloc, config)?,
-            door: Door::new(alloc)?,
+            door: Hall::new(alloc, WAITING)?,
             senders: Senders::new(),
+            clients,
+            moments: Moments::new(),
+            commands: Counters::new(),
             out_of_memory: AtomicBool::new(false),
+            is_over: AtomicBool::new(false),
         })
+    }
+
+    /// Says where the site listens, if what happens is to be said.
+    pub fn announce<R: Eprint>(&self, rt: &R, config: &Config) {
+        if !config.log() {
+            return;
+        }
+        let (id, sites, listen) = (config.id().number(), config.sites(), config.listen());
+        let _ = match config.http() {
+            Some(http) => {
+                eprintln!(rt;
+                    "rights-site: site {} of {} listens on {}, http on {}",
+                    id, sites, listen, http
+                )
+            }
+            None => eprintln!(rt;
+                "rights-site: site {} of {} listens on {}",
+                id, sites, listen
+            ),
+        };
     }
 
     /// The other sites, in order.
@@ -67,6 +111,14 @@ impl Site {
         self.peers.iter().find(|peer| peer.site == site)
     }
 
+    /// How many clients are connected.
+    pub fn client_count<R: Wait>(&self, rt: &R) -> usize {
+        match &self.clients {
+            Some(clients) => clients.count(rt),
+            None => 0,
+        }
+    }
+
     /// Notes that the program can't go on for want of memory. The command thread ends it at its next read.
     pub fn fail(&self) {
         self.out_of_memory.store(true, Ordering::SeqCst);
@@ -75,6 +127,11 @@ impl Site {
     /// Whether the program can't go on for want of memory.
     pub fn has_failed(&self) -> bool {
         self.out_of_memory.load(Ordering::SeqCst)
+    }
+
+    /// Whether all connections were shut down: nobody gets a reply any more.
+    pub fn is_over(&self) -> bool {
+        self.is_over.load(Ordering::SeqCst)
     }
 
     /// The next connection that finds a place to wait for its first line at. None once the site ends.
@@ -94,20 +151,53 @@ impl Site {
         None
     }
 
-    /// Ends all threads: lines that wait are still sent for a while, and then no stream is left open.
+    /// Ends all threads: requests that have begun are still answered and lines that wait still sent for a while, and then
+    /// no stream is left open.
     pub fn shut_down<R: Net<Stream = TcpStream> + Wait + Clock>(&self, rt: &R) {
+        self.moments.end(rt);
+        if let Some(clients) = &self.clients {
+            clients.end(rt, Duration::from_secs(LAST_REPLIES_SECONDS));
+        }
         for peer in &self.peers {
             peer.outbox.end(rt);
         }
         self.senders
             .wait_for_all(rt, Duration::from_secs(LAST_LINES_SECONDS));
+        self.close(rt);
+    }
+
+    /// Leaves no stream open.
+    fn close<R: Net<Stream = TcpStream> + Wait>(&self, rt: &R) {
+        self.is_over.store(true, Ordering::SeqCst);
+        if let Some(clients) = &self.clients {
+            clients.close(rt);
+        }
         self.door.close(rt);
         for peer in &self.peers {
             peer.close(rt);
         }
-        // The accepting thread wakes by one more connection.
-        if let Ok(address) = self.listener.local_addr() {
-            let _ = TcpStream::connect_timeout(rt, &address, Duration::from_secs(CONNECT_SECONDS));
-        }
+        wake(rt, &self.listener);
     }
+}
+
+fn listen<R: Net<Listener = TcpListener, Stream = TcpStream>>(
+    rt: &R,
+    address: &str,
+) -> Result<TcpListener, SiteFault> {
+    match TcpListener::bind(rt, address) {
+        Ok(listener) => Ok(listener),
+        Err(_) => Err(SiteFault::CannotListen),
+    }
+}
+
+/// Where clients may connect, if the configuration says so.
+fn clients_of<R: Net<Listener = TcpListener, Stream = TcpStream> + AllocGlobal>(
+    rt: &R,
+    config: &Config,
+) -> Result<Option<Clients>, SiteFault> {
+    let Some(address) = config.http() else {
+        return Ok(None);
+    };
+    let listener = listen(rt, address)?;
+    Ok(Some(Clients::new(rt.alloc(), listener, config.log())?))
 }

@@ -8,7 +8,7 @@ use Rattle.std.proofs.lemmas.Bool.{eq-eqb, eqb-false, eqb-true, ne_eqb}
 use Rattle.std.proofs.lemmas.List.{get_or-map, get_or_append_left, length-map, length_push, map_push}
 use Rattle.std.proofs.lemmas.List.Elements.{All-push, Contains-push}
 use Rattle.clap.specs.Walk.{Text, texts}
-use Rattle.site_words.specs.Settings.{HasValues, IsNamed, IsSettings, Lacks, Peer, Settings, others, peer_word}
+use Rattle.site_words.specs.Settings.{HasValues, IsNamed, IsSettings, Lacks, Options, Peer, Settings, others, peer_word}
 
 -- `=` is no digit
 no_break : (n : ℕ) → n < 2 ^ 64 → (i : ℕ) → i < length (decimal n) → get_or (decimal n) i 0 ≢ 61
@@ -97,9 +97,9 @@ no_peer : Peer
 no_peer = record { site = 0; address = [] }
 
 -- where no word names one of the others, no settings have these values
-pub lacking : (id sites : ℕ) (listen : Text) (words : List Text) → Lacks id sites words
-    → (s : Settings) → IsSettings s → HasValues id sites listen words s → ⊥
-lacking id sites listen words lacks s valid has =
+pub lacking : (id sites : ℕ) (listen : Text) (words : List Text) (options : Options) → Lacks id sites words
+    → (s : Settings) → IsSettings s → HasValues id sites listen words options s → ⊥
+lacking id sites listen words options lacks s valid has =
     let k = lacks.1.0 in
     let peer : Peer = slice_index_or s.peers k no_peer in
     let listed : map (λ p. p.site) s.peers ≡ others id sites = rw (← has.same_id, ← has.same_sites) valid.peers in

@@ -1,8 +1,9 @@
 -- Settings that are asked for, or refused.
-use Rattle.std.proofs.Common.{◌≡◌, ◌∙◌, ℕ, List, Some, Result, Ok, Err, refl, sym, ap, subst, codes}
+use Rattle.std.proofs.Common.{◌≡◌, ◌∙◌, ◌<◌, ◌^◌, ℕ, Bool, true, false, List, Option, Some, None, Result, Ok, Err, refl, sym, ap, subst, arith, codes}
+use Rattle.std.specs.Prelude.{IfSome, MatchResult}
 use Rattle.std.specs.Str.Parse.{digits_value, without_leading_plus}
 use Rattle.clap.specs.Walk.{Row, Text, all_of, first_of}
-use Rattle.site_words.specs.Settings.{HasNumber, HasValues, IsFound, IsSettings, Names, Settings}
+use Rattle.site_words.specs.Settings.{AreFound, HasFlag, HasNumber, HasValues, IsFound, IsSettings, IsTick, MayHaveNumber, Names, Options, Settings}
 use Rattle.site_words.specs.Words.{IsSetBy}
 use Rattle.site_words.specs.declared.words.WordsFault.{WordsFault}
 use Rattle.site_words.specs.declared.words.WordsFault.TheVariants.{OutOfMemory, Refused}
@@ -16,16 +17,52 @@ refused_by Fits OutOfMemory none = tt
 some_same : {X : Type 0} {x y : X} → Some x ≡ Some y → x ≡ y
 some_same e = cc
 
+none_some : {X : Type 0} {x : X} → None ≡ Some x → ⊥
+none_some e = cc
+
+texts_differ : codes "true" ≡ codes "false" → ⊥
+texts_differ e = cc
+
 number_once : (rows : List Row) (option : Text) (n m : ℕ) → HasNumber rows option n → HasNumber rows option m → n ≡ m
 number_once rows option n m one two =
     let same : one.0 ≡ two.0 = some_same (sym one.1 ∙ two.1) in
     one.3 ∙ ap (λ (t : Text). digits_value 10 (without_leading_plus t)) same ∙ sym two.3
 
+-- a tick that is allowed fits into a number of 64 bits
+pub tick_fits : (tick : Option ℕ) → IfSome tick IsTick → IfSome tick (λ m. m < 2 ^ 64)
+tick_fits None valid = tt
+tick_fits (Some n) valid = omega (arith, valid.1)
+
+abbrev pub MayBeOptions : List Row → Result Options WordsFault → Type 0
+MayBeOptions rows r = MatchResult r (AreFound rows)
+    (λ fault. (fault ≡ Refused) × ((o : Options) → IfSome o.tick IsTick → AreFound rows o → ⊥))
+
+tick_once : (rows : List Row) (n m : Option ℕ) → MayHaveNumber rows (codes "tick") n → MayHaveNumber rows (codes "tick") m → n ≡ m
+tick_once rows None None one two = refl
+tick_once rows None (Some m) one two = absurd (none_some (sym one ∙ two.1))
+tick_once rows (Some n) None one two = absurd (none_some (sym two ∙ one.1))
+tick_once rows (Some n) (Some m) one two = ap Some (number_once rows (codes "tick") n m one two)
+
+log_once : (rows : List Row) (a b : Bool) → HasFlag rows (codes "log") a → HasFlag rows (codes "log") b → a ≡ b
+log_once rows true true one two = refl
+log_once rows false false one two = refl
+log_once rows true false one two = absurd (texts_differ (some_same (sym one ∙ two)))
+log_once rows false true one two = absurd (texts_differ (some_same (sym two ∙ one)))
+
+-- clap found one value of each option
+options_once : (rows : List Row) (o p : Options) → AreFound rows o → AreFound rows p → o ≡ p
+options_once rows o p one two =
+    let http : o.http ≡ p.http = sym one.http ∙ two.http in
+    let tick : o.tick ≡ p.tick = tick_once rows o.tick p.tick one.tick two.tick in
+    let once : o.once ≡ p.once = sym one.once ∙ two.once in
+    let log : o.log ≡ p.log = log_once rows o.log p.log one.log two.log in
+    cc
+
 -- the settings of the values that clap found are those that it found
-pub values_found : (rows : List Row) (id sites : ℕ) (listen : Text) (words : List Text) → HasNumber rows (codes "id") id
+pub values_found : (rows : List Row) (id sites : ℕ) (listen : Text) (words : List Text) (options : Options) → HasNumber rows (codes "id") id
     → HasNumber rows (codes "sites") sites → first_of (codes "listen") rows ≡ Some listen → all_of (codes "peer") rows ≡ Some words
-    → (r : Result Settings WordsFault) → IsSetBy (HasValues id sites listen words) r → IsSetBy (IsFound rows) r
-values_found rows id sites listen words has_id has_sites has_listen has_words (Ok s) set = (
+    → AreFound rows options → (r : Result Settings WordsFault) → IsSetBy (HasValues id sites listen words options) r → IsSetBy (IsFound rows) r
+values_found rows id sites listen words options has_id has_sites has_listen has_words has_options (Ok s) set = (
   set.0,
   record {
     id = subst (HasNumber rows (codes "id")) (sym set.1.same_id) has_id;
@@ -34,12 +71,14 @@ values_found rows id sites listen words has_id has_sites has_listen has_words (O
     words = words;
     given = has_words;
     peers = set.1.names;
+    options = subst (AreFound rows) (sym set.1.same_options) has_options;
   },
 )
-values_found rows id sites listen words has_id has_sites has_listen has_words (Err Refused) set = λ s valid found. set s valid (record {
+values_found rows id sites listen words options has_id has_sites has_listen has_words has_options (Err Refused) set = λ s valid found. set s valid (record {
   same_id = number_once rows (codes "id") s.id id found.id has_id;
   same_sites = number_once rows (codes "sites") s.sites sites found.sites has_sites;
   same_listen = some_same (sym found.listen ∙ has_listen);
+  same_options = options_once rows s.options options found.options has_options;
   names = subst (λ ws. Names ws s) (some_same (sym found.given ∙ has_words)) found.peers;
 })
-values_found rows id sites listen words has_id has_sites has_listen has_words (Err OutOfMemory) set = tt
+values_found rows id sites listen words options has_id has_sites has_listen has_words has_options (Err OutOfMemory) set = tt

@@ -3,16 +3,30 @@ use Rattle.std.specs.Prelude.{ℕ, true, false, Some, [], ◌∷◌, codes}
 use Rattle.clap.specs.Lexer.{usize_max}
 use Rattle.clap.specs.Simple.{App, Shape, new_rule, new_shape}
 use Rattle.clap.specs.Walk.{Rule, Text}
+use Rattle.clap.specs.declared.builder.action.ArgAction.TheVariants.{SetTrue}
 use Rattle.clap.specs.declared.builder.value_parser.ValueParser.TheVariants.{Unsigned}
 use Rattle.rights_types.specs.declared.limits.TheConstants.{MAX_SITES, MIN_SITES}
+use Rattle.site_words.specs.declared.config.TheConstants.{MAX_TICK, MIN_TICK}
 
--- an option that is required and takes one value
+-- an option that takes one value, and may be left out
+abbrev pub value_rule : Text → Rule
+value_rule name = record (new_rule name) { long = Some name; value_names = 1 }
+
+-- one that is required
 abbrev pub option_rule : Text → Rule
-option_rule name = record (new_rule name) { long = Some name; value_names = 1; required = true }
+option_rule name = record (value_rule name) { required = true }
 
 -- one that takes a whole number in a range
 abbrev pub number_rule : Text → ℕ → ℕ → Rule
 number_rule name least most = record (option_rule name) { parser = Some (Unsigned least most) }
+
+-- how often the site ticks itself: a whole number of milliseconds
+abbrev pub tick_rule : Rule
+tick_rule = record (value_rule (codes "tick")) { parser = Some (Unsigned MIN_TICK MAX_TICK) }
+
+-- an option that takes no value
+abbrev pub flag_rule : Text → Rule
+flag_rule name = record (new_rule name) { long = Some name; action = Some SetTrue }
 
 -- the peers: one at least
 abbrev pub peer_rule : Rule
@@ -28,10 +42,18 @@ run_numbers_shape = record (new_shape (codes "run")) {
   rules = number_rule (codes "id") 1 MAX_SITES ∷ number_rule (codes "sites") MIN_SITES MAX_SITES ∷ [];
 }
 
+-- .. and with all that it requires
+abbrev pub required_shape : Shape
+required_shape = record (new_shape (codes "run")) {
+  rules = number_rule (codes "id") 1 MAX_SITES ∷ number_rule (codes "sites") MIN_SITES MAX_SITES
+      ∷ option_rule (codes "listen") ∷ peer_rule ∷ [];
+}
+
 abbrev pub run_shape : Shape
 run_shape = record (new_shape (codes "run")) {
   rules = number_rule (codes "id") 1 MAX_SITES ∷ number_rule (codes "sites") MIN_SITES MAX_SITES
-      ∷ option_rule (codes "listen") ∷ peer_rule ∷ [];
+      ∷ option_rule (codes "listen") ∷ peer_rule
+      ∷ value_rule (codes "http") ∷ tick_rule ∷ value_rule (codes "once") ∷ flag_rule (codes "log") ∷ [];
 }
 
 -- the program's name is not among the words, one of its commands is required, and `help` is no

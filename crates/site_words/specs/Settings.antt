@@ -1,34 +1,49 @@
 -- What one site is told when it starts, and which words tell it.
-use Rattle.std.specs.Prelude.{◌≡◌, ◌≤◌, ◌+◌, ◌==◌, ◌++◌, ℕ, zero, suc, List, [], ◌∷◌, Some, Contains, codes, length, map, decimal, if◌then◌else◌}
+use Rattle.std.specs.Prelude.{◌≡◌, ◌≤◌, ◌+◌, ◌==◌, ◌++◌, ℕ, zero, suc, Bool, true, false, List, [], ◌∷◌, Option, Some, None, IfSome, Contains, codes, length, map, decimal, if◌then◌else◌}
 use Rattle.std.specs.List.{All}
 use Rattle.std.specs.Str.Parse.{IsNumeral, digits_value, without_leading_plus}
 use Rattle.clap.specs.Walk.{Row, Text, all_of, first_of, one_of}
 use Rattle.rights_types.specs.Ranges.{IsSite}
 use Rattle.rights_types.specs.declared.limits.TheConstants.{MAX_SITES, MIN_SITES}
+use Rattle.site_words.specs.declared.config.TheConstants.{MAX_TICK, MIN_TICK}
 
 -- where a peer listens
 pub record Peer : Type 0 where
   pub site : ℕ
   pub address : Text
 
+-- what may be left out: where the site serves HTTP, every how many milliseconds it ticks itself, the file that it
+-- creates at its start, and whether it writes lines on links and clients
+pub record Options : Type 0 where
+  pub http : Option Text
+  pub tick : Option ℕ
+  pub once : Option Text
+  pub log : Bool
+
 pub record Settings : Type 0 where
   pub id : ℕ
   pub sites : ℕ
   pub listen : Text
   pub peers : List Peer
+  pub options : Options
+
+-- a site ticks itself no oftener than every millisecond, and no more seldom than every minute
+abbrev pub IsTick : ℕ → Type 0
+IsTick milliseconds = (MIN_TICK ≤ milliseconds) × (milliseconds ≤ MAX_TICK)
 
 -- the sites from 1 to n but this one, in order
 abbrev pub others : ℕ → ℕ → List ℕ
 others id zero = []
 others id (suc n) = if suc n == id then others id n else others id n ++ suc n ∷ []
 
--- the peers are the other sites, each once
+-- the peers are the other sites, each once, and a site that ticks itself does so in the limits
 pub record IsSettings (s : Settings) : Type 0 where
   pub least : MIN_SITES ≤ s.sites
   pub most : s.sites ≤ MAX_SITES
   pub site : IsSite s.id
   pub among : s.id ≤ s.sites
   pub peers : map (λ p. p.site) s.peers ≡ others s.id s.sites
+  pub tick : IfSome s.options.tick IsTick
 
 -- `J=ADDRESS`: the peer's number in decimals, `=` (61) and its address
 abbrev pub peer_word : Peer → Text
@@ -44,10 +59,11 @@ pub record Names (words : List Text) (s : Settings) : Type 0 where
   pub count : length words + 1 ≡ s.sites
 
 -- the settings have these values, and the peers that the words name
-pub record HasValues (id sites : ℕ) (listen : Text) (words : List Text) (s : Settings) : Type 0 where
+pub record HasValues (id sites : ℕ) (listen : Text) (words : List Text) (options : Options) (s : Settings) : Type 0 where
   pub same_id : s.id ≡ id
   pub same_sites : s.sites ≡ sites
   pub same_listen : s.listen ≡ listen
+  pub same_options : s.options ≡ options
   pub names : Names words s
 
 -- no word names one of the other sites
@@ -60,6 +76,26 @@ abbrev pub HasNumber : List Row → Text → ℕ → Type 0
 HasNumber rows option n = (text : Text) × (one_of option rows ≡ Some text)
     × IsNumeral 10 (without_leading_plus text) × (n ≡ digits_value 10 (without_leading_plus text))
 
+-- .. or that it found none
+abbrev pub MayHaveNumber : List Row → Text → Option ℕ → Type 0
+MayHaveNumber rows option None = one_of option rows ≡ None
+MayHaveNumber rows option (Some n) = HasNumber rows option n
+
+abbrev pub flag_text : Bool → Text
+flag_text true = codes "true"
+flag_text false = codes "false"
+
+-- whether clap found a flag to be set: it tells that by a word
+abbrev pub HasFlag : List Row → Text → Bool → Type 0
+HasFlag rows flag set = one_of flag rows ≡ Some (flag_text set)
+
+-- each option that may be left out is as clap found it
+pub record AreFound (rows : List Row) (o : Options) : Type 0 where
+  pub http : first_of (codes "http") rows ≡ o.http
+  pub tick : MayHaveNumber rows (codes "tick") o.tick
+  pub once : first_of (codes "once") rows ≡ o.once
+  pub log : HasFlag rows (codes "log") o.log
+
 -- the settings are those that clap found
 pub record IsFound (rows : List Row) (s : Settings) : Type 0 where
   pub id : HasNumber rows (codes "id") s.id
@@ -68,3 +104,4 @@ pub record IsFound (rows : List Row) (s : Settings) : Type 0 where
   pub words : List Text
   pub given : all_of (codes "peer") rows ≡ Some words
   pub peers : Names words s
+  pub options : AreFound rows s.options

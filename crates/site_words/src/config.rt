@@ -1,18 +1,25 @@
 //! What a site is told when it starts: its number, how many sites there are, and where they listen.
-ghost use Rattle.std.specs.Prelude.{◌≡◌, ◌≤◌, ℕ, List, MatchOption, MatchResult, map};
+ghost use Rattle.std.specs.Prelude.{◌≡◌, ◌≤◌, ℕ, List, IfOk, IfSome, MatchOption, MatchResult, map, option_map, false, true};
 ghost use Rattle.std.specs.List.{All};
+ghost use Rattle.std.specs.String.{string_bytes};
 ghost use Rattle.clap.specs.Walk.{texts, Text};
 ghost use Rattle.rights_types.specs.Ranges.{IsSite};
 ghost use Rattle.rights_types.specs.declared.limits.TheConstants.{MAX_SITES};
-ghost use Rattle.site_words.specs.Settings.{HasValues, IsNamed, IsSettings, Lacks, others, peer_word};
+ghost use Rattle.site_words.specs.Settings.{HasValues, IsNamed, IsSettings, IsTick, Lacks, others, peer_word};
 ghost use Rattle.site_words.specs.Words.{IsSetBy};
 ghost use Rattle.site_words.specs.declared.words.WordsFault.{WordsFault};
 
 use crate::words::WordsFault;
 use entry_codec::read_decimal;
 use rights_types::{MAX_SITES, MIN_SITES, SiteId};
-use std::alloc::Global;
+use std::alloc::{AllocError, Global};
 use std::marker::Model;
+
+/// A site ticks itself at most every so many milliseconds.
+pub const MIN_TICK: u64 = 1;
+
+/// A site that ticks itself does so at least every so many milliseconds.
+pub const MAX_TICK: u64 = 60_000;
 
 /// Where a peer listens.
 #[derive(Drop)]
@@ -46,6 +53,29 @@ impl PeerAddress {
     }
 }
 
+/// The values of the options that may be left out.
+#[derive(Drop)]
+pub(crate) struct OptionValues<'a> {
+    pub(crate) http: Option<&'a str>,
+    pub(crate) tick: Option<u64>,
+    pub(crate) once: Option<&'a str>,
+    pub(crate) log: bool,
+}
+
+impl<'a> Model for OptionValues<'a> {
+    ghost use Rattle.std.specs.Prelude.{option_map};
+    ghost use Rattle.site_words.specs.Settings.{Options};
+
+    ghost Value = { Options };
+
+    ghost view = { λ values. record {
+      http = option_map (λ s. s.now) values.http;
+      tick = values.tick;
+      once = option_map (λ s. s.now) values.once;
+      log = values.log;
+    } };
+}
+
 /// What one site is told when it starts.
 #[derive(Drop)]
 pub struct Config {
@@ -53,9 +83,14 @@ pub struct Config {
     sites: u64,
     listen: String,
     peers: Vec<PeerAddress>,
+    http: Option<String>,
+    tick: Option<u64>,
+    once: Option<String>,
+    log: bool,
 }
 
 impl Model for Config {
+    ghost use Rattle.std.specs.Prelude.{option_map};
     ghost use Rattle.std.specs.String.{string_bytes};
     ghost use Rattle.site_words.specs.Settings.{Settings, IsSettings};
 
@@ -66,6 +101,12 @@ impl Model for Config {
       sites = config.sites;
       listen = string_bytes config.listen;
       peers = config.peers.items;
+      options = record {
+        http = option_map string_bytes config.http;
+        tick = config.tick;
+        once = option_map string_bytes config.once;
+        log = config.log;
+      };
     } };
 
     ghost invariant = { λ config. IsSettings (record {
@@ -73,6 +114,12 @@ impl Model for Config {
       sites = config.sites;
       listen = string_bytes config.listen;
       peers = config.peers.items;
+      options = record {
+        http = option_map string_bytes config.http;
+        tick = config.tick;
+        once = option_map string_bytes config.once;
+        log = config.log;
+      };
     }) };
 }
 
@@ -109,6 +156,38 @@ impl Config {
         self.peers.as_slice()
     }
 
+    /// The address at which it also serves HTTP, as the words gave it.
+    pub fn http(&self) -> Option<&str>
+        ensures value { option_map (λ s. s.now) result ≡ self.now.options.http }
+        ensures valid { IsSettings self.now }
+    {
+        self.http.as_deref()
+    }
+
+    /// Every how many milliseconds it ticks itself, from `MIN_TICK` to `MAX_TICK`, if it does.
+    pub fn tick(&self) -> Option<u64>
+        ensures value { result ≡ self.now.options.tick }
+        ensures valid { IsSettings self.now }
+    {
+        self.tick
+    }
+
+    /// The path of the file that it creates at its start, as the words gave it. A site does not start where that exists.
+    pub fn once(&self) -> Option<&str>
+        ensures value { option_map (λ s. s.now) result ≡ self.now.options.once }
+        ensures valid { IsSettings self.now }
+    {
+        self.once.as_deref()
+    }
+
+    /// Whether it writes what happens to links and clients to standard error.
+    pub fn log(&self) -> bool
+        ensures value { result ≡ self.now.options.log }
+        ensures valid { IsSettings self.now }
+    {
+        self.log
+    }
+
     /// The configuration of these values, where each of the `words` names a peer. `Refused` where they
     /// leave the limits, or the peers are not exactly the other sites.
     pub(crate) fn of_words(
@@ -117,8 +196,9 @@ impl Config {
         sites: u64,
         listen: &str,
         words: &[&str],
+        options: OptionValues<'_>,
     ) -> Result<Config, WordsFault>
-        ensures { IsSetBy (HasValues id sites listen.now (texts words.now)) result }
+        ensures { IsSetBy (HasValues id sites listen.now (texts words.now) options) result }
     {
         if id < 1 || id > sites || sites < MIN_SITES || sites > MAX_SITES {
             return Err(WordsFault::Refused);
@@ -126,12 +206,40 @@ impl Config {
         if words.len() as u64 != sites - 1 {
             return Err(WordsFault::Refused);
         }
+        if !is_tick(options.tick) {
+            return Err(WordsFault::Refused);
+        }
         Ok(Config {
             id: SiteId::known(id),
             sites,
             listen: String::from_str(alloc, listen)?,
             peers: other_peers(alloc, id, sites, words)?,
+            http: owned(alloc, options.http)?,
+            tick: options.tick,
+            once: owned(alloc, options.once)?,
+            log: options.log,
         })
+    }
+}
+
+/// Whether a site may tick itself so often. It need not tick itself.
+fn is_tick(tick: Option<u64>) -> bool
+    ensures yes { result ≡ true → IfSome tick IsTick }
+    ensures no { result ≡ false → IfSome tick IsTick → ⊥ }
+{
+    match tick {
+        Some(milliseconds) => milliseconds >= MIN_TICK && milliseconds <= MAX_TICK,
+        None => true,
+    }
+}
+
+/// A copy of a text, if there is one.
+fn owned(alloc: Global, text: Option<&str>) -> Result<Option<String>, AllocError>
+    ensures { IfOk result (λ copy. option_map string_bytes copy ≡ option_map (λ s. s.now) text) }
+{
+    match text {
+        Some(text) => Ok(Some(String::from_str(alloc, text)?)),
+        None => Ok(None),
     }
 }
 

@@ -9,7 +9,13 @@ use thiserror::Error;
 /// Why a site that runs stops.
 #[derive(Clone, Copy, Debug, PartialEq, Eq, Error)]
 pub enum SiteFault {
-    /// The address is none that can be listened on.
+    /// The file that a site creates at its start exists: a site of this number was started before.
+    #[error("was started before")]
+    StartedBefore,
+    /// The file that a site creates at its start cannot be created.
+    #[error("cannot create the start file")]
+    CannotCreateStartFile,
+    /// An address, that of the site or that for HTTP, is none that can be listened on.
     #[error("cannot listen")]
     CannotListen,
     /// Reading the commands failed.

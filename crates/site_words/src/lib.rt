@@ -9,7 +9,7 @@ mod status_object;
 mod words;
 
 pub use commands::{DeskCommand, SiteCommand, read_command};
-pub use config::{Config, PeerAddress};
+pub use config::{Config, MAX_TICK, MIN_TICK, PeerAddress};
 pub use fault::SiteFault;
 pub use status_object::{PeerView, status, status_text};
 pub use words::{Command, HelpText, WordsFault, read_words};

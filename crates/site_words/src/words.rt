@@ -1,19 +1,20 @@
 //! The command line, which the crate `clap` reads.
-ghost use Rattle.std.specs.Prelude.{◌≡◌, ◌<◌, ◌^◌, ℕ, [], ◌∷◌, codes, false, true, IfOk, MatchResult};
+ghost use Rattle.std.specs.Prelude.{◌≡◌, ◌<◌, ◌^◌, ℕ, Option, Bool, [], ◌∷◌, codes, false, true, IfOk, IfSome, MatchResult};
 ghost use Rattle.clap.specs.Matches.{found_of};
 ghost use Rattle.clap.specs.Simple.{app_of, new_shape, shape_of, subcommand_rows_of};
 ghost use Rattle.clap.specs.Walk.{rows_of, rule_of, texts};
 ghost use Rattle.clap.specs.declared.builder.command.Command.TheViews.{out-Command};
 ghost use Rattle.rights_types.specs.declared.limits.TheConstants.{MIN_SITES, MAX_SITES};
 ghost use Rattle.site_words.specs.Asked.{asked_by};
-ghost use Rattle.site_words.specs.CommandLine.{app, number_rule, option_rule, peer_rule, run_numbers_shape, run_shape};
-ghost use Rattle.site_words.specs.Settings.{HasNumber, IsFound};
+ghost use Rattle.site_words.specs.CommandLine.{app, flag_rule, number_rule, option_rule, peer_rule, required_shape, run_numbers_shape, run_shape, tick_rule, value_rule};
+ghost use Rattle.site_words.specs.Settings.{AreFound, HasFlag, HasNumber, IsFound, IsTick, MayHaveNumber, Options};
+ghost use Rattle.site_words.specs.declared.config.TheConstants.{MAX_TICK, MIN_TICK};
 ghost use Rattle.site_words.specs.Words.{AnswersMet, IsSetBy, MayAnswer};
 ghost use Rattle.site_words.specs.declared.words.WordsFault.{WordsFault};
 
-use crate::config::Config;
+use crate::config::{Config, OptionValues};
 use clap::error::ErrorKind;
-use clap::{Arg, ArgMatches, Command as Parser, value_parser};
+use clap::{Arg, ArgAction, ArgMatches, Command as Parser, value_parser};
 use std::alloc::{AllocError, AllocFailed, Global};
 use std::marker::Model;
 
@@ -79,16 +80,23 @@ impl<T: Drop> From<AllocFailed<T>> for WordsFault {
     }
 }
 
-/// An option that is required and takes one value.
-fn option<'a>(alloc: Global, name: &'a str, value: &'a str, help: &'a str) -> Arg<'a>
-    ensures rule { rule_of result ≡ option_rule name.entry.now }
+/// An option that takes one value, and may be left out.
+fn optional<'a>(alloc: Global, name: &'a str, value: &'a str, help: &'a str) -> Arg<'a>
+    ensures rule { rule_of result ≡ value_rule name.entry.now }
     ensures local { result.global ≡ false }
 {
     Arg::new(alloc, name)
         .long(name)
         .value_name(value)
-        .required(true)
         .help(help)
+}
+
+/// An option that is required and takes one value.
+fn option<'a>(alloc: Global, name: &'a str, value: &'a str, help: &'a str) -> Arg<'a>
+    ensures rule { rule_of result ≡ option_rule name.entry.now }
+    ensures local { result.global ≡ false }
+{
+    optional(alloc, name, value, help).required(true)
 }
 
 /// The option that tells the site's number.
@@ -109,6 +117,32 @@ fn sites_option<'a>(alloc: Global) -> Arg<'a>
     option(alloc, "sites", "N", "How many sites there are").value_parser(value_parser!(u64).range(
         2..=16,
     ))
+}
+
+/// The option that tells how often the site ticks itself.
+fn tick_option<'a>(alloc: Global) -> Arg<'a>
+    ensures rule { rule_of result ≡ tick_rule }
+    ensures local { result.global ≡ false }
+{
+    let milliseconds = value_parser!(u64).range(1..=60_000);
+    optional(
+        alloc,
+        "tick",
+        "MS",
+        "Every how many milliseconds it ticks itself",
+    )
+    .value_parser(milliseconds)
+}
+
+/// The option that asks for lines on links and clients.
+fn log_flag<'a>(alloc: Global) -> Arg<'a>
+    ensures rule { rule_of result ≡ flag_rule (codes "log") }
+    ensures local { result.global ≡ false }
+{
+    Arg::new(alloc, "log")
+        .long("log")
+        .action(ArgAction::SetTrue)
+        .help("Writes what happens to links and clients to standard error")
 }
 
 /// The argument that tells the peers.
@@ -134,14 +168,31 @@ fn run_numbers_parser<'a>(alloc: Global) -> Result<Parser<'a>, AllocError>
         .arg(sites_option(alloc))
 }
 
-/// The command that runs one site.
-fn run_parser<'a>(alloc: Global) -> Result<Parser<'a>, AllocError>
-    ensures { IfOk result (λ parser. (app_of parser ≡ record { top = run_shape; subs = [] })
+/// The command that runs one site, so far with what it requires alone.
+fn required_parser<'a>(alloc: Global) -> Result<Parser<'a>, AllocError>
+    ensures { IfOk result (λ parser. (app_of parser ≡ record { top = required_shape; subs = [] })
         × ((out-Command parser).has_globals ≡ false)) }
 {
     run_numbers_parser(alloc)?
         .arg(option(alloc, "listen", "ADDRESS", "Where this site listens"))?
         .arg(peers_argument(alloc))
+}
+
+/// The command that runs one site.
+fn run_parser<'a>(alloc: Global) -> Result<Parser<'a>, AllocError>
+    ensures { IfOk result (λ parser. (app_of parser ≡ record { top = run_shape; subs = [] })
+        × ((out-Command parser).has_globals ≡ false)) }
+{
+    required_parser(alloc)?
+        .arg(optional(alloc, "http", "ADDRESS", "Where this site serves HTTP"))?
+        .arg(tick_option(alloc))?
+        .arg(optional(
+            alloc,
+            "once",
+            "FILE",
+            "A file to create at the start, which must not exist",
+        ))?
+        .arg(log_flag(alloc))
 }
 
 /// The command that runs a script.
@@ -190,6 +241,43 @@ fn number_of(matches: &ArgMatches<'_>, option: &str) -> Result<u64, WordsFault>
     matches.get_one(option).ok_or(WordsFault::Refused)
 }
 
+/// The number that `clap` found for an option that may be left out.
+fn optional_number_of(matches: &ArgMatches<'_>, option: &str) -> Result<Option<u64>, WordsFault>
+    ensures { MatchResult result (MayHaveNumber (rows_of (found_of matches.now)) option.now)
+        (λ fault. (fault ≡ WordsFault.Refused)
+        × ((n : Option ℕ) → IfSome n (λ m. m < 2 ^ 64) → MayHaveNumber (rows_of (found_of matches.now)) option.now n → ⊥)) }
+{
+    match matches.try_get_one(option) {
+        Ok(number) => Ok(number),
+        Err(_) => Err(WordsFault::Refused),
+    }
+}
+
+/// What `clap` found for a flag. No clause of `clap` says that it is one of the two words.
+fn flag_of(matches: &ArgMatches<'_>, flag: &str) -> Result<bool, WordsFault>
+    ensures { MatchResult result (HasFlag (rows_of (found_of matches.now)) flag.now)
+        (λ fault. (fault ≡ WordsFault.Refused)
+        × ((set : Bool) → HasFlag (rows_of (found_of matches.now)) flag.now set → ⊥)) }
+{
+    matches.get_one(flag).ok_or(WordsFault::Refused)
+}
+
+/// The values of the options of `run` that may be left out.
+fn options_of<'a>(matches: &ArgMatches<'a>) -> Result<OptionValues<'a>, WordsFault>
+    ensures { MatchResult result (AreFound (rows_of (found_of matches.now)))
+        (λ fault. (fault ≡ WordsFault.Refused)
+        × ((o : Options) → IfSome o.tick IsTick → AreFound (rows_of (found_of matches.now)) o → ⊥)) }
+{
+    let tick = optional_number_of(matches, "tick")?;
+    let log = flag_of(matches, "log")?;
+    Ok(OptionValues {
+        http: matches.get_str("http"),
+        tick,
+        once: matches.get_str("once"),
+        log,
+    })
+}
+
 /// The configuration that the words of `run` give.
 fn config_of(alloc: Global, matches: &ArgMatches<'_>) -> Result<Config, WordsFault>
     ensures { IsSetBy (IsFound (rows_of (found_of matches.now))) result }
@@ -198,7 +286,8 @@ fn config_of(alloc: Global, matches: &ArgMatches<'_>) -> Result<Config, WordsFau
     let sites = number_of(matches, "sites")?;
     let listen = matches.get_str("listen").ok_or(WordsFault::Refused)?;
     let peers = matches.get_strs("peer").ok_or(WordsFault::Refused)?;
-    Config::of_words(alloc, id, sites, listen, peers)
+    let options = options_of(matches)?;
+    Config::of_words(alloc, id, sites, listen, peers, options)
 }
 
 /// The command that `clap` met.

@@ -12,7 +12,7 @@ ghost use Rattle.peer_links.specs.Takes.{TakesInput, TakesLine, TakesPiece, Asks
 ghost use Rattle.peer_links.specs.declared.link.LinkFault.{LinkFault};
 
 use crate::lines::{Piece, next_piece};
-use crate::link::{DeskMessage, LinkFault, Port, is_interrupted};
+use crate::link::{DeskMessage, LinkFault, Port, Skipped, is_interrupted};
 use entry_codec::LineCutter;
 use line_streams::LINE_LIMIT;
 use link_intake::{Arrived, Intake, IntakeError};
@@ -150,7 +150,10 @@ fn take_piece<R: Wait, P: Port>(
     let taken = match piece {
         Piece::Lent(line) => take_line(rt, line, intake, port),
         Piece::Kept(line) => take_line(rt, &line, intake, port),
-        Piece::Long => Ok(()),
+        Piece::Long => {
+            port.skipped(rt, Skipped::Long);
+            Ok(())
+        }
     };
     port.seen(rt, intake.state(), intake.held_count());
     taken
@@ -175,11 +178,16 @@ fn take_line<R: Wait, P: Port>(
     let arrived = match intake.on_line(rt, line) {
         Ok(arrived) => arrived,
         Err(IntakeError::Inbound(InboundError::OutOfMemory)) => return Err(LinkFault::OutOfMemory),
-        Err(IntakeError::Inbound(_)) => return Ok(()),
+        Err(IntakeError::Inbound(fault)) => {
+            port.skipped(rt, Skipped::Refused(fault));
+            return Ok(());
+        }
         Err(IntakeError::LaneClosed) => return Err(LinkFault::LaneClosed),
     };
+    let again = is_beat(&arrived);
+    port.taken(rt, line, again);
     hand_over(rt, arrived, port)?;
-    ask_for_gap(rt, is_beat(&arrived), intake, port)?;
+    ask_for_gap(rt, again, intake, port)?;
     Ok(())
 }
 

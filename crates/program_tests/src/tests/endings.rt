@@ -59,6 +59,14 @@ fn has_text(alloc: Global, fault: SiteFault, text: &str) -> bool {
 #[test]
 fn faults_have_their_texts(rt: HostRuntime) {
     let alloc = rt.alloc();
+    assert!(rt; has_text(alloc, SiteFault::StartedBefore, "was started before"));
+    assert!(rt;
+        has_text(
+            alloc,
+            SiteFault::CannotCreateStartFile,
+            "cannot create the start file"
+        )
+    );
     assert!(rt; has_text(alloc, SiteFault::CannotListen, "cannot listen"));
     assert!(rt; has_text(alloc, SiteFault::ReadFailed, "read failed"));
     assert!(rt; has_text(alloc, SiteFault::WriteFailed, "write failed"));
@@ -99,6 +107,22 @@ fn ends_with(alloc: Global, of_site: Result<(), SiteFault>, status: u8, line: &s
 fn the_program_ends_as_its_site(rt: HostRuntime) {
     let alloc = rt.alloc();
     assert!(rt; ends_with(alloc, Ok(()), 0, ""));
+    assert!(rt;
+        ends_with(
+            alloc,
+            Err(SiteFault::StartedBefore),
+            1,
+            "rights-site: was started before\n"
+        )
+    );
+    assert!(rt;
+        ends_with(
+            alloc,
+            Err(SiteFault::CannotCreateStartFile),
+            1,
+            "rights-site: cannot create the start file\n"
+        )
+    );
     assert!(rt;
         ends_with(
             alloc,

@@ -27,7 +27,7 @@ Options:
 const RUN_HELP: &str = "\
 Runs one site, which talks with its peers over TCP
 
-Usage: rights-site run --id <I> --sites <N> --listen <ADDRESS> <PEER>...
+Usage: rights-site run [OPTIONS] --id <I> --sites <N> --listen <ADDRESS> <PEER>...
 
 Arguments:
   <PEER>...  Each other site and where it listens, as J=ADDRESS
@@ -36,11 +36,15 @@ Options:
       --id <I>            The number of this site
       --sites <N>         How many sites there are
       --listen <ADDRESS>  Where this site listens
+      --http <ADDRESS>    Where this site serves HTTP
+      --tick <MS>         Every how many milliseconds it ticks itself
+      --once <FILE>       A file to create at the start, which must not exist
+      --log               Writes what happens to links and clients to standard error
   -h, --help              Print help
 ";
 
 /// Each line of words that asks for help, and the text.
-const HELPS: [(&str, &str); 7] = [
+const HELPS: [(&str, &str); 9] = [
     ("--help", HELP),
     ("-h x", HELP),
     ("-h run", HELP),
@@ -48,6 +52,8 @@ const HELPS: [(&str, &str); 7] = [
     ("run --help", RUN_HELP),
     ("run --id 1 -h", RUN_HELP),
     ("run 2=x --help --sites", RUN_HELP),
+    ("run --log --tick 5 --help", RUN_HELP),
+    ("run -h --tick 0 --once", RUN_HELP),
 ];
 
 /// What the words of a line are read as; two spaces stand round an empty word.
@@ -177,6 +183,189 @@ fn addresses_are_kept(rt: HostRuntime) {
     let line = "run --id 3 --sites 3 --listen  1== 2=1=\u{e9}";
     let peers = [(1, "="), (2, "1=\u{e9}")];
     assert!(rt; runs_site(rt.alloc(), line, (3, 3, ""), &peers));
+}
+
+/// The options that may be left out, as the words of a site should give them.
+type Extras = (
+    Option<&'static str>,
+    Option<u64>,
+    Option<&'static str>,
+    bool,
+);
+
+/// Words of the options that may be left out, and what they give.
+const EXTRAS: [(&str, Extras); 13] = [
+    ("", (None, None, None, false)),
+    (" --http [::1]:80", (Some("[::1]:80"), None, None, false)),
+    (" --http=a=b:1", (Some("a=b:1"), None, None, false)),
+    (" --http=", (Some(""), None, None, false)),
+    (" --tick 1", (None, Some(1), None, false)),
+    (" --tick=60000", (None, Some(60_000), None, false)),
+    (" --tick +007", (None, Some(7), None, false)),
+    (" --once /a/b.c", (None, None, Some("/a/b.c"), false)),
+    (" --once=-x", (None, None, Some("-x"), false)),
+    (" --log", (None, None, None, true)),
+    (
+        " --http h:1 --tick 250 --once f --log",
+        (Some("h:1"), Some(250), Some("f"), true),
+    ),
+    (
+        " --log --once=--log --tick 60000 --http=--tick",
+        (Some("--tick"), Some(60_000), Some("--log"), true),
+    ),
+    (
+        " --tick 2 --once 3 --http 4",
+        (Some("4"), Some(2), Some("3"), false),
+    ),
+];
+
+/// Whether a config has these values for the options that may be left out.
+fn has_extras(config: &Config, extras: Extras) -> bool {
+    let (http, tick, once, log) = extras;
+    config.http() == http && config.tick() == tick && config.once() == once && config.log() == log
+}
+
+/// Whether the words of a line are those of site 1 of 2, with these values for the options that may be left out.
+fn runs_with(alloc: Global, line: &str, extras: Extras) -> bool {
+    match read(alloc, line) {
+        Ok(Command::Run(config)) => {
+            is_config(&config, (1, 2, "a"), &[(2, "b")]) && has_extras(&config, extras)
+        }
+        _ => false,
+    }
+}
+
+/// Whether these words, behind all others and before them, give these values.
+fn are_read(alloc: Global, words: &str, extras: Extras) -> bool {
+    let behind = format!(in alloc; "run --id 1 --sites 2 --listen a 2=b{words}");
+    let before = format!(in alloc; "run{words} 2=b --listen a --sites 2 --id 1");
+    match (behind, before) {
+        (Ok(behind), Ok(before)) => {
+            runs_with(alloc, behind.as_str(), extras) && runs_with(alloc, before.as_str(), extras)
+        }
+        _ => false,
+    }
+}
+
+#[test]
+fn options_that_may_be_left_out_are_read(rt: HostRuntime) {
+    for (words, extras) in EXTRAS {
+        assert!(rt; are_read(rt.alloc(), words, extras), "at {words:?}");
+    }
+}
+
+/// The options that may be left out, with values.
+const OPTIONS: [&str; 4] = ["--http h:1", "--tick=5", "--once f", "--log"];
+
+/// Whether these are four words, and so all of `OPTIONS`.
+fn are_all(a: &str, b: &str, c: &str, d: &str) -> bool {
+    a != b && a != c && a != d && b != c && b != d && c != d
+}
+
+/// Whether all options are read in this order, between the others and behind them.
+fn are_read_in_order(alloc: Global, a: &str, b: &str, c: &str, d: &str) -> bool {
+    let extras = (Some("h:1"), Some(5), Some("f"), true);
+    let among = format!(in alloc; "run {a} --id 1 {b} --sites 2 {c} --listen a {d} 2=b");
+    let behind = format!(in alloc; "run --listen a 2=b {a} {b} --sites=2 {c} --id=1 {d}");
+    match (among, behind) {
+        (Ok(among), Ok(behind)) => {
+            runs_with(alloc, among.as_str(), extras) && runs_with(alloc, behind.as_str(), extras)
+        }
+        _ => false,
+    }
+}
+
+/// How many of the orders that begin with these two options are read, of two.
+fn orders_read(alloc: Global, a: &str, b: &str) -> u64 {
+    let mut read = 0u64;
+    for c in OPTIONS {
+        for d in OPTIONS {
+            if are_all(a, b, c, d) && are_read_in_order(alloc, a, b, c, d) {
+                read = read.saturating_add(1);
+            }
+        }
+    }
+    read
+}
+
+#[test]
+fn options_come_in_any_order(rt: HostRuntime) {
+    for a in OPTIONS {
+        for b in OPTIONS {
+            let wanted = if a == b { 0 } else { 2 };
+            assert!(rt; orders_read(rt.alloc(), a, b) == wanted, "at {a:?} {b:?}");
+        }
+    }
+}
+
+/// Whether these words are refused behind all others and before them.
+fn are_refused(alloc: Global, words: &str) -> bool {
+    let behind = format!(in alloc; "run --id 1 --sites 2 --listen a 2=b {words}");
+    let before = format!(in alloc; "run {words} --id 1 --sites 2 --listen a 2=b");
+    match (behind, before) {
+        (Ok(behind), Ok(before)) => {
+            is_refused(alloc, behind.as_str()) && is_refused(alloc, before.as_str())
+        }
+        _ => false,
+    }
+}
+
+#[test]
+fn other_forms_of_options_are_refused(rt: HostRuntime) {
+    for words in [
+        "--tick 0",
+        "--tick=0",
+        "--tick 60001",
+        "--tick 18446744073709551617",
+        "--tick -1",
+        "--tick 1.5",
+        "--tick 5ms",
+        "--tick x",
+        "--tick=",
+        "--tick --log",
+        "--tick 5 6",
+        "--http --tick 5",
+        "--once --log",
+        // A flag has no value.
+        "--log=true",
+        "--log=false",
+        "--log=",
+        "--log 3=c",
+        // Each at most once.
+        "--tick 5 --tick 5",
+        "--http h --http i",
+        "--once f --once=f",
+        "--log --log",
+        // No other name.
+        "--ticks 5",
+        "--htt h",
+        "--Log",
+        "-l",
+    ] {
+        assert!(rt; are_refused(rt.alloc(), words), "at {words:?}");
+    }
+}
+
+#[test]
+fn options_with_no_value_are_refused(rt: HostRuntime) {
+    for option in ["--http", "--tick", "--once"] {
+        assert!(rt; are_refused(rt.alloc(), option), "at {option:?}");
+    }
+}
+
+/// They are options of `run` alone.
+#[test]
+fn a_script_has_no_options(rt: HostRuntime) {
+    for line in [
+        "sim --log",
+        "sim --tick 5",
+        "sim --http a",
+        "sim --once f",
+        "--log sim",
+        "--log run --id 1 --sites 2 --listen a 2=b",
+    ] {
+        assert!(rt; is_refused(rt.alloc(), line), "at {line:?}");
+    }
 }
 
 #[test]

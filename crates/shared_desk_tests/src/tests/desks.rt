@@ -38,6 +38,14 @@ pub(crate) fn seat_at<D: DeskNames, A: Allocator + Copy, R: Wait + Abort>(
     desk.seat(rt).expect(rt, "a seat")
 }
 
+/// The seat of the desk's clock.
+pub(crate) fn clock_seat_at<D: DeskNames, A: Allocator + Copy, R: Wait + Abort>(
+    rt: &R,
+    desk: &SharedDesk<D, A>,
+) -> Seat<D> {
+    desk.clock_seat(rt).expect(rt, "the clock's seat")
+}
+
 /// Issues rights by a seat.
 pub(crate) fn issue<D: DeskNames, R: Wait + Abort>(
     rt: &R,

@@ -14,8 +14,8 @@ use std::marker::Brand;
 use std::process::Abort;
 use std::sync::Wait;
 
-// The parts again, where a seat is missing among them.
-fn without_a_seat<D: DeskNames, R: Abort>(rt: &R, parts: Parts<D>) -> Parts<D> {
+/// The parts again, where a seat is missing among them.
+pub(crate) fn without_a_seat<D: DeskNames, R: Abort>(rt: &R, parts: Parts<D>) -> Parts<D> {
     match stop(parts) {
         Err(StopError::SeatMissing(parts)) => parts,
         _ => panic!(rt; "no seat is missing"),

@@ -1,8 +1,9 @@
-//! Seats on threads of their own.
+//! Seats on threads of their own, how many a desk gives, and the one of its site's clock.
 ghost use Rattle.std.specs.Prelude.{◌≡◌};
 ghost use Rattle.apply_lanes.specs.Names.{id_of, AreBlank, IsUnused};
 
-use crate::tests::desks::{desk_among, issue, pushed, report_of, seat_at};
+use crate::tests::desks::{clock_seat_at, desk_among, issue, pushed, report_of, seat_at};
+use crate::tests::parts::without_a_seat;
 use apply_lanes::{Blanks, DeskNames, Parts, Report, SEATS, Seat, SharedDesk};
 use site_core::{Desk, Spending};
 use std::alloc::Global;
@@ -93,21 +94,109 @@ fn twenty_spends_of_ten_rights(rt: HostRuntime) {
     assert!(rt; report.told_issued == 10 && report.told_spent == 10 && report.told_served == 0);
 }
 
-fn take_all_seats<D: DeskNames, R: Wait + Abort>(rt: &R, desk: Desk, blanks: Blanks)
+// All seats but the clock's: sixty-four, and no more.
+fn take_all_seats<D: DeskNames, R: Wait + Abort>(rt: &R, desk: &SharedDesk<D>) {
+    for _ in 0..SEATS {
+        let _ = seat_at(rt, desk);
+    }
+    assert!(rt; desk.seat(rt).is_err());
+}
+
+// The clock's seat, which is given once.
+fn take_the_clock_seat<D: DeskNames, R: Wait + Abort>(rt: &R, desk: &SharedDesk<D>) {
+    let _ = clock_seat_at(rt, desk);
+    assert!(rt; desk.clock_seat(rt).is_err());
+}
+
+fn take_the_clock_seat_last<D: DeskNames, R: Wait + Abort>(rt: &R, desk: Desk, blanks: Blanks)
     requires id { D.id ≡ id_of desk blanks }
     requires blanks { AreBlank blanks }
     requires unused { IsUnused desk }
 {
     let desk = SharedDesk::<D>::new(desk, blanks);
-    for _ in 0..SEATS {
-        let _ = seat_at(rt, &desk);
-    }
+    take_all_seats(rt, &desk);
+    take_the_clock_seat(rt, &desk);
     assert!(rt; desk.seat(rt).is_err());
 }
 
-/// Sixty-four seats are given, and no more.
+/// Sixty-four seats are given, and no more; the clock's is one besides.
 #[test]
 fn sixty_four_seats(rt: HostRuntime) {
     let desk = desk_among(&rt, rt.alloc(), 2);
-    take_all_seats::<Brand, HostRuntime>(&rt, desk, Blanks::new());
+    take_the_clock_seat_last::<Brand, HostRuntime>(&rt, desk, Blanks::new());
+}
+
+fn take_the_clock_seat_first<D: DeskNames, R: Wait + Abort>(rt: &R, desk: Desk, blanks: Blanks)
+    requires id { D.id ≡ id_of desk blanks }
+    requires blanks { AreBlank blanks }
+    requires unused { IsUnused desk }
+{
+    let desk = SharedDesk::<D>::new(desk, blanks);
+    take_the_clock_seat(rt, &desk);
+    take_all_seats(rt, &desk);
+    assert!(rt; desk.clock_seat(rt).is_err());
+}
+
+/// The clock's seat takes none of the sixty-four others.
+#[test]
+fn sixty_four_seats_after_the_clock(rt: HostRuntime) {
+    let desk = desk_among(&rt, rt.alloc(), 2);
+    take_the_clock_seat_first::<Brand, HostRuntime>(&rt, desk, Blanks::new());
+}
+
+// A seat whose spend of three waits while it issues ten.
+fn a_waiting_spend<D: DeskNames, R: Wait + Abort>(rt: &R, desk: &SharedDesk<D>) -> Seat<D> {
+    let mut seat = seat_at(rt, desk);
+    let spending = desk.lock(rt).spend(&mut seat, 3, 0);
+    assert!(rt; spending == Ok(Spending::Queued(1)));
+    issue(rt, desk, &mut seat, 10);
+    seat
+}
+
+// The clock's seat, which serves that spend.
+fn a_serving_clock<D: DeskNames, R: Wait + Abort>(rt: &R, desk: &SharedDesk<D>) -> Seat<D> {
+    let mut clock = clock_seat_at(rt, desk);
+    let served = desk.lock(rt).serve(&mut clock);
+    assert!(rt; served == Ok(Some((1, 2, 3))));
+    clock
+}
+
+fn a_missing_clock_seat<D: DeskNames, R: Wait + Abort>(
+    rt: &R,
+    alloc: Global,
+    desk: Desk,
+    blanks: Blanks,
+) -> Report
+    requires id { D.id ≡ id_of desk blanks }
+    requires blanks { AreBlank blanks }
+    requires unused { IsUnused desk }
+{
+    let desk = SharedDesk::<D>::new(desk, blanks);
+    let seat = a_waiting_spend(rt, &desk);
+    let clock = a_serving_clock(rt, &desk);
+    let parts = Parts {
+        desk,
+        seats: pushed(rt, Vec::new(alloc), seat),
+        applied: Vec::new(alloc),
+    };
+    let Parts {
+        desk,
+        seats,
+        applied,
+    } = without_a_seat(rt, parts);
+    let parts = Parts {
+        desk,
+        seats: pushed(rt, seats, clock),
+        applied,
+    };
+    report_of(rt, parts)
+}
+
+/// A desk stops once the clock's seat is back too, and what it served counts.
+#[test]
+fn no_stop_without_the_clock_seat(rt: HostRuntime) {
+    let desk = desk_among(&rt, rt.alloc(), 2);
+    let report = a_missing_clock_seat::<Brand, HostRuntime>(&rt, rt.alloc(), desk, Blanks::new());
+    assert!(rt; report.issued == 10 && report.spent == 3 && report.held == 7);
+    assert!(rt; report.told_issued == 10 && report.told_spent == 0 && report.told_served == 3);
 }

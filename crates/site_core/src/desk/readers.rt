@@ -161,6 +161,22 @@ impl<A: Allocator + Copy> Desk<A> {
         self.queue.total()
     }
 
+    /// How many spends wait. Each takes a slot of the queue.
+    pub fn requests_waiting(&self) -> usize
+        ensures value { result ≡ length self.now.queue.waiting }
+        ensures range { result ≤ SLOTS }
+    {
+        self.queue.waiting()
+    }
+
+    /// How many outcomes were not read yet. Each takes a slot of the queue.
+    pub fn outcomes_unread(&self) -> usize
+        ensures value { result ≡ length self.now.queue.outcomes }
+        ensures range { length self.now.queue.waiting + result ≤ SLOTS }
+    {
+        self.queue.unread()
+    }
+
     /// The rights of that site, as far as this one's log and what it applied tell. It is negative where the
     /// site used gifts that were not applied here yet.
     pub fn known(&self, site: SiteId) -> i128

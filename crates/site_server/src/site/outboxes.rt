@@ -4,7 +4,8 @@ ghost use Rattle.rights_types.specs.declared.limits.TheConstants.{MAX_NUMBER, MA
 ghost use Rattle.site_server.specs.Outboxes.{SendsDue, SendsToPeer};
 ghost use Rattle.site_server.specs.declared.site.outboxes.PeerOutbox.{PeerOutbox};
 
-use apply_lanes::{DeskNames, SharedDesk};
+use crate::site::shared::Shared;
+use apply_lanes::DeskNames;
 use rights_types::{MAX_SITES, OutOfMemory, SiteId};
 use site_node::{Peers, Sink, send_due};
 use site_sockets::Peer;
@@ -37,7 +38,7 @@ impl<R: Wait> Sink for PeerOutbox<'_, R> {
 #[derive(Drop)]
 pub(crate) struct Outboxes<'a, D: DeskNames, R: Wait> {
     rt: &'a R,
-    desk: Arc<SharedDesk<D>>,
+    shared: Arc<Shared<D>>,
     peers: &'a [Peer],
     ghost few: { length peers.now ≤ MAX_SITES },
 }
@@ -46,13 +47,13 @@ impl<'a, D: DeskNames, R: Wait> Outboxes<'a, D, R> {
     /// None where there are more peers than a system has sites.
     pub(crate) fn new(
         rt: &'a R,
-        desk: Arc<SharedDesk<D>>,
+        shared: Arc<Shared<D>>,
         peers: &'a [Peer],
     ) -> Option<Outboxes<'a, D, R>> {
         if peers.len() > MAX_SITES as usize {
             return None;
         }
-        Some(Outboxes { rt, desk, peers })
+        Some(Outboxes { rt, shared, peers })
     }
 
     /// Offers all that is due to this site to the sink, under the desk's lock, and answers how many lines found room.
@@ -60,7 +61,7 @@ impl<'a, D: DeskNames, R: Wait> Outboxes<'a, D, R> {
         ensures sends { IfOk result (λ sent. SendsDue S.takes D.id site sink.old sent sink.new) }
         ensures range { IfOk result (λ sent. sent ≤ MAX_NUMBER + 2) }
     {
-        let mut kept = self.desk.lock(self.rt);
+        let mut kept = self.shared.lock(self.rt);
         let kept = &mut *kept;
         // For the proof: what holds whenever the lock is free.
         let _ = kept.desk();

@@ -3,16 +3,17 @@ ghost use Rattle.std.specs.Prelude.{◌≡◌, ◌≢◌, ◌≤◌, false, [], 
 ghost use Rattle.site_server.specs.Hearing.{IsBufferAt, IsForDesk, HandlesAtDesk};
 
 use crate::site::outboxes::PeerOutbox;
-use apply_lanes::{
-    Applier, DeskNames, Free, Intake, MAX_LANE, Outlet, SharedDesk, StepError, lane,
-};
-use peer_links::{DeskMessage, Port, read_link};
-use rights_types::{OutOfMemory, SiteId};
-use site_core::Inbound;
+use crate::site::shared::Shared;
+use apply_lanes::{Applier, DeskNames, Free, Intake, MAX_LANE, Outlet, StepError, lane};
+use entry_codec::read_line;
+use peer_links::{DeskMessage, Port, Skipped, read_link};
+use rights_types::{Message, OutOfMemory, SiteId};
+use site_core::{Inbound, InboundError};
 use site_node::{Sink, answer_ask, answer_query, note_denial};
-use site_sockets::{Connection, Peer, Site};
+use site_sockets::{Connection, Peer, Site, SkipCause};
 use site_words::Config;
 use std::alloc::Global;
+use std::io::Eprint;
 use std::marker::Model;
 use std::sync::{Arc, Wait};
 use std::time::Clock;
@@ -29,7 +30,7 @@ pub(crate) struct Link<D: DeskNames> {
 /// The reading end of a link.
 #[derive(Drop)]
 pub(crate) struct Receiver<D: DeskNames> {
-    desk: Arc<SharedDesk<D>>,
+    shared: Arc<Shared<D>>,
     intake: Intake,
 }
 
@@ -49,7 +50,8 @@ impl<D: DeskNames> Model for Receiver<D> {
 /// The applying end of a link.
 #[derive(Drop)]
 pub(crate) struct LaneEnd<D: DeskNames> {
-    desk: Arc<SharedDesk<D>>,
+    shared: Arc<Shared<D>>,
+    origin: SiteId,
     applier: Applier<D, Free>,
 }
 
@@ -58,13 +60,13 @@ pub(crate) fn links_of<D: DeskNames, R: Wait>(
     rt: &R,
     alloc: Global,
     config: &Config,
-    desk: &Arc<SharedDesk<D>>,
+    shared: &Arc<Shared<D>>,
 ) -> Result<Vec<Link<D>>, OutOfMemory>
     requires { (D.id.site ≡ config.now.id) × (D.id.sites ≡ config.now.sites) }
 {
     let mut links = Vec::new(alloc);
     for peer in config.peers() {
-        if let Some(link) = link_of(rt, alloc, config, desk, peer.site())? {
+        if let Some(link) = link_of(rt, alloc, config, shared, peer.site())? {
             links.push(link)?;
         }
     }
@@ -76,7 +78,7 @@ fn link_of<D: DeskNames, R: Wait>(
     rt: &R,
     alloc: Global,
     config: &Config,
-    desk: &Arc<SharedDesk<D>>,
+    shared: &Arc<Shared<D>>,
     origin: SiteId,
 ) -> Result<Option<Link<D>>, OutOfMemory>
     requires { (D.id.site ≡ config.now.id) × (D.id.sites ≡ config.now.sites) }
@@ -87,8 +89,8 @@ fn link_of<D: DeskNames, R: Wait>(
     let (intake, outlet) = intake_of(alloc, config, origin)?;
     Ok(Some(Link {
         origin,
-        receiver: Receiver::new(desk, intake)?,
-        applier: LaneEnd::new(rt, desk, origin, outlet)?,
+        receiver: Receiver::new(shared, intake)?,
+        applier: LaneEnd::new(rt, shared, origin, outlet)?,
     }))
 }
 
@@ -111,65 +113,81 @@ fn intake_of(
 impl<D: DeskNames> LaneEnd<D> {
     fn new<R: Wait>(
         rt: &R,
-        desk: &Arc<SharedDesk<D>>,
+        shared: &Arc<Shared<D>>,
         origin: SiteId,
         outlet: Outlet,
     ) -> Result<LaneEnd<D>, OutOfMemory>
         requires { outlet.taken ≡ [] }
     {
-        let Ok(applier) = desk.applier(rt, origin, outlet, Free) else {
+        let Ok(applier) = shared.desk.applier(rt, origin, outlet, Free) else {
             // Each peer is another site, and gets its one applier, so it does not come to this.
             return Err(OutOfMemory);
         };
         Ok(LaneEnd {
-            desk: desk.clone()?,
+            shared: shared.clone()?,
+            origin,
             applier,
         })
     }
 
-    /// Applies what comes, to its end. Any refusal ends the link: its lines are then skipped.
+    /// Applies what comes, to its end, and leaves what it told for the end of the site. Any refusal ends the link: its
+    /// lines are then skipped.
     pub(crate) fn apply_all<R: Wait + Clock>(mut self, rt: &R, site: &Site) {
-        if let Err(StepError::OutOfMemory) = self.applier.run(rt, &self.desk) {
+        if let Err(StepError::OutOfMemory) = self.applier.run(rt, &self.shared.desk) {
             site.fail();
         }
+        let LaneEnd {
+            shared,
+            origin,
+            applier,
+        } = self;
+        shared.put_applied(rt, origin, applier.done());
     }
 }
 
 impl<D: DeskNames> Receiver<D> {
-    fn new(desk: &Arc<SharedDesk<D>>, intake: Intake) -> Result<Receiver<D>, OutOfMemory>
+    fn new(shared: &Arc<Shared<D>>, intake: Intake) -> Result<Receiver<D>, OutOfMemory>
         requires open { intake.finished ≡ false }
         requires of_desk { IsBufferAt D.id intake.inbound.buffer }
     {
         Ok(Receiver {
-            desk: desk.clone()?,
+            shared: shared.clone()?,
             intake,
         })
     }
 
     /// Reads the connections of this peer, one after another, till the mailbox is closed.
-    pub(crate) fn receive_all<R: Wait>(mut self, rt: &R, peer: &Peer) {
+    pub(crate) fn receive_all<R: Wait + Eprint + AllocGlobal>(mut self, rt: &R, peer: &Peer) {
         for _ in rt.forever() {
             let Some(connection) = peer.mailbox.take(rt) else {
                 break;
             };
+            peer.events.receives(rt);
             self.receive(rt, peer, connection);
             peer.mailbox.finish(rt);
+            peer.events.receives_no_more(rt);
         }
         let Receiver {
-            desk: _,
+            shared: _,
             mut intake,
         } = self;
         let _ = intake.finish(rt);
     }
 
     /// Reads one connection to its end, or to a fault, which ends it just as well.
-    fn receive<R: Wait>(&mut self, rt: &R, peer: &Peer, connection: Connection) {
+    fn receive<R: Wait + Eprint + AllocGlobal>(
+        &mut self,
+        rt: &R,
+        peer: &Peer,
+        connection: Connection,
+    ) {
         let Connection {
             mut stream,
             mut cutter,
         } = connection;
         let mut port = SitePort {
-            desk: &self.desk,
+            rt,
+            shared: &self.shared,
             peer,
             outbox: PeerOutbox::new(rt, peer),
         };
@@ -180,18 +198,19 @@ impl<D: DeskNames> Receiver<D> {
 /// What a reading thread does with what is not for its buffer. Messages go to the desk, under its lock, and what is answered
 /// into the peer's outbox.
 #[derive(Drop)]
-struct SitePort<'a, D: DeskNames, S: Sink + Drop> {
-    desk: &'a SharedDesk<D>,
+struct SitePort<'a, D: DeskNames, E, S: Sink + Drop> {
+    rt: &'a E,
+    shared: &'a Shared<D>,
     peer: &'a Peer,
     outbox: S,
 }
 
-impl<D: DeskNames, S: Sink + Drop> SitePort<'_, D, S> {
-    fn handle<R: Wait>(&mut self, rt: &R, message: DeskMessage) -> Result<(), OutOfMemory>
+impl<D: DeskNames, E: Wait + Eprint + AllocGlobal, S: Sink + Drop> SitePort<'_, D, E, S> {
+    fn handle(&mut self, message: DeskMessage) -> Result<(), OutOfMemory>
         requires { IsForDesk D.id message }
         ensures { HandlesAtDesk S.takes D.id message self.old.outbox result self.new.outbox }
     {
-        let mut kept = self.desk.lock(rt);
+        let mut kept = self.shared.lock(self.rt);
         let kept = &mut *kept;
         // For the proof: what holds whenever the lock is free.
         let _ = kept.desk();
@@ -204,24 +223,67 @@ impl<D: DeskNames, S: Sink + Drop> SitePort<'_, D, S> {
             }
         }
     }
+
+    /// Notes which entries a query asks for.
+    fn note_query(&self, line: &[u8]) {
+        if let Ok(Message::Query(query)) = read_line(self.rt.alloc(), line) {
+            self.peer.events.lacks(self.rt, query.first(), query.last());
+        }
+    }
+
+    /// Notes a beat below what was applied of the peer's log.
+    fn note_beat(&self, line: &[u8]) {
+        let Ok(Message::Beat(beat)) = read_line(self.rt.alloc(), line) else {
+            return;
+        };
+        let applied = self.shared.lock(self.rt).desk().applied(self.peer.site);
+        if beat.number() < applied {
+            self.peer.events.goes_back(self.rt, beat.number(), applied);
+        }
+    }
 }
 
-impl<D: DeskNames, S: Sink + Drop> Port for SitePort<'_, D, S> {
+/// Why the line is skipped.
+fn skip_cause(why: Skipped) -> SkipCause {
+    match why {
+        Skipped::Long => SkipCause::TooLong,
+        Skipped::Refused(InboundError::WrongOrigin) => SkipCause::WrongOrigin,
+        Skipped::Refused(InboundError::BadSite) => SkipCause::BadSite,
+        Skipped::Refused(_) => SkipCause::NoMessage,
+    }
+}
+
+impl<D: DeskNames, E: Wait + Eprint + AllocGlobal, S: Sink + Drop> Port for SitePort<'_, D, E, S> {
     ghost use Rattle.site_server.specs.Hearing.{IsForDesk, Hears};
 
     ghost accepts = { λ message. IsForDesk D.id message };
 
     ghost hears = { λ before heard after. Hears S.takes D.id before.outbox heard after.outbox };
 
-    fn message<R: Wait>(&mut self, rt: &R, message: DeskMessage) -> Result<(), OutOfMemory> {
-        self.handle(rt, message)
+    fn message<R: Wait>(&mut self, _rt: &R, message: DeskMessage) -> Result<(), OutOfMemory> {
+        self.handle(message)
     }
 
     fn line<R: Wait>(&mut self, _rt: &R, line: Vec<u8>) {
+        self.note_query(line.as_slice());
         self.outbox.offer(line);
     }
 
     fn seen<R: Wait>(&mut self, rt: &R, state: State, held: usize) {
+        if state != State::Buffering {
+            self.peer.events.lacks_nothing(self.rt);
+        }
         self.peer.note(rt, state, held);
+    }
+
+    fn skipped<R: Wait>(&self, _rt: &R, why: Skipped) {
+        self.peer.events.skips(self.rt, skip_cause(why));
+    }
+
+    fn taken<R: Wait>(&self, _rt: &R, line: &[u8], is_beat: bool) {
+        self.peer.events.takes();
+        if is_beat {
+            self.note_beat(line);
+        }
     }
 }

@@ -40,10 +40,17 @@ returns-in_err-peers c =
     let bad : None ≡ Some found.words = sym (ap (option_map (λ s. map (λ v. v.now) s.now)) c.in_err-peers.ensures.ok_part) ∙ c.get_strs.ensures
     ∙ raw_values-rows f (codes "peer") ∙ found.given in cc))
 
+pub returns-in_err-options : goal.returns-in_err-options
+returns-in_err-options c =
+    let p = err_from_is_err_and c.from_residual-in_err-options.result c.from_residual-in_err-options.ensures.1 in
+    let Fits = IsFound (rows_of (found_of c.args.matches.now)) in
+    subst (IsSetBy Fits) (sym (p.1 ∙ ap Err p.2)) (refused_by Fits c.in_err-options.field-0.0
+    (λ refused s valid found. c.in_err-options.ensures.1 s.options valid.tick found.options))
+
 pub returns : goal.returns
 returns c =
     let f = found_of c.args.matches.now in
     let listen = sym (first_value-rows f (codes "listen")) ∙ (sym c.get_str.ensures ∙ ap (option_map (λ s. s.now)) c.in_ok-listen.ensures.ok_part) in
     let peers = sym (raw_values-rows f (codes "peer")) ∙ (sym c.get_strs.ensures ∙ ap (option_map (λ s. map (λ v. v.now) s.now)) c.in_ok-peers.ensures.ok_part) in
-    values_found (rows_of f) c.in_ok-id.id c.in_ok-sites.sites c.in_ok-listen.listen.now (texts c.in_ok-peers.peers.now)
-    c.in_ok-id.ensures c.in_ok-sites.ensures listen peers c.of_words.result c.of_words.ensures
+    values_found (rows_of f) c.in_ok-id.id c.in_ok-sites.sites c.in_ok-listen.listen.now (texts c.in_ok-peers.peers.now) c.in_ok-options.options
+    c.in_ok-id.ensures c.in_ok-sites.ensures listen peers c.in_ok-options.ensures c.of_words.result c.of_words.ensures

@@ -12,6 +12,7 @@ returns-clause-balance g c =
       number = c.self.inside.number;
       received = c.self.inside.received;
       admitted = c.self.inside.admitted;
+      clock_given = c.self.inside.clock_given;
     } in
     let balance : IsInBalance inside = record {
       chain = c.log.ensures.chain;

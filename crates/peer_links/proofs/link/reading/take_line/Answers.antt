@@ -17,13 +17,13 @@ pub returns-in_err-ask_for_gap-clause-takes : goal.returns-in_err-ask_for_gap-cl
 returns-in_err-ask_for_gap-clause-takes g c =
     let p = err_from_is_err_and c.from_residual-in_err-ask_for_gap.result c.from_residual-in_err-ask_for_gap.ensures.1 in
     let line = c.in-Ok.ensures in
-    let over = hands_on g.P.Port.hears _ c.on_line.new.self _ (message_in c.in-Ok.arrived) (asks_again c.in-Ok.arrived) _ _ _ _ _ c.in_ok-hand_over.ensures c.is_beat.ensures c.in_err-ask_for_gap.ensures in
+    let over = hands_on g.P.Port.hears _ c.on_line.new.self _ (message_in c.in-Ok.arrived) (asks_again c.in-Ok.arrived) _ _ _ _ _ c.in_ok-hand_over.ensures c.is_beat-again.ensures c.in_err-ask_for_gap.ensures in
     rw (p.1, p.2) (over.0, record { came = Ok c.in-Ok.arrived; mid = c.on_line.new.self; refused = line.refused; leaves = line.leaves; dead = line.dead; follows = over.1 }, over.2)
 
 pub returns-clause-takes : goal.returns-clause-takes
 returns-clause-takes g c =
     let line = c.in-Ok.ensures in
-    let over = hands_on g.P.Port.hears _ c.on_line.new.self _ (message_in c.in-Ok.arrived) (asks_again c.in-Ok.arrived) _ _ _ _ _ c.in_ok-hand_over.ensures c.is_beat.ensures c.in_ok-ask_for_gap.ensures in
+    let over = hands_on g.P.Port.hears _ c.on_line.new.self _ (message_in c.in-Ok.arrived) (asks_again c.in-Ok.arrived) _ _ _ _ _ c.in_ok-hand_over.ensures c.is_beat-again.ensures c.in_ok-ask_for_gap.ensures in
     (over.0, record { came = Ok c.in-Ok.arrived; mid = c.on_line.new.self; refused = line.refused; leaves = line.leaves; dead = line.dead; follows = over.1 }, over.2)
 
 pub hand_over-requires : goal.hand_over-requires

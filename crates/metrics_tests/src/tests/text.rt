@@ -1,0 +1,100 @@
+//! The text of all metrics.
+use super::expected::EXPECTED;
+use line_streams::Replies;
+use rights_types::SiteId;
+use site_metrics::{Metrics, PeerMetrics, REFUSAL_COUNT, put_metrics, refusal_place};
+use std::alloc::{Allocator, Global};
+
+fn site_metrics() -> Metrics {
+    let mut refused = [0; REFUSAL_COUNT];
+    refused[3] = 8;
+    refused[8] = 17;
+    refused[9] = 1;
+    refused[14] = 9;
+    Metrics {
+        held: 7,
+        queued: 5,
+        issued: 100,
+        spent: 40,
+        received: 12,
+        given: 60,
+        taken_back: 3,
+        log_number: 21,
+        closed: true,
+        requests_waiting: 2,
+        outcomes_unread: 4,
+        clients: 6,
+        commands: 1000,
+        refused,
+    }
+}
+
+/// A peer with entries missing, and one that was never heard of.
+fn peer_metrics() -> [PeerMetrics; 2] {
+    let missing = PeerMetrics {
+        site: SiteId::known(2),
+        applied: 382,
+        buffering: true,
+        held: 11,
+        receiving: true,
+        sending: false,
+        lines: 500,
+        refused: 13,
+        dropped: 14,
+        waiting: 15,
+        went_back: 1,
+    };
+    let other = PeerMetrics {
+        site: SiteId::known(16),
+        applied: 0,
+        buffering: false,
+        held: 0,
+        receiving: false,
+        sending: true,
+        lines: u64::MAX,
+        refused: 0,
+        dropped: 0,
+        waiting: 256,
+        went_back: 0,
+    };
+    [missing, other]
+}
+
+/// Whether this is the text of the metrics.
+fn is_text(alloc: Global, metrics: &Metrics, peers: &[PeerMetrics], wanted: &[u8]) -> bool {
+    let mut replies = Replies::new(alloc);
+    if put_metrics(metrics, peers, &mut replies).is_err() {
+        return false;
+    }
+    let mut text = Vec::new(alloc);
+    if replies.write_to(&mut text).is_err() {
+        return false;
+    }
+    text.as_slice() == wanted
+}
+
+/// Each value stands at its name, and at its peer.
+#[test]
+fn each_value_is_at_its_name(rt: HostRuntime) {
+    assert!(rt; is_text(rt.alloc(), &site_metrics(), &peer_metrics(), EXPECTED));
+}
+
+const REPLIES: [(&[u8], Option<usize>); 9] = [
+    (b"error Closed", Some(0)),
+    (b"error Short", Some(8)),
+    (b"error BadCommand", Some(14)),
+    (b"error Short ", None),
+    (b"error Shor", None),
+    (b"error ", None),
+    (b"expired", None),
+    (b"spent 3", None),
+    (b"", None),
+];
+
+/// Only a whole name is one.
+#[test]
+fn a_refusal_has_its_place(rt: HostRuntime) {
+    for (reply, place) in REPLIES {
+        assert!(rt; refusal_place(reply) == place);
+    }
+}

@@ -1,0 +1,3 @@
+pub mod Replying
+pub mod Routing
+pub mod Responding

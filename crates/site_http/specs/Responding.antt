@@ -1,0 +1,72 @@
+-- What each request is answered.
+use Rattle.std.specs.Prelude.{◌≡◌, ℕ, Bool, true, false, List, [], ◌∷◌, ◌++◌, codes}
+use Rattle.http.specs.declared.request.Request.{Request}
+use Rattle.http.specs.Request.{body_of}
+use Rattle.http1.specs.Fields.{Header}
+use Rattle.http_server.specs.declared.response.Response.{Response}
+use Rattle.http_server.specs.Response.{IsResponse}
+use Rattle.line_streams.specs.Talk.{lines_of}
+use Rattle.site_http.specs.declared.page.TheConstants.{PAGE}
+use Rattle.site_http.specs.declared.route.Allowed.{Allowed}
+use Rattle.site_http.specs.declared.route.Allowed.TheVariants as Only
+use Rattle.site_http.specs.declared.route.Route.{Route}
+use Rattle.site_http.specs.declared.route.Route.TheVariants.{Commands, Wait, Status, Metrics, Health, Page, Foreign, NotAllowed, NotFound}
+use Rattle.site_http.specs.Replying.{Answering, RepliesTo, RepliesToOne, text_of}
+use Rattle.site_http.specs.Routing.{Leads}
+
+-- the headers of each response
+abbrev pub headers_for : List ℕ → List Header
+headers_for content_type = (codes "content-type", content_type) ∷ (codes "cache-control", codes "no-store") ∷ []
+
+abbrev pub plain : List Header
+plain = headers_for (codes "text/plain; charset=utf-8")
+
+-- the methods that a target allows
+abbrev pub methods_of : Allowed → List ℕ
+methods_of Only.Get = codes "GET, HEAD"
+methods_of Only.Post = codes "POST"
+methods_of Only.GetAndPost = codes "GET, HEAD, POST"
+
+-- whether the site is well
+abbrev pub IsHealth : Bool → Response → Type 0
+IsHealth true r = IsResponse 503 plain (codes "closed" ++ 10 ∷ []) r
+IsHealth false r = IsResponse 200 plain (codes "ok" ++ 10 ∷ []) r
+
+-- the response of a service that turns every request away
+abbrev pub IsBusy : Response → Type 0
+IsBusy r =
+    IsResponse 503 (plain ++ (codes "retry-after", codes "1") ∷ (codes "connection", codes "close") ∷ []) (codes "error Busy" ++ 10 ∷ []) r
+
+module _ {S : Type 0} (answers settles : Answering S) (status metrics : S → List ℕ → Type 0) (closed : S → Bool → Type 0) where
+  -- the response to the lines of a body is their replies
+  pub record IsReplied (replies_to : S → List (List ℕ) → ℕ → List (List ℕ) → S → Type 0) (old : S) (body : List ℕ) (r : Response) (new : S) : Type 0 where
+    pub code : ℕ
+    pub replies : List (List ℕ)
+    pub replied : replies_to old (lines_of body) code replies new
+    pub response : IsResponse code plain (text_of replies) r
+
+  -- a text that the client's site is told by
+  abbrev pub Tells : (S → List ℕ → Type 0) → List ℕ → S → Response → Type 0
+  Tells says content_type old r = (text : List ℕ) × says old text × IsResponse 200 (headers_for content_type) text r
+
+  -- the response to a request that changes nothing
+  abbrev pub Shows : S → Route → Response → Type 0
+  Shows old Status r = Tells (λ s text. (object : List ℕ) × status s object × (text ≡ object ++ 10 ∷ [])) (codes "application/json") old r
+  Shows old Metrics r = Tells metrics (codes "text/plain; version=0.0.4") old r
+  Shows old Health r = (is_closed : Bool) × closed old is_closed × IsHealth is_closed r
+  Shows old Page r = IsResponse 200 (headers_for (codes "text/html; charset=utf-8")) PAGE.now r
+  Shows old Foreign r = IsResponse 403 plain (codes "error Origin" ++ 10 ∷ []) r
+  Shows old (NotAllowed allowed) r =
+      IsResponse 405 (plain ++ (codes "allow", methods_of allowed) ∷ []) (codes "error Method" ++ 10 ∷ []) r
+  Shows old NotFound r = IsResponse 404 plain (codes "error Target" ++ 10 ∷ []) r
+  Shows old route r = ⊥
+
+  -- from the first state, a request with this route and body gets this response and leaves the second state
+  abbrev pub RespondsBy : S → Route → List ℕ → Response → S → Type 0
+  RespondsBy old Commands body r new = IsReplied (RepliesTo answers) old body r new
+  RespondsBy old Wait body r new = IsReplied (RepliesToOne settles) old body r new
+  RespondsBy old route body r new = Shows old route r × (new ≡ old)
+
+  -- from the first state, the request gets this response and leaves the second state
+  abbrev pub Responds : S → Request (List ℕ) → Response → S → Type 0
+  Responds old request r new = (route : Route) × Leads request route × RespondsBy old route (body_of request) r new

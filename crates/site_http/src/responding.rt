@@ -1,0 +1,200 @@
+//! What each request is answered.
+ghost use Rattle.std.specs.Prelude.{◌≡◌, ◌≤◌, ℕ, Bool, List, [], ◌∷◌, ◌++◌, codes, OnOk, OnErr};
+ghost use Rattle.http_server.specs.Response.{IsBlank, IsResponse, fields_of};
+ghost use Rattle.site_http.specs.Replying.{RepliesTo, RepliesToOne};
+ghost use Rattle.site_http.specs.declared.page.TheConstants.{PAGE};
+ghost use Rattle.site_http.specs.Responding.{headers_for, plain, methods_of, IsHealth, IsReplied, Tells, Responds};
+
+use crate::client::{Client, LONGEST_REPLY};
+use crate::page::page;
+use crate::replying::{LAST_ROOM, answer_body, settle_body};
+use crate::route::{Allowed, Route, route_of};
+use bytes::{BufMut, Bytes};
+use http::{HeaderValue, Request, StatusCode, header};
+use http_server::Response;
+use line_streams::Replies;
+use rights_types::OutOfMemory;
+use std::alloc::{AllocError, Global};
+
+/// Answers a request.
+pub(crate) fn respond<C: Client>(
+    client: &mut C,
+    replies: &mut Replies<Global>,
+    request: &Request<Bytes>,
+    response: &mut Response,
+) -> Result<(), AllocError>
+    requires { IsBlank response.old }
+    ensures ok { OnOk result (Responds C.answers C.settles C.status C.metrics C.closed client.old request.now response.new client.new) }
+    ensures err { OnErr result (client.new ≡ client.old) }
+{
+    let body = request.body().as_slice();
+    match route_of(request) {
+        Route::Commands => reply_to_all(client, replies, body, response),
+        Route::Wait => reply_to_one(client, replies, body, response),
+        Route::Status => tell_status(client, replies, response),
+        Route::Metrics => tell_metrics(client, replies, response),
+        Route::Health => tell_health(client, response),
+        Route::Page => show_page(response),
+        Route::Foreign => say(response, StatusCode::FORBIDDEN, b"error Origin\n"),
+        Route::NotAllowed(allowed) => refuse_method(response, allowed),
+        Route::NotFound => say(response, StatusCode::NOT_FOUND, b"error Target\n"),
+    }
+}
+
+fn reply_to_all<C: Client>(
+    client: &mut C,
+    replies: &mut Replies<Global>,
+    body: &[u8],
+    response: &mut Response,
+) -> Result<(), AllocError>
+    requires { IsBlank response.old }
+    ensures ok { OnOk result (IsReplied (RepliesTo C.answers) client.old body.now response.new client.new) }
+    ensures err { OnErr result (client.new ≡ client.old) }
+{
+    begin_reply(response)?;
+    response.status = answer_body(client, body, replies, &mut response.body);
+    Ok(())
+}
+
+fn reply_to_one<C: Client>(
+    client: &mut C,
+    replies: &mut Replies<Global>,
+    body: &[u8],
+    response: &mut Response,
+) -> Result<(), AllocError>
+    requires { IsBlank response.old }
+    ensures ok { OnOk result (IsReplied (RepliesToOne C.settles) client.old body.now response.new client.new) }
+    ensures err { OnErr result (client.new ≡ client.old) }
+{
+    begin_reply(response)?;
+    response.status = settle_body(client, body, replies, &mut response.body);
+    Ok(())
+}
+
+fn tell_status<C: Client>(
+    client: &C,
+    replies: &mut Replies<Global>,
+    response: &mut Response,
+) -> Result<(), AllocError>
+    requires { IsBlank response.old }
+    ensures { OnOk result (Tells (λ s text. (object : List ℕ) × C.status s object × (text ≡ object ++ 10 ∷ [])) (codes "application/json") client.now response.new) }
+{
+    replies.clear();
+    client.put_status(replies).map_err(no_memory)?;
+    tell(
+        response,
+        HeaderValue::from_static("application/json"),
+        replies,
+    )
+}
+
+fn tell_metrics<C: Client>(
+    client: &C,
+    replies: &mut Replies<Global>,
+    response: &mut Response,
+) -> Result<(), AllocError>
+    requires { IsBlank response.old }
+    ensures { OnOk result (Tells C.metrics (codes "text/plain; version=0.0.4") client.now response.new) }
+{
+    replies.clear();
+    client.put_metrics(replies).map_err(no_memory)?;
+    tell(
+        response,
+        HeaderValue::from_static("text/plain; version=0.0.4"),
+        replies,
+    )
+}
+
+fn tell_health<C: Client>(client: &C, response: &mut Response) -> Result<(), AllocError>
+    requires { IsBlank response.old }
+    ensures { OnOk result ((is_closed : Bool) × C.closed client.now is_closed × IsHealth is_closed response.new) }
+{
+    if client.is_closed() {
+        say(response, StatusCode::SERVICE_UNAVAILABLE, b"closed\n")
+    } else {
+        say(response, StatusCode::OK, b"ok\n")
+    }
+}
+
+fn show_page(response: &mut Response) -> Result<(), AllocError>
+    requires { IsBlank response.old }
+    ensures { OnOk result (IsResponse 200 (headers_for (codes "text/html; charset=utf-8")) PAGE.now response.new) }
+{
+    add_headers(
+        response,
+        HeaderValue::from_static("text/html; charset=utf-8"),
+    )?;
+    response.body.push(page())
+}
+
+fn refuse_method(response: &mut Response, allowed: Allowed) -> Result<(), AllocError>
+    requires { IsBlank response.old }
+    ensures { OnOk result (IsResponse 405 (plain ++ (codes "allow", methods_of allowed) ∷ []) (codes "error Method" ++ 10 ∷ []) response.new) }
+{
+    say(response, StatusCode::METHOD_NOT_ALLOWED, b"error Method\n")?;
+    response.add_header(header::ALLOW, methods_of(allowed))
+}
+
+fn methods_of(allowed: Allowed) -> HeaderValue
+    ensures { result.bytes ≡ methods_of allowed }
+{
+    match allowed {
+        Allowed::Get => HeaderValue::from_static("GET, HEAD"),
+        Allowed::Post => HeaderValue::from_static("POST"),
+        Allowed::GetAndPost => HeaderValue::from_static("GET, HEAD, POST"),
+    }
+}
+
+/// Answers with the whole replies.
+fn tell(
+    response: &mut Response,
+    content_type: HeaderValue,
+    replies: &Replies<Global>,
+) -> Result<(), AllocError>
+    requires { IsBlank response.old }
+    ensures { OnOk result (IsResponse 200 (headers_for content_type.bytes) replies.now.whole response.new) }
+{
+    add_headers(response, content_type)?;
+    response.body.put_slice(replies.whole())
+}
+
+/// Answers with a short text.
+pub(crate) fn say(
+    response: &mut Response,
+    status: StatusCode,
+    text: &[u8],
+) -> Result<(), AllocError>
+    requires { IsBlank response.old }
+    ensures { OnOk result (IsResponse status plain text.now response.new) }
+{
+    add_headers(response, HeaderValue::from_static(PLAIN))?;
+    response.status = status;
+    response.body.put_slice(text)
+}
+
+/// Adds the headers of replies, and sees that there is room for a first one. Nothing fails behind it but a line.
+fn begin_reply(response: &mut Response) -> Result<(), AllocError>
+    requires { IsBlank response.old }
+    ensures headers { OnOk result (fields_of response.new ≡ plain) }
+    ensures body { response.new.body.items ≡ [] }
+    ensures room { OnOk result (LAST_ROOM ≤ response.new.body.spare) }
+{
+    add_headers(response, HeaderValue::from_static(PLAIN))?;
+    response.body.reserve(LONGEST_REPLY + LAST_ROOM)
+}
+
+const PLAIN: &str = "text/plain; charset=utf-8";
+
+fn add_headers(response: &mut Response, content_type: HeaderValue) -> Result<(), AllocError>
+    requires { fields_of response.old ≡ [] }
+    ensures headers { OnOk result (fields_of response.new ≡ headers_for content_type.bytes) }
+    ensures status { response.new.status ≡ response.old.status }
+    ensures body { response.new.body ≡ response.old.body }
+{
+    response.add_header(header::CONTENT_TYPE, content_type)?;
+    response.add_header(header::CACHE_CONTROL, HeaderValue::from_static("no-store"))
+}
+
+fn no_memory(_error: OutOfMemory) -> AllocError {
+    AllocError
+}

@@ -1,0 +1,3 @@
+pub mod RefusalLaws
+pub mod LineLaws
+pub mod TextLaws

@@ -1,0 +1,104 @@
+-- Each refusal has a name of its own.
+use Rattle.std.proofs.Common.{◌≡◌, ◌≢◌, ℕ, zero, suc, ◌+◌, ◌<◌, Bool, true, false, true≢false, ◌&&◌, ◌==◌, List, [], ◌++◌, length, take, drop, get_or, set, Option, Some, None, IfNone, codes, refl, ap, sym, ◌∙◌, arith, inl, inr, add-zero}
+use Rattle.std.proofs.lemmas.Bool.{cases_lt, cases_Bool, false_from_ne_true, eqb-true, eqb-false}
+use Rattle.std.proofs.lemmas.List.{get_or-set_same, get_or-set_other}
+use Rattle.std.proofs.lemmas.Slice.Eq.{bytes_eq-Decides}
+use Rattle.std.specs.List.{position_or_len, flat_map, zip}
+use Rattle.std.proofs.lemmas.List.{flat_map_more, take_more}
+use Rattle.std.proofs.lemmas.Slice.Zip.{length-zip, get_or-zip}
+use Rattle.std.specs.Str.{bytes_eq}
+use Rattle.site_metrics.specs.Refusals.{refusal_names, refusal_text, one_where_refused}
+
+-- the first place of a name
+abbrev place_in : List ℕ → ℕ
+place_in name = position_or_len (λ other. bytes_eq other name) refusal_names
+
+abbrev all_below : (ℕ → Bool) → ℕ → Bool
+all_below test zero = true
+all_below test (suc n) = test n && all_below test n
+
+both : (a b : Bool) → (a && b) ≡ true → (a ≡ true) × (b ≡ true)
+both true true h = (refl, refl)
+both true false h = absurd cc
+both false b h = absurd cc
+
+below : (test : ℕ → Bool) (n : ℕ) → all_below test n ≡ true → (k : ℕ) → k < n → test k ≡ true
+below test zero h k lt = absurd (omega (arith, lt))
+below test (suc n) h k lt =
+    let parts = both (test n) (all_below test n) h in
+    elim (cases_lt k n) [
+      | inl less ↦ below test n parts.1 k less
+      | inr past ↦ let same : k ≡ n = omega (arith, lt, past) in rw same parts.0
+    ]
+
+own_place : (k : ℕ) → k < 15 → place_in (get_or refusal_names k []) ≡ k
+own_place k lt = eqb-true (place_in (get_or refusal_names k [])) k (below (λ i. place_in (get_or refusal_names i []) == i) 15 refl k lt)
+
+-- what stands behind `error ` is a name
+pub same_name : (xs ys : List ℕ) → codes "error " ++ xs ≡ codes "error " ++ ys → xs ≡ ys
+same_name xs ys h = ap (drop 6) h
+
+pub same_place : (i j : ℕ) → i < 15 → j < 15 → refusal_text i ≡ refusal_text j → i ≡ j
+same_place i j low high h =
+    sym (own_place i low) ∙ ap place_in (same_name (get_or refusal_names i []) (get_or refusal_names j []) h) ∙ own_place j high
+
+module _ (reply : List ℕ) where
+  pub counts_as : (place : ℕ) → reply ≡ refusal_text place → one_where_refused place reply ≡ 1
+  counts_as place h = let told = (bytes_eq-Decides reply (refusal_text place)).1 h in rw told refl
+
+  pub counts_not : (place : ℕ) → reply ≢ refusal_text place → one_where_refused place reply ≡ 0
+  counts_not place h =
+      let other = false_from_ne_true (bytes_eq reply (refusal_text place)) (λ e. h ((bytes_eq-Decides reply (refusal_text place)).0 e)) in
+      rw other refl
+
+  -- one count more at the place of the refusal
+  pub counted : (counts : List ℕ) (place more : ℕ) → place < length counts → place < 15 → reply ≡ refusal_text place → more ≡ get_or counts place 0 + 1
+      → (k : ℕ) → k < 15 → get_or (set counts place more) k 0 ≡ get_or counts k 0 + one_where_refused k reply
+  counted counts place more within low told one k lt =
+      elim (cases_Bool (k == place)) [
+        | inl here ↦
+            let same : k ≡ place = eqb-true k place here in
+            rw same (get_or-set_same counts place more 0 within ∙ one ∙ ap {B = ℕ} (λ n. get_or counts place 0 + n) (sym (counts_as place told)))
+        | inr apart ↦
+            let other : k ≢ place = eqb-false k place apart in
+            get_or-set_other counts place k more 0 other
+            ∙ sym (ap {B = ℕ} (λ n. get_or counts k 0 + n) (counts_not k (λ e. other (same_place k place lt low (sym e ∙ told)))) ∙ add-zero (get_or counts k 0))
+      ]
+
+  pub not_counted : (counts : List ℕ) → ((k : ℕ) → k < 15 → reply ≢ refusal_text k) → (k : ℕ) → k < 15 → get_or counts k 0 ≡ get_or counts k 0 + one_where_refused k reply
+  not_counted counts none k lt = sym (ap {B = ℕ} (λ n. get_or counts k 0 + n) (counts_not k (none k lt)) ∙ add-zero (get_or counts k 0))
+
+-- what a test of two texts tells
+pub agree : (xs ys zs : List ℕ) → true ≡ bytes_eq xs ys → ys ≡ zs → xs ≡ zs
+agree xs ys zs same h = (bytes_eq-Decides xs ys).0 (sym same) ∙ h
+
+pub differ : (xs ys zs : List ℕ) → false ≡ bytes_eq xs ys → ys ≡ zs → xs ≢ zs
+differ xs ys zs other h e = true≢false (sym ((bytes_eq-Decides xs ys).1 (e ∙ sym h)) ∙ sym other)
+
+-- one name more is another
+pub none_more : (name : List ℕ) (place : ℕ) → ((i : ℕ) → i < place → name ≢ get_or refusal_names i []) → name ≢ get_or refusal_names place [] → (i : ℕ) → i < place + 1 → name ≢ get_or refusal_names i []
+none_more name place before here i lt = elim (cases_lt i place) [
+  | inl less ↦ before i less
+  | inr past ↦ let same : i ≡ place = omega (arith, lt, past) in rw same here
+]
+
+-- what a clause says of a None
+pub if_none : {X P : Type 0} (r : Option X) → ((x : X) → r ≡ Some x → ⊥) → IfNone r P → P
+if_none None other h = h
+if_none (Some x) other h = absurd (other x refl)
+
+pub none_then : {X P Q : Type 0} (r : Option X) → (P → Q) → IfNone r P → IfNone r Q
+none_then None f h = f h
+none_then (Some x) f h = h
+
+-- the counts of one name more were put
+pub name_more : (f : List ℕ × ℕ → List ℕ) (text before after counts : List ℕ) (place : ℕ) (name : List ℕ) → place < 15 → length counts ≡ 15
+    → before ≡ text ++ flat_map f (take place (zip refusal_names counts)) → name ≡ get_or refusal_names place [] → after ≡ before ++ f (name, get_or counts place 0)
+    → after ≡ text ++ flat_map f (take (place + 1) (zip refusal_names counts))
+name_more f text before after counts place name low long done named more =
+    let all : List (List ℕ × ℕ) = zip refusal_names counts in
+    let within : place < length all = omega (arith, length-zip refusal_names counts, long, low) in
+    let item : get_or all place ([], 0) ≡ (name, get_or counts place 0) =
+    get_or-zip refusal_names counts place ([], 0) low (omega (arith, long, low)) ∙ ap (λ (n : List ℕ). (n, get_or counts place 0)) (sym named) in
+    more ∙ ap (λ (t : List ℕ). t ++ f (name, get_or counts place 0)) done ∙ ap (λ (e : List ℕ × ℕ). (text ++ flat_map f (take place all)) ++ f e) (sym item)
+    ∙ flat_map_more f text (take place all) (get_or all place ([], 0)) ∙ ap (λ (es : List (List ℕ × ℕ)). text ++ flat_map f es) (sym (take_more all place ([], 0) within))

@@ -1,0 +1,8 @@
+use Rattle.std.proofs.Common.{◌∙◌}
+use Rattle.std.proofs.lemmas.Result.{on_ok_weaker}
+use Rattle.site_metrics.proofs.TextLaws.{three}
+use Rattle.site_metrics.proofs.text.put_clients.Goals as goal
+
+pub returns-clause-ok : goal.returns-clause-ok
+returns-clause-ok g c =
+    on_ok_weaker c.put_name_counter.result (λ last. last ∙ rw (c.in_ok-put_counter.ensures.ok, c.in_ok-put_gauge.ensures.ok) (three _ _ _ _)) c.put_name_counter.ensures.ok

@@ -1,0 +1,8 @@
+use Rattle.std.proofs.Common.{◌∙◌}
+use Rattle.std.proofs.lemmas.Result.{on_ok_weaker}
+use Rattle.site_metrics.proofs.TextLaws.{first_seven}
+use Rattle.site_metrics.proofs.text.put_rights.Goals as goal
+
+pub returns-clause-ok : goal.returns-clause-ok
+returns-clause-ok g c =
+    on_ok_weaker c.put_counter-5.result (λ last. last ∙ rw (c.in_ok-put_counter-4.ensures.ok, c.in_ok-put_counter-3.ensures.ok, c.in_ok-put_counter-2.ensures.ok, c.in_ok-put_counter.ensures.ok, c.in_ok-put_gauge.ensures.ok, c.in_ok-put_first_gauge.ensures.ok) (first_seven _ _ _ _ _ _ _ _)) c.put_counter-5.ensures.ok

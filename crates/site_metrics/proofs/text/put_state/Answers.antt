@@ -1,0 +1,8 @@
+use Rattle.std.proofs.Common.{◌∙◌}
+use Rattle.std.proofs.lemmas.Result.{on_ok_weaker}
+use Rattle.site_metrics.proofs.TextLaws.{four}
+use Rattle.site_metrics.proofs.text.put_state.Goals as goal
+
+pub returns-clause-ok : goal.returns-clause-ok
+returns-clause-ok g c =
+    on_ok_weaker c.put_gauge-3.result (λ last. last ∙ rw (c.in_ok-put_gauge-2.ensures.ok, c.in_ok-put_gauge.ensures.ok, c.in_ok-put_counter.ensures.ok, c.bit.ensures) (four _ _ _ _ _)) c.put_gauge-3.ensures.ok

@@ -1,0 +1,85 @@
+-- The metrics of a site, in their order.
+use Rattle.std.specs.Prelude.{ℕ, Bool, List, [], ◌∷◌, ◌++◌, codes, decimal, map, if◌then◌else◌}
+use Rattle.std.specs.List.{zip}
+use Rattle.site_metrics.specs.declared.metrics.Metrics.{Metrics}
+use Rattle.site_metrics.specs.declared.metrics.PeerMetrics.{PeerMetrics}
+use Rattle.site_metrics.specs.Format.{Sample, Family, exposition}
+use Rattle.site_metrics.specs.Refusals.{refusal_names}
+
+abbrev pub gauge : List ℕ → List ℕ → List Sample → Family
+gauge name help samples = record { name = name; help = help; kind = codes "gauge"; samples = samples }
+
+abbrev pub counter : List ℕ → List ℕ → List Sample → Family
+counter name help samples = record { name = name; help = help; kind = codes "counter"; samples = samples }
+
+-- a metric with one value has no labels
+abbrev pub alone : ℕ → List Sample
+alone value = record { labels = []; value = value } ∷ []
+
+abbrev pub bit : Bool → ℕ
+bit b = if b then 1 else 0
+
+-- a value for each peer, in the order given
+abbrev pub peer_sample : (PeerMetrics → ℕ) → PeerMetrics → Sample
+peer_sample value peer = record { labels = codes "{peer=\"" ++ decimal peer.site ++ codes "\"}"; value = value peer }
+
+abbrev pub by_peer : (PeerMetrics → ℕ) → List PeerMetrics → List Sample
+by_peer value peers = map (peer_sample value) peers
+
+-- a count for each name of a refusal, also for those that never came
+abbrev pub name_sample : List ℕ × ℕ → Sample
+name_sample counted = record { labels = codes "{name=\"" ++ counted.0 ++ codes "\"}"; value = counted.1 }
+
+abbrev pub by_name : List ℕ → List Sample
+by_name counts = map name_sample (zip refusal_names counts)
+
+abbrev pub rights_metrics : Metrics → List Family
+rights_metrics m =
+    gauge (codes "rights_held") (codes "Rights that the site holds.") (alone m.held)
+    ∷ gauge (codes "rights_queued") (codes "Rights that waiting spends are for.") (alone m.queued)
+    ∷ counter (codes "rights_issued_total") (codes "Rights that the site issued.") (alone m.issued)
+    ∷ counter (codes "rights_spent_total") (codes "Rights that the site spent.") (alone m.spent)
+    ∷ counter (codes "rights_received_total") (codes "Rights that came from other sites.") (alone m.received)
+    ∷ counter (codes "rights_given_total") (codes "Rights that went to other sites, taken back or not.") (alone m.given)
+    ∷ counter (codes "rights_taken_back_total") (codes "Rights taken back after the site they were given to closed.") (alone m.taken_back)
+    ∷ []
+
+abbrev pub state_metrics : Metrics → List Family
+state_metrics m =
+    counter (codes "rights_log_number") (codes "Number of the last entry of the site's log.") (alone m.log_number)
+    ∷ gauge (codes "rights_closed") (codes "1 once the site has closed, else 0.") (alone (bit m.closed))
+    ∷ gauge (codes "rights_requests_waiting") (codes "Slots of the queue taken by spends that wait.") (alone m.requests_waiting)
+    ∷ gauge (codes "rights_outcomes_unread") (codes "Slots of the queue taken by outcomes that nobody has read.") (alone m.outcomes_unread)
+    ∷ []
+
+abbrev pub client_metrics : Metrics → List Family
+client_metrics m =
+    gauge (codes "rights_clients") (codes "HTTP connections that stand.") (alone m.clients)
+    ∷ counter (codes "rights_commands_total") (codes "Commands answered, of all clients and standard input.") (alone m.commands)
+    ∷ counter (codes "rights_commands_refused_total") (codes "Commands refused, by the name of the refusal.") (by_name m.refused)
+    ∷ []
+
+abbrev pub log_metrics : List PeerMetrics → List Family
+log_metrics peers =
+    counter (codes "rights_peer_applied") (codes "Number up to which the peer's log is applied.") (by_peer (λ p. p.applied) peers)
+    ∷ gauge (codes "rights_peer_buffering") (codes "1 while entries of the peer wait for one that is missing, else 0.") (by_peer (λ p. bit p.buffering) peers)
+    ∷ gauge (codes "rights_peer_entries_held") (codes "Entries of the peer that wait for one that is missing.") (by_peer (λ p. p.held) peers)
+    ∷ gauge (codes "rights_peer_receiving") (codes "1 while a connection from the peer stands, else 0.") (by_peer (λ p. bit p.receiving) peers)
+    ∷ gauge (codes "rights_peer_sending") (codes "1 while a connection to the peer stands, else 0.") (by_peer (λ p. bit p.sending) peers)
+    ∷ []
+
+abbrev pub line_metrics : List PeerMetrics → List Family
+line_metrics peers =
+    counter (codes "rights_peer_lines_total") (codes "Lines that came from the peer.") (by_peer (λ p. p.lines) peers)
+    ∷ counter (codes "rights_peer_lines_refused_total") (codes "Lines from the peer that were skipped.") (by_peer (λ p. p.refused) peers)
+    ∷ counter (codes "rights_peer_lines_dropped_total") (codes "Lines for the peer that found no room in the outbox, or were lost by a failed connection or write.") (by_peer (λ p. p.dropped) peers)
+    ∷ gauge (codes "rights_peer_lines_waiting") (codes "Lines that wait in the peer's outbox.") (by_peer (λ p. p.waiting) peers)
+    ∷ counter (codes "rights_peer_number_went_back_total") (codes "Beats of the peer below what was applied of its log: it was started anew, or runs twice.") (by_peer (λ p. p.went_back) peers)
+    ∷ []
+
+abbrev pub all_metrics : Metrics → List PeerMetrics → List Family
+all_metrics m peers = rights_metrics m ++ (state_metrics m ++ (client_metrics m ++ (log_metrics peers ++ line_metrics peers)))
+
+-- what an operator's monitoring reads
+abbrev pub metrics_text : Metrics → List PeerMetrics → List ℕ
+metrics_text m peers = exposition (all_metrics m peers)

@@ -1,0 +1,20 @@
+//! What monitoring reads of a site: its metrics as text, in the exposition format of Prometheus, version 0.0.4, and the
+//! counters behind them.
+//!
+//! The text is exact for the values that were read. What counters hold at a moment is no theorem: other threads add to them
+//! at any time. How much one text of replies adds to them is one, by `count_replies`.
+#![tactic(auto)]
+
+mod counters;
+mod metrics;
+mod peer_value;
+mod refusals;
+mod replies;
+mod samples;
+mod text;
+
+pub use counters::{Counters, PeerCounters};
+pub use metrics::{Metrics, PeerMetrics};
+pub use refusals::{REFUSAL_COUNT, REFUSALS, refusal_place};
+pub use replies::{ReplyCounts, count_replies};
+pub use text::put_metrics;

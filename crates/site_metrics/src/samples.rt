@@ -1,0 +1,226 @@
+//! Putting one metric. Each line has its line feed before it, so that the last line of the text is left to
+//! `Replies::finish`. After an `Err` the reply at work has some part of it, and the whole replies are unchanged.
+ghost use Rattle.std.specs.Prelude.{◌≡◌, ℕ, List, ◌++◌, ◌∷◌, [], codes, drop, flat_map, OnOk};
+ghost use Rattle.std.specs.List.{zip};
+ghost use Rattle.site_metrics.specs.Format.{help_line, type_line, sample_line, led_lines};
+ghost use Rattle.site_metrics.specs.Table.{gauge, counter, alone, peer_sample, by_peer, name_sample, by_name};
+ghost use Rattle.site_metrics.specs.Refusals.{refusal_names};
+ghost use Rattle.site_metrics.specs.PeerValues.{peer_value};
+
+use crate::metrics::PeerMetrics;
+use crate::peer_value::PeerValue;
+use crate::refusals::{REFUSAL_COUNT, refusal_name};
+use line_streams::Replies;
+use rights_types::OutOfMemory;
+use std::alloc::Allocator;
+
+/// A gauge with one value, at the beginning of the text, with no line feed before it.
+pub(crate) fn put_first_gauge<A: Allocator>(
+    replies: &mut Replies<A>,
+    name: &[u8],
+    help: &[u8],
+    value: u64,
+) -> Result<(), OutOfMemory>
+    ensures ok { OnOk result (replies.new.part ≡ replies.old.part ++ drop 1 (led_lines (gauge name.now help.now (alone value)))) }
+    ensures kept { replies.new.whole ≡ replies.old.whole }
+{
+    put_head(replies, name, help, b"gauge")?;
+    put_value(replies, name, value)
+}
+
+/// A gauge with one value.
+pub(crate) fn put_gauge<A: Allocator>(
+    replies: &mut Replies<A>,
+    name: &[u8],
+    help: &[u8],
+    value: u64,
+) -> Result<(), OutOfMemory>
+    ensures ok { OnOk result (replies.new.part ≡ replies.old.part ++ led_lines (gauge name.now help.now (alone value))) }
+    ensures kept { replies.new.whole ≡ replies.old.whole }
+{
+    put_gauge_head(replies, name, help)?;
+    put_value(replies, name, value)
+}
+
+/// A counter with one value.
+pub(crate) fn put_counter<A: Allocator>(
+    replies: &mut Replies<A>,
+    name: &[u8],
+    help: &[u8],
+    value: u64,
+) -> Result<(), OutOfMemory>
+    ensures ok { OnOk result (replies.new.part ≡ replies.old.part ++ led_lines (counter name.now help.now (alone value))) }
+    ensures kept { replies.new.whole ≡ replies.old.whole }
+{
+    put_counter_head(replies, name, help)?;
+    put_value(replies, name, value)
+}
+
+/// A gauge with a value for each peer.
+pub(crate) fn put_peer_gauge<A: Allocator>(
+    replies: &mut Replies<A>,
+    name: &[u8],
+    help: &[u8],
+    peers: &[PeerMetrics],
+    value: PeerValue,
+) -> Result<(), OutOfMemory>
+    ensures ok { OnOk result (replies.new.part ≡ replies.old.part ++ led_lines (gauge name.now help.now (by_peer (peer_value value) peers.now))) }
+    ensures kept { replies.new.whole ≡ replies.old.whole }
+{
+    put_gauge_head(replies, name, help)?;
+    put_peer_values(replies, name, peers, value)
+}
+
+/// A counter with a value for each peer.
+pub(crate) fn put_peer_counter<A: Allocator>(
+    replies: &mut Replies<A>,
+    name: &[u8],
+    help: &[u8],
+    peers: &[PeerMetrics],
+    value: PeerValue,
+) -> Result<(), OutOfMemory>
+    ensures ok { OnOk result (replies.new.part ≡ replies.old.part ++ led_lines (counter name.now help.now (by_peer (peer_value value) peers.now))) }
+    ensures kept { replies.new.whole ≡ replies.old.whole }
+{
+    put_counter_head(replies, name, help)?;
+    put_peer_values(replies, name, peers, value)
+}
+
+/// A counter with a count for each name of a refusal.
+pub(crate) fn put_name_counter<A: Allocator>(
+    replies: &mut Replies<A>,
+    name: &[u8],
+    help: &[u8],
+    counts: &[u64; REFUSAL_COUNT],
+) -> Result<(), OutOfMemory>
+    ensures ok { OnOk result (replies.new.part ≡ replies.old.part ++ led_lines (counter name.now help.now (by_name counts.now))) }
+    ensures kept { replies.new.whole ≡ replies.old.whole }
+{
+    put_counter_head(replies, name, help)?;
+    put_name_counts(replies, name, counts)
+}
+
+fn put_head<A: Allocator>(
+    replies: &mut Replies<A>,
+    name: &[u8],
+    help: &[u8],
+    kind: &[u8],
+) -> Result<(), OutOfMemory>
+    ensures ok { OnOk result (replies.new.part ≡ replies.old.part ++ (help_line name.now help.now ++ 10 ∷ type_line name.now kind.now)) }
+    ensures kept { replies.new.whole ≡ replies.old.whole }
+{
+    put_words(replies, b"# HELP ", name, help)?;
+    put_words(replies, b"\n# TYPE ", name, kind)
+}
+
+fn put_gauge_head<A: Allocator>(
+    replies: &mut Replies<A>,
+    name: &[u8],
+    help: &[u8],
+) -> Result<(), OutOfMemory>
+    ensures ok { OnOk result (replies.new.part ≡ replies.old.part ++ (10 ∷ help_line name.now help.now ++ 10 ∷ type_line name.now (codes "gauge"))) }
+    ensures kept { replies.new.whole ≡ replies.old.whole }
+{
+    replies.put(b"\n")?;
+    put_head(replies, name, help, b"gauge")
+}
+
+fn put_counter_head<A: Allocator>(
+    replies: &mut Replies<A>,
+    name: &[u8],
+    help: &[u8],
+) -> Result<(), OutOfMemory>
+    ensures ok { OnOk result (replies.new.part ≡ replies.old.part ++ (10 ∷ help_line name.now help.now ++ 10 ∷ type_line name.now (codes "counter"))) }
+    ensures kept { replies.new.whole ≡ replies.old.whole }
+{
+    replies.put(b"\n")?;
+    put_head(replies, name, help, b"counter")
+}
+
+fn put_words<A: Allocator>(
+    replies: &mut Replies<A>,
+    begin: &[u8],
+    name: &[u8],
+    text: &[u8],
+) -> Result<(), OutOfMemory>
+    ensures ok { OnOk result (replies.new.part ≡ replies.old.part ++ (begin.now ++ name.now ++ codes " " ++ text.now)) }
+    ensures kept { replies.new.whole ≡ replies.old.whole }
+{
+    replies.put(begin)?;
+    replies.put(name)?;
+    replies.put(b" ")?;
+    replies.put(text)
+}
+
+fn put_value<A: Allocator>(
+    replies: &mut Replies<A>,
+    name: &[u8],
+    value: u64,
+) -> Result<(), OutOfMemory>
+    ensures ok { OnOk result (replies.new.part ≡ replies.old.part ++ (10 ∷ sample_line name.now (record { labels = []; value = value }))) }
+    ensures kept { replies.new.whole ≡ replies.old.whole }
+{
+    replies.put(b"\n")?;
+    replies.put(name)?;
+    replies.put_field(b" ", value)
+}
+
+fn put_peer_values<A: Allocator>(
+    replies: &mut Replies<A>,
+    name: &[u8],
+    peers: &[PeerMetrics],
+    value: PeerValue,
+) -> Result<(), OutOfMemory>
+    ensures ok { OnOk result (replies.new.part ≡ replies.old.part ++ flat_map (λ p. 10 ∷ sample_line name.now (peer_sample (peer_value value) p)) peers.now) }
+    ensures kept { replies.new.whole ≡ replies.old.whole }
+{
+    for peer in peers {
+        put_peer_value(replies, name, peer, value)?;
+    }
+    Ok(())
+}
+
+fn put_peer_value<A: Allocator>(
+    replies: &mut Replies<A>,
+    name: &[u8],
+    peer: &PeerMetrics,
+    value: PeerValue,
+) -> Result<(), OutOfMemory>
+    ensures ok { OnOk result (replies.new.part ≡ replies.old.part ++ (10 ∷ sample_line name.now (peer_sample (peer_value value) peer.now))) }
+    ensures kept { replies.new.whole ≡ replies.old.whole }
+{
+    replies.put(b"\n")?;
+    replies.put(name)?;
+    replies.put_field(b"{peer=\"", peer.site.number())?;
+    replies.put_field(b"\"} ", value.of(peer))
+}
+
+fn put_name_counts<A: Allocator>(
+    replies: &mut Replies<A>,
+    name: &[u8],
+    counts: &[u64; REFUSAL_COUNT],
+) -> Result<(), OutOfMemory>
+    ensures ok { OnOk result (replies.new.part ≡ replies.old.part ++ flat_map (λ e. 10 ∷ sample_line name.now (name_sample e)) (zip refusal_names counts.now)) }
+    ensures kept { replies.new.whole ≡ replies.old.whole }
+{
+    for place in 0..REFUSAL_COUNT {
+        put_name_count(replies, name, refusal_name(place), counts[place])?;
+    }
+    Ok(())
+}
+
+fn put_name_count<A: Allocator>(
+    replies: &mut Replies<A>,
+    name: &[u8],
+    refusal: &[u8],
+    count: u64,
+) -> Result<(), OutOfMemory>
+    ensures ok { OnOk result (replies.new.part ≡ replies.old.part ++ (10 ∷ sample_line name.now (name_sample (refusal.now, count)))) }
+    ensures kept { replies.new.whole ≡ replies.old.whole }
+{
+    replies.put(b"\n")?;
+    replies.put(name)?;
+    replies.put(b"{name=\"")?;
+    replies.put(refusal)?;
+    replies.put_field(b"\"} ", count)
+}

@@ -1,0 +1,243 @@
+//! The text of all metrics.
+ghost use Rattle.std.specs.Prelude.{◌≡◌, ◌++◌, [], drop, flat_map, OnOk, OnErr};
+ghost use Rattle.site_metrics.specs.Format.{led_lines};
+ghost use Rattle.site_metrics.specs.Table.{rights_metrics, state_metrics, client_metrics, log_metrics, line_metrics, all_metrics, metrics_text, bit};
+
+use crate::metrics::{Metrics, PeerMetrics};
+use crate::peer_value::PeerValue;
+use crate::samples::{
+    put_counter, put_first_gauge, put_gauge, put_name_counter, put_peer_counter, put_peer_gauge,
+};
+use line_streams::Replies;
+use rights_types::OutOfMemory;
+use std::alloc::Allocator;
+
+/// Appends the metrics of a site and of its peers, in the order given, as one of the whole replies: a text that Prometheus
+/// reads, of the content type `text/plain; version=0.0.4`. Each line of it ends with a line feed. Every name of a refusal
+/// has its count from the start, also where it is 0. After an `Err` the reply at work has some part of the text.
+pub fn put_metrics<A: Allocator>(
+    metrics: &Metrics,
+    peers: &[PeerMetrics],
+    replies: &mut Replies<A>,
+) -> Result<(), OutOfMemory>
+    requires { replies.old.part ≡ [] }
+    ensures ok { OnOk result ((replies.new.whole ≡ replies.old.whole ++ metrics_text metrics.now peers.now) × (replies.new.part ≡ [])) }
+    ensures err { OnErr result (replies.new.whole ≡ replies.old.whole) }
+{
+    put_all(metrics, peers, replies)?;
+    replies.finish()
+}
+
+/// The text without the line feed at its end.
+fn put_all<A: Allocator>(
+    metrics: &Metrics,
+    peers: &[PeerMetrics],
+    replies: &mut Replies<A>,
+) -> Result<(), OutOfMemory>
+    ensures ok { OnOk result (replies.new.part ≡ replies.old.part ++ drop 1 (flat_map led_lines (all_metrics metrics.now peers.now))) }
+    ensures kept { replies.new.whole ≡ replies.old.whole }
+{
+    put_rights(metrics, replies)?;
+    put_state(metrics, replies)?;
+    put_clients(metrics, replies)?;
+    put_logs(peers, replies)?;
+    put_lines(peers, replies)
+}
+
+/// The first metrics, with no line feed before them.
+fn put_rights<A: Allocator>(metrics: &Metrics, replies: &mut Replies<A>) -> Result<(), OutOfMemory>
+    ensures ok { OnOk result (replies.new.part ≡ replies.old.part ++ drop 1 (flat_map led_lines (rights_metrics metrics.now))) }
+    ensures kept { replies.new.whole ≡ replies.old.whole }
+{
+    put_first_gauge(
+        replies,
+        b"rights_held",
+        b"Rights that the site holds.",
+        metrics.held,
+    )?;
+    put_gauge(
+        replies,
+        b"rights_queued",
+        b"Rights that waiting spends are for.",
+        metrics.queued,
+    )?;
+    put_counter(
+        replies,
+        b"rights_issued_total",
+        b"Rights that the site issued.",
+        metrics.issued,
+    )?;
+    put_counter(
+        replies,
+        b"rights_spent_total",
+        b"Rights that the site spent.",
+        metrics.spent,
+    )?;
+    put_counter(
+        replies,
+        b"rights_received_total",
+        b"Rights that came from other sites.",
+        metrics.received,
+    )?;
+    put_counter(
+        replies,
+        b"rights_given_total",
+        b"Rights that went to other sites, taken back or not.",
+        metrics.given,
+    )?;
+    put_counter(
+        replies,
+        b"rights_taken_back_total",
+        b"Rights taken back after the site they were given to closed.",
+        metrics.taken_back,
+    )
+}
+
+fn put_state<A: Allocator>(metrics: &Metrics, replies: &mut Replies<A>) -> Result<(), OutOfMemory>
+    ensures ok { OnOk result (replies.new.part ≡ replies.old.part ++ flat_map led_lines (state_metrics metrics.now)) }
+    ensures kept { replies.new.whole ≡ replies.old.whole }
+{
+    put_counter(
+        replies,
+        b"rights_log_number",
+        b"Number of the last entry of the site's log.",
+        metrics.log_number,
+    )?;
+    put_gauge(
+        replies,
+        b"rights_closed",
+        b"1 once the site has closed, else 0.",
+        bit(metrics.closed),
+    )?;
+    put_gauge(
+        replies,
+        b"rights_requests_waiting",
+        b"Slots of the queue taken by spends that wait.",
+        metrics.requests_waiting,
+    )?;
+    put_gauge(
+        replies,
+        b"rights_outcomes_unread",
+        b"Slots of the queue taken by outcomes that nobody has read.",
+        metrics.outcomes_unread,
+    )
+}
+
+fn put_clients<A: Allocator>(metrics: &Metrics, replies: &mut Replies<A>) -> Result<(), OutOfMemory>
+    ensures ok { OnOk result (replies.new.part ≡ replies.old.part ++ flat_map led_lines (client_metrics metrics.now)) }
+    ensures kept { replies.new.whole ≡ replies.old.whole }
+{
+    put_gauge(
+        replies,
+        b"rights_clients",
+        b"HTTP connections that stand.",
+        metrics.clients,
+    )?;
+    put_counter(
+        replies,
+        b"rights_commands_total",
+        b"Commands answered, of all clients and standard input.",
+        metrics.commands,
+    )?;
+    put_name_counter(
+        replies,
+        b"rights_commands_refused_total",
+        b"Commands refused, by the name of the refusal.",
+        &metrics.refused,
+    )
+}
+
+fn put_logs<A: Allocator>(
+    peers: &[PeerMetrics],
+    replies: &mut Replies<A>,
+) -> Result<(), OutOfMemory>
+    ensures ok { OnOk result (replies.new.part ≡ replies.old.part ++ flat_map led_lines (log_metrics peers.now)) }
+    ensures kept { replies.new.whole ≡ replies.old.whole }
+{
+    put_peer_counter(
+        replies,
+        b"rights_peer_applied",
+        b"Number up to which the peer's log is applied.",
+        peers,
+        PeerValue::Applied,
+    )?;
+    put_peer_gauge(
+        replies,
+        b"rights_peer_buffering",
+        b"1 while entries of the peer wait for one that is missing, else 0.",
+        peers,
+        PeerValue::Buffering,
+    )?;
+    put_peer_gauge(
+        replies,
+        b"rights_peer_entries_held",
+        b"Entries of the peer that wait for one that is missing.",
+        peers,
+        PeerValue::Held,
+    )?;
+    put_peer_gauge(
+        replies,
+        b"rights_peer_receiving",
+        b"1 while a connection from the peer stands, else 0.",
+        peers,
+        PeerValue::Receiving,
+    )?;
+    put_peer_gauge(
+        replies,
+        b"rights_peer_sending",
+        b"1 while a connection to the peer stands, else 0.",
+        peers,
+        PeerValue::Sending,
+    )
+}
+
+fn put_lines<A: Allocator>(
+    peers: &[PeerMetrics],
+    replies: &mut Replies<A>,
+) -> Result<(), OutOfMemory>
+    ensures ok { OnOk result (replies.new.part ≡ replies.old.part ++ flat_map led_lines (line_metrics peers.now)) }
+    ensures kept { replies.new.whole ≡ replies.old.whole }
+{
+    put_peer_counter(
+        replies,
+        b"rights_peer_lines_total",
+        b"Lines that came from the peer.",
+        peers,
+        PeerValue::Lines,
+    )?;
+    put_peer_counter(
+        replies,
+        b"rights_peer_lines_refused_total",
+        b"Lines from the peer that were skipped.",
+        peers,
+        PeerValue::Refused,
+    )?;
+    put_peer_counter(
+        replies,
+        b"rights_peer_lines_dropped_total",
+        b"Lines for the peer that found no room in the outbox, or were lost by a failed connection or write.",
+        peers,
+        PeerValue::Dropped,
+    )?;
+    put_peer_gauge(
+        replies,
+        b"rights_peer_lines_waiting",
+        b"Lines that wait in the peer's outbox.",
+        peers,
+        PeerValue::Waiting,
+    )?;
+    put_peer_counter(
+        replies,
+        b"rights_peer_number_went_back_total",
+        b"Beats of the peer below what was applied of its log: it was started anew, or runs twice.",
+        peers,
+        PeerValue::WentBack,
+    )
+}
+
+/// 1 where it is so, else 0.
+fn bit(value: bool) -> u64
+    ensures { result ≡ bit value }
+{
+    value as u64
+}

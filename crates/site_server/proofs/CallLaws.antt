@@ -1,0 +1,174 @@
+-- What a client was told in the responses to its requests is what its seat counts.
+use Rattle.std.proofs.Common.{◌≡◌, ◌∙◌, ◌×◌, ◌⊎◌, ℕ, List, [], ◌∷◌, ◌++◌, append-nil, Bool, Option, Some, None, inl, inr, refl, ap, sym, subst}
+use Rattle.http.specs.declared.request.Request.{Request}
+use Rattle.http.specs.Request.{body_of}
+use Rattle.std.specs.Io.KnownBytes.{Appends, Consumes}
+use Rattle.http_server.specs.Exchange.{Call, Calls, Chain}
+use Rattle.http_server.specs.History.{History, IsServed, new_history}
+use Rattle.http_server.specs.declared.state.Config.{Config}
+use Rattle.http_server.specs.declared.response.Response.{Response}
+use Rattle.line_streams.specs.Talk.{lines_of}
+use Rattle.apply_lanes.specs.Names.{DeskId}
+use Rattle.apply_lanes.specs.Kepts.{SeatValue}
+use Rattle.site_words.specs.declared.commands.SiteCommand.{SiteCommand}
+use Rattle.site_words.specs.declared.commands.SiteCommand.TheVariants.{AtDesk, Tick, Status, Quit}
+use Rattle.site_node.specs.Texts.{reply_text}
+use Rattle.site_node.specs.Told.{Turn, ACommand, HasTurns}
+use Rattle.site_node.specs.declared.reply.Reply.{Reply}
+use Rattle.site_node.specs.declared.reply.Reply.TheVariants.{Number, Spending, Outcome, Refused}
+use Rattle.site_core.specs.declared.desk.requests.Spending.TheVariants.{Spent, Queued}
+use Rattle.site_node.proofs.ToldLaws.{turns_count}
+use Rattle.site_http.specs.Replying.{Answering, AnswersEach, RepliesTo, RepliesToOne, text_of}
+use Rattle.site_http.specs.Responding.{RespondsBy}
+use Rattle.site_http.specs.declared.route.Route.{Route}
+use Rattle.site_http.specs.declared.route.Route.TheVariants.{Commands, Wait, Status as Shows, Metrics, Health, Page, Foreign, NotAllowed, NotFound}
+use Rattle.site_server.specs.Replying.{asked, Says, TellsStatus}
+use Rattle.site_server.specs.Measuring.{TellsMetrics, TellsClosed}
+use Rattle.site_server.specs.Settling.{Settles, SettlesCommand}
+use Rattle.site_server.specs.Connections.{ClientValue, Tells, TellsSettled, Answers, Settled, Responded}
+use Rattle.site_server.specs.Conversations.{IsTurn}
+use Rattle.site_server.specs.Requests.{IsSettledTurn, IsQueued, AreTurnsOf, AreBodyTurns, AreRouteTurns, AreCallTurns, AreCallsTurns, Conversed, CountsCalls}
+use Rattle.site_server.proofs.ToldLaws.{turns_of_line, both}
+
+-- a line has turns that lead from one value of the seat to another
+module _ {S : Type 0} (seat : S → SeatValue) (is_turn : Option SiteCommand → List ℕ → List Turn → Type 0) (answers : Answering S)
+    (one : (old : S) (line reply : List ℕ) (new : S) → answers old line reply new → (turns : List Turn) × is_turn (asked line) reply turns × HasTurns (seat old) turns (seat new)) where
+  pub turns_of_each : (old : S) (lines replies : List (List ℕ)) (new : S) → AnswersEach answers old lines replies new
+      → (turns : List Turn) × AreTurnsOf is_turn lines replies turns × HasTurns (seat old) turns (seat new)
+  turns_of_each old [] replies new h = subst (λ (r : List (List ℕ)). (turns : List Turn) × AreTurnsOf is_turn [] r turns × HasTurns (seat old) turns (seat new)) (sym h.0) ([], refl, ap seat h.1)
+  turns_of_each old (line ∷ lines) replies new h =
+      let first = one old line h.0 h.1 h.3 in
+      let rest = turns_of_each h.1 lines h.2 new h.4 in
+      subst (λ (r : List (List ℕ)). (turns : List Turn) × AreTurnsOf is_turn (line ∷ lines) r turns × HasTurns (seat old) turns (seat new)) (sym h.5) (
+        first.0 ++ rest.0,
+        (first.0, rest.0, first.1, rest.1, refl),
+        both (seat old) (seat h.1) (seat new) first.0 rest.0 first.2 rest.2,
+      )
+
+  -- the lines of a body, as far as they were carried out
+  pub turns_of_body : (old : S) (lines replies : List (List ℕ)) (code : ℕ) (r : Response) (new : S)
+      → RepliesTo answers old lines code replies new → r.body.items ≡ text_of replies
+      → (turns : List Turn) × AreBodyTurns is_turn lines r turns × HasTurns (seat old) turns (seat new)
+  turns_of_body old lines replies code r new (inl all) body =
+      let found = turns_of_each old lines replies new all.each in (
+        found.0,
+        record { carried = lines; left = []; parted = sym (append-nil lines); replies = replies; are_turns = found.1; told = inl body },
+        found.2,
+      )
+  turns_of_body old lines replies code r new (inr stop) body =
+      let some = stop.some in
+      let found = turns_of_each old some.done stop.given new some.each in (
+        found.0,
+        record {
+          carried = some.done;
+          left = some.line ∷ some.left;
+          parted = some.parted;
+          replies = stop.given;
+          are_turns = found.1;
+          told = inr (body ∙ ap text_of stop.told);
+        },
+        found.2,
+      )
+
+  -- .. where there has to be one line
+  pub turns_of_one : (old : S) (lines replies : List (List ℕ)) (code : ℕ) (r : Response) (new : S)
+      → RepliesToOne answers old lines code replies new → r.body.items ≡ text_of replies
+      → (turns : List Turn) × (AreBodyTurns is_turn lines r turns ⊎ (turns ≡ [])) × HasTurns (seat old) turns (seat new)
+  turns_of_one old [] replies code r new h body = ([], inr refl, ap seat h.2)
+  turns_of_one old (line ∷ []) replies code r new h body =
+      let found = turns_of_body old (line ∷ []) replies code r new h body in (found.0, inl found.1, found.2)
+  turns_of_one old (line ∷ next ∷ lines) replies code r new h body = ([], inr refl, ap seat h.2)
+
+settled_text : (HasEnded : Type 0) (id : DeskId) (seat : SeatValue) (reply settled : Reply) (text : List ℕ)
+    → Settles HasEnded id seat reply settled → text ≡ reply_text settled → (text ≡ reply_text reply) ⊎ IsQueued reply
+settled_text HasEnded id seat (Number n) settled text h says = inl (says ∙ ap reply_text h)
+settled_text HasEnded id seat (Spending (Spent n)) settled text h says = inl (says ∙ ap reply_text h)
+settled_text HasEnded id seat (Spending (Queued ticket)) settled text h says = inr (ticket, refl)
+settled_text HasEnded id seat (Outcome status) settled text h says = inl (says ∙ ap reply_text h)
+settled_text HasEnded id seat (Refused cause) settled text h says = inl (says ∙ ap reply_text h)
+
+module _ {P : Type 0} (size : P → ℕ) (sends : P → ℕ → ℕ → P → Type 0) (id : DeskId) where
+  tells_turns : (command : Option SiteCommand) (was : SeatValue) (before : P) (text : List ℕ) (told : SeatValue) (after : P)
+      → Tells size sends id command was before text told after
+      → (turns : List Turn) × IsTurn command text turns × HasTurns was turns told
+  tells_turns None was before text told after h = turns_of_line size sends id None was before text told after h
+  tells_turns (Some (AtDesk command)) was before text told after h = turns_of_line size sends id (Some (AtDesk command)) was before text told after h
+  tells_turns (Some (Tick time)) was before text told after h = turns_of_line size sends id (Some (Tick time)) was before text told after h
+  tells_turns (Some Status) was before text told after h = turns_of_line size sends id (Some Status) was before text told after h
+  tells_turns (Some Quit) was before text told after h = ([], refl, h.1)
+
+  settled_turns : (HasEnded : Type 0) (command : Option SiteCommand) (was : SeatValue) (before : P) (text : List ℕ) (told : SeatValue) (after : P)
+      → TellsSettled size sends HasEnded id command was before text told after
+      → (turns : List Turn) × IsSettledTurn command text turns × HasTurns was turns told
+  settled_turns HasEnded None was before text told after h = tells_turns None was before text told after h
+  settled_turns HasEnded (Some (AtDesk command)) was before text told after h =
+      let c = h.0 in (
+        ACommand command c.reply ∷ [],
+        (c.reply, refl, settled_text HasEnded id told c.reply c.settled text c.settles c.says),
+        (told, (c.at_desk.old, c.at_desk.new, c.at_desk.acts), refl),
+      )
+  settled_turns HasEnded (Some (Tick time)) was before text told after h = tells_turns (Some (Tick time)) was before text told after h
+  settled_turns HasEnded (Some Status) was before text told after h = tells_turns (Some Status) was before text told after h
+  settled_turns HasEnded (Some Quit) was before text told after h = tells_turns (Some Quit) was before text told after h
+
+  module _ {B : Type 0} (has_ended : B → Type 0) where
+    seat_of : ClientValue P B → SeatValue
+    seat_of c = c.seat
+
+    one : (old : ClientValue P B) (line reply : List ℕ) (new : ClientValue P B) → Answers size sends has_ended id old line reply new
+        → (turns : List Turn) × IsTurn (asked line) reply turns × HasTurns old.seat turns new.seat
+    one old line reply new h = tells_turns (asked line) old.seat old.peers reply new.seat new.peers h
+
+    one_settled : (old : ClientValue P B) (line reply : List ℕ) (new : ClientValue P B) → Settled size sends has_ended id old line reply new
+        → (turns : List Turn) × IsSettledTurn (asked line) reply turns × HasTurns old.seat turns new.seat
+    one_settled old line reply new h =
+        settled_turns (has_ended old.bell) (asked line) old.seat old.peers reply new.seat new.peers h
+
+    turns_of_route : (old : ClientValue P B) (route : Route) (body : List ℕ) (r : Response) (new : ClientValue P B)
+        → RespondsBy (Answers size sends has_ended id) (Settled size sends has_ended id) (λ client text. TellsStatus id text) (λ client text. TellsMetrics id text) (λ client is_closed. TellsClosed id is_closed) old route body r new
+        → (turns : List Turn) × AreRouteTurns route body r turns × HasTurns old.seat turns new.seat
+    turns_of_route old Commands body r new h =
+        turns_of_body (λ c. c.seat) IsTurn (Answers size sends has_ended id) one old (lines_of body) h.replies h.code r new h.replied h.response.body
+    turns_of_route old Wait body r new h =
+        turns_of_one (λ c. c.seat) IsSettledTurn (Settled size sends has_ended id) one_settled old (lines_of body) h.replies h.code r new h.replied h.response.body
+    turns_of_route old Shows body r new h = ([], refl, ap seat_of h.1)
+    turns_of_route old Metrics body r new h = ([], refl, ap seat_of h.1)
+    turns_of_route old Health body r new h = ([], refl, ap seat_of h.1)
+    turns_of_route old Page body r new h = ([], refl, ap seat_of h.1)
+    turns_of_route old Foreign body r new h = ([], refl, ap seat_of h.1)
+    turns_of_route old (NotAllowed allowed) body r new h = ([], refl, ap seat_of h.1)
+    turns_of_route old NotFound body r new h = ([], refl, ap seat_of h.1)
+
+    turns_of_calls : (old : ClientValue P B) (calls : List Call) (new : ClientValue P B) → Chain (Responded size sends has_ended id) old calls new
+        → (turns : List Turn) × AreCallsTurns calls turns × HasTurns old.seat turns new.seat
+    turns_of_calls old [] new h = ([], refl, ap seat_of h)
+    turns_of_calls old (call ∷ calls) new h =
+        let next = h.0 in
+        let first = turns_of_route old h.1.0 (body_of call.0) call.1 next h.1.2 in
+        let rest = turns_of_calls next calls new h.2 in (
+          first.0 ++ rest.0,
+          (first.0, rest.0, (h.1.0, h.1.1, first.1), rest.1, refl),
+          both old.seat next.seat new.seat first.0 rest.0 first.2 rest.2,
+        )
+
+    pub counts_calls : (old : ClientValue P B) (calls : List Call) (new : ClientValue P B) → Chain (Responded size sends has_ended id) old calls new
+        → CountsCalls old.seat calls new.seat
+    counts_calls old calls new h =
+        let found = turns_of_calls old calls new h in
+        record { turns = found.0; are_turns = found.1; has_turns = found.2; counted = turns_count old.seat found.0 new.seat found.2 }
+
+-- a connection from its beginning on
+pub conversed : {S : Type 0} (answers : S → Request (List ℕ) → Response → S → Type 0) (config : Config) (given left held holds : Option (List ℕ)) (old new : S) (before after : History)
+    → before ≡ new_history → ∥ IsServed config after ∥₁
+    → (more : List ℕ) × Consumes given left more × (after.received ≡ before.received ++ more)
+    → (more : List ℕ) × Appends held holds more × (after.sent ≡ before.sent ++ more)
+    → Calls answers old new before.calls after.calls
+    → Conversed answers config given left held holds old new
+conversed answers config given left held holds old new before after fresh served read written calls =
+    record {
+      history = after;
+      served = served;
+      read = subst (λ (m : List ℕ). Consumes given left m) (sym (read.2 ∙ ap (λ (h : History). h.received ++ read.0) fresh)) read.1;
+      written = subst (λ (m : List ℕ). Appends held holds m) (sym (written.2 ∙ ap (λ (h : History). h.sent ++ written.0) fresh)) written.1;
+      calls = subst (λ (cs : List Call). Chain answers old cs new) (sym (calls.1 ∙ ap (λ (h : History). h.calls ++ calls.0) fresh)) calls.2;
+    }

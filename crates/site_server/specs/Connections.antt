@@ -1,0 +1,42 @@
+-- What the lines of a client get over a connection, and what that leaves of the client.
+use Rattle.std.specs.Prelude.{◌≡◌, ◌×◌, ℕ, List, Option, Some, None}
+use Rattle.http.specs.declared.request.Request.{Request}
+use Rattle.http_server.specs.declared.response.Response.{Response}
+use Rattle.apply_lanes.specs.Names.{DeskId}
+use Rattle.apply_lanes.specs.Kepts.{SeatValue}
+use Rattle.site_words.specs.declared.commands.SiteCommand.{SiteCommand}
+use Rattle.site_words.specs.declared.commands.SiteCommand.TheVariants.{AtDesk, Quit}
+use Rattle.site_http.specs.Replying.{Answering}
+use Rattle.site_http.specs.Responding.{Responds}
+use Rattle.site_server.specs.Measuring.{TellsMetrics, TellsClosed}
+use Rattle.site_server.specs.Replying.{asked, Says, TellsStatus}
+use Rattle.site_server.specs.Settling.{SettlesCommand}
+
+-- a client, as plain data: its seat, its peers, and what tells it of ticks
+pub record ClientValue (P B : Type 0) : Type 0 where
+  pub seat : SeatValue
+  pub peers : P
+  pub bell : B
+
+module _ {P : Type 0} (size : P → ℕ) (sends : P → ℕ → ℕ → P → Type 0) where
+  -- over a connection nothing ends the site: `quit` is no command
+  abbrev pub Tells : DeskId → Option SiteCommand → SeatValue → P → List ℕ → SeatValue → P → Type 0
+  Tells id (Some Quit) was before text told after = Says size sends id None was before text told after
+  Tells id command was before text told after = Says size sends id command was before text told after
+
+  -- .. to a client that waits for what becomes of its spend
+  abbrev pub TellsSettled : Type 0 → DeskId → Option SiteCommand → SeatValue → P → List ℕ → SeatValue → P → Type 0
+  TellsSettled HasEnded id (Some (AtDesk command)) was before text told after =
+      SettlesCommand HasEnded id was command text told × (after ≡ before)
+  TellsSettled HasEnded id command was before text told after = Tells id command was before text told after
+
+  -- what a request of a client gets over a connection
+  module _ {B : Type 0} (has_ended : B → Type 0) (id : DeskId) where
+    abbrev pub Answers : Answering (ClientValue P B)
+    Answers before line text after = Tells id (asked line) before.seat before.peers text after.seat after.peers
+
+    abbrev pub Settled : Answering (ClientValue P B)
+    Settled before line text after = TellsSettled (has_ended before.bell) id (asked line) before.seat before.peers text after.seat after.peers
+
+    abbrev pub Responded : ClientValue P B → Request (List ℕ) → Response → ClientValue P B → Type 0
+    Responded = Responds Answers Settled (λ client text. TellsStatus id text) (λ client text. TellsMetrics id text) (λ client is_closed. TellsClosed id is_closed)

@@ -1,0 +1,83 @@
+-- The requests of a connection and their responses, as the turns that the client's seat counts.
+use Rattle.std.specs.Prelude.{◌≡◌, ◌×◌, ◌⊎◌, ℕ, List, [], ◌∷◌, ◌++◌, Option, Some}
+use Rattle.http.specs.declared.request.Request.{Request}
+use Rattle.http.specs.Request.{body_of}
+use Rattle.std.specs.Io.KnownBytes.{Appends, Consumes}
+use Rattle.http_server.specs.Exchange.{Call, Chain}
+use Rattle.http_server.specs.History.{History, IsServed}
+use Rattle.http_server.specs.declared.state.Config.{Config}
+use Rattle.http_server.specs.declared.response.Response.{Response}
+use Rattle.line_streams.specs.Talk.{lines_of}
+use Rattle.site_core.specs.declared.desk.requests.Spending.TheVariants.{Queued}
+use Rattle.apply_lanes.specs.Kepts.{SeatValue}
+use Rattle.site_words.specs.declared.commands.SiteCommand.{SiteCommand}
+use Rattle.site_words.specs.declared.commands.SiteCommand.TheVariants.{AtDesk}
+use Rattle.site_node.specs.Texts.{reply_text}
+use Rattle.site_node.specs.Told.{Turn, ACommand, HasTurns, CountsTold}
+use Rattle.site_node.specs.declared.reply.Reply.{Reply}
+use Rattle.site_node.specs.declared.reply.Reply.TheVariants.{Spending}
+use Rattle.site_http.specs.Replying.{text_of, no_memory}
+use Rattle.site_http.specs.Routing.{Leads}
+use Rattle.site_http.specs.declared.route.Route.{Route}
+use Rattle.site_http.specs.declared.route.Route.TheVariants.{Commands, Wait}
+use Rattle.site_server.specs.Replying.{asked}
+use Rattle.site_server.specs.Conversations.{IsTurn}
+
+-- A connection from its beginning to its end: what was read of it and written to it is such a history, whose calls lead from
+-- one state of the service to the other.
+pub record Conversed {S : Type 0} (answers : S → Request (List ℕ) → Response → S → Type 0) (config : Config) (given left held holds : Option (List ℕ)) (old new : S) : Type 0 where
+  pub history : History
+  pub served : ∥ IsServed config history ∥₁
+  pub read : Consumes given left history.received
+  pub written : Appends held holds history.sent
+  pub calls : Chain answers old history.calls new
+
+-- the spend waits
+abbrev pub IsQueued : Reply → Type 0
+IsQueued reply = (ticket : ℕ) × (reply ≡ Spending (Queued ticket))
+
+-- the turn of a line whose client waits: it is told the reply, or, of a spend that was queued, what became of it
+abbrev pub IsSettledTurn : Option SiteCommand → List ℕ → List Turn → Type 0
+IsSettledTurn (Some (AtDesk command)) text turns =
+    (reply : Reply) × (turns ≡ ACommand command reply ∷ []) × ((text ≡ reply_text reply) ⊎ IsQueued reply)
+IsSettledTurn command text turns = IsTurn command text turns
+
+module _ (is_turn : Option SiteCommand → List ℕ → List Turn → Type 0) where
+  -- the turns of these lines with these replies
+  abbrev pub AreTurnsOf : List (List ℕ) → List (List ℕ) → List Turn → Type 0
+  AreTurnsOf [] [] turns = turns ≡ []
+  AreTurnsOf (line ∷ lines) (reply ∷ replies) turns =
+      (first : List Turn) × (rest : List Turn)
+      × is_turn (asked line) reply first × AreTurnsOf lines replies rest × (turns ≡ first ++ rest)
+  AreTurnsOf lines replies turns = ⊥
+
+  -- the first of these lines were carried out, and the response has their replies; behind them at most that there was no memory
+  pub record AreBodyTurns (lines : List (List ℕ)) (r : Response) (turns : List Turn) : Type 0 where
+    pub carried : List (List ℕ)
+    pub left : List (List ℕ)
+    pub parted : lines ≡ carried ++ left
+    pub replies : List (List ℕ)
+    pub are_turns : AreTurnsOf carried replies turns
+    pub told : (r.body.items ≡ text_of replies) ⊎ (r.body.items ≡ text_of (replies ++ no_memory ∷ []))
+
+-- the turns of a request and its response, by its route
+abbrev pub AreRouteTurns : Route → List ℕ → Response → List Turn → Type 0
+AreRouteTurns Commands body r turns = AreBodyTurns IsTurn (lines_of body) r turns
+AreRouteTurns Wait body r turns = AreBodyTurns IsSettledTurn (lines_of body) r turns ⊎ (turns ≡ [])
+AreRouteTurns route body r turns = turns ≡ []
+
+abbrev pub AreCallTurns : Request (List ℕ) → Response → List Turn → Type 0
+AreCallTurns request r turns = (route : Route) × Leads request route × AreRouteTurns route (body_of request) r turns
+
+-- the turns of all requests, one after another
+abbrev pub AreCallsTurns : List Call → List Turn → Type 0
+AreCallsTurns [] turns = turns ≡ []
+AreCallsTurns (call ∷ calls) turns =
+    (first : List Turn) × (rest : List Turn) × AreCallTurns call.0 call.1 first × AreCallsTurns calls rest × (turns ≡ first ++ rest)
+
+-- what the client was told as issued and as spent in the responses to these requests is what its seat counts more
+pub record CountsCalls (was : SeatValue) (calls : List Call) (told : SeatValue) : Type 0 where
+  pub turns : List Turn
+  pub are_turns : AreCallsTurns calls turns
+  pub has_turns : HasTurns was turns told
+  pub counted : CountsTold was turns told

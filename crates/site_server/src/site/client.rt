@@ -1,0 +1,312 @@
+//! What a client of a site is answered. The node decides what is done and replied; this decides under which hold of the
+//! desk's lock it is done.
+ghost use Rattle.std.specs.Prelude.{◌≡◌, ◌++◌, ◌+◌, ◌≤◌, ◌⊎◌, List, ℕ, [], length, IfOk, OnOk, OnErr, Result, Ok};
+ghost use Rattle.std.specs.List.{All};
+ghost use Rattle.std.specs.Io.KnownBytes.{IsAtEnd};
+ghost use Rattle.line_streams.specs.Handling.{IsGiven};
+ghost use Rattle.line_streams.specs.Talk.{Talk, EndsBy};
+ghost use Rattle.line_streams.specs.Waiting.{AddsReply};
+ghost use Rattle.reply_texts.specs.Texts.{bad_command};
+ghost use Rattle.site_words.specs.Status.{status_text};
+ghost use Rattle.site_server.specs.Replying.{asked, ActsAtDesk, CarriesOut, TicksAtDesk, AreViews, IsApplied, TellsStatus, TicksAndSends, DoesDue, Gets, GetsBy};
+ghost use Rattle.site_server.specs.Conversations.{CountsReplies};
+
+use crate::site::bell::{Bell, SiteBell};
+use crate::site::outboxes::Outboxes;
+use crate::site::shared::Shared;
+use apply_lanes::{DeskNames, DeskView, Seat};
+use line_streams::{EndedBy, Goes, LineFault, LineHandler, Replies, answer_lines};
+use reply_texts::{REPLY_ROOM, put_bad_command};
+use rights_types::OutOfMemory;
+use site_core::{Desk, DeskError};
+use site_node::{
+    Peers, Reply, TICK_ROOM, Ticked, act, answer_reply, answer_tick, send_to_all, serve_due,
+};
+use site_sockets::Site;
+use site_words::{DeskCommand, PeerView, SiteCommand, read_command, status_text};
+use std::alloc::{Allocator, Global};
+use std::io::{Read, Write};
+use std::marker::Model;
+use std::sync::{Arc, Wait};
+
+/// A client of a site: a seat at its desk, its peers, and what tells of its ticks.
+#[derive(Drop)]
+pub(crate) struct SiteClient<'a, D: DeskNames, R: Wait, P: Peers + Drop, B: Bell + Drop> {
+    pub(crate) rt: &'a R,
+    pub(crate) alloc: Global,
+    pub(crate) site: &'a Site,
+    pub(crate) shared: Arc<Shared<D>>,
+    pub(crate) seat: Seat<D>,
+    pub(crate) peers: P,
+    pub(crate) bell: B,
+}
+
+impl<'a, D: DeskNames, R: Wait, P: Peers + Drop, B: Bell + Drop> Model
+    for SiteClient<'a, D, R, P, B> {
+    ghost use Rattle.site_server.specs.Connections.{ClientValue};
+
+    ghost Value = { ClientValue P B };
+
+    ghost view = { λ c. record { seat = c.seat; peers = c.peers; bell = c.bell } };
+}
+
+/// A client of a site that runs.
+pub(crate) type ClientOf<'a, D, R> = SiteClient<'a, D, R, Outboxes<'a, D, R>, SiteBell<'a, R>>;
+
+/// A client with the seat of this place. None where that seat is taken, or there is no memory; then no seat is taken.
+pub(crate) fn client_at<'a, D: DeskNames, R: Wait + AllocGlobal>(
+    rt: &'a R,
+    site: &'a Site,
+    shared: &Arc<Shared<D>>,
+    place: usize,
+) -> Option<ClientOf<'a, D, R>> {
+    let peers = Outboxes::new(rt, shared.clone().ok()?, site.peers())?;
+    let bell = SiteBell::new(rt, &site.moments);
+    let desk = shared.clone().ok()?;
+    let seat = shared.seats.take(rt, place)?;
+    Some(SiteClient::new(rt, rt.alloc(), site, desk, seat, peers, bell))
+}
+
+/// The command that a line spells, given without its line feed; `None` stands for a line that is too long.
+pub(crate) fn command_in(text: Option<&[u8]>) -> Option<SiteCommand>
+    ensures { (line : List ℕ) → IsGiven line text.entry → result ≡ asked line }
+{
+    read_command(text?)
+}
+
+/// Adds that a line is no command.
+pub(crate) fn refuse<A: Allocator>(replies: &mut Replies<A>) -> Result<(), OutOfMemory>
+    requires { replies.old.part ≡ [] }
+    ensures ok { OnOk result (AddsReply replies.old replies.new bad_command) }
+    ensures err { OnErr result (replies.new.whole ≡ replies.old.whole) }
+{
+    put_bad_command(replies)?;
+    replies.finish()
+}
+
+/// Adds the status object of these views.
+pub(crate) fn add_status<A: Allocator>(
+    alloc: Global,
+    desk: &DeskView,
+    peers: &[PeerView],
+    replies: &mut Replies<A>,
+) -> Result<(), OutOfMemory>
+    requires { replies.old.part ≡ [] }
+    ensures ok { OnOk result (AddsReply replies.old replies.new (status_text desk.now peers.now)) }
+    ensures err { OnErr result (replies.new.whole ≡ replies.old.whole) }
+{
+    let text = status_text(alloc, desk, peers)?;
+    replies.put(text.as_bytes())?;
+    replies.finish()
+}
+
+impl<'a, D: DeskNames, R: Wait, P: Peers + Drop, B: Bell + Drop> SiteClient<'a, D, R, P, B> {
+    /// A client with this seat.
+    pub(crate) fn new(
+        rt: &'a R,
+        alloc: Global,
+        site: &'a Site,
+        shared: Arc<Shared<D>>,
+        seat: Seat<D>,
+        peers: P,
+        bell: B,
+    ) -> SiteClient<'a, D, R, P, B>
+        ensures { result ≡ record { seat = seat; peers = peers; bell = bell } }
+    {
+        SiteClient {
+            rt,
+            alloc,
+            site,
+            shared,
+            seat,
+            peers,
+            bell,
+        }
+    }
+
+    /// The seat, of which the client is taken apart.
+    pub(crate) fn into_seat(self) -> Seat<D>
+        ensures { result ≡ self.seat }
+    {
+        let SiteClient { seat, .. } = self;
+        seat
+    }
+
+    /// Answers each line of the input till `quit` or its end. Whatever ends it, what the client was told as issued and as
+    /// spent is what the seat counts.
+    pub(crate) fn answer_all<I: Read, W: Write>(
+        &mut self,
+        reader: &mut I,
+        writer: &mut W,
+    ) -> Result<EndedBy, LineFault>
+        ensures ends { (talk : Talk (λ before line text after. Gets P.size P.sends D.id (asked line) before.seat before.peers text after.seat after.peers)
+            self.old (I.remaining reader.old) (I.remaining reader.new) (W.contents writer.old) (W.contents writer.new))
+            × EndsBy result talk × CountsReplies self.old.seat talk.lines talk.replies self.new.seat }
+        ensures all { result ≡ Ok EndedBy.Input → IsAtEnd (I.remaining reader.new) }
+    {
+        answer_lines(self.alloc, self, reader, writer)
+    }
+
+    /// Carries out a command, and adds its reply.
+    fn carry_out<A: Allocator>(
+        &mut self,
+        command: DeskCommand,
+        replies: &mut Replies<A>,
+    ) -> Result<(), OutOfMemory>
+        requires { replies.old.part ≡ [] }
+        ensures ok { OnOk result ((text : List ℕ) × CarriesOut D.id self.old.seat command text self.new.seat × AddsReply replies.old replies.new text) }
+        ensures short { OnOk result (length replies.new.whole ≤ length replies.old.whole + REPLY_ROOM) }
+        ensures err { OnErr result ((self.new ≡ self.old) × (replies.new.whole ≡ replies.old.whole)) }
+        ensures rest { self.new ≡ record self.old { seat = self.new.seat } }
+    {
+        // First, so that no command is carried out whose reply finds no room.
+        replies.reserve(REPLY_ROOM)?;
+        let reply = self.act(command);
+        answer_reply(replies, reply);
+        Ok(())
+    }
+
+    /// Carries out a command at the desk, under its lock.
+    pub(crate) fn act(&mut self, command: DeskCommand) -> Reply
+        ensures acts { ActsAtDesk D.id self.old.seat command result self.new.seat }
+        ensures rest { self.new ≡ record self.old { seat = self.new.seat } }
+    {
+        let mut kept = self.shared.lock(self.rt);
+        let kept = &mut *kept;
+        // For the proof: what holds whenever the lock is free.
+        let _ = kept.desk();
+        act(kept, &mut self.seat, command)
+    }
+
+    /// Does all that is due at this time, and adds the reply.
+    fn tick<A: Allocator>(&mut self, time: u64, replies: &mut Replies<A>) -> Result<(), OutOfMemory>
+        requires { replies.old.part ≡ [] }
+        ensures ok { OnOk result ((text : List ℕ) × DoesDue P.size P.sends D.id self.old.seat self.old.peers time text self.new.seat self.new.peers × AddsReply replies.old replies.new text) }
+        ensures short { OnOk result (length replies.new.whole ≤ length replies.old.whole + TICK_ROOM) }
+        ensures err { OnErr result ((self.new ≡ self.old) × (replies.new.whole ≡ replies.old.whole)) }
+    {
+        // First, so that no tick is done whose reply finds no room.
+        replies.reserve(TICK_ROOM)?;
+        let told = self.tick_and_send(time);
+        answer_tick(replies, told);
+        Ok(())
+    }
+
+    /// Does what is due at this time, which is the wall clock's, and tells nobody.
+    pub(crate) fn tick_alone(&mut self, time: u64)
+        ensures { (told : Result (Ticked × ℕ) DeskError) × TicksAndSends P.size P.sends D.id self.old.seat self.old.peers time told self.new.seat self.new.peers }
+    {
+        let _ = self.tick_and_send(time);
+    }
+
+    /// Does what is due at the desk under its lock, and then sends to each peer what is due to it. In between, entries of
+    /// peers may be applied.
+    fn tick_and_send(&mut self, time: u64) -> Result<(Ticked, u64), DeskError>
+        ensures { TicksAndSends P.size P.sends D.id self.old.seat self.old.peers time result self.new.seat self.new.peers }
+    {
+        let ticked = self.tick_at_desk(time);
+        self.bell.ring();
+        let ticked = ticked?;
+        let sent = send_to_all(&mut self.peers)?;
+        Ok((ticked, sent))
+    }
+
+    fn tick_at_desk(&mut self, time: u64) -> Result<Ticked, DeskError>
+        ensures ticks { TicksAtDesk D.id self.old.seat time result self.new.seat }
+        ensures rest { self.new ≡ record self.old { seat = self.new.seat } }
+    {
+        let mut kept = self.shared.lock(self.rt);
+        let kept = &mut *kept;
+        // For the proof: what holds whenever the lock is free.
+        let _ = kept.desk();
+        serve_due(kept, &mut self.seat, time)
+    }
+
+    /// Adds the status object.
+    pub(crate) fn tell_status<A: Allocator>(
+        &self,
+        replies: &mut Replies<A>,
+    ) -> Result<(), OutOfMemory>
+        requires { replies.old.part ≡ [] }
+        ensures ok { OnOk result ((text : List ℕ) × TellsStatus D.id text × AddsReply replies.old replies.new text) }
+        ensures err { OnErr result (replies.new.whole ≡ replies.old.whole) }
+    {
+        let (desk, peers) = self.views()?;
+        add_status(self.alloc, &desk, peers.as_slice(), replies)
+    }
+
+    /// The views of the desk and of its peers.
+    pub(crate) fn views(&self) -> Result<(DeskView, Vec<PeerView>), OutOfMemory>
+        ensures { IfOk result (λ views. AreViews D.id views.0 views.1.items) }
+    {
+        let kept = self.shared.lock(self.rt);
+        let kept = &*kept;
+        let peers = self.peer_views(kept.desk())?;
+        Ok((kept.view(), peers))
+    }
+
+    /// Of each peer, how far the desk has applied its log, and what its reading thread noted last.
+    fn peer_views(&self, desk: &Desk) -> Result<Vec<PeerView>, OutOfMemory>
+        ensures { IfOk result (λ peers. All (IsApplied desk.now) peers.items) }
+    {
+        let mut peers = Vec::with_capacity(self.alloc, self.site.peers().len())?;
+        for peer in self.site.peers() {
+            peers.push(peer.view(self.rt, desk.applied(peer.site)))?;
+        }
+        Ok(peers)
+    }
+
+    /// Counts a reply.
+    pub(crate) fn count_reply(&self, reply: &[u8]) {
+        self.site.commands.note_replies(reply);
+    }
+
+    /// Answers what a line asks for; `None` is no command.
+    pub(crate) fn answer_command<A: Allocator>(
+        &mut self,
+        command: Option<SiteCommand>,
+        replies: &mut Replies<A>,
+    ) -> Result<Goes, OutOfMemory>
+        requires { replies.old.part ≡ [] }
+        ensures ok { IfOk result (λ goes. GetsBy P.size P.sends goes D.id command self.old.seat self.old.peers replies.old self.new.seat self.new.peers replies.new) }
+        ensures short { OnOk result ((length replies.new.whole ≤ length replies.old.whole + TICK_ROOM) ⊎ (self.new ≡ self.old)) }
+        ensures err { OnErr result ((self.new ≡ self.old) × (replies.new.whole ≡ replies.old.whole)) }
+    {
+        match command {
+            None => refuse(replies)?,
+            Some(SiteCommand::AtDesk(command)) => self.carry_out(command, replies)?,
+            Some(SiteCommand::Tick(time)) => self.tick(time, replies)?,
+            Some(SiteCommand::Status) => self.tell_status(replies)?,
+            Some(SiteCommand::Quit) => return Ok(Goes::Ends),
+        }
+        Ok(Goes::On)
+    }
+}
+
+impl<D: DeskNames, R: Wait, P: Peers + Drop, B: Bell + Drop> LineHandler
+    for SiteClient<'_, D, R, P, B> {
+    ghost use Rattle.site_server.specs.Replying.{asked, Gets};
+
+    ghost answers = { λ before line text after. Gets P.size P.sends D.id (asked line) before.seat before.peers text after.seat after.peers };
+
+    // No command was carried out whose reply found no room.
+    ghost fails = { λ before after. (after.seat ≡ before.seat) × (after.peers ≡ before.peers) };
+
+    /// False once an applier found no memory for an entry.
+    fn can_go_on(&self) -> bool {
+        !self.site.has_failed()
+    }
+
+    fn answer<A: Allocator>(
+        &mut self,
+        text: Option<&[u8]>,
+        replies: &mut Replies<A>,
+    ) -> Result<Goes, OutOfMemory> {
+        let before = replies.whole().len();
+        let goes = self.answer_command(command_in(text), replies)?;
+        if let Some(reply) = replies.whole().get(before..) {
+            self.count_reply(reply);
+        }
+        Ok(goes)
+    }
+}

@@ -1,0 +1,106 @@
+//! A client of a site over a connection.
+ghost use Rattle.std.specs.Prelude.{◌≡◌, ◌+◌, ◌≤◌, ◌⊎◌, [], List, ℕ, length, OnOk, OnErr};
+ghost use Rattle.line_streams.specs.Waiting.{AddsReply};
+ghost use Rattle.site_server.specs.Connections.{Tells, TellsSettled};
+
+use crate::site::bell::Bell;
+use crate::site::client::{SiteClient, command_in, refuse};
+use apply_lanes::DeskNames;
+use line_streams::Replies;
+use rights_types::OutOfMemory;
+use site_http::Client;
+use site_node::{Peers, TICK_ROOM};
+use site_words::SiteCommand;
+use std::alloc::Global;
+use std::sync::Wait;
+
+impl<D: DeskNames, R: Wait, P: Peers + Drop, B: Bell + Drop> SiteClient<'_, D, R, P, B> {
+    /// Answers what a line asks for. Nothing ends the site: `quit` is no command here. Once nobody gets a reply any more,
+    /// the rest of a request is not carried out, as for want of memory.
+    fn tell(
+        &mut self,
+        command: Option<SiteCommand>,
+        replies: &mut Replies<Global>,
+    ) -> Result<(), OutOfMemory>
+        requires { replies.old.part ≡ [] }
+        ensures ok { OnOk result ((text : List ℕ) × Tells P.size P.sends D.id command self.old.seat self.old.peers text self.new.seat self.new.peers × AddsReply replies.old replies.new text) }
+        ensures short { OnOk result ((length replies.new.whole ≤ length replies.old.whole + TICK_ROOM) ⊎ (self.new ≡ self.old)) }
+        ensures err { OnErr result (self.new ≡ self.old) }
+    {
+        if self.site.is_over() {
+            return Err(OutOfMemory);
+        }
+        match command {
+            Some(SiteCommand::Quit) => refuse(replies),
+            _ => {
+                self.answer_command(command, replies)?;
+                Ok(())
+            }
+        }
+    }
+
+    /// The same where the client waits for what becomes of a spend.
+    fn tell_settled(
+        &mut self,
+        command: Option<SiteCommand>,
+        replies: &mut Replies<Global>,
+    ) -> Result<(), OutOfMemory>
+        requires { replies.old.part ≡ [] }
+        ensures ok { OnOk result ((text : List ℕ) × TellsSettled P.size P.sends (B.has_ended self.old.bell) D.id command self.old.seat self.old.peers text self.new.seat self.new.peers × AddsReply replies.old replies.new text) }
+        ensures short { OnOk result ((length replies.new.whole ≤ length replies.old.whole + TICK_ROOM) ⊎ (self.new ≡ self.old)) }
+        ensures err { OnErr result (self.new ≡ self.old) }
+    {
+        match command {
+            Some(SiteCommand::AtDesk(command)) => self.settle_command(command, replies),
+            _ => self.tell(command, replies),
+        }
+    }
+}
+
+impl<D: DeskNames, R: Wait, P: Peers + Drop, B: Bell + Drop> Client for SiteClient<'_, D, R, P, B> {
+    ghost use Rattle.site_server.specs.Replying.{TellsStatus};
+    ghost use Rattle.site_server.specs.Connections.{Answers, Settled};
+    ghost use Rattle.site_server.specs.Measuring.{TellsMetrics, TellsClosed};
+
+    ghost answers = { Answers P.size P.sends B.has_ended D.id };
+
+    ghost settles = { Settled P.size P.sends B.has_ended D.id };
+
+    ghost status = { λ _ text. TellsStatus D.id text };
+
+    ghost metrics = { λ _ text. TellsMetrics D.id text };
+
+    ghost closed = { λ _ is_closed. TellsClosed D.id is_closed };
+
+    fn reply(
+        &mut self,
+        text: Option<&[u8]>,
+        replies: &mut Replies<Global>,
+    ) -> Result<(), OutOfMemory> {
+        self.tell(command_in(text), replies)?;
+        self.count_reply(replies.whole());
+        Ok(())
+    }
+
+    fn settle(
+        &mut self,
+        text: Option<&[u8]>,
+        replies: &mut Replies<Global>,
+    ) -> Result<(), OutOfMemory> {
+        self.tell_settled(command_in(text), replies)?;
+        self.count_reply(replies.whole());
+        Ok(())
+    }
+
+    fn put_status(&self, replies: &mut Replies<Global>) -> Result<(), OutOfMemory> {
+        self.tell_status(replies)
+    }
+
+    fn put_metrics(&self, replies: &mut Replies<Global>) -> Result<(), OutOfMemory> {
+        self.tell_metrics(replies)
+    }
+
+    fn is_closed(&self) -> bool {
+        self.closed()
+    }
+}

@@ -1,0 +1,127 @@
+//! The metrics of a site, and its health.
+ghost use Rattle.std.specs.Prelude.{◌≡◌, ◌×◌, ◌++◌, [], List, ℕ, IfOk, OnOk};
+ghost use Rattle.std.specs.List.{All};
+ghost use Rattle.rights_book.specs.Books.{peer as peer_in};
+ghost use Rattle.site_server.specs.Measuring.{AreMetrics, AreValues, HasApplied, HasValues, TellsClosed, TellsMetrics};
+
+use crate::site::bell::Bell;
+use crate::site::client::SiteClient;
+use apply_lanes::{DeskNames, DeskView};
+use line_streams::Replies;
+use rights_types::OutOfMemory;
+use site_core::Desk;
+use site_metrics::{Metrics, PeerMetrics, put_metrics};
+use site_node::Peers;
+use site_sockets::{Peer, Site};
+use std::alloc::Allocator;
+use std::sync::Wait;
+
+/// What is read of a desk at one moment.
+struct DeskValues {
+    view: DeskView,
+    /// The slots of its queue that spends take which wait, and those of outcomes that nobody has read.
+    waiting: usize,
+    unread: usize,
+}
+
+/// The values of a site whose desk looks so.
+fn metrics_of<R: Wait>(rt: &R, site: &Site, values: DeskValues) -> Metrics
+    ensures { HasValues values result }
+{
+    let desk = values.view;
+    Metrics {
+        held: desk.held,
+        queued: desk.queued,
+        issued: desk.issued,
+        spent: desk.spent,
+        received: desk.received,
+        given: desk.given,
+        taken_back: desk.back,
+        log_number: desk.number,
+        closed: desk.closed,
+        requests_waiting: values.waiting as u64,
+        outcomes_unread: values.unread as u64,
+        clients: site.client_count(rt) as u64,
+        commands: site.commands.commands(),
+        refused: site.commands.refused(),
+    }
+}
+
+/// The values of a peer of whose log so much was applied.
+fn peer_metrics_of<R: Wait>(rt: &R, peer: &Peer, applied: u64) -> PeerMetrics
+    ensures site { result.site ≡ peer.now.site }
+    ensures applied { result.applied ≡ applied }
+{
+    let view = peer.view(rt, applied);
+    let counters = peer.events.counters();
+    PeerMetrics {
+        site: peer.site,
+        applied,
+        buffering: view.buffering,
+        held: view.held as u64,
+        receiving: counters.is_receiving(),
+        sending: counters.is_sending(),
+        lines: counters.lines(),
+        refused: counters.refused(),
+        dropped: counters.dropped(),
+        waiting: peer.waiting(rt) as u64,
+        went_back: counters.went_back(),
+    }
+}
+
+impl<D: DeskNames, R: Wait, P: Peers + Drop, B: Bell + Drop> SiteClient<'_, D, R, P, B> {
+    /// Adds the metrics.
+    pub(crate) fn tell_metrics<A: Allocator>(
+        &self,
+        replies: &mut Replies<A>,
+    ) -> Result<(), OutOfMemory>
+        requires { replies.old.part ≡ [] }
+        ensures { OnOk result ((text : List ℕ) × TellsMetrics D.id text × (replies.new.whole ≡ replies.old.whole ++ text)) }
+    {
+        let (metrics, peers) = self.metrics()?;
+        put_metrics(&metrics, peers.as_slice(), replies)
+    }
+
+    /// The values of the site and of its peers. Those of its desk are of one moment.
+    fn metrics(&self) -> Result<(Metrics, Vec<PeerMetrics>), OutOfMemory>
+        ensures { IfOk result (λ values. AreMetrics D.id values.0 values.1.items) }
+    {
+        let (desk, peers) = self.desk_values()?;
+        Ok((metrics_of(self.rt, self.site, desk), peers))
+    }
+
+    /// The values of the desk and of its peers.
+    fn desk_values(&self) -> Result<(DeskValues, Vec<PeerMetrics>), OutOfMemory>
+        ensures { IfOk result (λ values. AreValues D.id values.0 values.1.items) }
+    {
+        let kept = self.shared.lock(self.rt);
+        let kept = &*kept;
+        let peers = self.peer_metrics(kept.desk())?;
+        let values = DeskValues {
+            view: kept.view(),
+            waiting: kept.desk().requests_waiting(),
+            unread: kept.desk().outcomes_unread(),
+        };
+        Ok((values, peers))
+    }
+
+    /// Of each peer, how far the desk has applied its log, and what was counted of it.
+    fn peer_metrics(&self, desk: &Desk) -> Result<Vec<PeerMetrics>, OutOfMemory>
+        ensures { IfOk result (λ peers. All (HasApplied desk.now) peers.items) }
+    {
+        let mut peers = Vec::with_capacity(self.alloc, self.site.peers().len())?;
+        for peer in self.site.peers() {
+            peers.push(peer_metrics_of(self.rt, peer, desk.applied(peer.site)))?;
+        }
+        Ok(peers)
+    }
+
+    /// Whether the desk has closed.
+    pub(crate) fn closed(&self) -> bool
+        ensures { TellsClosed D.id result }
+    {
+        let kept = self.shared.lock(self.rt);
+        let kept = &*kept;
+        kept.desk().log().closed()
+    }
+}

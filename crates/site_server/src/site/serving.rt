@@ -1,0 +1,173 @@
+//! Clients over HTTP: a thread and a seat for each connection.
+ghost use Rattle.std.specs.Prelude.{◌≡◌, ◌×◌};
+ghost use Rattle.site_http.specs.Responding.{Responds};
+ghost use Rattle.site_http.specs.declared.config.TheConstants.{SERVICE};
+ghost use Rattle.site_server.specs.Requests.{Conversed, CountsCalls};
+ghost use Rattle.site_server.specs.Connections.{Responded};
+
+use crate::site::bell::Bell;
+use crate::site::client::{SiteClient, client_at};
+use crate::site::host::Host;
+use crate::site::shared::Shared;
+use apply_lanes::DeskNames;
+use http_server::{Connection, serve};
+use site_http::{Busy, Client, ClientService, service_config};
+use site_node::Peers;
+use site_sockets::{Caller, Clients, Site, hurried, part};
+use std::alloc::Global;
+use std::hash::RandomState;
+use std::io::{Read, Write};
+use std::net::TcpStream;
+use std::sync::{Arc, Wait};
+use std::thread;
+use std::thread::Scope;
+
+/// Answers the requests of a connection, to its end.
+fn converse<C: Client + Drop, I: Read, W: Write>(
+    alloc: Global,
+    keys: RandomState,
+    client: C,
+    reader: &mut I,
+    writer: &mut W,
+) -> C
+    ensures { Conversed (Responds C.answers C.settles C.status C.metrics C.closed) SERVICE
+        (I.remaining reader.old) (I.remaining reader.new) (W.contents writer.old) (W.contents writer.new) client result }
+{
+    let mut connection = Connection::new(alloc, keys, service_config());
+    let mut service = ClientService::new(alloc, client);
+    let _ = serve(&mut connection, &mut service, reader, writer);
+    service.into_client()
+}
+
+/// The same for a client with a seat. Whatever ends the connection, what the client was told as issued and as spent is what
+/// the seat counts more.
+fn answer_requests<'a, D: DeskNames, R: Wait, P: Peers + Drop, B: Bell + Drop, I: Read, W: Write>(
+    alloc: Global,
+    keys: RandomState,
+    client: SiteClient<'a, D, R, P, B>,
+    reader: &mut I,
+    writer: &mut W,
+) -> SiteClient<'a, D, R, P, B>
+    ensures { (talk : Conversed (Responded P.size P.sends B.has_ended D.id) SERVICE
+        (I.remaining reader.old) (I.remaining reader.new) (W.contents writer.old) (W.contents writer.new) client result)
+        × CountsCalls client.seat talk.history.calls result.seat }
+{
+    converse(alloc, keys, client, reader, writer)
+}
+
+/// Answers the requests of a connection with the seat of its place, which is put back. Where there is no memory to begin
+/// with, no seat is taken.
+fn seat_client<D: DeskNames, R: Host>(
+    rt: &R,
+    site: &Site,
+    clients: &Clients,
+    shared: &Arc<Shared<D>>,
+    stream: &TcpStream,
+    place: usize,
+) {
+    let Ok(keys) = RandomState::new(rt) else {
+        return;
+    };
+    let Some(client) = client_at(rt, site, shared, place) else {
+        return;
+    };
+    let mut reader = clients.stream(stream, place);
+    let mut writer = clients.stream(stream, place);
+    let client = answer_requests(rt.alloc(), keys, client, &mut reader, &mut writer);
+    shared.seats.put(rt, place, client.into_seat());
+}
+
+/// Deals with the client that has this place, till it goes.
+fn attend<D: DeskNames, R: Host>(
+    rt: &R,
+    site: &Site,
+    clients: &Clients,
+    shared: Arc<Shared<D>>,
+    stream: TcpStream,
+    place: usize,
+) {
+    seat_client(rt, site, clients, &shared, &stream, place);
+    part(rt, &stream);
+    clients.leave(rt, place);
+}
+
+/// Tells a client that all places are taken. It has a second to ask.
+fn turn_away<R: Host>(rt: &R, clients: &Clients, stream: TcpStream, place: usize) {
+    let _ = answer_busy(rt, &stream);
+    part(rt, &stream);
+    clients.leave_porch(rt, place);
+}
+
+fn answer_busy<R: Host>(rt: &R, stream: &TcpStream) -> Option<()> {
+    let keys = RandomState::new(rt).ok()?;
+    let mut connection = Connection::new(rt.alloc(), keys, service_config());
+    let mut reader = hurried(rt, stream).ok()?;
+    let mut writer = stream;
+    serve(&mut connection, &mut Busy, &mut reader, &mut writer).ok()
+}
+
+/// Starts the thread that deals with a client. Where it could not be started the connection is closed.
+fn begin_client<'s, E, D: DeskNames + Send + Sync + 's, R: Host>(
+    scope: &Scope<'s, E>,
+    rt: &'s R,
+    site: &'s Site,
+    clients: &'s Clients,
+    shared: Arc<Shared<D>>,
+    caller: Caller,
+) {
+    match caller {
+        Caller::Client(stream, place) => {
+            if scope
+                .spawn(move || attend(rt, site, clients, shared, stream, place))
+                .is_err()
+            {
+                clients.leave(rt, place);
+            }
+        }
+        Caller::TurnedAway(stream, place) => {
+            if scope
+                .spawn(move || turn_away(rt, clients, stream, place))
+                .is_err()
+            {
+                clients.leave_porch(rt, place);
+            }
+        }
+    }
+}
+
+/// Lets in who connects, each with a thread of its own, till the site ends.
+fn keep_clients<D: DeskNames + Send + Sync, R: Host>(
+    rt: &R,
+    site: &Site,
+    clients: &Clients,
+    shared: Arc<Shared<D>>,
+) {
+    thread::scope(thread::scope_env(), rt, |scope| {
+        for _ in rt.forever() {
+            let Some(caller) = clients.next(rt) else {
+                return;
+            };
+            if let Ok(shared) = shared.clone() {
+                begin_client(scope, rt, site, clients, shared, caller);
+            }
+        }
+    })
+}
+
+/// Starts the thread that lets clients in, where any may connect. False where it could not be started.
+pub(crate) fn begin_clients<'s, E, D: DeskNames + Send + Sync + 's, R: Host>(
+    scope: &Scope<'s, E>,
+    rt: &'s R,
+    site: &'s Site,
+    shared: &Arc<Shared<D>>,
+) -> bool {
+    let Some(clients) = &site.clients else {
+        return true;
+    };
+    match shared.clone() {
+        Ok(shared) => scope
+            .spawn(move || keep_clients(rt, site, clients, shared))
+            .is_ok(),
+        Err(_) => false,
+    }
+}

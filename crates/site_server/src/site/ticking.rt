@@ -1,0 +1,62 @@
+//! The ticks that a site does by itself.
+
+use crate::site::bell::Bell;
+use crate::site::client::{SiteClient, client_at};
+use crate::site::host::Host;
+use crate::site::shared::{Shared, TICKS};
+use apply_lanes::DeskNames;
+use site_node::Peers;
+use site_sockets::Site;
+use std::sync::{Arc, Wait};
+use std::thread::Scope;
+use std::time::{Clock, Duration, SystemTime, UNIX_EPOCH};
+
+/// The milliseconds since 1970, where the clock can be read.
+fn milliseconds<R: Clock>(rt: &R) -> Option<u64> {
+    let now = SystemTime::now(rt).ok()?;
+    let since = now.duration_since(UNIX_EPOCH).ok()?;
+    u64::try_from(since.as_millis()).ok()
+}
+
+impl<D: DeskNames, R: Wait + Clock, P: Peers + Drop, B: Bell + Drop> SiteClient<'_, D, R, P, B> {
+    /// Does every so many milliseconds what a `tick` with the time since 1970 does, till the site ends. A time that the
+    /// desk refuses, as one that went back, does nothing.
+    pub(crate) fn tick_all(&mut self, rt: &R, site: &Site, every: u64) {
+        let time = Duration::from_millis(every);
+        for _ in rt.forever() {
+            if !site.moments.rest(rt, time) {
+                return;
+            }
+            if let Some(now) = milliseconds(rt) {
+                self.tick_alone(now);
+            }
+        }
+    }
+}
+
+/// Does what is due every so many milliseconds, with a seat that is put back.
+fn keep_time<D: DeskNames, R: Host>(rt: &R, site: &Site, every: u64, shared: Arc<Shared<D>>) {
+    if let Some(mut client) = client_at(rt, site, &shared, TICKS) {
+        client.tick_all(rt, site, every);
+        shared.seats.put(rt, TICKS, client.into_seat());
+    }
+}
+
+/// Starts the thread that ticks, where the site ticks itself. False where it could not be started.
+pub(crate) fn begin_ticks<'s, E, D: DeskNames + Send + Sync + 's, R: Host>(
+    scope: &Scope<'s, E>,
+    rt: &'s R,
+    site: &'s Site,
+    every: Option<u64>,
+    shared: &Arc<Shared<D>>,
+) -> bool {
+    let Some(every) = every else {
+        return true;
+    };
+    match shared.clone() {
+        Ok(shared) => scope
+            .spawn(move || keep_time(rt, site, every, shared))
+            .is_ok(),
+        Err(_) => false,
+    }
+}

@@ -1,0 +1,179 @@
+//! What happens on the links with one peer: counted, and told to who reads the log. No lock is taken for it, since each
+//! thread notes its own.
+
+use rights_types::SiteId;
+use site_metrics::PeerCounters;
+use std::io::Eprint;
+use std::sync::atomic::{AtomicBool, AtomicU64, Ordering};
+
+/// Why lines of a peer are skipped.
+#[derive(Clone, Copy, Debug, PartialEq, Eq)]
+pub enum SkipCause {
+    /// The line has more bytes than a line may have.
+    TooLong,
+    /// It is no line of a message.
+    NoMessage,
+    /// Another site than the peer sent it.
+    WrongOrigin,
+    /// It names a site that the system does not have, or is for another one.
+    BadSite,
+}
+
+impl SkipCause {
+    fn text(self) -> &'static str {
+        match self {
+            SkipCause::TooLong => "they are too long",
+            SkipCause::NoMessage => "they are no messages",
+            SkipCause::WrongOrigin => "another site sent them",
+            SkipCause::BadSite =>
+                "they are for another site, or name one that the system does not have",
+        }
+    }
+
+    /// A number with one bit, another one for each cause.
+    fn bit(self) -> u64 {
+        match self {
+            SkipCause::TooLong => 1,
+            SkipCause::NoMessage => 2,
+            SkipCause::WrongOrigin => 4,
+            SkipCause::BadSite => 8,
+        }
+    }
+}
+
+/// What happened on the links with one peer since the site began.
+#[derive(Drop)]
+pub struct LinkEvents {
+    site: SiteId,
+    /// Whether events are written to standard error.
+    log: bool,
+    counters: PeerCounters,
+    /// Whether sending failed, and was not taken up again.
+    failed: AtomicBool,
+    /// Whether entries are missing.
+    lacking: AtomicBool,
+    /// The causes for which lines were skipped since one was taken.
+    skipping: AtomicU64,
+}
+
+impl LinkEvents {
+    pub(crate) fn new(site: SiteId, log: bool) -> LinkEvents {
+        LinkEvents {
+            site,
+            log,
+            counters: PeerCounters::new(),
+            failed: AtomicBool::new(false),
+            lacking: AtomicBool::new(false),
+            skipping: AtomicU64::new(0),
+        }
+    }
+
+    /// What was counted.
+    pub fn counters(&self) -> &PeerCounters {
+        &self.counters
+    }
+
+    /// A connection is read by which lines of the peer come.
+    pub fn receives<R: Eprint>(&self, rt: &R) {
+        let is_new = !self.counters.is_receiving();
+        self.counters.set_receiving(true);
+        if is_new && self.log {
+            let _ = eprintln!(rt;
+                "rights-site: peer {}: receives from it",
+                self.site.number()
+            );
+        }
+    }
+
+    /// That connection ended.
+    pub fn receives_no_more<R: Eprint>(&self, rt: &R) {
+        self.counters.set_receiving(false);
+        if self.log {
+            let _ = eprintln!(rt;
+                "rights-site: peer {}: receives from it no more",
+                self.site.number()
+            );
+        }
+    }
+
+    /// A connection stands by which lines go to the peer.
+    pub(crate) fn sends<R: Eprint>(&self, rt: &R) {
+        self.failed.store(false, Ordering::Relaxed);
+        let is_new = !self.counters.is_sending();
+        self.counters.set_sending(true);
+        if is_new && self.log {
+            let _ = eprintln!(rt; "rights-site: peer {}: sends to it", self.site.number());
+        }
+    }
+
+    /// No such connection stands any more, or none could be made. A line was lost by it.
+    pub(crate) fn sends_no_more<R: Eprint>(&self, rt: &R, cause: &str) {
+        self.drops_line();
+        self.counters.set_sending(false);
+        if !self.failed.swap(true, Ordering::Relaxed) && self.log {
+            let site = self.site.number();
+            let _ = eprintln!(rt;
+                "rights-site: peer {}: sends to it no more: {}",
+                site, cause
+            );
+        }
+    }
+
+    /// A line for the peer was lost.
+    pub(crate) fn drops_line(&self) {
+        self.counters.note_dropped(1);
+    }
+
+    /// A line of the peer was taken.
+    pub fn takes(&self) {
+        self.counters.note_lines(1, 0);
+        if self.skipping.load(Ordering::Relaxed) != 0 {
+            self.skipping.store(0, Ordering::Relaxed);
+        }
+    }
+
+    /// A line of the peer was skipped.
+    pub fn skips<R: Eprint>(&self, rt: &R, cause: SkipCause) {
+        self.counters.note_lines(1, 1);
+        let bit = cause.bit();
+        let is_new = self.skipping.fetch_or(bit, Ordering::Relaxed) & bit == 0;
+        if is_new && self.log {
+            let (site, cause) = (self.site.number(), cause.text());
+            let _ = eprintln!(rt; "rights-site: peer {}: skips lines: {}", site, cause);
+        }
+    }
+
+    /// Entries of the peer's log are missing, from the first number to the last.
+    pub fn lacks<R: Eprint>(&self, rt: &R, first: u64, last: u64) {
+        if !self.lacking.swap(true, Ordering::Relaxed) && self.log {
+            let site = self.site.number();
+            let _ = eprintln!(rt;
+                "rights-site: peer {}: lacks {} to {} of its log",
+                site, first, last
+            );
+        }
+    }
+
+    /// None is missing.
+    pub fn lacks_nothing<R: Eprint>(&self, rt: &R) {
+        if self.lacking.load(Ordering::Relaxed) {
+            self.lacking.store(false, Ordering::Relaxed);
+            if self.log {
+                let _ = eprintln!(rt; "rights-site: peer {}: lacks nothing", self.site.number());
+            }
+        }
+    }
+
+    /// The peer says that its log ends at a number below what was applied of it.
+    pub fn goes_back<R: Eprint>(&self, rt: &R, says: u64, applied: u64) {
+        let is_new = self.counters.went_back() == 0;
+        self.counters.note_went_back();
+        if is_new && self.log {
+            let site = self.site.number();
+            let _ = eprintln!(rt;
+                "rights-site: peer {}: its log went back: it says {}, and {} were applied. It was started anew, or runs twice",
+                site, says, applied
+            );
+        }
+    }
+}

@@ -1,0 +1,43 @@
+//! A stream that is read till a moment, however slowly its bytes come.
+
+use std::io;
+use std::io::{ErrorKind, Read};
+use std::net::TcpStream;
+use std::time::{Clock, Duration, Instant};
+
+/// A stream that is read till a moment. A read behind it fails.
+#[derive(Drop)]
+pub struct Patient<'a, R> {
+    rt: &'a R,
+    stream: &'a TcpStream,
+    since: Instant,
+    time: Duration,
+}
+
+impl<'a, R: Clock> Patient<'a, R> {
+    /// Reads for so long from now on.
+    pub(crate) fn new(
+        rt: &'a R,
+        stream: &'a TcpStream,
+        time: Duration,
+    ) -> io::Result<Patient<'a, R>> {
+        Ok(Patient {
+            rt,
+            stream,
+            since: Instant::now(rt)?,
+            time,
+        })
+    }
+}
+
+impl<R: Clock> Read for Patient<'_, R> {
+    fn read(&mut self, buf: &mut [u8]) -> io::Result<usize> {
+        let waited = self.since.elapsed(self.rt)?;
+        let Some(left) = self.time.checked_sub(waited) else {
+            return Err(io::Error::from(ErrorKind::TimedOut));
+        };
+        self.stream.set_read_timeout(Some(left))?;
+        let mut stream = self.stream;
+        stream.read(buf)
+    }
+}
