@@ -77,11 +77,11 @@ module _ {E : Type 0} (G : List ℕ → Result ℕ E → Type 0) (reads : (u : L
       go (Some t) is = tried_text t r is (value t is)
 
 -- the same of a flag
-module _ (f : Found) (flag : Text) where
-  abbrev FindsFlag : Option Bool → Type 0
-  FindsFlag r = MatchOption r ((set : Bool) → HasFlag (rows_of f) flag set → ⊥) (HasFlag (rows_of f) flag)
+abbrev FindsFlag : Found → Text → Option Bool → Type 0
+FindsFlag f flag r = MatchOption r ((set : Bool) → HasFlag (rows_of f) flag set → ⊥) (HasFlag (rows_of f) flag)
 
-  read_flag : {E : Type 0} (t : Text) (r : Option Bool) → one_text f flag ≡ Some t → ReadsOne {E = E} ParsesBool t r → FindsFlag r
+module _ (E : Type 0) (f : Found) (flag : Text) where
+  read_flag : (t : Text) (r : Option Bool) → one_text f flag ≡ Some t → ReadsOne {E = E} ParsesBool t r → FindsFlag f flag r
   read_flag t (Some true) is read = sym (one_text-rows f flag) ∙ is ∙ ap Some read
   read_flag t (Some false) is read = sym (one_text-rows f flag) ∙ is ∙ ap Some read
   read_flag t None is read = go
@@ -93,24 +93,24 @@ module _ (f : Found) (flag : Text) where
       go true has = read.1.0 (some_same (sym is ∙ one_text-rows f flag ∙ has))
       go false has = read.1.1 (some_same (sym is ∙ one_text-rows f flag ∙ has))
 
-  flag_found : {E : Type 0} (r : Option Bool) → (one_text f flag ≡ None → r ≡ None)
-      → ((t : Text) → one_text f flag ≡ Some t → ReadsOne {E = E} ParsesBool t r) → FindsFlag r
+  flag_found : (r : Option Bool) → (one_text f flag ≡ None → r ≡ None)
+      → ((t : Text) → one_text f flag ≡ Some t → ReadsOne {E = E} ParsesBool t r) → FindsFlag f flag r
   flag_found r none value = go (one_text f flag) refl
     where
       differ : {x : Text} → Some x ≡ None → ⊥
       differ e = cc
 
-      go : (o : Option Text) → one_text f flag ≡ o → FindsFlag r
-      go None is = subst FindsFlag (sym (none is)) (λ set has. differ (sym has ∙ sym (one_text-rows f flag) ∙ is))
+      go : (o : Option Text) → one_text f flag ≡ o → FindsFlag f flag r
+      go None is = subst (FindsFlag f flag) (sym (none is)) (λ set has. differ (sym has ∙ sym (one_text-rows f flag) ∙ is))
       go (Some t) is = read_flag t r is (value t is)
 
-  pub flag_or_refused : {E : Type 0} (r : Option Bool) → (one_text f flag ≡ None → r ≡ None)
+  pub flag_or_refused : (r : Option Bool) → (one_text f flag ≡ None → r ≡ None)
       → ((t : Text) → one_text f flag ≡ Some t → ReadsOne {E = E} ParsesBool t r)
       → MatchResult (ok_or r Refused) (HasFlag (rows_of f) flag)
       (λ fault. (fault ≡ Refused) × ((set : Bool) → HasFlag (rows_of f) flag set → ⊥))
   flag_or_refused r none value = go r (flag_found r none value)
     where
-      go : (r : Option Bool) → FindsFlag r → MatchResult (ok_or r Refused) (HasFlag (rows_of f) flag)
+      go : (r : Option Bool) → FindsFlag f flag r → MatchResult (ok_or r Refused) (HasFlag (rows_of f) flag)
           (λ fault. (fault ≡ Refused) × ((set : Bool) → HasFlag (rows_of f) flag set → ⊥))
       go (Some set) h = h
       go None h = (refl, h)
