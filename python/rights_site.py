@@ -101,6 +101,8 @@ class Site:
             words, stdin=subprocess.PIPE, stdout=subprocess.PIPE, stderr=errors if self._errors is None else self._errors,
             bufsize=0,
         )
+        assert self.process.stdin is not None and self.process.stdout is not None
+        self._input, self._output = self.process.stdin, self.process.stdout
         self._poll = select.poll()
         try:
             # It listens before it answers.
@@ -136,8 +138,8 @@ class Site:
         before, and tick until its peers have applied that."""
         with self._lock:
             with suppress(BrokenPipeError, ValueError):
-                self.process.stdin.write(b"quit\n")
-                self.process.stdin.close()
+                self._input.write(b"quit\n")
+                self._input.close()
         return self.process.wait(timeout)
 
     def kill(self) -> None:
@@ -175,7 +177,7 @@ class Site:
             is_writable = self._wait(is_writing=bool(data))
             if is_writable:
                 try:
-                    data = data[os.write(self.process.stdin.fileno(), data[:PIECE]) :]
+                    data = data[os.write(self._input.fileno(), data[:PIECE]) :]
                 except (BrokenPipeError, ValueError):
                     raise self._ended() from None
             else:
@@ -184,22 +186,22 @@ class Site:
 
     def _wait(self, is_writing: bool) -> bool:
         """Waits until it can be written to, or read from: whether the former alone."""
-        self._poll.register(self.process.stdout, select.POLLIN)
-        if is_writing and not self.process.stdin.closed:
-            self._poll.register(self.process.stdin, select.POLLOUT)
+        self._poll.register(self._output, select.POLLIN)
+        if is_writing and not self._input.closed:
+            self._poll.register(self._input, select.POLLOUT)
         try:
             ready = dict(self._poll.poll(self.timeout * 1000))
         finally:
-            self._poll.unregister(self.process.stdout)
-            if is_writing and not self.process.stdin.closed:
-                self._poll.unregister(self.process.stdin)
+            self._poll.unregister(self._output)
+            if is_writing and not self._input.closed:
+                self._poll.unregister(self._input)
         if not ready:
             self._is_broken = True
             raise SiteSilent(f"site {self.number}: no reply within {self.timeout} seconds{self._last_words()}")
-        return self.process.stdout.fileno() not in ready
+        return self._output.fileno() not in ready
 
     def _read(self) -> None:
-        block = os.read(self.process.stdout.fileno(), 1 << 16)
+        block = os.read(self._output.fileno(), 1 << 16)
         if not block:
             raise self._ended()
         self._unread += block

@@ -28,7 +28,7 @@ BROWSERS = ("chromium", "chromium-browser", "google-chrome", "google-chrome-stab
 # compared is of a shorter time, in which as much happens.
 SHOT_MINUTES = 5.2
 MINUTES = 1.3
-SIZES = {"wide": (1100, 780), "phone": (500, 1400)}
+SIZES = {"wide": (1100, 810), "phone": (500, 1400)}
 
 PEER = {
     "receiving": 1, "sending": 1, "lines_total": 0, "lines_refused_total": 0, "lines_dropped_total": 0,
