@@ -1,14 +1,16 @@
 #!/usr/bin/env python3
 """Shows the page of a running site in a headless Chromium, of a stand-in that says what a site in some situation says.
 
-    tests/page.py [--shots FOLDER] [SITUATION..]
+    tests/page.py [--shots FOLDER] [--program PATH] [SITUATION..]
 
-What the page shows is compared with what the stand-in says. `--shots` keeps a picture of each situation: wide and at a
+What the page shows is compared with what the stand-in says. `--program` has sites of this program show themselves too:
+one of three, whose peer 3 is not there, and which closes then. `--shots` keeps a picture of each situation: wide and at a
 phone's width, light and dark. Where no Chromium is found, it says so and tries nothing. The last line is
 'N passed, M failed'.
 """
 
 import argparse
+import functools
 import html
 import json
 import math
@@ -20,6 +22,9 @@ import sys
 import tempfile
 import threading
 from http.server import BaseHTTPRequestHandler, ThreadingHTTPServer
+
+from cluster import SiteEnded, expect, wait_for
+from web_driver import WebCluster
 
 TOP = os.path.dirname(os.path.dirname(os.path.abspath(__file__)))
 PAGE = os.path.join(TOP, "crates", "site_http", "src", "page.html")
@@ -235,6 +240,28 @@ def try_situation(browser, name):
         raise AssertionError(f"{stand_in.polls} polls in {MINUTES} minutes")
 
 
+def shown_by(browser, address):
+    return words_of(browse(browser, address, ["--dump-dom"], 0.2))
+
+
+def try_program(browser, program):
+    """The page that the program itself serves."""
+    with WebCluster(3, started=[1, 2], programs={1: program, 2: program}) as sites:
+        sites.command("issue 100", "give 2 30", "spend 12 0", "tick 1")
+        sites.command("tick 1", number=2)
+        wait_for("site 2 is heard", lambda: sites.metrics()["rights_peer_receiving", "2"] == 1)
+        sites.command("spend 500 9", "give 2 900")
+        address = f"http://{sites.address()}/"
+        said = shown_by(browser, address)
+        for text in ("Site 1 of 3", "open, needs attention", "Held 58", "Spent 12", "Queued 500", "Issued 100", "Received 0",
+                     "1 of 2 need attention", "Cut off: nothing comes from it", "in order", "Short 1"):
+            expect(text in said, True, f"{text!r} in {said}")
+        sites.command("tick 10", "close")
+        said = shown_by(browser, address)
+        for text in ("closed", "This site has closed", "Held 58", "Queued 0"):
+            expect(text in said, True, f"{text!r} in {said}")
+
+
 def keep_shots(browser, name, folder):
     for size, (width, height) in SIZES.items():
         for scheme, value in (("light", 1), ("dark", 0)):
@@ -248,6 +275,7 @@ def keep_shots(browser, name, folder):
 def main():
     words = argparse.ArgumentParser(description=__doc__.splitlines()[0])
     words.add_argument("--shots", metavar="FOLDER", help="keep a picture of each situation in this folder")
+    words.add_argument("--program", metavar="PATH", help="sites of this program show themselves too")
     words.add_argument("situations", nargs="*", metavar="SITUATION", help=f"of {', '.join(SITUATIONS)}; all without it")
     given = words.parse_args()
     browser = next(filter(None, map(shutil.which, BROWSERS)), None)
@@ -255,18 +283,21 @@ def main():
         print("the page was not tried: there is no Chromium")
         print("0 passed, 0 failed")
         return 0
-    passed = failed = 0
-    for name in given.situations or SITUATIONS:
+    names = given.situations or list(SITUATIONS)
+    tries = [(name, functools.partial(try_situation, browser, name)) for name in names]
+    if given.program:
+        tries.append(("the program", functools.partial(try_program, browser, given.program)))
+    failed = 0
+    for name, attempt in tries:
         try:
-            try_situation(browser, name)
-            passed += 1
-        except (AssertionError, OSError, subprocess.TimeoutExpired) as error:
+            attempt()
+        except (AssertionError, SiteEnded, OSError, subprocess.TimeoutExpired) as error:
             failed += 1
             print(f"{name}: FAILED: {type(error).__name__}: {error}", flush=True)
-        if given.shots:
-            os.makedirs(given.shots, exist_ok=True)
-            keep_shots(browser, name, given.shots)
-    print(f"{passed} passed, {failed} failed")
+    for name in names if given.shots else []:
+        os.makedirs(given.shots, exist_ok=True)
+        keep_shots(browser, name, given.shots)
+    print(f"{len(tries) - failed} passed, {failed} failed")
     return 1 if failed else 0
 
 
