@@ -38,7 +38,7 @@ from typing import Any
 LONGEST_BODY = 1_048_576
 # The site closes a connection that said nothing for 60 seconds. A little earlier it is not used any more.
 IDLE = 50.0
-SAMPLE = re.compile(r'([a-z_]+)(?:\{[a-z]+="([^"]*)"\})? (\d+)')
+SAMPLE = re.compile(r'^([a-z_]+)(?:\{[a-z]+="([^"]*)"\})? (\d+)$', re.MULTILINE)
 
 
 class SiteUnreachable(Exception):

@@ -19,9 +19,15 @@ TOP = os.path.dirname(os.path.dirname(os.path.abspath(__file__)))
 # ---- waiting
 
 
-def waiting(sites, count=1):
-    """Waits until so many spends wait."""
-    wait_for(f"{count} spends wait", lambda: sites.metrics()["rights_requests_waiting"] == count)
+def waiting(sites, amount):
+    """Waits until spends of so many rights wait."""
+    wait_for(f"spends of {amount} wait", lambda: sites[1].status()["queued"] == amount)
+
+
+def expect_slots(sites, waiting, unread):
+    """Of the slots of the queue so many are taken."""
+    found = sites.metrics()
+    expect((found["rights_requests_waiting"], found["rights_outcomes_unread"]), (waiting, unread), "slots that wait, and unread ones")
 
 
 def wait_that_is_answered_at_once():
@@ -42,28 +48,29 @@ def wait_that_is_served_by_a_tick():
     with alone() as sites, sites.client() as client:
         # What follows on the same connection is answered after it.
         client.send(post("spend 5 9", target="/wait") + post("outcome 1"))
-        waiting(sites)
+        waiting(sites, 5)
+        expect_slots(sites, 1, 0)
         expect(sites[1].ask_all(["outcome 1", "issue 7"]), ["waiting", "number 1"])
         time.sleep(0.1)
         expect(client.unread, b"")
         expect(sites.command("tick 1"), (200, ["tick expired 0 served 1 asks 0 sent 3"]))
         expect_served(client.read(), 200, b"spent 2\n")
         expect_served(client.read(), 200, b"unknown\n", what="the outcome was told")
-        expect((sites.metrics()["rights_outcomes_unread"], sites.metrics()["rights_requests_waiting"]), (0, 0))
+        expect_slots(sites, 0, 0)
 
 
 def wait_that_expires():
     with alone() as sites, sites.client() as client, sites.client() as other:
         client.send(post("spend 5 9", target="/wait"))
-        waiting(sites)
+        waiting(sites, 5)
         other.send(post("spend 5 20", target="/wait"))
-        waiting(sites, 2)
+        waiting(sites, 10)
         sites[1].ask_all(["tick 9", "tick 10"])
         expect_served(client.read(), 200, b"expired\n")
-        waiting(sites)
+        waiting(sites, 5)
         sites[1].ask("tick 21")
         expect_served(other.read(), 200, b"expired\n")
-        expect(sites.metrics()["rights_outcomes_unread"], 0)
+        expect_slots(sites, 0, 0)
 
 
 def waits_that_fill_the_queue():
@@ -76,7 +83,7 @@ def waits_that_fill_the_queue():
             expect(sites.command("spend 1 9", target=target), (409, ["error QueueFull"]))
         sites[1].ask_all(["issue 20", "tick 1"])
         expect([client.read().body for client in clients[:20]], [b"spent %d\n" % n for n in range(2, 22)])
-        expect(sites.metrics()["rights_requests_waiting"], 12)
+        expect_slots(sites, 12, 0)
         sites[1].ask("tick 10")
         expect([client.read().body for client in clients[20:]], [b"expired\n"] * 12)
         expect(sites.command("spend 1 10"), (200, ["queued 33"]))
@@ -101,9 +108,9 @@ def waits_whose_clients_have_gone():
 def waits_at_the_end():
     with alone() as sites, sites.client() as client, sites.client() as other:
         client.send(post("spend 5 9", target="/wait"))
-        waiting(sites)
+        waiting(sites, 5)
         other.send(post("spend 5 9", target="/wait"))
-        waiting(sites, 2)
+        waiting(sites, 10)
         sites.end()
         expect_served(client.read(), 200, b"queued 1\n")
         expect_served(other.read(), 200, b"queued 2\n")
@@ -246,11 +253,11 @@ def lines_of_a_peer_are_counted():
         heard = stack.enter_context(ear.door.accept()[0])
         ear.waits_for(sending=1)
         expect(ear.metric("lines_dropped_total"), 0)
-        # One line more than an outbox holds, and more than the connection takes.
+        # Each tick has more lines than an outbox holds.
         ear.site.ask("issue 100000")
-        for time_now in range(2, 60):
-            ear.site.ask_all(["spend 1 0"] * 1000 + [f"tick {time_now}"])
-        if not (ear.metric("lines_dropped_total") > 40000 and ear.metric("lines_waiting") <= 256):
+        for time_now in range(2, 12):
+            ear.site.ask_all(["spend 1 0"] * 400 + [f"tick {time_now}"])
+        if ear.metric("lines_dropped_total") < 10 or ear.metric("lines_waiting") > 256:
             raise AssertionError(f"dropped {ear.metric('lines_dropped_total')}, waiting {ear.metric('lines_waiting')}")
         heard.close()
 
