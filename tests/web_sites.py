@@ -255,9 +255,9 @@ def lines_of_a_peer_are_counted():
         expect(ear.metric("lines_dropped_total"), 0)
         # Each tick has more lines than an outbox holds.
         ear.site.ask("issue 100000")
-        for time_now in range(2, 12):
-            ear.site.ask_all(["spend 1 0"] * 400 + [f"tick {time_now}"])
-        if ear.metric("lines_dropped_total") < 10 or ear.metric("lines_waiting") > 256:
+        for time_now in range(2, 22):
+            ear.site.ask_all(["spend 1 0"] * 800 + [f"tick {time_now}"])
+        if ear.metric("lines_dropped_total") == 0 or ear.metric("lines_waiting") > 256:
             raise AssertionError(f"dropped {ear.metric('lines_dropped_total')}, waiting {ear.metric('lines_waiting')}")
         heard.close()
 

@@ -53,7 +53,8 @@ def main():
     with SiteClient(given.address, connections=1) as site:
         while True:
             part = (time.time() - begun) / (until - begun)
-            time.sleep(chance.expovariate(given.pace * rush(part)))
+            pause = chance.expovariate(given.pace * rush(part))
+            time.sleep(max(0.0, min(pause, until - time.time())))
             if time.time() >= until:
                 return
             amount = chance.choice((1, 1, 2, 2, 2, 3, 4))

@@ -91,6 +91,10 @@ class Office:
             buyer.stdin.write(f"{until}\n")
             buyer.stdin.close()
 
+    def is_open(self):
+        """Whether somebody still buys."""
+        return any(buyer.poll() is None for buyer in self.buyers)
+
     def close(self):
         """Waits for the buyers, each of which ends by itself."""
         for buyer, reader in zip(self.buyers, self.readers):
@@ -291,7 +295,7 @@ def applied_all(statuses, receivers=SITES):
 
 def sell(sale, chance, seconds):
     """The sale: two lots, gifts between the sites, and a cut in the middle of the rush."""
-    stock = int(seconds * sum(BUYERS.values()) * PACE * 2)
+    stock = int(seconds * sum(BUYERS.values()) * PACE * 1.7)
     second_lot = seconds * chance.uniform(0.26, 0.30)
     cut, heal = seconds * chance.uniform(0.36, 0.42), seconds * chance.uniform(0.60, 0.66)
     plan = [(second_lot, "lot"), (cut, "cut"), (heal, "heal"), *((seconds * (part + 0.5) / 8, "balance") for part in range(8))]
@@ -319,6 +323,8 @@ def sell(sale, chance, seconds):
             case "balance":
                 sale.balance()
     sale.rest(begun + seconds - sale.seconds())
+    while any(office.is_open() for office in sale.offices.values()):
+        sale.rest(LOOK)
     for office in sale.offices.values():
         office.close()
 
