@@ -10,11 +10,14 @@ Each test binds to free ports, ends by itself, and says what it expected where i
 import argparse
 import http.client
 import json
+import os
 import random
+import re
 import shutil
 import socket
 import subprocess
 import sys
+import tempfile
 import threading
 import time
 import urllib.error
@@ -24,9 +27,9 @@ from contextlib import ExitStack, suppress
 import web_requests
 import web_sale
 import web_sites
-from cluster import PROGRAM, Cluster, at, expect
+from cluster import PROGRAM, Cluster, at, expect, free_ports
 from web_driver import alone, in_threads, seats, skip
-from web_requests import MOST_CLIENTS
+from web_requests import MOST_CLIENTS, TOP
 
 from rights_http import AnswerLost, SiteClient, SiteUnreachable, in_seconds
 
@@ -142,6 +145,29 @@ def a_lost_answer_is_not_asked_for_again():
         server.close()
 
 
+def examples_to_copy():
+    """The short examples, as they are but for their ports, in a folder of their own: the program is the one on the path."""
+    cases = {
+        "python/rights_site.py": r"number 1\n10 sold; held 0\n",
+        "python/rights_http.py": r"number 1\n100 sold; the site spent 100\n",
+        "examples/ticket-sale/thirty_lines.py": r"sold \[.*\], 100 in all; held 0\n",
+    }
+    with tempfile.TemporaryDirectory() as room:
+        os.symlink(os.path.abspath(Cluster.program), os.path.join(room, "rights-site"))
+        paths = {path: os.path.join(room, "copies", os.path.basename(path)) for path in cases}
+        os.mkdir(os.path.join(room, "copies"))
+        for path, copy in paths.items():
+            ports = iter(free_ports(8))
+            with open(os.path.join(TOP, path)) as source, open(copy, "w") as target:
+                found = {}
+                target.write(re.sub(r"127\.0\.0\.1:\d+", lambda it: found.setdefault(it[0], at(next(ports))), source.read()))
+        for path, copy in paths.items():
+            stay = {**os.environ, "PATH": f"{room}:{os.environ['PATH']}", "PYTHONPATH": os.path.join(room, "copies")}
+            done = subprocess.run([sys.executable, copy], env=stay, capture_output=True, text=True, timeout=60)
+            if done.returncode != 0 or not re.fullmatch(cases[path], done.stdout):
+                raise AssertionError(f"{path}: status {done.returncode}: {done.stdout}{done.stderr}")
+
+
 # ---- a sale
 
 
@@ -160,7 +186,10 @@ def main():
     words.add_argument("--only", nargs="+", metavar="TEST")
     given = words.parse_args()
     Cluster.program = given.program
-    own = [pythons_clients, curl, wrk, the_client_class, a_lost_answer_is_not_asked_for_again, many_clients_of_three_sites]
+    own = [
+        pythons_clients, curl, wrk, the_client_class, a_lost_answer_is_not_asked_for_again, examples_to_copy,
+        many_clients_of_three_sites,
+    ]
     tests = [*web_requests.TESTS, *web_sites.TESTS, *own]
     # Idle connections are looked at last, since they last a minute.
     idle = web_requests.Idle() if not given.only or "idle_connections" in given.only else None
