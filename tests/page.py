@@ -48,7 +48,7 @@ class Situation:
     """What a site says at its nth poll, and what the page shows after five minutes of that."""
 
     shows = ["Site 1 of 3"]
-    hides = ["unreachable", "Cut off", "are missing", "in the last minute", "has closed", "went back"]
+    hides = ["unreachable", "Cut off", "Silent", "are missing", "in the last minute", "has closed", "went back"]
     # From this poll on no answer comes, if at all.
     ends = None
 
@@ -109,6 +109,16 @@ class Cut(Situation):
         return {**super().more(n), "requests_waiting": 4}
 
 
+class Silent(Situation):
+    """The connections with site 3 stand, but nothing comes any more; site 2 ticks rarely."""
+
+    shows = [*Situation.shows, "open, needs attention", "1 of 2 need attention", "Silent: no line came for"]
+    hides = [each for each in Situation.hides if each != "Silent"]
+
+    def peer(self, number, n):
+        return {**PEER, "lines_total": min(n, 120) if number == 3 else n // 50}
+
+
 class Gap(Situation):
     """Entries of site 2 are missing, lines of it are refused, and its log went back."""
 
@@ -128,7 +138,7 @@ class Gap(Situation):
 
 class Closed(Situation):
     shows = [*Situation.shows, "closed", "This site has closed"]
-    hides = [*Situation.hides[:4], "went back"]
+    hides = [*Situation.hides[:5], "went back"]
 
     def status(self, n):
         return {**super().status(n), "closed": n > 40, "held": 0 if n > 40 else 4800, "spent": min(n, 41) * 60}
@@ -150,7 +160,7 @@ class Started(Situation):
         return {**super().status(n), "number": 700 if n < 100 else 3, "issued": 999_999_999_999_999_999}
 
 
-SITUATIONS = {each.__name__.lower(): each for each in (Healthy, Cut, Gap, Closed, Unreachable, Started)}
+SITUATIONS = {each.__name__.lower(): each for each in (Healthy, Cut, Silent, Gap, Closed, Unreachable, Started)}
 
 
 class StandIn:

@@ -3,6 +3,7 @@
 import json
 import os
 import re
+import signal
 import socket
 import threading
 import time
@@ -377,6 +378,22 @@ def slow_readers():
         seats(sites, 1)
 
 
+def reads_that_are_interrupted():
+    """A process that is stopped and goes on, as by a debugger or a shell, keeps its connections."""
+    with alone() as sites, sites.client() as idle, sites.client() as begun:
+        expect(idle.command("issue 5"), (200, ["number 1"]))
+        begun.send(post("issue 1")[:-3])
+        for _ in range(3):
+            time.sleep(0.05)
+            sites[1].process.send_signal(signal.SIGSTOP)
+            time.sleep(0.05)
+            sites[1].process.send_signal(signal.SIGCONT)
+        expect(idle.command("spend 1 0"), (200, ["spent 2"]))
+        begun.send(post("issue 1")[-3:])
+        expect_served(begun.read(), 200, b"number 3\n")
+        expect(sites[1].ask("spend 1 0"), "spent 4")
+
+
 def slow_senders():
     """Clients that stop in the middle of a request hold up nobody, and ones that go on are answered."""
     with alone() as sites, ExitStack() as stack:
@@ -434,4 +451,5 @@ TESTS = [
     no_web_page_can_spend, the_longest_body, a_body_that_is_waited_for, the_longest_head, heads_that_are_refused,
     connections_that_are_closed_when_asked, sixty_three_clients, two_hundred_at_once, no_thread_and_no_seat_is_left,
     memory_of_connections, pipelines_of_a_hundred, one_byte_at_a_time, half_requests, slow_readers, slow_senders,
+    reads_that_are_interrupted,
 ]
