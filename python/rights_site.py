@@ -1,91 +1,258 @@
-"""How an application talks to its site: one process, a line in and a line out.
+"""How an application starts a site and talks to it: one process, a line in and a line out.
 
-    site = Site(1, sites=2, listen="127.0.0.1:7001", peers={2: "127.0.0.1:7002"})
-    site.ask("issue 100")           # 'number 1'
-    site.ask("spend 3 10")          # 'spent 2', or 'queued 1' where too little is held
-    site.status()["held"]           # 97
-    site.ask("tick 11")             # send what is due, serve what waits
-    site.end()                      # 0
+    with Site(1, sites=2, listen="127.0.0.1:7001", peers={2: "127.0.0.1:7002"}) as site:
+        site.ask("issue 100")           # 'number 1'
+        site.ask("spend 3 10")          # 'spent 2', or 'queued 1' where too little is held
+        site.status()["held"]           # 97
+        site.ask("tick 11")             # send what is due, serve what waits
 
-Nothing but Python's standard library is used.
+The log of a site is in memory. So a number is used once in the life of a system of sites: a site that ended, or whose
+machine was restarted, must not be started again under its number, or it sells its rights a second time. `once` names a
+file that keeps it from that.
+
+Threads may share a site. Several processes can't: where they shall sell from one site, start it with `http`, and let
+them use `rights_http.py`. Nothing but Python's standard library is used, on systems that have `poll`.
 """
+
+from __future__ import annotations
 
 import json
 import os
+import select
+import shutil
 import subprocess
+import tempfile
+import threading
+import time
+from collections.abc import Iterable, Mapping, Sequence
+from contextlib import suppress
+from typing import IO, Any
 
-# The program beside this file's folder, or the one on the path.
-PROGRAM = os.path.join(os.path.dirname(os.path.abspath(__file__)), "..", "rights-site")
-if not os.path.isfile(PROGRAM):
-    PROGRAM = "rights-site"
+# The program of the repository that this file is in, if it is in one.
+BESIDE = os.path.normpath(os.path.join(os.path.dirname(os.path.abspath(__file__)), "..", "rights-site"))
+NAME = "rights-site"
+PROGRAM = BESIDE if os.path.isfile(BESIDE) else shutil.which(NAME) or NAME
 
-
-# So many commands are written before their replies are read: both find room in a pipe.
+# So many commands are on their way at a time.
 AT_ONCE = 500
+# So many bytes a pipe takes without a wait where it takes any.
+PIECE = select.PIPE_BUF
 
 
 class SiteEnded(Exception):
-    """The site's process ended, and answers no more. It says what its last words were."""
+    """The site's process ended, or did not start, and answers no more. It says what its last words were."""
+
+
+class SiteSilent(SiteEnded):
+    """The site did not answer in time. Whether it carried out the commands that it was sent is not known."""
+
+
+def find_program() -> str:
+    """The path of the program: that of the repository around this file, or else the first one on the path."""
+    if os.path.isfile(BESIDE):
+        return BESIDE
+    found = shutil.which(NAME)
+    if found is None:
+        raise FileNotFoundError(
+            f"no program of a site is there: neither {BESIDE} nor a {NAME} on the path ({os.environ.get('PATH', '')}). "
+            "Install it, or name it by program="
+        )
+    return found
 
 
 class Site:
-    """One running site."""
+    """One running site. Threads may share it: each call gets the replies to its own commands."""
 
-    def __init__(self, number, sites, listen, peers, program=None):
-        """Starts the site. `peers` has the address of each other site by its number. `program` is the path
-        of the program, or a list of words that stands for it and its word `run`."""
-        words = list(program) if isinstance(program, (list, tuple)) else [program or PROGRAM, "run"]
+    def __init__(
+        self,
+        number: int,
+        sites: int,
+        listen: str,
+        peers: Mapping[int, str],
+        program: str | Sequence[str] | None = None,
+        *,
+        http: str | None = None,
+        tick: int | None = None,
+        once: str | None = None,
+        log: bool = False,
+        errors: IO[Any] | int | None = None,
+        timeout: float = 30.0,
+    ) -> None:
+        """Starts the site, and returns once it listens. Where it can't, this raises SiteEnded with what it said.
+
+        `peers` has the address of each other site by its number. `program` is the path of the program, or a list of
+        words that stands for it and its word `run`. `http`, `tick` (milliseconds), `once` and `log` are the options of
+        these names. What the site says on its standard error goes to `errors`, an open file; without it, it is kept,
+        and `said` reads it. `timeout` is how many seconds a reply may take: no command waits for another site, so one
+        that takes longer means that the process is stuck."""
+        words = list(program) if isinstance(program, (list, tuple)) else [program or find_program(), "run"]
         words += ["--id", str(number), "--sites", str(sites), "--listen", listen]
+        for option, value in (("--http", http), ("--tick", tick), ("--once", once)):
+            words += [] if value is None else [option, str(value)]
+        words += ["--log"] if log else []
         words += [f"{peer}={address}" for peer, address in sorted(peers.items())]
         self.number = number
-        self.process = subprocess.Popen(
-            words, stdin=subprocess.PIPE, stdout=subprocess.PIPE, stderr=subprocess.PIPE, bufsize=0
-        )
-        self._replies = self.process.stdout
+        self.timeout = timeout
+        self._lock = threading.Lock()
         self._unread = b""
+        self._is_broken = False
+        self._errors = tempfile.TemporaryFile() if errors is None else None
+        self.process = subprocess.Popen(
+            words, stdin=subprocess.PIPE, stdout=subprocess.PIPE, stderr=errors if self._errors is None else self._errors,
+            bufsize=0,
+        )
+        assert self.process.stdin is not None and self.process.stdout is not None
+        self._input, self._output = self.process.stdin, self.process.stdout
+        self._poll = select.poll()
+        try:
+            # It listens before it answers.
+            self.ask("status")
+        except BaseException:
+            self.kill()
+            raise
 
-    def ask(self, command):
-        """Sends one command, and answers its reply without the line feed."""
+    # ---- commands
+
+    def ask(self, command: str) -> str:
+        """Sends one command, and returns its reply without the line feed: `error NAME` where it is refused."""
         return self.ask_all([command])[0]
 
-    def ask_all(self, commands):
-        """Sends commands together, and answers their replies in order: `error NAME` where one is refused."""
-        replies = []
-        for first in range(0, len(commands), AT_ONCE):
-            part = commands[first : first + AT_ONCE]
-            try:
-                self.process.stdin.write("".join(command + "\n" for command in part).encode())
-            except BrokenPipeError:
-                raise self._ended() from None
-            replies += [self._reply() for _ in part]
-        return replies
+    def ask_all(self, commands: Iterable[str]) -> list[str]:
+        """Sends commands together, and returns their replies in order. No other thread's command comes between."""
+        lines = [line_of(command) for command in commands]
+        with self._lock:
+            replies: list[str] = []
+            for first in range(0, len(lines), AT_ONCE):
+                part = lines[first : first + AT_ONCE]
+                replies += self._exchange(b"".join(part), len(part))
+            return replies
 
-    def status(self):
+    def status(self) -> dict[str, Any]:
         """The status object."""
         return json.loads(self.ask("status"))
 
-    def end(self, timeout=5):
-        """Ends the site by `quit`, waits for it, and answers its exit status."""
-        try:
-            self.process.stdin.write(b"quit\n")
-            self.process.stdin.close()
-        except BrokenPipeError:
-            pass
+    # ---- the end
+
+    def end(self, timeout: float = 5.0) -> int:
+        """Ends the site by `quit`, waits for it, and returns its exit status. What it holds is lost, so close it
+        before, and tick until its peers have applied that."""
+        with self._lock:
+            with suppress(BrokenPipeError, ValueError):
+                self._input.write(b"quit\n")
+                self._input.close()
         return self.process.wait(timeout)
 
-    def kill(self):
+    def kill(self) -> None:
         """Ends the process at once, as a machine that goes does."""
         self.process.kill()
         self.process.wait()
 
-    def _reply(self):
+    def said(self) -> str:
+        """What the site has said on its standard error, where that is kept."""
+        if self._errors is None:
+            return ""
+        size = os.fstat(self._errors.fileno()).st_size
+        return os.pread(self._errors.fileno(), size, 0).decode(errors="replace")
+
+    def __enter__(self) -> Site:
+        return self
+
+    def __exit__(self, *_: object) -> None:
+        try:
+            self.end()
+        except subprocess.TimeoutExpired:
+            self.kill()
+
+    # ---- streams
+
+    def _exchange(self, data: bytes, count: int) -> list[str]:
+        """Writes these bytes, and reads so many replies meanwhile: neither waits for the other."""
+        if self._is_broken:
+            raise SiteSilent(f"site {self.number}: it did not answer in time before, so its replies can't be told apart")
+        replies: list[str] = []
+        while data or len(replies) < count:
+            if not data and b"\n" in self._unread:
+                replies.append(self._reply())
+                continue
+            is_writable = self._wait(is_writing=bool(data))
+            if is_writable:
+                try:
+                    data = data[os.write(self._input.fileno(), data[:PIECE]) :]
+                except (BrokenPipeError, ValueError):
+                    raise self._ended() from None
+            else:
+                self._read()
+        return replies
+
+    def _wait(self, is_writing: bool) -> bool:
+        """Waits until it can be written to, or read from: whether the former alone."""
+        self._poll.register(self._output, select.POLLIN)
+        if is_writing and not self._input.closed:
+            self._poll.register(self._input, select.POLLOUT)
+        try:
+            ready = dict(self._poll.poll(self.timeout * 1000))
+        finally:
+            self._poll.unregister(self._output)
+            if is_writing and not self._input.closed:
+                self._poll.unregister(self._input)
+        if not ready:
+            self._is_broken = True
+            raise SiteSilent(f"site {self.number}: no reply within {self.timeout} seconds{self._last_words()}")
+        return self._output.fileno() not in ready
+
+    def _read(self) -> None:
+        block = os.read(self._output.fileno(), 1 << 16)
+        if not block:
+            raise self._ended()
+        self._unread += block
+
+    def _reply(self) -> str:
         while b"\n" not in self._unread:
-            block = self._replies.read(65536)
-            if not block:
-                raise self._ended()
-            self._unread += block
+            self._read()
         line, self._unread = self._unread.split(b"\n", 1)
         return line.decode()
 
-    def _ended(self):
-        return SiteEnded(f"site {self.number}: {self.process.stderr.read().decode().strip()}")
+    def _last_words(self) -> str:
+        lines = self.said().splitlines()
+        return f"; it said: {lines[-1]}" if lines else ""
+
+    def _ended(self) -> SiteEnded:
+        # Its last words are there once it has ended.
+        with suppress(subprocess.TimeoutExpired):
+            self.process.wait(1)
+        return SiteEnded(f"site {self.number}: it ended{self._last_words()}")
+
+
+def line_of(command: str) -> bytes:
+    """The line of a command. More than one line would get more than one reply, and `quit` gets none."""
+    if "\n" in command:
+        raise ValueError(f"a command is one line, and this one has a line feed: {command!r}")
+    if command == "quit":
+        raise ValueError("`quit` has no reply: a site is ended by end()")
+    return command.encode() + b"\n"
+
+
+def main() -> None:
+    """An example: a site of two that sells ten tickets to four threads. The other site is not there."""
+    with Site(1, 2, "127.0.0.1:7001", {2: "127.0.0.1:7002"}) as site:
+        print(site.ask("issue 10"))
+        sold: list[str] = []
+
+        def sell() -> None:
+            while True:
+                # A spend that can't be served at once waits for other sites, till its deadline is over.
+                reply = site.ask(f"spend 1 {int(time.time())}")
+                if not reply.startswith("spent "):
+                    return
+                sold.append(reply)
+
+        threads = [threading.Thread(target=sell) for _ in range(4)]
+        for thread in threads:
+            thread.start()
+        for thread in threads:
+            thread.join()
+        print(f"{len(sold)} sold; held {site.status()['held']}")
+
+
+if __name__ == "__main__":
+    main()

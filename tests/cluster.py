@@ -70,11 +70,14 @@ class Cluster:
             for peer in range(1, self.count + 1)
             if peer != number
         }
-        site = self.kind(number, self.count, at(self.ports[number - 1]), peers, self.programs.get(number, self.program))
+        program = self.programs.get(number, self.program)
+        site = self.kind(number, self.count, at(self.ports[number - 1]), peers, program, **self.options(number))
         self.sites[number] = site
-        # It listens before it answers.
-        site.status()
         return site
+
+    def options(self, number):
+        """The options of a site, but for those that all have."""
+        return {}
 
     def __getitem__(self, number):
         return self.sites[number]

@@ -17,6 +17,8 @@ import time
 
 from cluster import BUILT, PROGRAM, Cluster, Proxy, Site, SiteEnded, at, expect, free_ports, sees, wait_for
 
+import rights_site
+
 program = sys.argv[1] if len(sys.argv) > 1 else PROGRAM
 
 
@@ -493,6 +495,66 @@ def other_addresses():
             two.kill()
 
 
+# ---- the client class
+
+
+def refusal_of(call, kind):
+    """What the call says where it raises this, as it should."""
+    try:
+        call()
+    except kind as error:
+        return str(error)
+    raise AssertionError(f"no {kind.__name__} was raised")
+
+
+def a_start_that_fails_is_said():
+    own, other = free_ports(2)
+    with socket.create_server(("127.0.0.1", 0)) as taken:
+        address = at(taken.getsockname()[1])
+        said = refusal_of(lambda: Site(1, 2, address, {2: at(other)}, program), SiteEnded)
+        expect(said, "site 1: it ended; it said: rights-site: cannot listen")
+    expect(refusal_of(lambda: Site(3, 2, at(own), {2: at(other)}, program), SiteEnded)[-16:], "bad command line")
+    mute = ["sh", "-c", "echo starting >&2; exec sleep 20", "sh"]
+    silent = refusal_of(lambda: Site(1, 2, at(own), {2: at(other)}, mute, timeout=0.3), rights_site.SiteSilent)
+    expect(silent, "site 1: no reply within 0.3 seconds; it said: starting")
+
+
+def a_program_that_is_nowhere_is_said():
+    beside, path = rights_site.BESIDE, os.environ["PATH"]
+    rights_site.BESIDE, os.environ["PATH"] = "/none/rights-site", "/none/bin"
+    try:
+        said = refusal_of(rights_site.find_program, FileNotFoundError)
+    finally:
+        rights_site.BESIDE, os.environ["PATH"] = beside, path
+    expect("/none/rights-site" in said and "/none/bin" in said, True, said)
+
+
+def one_command_a_line():
+    with Cluster(2, started=[1]) as sites:
+        for command in ("issue 1\nissue 1", "issue 1\n", "quit"):
+            refusal_of(lambda: sites[1].ask_all(["issue 1", command]), ValueError)
+        expect(sites[1].ask_all(["issue 5", "status"])[0], "number 1")
+
+
+def threads_share_a_client():
+    """Each gets the replies to its own commands, though they come in any order."""
+    with Cluster(2, started=[1]) as sites:
+        faults = []
+
+        def ask(place):
+            for _ in range(50):
+                wanted = [f"error {'BadAmount' if place % 2 else 'NoSuchSite'}"] * place
+                replies = sites[1].ask_all(["issue 0" if place % 2 else "give 9 1"] * place)
+                faults.extend([replies] if replies != wanted else [])
+
+        threads = [threading.Thread(target=ask, args=(place,)) for place in range(1, 9)]
+        for thread in threads:
+            thread.start()
+        for thread in threads:
+            thread.join()
+        expect(faults, [])
+
+
 def main():
     tests = [
         a_batch_travels,
@@ -524,6 +586,10 @@ def main():
         the_end_of_input_ends_it,
         an_address_in_use_is_refused,
         other_addresses,
+        a_start_that_fails_is_said,
+        a_program_that_is_nowhere_is_said,
+        one_command_a_line,
+        threads_share_a_client,
     ]
     failed = 0
     for test in tests:

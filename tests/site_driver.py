@@ -141,17 +141,14 @@ class Node:
         routes = {other: peer.address for other, peer in self.peers.items()}
         for _ in range(5):
             self.port = free_ports(1)[0]
-            site = Site(self.number, self.count, at(self.port), routes, program)
             with suppress(SiteEnded):
-                site.status()
-                return site
-            site.process.wait()
+                return Site(self.number, self.count, at(self.port), routes, program)
         raise OSError("no port is free for the site")
 
     def close(self):
         self.watch.cancel()
         self.site.kill()
-        for stream in (self.site.process.stdin, self.site.process.stdout, self.site.process.stderr):
+        for stream in (self.site.process.stdin, self.site.process.stdout):
             with suppress(OSError):
                 stream.close()
         for peer in self.peers.values():
@@ -366,7 +363,7 @@ class Node:
         self.site.process.stdin.close()
         status = self.site.process.wait(PATIENCE)
         said = self.site._unread + self.site.process.stdout.read()
-        ended = [b"%d" % status, said, self.site.process.stderr.read()]
+        ended = [b"%d" % status, said, self.site.said().encode()]
         compare("the exit status, the standard output and error at the end", [b"0", b"", b""], ended)
         for peer in self.peers.values():
             if peer.hears and peer.heard is not None:

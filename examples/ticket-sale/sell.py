@@ -3,15 +3,20 @@
 
     examples/ticket-sale/sell.py [--seed N] [--seconds N] [--program PATH] [--picture FILE]
 
-It prints a table at the end, and ends with status 1 and a loud line if ever more was sold than issued, or if
-any other sum is wrong. The seed fixes the buyers and the plan, not how the threads of the sites are scheduled.
+The buyers are processes of their own, which buy over HTTP. It prints a line a second and a table at the end, and ends with
+status 1 and a loud line if ever more was sold than issued, or if any other sum is wrong. The seed fixes the buyers and
+the plan, not how processes and the threads of the sites are scheduled.
 """
 
 import argparse
 import os
 import random
+import re
 import socket
+import subprocess
 import sys
+import tempfile
+import threading
 import time
 
 HERE = os.path.dirname(os.path.abspath(__file__))
@@ -19,12 +24,21 @@ sys.path.insert(0, os.path.join(HERE, "..", "..", "python"))
 
 from picture import draw  # noqa: E402
 from proxies import Proxy, Witness  # noqa: E402
+from rights_http import AnswerLost, SiteClient, SiteUnreachable  # noqa: E402
 from rights_site import PROGRAM, Site, SiteEnded  # noqa: E402
 
 SITES = (1, 2, 3)
 
-# Most buyers come to site 3, which is also the one that is cut off.
-CROWD = {1: 0.15, 2: 0.25, 3: 0.6}
+# How many buyers come to each site. Most come to site 3, which is also the one that is cut off.
+BUYERS = {1: 2, 2: 3, 3: 7}
+# How often each of them buys in a second, on the average.
+PACE = 3
+# Sites tick so often, in milliseconds.
+TICK = 40
+# The operator looks at all sites so often, in seconds.
+LOOK = 0.1
+
+ENDED = re.compile(r"rights-site: ended: issued (\d+) spent (\d+) .*; told issued (\d+) spent (\d+) served (\d+)")
 
 
 class WrongSum(Exception):
@@ -40,41 +54,59 @@ def free_ports(count):
 
 
 class Office:
-    """The counter of one site: what buyers were told there."""
+    """The buyers of one site, and what they were told."""
 
     def __init__(self, site):
         self.site = site
-        self.wanted = self.sold = self.refused = 0
-        self.waiting = {}
+        self.sums = {"sold": 0, "refused": 0, "unknown": 0}
+        self.ready = threading.Semaphore(0)
+        self.buyers = []
+        self.readers = []
 
-    def step(self, buyers, now):
-        """Serves these buyers, (amount, patience) each, lets the site tick, and asks what became of those who wait."""
-        commands = [f"spend {amount} {now + patience}" for amount, patience in buyers]
-        replies = self.site.ask_all(commands + [f"tick {now}"])
-        for (amount, _), reply in zip(buyers, replies):
-            self.wanted += amount
-            word, _, number = reply.partition(" ")
-            if word == "spent":
-                self.sold += amount
-            elif word == "queued":
-                self.waiting[int(number)] = amount
-            elif reply in ("error QueueFull", "error Closed"):
-                self.refused += amount
+    def open(self, address, seed):
+        """Starts the buyers, which wait for the begin of the sale."""
+        for place in range(BUYERS[self.site]):
+            words = [sys.executable, os.path.join(HERE, "buyer.py"), address, "--pace", str(PACE)]
+            words += ["--seed", str(seed * 100 + self.site * 10 + place)]
+            buyer = subprocess.Popen(words, stdin=subprocess.PIPE, stdout=subprocess.PIPE, text=True)
+            self.buyers.append(buyer)
+            self.readers.append(threading.Thread(target=self.listen, args=(buyer,), daemon=True))
+            self.readers[-1].start()
+
+    def listen(self, buyer):
+        for line in buyer.stdout:
+            word, amount = line.split()
+            if word == "ready":
+                self.ready.release()
             else:
-                raise WrongSum(f"site {self.site.number} answered {reply!r} to a buyer")
-        if replies[-1].startswith("error"):
-            raise WrongSum(f"site {self.site.number} answered {replies[-1]!r} to a tick")
-        self.settle()
+                self.sums[word] += int(amount)
 
-    def settle(self):
-        tickets = list(self.waiting)
-        for ticket, reply in zip(tickets, self.site.ask_all([f"outcome {ticket}" for ticket in tickets])):
-            if reply.startswith("spent"):
-                self.sold += self.waiting.pop(ticket)
-            elif reply == "expired":
-                self.refused += self.waiting.pop(ticket)
-            elif reply != "waiting":
-                raise WrongSum(f"site {self.site.number} answered {reply!r} of ticket {ticket}")
+    def wait_for_buyers(self):
+        for _ in self.buyers:
+            if not self.ready.acquire(timeout=60):
+                raise WrongSum(f"a buyer at site {self.site} did not start")
+
+    def begin(self, until):
+        for buyer in self.buyers:
+            buyer.stdin.write(f"{until}\n")
+            buyer.stdin.close()
+
+    def is_open(self):
+        """Whether somebody still buys."""
+        return any(buyer.poll() is None for buyer in self.buyers)
+
+    def close(self):
+        """Waits for the buyers, each of which ends by itself."""
+        for buyer, reader in zip(self.buyers, self.readers):
+            status = buyer.wait(30)
+            reader.join(30)
+            buyer.stdout.close()
+            if status != 0:
+                raise WrongSum(f"a buyer at site {self.site} ended with status {status}")
+
+    def kill(self):
+        for buyer in self.buyers:
+            buyer.kill()
 
 
 class Moment:
@@ -105,57 +137,64 @@ class Moment:
 class Sale:
     """Three sites, a proxy for each direction between them, and their offices."""
 
-    def __init__(self, program):
+    def __init__(self, program, seed):
         ports = dict(zip(SITES, free_ports(len(SITES))))
+        web = dict(zip(SITES, free_ports(len(SITES))))
+        self.seed = seed
         self.witness = Witness()
         self.proxies = {
             (site, peer): Proxy(f"127.0.0.1:{ports[peer]}", self.witness)
             for site in SITES for peer in SITES if site != peer
         }
+        self.folder = tempfile.TemporaryDirectory()
+        self.addresses = {site: f"127.0.0.1:{web[site]}" for site in SITES}
         self.sites = {}
         for site in SITES:
             routes = {peer: self.proxies[site, peer].address for peer in SITES if peer != site}
-            self.sites[site] = Site(site, len(SITES), f"127.0.0.1:{ports[site]}", routes, program)
-        for site in self.sites.values():
-            site.status()  # it listens before it answers
-        self.offices = {site: Office(self.sites[site]) for site in SITES}
+            self.sites[site] = Site(
+                site, len(SITES), f"127.0.0.1:{ports[site]}", routes, program, http=self.addresses[site], tick=TICK,
+                # A number is used once.
+                once=os.path.join(self.folder.name, f"site-{site}.started"),
+            )
+        self.clients = {site: SiteClient(self.addresses[site]) for site in SITES}
+        self.offices = {site: Office(site) for site in SITES}
         self.issued = 0
-        self.now = 0
+        for site, office in self.offices.items():
+            office.open(self.addresses[site], seed)
         self.start = time.monotonic()
         self.moments = []
         self.notes = []
         self.cuts = []
         self.known = 0
+        self.told = 0
 
     def seconds(self):
         return time.monotonic() - self.start
 
     def note(self, text):
         self.notes.append((self.seconds(), text))
+        print(f"{self.seconds():5.1f} s  {text}", flush=True)
 
-    def cut(self, pairs):
+    def cut(self, pairs, text):
         for pair in pairs:
             self.proxies[pair].is_cut = True
+        self.cuts.append([self.seconds(), None, text])
+        print(f"{self.seconds():5.1f} s  {text}", flush=True)
 
     def heal(self):
         for proxy in self.proxies.values():
             proxy.is_cut = False
+        self.cuts[-1][1] = self.seconds()
+        print(f"{self.seconds():5.1f} s  all links stand", flush=True)
 
     def issue(self, site, amount):
-        self.expect(site, f"issue {amount}")
         self.issued += amount
+        self.expect(site, f"issue {amount}")
 
     def expect(self, site, command):
-        reply = self.sites[site].ask(command)
+        reply = self.clients[site].ask(command)
         if not reply.startswith("number "):
             raise WrongSum(f"site {site} answered {reply!r} to {command!r}")
-
-    def step(self, buyers):
-        """One tick of all sites, with the buyers of each, and a look at the sums."""
-        self.now += 1
-        for site, office in self.offices.items():
-            office.step(buyers.get(site, []), self.now)
-        self.look()
 
     def look(self):
         """Asks all sites twice. Numbers only grow, so where both answers are one, all of them held at one moment."""
@@ -164,31 +203,38 @@ class Sale:
             after = self.statuses()
             if before == after:
                 moment = Moment(self.seconds(), after, self.issued, self.witness)
-                self.check(moment)
+                moment.check()
+                self.known += moment.way_to is not None
                 self.moments.append(moment)
                 return moment
             before = after
         return None
 
     def statuses(self):
-        statuses = {number: site.status() for number, site in self.sites.items()}
-        # These two are news of the links, and say nothing of rights.
-        for status in statuses.values():
+        told = {site: office.sums["sold"] for site, office in self.offices.items()}
+        statuses = {number: client.status() for number, client in self.clients.items()}
+        for site, status in statuses.items():
+            # What buyers were told before was spent before.
+            if told[site] > status["spent"]:
+                raise WrongSum(f"site {site} told buyers of {told[site]} tickets, and spent {status['spent']}")
+            # These two are news of the links, and say nothing of rights.
             for peer in status["peers"]:
                 peer.pop("buffering"), peer.pop("held")
-        # Nobody spends or issues but this program, so these sums are of now, whatever the sites do.
+        # Nobody issues but this program, so at no moment more is spent than this.
         spent = sum(status["spent"] for status in statuses.values())
         if spent > self.issued:
             raise WrongSum(f"OVERSOLD: {spent} sold of {self.issued} issued")
+        self.progress(statuses)
         return statuses
 
-    def check(self, moment):
-        moment.check()
-        self.known += moment.way_to is not None
-        for site, office in self.offices.items():
-            spent = moment.statuses[site]["spent"]
-            if office.sold > spent:
-                raise WrongSum(f"site {site} told buyers of {office.sold} tickets, and spent {spent}")
+    def progress(self, statuses):
+        """A line each second."""
+        if self.seconds() < self.told:
+            return
+        self.told = int(self.seconds()) + 1
+        sums = {name: sum(office.sums[name] for office in self.offices.values()) for name in ("sold", "refused")}
+        sites = "  ".join(f"{site}: {status['held']:4} held {status['queued']:3} wait" for site, status in statuses.items())
+        print(f"{self.seconds():5.1f} s  sold {sums['sold']:5,} of {self.issued:5,}  refused {sums['refused']:4,}  {sites}", flush=True)
 
     def balance(self):
         """Whoever holds the most gives a third of what it could to whoever holds the least, as an operator does who
@@ -197,34 +243,46 @@ class Sale:
         rich, poor = max(free, key=free.get), min(free, key=free.get)
         amount = (free[rich] - free[poor]) // 3
         if amount > 0:
-            # It may be short by now: a grant may have come between.
-            reply = self.sites[rich].ask(f"give {poor} {amount}")
+            # It may be short by now: buyers and grants may have come between.
+            reply = self.clients[rich].ask(f"give {poor} {amount}")
             if not reply.startswith("number ") and reply != "error Short":
                 raise WrongSum(f"site {rich} answered {reply!r} to a gift")
 
-    def rest(self, steps, pause):
-        """Ticks with no buyers."""
-        for _ in range(steps):
-            wake = time.monotonic() + pause
-            self.step({})
-            time.sleep(max(0.0, wake - time.monotonic()))
+    def rest(self, seconds):
+        """Looks for so long, and does nothing."""
+        until = time.monotonic() + seconds
+        while time.monotonic() < until:
+            self.look()
+            time.sleep(LOOK)
 
-    def step_until(self, condition, what, steps=600):
-        """Ticks with no buyers, until all sites say what is waited for."""
-        for _ in range(steps):
-            self.step({})
-            if self.moments and condition(self.moments[-1].statuses):
+    def wait_until(self, condition, what, seconds=20):
+        """Looks until all sites say what is waited for."""
+        until = time.monotonic() + seconds
+        while time.monotonic() < until:
+            moment = self.look()
+            if moment and condition(moment.statuses):
                 return
-            time.sleep(0.02)
-        raise WrongSum(f"{what}: not within {steps} ticks")
+            time.sleep(LOOK)
+        raise WrongSum(f"{what}: not within {seconds} seconds")
 
     def end(self):
-        for site in self.sites.values():
-            site.end()
+        """Ends all sites, each of which reports what it told."""
+        for number, site in self.sites.items():
+            status = site.end()
+            said = site.said()
+            report = ENDED.search(said)
+            if status != 0 or not report:
+                raise WrongSum(f"site {number} ended with status {status} and said {said!r}")
+            issued, spent, told_issued, told_spent, told_served = map(int, report.groups())
+            if issued != told_issued or spent != told_spent + told_served:
+                raise WrongSum(f"site {number} reports other sums than it told: {said!r}")
 
     def kill(self):
+        for office in self.offices.values():
+            office.kill()
         for site in self.sites.values():
             site.kill()
+        self.folder.cleanup()
 
 
 def applied_all(statuses, receivers=SITES):
@@ -235,72 +293,59 @@ def applied_all(statuses, receivers=SITES):
     )
 
 
-def buyers_of(chance, part):
-    """Who comes in one step to each site: most of them in the middle of the sale."""
-    rush = 1.2 + 5.2 * max(0.0, 1 - abs(part - 0.5) / 0.35)
-    buyers = {site: [] for site in SITES}
-    for _ in range(round(rush + chance.uniform(-1, 1))):
-        site = chance.choices(SITES, [CROWD[site] for site in SITES])[0]
-        buyers[site].append((chance.choice((1, 1, 2, 2, 2, 3, 4)), chance.randint(3, 15)))
-    return buyers
-
-
-def steps_of(seconds):
-    """How many ticks the sale has, and how many seconds lie between two."""
-    steps = max(60, int(seconds * 10))
-    return steps, seconds / steps
-
-
 def sell(sale, chance, seconds):
     """The sale: two lots, gifts between the sites, and a cut in the middle of the rush."""
-    steps, pause = steps_of(seconds)
-    stock = steps * 6
-    second_lot = int(steps * chance.uniform(0.26, 0.30))
-    cut, heal = int(steps * chance.uniform(0.36, 0.42)), int(steps * chance.uniform(0.60, 0.66))
+    stock = int(seconds * sum(BUYERS.values()) * PACE * 1.7)
+    second_lot = seconds * chance.uniform(0.26, 0.30)
+    cut, heal = seconds * chance.uniform(0.36, 0.42), seconds * chance.uniform(0.60, 0.66)
+    plan = [(second_lot, "lot"), (cut, "cut"), (heal, "heal"), *((seconds * (part + 0.5) / 8, "balance") for part in range(8))]
 
+    for office in sale.offices.values():
+        office.wait_for_buyers()
+    sale.start = time.monotonic()
     sale.note("site 1 issues")
     sale.issue(1, stock * 6 // 10)
     for site in (2, 3):
         sale.expect(site=1, command=f"give {site} {stock * 2 // 10}")
-    sale.look()
-    for step in range(steps):
-        wake = time.monotonic() + pause
-        if step == second_lot:
-            sale.note("site 2 issues")
-            sale.issue(2, stock * 4 // 10)
-        if step == cut:
-            sale.cut(pair for pair in sale.proxies if 3 in pair)
-            sale.cuts.append([sale.seconds(), None, "site 3 is cut off"])
-        if step == heal:
-            sale.heal()
-            sale.cuts[-1][1] = sale.seconds()
-        if step % (steps // 8) == steps // 16:
-            sale.balance()
-        sale.step(buyers_of(chance, step / steps))
-        # Where the machine is busy the sale takes longer, in place of a rush to catch up.
-        time.sleep(max(0.0, wake - time.monotonic()))
+    begun, until = sale.seconds(), time.time() + seconds
+    for office in sale.offices.values():
+        office.begin(until)
+    for moment, what in sorted(plan):
+        sale.rest(begun + moment - sale.seconds())
+        match what:
+            case "lot":
+                sale.note("site 2 issues")
+                sale.issue(2, stock * 4 // 10)
+            case "cut":
+                sale.cut((pair for pair in sale.proxies if 3 in pair), "site 3 is cut off")
+            case "heal":
+                sale.heal()
+            case "balance":
+                sale.balance()
+    sale.rest(begun + seconds - sale.seconds())
+    while any(office.is_open() for office in sale.offices.values()):
+        sale.rest(LOOK)
+    for office in sale.offices.values():
+        office.close()
 
 
 def close_site_3(sale, seconds):
     """Site 3 closes while nothing reaches it: what it was given and never applied is taken back by those who gave."""
-    steps, pause = steps_of(seconds)
-    sale.cut(((1, 3), (2, 3)))
-    sale.cuts.append([sale.seconds(), None, "nothing reaches site 3"])
+    pause = seconds / 16
+    sale.cut(((1, 3), (2, 3)), "nothing reaches site 3")
     sale.note("sites 1 and 2 give")
     for site, amount in ((1, 90), (2, 60)):
         sale.issue(site, amount)
         sale.expect(site, f"give 3 {amount}")
-    sale.rest(steps // 16, pause)
+    sale.rest(pause)
     sale.note("site 3 closes")
     sale.expect(3, "close 1")
-    sale.rest(2, pause)
-    sale.step_until(
+    sale.wait_until(
         lambda statuses: statuses[3]["closed"] and applied_all(statuses, (1, 2)), "all know that site 3 closed"
     )
-    sale.rest(steps // 16, pause)
+    sale.rest(pause)
     sale.heal()
-    sale.cuts[-1][1] = sale.seconds()
-    sale.rest(steps // 32, pause)
+    sale.rest(pause / 2)
     if sale.witness.taken_back() != {(1, 3): 90, (2, 3): 60}:
         raise WrongSum(f"taken back: {sale.witness.taken_back()}, of 90 and 60 given")
 
@@ -311,11 +356,9 @@ def last_look(sale):
     if last is None or last.way_to is None:
         raise WrongSum("the sites did not come to rest")
     for site, office in sale.offices.items():
-        spent = last.statuses[site]["spent"]
-        if office.sold != spent:
-            raise WrongSum(f"site {site} sold {office.sold} to its buyers, and spent {spent}")
-        if office.sold + office.refused + sum(office.waiting.values()) != office.wanted:
-            raise WrongSum(f"site {site}: buyers were lost")
+        spent, sums = last.statuses[site]["spent"], office.sums
+        if not sums["sold"] <= spent <= sums["sold"] + sums["unknown"]:
+            raise WrongSum(f"site {site} told its buyers {sums}, and spent {spent}")
     if sum(last.held.values()) + last.spent + sum(last.way_to.values()) != last.issued:
         raise WrongSum("held + sold + on the way is not what was issued")
     return last
@@ -323,10 +366,10 @@ def last_look(sale):
 
 def table(sale, last):
     """What was wanted and what came of it, by site and in sum. On the way: to that site."""
-    heads = ["", "issued", "sold", "refused", "waiting", "held", "on the way"]
+    heads = ["", "issued", "wanted", "sold", "refused", "held", "on the way"]
     rows = [
         [
-            last.statuses[site]["issued"], office.sold, office.refused, sum(office.waiting.values()),
+            last.statuses[site]["issued"], sum(office.sums.values()), office.sums["sold"], office.sums["refused"],
             last.held[site], last.way_to[site],
         ]
         for site, office in sale.offices.items()
@@ -346,18 +389,18 @@ def main():
     words.add_argument("--picture", help="write an SVG picture of the run to this file")
     given = words.parse_args()
 
-    sale = Sale(given.program)
+    sale = Sale(given.program, given.seed)
     try:
         sell(sale, random.Random(given.seed), given.seconds)
         sale.note("the sale ends")
-        sale.step_until(
+        sale.wait_until(
             lambda statuses: applied_all(statuses) and not any(status["queued"] for status in statuses.values()),
             "nothing waits and nothing is on the way",
         )
         close_site_3(sale, given.seconds)
         last = last_look(sale)
         sale.end()
-    except (WrongSum, SiteEnded, OSError) as error:
+    except (WrongSum, SiteEnded, SiteUnreachable, AnswerLost, OSError, subprocess.TimeoutExpired) as error:
         print(f"\n*** ticket sale, seed {given.seed}: {type(error).__name__}: {error} ***\n", file=sys.stderr)
         return 1
     finally:
@@ -365,7 +408,7 @@ def main():
         if given.picture and sale.moments:
             with open(given.picture, "w", encoding="utf-8") as file:
                 file.write(draw(sale.moments, sale.cuts, sale.notes, SITES))
-    print(table(sale, last))
+    print(f"\n{table(sale, last)}")
     back = sum(sale.witness.taken_back().values())
     print(f"\nlines lost in cuts: {sum(proxy.lost for proxy in sale.proxies.values()):,}; "
           f"taken back of site 3, which closed: {back}")

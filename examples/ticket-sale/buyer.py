@@ -1,0 +1,65 @@
+#!/usr/bin/env python3
+"""A buyer, as a process of its own: buys tickets at one site over HTTP, and prints what came of each purchase.
+
+    examples/ticket-sale/buyer.py ADDRESS --seed N --pace N
+
+It says that it is ready, and reads a line with a number T. Then it buys some N times a second, more in the middle of the
+sale than at its ends, until T, in seconds since 1970. Each line that it prints is a word (sold, refused, or unknown where
+the answer got lost) and how many tickets it was about.
+"""
+
+import argparse
+import os
+import random
+import sys
+import time
+
+HERE = os.path.dirname(os.path.abspath(__file__))
+sys.path.insert(0, os.path.join(HERE, "..", "..", "python"))
+
+from rights_http import AnswerLost, SiteClient, SiteUnreachable, in_seconds  # noqa: E402
+
+
+def buy(site, amount, patience):
+    """Buys so many tickets. Where the site has too few, waits so many seconds for them. What came of it."""
+    try:
+        reply = site.wait(f"spend {amount} {in_seconds(patience)}")
+    except AnswerLost:
+        # It may have been sold, so it is not asked for again.
+        return "unknown"
+    except SiteUnreachable:
+        return "refused"
+    if reply.startswith("spent "):
+        return "sold"
+    if reply in ("expired", "error QueueFull", "error Closed"):
+        return "refused"
+    raise SystemExit(f"the site answered {reply!r} to a buyer")
+
+
+def rush(part):
+    """How much more is bought at this part of the sale, from 0 to 1, than on the average."""
+    return 0.4 + 1.8 * max(0.0, 1 - abs(part - 0.5) / 0.35)
+
+
+def main():
+    words = argparse.ArgumentParser(description=__doc__.splitlines()[0])
+    words.add_argument("address")
+    words.add_argument("--seed", type=int, required=True)
+    words.add_argument("--pace", type=float, required=True)
+    given = words.parse_args()
+    chance = random.Random(given.seed)
+    print("ready 0", flush=True)
+    until, begun = float(sys.stdin.readline()), time.time()
+    with SiteClient(given.address, connections=1) as site:
+        while True:
+            part = (time.time() - begun) / (until - begun)
+            pause = chance.expovariate(given.pace * rush(part))
+            time.sleep(max(0.0, min(pause, until - time.time())))
+            if time.time() >= until:
+                return
+            amount = chance.choice((1, 1, 2, 2, 2, 3, 4))
+            print(buy(site, amount, chance.uniform(0.3, 1.5)), amount, flush=True)
+
+
+if __name__ == "__main__":
+    main()

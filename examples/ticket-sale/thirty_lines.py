@@ -1,0 +1,34 @@
+#!/usr/bin/env python3
+"""Two sites, one stock of a hundred tickets, and four processes that sell them: an example to copy."""
+
+import multiprocessing
+import os
+import sys
+
+sys.path.insert(0, os.path.join(os.path.dirname(os.path.abspath(__file__)), "..", "..", "python"))
+from rights_http import AnswerLost, SiteClient, in_seconds  # noqa: E402
+from rights_site import Site  # noqa: E402
+
+HTTP = {1: "127.0.0.1:8001", 2: "127.0.0.1:8002"}
+
+
+def seller(number):
+    """Sells one by one at a site, until two seconds bring no more rights to it. How many it sold."""
+    sold = 0
+    with SiteClient(HTTP[number]) as site:
+        while True:
+            try:
+                if not site.wait(f"spend 1 {in_seconds(2)}").startswith("spent "):
+                    return sold
+            except AnswerLost:
+                pass  # it may have been sold, so it counts as sold, and is not sent again
+            sold += 1
+
+
+if __name__ == "__main__":
+    one = Site(1, 2, "127.0.0.1:7001", {2: "127.0.0.1:7002"}, http=HTTP[1], tick=50)
+    two = Site(2, 2, "127.0.0.1:7002", {1: "127.0.0.1:7001"}, http=HTTP[2], tick=50)
+    with one, two, multiprocessing.Pool(4) as sellers:
+        one.ask("issue 100")
+        sold = sellers.map(seller, [1, 1, 2, 2], chunksize=1)
+        print(f"sold {sold}, {sum(sold)} in all; held {one.status()['held'] + two.status()['held']}")

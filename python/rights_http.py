@@ -1,0 +1,279 @@
+"""How an application talks to a site over HTTP: any number of processes and threads sell from one site.
+
+    site = SiteClient("127.0.0.1:8001")
+    site.ask("issue 100")                       # 'number 1'
+    site.ask(f"spend 3 {in_seconds(5)}")        # 'spent 2', or 'queued 1' where too little is held
+    site.wait(f"spend 3 {in_seconds(5)}")       # 'spent 3', or 'expired' where five seconds brought no rights
+    site.status()["held"]                       # 94
+    site.close()
+
+The site was started with `--http` and `--tick`. It has the shape of the class in `rights_site.py`, which starts a site
+and owns its standard streams. Threads may share a client, which keeps some connections open, and a forked process
+makes its own. Nothing but Python's standard library is used.
+
+**What is tried again, and what is not.** A status or metrics are asked for again, since that changes nothing. Commands
+are sent again only where it is certain that the site did not carry them out: no connection was made, the request did
+not leave whole, or the site said 503 since all its places for clients were taken. Once the whole request has gone out
+and no answer comes, nobody here can tell whether the rights were spent and the answer got lost, or whether the
+request never arrived. To send it again would sell twice in the first case, so `AnswerLost` is raised, and the
+application decides: as a rule it counts the rights as spent, since then nothing is sold twice and at worst some rights
+are not sold. `spent` of the status tells the sum of what the site spent.
+"""
+
+from __future__ import annotations
+
+import http.client
+import json
+import os
+import re
+import select
+import socket
+import threading
+import time
+from collections.abc import Callable, Iterable
+from contextlib import suppress
+from typing import Any
+
+# A body has so many bytes at most.
+LONGEST_BODY = 1_048_576
+# The site closes a connection that said nothing for 60 seconds. A little earlier it is not used any more.
+IDLE = 50.0
+SAMPLE = re.compile(r'^([a-z_]+)(?:\{[a-z]+="([^"]*)"\})? (\d+)$', re.MULTILINE)
+
+
+class SiteUnreachable(Exception):
+    """The site was not reached, or has no place for a further client. It carried nothing of this out."""
+
+
+class SiteRefused(Exception):
+    """The site refused the request as a whole, as one from a web page, or is no site. It carried nothing of this out."""
+
+
+class AnswerLost(Exception):
+    """The request went out and no answer came: whether its `commands` were carried out is not known."""
+
+    def __init__(self, cause: object, commands: list[str]) -> None:
+        super().__init__(f"no answer came to {', '.join(map(repr, commands[:3]))}{' ..' * (len(commands) > 3)}: {cause}")
+        self.commands = commands
+
+
+class NotSent(Exception):
+    """What happened before a request had left whole."""
+
+
+def in_seconds(seconds: float) -> int:
+    """The deadline so many seconds from now, at a site that ticks by itself: in milliseconds since 1970."""
+    return int((time.time() + seconds) * 1000)
+
+
+class SiteClient:
+    """A client of one site, for any number of threads."""
+
+    def __init__(self, address: str, *, connections: int = 8, timeout: float = 10.0, tries: int = 5) -> None:
+        """`address` is what the site's `--http` says, a host and a port. At most so many connections are open at a
+        time, of which a site has 63 for all its clients. `timeout` is how many seconds an answer may take, and `tries`
+        how often a request is tried that was not carried out."""
+        host, _, port = address.rpartition(":")
+        self._host, self._port = host.strip("[]"), int(port)
+        self._timeout, self._tries, self._connections = timeout, max(1, tries), connections
+        self._renew()
+
+    # ---- commands
+
+    def ask(self, command: str) -> str:
+        """Sends one command, and returns its reply without the line feed: `error NAME` where it is refused."""
+        return self.ask_all([command])[0]
+
+    def ask_all(self, commands: Iterable[str]) -> list[str]:
+        """Sends commands in one request, of at most 1,048,576 bytes, and returns their replies in order. Other clients'
+        commands may come between."""
+        return self._post("/", list(commands), self._timeout).splitlines()
+
+    def wait(self, command: str, timeout: float = 60.0) -> str:
+        """Sends one command. Where its reply would be `queued T`, waits for what becomes of the spend: `spent N`, or
+        `expired` once its deadline is over. `timeout` is how many seconds that may take: more than its deadline is away.
+        At the end of the site the reply is `queued T` all the same."""
+        return self._post("/wait", [command], timeout).rstrip("\n")
+
+    # ---- what the site says of itself
+
+    def status(self) -> dict[str, Any]:
+        """The status object."""
+        return json.loads(self._get("/status"))
+
+    def metrics(self) -> dict[str, int | dict[str, int]]:
+        """The metrics: a number by its name, or numbers by the value of their label, which is a peer or a refusal."""
+        found: dict[str, Any] = {}
+        for name, label, value in SAMPLE.findall(self._get("/metrics")):
+            if label:
+                found.setdefault(name, {})[label] = int(value)
+            else:
+                found[name] = int(value)
+        return found
+
+    def close(self) -> None:
+        """Closes the connections. The site goes on."""
+        with self._lock:
+            for connection, _ in self._idle:
+                connection.close()
+            self._idle.clear()
+
+    def __enter__(self) -> SiteClient:
+        return self
+
+    def __exit__(self, *_: object) -> None:
+        self.close()
+
+    # ---- requests
+
+    def _get(self, target: str) -> str:
+        def once() -> str:
+            try:
+                return self._exchange("GET", target, b"", self._timeout)
+            except OSError as cause:
+                # It changes nothing, so it may have been answered.
+                raise NotSent(cause) from cause
+
+        return self._repeat(once)
+
+    def _post(self, target: str, commands: list[str], timeout: float) -> str:
+        body = b"".join(map(line_of, commands))
+        if len(body) > LONGEST_BODY:
+            raise ValueError(f"a request has at most {LONGEST_BODY:,} bytes, and these commands have {len(body):,}")
+
+        def once() -> str:
+            try:
+                return self._exchange("POST", target, body, timeout)
+            except OSError as cause:
+                raise AnswerLost(cause, commands) from cause
+
+        return self._repeat(once)
+
+    def _repeat(self, once: Callable[[], str]) -> str:
+        """Does it again where it was certainly not carried out."""
+        for attempt in range(1, self._tries + 1):
+            try:
+                return once()
+            except NotSent as cause:
+                if attempt == self._tries:
+                    raise SiteUnreachable(f"{self._host}:{self._port}: {cause}") from cause
+                time.sleep(0.05 * 2**attempt)
+        raise AssertionError
+
+    def _exchange(self, method: str, target: str, body: bytes, timeout: float) -> str:
+        """One request and its answer. NotSent where it did not leave whole, or was turned away."""
+        if self._process != os.getpid():
+            # The connections of the process that this one was forked from are not ours.
+            self._renew()
+        with self._places:
+            connection = self._connect()
+            try:
+                return self._talk(connection, method, target, body, timeout)
+            except BaseException:
+                connection.close()
+                raise
+
+    def _talk(self, connection: http.client.HTTPConnection, method: str, target: str, body: bytes, timeout: float) -> str:
+        connection.sock.settimeout(timeout)
+        try:
+            # A body with a length is carried out once its last byte has come, so half a request is none.
+            connection.request(method, target, body or None, {"content-type": "text/plain"} if body else {})
+        except OSError as cause:
+            raise NotSent(cause) from cause
+        try:
+            answer = connection.getresponse()
+            text = answer.read().decode()
+        except http.client.HTTPException as cause:
+            raise ConnectionError(f"{type(cause).__name__}: {cause}") from cause
+        if answer.will_close:
+            connection.close()
+        else:
+            with self._lock:
+                self._idle.append((connection, time.monotonic()))
+        if answer.status == 503 and answer.getheader("retry-after"):
+            raise NotSent("all places for clients are taken")
+        if answer.status not in (200, 400, 409, 503) or (body and not text.endswith("\n")):
+            raise SiteRefused(f"{method} {target}: {answer.status} {answer.reason}")
+        return text
+
+    # ---- connections
+
+    def _renew(self) -> None:
+        self._process = os.getpid()
+        self._lock = threading.Lock()
+        self._places = threading.BoundedSemaphore(self._connections)
+        self._idle: list[tuple[http.client.HTTPConnection, float]] = []
+
+    def _connect(self) -> http.client.HTTPConnection:
+        """A connection that stands, as far as can be known: one that was used before, or a new one."""
+        while (connection := self._take_idle()) is not None:
+            if is_silent(connection.sock):
+                return connection
+            connection.close()
+        connection = http.client.HTTPConnection(self._host, self._port, timeout=self._timeout)
+        try:
+            connection.connect()
+        except OSError as cause:
+            raise NotSent(cause) from cause
+        return connection
+
+    def _take_idle(self) -> http.client.HTTPConnection | None:
+        """The connection that was used last, if that was not long ago."""
+        with self._lock:
+            while self._idle:
+                connection, since = self._idle.pop()
+                if connection.sock is not None and time.monotonic() - since < IDLE:
+                    return connection
+                connection.close()
+        return None
+
+
+def is_silent(stream: socket.socket) -> bool:
+    """Whether nothing came over an idle connection: else it has ended."""
+    watch = select.poll()
+    watch.register(stream, select.POLLIN)
+    return not watch.poll(0)
+
+
+def line_of(command: str) -> bytes:
+    """The line of a command. More than one line would get more than one reply."""
+    if "\n" in command:
+        raise ValueError(f"a command is one line, and this one has a line feed: {command!r}")
+    return command.encode() + b"\n"
+
+
+def main() -> None:
+    """An example: four processes sell a hundred tickets from one site, which `rights_site.py` starts here."""
+    import multiprocessing
+
+    from rights_site import Site
+
+    def sell(address: str, sold: Any) -> None:
+        with SiteClient(address) as site:
+            while True:
+                try:
+                    reply = site.ask(f"spend 1 {in_seconds(0)}")
+                except AnswerLost:
+                    # It may have been sold, so it counts as sold.
+                    reply = "spent ?"
+                if not reply.startswith("spent "):
+                    return
+                with sold.get_lock():
+                    sold.value += 1
+
+    address = "127.0.0.1:8001"
+    with Site(1, 2, "127.0.0.1:7001", {2: "127.0.0.1:7002"}, http=address, tick=100) as site:
+        print(site.ask("issue 100"))
+        fork = multiprocessing.get_context("fork")
+        sold = fork.Value("i", 0)
+        sellers = [fork.Process(target=sell, args=(address, sold)) for _ in range(4)]
+        for seller in sellers:
+            seller.start()
+        for seller in sellers:
+            seller.join()
+        print(f"{sold.value} sold; the site spent {site.status()['spent']}")
+
+
+if __name__ == "__main__":
+    with suppress(KeyboardInterrupt):
+        main()

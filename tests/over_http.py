@@ -1,0 +1,214 @@
+#!/usr/bin/env python3
+"""Talks to running sites over HTTP, and drives them in every way that a client may.
+
+    tests/over_http.py [PROGRAM] [--only TEST..]
+
+Each test binds to free ports, ends by itself, and says what it expected where it fails. The last line is
+'N passed, M failed'.
+"""
+
+import argparse
+import http.client
+import json
+import os
+import random
+import re
+import shutil
+import socket
+import subprocess
+import sys
+import tempfile
+import threading
+import time
+import urllib.error
+import urllib.request
+from contextlib import ExitStack, suppress
+
+import web_requests
+import web_sale
+import web_sites
+from cluster import PROGRAM, Cluster, at, expect, free_ports
+from web_driver import alone, in_threads, seats, skip
+from web_requests import MOST_CLIENTS, TOP
+
+from rights_http import AnswerLost, SiteClient, SiteUnreachable, in_seconds
+
+# ---- clients that nobody here wrote
+
+
+def pythons_clients():
+    with alone() as sites:
+        connection = http.client.HTTPConnection(sites.address())
+        for n in range(1, 51):
+            connection.request("POST", "/", b"issue 1")
+            answer = connection.getresponse()
+            expect((answer.status, answer.read()), (200, b"number %d\n" % n))
+        connection.close()
+        url = f"http://{sites.address()}"
+        with urllib.request.urlopen(f"{url}/status", timeout=10) as answer:
+            expect(json.load(answer)["issued"], 50)
+        with urllib.request.urlopen(urllib.request.Request(url, b"spend 1 0\nspend 1 0\n"), timeout=10) as answer:
+            expect(answer.read(), b"spent 51\nspent 52\n")
+        try:
+            urllib.request.urlopen(url, b"nonsense", timeout=10)
+            raise AssertionError("a bad command is no error")
+        except urllib.error.HTTPError as error:
+            expect((error.code, error.read()), (400, b"error BadCommand\n"))
+
+
+def curl():
+    if shutil.which("curl") is None:
+        skip("curl: it is not here")
+        return
+    with alone(tick=20) as sites:
+        url = f"http://{sites.address()}"
+
+        def curls(*words):
+            done = subprocess.run(["curl", "-sS", "-m", "10", *words], capture_output=True, timeout=20)
+            return done.stdout.decode() + done.stderr.decode()
+
+        expect(curls("-d", "issue 10", url), "number 1\n")
+        expect(curls("-w", "%{http_code}", "-d", "give 2 99", url), "error Short\n409")
+        expect(curls("-d", f"spend 99 {in_seconds(0.1)}", f"{url}/wait"), "expired\n")
+        expect(curls("-w", "%{http_code}", "-H", "Origin: x", "-d", "spend 1 0", "-o", "/dev/null", url), "403")
+        expect(curls(f"{url}/healthz").strip(), "ok")
+        expect("rights_held 10\n" in curls(f"{url}/metrics"), True)
+        expect(curls("-I", url).splitlines()[0], "HTTP/1.1 200 OK")
+        expect(curls(url, url).count("<!DOCTYPE html>"), 2)
+
+
+def wrk():
+    if shutil.which("wrk") is None:
+        skip("wrk: it is not here")
+        return
+    with alone() as sites:
+        done = subprocess.run(["wrk", "-t2", "-c40", "-d1s", f"http://{sites.address()}/status"], capture_output=True, timeout=30)
+        said = done.stdout.decode()
+        expect((done.returncode, "Non-2xx" in said, "Socket errors" in said), (0, False, False), said)
+        seats(sites, 1)
+
+
+def the_client_class():
+    with alone() as sites, SiteClient(sites.address(), connections=2, tries=8) as client:
+        expect(client.ask("issue 10"), "number 1")
+        expect(client.ask_all(["spend 1 0", "x", "give 2 99"]), ["spent 2", "error BadCommand", "error Short"])
+        expect((client.ask("x"), client.ask("give 2 99"), client.wait("spend 2 0")), ("error BadCommand", "error Short", "spent 3"))
+        expect((client.status()["held"], client.metrics()["rights_held"]), (7, 7))
+        in_threads(12, lambda: [client.ask("spend 0 0") for _ in range(20)])
+        for bad in ("issue 1\nissue 1", "issue 1\n"):
+            try:
+                client.ask(bad)
+                raise AssertionError("a line feed is let through")
+            except ValueError:
+                pass
+        # All places are taken for a while: it tries again, and nothing is carried out twice.
+        client.close()
+        with ExitStack() as stack:
+            for _ in range(MOST_CLIENTS):
+                stack.enter_context(sites.client()).command("outcome 1")
+            threading.Timer(0.3, stack.pop_all().close).start()
+            expect(client.ask("issue 1"), "number 4")
+        sites[1].end()
+        try:
+            SiteClient(sites.address(), tries=2).ask("issue 1")
+            raise AssertionError("a site that ended was reached")
+        except SiteUnreachable:
+            pass
+
+
+def a_lost_answer_is_not_asked_for_again():
+    """The server reads the request and ends the connection: a command is not sent again, a question is."""
+    came = []
+    with socket.create_server(("127.0.0.1", 0)) as server:
+
+        def serve():
+            while True:
+                with suppress(OSError):
+                    stream, _ = server.accept()
+                    with stream:
+                        came.append(stream.recv(1 << 16))
+                    continue
+                return
+
+        threading.Thread(target=serve, daemon=True).start()
+        client = SiteClient(at(server.getsockname()[1]), tries=3)
+        try:
+            client.ask("spend 1 0")
+            raise AssertionError("no answer is none")
+        except AnswerLost as lost:
+            expect((lost.commands, len(came)), (["spend 1 0"], 1))
+        try:
+            client.status()
+            raise AssertionError("no answer is none")
+        except SiteUnreachable:
+            expect(len(came), 4)
+        server.close()
+
+
+def examples_to_copy():
+    """The short examples, as they are but for their ports, in a folder of their own: the program is the one on the path."""
+    cases = {
+        "python/rights_site.py": r"number 1\n10 sold; held 0\n",
+        "python/rights_http.py": r"number 1\n100 sold; the site spent 100\n",
+        "examples/ticket-sale/thirty_lines.py": r"sold \[.*\], 100 in all; held 0\n",
+    }
+    with tempfile.TemporaryDirectory() as room:
+        os.symlink(os.path.abspath(Cluster.program), os.path.join(room, "rights-site"))
+        paths = {path: os.path.join(room, "copies", os.path.basename(path)) for path in cases}
+        os.mkdir(os.path.join(room, "copies"))
+        for path, copy in paths.items():
+            ports = iter(free_ports(8))
+            with open(os.path.join(TOP, path)) as source, open(copy, "w") as target:
+                found = {}
+                target.write(re.sub(r"127\.0\.0\.1:\d+", lambda it: found.setdefault(it[0], at(next(ports))), source.read()))
+        for path, copy in paths.items():
+            stay = {**os.environ, "PATH": f"{room}:{os.environ['PATH']}", "PYTHONPATH": os.path.join(room, "copies")}
+            done = subprocess.run([sys.executable, copy], env=stay, capture_output=True, text=True, timeout=60)
+            if done.returncode != 0 or not re.fullmatch(cases[path], done.stdout):
+                raise AssertionError(f"{path}: status {done.returncode}: {done.stdout}{done.stderr}")
+
+
+# ---- a sale
+
+
+def many_clients_of_three_sites():
+    """Eight processes with four connections each, links that are cut and healed, clients that die: what all were told
+    is what the sites report."""
+    web_sale.sell(Cluster.program, processes=8, connections=4, seconds=6, seed=random.randrange(10**6))
+
+
+# ---- all of them
+
+
+def main():
+    words = argparse.ArgumentParser(description=__doc__.splitlines()[0])
+    words.add_argument("program", nargs="?", default=PROGRAM)
+    words.add_argument("--only", nargs="+", metavar="TEST")
+    given = words.parse_args()
+    Cluster.program = given.program
+    own = [
+        pythons_clients, curl, wrk, the_client_class, a_lost_answer_is_not_asked_for_again, examples_to_copy,
+        many_clients_of_three_sites,
+    ]
+    tests = [*web_requests.TESTS, *web_sites.TESTS, *own]
+    # Idle connections are looked at last, since they last a minute.
+    idle = web_requests.Idle() if not given.only or "idle_connections" in given.only else None
+    if idle:
+        tests.append(idle.idle_connections)
+    chosen = [test for test in tests if not given.only or test.__name__ in given.only]
+    failed = 0
+    for test in chosen:
+        begun = time.monotonic()
+        try:
+            test()
+        except Exception as error:
+            failed += 1
+            print(f"{test.__name__}: FAILED: {type(error).__name__}: {error}", flush=True)
+        if given.only:
+            print(f"{test.__name__}: {time.monotonic() - begun:.2f} s", flush=True)
+    print(f"{len(chosen) - failed} passed, {failed} failed")
+    return 1 if failed else 0
+
+
+if __name__ == "__main__":
+    sys.exit(main())

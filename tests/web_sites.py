@@ -1,0 +1,506 @@
+"""Tests of sites that serve HTTP: spends that are waited for, metrics, lines of the log, options, and the end."""
+
+import json
+import os
+import re
+import socket
+import subprocess
+import tempfile
+import time
+from contextlib import ExitStack, suppress
+
+from cluster import Cluster, at, expect, free_ports, sees, wait_for
+from web_driver import Client, WebCluster, alone, expect_served, post, request, samples, seats, skip
+
+from rights_http import in_seconds
+
+TOP = os.path.dirname(os.path.dirname(os.path.abspath(__file__)))
+
+# ---- waiting
+
+
+def waiting(sites, amount):
+    """Waits until spends of so many rights wait."""
+    wait_for(f"spends of {amount} wait", lambda: sites[1].status()["queued"] == amount)
+
+
+def expect_slots(sites, waiting, unread):
+    """Of the slots of the queue so many are taken."""
+    found = sites.metrics()
+    expect((found["rights_requests_waiting"], found["rights_outcomes_unread"]), (waiting, unread), "slots that wait, and unread ones")
+
+
+def wait_that_is_answered_at_once():
+    with alone() as sites, sites.client() as client:
+        for command, answer in [
+            ("issue 5", (200, ["number 1"])), ("spend 2 0", (200, ["spent 2"])), ("spend 0 0", (409, ["error BadAmount"])),
+            ("nonsense", (400, ["error BadCommand"])), ("quit", (400, ["error BadCommand"])), ("outcome 3", (200, ["unknown"])),
+            ("give 2 9", (409, ["error Short"])),
+        ]:
+            expect(client.command(command, target="/wait"), answer, command)
+        for body in (b"", b"issue 1\nissue 1\n", b"spend 1 0\n\n", b"issue 1\nspend"):
+            answer = client.ask(request("POST", "/wait", body))
+            expect_served(answer, 400, b"error BadCommand\n", what=f"{body!r}")
+        expect((sites[1].status()["issued"], sites[1].status()["spent"]), (5, 2))
+
+
+def wait_that_is_served_by_a_tick():
+    with alone() as sites, sites.client() as client:
+        # What follows on the same connection is answered after it.
+        client.send(post("spend 5 9", target="/wait") + post("outcome 1"))
+        waiting(sites, 5)
+        expect_slots(sites, 1, 0)
+        expect(sites[1].ask_all(["outcome 1", "issue 7"]), ["waiting", "number 1"])
+        time.sleep(0.1)
+        expect(client.unread, b"")
+        expect(sites.command("tick 1"), (200, ["tick expired 0 served 1 asks 0 sent 3"]))
+        expect_served(client.read(), 200, b"spent 2\n")
+        expect_served(client.read(), 200, b"unknown\n", what="the outcome was told")
+        expect_slots(sites, 0, 0)
+
+
+def wait_that_expires():
+    with alone() as sites, sites.client() as client, sites.client() as other:
+        client.send(post("spend 5 9", target="/wait"))
+        waiting(sites, 5)
+        other.send(post("spend 5 20", target="/wait"))
+        waiting(sites, 10)
+        sites[1].ask_all(["tick 9", "tick 10"])
+        expect_served(client.read(), 200, b"expired\n")
+        waiting(sites, 5)
+        sites[1].ask("tick 21")
+        expect_served(other.read(), 200, b"expired\n")
+        expect_slots(sites, 0, 0)
+
+
+def waits_that_fill_the_queue():
+    with alone() as sites, ExitStack() as stack:
+        clients = [stack.enter_context(sites.client()) for _ in range(32)]
+        for count, client in enumerate(clients, 1):
+            client.send(post("spend 1 9", target="/wait"))
+            waiting(sites, count)
+        for target in ("/", "/wait"):
+            expect(sites.command("spend 1 9", target=target), (409, ["error QueueFull"]))
+        sites[1].ask_all(["issue 20", "tick 1"])
+        expect([client.read().body for client in clients[:20]], [b"spent %d\n" % n for n in range(2, 22)])
+        expect_slots(sites, 12, 0)
+        sites[1].ask("tick 10")
+        expect([client.read().body for client in clients[20:]], [b"expired\n"] * 12)
+        expect(sites.command("spend 1 10"), (200, ["queued 33"]))
+
+
+def waits_whose_clients_have_gone():
+    """No slot stays taken, whatever a client does: all 32 are free again."""
+    with alone() as sites:
+        for way in range(32):
+            client = sites.client()
+            client.send(post("spend 1 9", target="/wait"))
+            waiting(sites, way + 1)
+            client.reset() if way % 2 else client.close()
+        sites[1].ask_all(["issue 10", "tick 1", "tick 10"])
+        wait_for("all slots are free", lambda: sites.metrics()["rights_outcomes_unread"] == 0)
+        expect(sites[1].ask_all(["spend 2 9"] * 33), [f"queued {n}" for n in range(33, 65)] + ["error QueueFull"])
+        seats(sites, 1)
+        report = sites.end()
+        expect((report.spent, report.told_spent, report.told_served), (10, 0, 10))
+
+
+def waits_at_the_end():
+    with alone() as sites, sites.client() as client, sites.client() as other:
+        client.send(post("spend 5 9", target="/wait"))
+        waiting(sites, 5)
+        other.send(post("spend 5 9", target="/wait"))
+        waiting(sites, 10)
+        sites.end()
+        expect_served(client.read(), 200, b"queued 1\n")
+        expect_served(other.read(), 200, b"queued 2\n")
+        expect((client.has_ended(), other.has_ended()), (True, True))
+
+
+# ---- what the site says of itself
+
+PLAIN = {
+    "rights_held": "gauge", "rights_queued": "gauge", "rights_issued_total": "counter", "rights_spent_total": "counter",
+    "rights_received_total": "counter", "rights_given_total": "counter", "rights_taken_back_total": "counter",
+    "rights_log_number": "counter", "rights_closed": "gauge", "rights_requests_waiting": "gauge",
+    "rights_outcomes_unread": "gauge", "rights_clients": "gauge", "rights_commands_total": "counter",
+}
+OF_PEERS = {
+    "rights_peer_applied": "counter", "rights_peer_buffering": "gauge", "rights_peer_entries_held": "gauge",
+    "rights_peer_receiving": "gauge", "rights_peer_sending": "gauge", "rights_peer_lines_total": "counter",
+    "rights_peer_lines_refused_total": "counter", "rights_peer_lines_dropped_total": "counter",
+    "rights_peer_lines_waiting": "gauge", "rights_peer_number_went_back_total": "counter",
+}
+REFUSED = "rights_commands_refused_total"
+
+
+def the_form_of_metrics():
+    """Each name once, with its help and its type before its samples, as Prometheus reads them."""
+    with WebCluster(3, started=[1]) as sites, sites.client() as client:
+        client.command("nonsense")
+        client.command("give 2 1")
+        body = client.ask(request("GET", "/metrics")).body
+    expect(body[-1:], b"\n")
+    kinds, helped, seen = {}, [], []
+    for line in body.decode("ascii").splitlines():
+        if line.startswith("# HELP "):
+            helped.append(line.split(" ")[2])
+            expect(len(line.split(" ")) > 3, True, line)
+        elif line.startswith("# TYPE "):
+            name, kind = line.split(" ")[2:]
+            expect((helped[-1], name in kinds), (name, False), "the help of a name stands before its type, once")
+            kinds[name] = kind
+        else:
+            expect(re.split("[{ ]", line)[0], helped[-1], "the name of a sample")
+            seen.append(line)
+    expect(kinds, {**PLAIN, **OF_PEERS, REFUSED: "counter"})
+    found = samples(body)
+    expect({key for key in found if isinstance(key, str)}, set(PLAIN))
+    expect({key for key in found if not isinstance(key, str) and key[0] != REFUSED},
+           {(name, peer) for name in OF_PEERS for peer in ("2", "3")})
+    expect({key: count for key, count in found.items() if key[0] == REFUSED and count},
+           {(REFUSED, "BadCommand"): 1, (REFUSED, "Short"): 1})
+
+
+def metrics_are_the_status():
+    """At rest, each value is that of the status, and what is counted is what was done."""
+    with WebCluster(3) as sites:
+        commands = [
+            (1, ["issue 100", "give 2 20", "give 3 10", "spend 5 0", "spend 0 0", "x", "quit", "tick 1"]),
+            (2, ["spend 3 0", "spend 90 9", "give 3 1", "tick 1"]), (1, ["tick 2"]), (3, ["close 1", "tick 1"]),
+        ]
+        count = dict.fromkeys((1, 2, 3), 0)
+        for number, lines in commands:
+            expect(sites.command(*lines, number=number)[0], 200)
+            count[number] += len(lines)
+            time.sleep(0.2)
+        for number in (1, 2, 3):
+            with sites.client(number) as client:
+                wait_for("the site is at rest", lambda: are_alike(client, sites.count, number))
+                found = samples(client.ask(request("GET", "/metrics")).body)
+            # The site was asked for its status when it was started.
+            expect(found["rights_commands_total"], count[number] + 1, f"the commands of site {number}")
+            expect(found["rights_clients"], 1)
+        found = sites.metrics(1)
+        expect({key[1]: n for key, n in found.items() if key[0] == REFUSED and n}, {"BadCommand": 2, "BadAmount": 1})
+        expect((found["rights_peer_receiving", "2"], found["rights_peer_sending", "3"]), (1, 1))
+        expect(sites.metrics(3)["rights_closed"], 1)
+
+
+def are_alike(client, count, number):
+    """Whether metrics and status say the same."""
+    status = json.loads(client.ask(request("GET", "/status")).body)
+    found = samples(client.ask(request("GET", "/metrics")).body)
+    wanted = {
+        "rights_held": status["held"], "rights_queued": status["queued"], "rights_issued_total": status["issued"],
+        "rights_spent_total": status["spent"], "rights_received_total": status["received"],
+        "rights_log_number": status["number"], "rights_closed": int(status["closed"]),
+    }
+    for peer in status["peers"]:
+        label = str(peer["site"])
+        wanted["rights_peer_applied", label] = peer["applied"]
+        wanted["rights_peer_buffering", label] = int(peer["buffering"])
+        wanted["rights_peer_entries_held", label] = peer["held"]
+    expect(len(status["peers"]), count - 1)
+    balance = found["rights_issued_total"] + found["rights_received_total"] + found["rights_taken_back_total"]
+    spent = found["rights_spent_total"] + found["rights_given_total"]
+    expect(balance - spent, found["rights_held"], f"issued + received + taken back - spent - given of site {number}")
+    return all(found[key] == value for key, value in wanted.items())
+
+
+class Ear:
+    """The test as peer 2 of site 1, whose other peers are not there."""
+
+    def __init__(self, stack, **options):
+        self.door = stack.enter_context(socket.create_server(("127.0.0.1", 0)))
+        self.sites = stack.enter_context(WebCluster(3, started=[1], routes={(1, 2): at(self.door.getsockname()[1])}, **options))
+        self.site = self.sites[1]
+
+    def speak(self, text):
+        stream = socket.create_connection(("127.0.0.1", self.sites.ports[0]))
+        stream.sendall(b"H 2\n" + text)
+        return stream
+
+    def metric(self, name):
+        return self.sites.metrics()[f"rights_peer_{name}", "2"]
+
+    def waits_for(self, **values):
+        for name, value in values.items():
+            wait_for(f"{name} is {value}", lambda: self.metric(name) == value)
+
+    def said(self, is_sending=False):
+        """The lines of its log on peer 2: those on what it sends to it, or all others."""
+        start = "rights-site: peer 2: "
+        lines = [line[len(start) :] for line in self.site.said().splitlines() if line.startswith(start)]
+        return [line for line in lines if line.startswith("sends to it") == is_sending]
+
+
+def lines_of_a_peer_are_counted():
+    with ExitStack() as stack:
+        ear = Ear(stack)
+        expect((ear.metric("receiving"), ear.metric("sending"), ear.metric("lines_total")), (0, 0, 0))
+        stream = stack.enter_context(ear.speak(b"E 2 0 2 I:9 R:1:7\nB 2 9\nnonsense\nB 3 1\nE 2 3 4 I:1\n"))
+        ear.waits_for(lines_total=5, lines_refused_total=2, applied=2, buffering=1, entries_held=1, receiving=1)
+        stream.sendall(b"A 2 1;E 2 2 3 I:1\nx\n")
+        ear.waits_for(lines_total=7, lines_refused_total=3, applied=4, entries_held=0)
+        stream.sendall(b"B 2 3\n")
+        ear.waits_for(number_went_back_total=1)
+        stream.sendall(b"B 2 4\nB 2 2\n")
+        ear.waits_for(number_went_back_total=2, lines_total=10)
+        stream.close()
+        ear.waits_for(receiving=0)
+        ear.site.ask("tick 1")
+        heard = stack.enter_context(ear.door.accept()[0])
+        ear.waits_for(sending=1)
+        expect(ear.metric("lines_dropped_total"), 0)
+        # Each tick has more lines than an outbox holds.
+        ear.site.ask("issue 100000")
+        for time_now in range(2, 22):
+            ear.site.ask_all(["spend 1 0"] * 800 + [f"tick {time_now}"])
+        if ear.metric("lines_dropped_total") == 0 or ear.metric("lines_waiting") > 256:
+            raise AssertionError(f"dropped {ear.metric('lines_dropped_total')}, waiting {ear.metric('lines_waiting')}")
+        heard.close()
+
+
+def what_is_said_of_a_peer():
+    with ExitStack() as stack:
+        ear = Ear(stack, log=True)
+        port, web = ear.sites.ports[0], ear.sites.web_ports[0]
+        expect(ear.site.said().splitlines()[0], f"rights-site: site 1 of 3 listens on 127.0.0.1:{port}, http on 127.0.0.1:{web}")
+
+        def says(*lines):
+            wait_for(f"it says {lines}", lambda: [*lines] == ear.said()[-len(lines) :] or None)
+
+        stream = stack.enter_context(ear.speak(b"E 2 0 1 I:9\n"))
+        says("receives from it")
+        stream.sendall(b"B 2 1\nB 2 6\nB 2 6\n")
+        says("receives from it", "lacks 2 to 6 of its log")
+        stream.sendall(b"E 2 1 6 I:1 I:1 I:1 I:1 I:1\n")
+        says("lacks 2 to 6 of its log", "lacks nothing")
+        stream.sendall(b"nonsense\nnonsense\nnonsense\nB 2 6\n")
+        ear.waits_for(lines_refused_total=3)
+        wait_for("it says that it skips lines", lambda: ear.said()[-1].startswith("skips lines: "))
+        expect(sum(line.startswith("skips lines: ") for line in ear.said()), 1, ear.said())
+        stream.sendall(b"nonsense\n")
+        wait_for("it says so once more", lambda: sum(line.startswith("skips lines: ") for line in ear.said()) == 2)
+        stream.sendall(b"B 2 6\nB 2 3\nB 2 3\n")
+        says("its log went back: it says 3, and 6 were applied. It was started anew, or runs twice")
+        stream.close()
+        says("receives from it no more")
+        expect(len([line for line in ear.said() if line.startswith("its log went back")]), 1, "said once")
+        # It connected to ask for what was missing.
+        expect(ear.said(is_sending=True), ["sends to it"])
+        ear.door.accept()[0].close()
+        ear.door.close()
+
+        def notices():
+            ear.site.ask("tick 1")
+            return ear.said(is_sending=True)[-1].startswith("sends to it no more: ")
+
+        wait_for("it says that it sends no more", notices)
+        for _ in range(20):
+            ear.site.ask("tick 1")
+        expect(len(ear.said(is_sending=True)), 2, f"it repeats: {ear.said(is_sending=True)}")
+
+
+def nothing_is_said_unless_asked_for():
+    with WebCluster(2) as sites:
+        sites[1].ask_all(["issue 5", "give 2 1", "tick 1"])
+        wait_for("site 2 holds 1", sees(sites[2], None, held=1))
+        expect((sites[1].said(), sites[2].said()), ("", ""))
+
+
+def a_peer_that_is_started_anew():
+    """Its number was used before: the others count that, and say so."""
+    with WebCluster(2, log=True) as sites:
+        sites[2].ask_all(["issue 50", "spend 1 0", "tick 1"])
+        wait_for("site 1 applied 2", sees(sites[1], 2, applied=2))
+        sites[2].kill()
+        sites.start(2).ask_all(["issue 7", "tick 1"])
+        wait_for("site 1 counts it", lambda: sites.metrics(1)["rights_peer_number_went_back_total", "2"] == 1)
+        wanted = "rights-site: peer 2: its log went back: it says 1, and 2 were applied. It was started anew, or runs twice"
+        wait_for("site 1 says it", lambda: wanted in sites[1].said().splitlines())
+
+
+# ---- options
+
+
+def run(*options, text=b"", listen=None):
+    """Runs a site with these options on this input. Its status, and its standard output and error."""
+    own, other = free_ports(2)
+    words = [Cluster.program, "run", "--id", "1", "--sites", "2", "--listen", listen or at(own), f"2={at(other)}", *options]
+    done = subprocess.run(words, input=text, capture_output=True, timeout=30)
+    return done.returncode, done.stdout, done.stderr
+
+
+def a_site_is_started_once():
+    refused = (1, b"", b"rights-site: was started before\n")
+    failed = (1, b"", b"rights-site: cannot create the start file\n")
+    with tempfile.TemporaryDirectory() as room, socket.create_server(("127.0.0.1", 0)) as taken:
+        address = at(taken.getsockname()[1])
+        path = os.path.join(room, "started")
+        expect(run("--once", path, text=b"issue 1\n"), (0, b"number 1\n", b""))
+        expect(os.path.isfile(path), True, "the file stays")
+        expect(run("--once", path, text=b"issue 1\n"), refused)
+        # It is tested before anything is bound.
+        expect(run("--once", path, listen=address), refused)
+        expect(run("--once", path, "--http", address), refused)
+        for stale in ("folder", "link"):
+            path = os.path.join(room, stale)
+            os.mkdir(path) if stale == "folder" else os.symlink("nowhere", path)
+            expect(run("--once", path), refused, f"a {stale}")
+        expect(os.path.lexists(os.path.join(room, "nowhere")), False, "a file that a link points to")
+        for path in ("", os.path.join(room, "none", "file"), os.path.join(room, "started", "file"), "/proc/started"):
+            expect(run("--once", path), failed, path)
+        if os.geteuid() != 0:
+            os.chmod(room, 0o500)
+            expect(run("--once", os.path.join(room, "new")), failed, "a folder that can't be written")
+            os.chmod(room, 0o700)
+        # A file that was created stays, whatever comes then.
+        path = os.path.join(room, "other")
+        expect(run("--once", path, listen=address)[2], b"rights-site: cannot listen\n")
+        expect(run("--once", path), refused)
+
+
+def addresses_that_cannot_be_listened_on():
+    with socket.create_server(("127.0.0.1", 0)) as taken:
+        for address in (at(taken.getsockname()[1]), "", "nowhere", "127.0.0.1:99999", "256.1.1.1:1"):
+            expect(run("--http", address, text=b"issue 1\n"), (1, b"", b"rights-site: cannot listen\n"), address)
+
+
+def words_that_are_refused():
+    bad = (2, b"", b"rights-site: bad command line\n")
+    for options in (["--tick", "0"], ["--tick", "60001"], ["--tick", "x"], ["--tick"], ["--tick", "-1"], ["--http"], ["--once"], ["--log=1"]):
+        expect(run(*options), bad, options)
+    for tick in ("1", "60000"):
+        expect(run("--tick", tick, text=b"issue 1\n")[:2], (0, b"number 1\n"), tick)
+
+
+def a_site_without_http():
+    """Without the new options nothing is said at the end."""
+    expect(run(text=b"issue 3\nspend 1 0\nquit\n"), (0, b"number 1\nspent 2\n", b""))
+    expect(run("--tick", "5", text=b"issue 3\n"), (0, b"number 1\n", b""))
+
+
+def a_site_that_ticks_by_itself():
+    with WebCluster(2, tick=20) as sites:
+        sites.command("issue 10", "give 2 3")
+        wait_for("site 2 holds 3", sees(sites[2], None, held=3))
+        # What is lacking is asked for, granted and served, and nobody says `tick`.
+        with sites.client(2) as client:
+            expect(client.command(f"spend 5 {in_seconds(20)}", target="/wait")[1][0][:6], "spent ")
+            begun = time.monotonic()
+            expect(client.command(f"spend 50 {in_seconds(0.3)}", target="/wait"), (200, ["expired"]))
+            if not 0.25 <= time.monotonic() - begun <= 5:
+                raise AssertionError(f"it expired after {time.monotonic() - begun:.2f} seconds")
+        # Its time is in milliseconds since 1970.
+        expect(sites[1].ask(f"tick {in_seconds(-60)}"), "error TimeWentBack")
+        expect(sites[1].ask(f"tick {in_seconds(2)}")[:4], "tick")
+        before = sites.metrics(1)["rights_commands_total"]
+        time.sleep(0.2)
+        expect(sites.metrics(1)["rights_commands_total"], before, "its own ticks are no commands")
+
+
+# ---- the end
+
+
+def requests_that_have_begun_are_answered():
+    with alone() as sites, sites.client() as begun, sites.client() as idle, sites.client() as stuck:
+        expect(idle.command("issue 5"), (200, ["number 1"]))
+        stuck.send(b"POST / HTTP/1.1\r\n")
+        whole = post("spend 1 0")
+        begun.send(whole[:-5])
+        time.sleep(0.1)
+        start = time.monotonic()
+        sites[1].process.stdin.close()
+        time.sleep(0.2)
+        begun.send(whole[-5:])
+        expect(begun.read().body, b"spent 2\n", "a request that had begun")
+        expect(idle.has_ended(), True, "an idle connection")
+        expect(sites[1].process.wait(5), 0)
+        if time.monotonic() - start > 3.5:
+            raise AssertionError(f"the end took {time.monotonic() - start:.1f} seconds")
+
+
+def the_end_with_clients_that_never_end():
+    with alone() as sites, ExitStack() as stack:
+        for n in range(60):
+            client = stack.enter_context(sites.client(room=4096))
+            client.stream.setblocking(False)
+            with suppress(BlockingIOError):
+                client.send([b"POST / HT", request("GET", "/") * 300, b"", post("spend 9 9", target="/wait")][n % 4])
+        time.sleep(0.3)
+        start = time.monotonic()
+        expect(sites[1].end(), 0)
+        if time.monotonic() - start > 3.5:
+            raise AssertionError(f"the end took {time.monotonic() - start:.1f} seconds")
+
+
+def the_report_adds_up():
+    with alone() as sites:
+        sites.command("issue 100", "spend 3 0", "give 2 7", "spend 200 9")
+        expect(sites[1].ask_all(["issue 20", "spend 4 9", "issue 100", "tick 1"])[2:],
+               ["number 5", "tick expired 0 served 2 asks 0 sent 8"])
+        status = sites[1].status()
+        report = sites.end()
+        expect(report._asdict(), {
+            "issued": 220, "spent": 207, "given": 7, "received": 0, "held": 6, "told_issued": 220, "told_spent": 3,
+            "told_served": 204,
+        })
+        expect((status["issued"], status["spent"], status["held"]), (220, 207, 6))
+
+
+def a_service_that_is_stopped():
+    """The shell part of the unit: SIGTERM to the whole group ends the site by the end of its input."""
+    wrapper = os.path.join(TOP, "systemd", "rights-site-run")
+    if not os.path.exists(wrapper):
+        skip("a_service_that_is_stopped: the wrapper is not there")
+        return
+    with tempfile.TemporaryDirectory() as room:
+        own, peer, web = free_ports(3)
+        stay = {**os.environ, "RIGHTS_SITE": Cluster.program, "RIGHTS_STATE": room, "RIGHTS_SITES": "2", "RIGHTS_LISTEN": at(own),
+                "RIGHTS_HTTP": at(web), "RIGHTS_TICK": "60000", "RIGHTS_PEERS": f"2={at(peer)}"}
+        ear = socket.create_server(("127.0.0.1", peer))
+        process = subprocess.Popen([wrapper, "1"], env=stay, stderr=subprocess.PIPE, stdin=subprocess.DEVNULL, start_new_session=True)
+        try:
+            wait_for("the site answers", lambda: with_status(at(web)) == 200, 20)
+            expect(command_at(at(web), "issue 5", "spend 1 0", "tick 99999999999999"), ["number 1", "spent 2"])
+            os.killpg(process.pid, 15)
+            start = time.monotonic()
+            said = process.communicate(timeout=10)[1].decode()
+            expect(process.returncode, 0, said)
+            if time.monotonic() - start > 4:
+                raise AssertionError("the stop took too long")
+            stream = ear.accept()[0]
+            stream.settimeout(5)
+            with stream, stream.makefile("rb") as lines:
+                sent = lines.read()
+            expect(sent.startswith(b"H 1\n") and b"E 1 0 1 I:5\nE 1 1 2 S:1\n" in sent, True, f"its outbox: {sent!r}")
+            expect("rights-site: ended: issued 5 spent 1 " in said, True, said)
+            # It does not start again.
+            again = subprocess.run([wrapper, "1"], env=stay, capture_output=True, stdin=subprocess.DEVNULL, timeout=20)
+            expect((again.returncode, again.stderr.splitlines()[-1:]), (1, [b"rights-site: was started before"]))
+        finally:
+            ear.close()
+            with suppress(ProcessLookupError):
+                os.killpg(process.pid, 9)
+
+
+def with_status(address):
+    with suppress(OSError), Client(address) as client:
+        return client.ask(request("GET", "/healthz")).status
+
+
+def command_at(address, *commands):
+    with Client(address) as client:
+        return client.command(*commands)[1][:2]
+
+
+TESTS = [
+    wait_that_is_answered_at_once, wait_that_is_served_by_a_tick, wait_that_expires, waits_that_fill_the_queue,
+    waits_whose_clients_have_gone, waits_at_the_end, the_form_of_metrics, metrics_are_the_status,
+    lines_of_a_peer_are_counted, what_is_said_of_a_peer, nothing_is_said_unless_asked_for, a_peer_that_is_started_anew,
+    a_site_is_started_once, addresses_that_cannot_be_listened_on, words_that_are_refused, a_site_without_http,
+    a_site_that_ticks_by_itself, requests_that_have_begun_are_answered, the_end_with_clients_that_never_end,
+    the_report_adds_up, a_service_that_is_stopped,
+]
