@@ -211,9 +211,13 @@ class Node:
 
     def settle(self):
         """Compares the lines that go to each peer, and then the status. The lines that came, by peer."""
-        came = {number: self.compare_lines(peer) for number, peer in self.peers.items() if peer.hears}
+        came = self.settle_lines()
         self.compare_status()
         return came
+
+    def settle_lines(self):
+        """Compares the lines that go to each peer. The lines that came, by peer."""
+        return {number: self.compare_lines(peer) for number, peer in self.peers.items() if peer.hears}
 
     def compare_lines(self, peer):
         if self.model.outboxes[peer.number].dropped:
