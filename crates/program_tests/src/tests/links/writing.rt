@@ -6,7 +6,7 @@ use crate::tests::outbox::{beat, long_line, put_beats};
 use peer_links::{LinkFault, Outbox, write_link};
 use refusing_allocator::Refusing;
 use rights_types::OutOfMemory;
-use std::alloc::Global;
+use std::alloc::{Allocator, Global};
 use std::sync::Wait;
 use test_kit::Slow;
 
@@ -202,6 +202,15 @@ fn a_torn_line_without_room_is_lost(rt: HostRuntime) {
     assert!(rt; gives(&rt, rt.alloc(), &outbox, 100, b"xx\n"));
 }
 
+/// Whether all that waits in an outbox is written to its end.
+fn is_emptied<R: Wait, A: Allocator>(rt: &R, alloc: Global, outbox: &Outbox<A>) -> bool {
+    let mut writer = Slow {
+        text: Vec::new(alloc),
+        step: 100,
+    };
+    write_link(rt, &mut writer, &mut &*outbox).is_ok()
+}
+
 /// Whether 200 beats are put and written, where the beats and the outbox take this memory.
 fn are_written<R: Wait>(rt: &R, alloc: Global, memory: &Refusing<Global>) -> bool {
     let Ok(outbox) = Outbox::new(memory) else {
@@ -209,11 +218,7 @@ fn are_written<R: Wait>(rt: &R, alloc: Global, memory: &Refusing<Global>) -> boo
     };
     let put = put_beats(rt, memory, &outbox, 0, 200);
     outbox.end(rt);
-    let mut writer = Slow {
-        text: Vec::new(alloc),
-        step: 100,
-    };
-    put && write_link(rt, &mut writer, &mut &outbox).is_ok()
+    put && is_emptied(rt, alloc, &outbox)
 }
 
 #[test]
