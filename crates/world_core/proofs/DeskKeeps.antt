@@ -16,8 +16,6 @@ use Rattle.rights_protocol.specs.Retiring.{entry_at_end}
 use Rattle.rights_protocol.specs.Writing.{MayAppend, MayClose, closing_moves}
 use Rattle.rights_protocol.specs.Changes.{OthersStay, Stays}
 use Rattle.rights_protocol.specs.Changes.Change.{Append, CloseSite, Nothing}
-use Rattle.rights_protocol.specs.Kept.{Kept}
-use Rattle.rights_protocol.proofs.Steps.{step_keeps}
 use Rattle.origin_log.specs.Logs.{LogValue, with_entry}
 use Rattle.rights_book.specs.Books.{BookValue, sites}
 use Rattle.transfer_manager.specs.Managers.{ended}
@@ -32,6 +30,7 @@ use Rattle.world_core.specs.Values.{LinkValue, BodyValue, PacketValue, WorldValu
 use Rattle.world_core.specs.Values.BodyValue.{EntryAt, Text}
 use Rattle.world_core.specs.Worlds.{count, desk, with_desk, log, applied, lists_of}
 use Rattle.world_core.specs.Sound.{SiteSound, LinkSound, IsSaid, IsBody, IsSent, IsNative, IsWorld}
+use Rattle.world_core.proofs.WorldGoesOn.{Leads, leads, WorldGoesOn}
 use Rattle.world_core.proofs.Native.{NativeMove, NativeLog, native_append, native_closing, native_push}
 
 -- ---- desks after one of them was changed
@@ -195,18 +194,21 @@ site_still w s d is site next stands k among =
 
 -- another desk of s whose log goes on keeps the world, where the protocol's part is kept
 pub desk_grows : (w : WorldValue) (s : ℕ) (d : DeskValue) → IsWorld w → IsSiteOf (count w) s → DeskGoesOn w s d
-    → HasApplied (applied w s) d.ledger → Kept (lists_of (with_desk w s d)) → IsWorld (with_desk w s d)
-desk_grows w s d is site next stands kept =
+    → HasApplied (applied w s) d.ledger → Leads w (with_desk w s d) → WorldGoesOn w (with_desk w s d)
+desk_grows w s d is site next stands by =
     let new : WorldValue = with_desk w s d in
     let logs : LogsGoOn w new =
-    record { same = same_count w s d; longer = logs_longer w s d site next; chains = λ o. (kept.sites o).chain } in
+    record { same = same_count w s d; longer = logs_longer w s d site next; chains = λ o. (by.kept.sites o).chain } in
     record {
-      kept = kept;
-      rows = is.rows ∙ sym (same_count w s d);
-      sites = λ k among. site_still w s d is site next stands k (subst (λ n. IsSiteOf n k) (same_count w s d) among);
-      links = λ k o l there. link_goes_on w new k o l logs (is.links k o l there);
-      native = native_still w s d is site next;
-      sent = all_sent_go_on w new w.packets logs is.sent;
+      is = record {
+        kept = by.kept;
+        rows = is.rows ∙ sym (same_count w s d);
+        sites = λ k among. site_still w s d is site next stands k (subst (λ n. IsSiteOf n k) (same_count w s d) among);
+        links = λ k o l there. link_goes_on w new k o l logs (is.links k o l there);
+        native = native_still w s d is site next;
+        sent = all_sent_go_on w new w.packets logs is.sent;
+      };
+      refines = by.refines;
     }
 
 -- ---- a desk with the same log and book
@@ -230,7 +232,7 @@ lists_stay w s d site same = record {
 -- nothing changed but the log's cursors, what waits, the asks and the time
 pub same_log : (w : WorldValue) (s : ℕ) (d : DeskValue) → IsWorld w → IsSiteOf (count w) s
     → d.ledger.log.site ≡ (desk w s).ledger.log.site → d.ledger.log.entries ≡ log w s
-    → d.ledger.book ≡ (desk w s).ledger.book → d.manager.me ≡ (desk w s).manager.me → IsWorld (with_desk w s d)
+    → d.ledger.book ≡ (desk w s).ledger.book → d.manager.me ≡ (desk w s).manager.me → WorldGoesOn w (with_desk w s d)
 same_log w s d is site me entries book manager =
     let here : SiteSound w s = is.sites s site in
     let next : DeskGoesOn w s d = record {
@@ -245,11 +247,11 @@ same_log w s d is site me entries book manager =
     let stands : HasApplied (applied w s) d.ledger =
     record { in_book = rw book here.applied.in_book; kept = rw (book, me, entries) here.applied.kept } in
     desk_grows w s d is site next stands
-    (step_keeps (lists_of w) Nothing (lists_of (with_desk w s d)) is.kept (lists_stay w s d site entries))
+    (leads w (with_desk w s d) Nothing is (lists_stay w s d site entries))
 
 -- nothing changed but what waits, the asks and the time
 pub same_ledger : (w : WorldValue) (s : ℕ) (d : DeskValue) → IsWorld w → IsSiteOf (count w) s
-    → d.ledger ≡ (desk w s).ledger → d.manager.me ≡ (desk w s).manager.me → IsWorld (with_desk w s d)
+    → d.ledger ≡ (desk w s).ledger → d.manager.me ≡ (desk w s).manager.me → WorldGoesOn w (with_desk w s d)
 same_ledger w s d is site same manager =
     same_log w s d is site (ap (λ (l : LedgerValue). l.log.site) same) (ap (λ (l : LedgerValue). l.log.entries) same)
     (ap (λ (l : LedgerValue). l.book) same) manager
@@ -267,14 +269,14 @@ publishes_same d p (Some m) = record { site = refl; entries = refl }
 
 -- s published its next entry for p
 pub published : (w : WorldValue) (s p : ℕ) → IsWorld w → IsSiteOf (count w) s
-    → IsWorld (with_desk w s (after_publish (desk w s) p))
+    → WorldGoesOn w (with_desk w s (after_publish (desk w s) p))
 published w s p is site =
     let same = publishes_same (desk w s) p (next_push (desk w s).ledger.log p) in
     same_log w s (after_publish (desk w s) p) is site same.site same.entries refl refl
 
 -- an ask of s ended
 pub ask_denied : (w : WorldValue) (s j a : ℕ) → IsWorld w → IsSiteOf (count w) s
-    → IsWorld (with_desk w s (record (desk w s) { manager = ended (desk w s).manager j a }))
+    → WorldGoesOn w (with_desk w s (record (desk w s) { manager = ended (desk w s).manager j a }))
 ask_denied w s j a is site =
     same_ledger w s (record (desk w s) { manager = ended (desk w s).manager j a }) is site refl refl
 
@@ -317,8 +319,8 @@ others_stay w s d site = record {
 
 -- an entry keeps the world, where the protocol's part is kept
 entry_keeps : (w : WorldValue) (s : ℕ) (ms : List Move) (d : DeskValue) → IsWorld w → IsSiteOf (count w) s
-    → Wrote w s ms d → Kept (lists_of (with_desk w s d)) → IsWorld (with_desk w s d)
-entry_keeps w s ms d is site wrote kept =
+    → Wrote w s ms d → Leads w (with_desk w s d) → WorldGoesOn w (with_desk w s d)
+entry_keeps w s ms d is site wrote by =
     let here : SiteSound w s = is.sites s site in
     let stands : d.ledger.log.entries ≡ log w s ++ entry_by w s ms ∷ [] = entry_stands w s ms d is site wrote in
     let next : DeskGoesOn w s d = record {
@@ -331,11 +333,11 @@ entry_keeps w s ms d is site wrote kept =
       native = subst (NativeLog (count w)) (sym stands)
           (native_push (count w) (log w s) (entry_by w s ms) (is.native s) wrote.native);
     } in
-    desk_grows w s d is site next (wrote.applied.all (applied w s) here.applied) kept
+    desk_grows w s d is site next (wrote.applied.all (applied w s) here.applied) by
 
 -- an ordinary entry keeps the world
 pub wrote : (w : WorldValue) (s : ℕ) (ms : List Move) (d : DeskValue) → IsWorld w → IsSiteOf (count w) s
-    → WritesEntry (desk w s).ledger ms d.ledger → d.manager.me ≡ (desk w s).manager.me → IsWorld (with_desk w s d)
+    → WritesEntry (desk w s).ledger ms d.ledger → d.manager.me ≡ (desk w s).manager.me → WorldGoesOn w (with_desk w s d)
 wrote w s ms d is site h manager =
     let here : SiteSound w s = is.sites s site in
     let by_log : MayAppend (count w) (desk w s).ledger.log.site (log w s) (applied w s) ms =
@@ -351,7 +353,7 @@ wrote w s ms d is site h manager =
       native = native_append (count w) s (log w s) (applied w s) ms may;
     } in
     entry_keeps w s ms d is site how
-    (step_keeps (lists_of w) (Append s ms) (lists_of (with_desk w s d)) is.kept (record {
+    (leads w (with_desk w s d) (Append s ms) is (record {
       site = site;
       may = may;
       log = log_there w s ms d is site how;
@@ -380,7 +382,7 @@ closes_here w s heir is site h =
 
 -- a closing entry keeps the world
 pub closed : (w : WorldValue) (s : ℕ) (heir : Option ℕ) (d : DeskValue) → IsWorld w → IsSiteOf (count w) s
-    → WritesClosing (desk w s).ledger heir d.ledger → d.manager.me ≡ (desk w s).manager.me → IsWorld (with_desk w s d)
+    → WritesClosing (desk w s).ledger heir d.ledger → d.manager.me ≡ (desk w s).manager.me → WorldGoesOn w (with_desk w s d)
 closed w s heir d is site h manager =
     let by : ClosesHere w s heir = closes_here w s heir is site (h.may (applied w s) (is.sites s site).applied) in
     let ms : List Move = closing_moves (count w) s (log w s) (applied w s) heir in
@@ -392,7 +394,7 @@ closed w s heir d is site h manager =
       native = native_closing (count w) s (log w s) (applied w s) heir by.may;
     } in
     entry_keeps w s ms d is site how
-    (step_keeps (lists_of w) (CloseSite s heir) (lists_of (with_desk w s d)) is.kept (record {
+    (leads w (with_desk w s d) (CloseSite s heir) is (record {
       site = site;
       may = by.may;
       log = log_there w s ms d is site how;
@@ -404,7 +406,7 @@ closed w s heir d is site h manager =
 
 -- s answered an ask: by an entry, or by none
 pub answered : (w : WorldValue) (s : ℕ) (ask : AskValue) (answer : AskAnswer) (number : Option ℕ) (d : DeskValue)
-    → IsWorld w → IsSiteOf (count w) s → DeskAnswers (desk w s) ask answer number d → IsWorld (with_desk w s d)
+    → IsWorld w → IsSiteOf (count w) s → DeskAnswers (desk w s) ask answer number d → WorldGoesOn w (with_desk w s d)
 answered w s ask (Granted n) number d is site h =
     wrote w s (Grant ask.asker n ask.ask ∷ []) d is site h.0 (ap (λ (x : DeskValue). x.manager.me) h.2)
 answered w s ask Deny number d is site h =

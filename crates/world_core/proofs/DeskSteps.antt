@@ -17,48 +17,49 @@ use Rattle.world_core.specs.declared.reply.Reply.{Reply}
 use Rattle.world_core.specs.declared.reply.Reply.TheVariants.{Number, Spent, Queued, Served, Expired, Tells, Asks, Nothing}
 use Rattle.world_core.specs.declared.fault.WorldError.{WorldError}
 use Rattle.world_core.specs.declared.fault.WorldError.TheVariants.{Desk, OutOfMemory}
+use Rattle.world_core.proofs.WorldGoesOn.{WorldGoesOn, unchanged}
 use Rattle.world_core.proofs.DeskKeeps.{wrote, closed, same_ledger}
 use Rattle.world_core.proofs.SendKeeps.{site_known}
 
 -- whatever a desk may leave with a reply keeps the world, so whatever comes of the event does
 pub at_desk : {A : Type 0} (old new : WorldValue) (s : ℕ) (fault : Option DeskError) (Wants : Type 0)
     → (Leaves : Reply A → DeskValue → Type 0) (outcome : Result (Reply A) WorldError) → IsWorld old
-    → ((reply : Reply A) (d : DeskValue) → Leaves reply d → IsWorld (with_desk old s d))
-    → AtDesk old s fault Wants Leaves outcome new → IsWorld new
-at_desk old new s fault Wants Leaves (Ok reply) is keeps h = subst IsWorld (sym h.1.2) (keeps reply h.1.0 h.1.1)
-at_desk old new s fault Wants Leaves (Err (Desk cause)) is keeps h = subst IsWorld (sym h.1) is
-at_desk old new s fault Wants Leaves (Err OutOfMemory) is keeps h = subst IsWorld (sym h.2) is
+    → ((reply : Reply A) (d : DeskValue) → Leaves reply d → WorldGoesOn old (with_desk old s d))
+    → AtDesk old s fault Wants Leaves outcome new → WorldGoesOn old new
+at_desk old new s fault Wants Leaves (Ok reply) is keeps h = subst (WorldGoesOn old) (sym h.1.2) (keeps reply h.1.0 h.1.1)
+at_desk old new s fault Wants Leaves (Err (Desk cause)) is keeps h = subst (WorldGoesOn old) (sym h.1) (unchanged old is)
+at_desk old new s fault Wants Leaves (Err OutOfMemory) is keeps h = subst (WorldGoesOn old) (sym h.2) (unchanged old is)
 at_desk old new s fault Wants Leaves (Err other) is keeps h = absurd h
 
 -- ---- entries
 
 -- a desk that wrote an entry
 desk_wrote : (w : WorldValue) (s : ℕ) (ms : List Move) (d : DeskValue) → IsWorld w → IsSiteOf (count w) s
-    → DeskWrites (desk w s) ms d → IsWorld (with_desk w s d)
+    → DeskWrites (desk w s) ms d → WorldGoesOn w (with_desk w s d)
 desk_wrote w s ms d is site h = wrote w s ms d is site h.entry (ap (λ (x : DeskValue). x.manager.me) h.rest)
 
 -- .. and told its number
 writes_keep : {A : Type 0} (w : WorldValue) (s : ℕ) (ms : List Move) (reply : Reply A) (d : DeskValue) → IsWorld w
-    → IsSiteOf (count w) s → Writes (desk w s) ms reply d → IsWorld (with_desk w s d)
+    → IsSiteOf (count w) s → Writes (desk w s) ms reply d → WorldGoesOn w (with_desk w s d)
 writes_keep w s ms (Number n) d is site h = desk_wrote w s ms d is site h.0
 writes_keep w s ms reply d is site h = absurd h
 
 -- a post, an issue and a gift write an entry
 pub post_keeps : {A : Type 0} (old new : WorldValue) (s : ℕ) (ms : List Move) (outcome : Result (Reply A) WorldError)
-    → IsWorld old → site_fault old s ≡ None → PostHappens old s ms outcome new → IsWorld new
+    → IsWorld old → site_fault old s ≡ None → PostHappens old s ms outcome new → WorldGoesOn old new
 post_keeps old new s ms outcome is known h =
     at_desk old new s (post_fault (desk old s) ms) Always (Writes (desk old s) ms) outcome is
     (λ reply d. writes_keep old s ms reply d is (site_known old s known)) h
 
 pub issue_keeps : {A : Type 0} (old new : WorldValue) (s n : ℕ) (outcome : Result (Reply A) WorldError) → IsWorld old
-    → site_fault old s ≡ None → IssueHappens old s n outcome new → IsWorld new
+    → site_fault old s ≡ None → IssueHappens old s n outcome new → WorldGoesOn old new
 issue_keeps old new s n outcome is known h =
     let ms : List Move = Issues n ∷ [] in
     at_desk old new s (issue_fault (desk old s) n) Always (Writes (desk old s) ms) outcome is
     (λ reply d. writes_keep old s ms reply d is (site_known old s known)) h
 
 pub give_keeps : {A : Type 0} (old new : WorldValue) (s j n : ℕ) (outcome : Result (Reply A) WorldError) → IsWorld old
-    → site_fault old s ≡ None → GiveHappens old s j n outcome new → IsWorld new
+    → site_fault old s ≡ None → GiveHappens old s j n outcome new → WorldGoesOn old new
 give_keeps old new s j n outcome is known h =
     let ms : List Move = Gives j n ∷ [] in
     at_desk old new s (give_fault (desk old s) j n) Always (Writes (desk old s) ms) outcome is
@@ -68,14 +69,14 @@ give_keeps old new s j n outcome is known h =
 
 -- a spend is served at once or waits
 spends_keep : {A : Type 0} (w : WorldValue) (s n deadline : ℕ) (reply : Reply A) (d : DeskValue) → IsWorld w
-    → IsSiteOf (count w) s → Spends (desk w s) n deadline reply d → IsWorld (with_desk w s d)
+    → IsSiteOf (count w) s → Spends (desk w s) n deadline reply d → WorldGoesOn w (with_desk w s d)
 spends_keep w s n deadline (Spent number) d is site h = desk_wrote w s (SpendsRights n ∷ []) d is site h.1
 spends_keep w s n deadline (Queued ticket) d is site h =
     same_ledger w s d is site (ap (λ (x : DeskValue). x.ledger) h.2) (ap (λ (x : DeskValue). x.manager.me) h.2)
 spends_keep w s n deadline reply d is site h = absurd h
 
 pub spend_keeps : {A : Type 0} (old new : WorldValue) (s n deadline : ℕ) (outcome : Result (Reply A) WorldError)
-    → IsWorld old → site_fault old s ≡ None → SpendHappens old s n deadline outcome new → IsWorld new
+    → IsWorld old → site_fault old s ≡ None → SpendHappens old s n deadline outcome new → WorldGoesOn old new
 spend_keeps old new s n deadline outcome is known h =
     at_desk old new s (spend_fault (desk old s) n) (can_spend (desk old s) n ≡ true)
     (Spends (desk old s) n deadline) outcome is
@@ -83,7 +84,7 @@ spend_keeps old new s n deadline outcome is known h =
 
 -- the front spend is served, or none
 serves_keep : {A : Type 0} (w : WorldValue) (s : ℕ) (reply : Reply A) (d : DeskValue) → IsWorld w → IsSiteOf (count w) s
-    → Serves (desk w s) reply d → IsWorld (with_desk w s d)
+    → Serves (desk w s) reply d → WorldGoesOn w (with_desk w s d)
 serves_keep w s (Served ticket number) d is site h =
     wrote w s (SpendsRights h.amount ∷ []) d is site h.entry (ap (λ (x : DeskValue). x.manager.me) h.rest)
 serves_keep w s Nothing d is site h =
@@ -91,7 +92,7 @@ serves_keep w s Nothing d is site h =
 serves_keep w s reply d is site h = absurd h
 
 pub serve_keeps : {A : Type 0} (old new : WorldValue) (s : ℕ) (outcome : Result (Reply A) WorldError) → IsWorld old
-    → site_fault old s ≡ None → ServeHappens old s outcome new → IsWorld new
+    → site_fault old s ≡ None → ServeHappens old s outcome new → WorldGoesOn old new
 serve_keeps old new s outcome is known h =
     at_desk old new s (serve_fault (desk old s)) (can_serve (desk old s) (front_of (desk old s).queue.waiting) ≡ true)
     (Serves (desk old s)) outcome is
@@ -99,26 +100,26 @@ serve_keeps old new s outcome is known h =
 
 -- late spends expire
 expires_keep : {A : Type 0} (w : WorldValue) (s time : ℕ) (reply : Reply A) (d : DeskValue) → IsWorld w
-    → IsSiteOf (count w) s → Expires (desk w s) time reply d → IsWorld (with_desk w s d)
+    → IsSiteOf (count w) s → Expires (desk w s) time reply d → WorldGoesOn w (with_desk w s d)
 expires_keep w s time (Expired n) d is site h =
     same_ledger w s d is site (ap (λ (x : DeskValue). x.ledger) h.rest) (ap (λ (x : DeskValue). x.manager.me) h.rest)
 expires_keep w s time reply d is site h = absurd h
 
 pub expire_keeps : {A : Type 0} (old new : WorldValue) (s time : ℕ) (outcome : Result (Reply A) WorldError)
-    → IsWorld old → site_fault old s ≡ None → ExpireHappens old s time outcome new → IsWorld new
+    → IsWorld old → site_fault old s ≡ None → ExpireHappens old s time outcome new → WorldGoesOn old new
 expire_keeps old new s time outcome is known h =
     at_desk old new s (expire_fault (desk old s) time) Never (Expires (desk old s) time) outcome is
     (λ reply d. expires_keep old s time reply d is (site_known old s known)) h
 
 -- an outcome is told
 tells_keep : {A : Type 0} (w : WorldValue) (s ticket : ℕ) (reply : Reply A) (d : DeskValue) → IsWorld w
-    → IsSiteOf (count w) s → TellsStatus (desk w s) ticket reply d → IsWorld (with_desk w s d)
+    → IsSiteOf (count w) s → TellsStatus (desk w s) ticket reply d → WorldGoesOn w (with_desk w s d)
 tells_keep w s ticket (Tells status) d is site h =
     same_ledger w s d is site (ap (λ (x : DeskValue). x.ledger) h.1) (ap (λ (x : DeskValue). x.manager.me) h.1)
 tells_keep w s ticket reply d is site h = absurd h
 
 pub status_keeps : {A : Type 0} (old new : WorldValue) (s ticket : ℕ) (outcome : Result (Reply A) WorldError)
-    → IsWorld old → site_fault old s ≡ None → StatusHappens old s ticket outcome new → IsWorld new
+    → IsWorld old → site_fault old s ≡ None → StatusHappens old s ticket outcome new → WorldGoesOn old new
 status_keeps old new s ticket outcome is known h =
     at_desk old new s None Never (TellsStatus (desk old s) ticket) outcome is
     (λ reply d. tells_keep old s ticket reply d is (site_known old s known)) h
@@ -127,13 +128,13 @@ status_keeps old new s ticket outcome is known h =
 
 -- asks are planned
 plans_keep : {A : Type 0} (w : WorldValue) (s : ℕ) (reply : Reply A) (d : DeskValue) → IsWorld w → IsSiteOf (count w) s
-    → PlansAsks (desk w s) reply d → IsWorld (with_desk w s d)
+    → PlansAsks (desk w s) reply d → WorldGoesOn w (with_desk w s d)
 plans_keep w s (Asks n) d is site h =
     same_ledger w s d is site (ap (λ (x : DeskValue). x.ledger) h.rest) h.by_book.same.same_me
 plans_keep w s reply d is site h = absurd h
 
 pub plan_keeps : {A : Type 0} (old new : WorldValue) (s : ℕ) (outcome : Result (Reply A) WorldError) → IsWorld old
-    → site_fault old s ≡ None → PlanHappens old s outcome new → IsWorld new
+    → site_fault old s ≡ None → PlanHappens old s outcome new → WorldGoesOn old new
 plan_keeps old new s outcome is known h =
     at_desk old new s None Never (PlansAsks (desk old s)) outcome is
     (λ reply d. plans_keep old s reply d is (site_known old s known)) h
@@ -142,13 +143,13 @@ plan_keeps old new s outcome is known h =
 
 -- the site closes
 closes_keep : {A : Type 0} (w : WorldValue) (s : ℕ) (heir : Option ℕ) (reply : Reply A) (d : DeskValue) → IsWorld w
-    → IsSiteOf (count w) s → Closes (desk w s) heir reply d → IsWorld (with_desk w s d)
+    → IsSiteOf (count w) s → Closes (desk w s) heir reply d → WorldGoesOn w (with_desk w s d)
 closes_keep w s heir (Number n) d is site h =
     closed w s heir d is site h.0.entry (ap (λ (x : DeskValue). x.manager.me) h.0.rest)
 closes_keep w s heir reply d is site h = absurd h
 
 pub close_keeps : {A : Type 0} (old new : WorldValue) (s : ℕ) (heir : Option ℕ) (outcome : Result (Reply A) WorldError)
-    → IsWorld old → site_fault old s ≡ None → CloseHappens old s heir outcome new → IsWorld new
+    → IsWorld old → site_fault old s ≡ None → CloseHappens old s heir outcome new → WorldGoesOn old new
 close_keeps old new s heir outcome is known h =
     at_desk old new s (close_fault (desk old s) heir) Always (Closes (desk old s) heir) outcome is
     (λ reply d. closes_keep old s heir reply d is (site_known old s known)) h

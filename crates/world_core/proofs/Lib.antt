@@ -1,5 +1,6 @@
 pub mod Walks
 pub mod Native
+pub mod WorldGoesOn
 pub mod DeskKeeps
 pub mod DeskSteps
 pub mod LinkKeeps
@@ -8,6 +9,7 @@ pub mod TakeKeeps
 pub mod PacketKeeps
 pub mod StartLaws
 pub mod WorldLaws
+pub mod RefinementLaws
 pub mod EventPlaces
 pub mod DeskCalls
 pub mod LinkCalls

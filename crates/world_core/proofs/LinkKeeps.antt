@@ -11,9 +11,7 @@ use Rattle.rights_types.specs.Messages.{QueryValue}
 use Rattle.rights_types.proofs.Places.{at_set_site, length-set_site, set_site-at_site}
 use Rattle.rights_protocol.specs.Lists.{IsSiteOf}
 use Rattle.rights_protocol.specs.Changes.{LinkStays}
-use Rattle.rights_protocol.specs.Changes.Change.{Offer}
-use Rattle.rights_protocol.specs.Kept.{Kept}
-use Rattle.rights_protocol.proofs.Steps.{stays_kept, step_keeps}
+use Rattle.rights_protocol.specs.Changes.Change.{Offer, Nothing}
 use Rattle.sub_buffer.specs.Buffers.{BufferValue, IsSettled, SamePair, told_of}
 use Rattle.sub_buffer.specs.Follows.{Follows, reached_after}
 use Rattle.sub_buffer.specs.Gaps.{asked_for}
@@ -28,6 +26,7 @@ use Rattle.world_core.specs.Worlds.{count, desk, log, row, link, with_link, list
 use Rattle.world_core.specs.LinkEvents.{heard, Asked, LinkTakes, LinkTakesAll, EntriesArrive}
 use Rattle.world_core.specs.Sound.{SiteSound, LinkSound, IsWorld}
 use Rattle.world_core.specs.declared.reply.Verdict.{Verdict}
+use Rattle.world_core.proofs.WorldGoesOn.{Leads, leads_nowhere, leads_on, leads, WorldGoesOn}
 use Rattle.world_core.proofs.DeskKeeps.{LogsGoOn, link_goes_on, all_sent_go_on}
 
 -- lists that are the same everywhere are the same function
@@ -122,43 +121,46 @@ ends_differ w s o l is site there e =
 -- a world with another link that is sound, of which the same was applied
 pub link_keeps : (w : WorldValue) (s o : ℕ) (old new : LinkValue) → IsWorld w → IsSiteOf (count w) s
     → IsSiteOf (count w) o → link w s o ≡ Some old → LinkSound w s o new
-    → new.applied ≡ old.applied → Kept (lists_of (with_link w s o new)) → IsWorld (with_link w s o new)
-link_keeps w s o old new is site from there sound same kept =
+    → new.applied ≡ old.applied → Leads w (with_link w s o new) → WorldGoesOn w (with_link w s o new)
+link_keeps w s o old new is site from there sound same by =
     let later : WorldValue = with_link w s o new in
     let logs : LogsGoOn w later = logs_stay w later is refl (λ k. refl) in
     record {
-      kept = kept;
-      rows = length-set_site w.links s (set_site (row w s) o (Some new)) ∙ is.rows;
-      sites = λ k among.
-          let x : SiteSound w k = is.sites k among in
-          let applies : applied later k ≡ applied w k =
-          same_lists (applied w k) (applied later k)
-          (λ j. list_kept w s o k j old new (λ l. l.applied) is site from there same) in
-          record {
-            me = x.me;
-            manager = x.manager;
-            system = x.system;
-            applied = subst (λ lists. HasApplied lists (desk w k).ledger) (sym applies) x.applied;
-            width = width_kept w s o k new is site ∙ x.width;
-            itself = elim (link_cases w s o k k new is site from) [
-              | inl p ↦ absurd (ends_differ w s o old is site there (sym p.0 ∙ p.1))
-              | inr p ↦ p.1 ∙ x.itself
-            ];
-            others = λ j a ne. elim (link_cases w s o k j new is site from) [
-              | inl p ↦ (new, p.2)
-              | inr p ↦ let other = x.others j a ne in (other.0, p.1 ∙ other.1)
-            ];
-          };
-      links = λ k j l at. elim (link_cases w s o k j new is site from) [
-        | inl p ↦
-            let e : new ≡ l = let both : Some new ≡ Some l = sym p.2 ∙ at in cc in
-            subst (λ i. LinkSound later i j l) (sym p.0)
-            (subst (λ i. LinkSound later s i l) (sym p.1)
-            (subst (λ x. LinkSound later s o x) e (link_goes_on w later s o new logs sound)))
-        | inr p ↦ link_goes_on w later k j l logs (is.links k j l (sym p.1 ∙ at))
-      ];
-      native = is.native;
-      sent = all_sent_go_on w later w.packets logs is.sent;
+      is = record {
+        kept = by.kept;
+        rows = length-set_site w.links s (set_site (row w s) o (Some new)) ∙ is.rows;
+        sites = λ k among.
+            let x : SiteSound w k = is.sites k among in
+            let applies : applied later k ≡ applied w k =
+            same_lists (applied w k) (applied later k)
+            (λ j. list_kept w s o k j old new (λ l. l.applied) is site from there same) in
+            record {
+              me = x.me;
+              manager = x.manager;
+              system = x.system;
+              applied = subst (λ lists. HasApplied lists (desk w k).ledger) (sym applies) x.applied;
+              width = width_kept w s o k new is site ∙ x.width;
+              itself = elim (link_cases w s o k k new is site from) [
+                | inl p ↦ absurd (ends_differ w s o old is site there (sym p.0 ∙ p.1))
+                | inr p ↦ p.1 ∙ x.itself
+              ];
+              others = λ j a ne. elim (link_cases w s o k j new is site from) [
+                | inl p ↦ (new, p.2)
+                | inr p ↦ let other = x.others j a ne in (other.0, p.1 ∙ other.1)
+              ];
+            };
+        links = λ k j l at. elim (link_cases w s o k j new is site from) [
+          | inl p ↦
+              let e : new ≡ l = let both : Some new ≡ Some l = sym p.2 ∙ at in cc in
+              subst (λ i. LinkSound later i j l) (sym p.0)
+              (subst (λ i. LinkSound later s i l) (sym p.1)
+              (subst (λ x. LinkSound later s o x) e (link_goes_on w later s o new logs sound)))
+          | inr p ↦ link_goes_on w later k j l logs (is.links k j l (sym p.1 ∙ at))
+        ];
+        native = is.native;
+        sent = all_sent_go_on w later w.packets logs is.sent;
+      };
+      refines = by.refines;
     }
 
 -- a link whose lists stay
@@ -173,10 +175,10 @@ link_stays old new s o same = record {
 -- a world whose links have other inbounds with the same lists
 pub lists_keep : (w : WorldValue) (s o : ℕ) (old new : LinkValue) → IsWorld w → IsSiteOf (count w) s
     → IsSiteOf (count w) o → link w s o ≡ Some old → LinkSound w s o new
-    → new.reached ≡ old.reached → new.put ≡ old.put → new.applied ≡ old.applied → IsWorld (with_link w s o new)
+    → new.reached ≡ old.reached → new.put ≡ old.put → new.applied ≡ old.applied → WorldGoesOn w (with_link w s o new)
 lists_keep w s o old new is site from there sound reaches puts applies =
     link_keeps w s o old new is site from there sound applies
-    (stays_kept (lists_of w) (lists_of (with_link w s o new)) is.kept (record {
+    (leads w (with_link w s o new) Nothing is (record {
       count = refl;
       sites = λ k. record {
         log = refl;
@@ -198,7 +200,7 @@ beat_same b n settled = beat b.closed
     beat false = (record { me = refl; origin = refl }, settled)
 
 pub beat_keeps : (w : WorldValue) (s o n : ℕ) (l : LinkValue) → IsWorld w → IsSiteOf (count w) s → IsSiteOf (count w) o
-    → link w s o ≡ Some l → IsWorld (with_link w s o (heard l n))
+    → link w s o ≡ Some l → WorldGoesOn w (with_link w s o (heard l n))
 beat_keeps w s o n l is site from there =
     let sound : LinkSound w s o l = is.links s o l there in
     let b : BufferValue = l.inbound.buffer in
@@ -219,7 +221,7 @@ asked_same b None settled = (record { me = refl; origin = refl }, settled)
 asked_same b (Some q) settled = (record { me = refl; origin = refl }, settled)
 
 pub asked_keeps : (w new : WorldValue) (s o : ℕ) (again : Bool) (q : Option QueryValue) → IsWorld w
-    → IsSiteOf (count w) s → IsSiteOf (count w) o → Asked w s o again q new → IsWorld new
+    → IsSiteOf (count w) s → IsSiteOf (count w) o → Asked w s o again q new → WorldGoesOn w new
 asked_keeps w new s o again q is site from h =
     let l : LinkValue = h.before in
     let sound : LinkSound w s o l = is.links s o l h.there in
@@ -233,14 +235,14 @@ asked_keeps w new s o again q is site from h =
       settled = asked.1;
       follows = follows_asked b q (log w o) l.reached l.put sound.follows;
     }) refl refl refl in
-    subst IsWorld (sym (h.left ∙ ap (λ i. with_link w s o (record l { inbound = i })) h.asks.left)) keeps
+    subst (WorldGoesOn w) (sym (h.left ∙ ap (λ i. with_link w s o (record l { inbound = i })) h.asks.left)) keeps
 
 -- ---- entries
 
 -- the link of s to o is as good as this one
 record Takes (w : WorldValue) (s o : ℕ) (l : LinkValue) : Type 0 where
   pub sound : LinkSound w s o l
-  pub kept : Kept (lists_of (with_link w s o l))
+  pub by : Leads w (with_link w s o l)
 
 -- between two links of one pair, all other lists stay
 record Between (w : WorldValue) (s o : ℕ) (old new : LinkValue) : Type 0 where
@@ -266,12 +268,12 @@ HasRoom e came puts = (e.prev ≡ end puts) ⊎ (¬ IsFull came puts)
 -- an entry reached the link
 reach_kept : (w : WorldValue) (s o : ℕ) (old new : LinkValue) (e : EntryValue) → IsWorld w → IsSiteOf (count w) s
     → IsSiteOf (count w) o → s ≢ o → Contains (log w o) e
-    → Kept (lists_of (with_link w s o old)) → ¬ Contains old.reached e
+    → Leads w (with_link w s o old) → ¬ Contains old.reached e
     → HasRoom e old.reached old.put → new.reached ≡ old.reached ++ e ∷ []
-    → IsLongest new.reached (log w o) new.put → new.applied ≡ old.applied → Kept (lists_of (with_link w s o new))
-reach_kept w s o old new e is site from differ has kept fresh room more longest same =
+    → IsLongest new.reached (log w o) new.put → new.applied ≡ old.applied → Leads w (with_link w s o new)
+reach_kept w s o old new e is site from differ has by fresh room more longest same =
     let b : Between w s o old new = between w s o old new is site from in
-    step_keeps (lists_of (with_link w s o old)) (Offer s o e) (lists_of (with_link w s o new)) kept (record {
+    leads_on w (with_link w s o old) (with_link w s o new) (Offer s o e) by (record {
       site = site;
       from = from;
       differ = differ;
@@ -293,16 +295,16 @@ reach_kept w s o old new e is site from differ has kept fresh room more longest 
 
 -- an entry did not
 stay_kept : (w : WorldValue) (s o : ℕ) (old new : LinkValue) → IsWorld w → IsSiteOf (count w) s → IsSiteOf (count w) o
-    → Kept (lists_of (with_link w s o old))
-    → new.reached ≡ old.reached → new.put ≡ old.put → new.applied ≡ old.applied → Kept (lists_of (with_link w s o new))
-stay_kept w s o old new is site from kept reaches puts applies =
+    → Leads w (with_link w s o old)
+    → new.reached ≡ old.reached → new.put ≡ old.put → new.applied ≡ old.applied → Leads w (with_link w s o new)
+stay_kept w s o old new is site from by reaches puts applies =
     let b : Between w s o old new = between w s o old new is site from in
     let here : LinkStays (lists_of (with_link w s o old)) (lists_of (with_link w s o new)) s o = record {
       reached = b.now (λ l. l.reached) ∙ reaches ∙ sym (b.here (λ l. l.reached));
       put = b.now (λ l. l.put) ∙ puts ∙ sym (b.here (λ l. l.put));
       applied = b.now (λ l. l.applied) ∙ applies ∙ sym (b.here (λ l. l.applied));
     } in
-    stays_kept (lists_of (with_link w s o old)) (lists_of (with_link w s o new)) kept (record {
+    leads_on w (with_link w s o old) (with_link w s o new) Nothing by (record {
       count = refl;
       sites = λ k. record {
         log = refl;
@@ -325,21 +327,21 @@ none_freed put freed now is none = is ∙ ap (λ (es : List EntryValue). put ++ 
 
 entry_kept : {A : Type 0} (w : WorldValue) (s o : ℕ) (old new : LinkValue) (e : EntryValue) (v : BufferVerdict A)
     (freed : List EntryValue) → IsWorld w → IsSiteOf (count w) s
-    → IsSiteOf (count w) o → s ≢ o → Contains (log w o) e → Kept (lists_of (with_link w s o old))
-    → LinkTakes (log w o) old e v freed new → Kept (lists_of (with_link w s o new))
-entry_kept w s o old new e (IsReady x) freed is site from differ has kept h =
-    reach_kept w s o old new e is site from differ has kept h.verdict.0 (inl h.verdict.1) h.reached h.longest
+    → IsSiteOf (count w) o → s ≢ o → Contains (log w o) e → Leads w (with_link w s o old)
+    → LinkTakes (log w o) old e v freed new → Leads w (with_link w s o new)
+entry_kept w s o old new e (IsReady x) freed is site from differ has by h =
+    reach_kept w s o old new e is site from differ has by h.verdict.0 (inl h.verdict.1) h.reached h.longest
     (ap (λ (l : LinkValue). l.applied) h.rest)
-entry_kept w s o old new e IsHeld freed is site from differ has kept h =
-    reach_kept w s o old new e is site from differ has kept h.verdict.0 (inr h.verdict.2) h.reached h.longest
+entry_kept w s o old new e IsHeld freed is site from differ has by h =
+    reach_kept w s o old new e is site from differ has by h.verdict.0 (inr h.verdict.2) h.reached h.longest
     (ap (λ (l : LinkValue). l.applied) h.rest)
-entry_kept w s o old new e IsRepeat freed is site from differ has kept h =
-    stay_kept w s o old new is site from kept h.reached (none_freed old.put freed new.put h.put h.buffer.frees)
+entry_kept w s o old new e IsRepeat freed is site from differ has by h =
+    stay_kept w s o old new is site from by h.reached (none_freed old.put freed new.put h.put h.buffer.frees)
     (ap (λ (l : LinkValue). l.applied) h.rest)
-entry_kept w s o old new e IsLost freed is site from differ has kept h =
-    stay_kept w s o old new is site from kept h.reached (none_freed old.put freed new.put h.put h.buffer.frees)
+entry_kept w s o old new e IsLost freed is site from differ has by h =
+    stay_kept w s o old new is site from by h.reached (none_freed old.put freed new.put h.put h.buffer.frees)
     (ap (λ (l : LinkValue). l.applied) h.rest)
-entry_kept w s o old new e IsAfterClose freed is site from differ has kept h = absurd h.verdict
+entry_kept w s o old new e IsAfterClose freed is site from differ has by h = absurd h.verdict
 
 entry_sound : {A : Type 0} (w : WorldValue) (s o : ℕ) (old new : LinkValue) (e : EntryValue) (v : BufferVerdict A)
     (freed : List EntryValue) → Contains (log w o) e → LinkSound w s o old
@@ -366,7 +368,7 @@ all_taken A w s o old new (e ∷ rest) verdicts is site from differ has (v, free
     let first : Contains (log w o) e = All-head (Contains (log w o)) e rest has in
     let now : Takes w s o mid = record {
       sound = entry_sound w s o old mid e v freed first t.sound takes;
-      kept = entry_kept w s o old mid e v freed is site from differ first t.kept takes;
+      by = entry_kept w s o old mid e v freed is site from differ first t.by takes;
     } in
     let all =
     all_taken A w s o mid new rest more is site from differ (All-tail (Contains (log w o)) e rest has) later now in
@@ -374,11 +376,11 @@ all_taken A w s o old new (e ∷ rest) verdicts is site from differ has (v, free
 
 pub entries_keep : (A : Type 0) (w new : WorldValue) (s o : ℕ) (entries : List EntryValue) (verdicts : List Verdict)
     → IsWorld w → IsSiteOf (count w) s → IsSiteOf (count w) o
-    → All (Contains (log w o)) entries → EntriesArrive A w s o entries verdicts new → IsWorld new
+    → All (Contains (log w o)) entries → EntriesArrive A w s o entries verdicts new → WorldGoesOn w new
 entries_keep A w new s o entries verdicts is site from has h =
     let differ : s ≢ o = ends_differ w s o h.before is site h.there in
     let all = all_taken A w s o h.before h.after entries verdicts is site from differ has h.takes (record {
       sound = is.links s o h.before h.there;
-      kept = subst (λ x. Kept (lists_of x)) (sym (link_again w s o h.before h.there)) is.kept;
+      by = subst (Leads w) (sym (link_again w s o h.before h.there)) (leads_nowhere w is);
     }) in
-    subst IsWorld (sym h.left) (link_keeps w s o h.before h.after is site from h.there all.0.sound all.1 all.0.kept)
+    subst (WorldGoesOn w) (sym h.left) (link_keeps w s o h.before h.after is site from h.there all.0.sound all.1 all.0.by)

@@ -29,6 +29,7 @@ use Rattle.world_core.specs.declared.reply.Reply.{Reply}
 use Rattle.world_core.specs.declared.reply.Reply.TheVariants.{Verdicts, HeardBeat, Granted, Denied, GrantedBefore, Old, Noted, Nothing}
 use Rattle.world_core.specs.declared.fault.WorldError.{WorldError}
 use Rattle.world_core.specs.declared.fault.WorldError.TheVariants.{NotForSite, NoSuchSite, OutOfMemory}
+use Rattle.world_core.proofs.WorldGoesOn.{WorldGoesOn, unchanged, goes_then}
 use Rattle.world_core.proofs.DeskKeeps.{same_count, answered, ask_denied}
 use Rattle.world_core.proofs.LinkKeeps.{beat_keeps, entries_keep}
 use Rattle.world_core.proofs.SendKeeps.{Ends, among, no_other, sends_keep, sends_if_keeps}
@@ -37,16 +38,16 @@ use Rattle.world_core.proofs.SendKeeps.{Ends, among, no_other, sends_keep, sends
 
 entries_come : {A : Type 0} (w new : WorldValue) (s o : ℕ) (entries : List EntryValue)
     (outcome : Result (Reply A) WorldError) → IsWorld w → Ends w s o → All (Contains (log w o)) entries
-    → EntriesCome w s o entries outcome new → IsWorld new
+    → EntriesCome w s o entries outcome new → WorldGoesOn w new
 entries_come {A} w new s o entries (Ok (Verdicts verdicts)) is ends has h =
     entries_keep A w new s o entries verdicts is ends.site ends.from has h
-entries_come w new s o entries (Err OutOfMemory) is ends has h = subst IsWorld (sym h) is
+entries_come w new s o entries (Err OutOfMemory) is ends has h = subst (WorldGoesOn w) (sym h) (unchanged w is)
 entries_come w new s o entries outcome is ends has h = absurd h
 
 beat_comes : {A : Type 0} (w new : WorldValue) (s o number : ℕ) (outcome : Result (Reply A) WorldError) → IsWorld w
-    → Ends w s o → BeatComes w s o number outcome new → IsWorld new
+    → Ends w s o → BeatComes w s o number outcome new → WorldGoesOn w new
 beat_comes w new s o number (Ok HeardBeat) is ends h =
-    subst IsWorld (sym h.2) (beat_keeps w s o number h.0 is ends.site ends.from h.1)
+    subst (WorldGoesOn w) (sym h.2) (beat_keeps w s o number h.0 is ends.site ends.from h.1)
 beat_comes w new s o number outcome is ends h = absurd h
 
 -- an answer has entries of the log alone
@@ -59,17 +60,17 @@ asked_within es first last =
 answer_or : {A : Type 0} (w new : WorldValue) (s : ℕ) (q : QueryValue) (outcome : Result (Reply A) WorldError)
     (fault : Option ReadError) → IsWorld w → Ends w s q.asker
     → MatchOption fault (SendsIf w s q.asker (Some (AnAnswer (answer_to_query q (desk w s).ledger.log))) outcome new)
-    (λ f. (outcome ≡ Ok Nothing) × (new ≡ w)) → IsWorld new
+    (λ f. (outcome ≡ Ok Nothing) × (new ≡ w)) → WorldGoesOn w new
 answer_or w new s q outcome None is ends h =
     sends_if_keeps w new s q.asker (Some (AnAnswer (answer_to_query q (desk w s).ledger.log))) outcome is ends
     ((is.sites s ends.site).me, refl, asked_within (log w s) q.first q.last) h
-answer_or w new s q outcome (Some fault) is ends h = subst IsWorld (sym h.1) is
+answer_or w new s q outcome (Some fault) is ends h = subst (WorldGoesOn w) (sym h.1) (unchanged w is)
 
 -- ---- asks and denials
 
 denies_keep : (w new : WorldValue) (s o : ℕ) (ask : AskValue) (answer : AskAnswer) (number : ℕ) → IsWorld w
     → Ends w s o → ask.asker ≡ o → ask.asked ≡ s → Denies w s ask answer number new
-    → IsWorld new
+    → WorldGoesOn w new
 denies_keep w new s o ask answer number is ends asker asked h =
     let sites : count (with_desk w s h.0) ≡ count w = same_count w s h.0 in
     let there : Ends (with_desk w s h.0) s ask.asker = record {
@@ -77,33 +78,34 @@ denies_keep w new s o ask answer number is ends asker asked h =
       from = subst (λ n. IsSiteOf n ask.asker) (sym sites) (subst (IsSiteOf (count w)) (sym asker) ends.from);
       differ = λ e. ends.differ (sym asker ∙ e);
     } in
-    sends_keep (with_desk w s h.0) new s ask.asker (ADenial (denial ask)) number
-    (answered w s ask answer None h.0 is ends.site h.1) there (asked, refl) h.2
+    let by : WorldGoesOn w (with_desk w s h.0) = answered w s ask answer None h.0 is ends.site h.1 in
+    goes_then w (with_desk w s h.0) new by
+    (sends_keep (with_desk w s h.0) new s ask.asker (ADenial (denial ask)) number by.is there (asked, refl) h.2)
 
 ask_comes : {A : Type 0} (answer : AskAnswer) (w new : WorldValue) (s o : ℕ) (ask : AskValue)
     (outcome : Result (Reply A) WorldError) → IsWorld w → Ends w s o → ask.asker ≡ o → ask.asked ≡ s
-    → AskComesBy answer w s ask outcome new → IsWorld new
+    → AskComesBy answer w s ask outcome new → WorldGoesOn w new
 ask_comes (Grant n) w new s o ask (Ok (Granted number)) is ends asker asked h =
-    subst IsWorld (sym h.2) (answered w s ask (Grant n) (Some number) h.0 is ends.site h.1)
+    subst (WorldGoesOn w) (sym h.2) (answered w s ask (Grant n) (Some number) h.0 is ends.site h.1)
 ask_comes Deny w new s o ask (Ok (Denied number)) is ends asker asked h =
     denies_keep w new s o ask Deny number is ends asker asked h
 ask_comes RepeatedDeny w new s o ask (Ok (Denied number)) is ends asker asked h =
     denies_keep w new s o ask RepeatedDeny number is ends asker asked h
-ask_comes Repeated w new s o ask (Ok GrantedBefore) is ends asker asked h = subst IsWorld (sym h) is
-ask_comes OldAsk w new s o ask (Ok Old) is ends asker asked h = subst IsWorld (sym h) is
-ask_comes answer w new s o ask (Err OutOfMemory) is ends asker asked h = subst IsWorld (sym h) is
+ask_comes Repeated w new s o ask (Ok GrantedBefore) is ends asker asked h = subst (WorldGoesOn w) (sym h) (unchanged w is)
+ask_comes OldAsk w new s o ask (Ok Old) is ends asker asked h = subst (WorldGoesOn w) (sym h) (unchanged w is)
+ask_comes answer w new s o ask (Err OutOfMemory) is ends asker asked h = subst (WorldGoesOn w) (sym h) (unchanged w is)
 ask_comes answer w new s o ask outcome is ends asker asked h = absurd h
 
 denial_comes : {A : Type 0} (w new : WorldValue) (s : ℕ) (d : DenyValue) (outcome : Result (Reply A) WorldError)
-    → IsWorld w → IsSiteOf (count w) s → DenialComes w s d outcome new → IsWorld new
-denial_comes w new s d (Ok Noted) is site h = subst IsWorld (sym h) (ask_denied w s d.denier d.ask is site)
+    → IsWorld w → IsSiteOf (count w) s → DenialComes w s d outcome new → WorldGoesOn w new
+denial_comes w new s d (Ok Noted) is site h = subst (WorldGoesOn w) (sym h) (ask_denied w s d.denier d.ask is site)
 denial_comes w new s d outcome is site h = absurd h
 
 -- ---- any message
 
 message_keeps : {A : Type 0} (w new : WorldValue) (s o : ℕ) (m : MessageValue) (outcome : Result (Reply A) WorldError)
     → IsWorld w → Ends w s o → MayCome w o s m → MessageComes w s o m outcome new
-    → IsWorld new
+    → WorldGoesOn w new
 message_keeps w new s o (AnEntry e) outcome is ends may h =
     entries_come w new s o (e ∷ []) outcome is ends
     (All-cons (Contains (log w o)) e [] may (All-nil (Contains (log w o)))) h
@@ -163,7 +165,7 @@ packet_sent w number p is at =
 delivered : {A : Type 0} (w new : WorldValue) (s : ℕ) (found : Option PacketValue)
     (outcome : Result (Reply A) WorldError) → IsWorld w → IsSiteOf (count w) s
     → ((p : PacketValue) → found ≡ Some p → IsSent w p) → delivery_fault s found ≡ None
-    → PacketComes w s found outcome new → IsWorld new
+    → PacketComes w s found outcome new → WorldGoesOn w new
 delivered w new s None outcome is site sent known h = absurd h
 delivered w new s (Some p) outcome is site sent known (m, spells, comes) =
     let was : IsSent w p = sent p refl in
@@ -174,7 +176,7 @@ delivered w new s (Some p) outcome is site sent known (m, spells, comes) =
 
 pub packet_keeps : {A : Type 0} (w new : WorldValue) (s number : ℕ) (outcome : Result (Reply A) WorldError) → IsWorld w
     → arrive_fault w s number ≡ None
-    → PacketComes w s (packet w number) outcome new → IsWorld new
+    → PacketComes w s (packet w number) outcome new → WorldGoesOn w new
 packet_keeps w new s number outcome is known h =
     let p = no_other (is_site w s) NoSuchSite (delivery_fault s (packet w number)) known in
     delivered w new s (packet w number) outcome is (among w s p.0) (λ q at. packet_sent w number q is at) p.1 h

@@ -19,7 +19,7 @@ use Rattle.site_core.specs.Calls.{next_push, published_if, after_publish, beat_o
 use Rattle.site_core.specs.Inbounds.{Asks}
 use Rattle.world_core.specs.Values.{PacketValue, WorldValue}
 use Rattle.world_core.specs.Values.BodyValue.{EntryAt, Text}
-use Rattle.world_core.specs.Worlds.{count, desk, with_desk, log, with_packet, ended}
+use Rattle.world_core.specs.Worlds.{count, desk, with_desk, log, lists_of, with_packet, ended}
 use Rattle.world_core.specs.Faults.{is_site, site_fault, link_fault}
 use Rattle.world_core.specs.LinkEvents.{Sends, SendsIf, AskHappens, BeatHappens, Publishes, PublishHappens, Asked, QueryHappens}
 use Rattle.world_core.specs.Sound.{SiteSound, LinkSound, IsSaid, IsSent, IsWorld}
@@ -27,6 +27,7 @@ use Rattle.world_core.specs.declared.reply.Reply.{Reply}
 use Rattle.world_core.specs.declared.reply.Reply.TheVariants.{Packet, Nothing}
 use Rattle.world_core.specs.declared.fault.WorldError.{WorldError}
 use Rattle.world_core.specs.declared.fault.WorldError.TheVariants.{OutOfMemory, NoSuchSite}
+use Rattle.world_core.proofs.WorldGoesOn.{stay, WorldGoesOn, unchanged, goes_then}
 use Rattle.world_core.proofs.DeskKeeps.{LogsGoOn, link_goes_on, all_sent_go_on, desk_there, same_count, published}
 use Rattle.world_core.proofs.LinkKeeps.{logs_stay, asked_keeps}
 
@@ -65,50 +66,53 @@ ends_known w s o h =
 
 -- the same desks and links, with packets that were sent
 parts_keep : (w : WorldValue) (packets : List PacketValue) (over : Bool) → IsWorld w → All (IsSent w) packets
-    → IsWorld (record w { packets = packets; ended = over })
+    → WorldGoesOn w (record w { packets = packets; ended = over })
 parts_keep w packets over is sent =
     let new : WorldValue = record w { packets = packets; ended = over } in
     let logs : LogsGoOn w new = logs_stay w new is refl (λ o. refl) in
     record {
-      kept = is.kept;
-      rows = is.rows;
-      sites = λ s site.
-          let x : SiteSound w s = is.sites s site in
-          record {
-            me = x.me;
-            manager = x.manager;
-            system = x.system;
-            applied = x.applied;
-            width = x.width;
-            itself = x.itself;
-            others = x.others;
-          };
-      links = λ s o l at. link_goes_on w new s o l logs (is.links s o l at);
-      native = is.native;
-      sent = all_sent_go_on w new packets logs sent;
+      is = record {
+        kept = is.kept;
+        rows = is.rows;
+        sites = λ s site.
+            let x : SiteSound w s = is.sites s site in
+            record {
+              me = x.me;
+              manager = x.manager;
+              system = x.system;
+              applied = x.applied;
+              width = x.width;
+              itself = x.itself;
+              others = x.others;
+            };
+        links = λ s o l at. link_goes_on w new s o l logs (is.links s o l at);
+        native = is.native;
+        sent = all_sent_go_on w new packets logs sent;
+      };
+      refines = ([], stay (lists_of w));
     }
 
-pub ended_world : (w : WorldValue) → IsWorld w → IsWorld (ended w)
+pub ended_world : (w : WorldValue) → IsWorld w → WorldGoesOn w (ended w)
 ended_world w is = parts_keep w w.packets true is is.sent
 
-pub sent_keeps : (w : WorldValue) (p : PacketValue) → IsWorld w → IsSent w p → IsWorld (with_packet w p)
+pub sent_keeps : (w : WorldValue) (p : PacketValue) → IsWorld w → IsSent w p → WorldGoesOn w (with_packet w p)
 sent_keeps w p is h = parts_keep w (w.packets ++ p ∷ []) w.ended is (All-push (IsSent w) w.packets p is.sent h)
 
 -- what was said
 pub sends_keep : (w new : WorldValue) (s p : ℕ) (m : MessageValue) (number : ℕ) → IsWorld w → Ends w s p
-    → IsSaid w s p m → Sends w s p m number new → IsWorld new
+    → IsSaid w s p m → Sends w s p m number new → WorldGoesOn w new
 sends_keep w new s p m number is ends said h =
     let packet : PacketValue = record { from = s; to = p; body = Text h.text } in
     let sent : IsSent w packet =
     record { from = ends.site; to = ends.from; differ = ends.differ; said = (m, h.spelled, said) } in
-    subst IsWorld (sym h.left) (sent_keeps w packet is sent)
+    subst (WorldGoesOn w) (sym h.left) (sent_keeps w packet is sent)
 
 pub sends_if_keeps : {A : Type 0} (w new : WorldValue) (s p : ℕ) (m : Option MessageValue)
     (outcome : Result (Reply A) WorldError) → IsWorld w → Ends w s p
-    → IfSome m (λ x. IsSaid w s p x) → SendsIf w s p m outcome new → IsWorld new
-sends_if_keeps w new s p None (Ok Nothing) is ends said h = subst IsWorld (sym h) is
+    → IfSome m (λ x. IsSaid w s p x) → SendsIf w s p m outcome new → WorldGoesOn w new
+sends_if_keeps w new s p None (Ok Nothing) is ends said h = subst (WorldGoesOn w) (sym h) (unchanged w is)
 sends_if_keeps w new s p (Some m) (Ok (Packet number)) is ends said h = sends_keep w new s p m number is ends said h
-sends_if_keeps w new s p m (Err OutOfMemory) is ends said h = subst IsWorld (sym h) is
+sends_if_keeps w new s p m (Err OutOfMemory) is ends said h = subst (WorldGoesOn w) (sym h) (unchanged w is)
 sends_if_keeps w new s p m outcome is ends said h = absurd h
 
 -- ---- asks and beats
@@ -122,13 +126,13 @@ asks_said w s p me number None same = tt
 asks_said w s p me number (Some n) same = (same, refl)
 
 pub ask_keeps : {A : Type 0} (w new : WorldValue) (s p : ℕ) (outcome : Result (Reply A) WorldError) → IsWorld w
-    → Ends w s p → AskHappens w s p outcome new → IsWorld new
+    → Ends w s p → AskHappens w s p outcome new → WorldGoesOn w new
 ask_keeps w new s p outcome is ends h =
     sends_if_keeps w new s p _ outcome is ends
     (asks_said w s p (desk w s).manager.me _ _ (is.sites s ends.site).manager) h
 
 pub beat_event_keeps : {A : Type 0} (w new : WorldValue) (s p : ℕ) (outcome : Result (Reply A) WorldError) → IsWorld w
-    → Ends w s p → BeatHappens w s p outcome new → IsWorld new
+    → Ends w s p → BeatHappens w s p outcome new → WorldGoesOn w new
 beat_event_keeps w new s p outcome is ends h =
     sends_if_keeps w new s p (Some (beat_of (desk w s).ledger.log)) outcome is ends
     ((is.sites s ends.site).me, omega arith) h
@@ -159,7 +163,7 @@ asked_said w s o again q new is h =
 
 query_sent : {A : Type 0} (w new : WorldValue) (s o : ℕ) (again : Bool) (outcome : Result (Reply A) WorldError)
     (q : Option QueryValue) (asked : WorldValue) → IsWorld w → Ends w s o
-    → Asked w s o again q asked → SendsIf asked s o (option_map (λ x. AQuery x) q) outcome new → IsWorld new
+    → Asked w s o again q asked → SendsIf asked s o (option_map (λ x. AQuery x) q) outcome new → WorldGoesOn w new
 query_sent w new s o again outcome q asked is ends h sends =
     let same : count asked ≡ count w = ap count h.left in
     let there : Ends asked s o = record {
@@ -167,13 +171,14 @@ query_sent w new s o again outcome q asked is ends h sends =
       from = subst (λ n. IsSiteOf n o) (sym same) ends.from;
       differ = ends.differ;
     } in
-    sends_if_keeps asked new s o _ outcome (asked_keeps w asked s o again q is ends.site ends.from h) there
-    (asked_said w s o again q asked is h) sends
+    let by : WorldGoesOn w asked = asked_keeps w asked s o again q is ends.site ends.from h in
+    goes_then w asked new by
+    (sends_if_keeps asked new s o _ outcome by.is there (asked_said w s o again q asked is h) sends)
 
 pub query_keeps : {A : Type 0} (w new : WorldValue) (s o : ℕ) (again : Bool) (outcome : Result (Reply A) WorldError)
-    → IsWorld w → Ends w s o → QueryHappens w s o again outcome new → IsWorld new
+    → IsWorld w → Ends w s o → QueryHappens w s o again outcome new → WorldGoesOn w new
 query_keeps w new s o again (Err OutOfMemory) is ends h = elim h [
-  | inl same ↦ subst IsWorld (sym same) is
+  | inl same ↦ subst (WorldGoesOn w) (sym same) (unchanged w is)
   | inr p ↦ asked_keeps w new s o again p.0 is ends.site ends.from p.1
 ]
 query_keeps w new s o again outcome is ends h = query_sent w new s o again outcome h.0 h.1 is ends h.2 h.3
@@ -193,7 +198,7 @@ next_within es cursor place (Some e) at h =
     let same : cursor ≡ place = cc in omega (arith, slice_get_within es cursor e at, same)
 
 publishes_keep : (w new : WorldValue) (s p place number : ℕ) → IsWorld w → Ends w s p
-    → Publishes w s p place number new → IsWorld new
+    → Publishes w s p place number new → WorldGoesOn w new
 publishes_keep w new s p place number is ends h =
     let d : DeskValue = after_publish (desk w s) p in
     let mid : WorldValue = with_desk w s d in
@@ -204,16 +209,17 @@ publishes_keep w new s p place number is ends h =
     let within : place < length (log w s) = next_within l.entries (at_site l.cursors p 0) place _ refl h.next in
     let longer : length (log mid s) ≡ length (log w s) = ap length entries in
     let packet : PacketValue = record { from = s; to = p; body = EntryAt place } in
-    subst IsWorld (sym h.left) (sent_keeps mid packet (published w s p is ends.site) (record {
+    let by : WorldGoesOn w mid = published w s p is ends.site in
+    subst (WorldGoesOn w) (sym h.left) (goes_then w mid (with_packet mid packet) by (sent_keeps mid packet by.is (record {
       from = subst (λ n. IsSiteOf n s) (sym sites) ends.site;
       to = subst (λ n. IsSiteOf n p) (sym sites) ends.from;
       differ = ends.differ;
       said = omega (arith, within, longer);
-    }))
+    })))
 
 pub publish_keeps : {A : Type 0} (w new : WorldValue) (s p : ℕ) (outcome : Result (Reply A) WorldError) → IsWorld w
-    → Ends w s p → PublishHappens w s p outcome new → IsWorld new
-publish_keeps w new s p (Ok Nothing) is ends h = subst IsWorld (sym h.1) is
+    → Ends w s p → PublishHappens w s p outcome new → WorldGoesOn w new
+publish_keeps w new s p (Ok Nothing) is ends h = subst (WorldGoesOn w) (sym h.1) (unchanged w is)
 publish_keeps w new s p (Ok (Packet number)) is ends h = publishes_keep w new s p h.0 number is ends h.1
-publish_keeps w new s p (Err OutOfMemory) is ends h = subst IsWorld (sym h) is
+publish_keeps w new s p (Err OutOfMemory) is ends h = subst (WorldGoesOn w) (sym h) (unchanged w is)
 publish_keeps w new s p outcome is ends h = absurd h

@@ -12,6 +12,7 @@ use Rattle.rights_types.specs.declared.moves.Move.{Move}
 use Rattle.rights_types.proofs.Chains.{not_in_nil}
 use Rattle.rights_types.proofs.Sums.{moves_of-nil}
 use Rattle.rights_protocol.specs.Lists.{IsSiteOf}
+use Rattle.rights_protocol.specs.Changes.{Start}
 use Rattle.rights_protocol.proofs.Steps.{start_kept}
 use Rattle.rights_book.proofs.StandLaws.{new_stands}
 use Rattle.sub_buffer.proofs.Offers.{follows_new}
@@ -140,17 +141,21 @@ start_link n s o l at = elim (link_cases n s o) [
   | inr p ↦ to_sound n s o l (eqb o s) (sym (link_start n s o p.0 p.1) ∙ at)
 ]
 
+-- the lists are the protocol's at its start
+pub start_lists : (n : ℕ) → 2 ≤ n → n ≤ 16 → Start n (lists_of (start n))
+start_lists n some few = record {
+  some = some;
+  few = few;
+  count = count_start n;
+  log = log_start n;
+  reached = λ s o. list_start n s o (λ l. l.reached) (λ a b. refl);
+  put = λ s o. list_start n s o (λ l. l.put) (λ a b. refl);
+  applied = λ s o. list_start n s o (λ l. l.applied) (λ a b. refl);
+}
+
 pub start_world : (n : ℕ) → 2 ≤ n → n ≤ 16 → IsWorld (start n)
 start_world n some few = record {
-  kept = start_kept n (lists_of (start n)) (record {
-    some = some;
-    few = few;
-    count = count_start n;
-    log = log_start n;
-    reached = λ s o. list_start n s o (λ l. l.reached) (λ a b. refl);
-    put = λ s o. list_start n s o (λ l. l.put) (λ a b. refl);
-    applied = λ s o. list_start n s o (λ l. l.applied) (λ a b. refl);
-  });
+  kept = start_kept n (lists_of (start n)) (start_lists n some few);
   rows = length-map-range_with_len (new_row n) 1 n ∙ sym (count_start n);
   sites = λ s site. start_site n s (subst (λ k. IsSiteOf k s) (count_start n) site);
   links = start_link n;

@@ -12,7 +12,6 @@ use Rattle.rights_protocol.specs.Retiring.{numbers_in, owed, entry_at_end, takin
 use Rattle.rights_protocol.specs.Changes.{Takes}
 use Rattle.rights_protocol.specs.Changes.Change.{Take}
 use Rattle.rights_protocol.specs.Kept.{Kept}
-use Rattle.rights_protocol.proofs.Steps.{step_keeps}
 use Rattle.origin_log.specs.Logs.{LogValue}
 use Rattle.rights_book.specs.Books.{BookValue, sites}
 use Rattle.transfer_manager.specs.Managers.{ManagerValue}
@@ -28,6 +27,7 @@ use Rattle.world_core.specs.declared.reply.Reply.{Reply}
 use Rattle.world_core.specs.declared.reply.Reply.TheVariants.{Taken, TakenBack, Nothing}
 use Rattle.world_core.specs.declared.fault.WorldError.{WorldError}
 use Rattle.world_core.specs.declared.fault.WorldError.TheVariants.{OutOfMemory}
+use Rattle.world_core.proofs.WorldGoesOn.{Leads, leads, WorldGoesOn, unchanged}
 use Rattle.world_core.proofs.Native.{NativeLog, native_taking, native_push}
 use Rattle.world_core.proofs.DeskKeeps.{desk_there, desk_elsewhere, same_count, LogsGoOn, link_goes_on, all_sent_go_on, DeskGoesOn, logs_longer, native_still, IsDeskOf, desks_still, each_desk}
 use Rattle.world_core.proofs.LinkKeeps.{same_lists, link_cases, link_there, link_elsewhere, width_kept, list_kept}
@@ -204,29 +204,31 @@ link_after w s o k j l x e is site from there at = elim (link_cases w s o k j (w
 
 -- so a world is kept
 take_world : (w : WorldValue) (s o : ℕ) (l : LinkValue) (e : EntryValue) (d : DeskValue) → IsWorld w
-    → Applied w s o l e d → IsWorld (after w s o l e d)
+    → Applied w s o l e d → WorldGoesOn w (after w s o l e d)
 take_world w s o l e d is h =
     let new : WorldValue = after w s o l e d in
     let next : DeskGoesOn w s d = desk_applies w s o e d is h.ends h.desk in
-    let kept : Kept (lists_of new) =
-    step_keeps (lists_of w) (Take s o) (lists_of new) is.kept (takes w s o l e d is h) in
+    let by : Leads w new = leads w new (Take s o) is (takes w s o l e d is h) in
     let longer : (k : ℕ) → IsPrefix (log w k) (log new k) = logs_longer w s d h.ends.site next in
     let logs : LogsGoOn w new =
-    record { same = same_count w s d; longer = longer; chains = λ k. (kept.sites k).chain } in
+    record { same = same_count w s d; longer = longer; chains = λ k. (by.kept.sites k).chain } in
     record {
-      kept = kept;
-      rows = length-set_site w.links s (set_site (row w s) o (Some (with_applied l e))) ∙ is.rows
-          ∙ sym (same_count w s d);
-      sites = λ k among. site_after w s o l e d is h kept k (subst (λ n. IsSiteOf n k) (same_count w s d) among);
-      links = λ k j x at. link_goes_on w new k j x logs
-          (link_after w s o k j l x e is h.ends.site h.ends.from h.there at);
-      native = native_still w s d is h.ends.site next;
-      sent = all_sent_go_on w new w.packets logs is.sent;
+      is = record {
+        kept = by.kept;
+        rows = length-set_site w.links s (set_site (row w s) o (Some (with_applied l e))) ∙ is.rows
+            ∙ sym (same_count w s d);
+        sites = λ k among. site_after w s o l e d is h by.kept k (subst (λ n. IsSiteOf n k) (same_count w s d) among);
+        links = λ k j x at. link_goes_on w new k j x logs
+            (link_after w s o k j l x e is h.ends.site h.ends.from h.there at);
+        native = native_still w s d is h.ends.site next;
+        sent = all_sent_go_on w new w.packets logs is.sent;
+      };
+      refines = by.refines;
     }
 
 -- a take that took an entry
 takes_next : (old new : WorldValue) (s o number : ℕ) (back : Option ℕ) → IsWorld old → Ends old s o
-    → TakesNext old s o number back new → IsWorld new
+    → TakesNext old s o number back new → WorldGoesOn old new
 takes_next old new s o number back is ends h =
     let how : Applied old s o h.before h.next h.after = record {
       ends = ends;
@@ -235,15 +237,15 @@ takes_next old new s o number back is ends h =
       next = h.is_next;
       desk = h.applies;
     } in
-    subst IsWorld (sym h.left) (take_world old s o h.before h.next h.after is how)
+    subst (WorldGoesOn old) (sym h.left) (take_world old s o h.before h.next h.after is how)
 
 -- a take keeps the world, whatever comes of it
 pub take_keeps : {A : Type 0} (old new : WorldValue) (s o : ℕ) (outcome : Result (Reply A) WorldError) → IsWorld old
-    → link_fault old s o ≡ None → TakeHappens old s o outcome new → IsWorld new
+    → link_fault old s o ≡ None → TakeHappens old s o outcome new → WorldGoesOn old new
 take_keeps old new s o (Ok (Taken number)) is known h =
     takes_next old new s o number None is (ends_known old s o known) h
 take_keeps old new s o (Ok (TakenBack number back)) is known h =
     takes_next old new s o number (Some back) is (ends_known old s o known) h
-take_keeps old new s o (Ok Nothing) is known h = subst IsWorld (sym h.1) is
-take_keeps old new s o (Err OutOfMemory) is known h = subst IsWorld (sym h.1) is
+take_keeps old new s o (Ok Nothing) is known h = subst (WorldGoesOn old) (sym h.1) (unchanged old is)
+take_keeps old new s o (Err OutOfMemory) is known h = subst (WorldGoesOn old) (sym h.1) (unchanged old is)
 take_keeps old new s o outcome is known h = absurd h

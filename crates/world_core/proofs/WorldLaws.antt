@@ -4,7 +4,7 @@ use Rattle.std.specs.Prelude.{MatchOption}
 use Rattle.rights_protocol.proofs.Promises.{kept_promises}
 use Rattle.site_core.proofs.LedgerLaws.{no_cause}
 use Rattle.world_core.specs.Values.{WorldValue}
-use Rattle.world_core.specs.Worlds.{start, lists_of}
+use Rattle.world_core.specs.Worlds.{start, ended, lists_of}
 use Rattle.world_core.specs.Faults.{place_fault, fault_of}
 use Rattle.world_core.specs.Step.{Attempts, Happens, Step, Runs}
 use Rattle.world_core.specs.Sound.{IsWorld}
@@ -14,6 +14,7 @@ use Rattle.world_core.specs.declared.event.Event.TheVariants.{Post, Issue, Give,
 use Rattle.world_core.specs.declared.reply.Reply.{Reply}
 use Rattle.world_core.specs.declared.fault.WorldError.{WorldError}
 use Rattle.world_core.specs.declared.fault.WorldError.TheVariants.{Ended, OutOfMemory}
+use Rattle.world_core.proofs.WorldGoesOn.{WorldGoesOn, unchanged, goes_then}
 use Rattle.world_core.proofs.DeskSteps.{post_keeps, issue_keeps, give_keeps, spend_keeps, serve_keeps, expire_keeps, status_keeps, plan_keeps, close_keeps}
 use Rattle.world_core.proofs.SendKeeps.{ends_known, ask_keeps, publish_keeps, beat_event_keeps, query_keeps, ended_world}
 use Rattle.world_core.proofs.PacketKeeps.{packet_keeps}
@@ -22,7 +23,7 @@ use Rattle.world_core.proofs.TakeKeeps.{take_keeps}
 
 -- an event that the world does not refuse
 attempt_world : {A : Type 0} (old new : WorldValue) (event : Event A) (outcome : Result (Reply A) WorldError)
-    → IsWorld old → place_fault old event ≡ None → Attempts old event outcome new → IsWorld new
+    → IsWorld old → place_fault old event ≡ None → Attempts old event outcome new → WorldGoesOn old new
 attempt_world old new (Post s ms) outcome is known h = post_keeps old new s ms outcome is known h
 attempt_world old new (Issue s n) outcome is known h = issue_keeps old new s n outcome is known h
 attempt_world old new (Give s j n) outcome is known h = give_keeps old new s j n outcome is known h
@@ -39,37 +40,39 @@ attempt_world old new (Beat s p) outcome is known h =
 attempt_world old new (Query s o again) outcome is known h =
     query_keeps old new s o again outcome is (ends_known old s o known) h
 attempt_world old new (Arrive s number) outcome is known h = packet_keeps old new s number outcome is known h
-attempt_world old new (Noise s o bytes) outcome is known h = subst IsWorld (sym h.1) is
+attempt_world old new (Noise s o bytes) outcome is known h = subst (WorldGoesOn old) (sym h.1) (unchanged old is)
 attempt_world old new (Take s o) outcome is known h = take_keeps old new s o outcome is known h
 attempt_world old new (Close s heir) outcome is known h = close_keeps old new s heir outcome is known h
 
 -- or that ends it
 happens_world : {A : Type 0} (old new : WorldValue) (event : Event A) (outcome : Result (Reply A) WorldError)
-    → IsWorld old → place_fault old event ≡ None → Happens old event outcome new → IsWorld new
+    → IsWorld old → place_fault old event ≡ None → Happens old event outcome new → WorldGoesOn old new
 happens_world old new event (Err OutOfMemory) is known h =
-    subst IsWorld (sym h.2) (ended_world h.0 (attempt_world old h.0 event (Err OutOfMemory) is known h.1))
+    let by : WorldGoesOn old h.0 = attempt_world old h.0 event (Err OutOfMemory) is known h.1 in
+    subst (WorldGoesOn old) (sym h.2) (goes_then old h.0 (ended h.0) by (ended_world h.0 by.is))
 happens_world old new event outcome is known h = attempt_world old new event outcome is known h
 
 step_cases : {A : Type 0} (old new : WorldValue) (event : Event A) (outcome : Result (Reply A) WorldError)
     (fault : Option WorldError) → IsWorld old → fault_of old event ≡ fault
-    → MatchOption fault (Happens old event outcome new) (λ f. (outcome ≡ Err f) × (new ≡ old)) → IsWorld new
+    → MatchOption fault (Happens old event outcome new) (λ f. (outcome ≡ Err f) × (new ≡ old)) → WorldGoesOn old new
 unfolding fault_of
 step_cases old new event outcome None is known h =
     happens_world old new event outcome is (no_cause old.ended Ended (place_fault old event) known).1 h
-step_cases old new event outcome (Some fault) is known h = subst IsWorld (sym h.1) is
+step_cases old new event outcome (Some fault) is known h = subst (WorldGoesOn old) (sym h.1) (unchanged old is)
 
-pub step_world : {A : Type 0} (old new : WorldValue) (event : Event A) (outcome : Result (Reply A) WorldError)
-    → IsWorld old → Step old event outcome new → IsWorld new
+pub step_goes_on : {A : Type 0} (old new : WorldValue) (event : Event A) (outcome : Result (Reply A) WorldError)
+    → IsWorld old → Step old event outcome new → WorldGoesOn old new
 unfolding Step
-step_world old new event outcome is h = step_cases old new event outcome (fault_of old event) is refl h
+step_goes_on old new event outcome is h = step_cases old new event outcome (fault_of old event) is refl h
 
-pub run_world : {A : Type 0} (old new : WorldValue) (events : List (Event A))
-    (outcomes : List (Result (Reply A) WorldError)) → IsWorld old → Runs old events outcomes new → IsWorld new
-run_world old new [] [] is h = subst IsWorld (sym h) is
-run_world old new (event ∷ events) (outcome ∷ outcomes) is h =
-    run_world h.0 new events outcomes (step_world old h.0 event outcome is h.1) h.2
-run_world old new [] (outcome ∷ outcomes) is h = absurd h
-run_world old new (event ∷ events) [] is h = absurd h
+pub run_goes_on : {A : Type 0} (old new : WorldValue) (events : List (Event A))
+    (outcomes : List (Result (Reply A) WorldError)) → IsWorld old → Runs old events outcomes new → WorldGoesOn old new
+run_goes_on old new [] [] is h = subst (WorldGoesOn old) (sym h) (unchanged old is)
+run_goes_on old new (event ∷ events) (outcome ∷ outcomes) is h =
+    let by : WorldGoesOn old h.0 = step_goes_on old h.0 event outcome is h.1 in
+    goes_then old h.0 new by (run_goes_on h.0 new events outcomes by.is h.2)
+run_goes_on old new [] (outcome ∷ outcomes) is h = absurd h
+run_goes_on old new (event ∷ events) [] is h = absurd h
 
 -- one event more
 pub runs-push : {A : Type 0} (old mid new : WorldValue) (events : List (Event A)) (event : Event A)
@@ -88,4 +91,4 @@ headline_of w is = kept_promises (lists_of w) is.kept
 pub every_run : {A : Type 0} (n : ℕ) (events : List (Event A)) (outcomes : List (Result (Reply A) WorldError))
     (w : WorldValue) → 2 ≤ n → n ≤ 16 → Runs (start n) events outcomes w → Headline w
 every_run n events outcomes w some few h =
-    headline_of w (run_world (start n) w events outcomes (start_world n some few) h)
+    headline_of w (run_goes_on (start n) w events outcomes (start_world n some few) h).is

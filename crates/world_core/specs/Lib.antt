@@ -1,5 +1,6 @@
 -- What may happen among all sites, to be read in this order: a world's lists, why it refuses an event, the events at
--- a desk and between two sites, what any event may come to, what is kept of every world, and what is promised of it.
+-- a desk and between two sites, what any event may come to, what is kept of every world, what is promised of it, and
+-- that a run of it is one of the protocol.
 pub mod Values
 pub mod Worlds
 pub mod Bodies
@@ -11,3 +12,4 @@ pub mod IncomingLists
 pub mod Step
 pub mod Sound
 pub mod Headline
+pub mod Refinement

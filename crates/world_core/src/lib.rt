@@ -16,6 +16,9 @@ mod world;
 pub use event::{Event, Moves};
 pub use fault::WorldError;
 pub use keeping::{ForReaders, ForReplies, Keeping};
-pub use laws::every_run;
+pub use laws::{
+    applied_for_good, closed_for_good, every_run, every_run_operates, every_run_refines,
+    later_refines,
+};
 pub use reply::{Reply, Verdict, Verdicts};
 pub use world::{Totals, World};

@@ -4,6 +4,7 @@ ghost use Rattle.rights_types.specs.declared.limits.TheConstants.{MIN_SITES, MAX
 ghost use Rattle.world_core.specs.Worlds.{start, ended};
 ghost use Rattle.world_core.specs.Step.{Step, Runs};
 ghost use Rattle.world_core.specs.Headline.{Headline};
+ghost use Rattle.world_core.specs.Refinement.{Refines};
 
 mod readers;
 
@@ -81,6 +82,7 @@ impl<A: Allocator + Copy, K: Keeping> World<A, K> {
         ensures runs { IfOk result (λ outcomes. Runs self.old events.now outcomes.items self.new) }
         ensures err { OnErr result (self.new ≡ ended self.old) }
         ensures headline { Headline self.new }
+        ensures refines { Refines self.old self.new }
     {
         let outcomes = self.run_all(events);
         self.headline();
@@ -93,6 +95,7 @@ impl<A: Allocator + Copy, K: Keeping> World<A, K> {
     ) -> Result<Vec<Result<Reply<A>, WorldError>, A>, OutOfMemory>
         ensures runs { IfOk result (λ outcomes. Runs self.old events.now outcomes.items self.new) }
         ensures err { OnErr result (self.new ≡ ended self.old) }
+        ensures refines { Refines self.old self.new }
     {
         let alloc = self.system.allocator();
         let Ok(mut outcomes) = Vec::with_capacity(alloc, events.len()) else {
