@@ -2,6 +2,7 @@
 
 import json
 import os
+import random
 import re
 import signal
 import socket
@@ -378,6 +379,46 @@ def slow_readers():
         seats(sites, 1)
 
 
+NOISE = [
+    b"GET / HTTP/1.1\r\n", b"POST / HTTP/1.1\r\n", b"POST /wait HTTP/1.1\r\n", b"HEAD /status HTTP/1.0\r\n\r\n", b"OPTIONS * HTTP/1.1\r\n",
+    b"CONNECT a:1 HTTP/1.1\r\n", b"host: x\r\n", b"content-length: 8\r\n", b"content-length: 99999999999999999999\r\n",
+    b"transfer-encoding: chunked\r\n", b"expect: 100-continue\r\n", b"connection: upgrade\r\nupgrade: x\r\n", b"connection: close\r\n",
+    b"x: " + b"y" * 5000 + b"\r\n", b"8\r\nissue 1\n\r\n", b"0\r\n\r\n", b"ffffffffffffffff\r\n", b"issue 1\n", b"\r\n", b"\n", b" ",
+    request("GET", "/metrics"), post("spend 1 0"), post("spend 9000000 1", target="/wait"),
+]
+
+
+def noise():
+    """Parts of requests and bytes of no meaning, in any order: nothing is left of their connections."""
+    with alone(tick=20) as sites:
+        sites.command("issue 1000000")
+        seats(sites, 1)
+        handles = f"/proc/{pid_of(sites[1])}/fd"
+        threads, files = threads_of(sites[1]), len(os.listdir(handles))
+        until = time.monotonic() + 3
+        seed = random.randrange(10**6)
+        chances = iter([random.Random(seed + place) for place in range(8)])
+
+        def one():
+            chance = next(chances)
+            while time.monotonic() < until:
+                with suppress(OSError), sites.client() as client:
+                    client.stream.settimeout(0.2)
+                    for _ in range(chance.randrange(1, 12)):
+                        client.send(chance.choice(NOISE) if chance.random() < 0.8 else chance.randbytes(chance.randrange(1, 50)))
+                    if chance.random() < 0.5:
+                        client.read_more()
+                    if chance.random() < 0.5:
+                        client.reset()
+
+        in_threads(8, one)
+        seats(sites, 1)
+        wait_for(f"seed {seed}: threads and handles are as before",
+                 lambda: threads_of(sites[1]) <= threads and len(os.listdir(handles)) <= files)
+        report = sites.end()
+        expect((report.issued, report.spent), (report.told_issued, report.told_spent + report.told_served), f"seed {seed}")
+
+
 def reads_that_are_interrupted():
     """A process that is stopped and goes on, as by a debugger or a shell, keeps its connections."""
     with alone() as sites, sites.client() as idle, sites.client() as begun:
@@ -451,5 +492,5 @@ TESTS = [
     no_web_page_can_spend, the_longest_body, a_body_that_is_waited_for, the_longest_head, heads_that_are_refused,
     connections_that_are_closed_when_asked, sixty_three_clients, two_hundred_at_once, no_thread_and_no_seat_is_left,
     memory_of_connections, pipelines_of_a_hundred, one_byte_at_a_time, half_requests, slow_readers, slow_senders,
-    reads_that_are_interrupted,
+    noise, reads_that_are_interrupted,
 ]

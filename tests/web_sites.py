@@ -366,6 +366,8 @@ def addresses_that_cannot_be_listened_on():
     with socket.create_server(("127.0.0.1", 0)) as taken:
         for address in (at(taken.getsockname()[1]), "", "nowhere", "127.0.0.1:99999", "256.1.1.1:1"):
             expect(run("--http", address, text=b"issue 1\n"), (1, b"", b"rights-site: cannot listen\n"), address)
+    (port,) = free_ports(1)
+    expect(run("--http", at(port), listen=at(port))[2], b"rights-site: cannot listen\n", "one address for both")
 
 
 def words_that_are_refused():
