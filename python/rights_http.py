@@ -99,7 +99,8 @@ class SiteClient:
 
     def status(self) -> dict[str, Any]:
         """The status object."""
-        return json.loads(self._get("/status"))
+        found: dict[str, Any] = json.loads(self._get("/status"))
+        return found
 
     def metrics(self) -> dict[str, int | dict[str, int]]:
         """The metrics: a number by its name, or numbers by the value of their label, which is a peer or a refusal."""
@@ -265,7 +266,7 @@ def main() -> None:
     with Site(1, 2, "127.0.0.1:7001", {2: "127.0.0.1:7002"}, http=address, tick=100) as site:
         print(site.ask("issue 100"))
         fork = multiprocessing.get_context("fork")
-        sold = fork.Value("i", 0)
+        sold: Any = fork.Value("i", 0)
         sellers = [fork.Process(target=sell, args=(address, sold)) for _ in range(4)]
         for seller in sellers:
             seller.start()

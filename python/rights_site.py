@@ -129,7 +129,8 @@ class Site:
 
     def status(self) -> dict[str, Any]:
         """The status object."""
-        return json.loads(self.ask("status"))
+        found: dict[str, Any] = json.loads(self.ask("status"))
+        return found
 
     # ---- the end
 
