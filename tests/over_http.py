@@ -74,7 +74,7 @@ def curl():
         expect(curls(f"{url}/healthz").strip(), "ok")
         expect("rights_held 10\n" in curls(f"{url}/metrics"), True)
         expect(curls("-I", url).splitlines()[0], "HTTP/1.1 200 OK")
-        expect(curls(url, url).count("<!DOCTYPE html>"), 2)
+        expect(curls(url, url).lower().count("<!doctype html>"), 2)
 
 
 def wrk():
