@@ -99,7 +99,8 @@ class SiteClient:
 
     def status(self) -> dict[str, Any]:
         """The status object."""
-        return json.loads(self._get("/status"))
+        found: dict[str, Any] = json.loads(self._get("/status"))
+        return found
 
     def metrics(self) -> dict[str, int | dict[str, int]]:
         """The metrics: a number by its name, or numbers by the value of their label, which is a peer or a refusal."""
@@ -245,6 +246,7 @@ def line_of(command: str) -> bytes:
 def main() -> None:
     """An example: four processes sell a hundred tickets from one site, which `rights_site.py` starts here."""
     import multiprocessing
+    import tempfile
 
     from rights_site import Site
 
@@ -261,11 +263,12 @@ def main() -> None:
                 with sold.get_lock():
                     sold.value += 1
 
-    address = "127.0.0.1:8001"
-    with Site(1, 2, "127.0.0.1:7001", {2: "127.0.0.1:7002"}, http=address, tick=100) as site:
+    address, folder = "127.0.0.1:8001", tempfile.TemporaryDirectory()
+    once = os.path.join(folder.name, "site-1.started")
+    with folder, Site(1, 2, "127.0.0.1:7001", {2: "127.0.0.1:7002"}, http=address, tick=100, once=once) as site:
         print(site.ask("issue 100"))
         fork = multiprocessing.get_context("fork")
-        sold = fork.Value("i", 0)
+        sold: Any = fork.Value("i", 0)
         sellers = [fork.Process(target=sell, args=(address, sold)) for _ in range(4)]
         for seller in sellers:
             seller.start()

