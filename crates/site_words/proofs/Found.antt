@@ -10,6 +10,10 @@ use Rattle.clap.proofs.WalkLemmas.{one_text-rows}
 use Rattle.site_words.specs.Settings.{HasFlag, HasNumber, MayHaveNumber}
 use Rattle.site_words.specs.declared.words.WordsFault.TheVariants.{Refused}
 
+abbrev pub MayFind : {E : Type 0} → Found → Text → Result (Option ℕ) E → Type 0
+MayFind f option r = MatchResult r (MayHaveNumber (rows_of f) option)
+    (λ _. (n : Option ℕ) → IfSome n (λ m. m < 2 ^ 64) → MayHaveNumber (rows_of f) option n → ⊥)
+
 module _ {E : Type 0} (G : List ℕ → Result ℕ E → Type 0) (reads : (u : List ℕ) (x : Result ℕ E) → G u x → ParsesUnsigned 64 10 u x)
     (f : Found) (option : Text) where
   abbrev pub Finds : Option ℕ → Type 0
@@ -52,11 +56,7 @@ module _ {E : Type 0} (G : List ℕ → Result ℕ E → Type 0) (reads : (u : L
       go None h = (refl, h)
 
   -- what `try_get_one` answers is the number that clap found, or that it found none
-  abbrev pub MayFind : Result (Option ℕ) E → Type 0
-  MayFind r = MatchResult r (MayHaveNumber (rows_of f) option)
-      (λ _. (n : Option ℕ) → IfSome n (λ m. m < 2 ^ 64) → MayHaveNumber (rows_of f) option n → ⊥)
-
-  tried_text : (t : Text) (r : Result (Option ℕ) E) → one_text f option ≡ Some t → TriesOne G t r → MayFind r
+  tried_text : (t : Text) (r : Result (Option ℕ) E) → one_text f option ≡ Some t → TriesOne G t r → MayFind f option r
   tried_text t (Ok (Some n)) is tries = read_of t (Some n) is tries
   tried_text t (Ok None) is tries = absurd tries
   tried_text t (Err e) is tries = λ o small has. go o small has
@@ -69,19 +69,19 @@ module _ {E : Type 0} (G : List ℕ → Result ℕ E → Type 0) (reads : (u : L
       go (Some n) small has = read_of t None is (e, tries) n small has
 
   pub number_or_none : (r : Result (Option ℕ) E) → (one_text f option ≡ None → r ≡ Ok None)
-      → ((t : Text) → one_text f option ≡ Some t → TriesOne G t r) → MayFind r
+      → ((t : Text) → one_text f option ≡ Some t → TriesOne G t r) → MayFind f option r
   number_or_none r none value = go (one_text f option) refl
     where
-      go : (o : Option Text) → one_text f option ≡ o → MayFind r
-      go None is = subst MayFind (sym (none is)) (sym (one_text-rows f option) ∙ is)
+      go : (o : Option Text) → one_text f option ≡ o → MayFind f option r
+      go None is = subst (MayFind f option) (sym (none is)) (sym (one_text-rows f option) ∙ is)
       go (Some t) is = tried_text t r is (value t is)
 
 -- the same of a flag
-module _ {E : Type 0} (f : Found) (flag : Text) where
-  abbrev FindsFlag : Option Bool → Type 0
-  FindsFlag r = MatchOption r ((set : Bool) → HasFlag (rows_of f) flag set → ⊥) (HasFlag (rows_of f) flag)
+abbrev FindsFlag : Found → Text → Option Bool → Type 0
+FindsFlag f flag r = MatchOption r ((set : Bool) → HasFlag (rows_of f) flag set → ⊥) (HasFlag (rows_of f) flag)
 
-  read_flag : (t : Text) (r : Option Bool) → one_text f flag ≡ Some t → ReadsOne {Bool} {E} ParsesBool t r → FindsFlag r
+module _ (E : Type 0) (f : Found) (flag : Text) where
+  read_flag : (t : Text) (r : Option Bool) → one_text f flag ≡ Some t → ReadsOne {E = E} ParsesBool t r → FindsFlag f flag r
   read_flag t (Some true) is read = sym (one_text-rows f flag) ∙ is ∙ ap Some read
   read_flag t (Some false) is read = sym (one_text-rows f flag) ∙ is ∙ ap Some read
   read_flag t None is read = go
@@ -94,23 +94,23 @@ module _ {E : Type 0} (f : Found) (flag : Text) where
       go false has = read.1.1 (some_same (sym is ∙ one_text-rows f flag ∙ has))
 
   flag_found : (r : Option Bool) → (one_text f flag ≡ None → r ≡ None)
-      → ((t : Text) → one_text f flag ≡ Some t → ReadsOne {Bool} {E} ParsesBool t r) → FindsFlag r
+      → ((t : Text) → one_text f flag ≡ Some t → ReadsOne {E = E} ParsesBool t r) → FindsFlag f flag r
   flag_found r none value = go (one_text f flag) refl
     where
       differ : {x : Text} → Some x ≡ None → ⊥
       differ e = cc
 
-      go : (o : Option Text) → one_text f flag ≡ o → FindsFlag r
-      go None is = subst FindsFlag (sym (none is)) (λ set has. differ (sym has ∙ sym (one_text-rows f flag) ∙ is))
+      go : (o : Option Text) → one_text f flag ≡ o → FindsFlag f flag r
+      go None is = subst (FindsFlag f flag) (sym (none is)) (λ set has. differ (sym has ∙ sym (one_text-rows f flag) ∙ is))
       go (Some t) is = read_flag t r is (value t is)
 
   pub flag_or_refused : (r : Option Bool) → (one_text f flag ≡ None → r ≡ None)
-      → ((t : Text) → one_text f flag ≡ Some t → ReadsOne {Bool} {E} ParsesBool t r)
+      → ((t : Text) → one_text f flag ≡ Some t → ReadsOne {E = E} ParsesBool t r)
       → MatchResult (ok_or r Refused) (HasFlag (rows_of f) flag)
       (λ fault. (fault ≡ Refused) × ((set : Bool) → HasFlag (rows_of f) flag set → ⊥))
   flag_or_refused r none value = go r (flag_found r none value)
     where
-      go : (r : Option Bool) → FindsFlag r → MatchResult (ok_or r Refused) (HasFlag (rows_of f) flag)
+      go : (r : Option Bool) → FindsFlag f flag r → MatchResult (ok_or r Refused) (HasFlag (rows_of f) flag)
           (λ fault. (fault ≡ Refused) × ((set : Bool) → HasFlag (rows_of f) flag set → ⊥))
       go (Some set) h = h
       go None h = (refl, h)

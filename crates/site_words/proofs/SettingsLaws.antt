@@ -49,6 +49,9 @@ log_once rows false false one two = refl
 log_once rows true false one two = absurd (texts_differ (some_same (sym one ∙ two)))
 log_once rows false true one two = absurd (texts_differ (some_same (sym two ∙ one)))
 
+abbrev options_with : Option Text → Option ℕ → Option Text → Bool → Options
+options_with http tick once log = record { http = http; tick = tick; once = once; log = log }
+
 -- clap found one value of each option
 options_once : (rows : List Row) (o p : Options) → AreFound rows o → AreFound rows p → o ≡ p
 options_once rows o p one two =
@@ -56,7 +59,10 @@ options_once rows o p one two =
     let tick : o.tick ≡ p.tick = tick_once rows o.tick p.tick one.tick two.tick in
     let once : o.once ≡ p.once = sym one.once ∙ two.once in
     let log : o.log ≡ p.log = log_once rows o.log p.log one.log two.log in
-    cc
+    ap (λ (h : Option Text). options_with h o.tick o.once o.log) http
+    ∙ (ap (λ (t : Option ℕ). options_with p.http t o.once o.log) tick
+    ∙ (ap (λ (f : Option Text). options_with p.http p.tick f o.log) once
+    ∙ ap (λ (l : Bool). options_with p.http p.tick p.once l) log))
 
 -- the settings of the values that clap found are those that it found
 pub values_found : (rows : List Row) (id sites : ℕ) (listen : Text) (words : List Text) (options : Options) → HasNumber rows (codes "id") id

@@ -198,7 +198,7 @@ impl Config {
         words: &[&str],
         options: OptionValues<'_>,
     ) -> Result<Config, WordsFault>
-        ensures { IsSetBy (HasValues id sites listen.now (texts words.now) options) result }
+        ensures { IsSetBy (HasValues id sites listen.now (texts words.now) options.entry) result }
     {
         if id < 1 || id > sites || sites < MIN_SITES || sites > MAX_SITES {
             return Err(WordsFault::Refused);
@@ -235,7 +235,7 @@ fn is_tick(tick: Option<u64>) -> bool
 
 /// A copy of a text, if there is one.
 fn owned(alloc: Global, text: Option<&str>) -> Result<Option<String>, AllocError>
-    ensures { IfOk result (λ copy. option_map string_bytes copy ≡ option_map (λ s. s.now) text) }
+    ensures { IfOk result (λ copy. option_map string_bytes copy ≡ option_map (λ s. s.now) text.entry) }
 {
     match text {
         Some(text) => Ok(Some(String::from_str(alloc, text)?)),
