@@ -1,8 +1,8 @@
 -- What an applier told, from item to item.
-use Rattle.std.proofs.Common.{◌≡◌, ◌≢◌, ℕ, ◌+◌, ◌≤◌, Bool, true, false, true≢false, ◌==◌, List, [], ◌∷◌, ◌++◌, length, Option, Some, None, Result, Ok, Err, IfOk, IsSome, inl, inr, cond, nat_lt, refl, sym, ap, ◌∙◌, subst, arith, append-nil, append_assoc}
+use Rattle.std.proofs.Common.{◌≡◌, ◌≢◌, ℕ, ◌+◌, ◌≤◌, Bool, true, false, true≢false, ◌==◌, List, [], ◌∷◌, ◌++◌, Option, Some, None, Result, Ok, Err, IfOk, IsSome, cond, nat_lt, refl, sym, ap, ◌∙◌, subst, arith, append-nil, append_assoc}
 use Rattle.std.proofs.lemmas.Bool.{eq-eqb, ltb-false}
 use Rattle.rights_types.specs.Entries.{EntryValue, own}
-use Rattle.rights_types.specs.Chains.{end, closed_from, moves_of, IsChain, ChainFrom}
+use Rattle.rights_types.specs.Chains.{moves_of, IsChain}
 use Rattle.rights_types.specs.Rights.{to}
 use Rattle.rights_types.specs.declared.moves.Move.TheVariants.{TakeBack}
 use Rattle.rights_types.proofs.Chains.{chain_right, end-push}
@@ -12,13 +12,12 @@ use Rattle.rights_book.specs.Books.{BookValue, peer}
 use Rattle.site_core.specs.Ledgers.{owed_by, TakesBackIf}
 use Rattle.site_core.specs.Desks.{DeskValue}
 use Rattle.site_core.specs.Calls.{DeskApplies}
-use Rattle.thread_parts.specs.declared.item.Item.{Item}
 use Rattle.thread_parts.specs.declared.item.Item.TheVariants.{Entry, End}
 use Rattle.thread_parts.specs.Ends.{OutletValue}
 use Rattle.thread_parts.specs.Items.{items_of, end_if, IsItemChain}
 use Rattle.apply_lanes.specs.Names.{DeskId}
 use Rattle.apply_lanes.specs.Kepts.{KeptValue, IsKept, SeatValue, told_nothing}
-use Rattle.apply_lanes.specs.Appliers.{ApplierValue, IsCounted, new_applier, in_hand, MovesOn, HasNext, ComesToDesk, LeavesHand, is_late, is_out_of_step, step_fault, StepRefuses, dropped, applied, Steps, StepFails}
+use Rattle.apply_lanes.specs.Appliers.{ApplierValue, IsCounted, in_hand, MovesOn, HasNext, ComesToDesk, LeavesHand, is_late, is_out_of_step, step_fault, StepRefuses, dropped, applied, Steps, StepFails}
 use Rattle.apply_lanes.specs.declared.applier.StepError.{StepError}
 use Rattle.apply_lanes.specs.declared.applier.StepError.TheVariants.{LaneClosed, OutOfStep, OutOfMemory}
 use Rattle.apply_lanes.specs.Admissions.{site_fault, GivesSeat, GivesClockSeat}

@@ -1,6 +1,5 @@
 -- The invariant of the lock's value is kept by each change of its desk.
-use Rattle.std.proofs.Common.{◌≡◌, ◌≢◌, ℕ, ◌+◌, ◌-◌, ◌*◌, ◌≤◌, ◌<◌, inl, inr, Bool, true, false, ◌==◌, Option, Some, None, List, [], ◌∷◌, ◌++◌, length, get_or, set, cond, refl, sym, ap, ◌∙◌, subst, arith}
-use Rattle.std.specs.Prelude.{count_by, sum_by}
+use Rattle.std.proofs.Common.{◌≡◌, ℕ, ◌+◌, ◌-◌, ◌≤◌, ◌<◌, inl, inr, Bool, true, false, ◌==◌, Option, Some, None, List, [], ◌∷◌, ◌++◌, length, get_or, set, cond, refl, sym, ap, ◌∙◌, subst, arith}
 use Rattle.std.proofs.lemmas.Bool.{cases_eq}
 use Rattle.std.proofs.lemmas.List.{length-set, get_or_default}
 use Rattle.std.proofs.lemmas.List.Sums.{sum_by-set, count_by-le-length}
@@ -23,11 +22,11 @@ use Rattle.rights_book.specs.declared.account.Account.{Account}
 use Rattle.transfer_manager.specs.declared.answer.AskAnswer.{AskAnswer}
 use Rattle.transfer_manager.specs.declared.answer.AskAnswer.TheVariants.{Grant as Granted, Deny, RepeatedDeny, Repeated, OldAsk}
 use Rattle.site_core.specs.Calls.{DeskAnswers}
-use Rattle.site_core.specs.Ledgers.{LedgerValue, owed_by, frontier_of, TakesBack, TakesBackIf, AppliesEntry, closing_by}
+use Rattle.site_core.specs.Ledgers.{LedgerValue, owed_by, frontier_of, TakesBackIf, AppliesEntry, closing_by}
 use Rattle.site_core.specs.Desks.{DeskValue}
 use Rattle.thread_parts.specs.Tallies.{TallyValue}
 use Rattle.apply_lanes.specs.Names.{DeskId, IsUnused}
-use Rattle.apply_lanes.specs.Kepts.{KeptValue, IsKept, IsTallied, IsPortioned, admitted_count, raised, one_less}
+use Rattle.apply_lanes.specs.Kepts.{KeptValue, IsKept, IsTallied, IsPortioned, admitted_count, raised}
 
 -- ---- tallies
 

@@ -1,9 +1,7 @@
 -- The value under the lock of a shared desk, and what its seats were told.
-use Rattle.std.specs.Prelude.{◌≡◌, ℕ, ◌+◌, ◌-◌, ◌≤◌, Bool, if◌then◌else◌, List, [], length, Option, Some, None, count_by, sum_by}
-use Rattle.std.specs.List.{slice_index_or}
+use Rattle.std.specs.Prelude.{◌≡◌, ℕ, ◌+◌, ◌-◌, ◌≤◌, Bool, if◌then◌else◌, List, length, Option, Some, None, count_by}
 use Rattle.rights_types.specs.Chains.{moves_of, IsChain}
 use Rattle.rights_types.specs.Rights.{issued, spent, out, taken_back, sum_sites}
-use Rattle.rights_types.specs.Places.{at_site, set_site}
 use Rattle.rights_types.specs.declared.limits.TheConstants.{MAX_NUMBER, MAX_SITES}
 use Rattle.rights_book.specs.Books.{BookValue, sites, peer, received_by, held_by, applied_by}
 use Rattle.request_queue.specs.declared.request.Request.{Request}

@@ -1,11 +1,11 @@
-use Rattle.std.proofs.Common.{◌≡◌, length, None, arith, sym, ◌∙◌}
-use Rattle.apply_lanes.proofs.StopLaws.{none_missing}
+use Rattle.std.proofs.Common.{arith, sym, ◌∙◌}
+use Rattle.apply_lanes.proofs.StopLaws.{none_missing, left_bound}
 use Rattle.apply_lanes.proofs.stopping.end.Goals as goal
 
 pub settle-requires-clause-seats : goal.settle-requires-clause-seats
 settle-requires-clause-seats g c =
     let back = none_missing c.args.kept _ _ (sym c.missing.ensures.missing ∙ c.in-None.is) in
-    omega (arith, back.0, c.missing.ensures.valid.portioned.seats)
+    omega (arith, back.0, left_bound c.args.kept c.missing.ensures.valid.portioned)
 
 pub settle-requires-clause-applied : goal.settle-requires-clause-applied
 settle-requires-clause-applied g c =

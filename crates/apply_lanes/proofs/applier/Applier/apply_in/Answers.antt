@@ -1,7 +1,6 @@
-use Rattle.std.proofs.Common.{◌≡◌, ◌+◌, true, false, Some, None, length, arith, sym, ap, ◌∙◌, subst}
+use Rattle.std.proofs.Common.{◌≡◌, false, Some, None, arith, sym, ap, ◌∙◌, subst}
 use Rattle.std.proofs.lemmas.Bool.{or_parts}
 use Rattle.rights_types.specs.Entries.{EntryValue, own}
-use Rattle.rights_types.specs.Rights.{to}
 use Rattle.rights_book.specs.Books.{peer}
 use Rattle.site_core.specs.Faults.{has_closed}
 use Rattle.site_core.specs.Calls.{DeskApplies}

@@ -1,7 +1,6 @@
-use Rattle.std.proofs.Common.{◌≡◌, None, false, rules, sym, ap, ◌∙◌, ◌++◌, ◌∷◌, []}
-use Rattle.thread_parts.specs.declared.item.Item.{Item}
-use Rattle.thread_parts.specs.declared.item.Item.TheVariants.{Entry, End}
-use Rattle.apply_lanes.proofs.ApplierLaws.{counted_take, counted_end, none_of}
+use Rattle.std.proofs.Common.{◌≡◌, None, rules, ◌++◌, ◌∷◌, []}
+use Rattle.thread_parts.specs.declared.item.Item.TheVariants.{Entry}
+use Rattle.apply_lanes.proofs.ApplierLaws.{counted_take, none_of}
 use Rattle.apply_lanes.proofs.applier.Applier.fill.Goals as goal
 
 pub invariant_of-self : goal.invariant_of-self

@@ -1,7 +1,6 @@
-use Rattle.std.proofs.Common.{◌≡◌, ℕ, true, false, Some, sym, subst}
+use Rattle.std.proofs.Common.{sym, subst}
 use Rattle.std.proofs.lemmas.Result.{err_from_is_err_and}
-use Rattle.rights_types.specs.Entries.{EntryValue}
-use Rattle.apply_lanes.specs.Kepts.{KeptValue, IsKept}
+use Rattle.apply_lanes.specs.Kepts.{KeptValue}
 use Rattle.apply_lanes.specs.Appliers.{ApplierValue, Fills, StepFails}
 use Rattle.apply_lanes.proofs.ApplierLaws.{comes_to_desk, step_done, step_failed}
 use Rattle.apply_lanes.proofs.applier.Applier.step.Goals as goal

@@ -1,4 +1,4 @@
-use Rattle.std.proofs.Common.{◌≡◌, ◌+◌, ◌-◌, arith, sym, ◌∙◌, subst, length, rules}
+use Rattle.std.proofs.Common.{◌≡◌, ◌-◌, arith, sym, subst, length, rules}
 use Rattle.rights_types.specs.Rights.{to}
 use Rattle.rights_book.specs.Books.{peer}
 use Rattle.apply_lanes.specs.Kepts.{KeptValue, raised}

@@ -1,4 +1,4 @@
-use Rattle.std.proofs.Common.{◌≡◌, ℕ, ◌-◌, subst, sym, ◌∙◌, arith, rules}
+use Rattle.std.proofs.Common.{◌≡◌, ℕ, ◌-◌, subst, ◌∙◌, arith, rules}
 use Rattle.site_core.specs.Desks.{DeskValue}
 use Rattle.site_core.specs.Calls.{DeskServes, ServesFront}
 use Rattle.apply_lanes.specs.Kepts.{KeptValue, IsFront}
