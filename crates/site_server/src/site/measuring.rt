@@ -17,6 +17,7 @@ use std::alloc::Allocator;
 use std::sync::Wait;
 
 /// What is read of a desk at one moment.
+#[derive(Drop)]
 struct DeskValues {
     view: DeskView,
     /// The slots of its queue that spends take which wait, and those of outcomes that nobody has read.
