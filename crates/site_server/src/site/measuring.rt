@@ -1,5 +1,5 @@
 //! The metrics of a site, and its health.
-ghost use Rattle.std.specs.Prelude.{◌≡◌, ◌×◌, ◌++◌, [], List, ℕ, IfOk, OnOk};
+ghost use Rattle.std.specs.Prelude.{◌≡◌, ◌++◌, [], List, ℕ, IfOk, OnOk};
 ghost use Rattle.std.specs.List.{All};
 ghost use Rattle.rights_book.specs.Books.{peer as peer_in};
 ghost use Rattle.site_server.specs.Measuring.{AreMetrics, AreValues, HasApplied, HasValues, TellsClosed, TellsMetrics};
@@ -17,6 +17,7 @@ use std::alloc::Allocator;
 use std::sync::Wait;
 
 /// What is read of a desk at one moment.
+#[derive(Drop)]
 struct DeskValues {
     view: DeskView,
     /// The slots of its queue that spends take which wait, and those of outcomes that nobody has read.

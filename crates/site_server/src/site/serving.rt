@@ -1,5 +1,5 @@
 //! Clients over HTTP: a thread and a seat for each connection.
-ghost use Rattle.std.specs.Prelude.{◌≡◌, ◌×◌};
+ghost use Rattle.std.specs.Prelude.{◌≡◌};
 ghost use Rattle.site_http.specs.Responding.{Responds};
 ghost use Rattle.site_http.specs.declared.config.TheConstants.{SERVICE};
 ghost use Rattle.site_server.specs.Requests.{Conversed, CountsCalls};
