@@ -4,17 +4,16 @@ ghost use Rattle.entry_codec.specs.Pieces.{IsLine};
 ghost use Rattle.peer_links.specs.Ports.{Heard};
 ghost use Rattle.peer_links.specs.Ports.Heard.{AMessage, ALine, AState};
 ghost use Rattle.peer_links.specs.declared.link.DeskMessage.{DeskMessage};
-ghost use Rattle.peer_links.specs.declared.link.LinkFault.TheVariants.{OutOfMemory as NoMemory};
+ghost use Rattle.peer_links.specs.declared.link.LinkFault.TheVariants.{ReadFailed, OutOfMemory as NoMemory};
 
 mod hello;
 mod reading;
 mod writing;
 
 pub use hello::read_hello;
+use line_streams::ReadFault;
 pub use reading::read_link;
 use rights_types::{Ask, Deny, OutOfMemory, Query};
-use std::io;
-use std::io::ErrorKind;
 use std::sync::Wait;
 use sub_buffer::State;
 pub use writing::write_link;
@@ -41,6 +40,14 @@ impl From<OutOfMemory> for LinkFault {
 
     fn from(_error: OutOfMemory) -> LinkFault {
         LinkFault::OutOfMemory
+    }
+}
+
+impl From<ReadFault> for LinkFault {
+    ghost from_gives = { λ _ fault. fault ≡ ReadFailed };
+
+    fn from(_fault: ReadFault) -> LinkFault {
+        LinkFault::ReadFailed
     }
 }
 
@@ -77,9 +84,4 @@ pub trait Port {
     /// Is told after each line whether entries are missing, and how many are held until these come.
     fn seen<R: Wait>(&mut self, rt: &R, state: State, held: usize)
         ensures { hears self.old (AState state held) self.new };
-}
-
-/// Whether a read or a write was interrupted, and may be tried again.
-fn is_interrupted(error: &io::Error) -> bool {
-    error.kind() == ErrorKind::Interrupted
 }
