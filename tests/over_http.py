@@ -32,6 +32,7 @@ from web_driver import alone, in_threads, seats, skip
 from web_requests import MOST_CLIENTS, TOP
 
 from rights_http import AnswerLost, SiteClient, SiteUnreachable, in_seconds
+from rights_site import Site
 
 # ---- clients that nobody here wrote
 
@@ -119,6 +120,18 @@ def the_client_class():
             pass
 
 
+def names_and_ipv6():
+    """An address may be a name, and of IPv6 where this machine has it."""
+    hosts = ["localhost"]
+    with suppress(OSError):
+        socket.create_server(("::1", 0), family=socket.AF_INET6).close()
+        hosts.append("[::1]")
+    for host in hosts:
+        own, peer, web = free_ports(3)
+        with Site(1, 2, at(own), {2: at(peer)}, Cluster.program, http=f"{host}:{web}"), SiteClient(f"{host}:{web}") as client:
+            expect(client.ask("issue 1"), "number 1", host)
+
+
 def a_lost_answer_is_not_asked_for_again():
     """The server reads the request and ends the connection: a command is not sent again, a question is."""
     came = []
@@ -190,8 +203,8 @@ def main():
     given = words.parse_args()
     Cluster.program = given.program
     own = [
-        pythons_clients, curl, wrk, the_client_class, a_lost_answer_is_not_asked_for_again, examples_to_copy,
-        many_clients_of_three_sites,
+        pythons_clients, curl, wrk, the_client_class, names_and_ipv6, a_lost_answer_is_not_asked_for_again,
+        examples_to_copy, many_clients_of_three_sites,
     ]
     tests = [*web_requests.TESTS, *web_sites.TESTS, *own]
     # Idle connections are looked at last, since they last a minute.

@@ -251,7 +251,7 @@ def try_situation(browser, name):
 
 
 def shown_by(browser, address):
-    return words_of(browse(browser, address, ["--dump-dom"], 0.2))
+    return words_of(browse(browser, address, ["--dump-dom"], 0.1))
 
 
 def try_program(browser, program):

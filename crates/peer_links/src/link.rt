@@ -4,18 +4,17 @@ ghost use Rattle.entry_codec.specs.Pieces.{IsLine};
 ghost use Rattle.peer_links.specs.Ports.{Heard};
 ghost use Rattle.peer_links.specs.Ports.Heard.{AMessage, ALine, AState};
 ghost use Rattle.peer_links.specs.declared.link.DeskMessage.{DeskMessage};
-ghost use Rattle.peer_links.specs.declared.link.LinkFault.TheVariants.{OutOfMemory as NoMemory};
+ghost use Rattle.peer_links.specs.declared.link.LinkFault.TheVariants.{ReadFailed, OutOfMemory as NoMemory};
 
 mod hello;
 mod reading;
 mod writing;
 
 pub use hello::read_hello;
+use line_streams::ReadFault;
 pub use reading::read_link;
 use rights_types::{Ask, Deny, OutOfMemory, Query};
 use site_core::InboundError;
-use std::io;
-use std::io::ErrorKind;
 use std::sync::Wait;
 use sub_buffer::State;
 pub use writing::write_link;
@@ -42,6 +41,14 @@ impl From<OutOfMemory> for LinkFault {
 
     fn from(_error: OutOfMemory) -> LinkFault {
         LinkFault::OutOfMemory
+    }
+}
+
+impl From<ReadFault> for LinkFault {
+    ghost from_gives = { λ _ fault. fault ≡ ReadFailed };
+
+    fn from(_fault: ReadFault) -> LinkFault {
+        LinkFault::ReadFailed
     }
 }
 
@@ -93,9 +100,4 @@ pub trait Port {
 
     /// Is told of a line that was taken in, and whether it is a beat, likewise.
     fn taken<R: Wait>(&self, _rt: &R, _line: &[u8], _is_beat: bool) {}
-}
-
-/// Whether a read or a write was interrupted, and may be tried again.
-fn is_interrupted(error: &io::Error) -> bool {
-    error.kind() == ErrorKind::Interrupted
 }

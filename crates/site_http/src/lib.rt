@@ -18,4 +18,5 @@ mod service;
 pub use busy::Busy;
 pub use client::{Client, LONGEST_REPLY};
 pub use config::service_config;
+pub use route::{Allowed, Route};
 pub use service::ClientService;

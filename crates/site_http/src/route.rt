@@ -28,7 +28,7 @@ pub(crate) enum Target {
 
 /// The methods that a target allows.
 #[derive(Clone, Copy)]
-pub(crate) enum Allowed {
+pub enum Allowed {
     Get,
     Post,
     GetAndPost,
@@ -36,7 +36,7 @@ pub(crate) enum Allowed {
 
 /// What a request comes to.
 #[derive(Clone, Copy)]
-pub(crate) enum Route {
+pub enum Route {
     /// To carry out commands.
     Commands,
     /// To carry out one command and wait for what becomes of it.

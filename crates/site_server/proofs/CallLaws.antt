@@ -163,9 +163,10 @@ pub conversed : {S : Type 0} (answers : S → Request (List ℕ) → Response �
     → (more : List ℕ) × Consumes given left more × (after.received ≡ before.received ++ more)
     → (more : List ℕ) × Appends held holds more × (after.sent ≡ before.sent ++ more)
     → Calls answers old new before.calls after.calls
-    → Conversed answers config given left held holds old new
+    → Conversed answers given left held holds old new
 conversed answers config given left held holds old new before after fresh served read written calls =
     record {
+      config = config;
       history = after;
       served = served;
       read = subst (λ (m : List ℕ). Consumes given left m) (sym (read.2 ∙ ap (λ (h : History). h.received ++ read.0) fresh)) read.1;

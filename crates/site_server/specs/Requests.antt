@@ -25,7 +25,8 @@ use Rattle.site_server.specs.Conversations.{IsTurn}
 
 -- A connection from its beginning to its end: what was read of it and written to it is such a history, whose calls lead from
 -- one state of the service to the other.
-pub record Conversed {S : Type 0} (answers : S → Request (List ℕ) → Response → S → Type 0) (config : Config) (given left held holds : Option (List ℕ)) (old new : S) : Type 0 where
+pub record Conversed {S : Type 0} (answers : S → Request (List ℕ) → Response → S → Type 0) (given left held holds : Option (List ℕ)) (old new : S) : Type 0 where
+  pub config : Config
   pub history : History
   pub served : ∥ IsServed config history ∥₁
   pub read : Consumes given left history.received

@@ -6,7 +6,7 @@ ghost use Rattle.entry_codec.specs.Spelling.{Spells};
 ghost use Rattle.origin_log.specs.Answering.{answer_to_query};
 ghost use Rattle.origin_log.specs.Faults.{query_fault, ReadRefuses};
 ghost use Rattle.transfer_manager.specs.Managers.{outstanding_ask};
-ghost use Rattle.site_core.specs.Calls.{LineOf, next_place, next_push, after_publish, after_skip, beat_of};
+ghost use Rattle.site_core.specs.Calls.{LineOf, next_push, after_publish, after_skip, beat_of};
 
 use crate::kept::Kept;
 use crate::names::DeskNames;
@@ -31,15 +31,6 @@ impl<D: DeskNames, A: Allocator + Copy> Kept<D, A> {
         ensures memory { next_push self.old.desk.ledger.log peer ≡ None → IsOk result }
     {
         self.desk.publish(peer)
-    }
-
-    /// Publishes the next entry for that peer, and answers its place in the log, counted from 0; None where all
-    /// were. `desk().log().line(place)` lends its line: this copies nothing and takes no memory.
-    pub fn publish_next(&mut self, peer: SiteId) -> Option<usize>
-        ensures place { result ≡ next_place self.old.desk.ledger.log peer }
-        ensures left { self.new ≡ record self.old { desk = after_publish self.old.desk peer } }
-    {
-        self.desk.publish_next(peer)
     }
 
     /// Counts all entries as published to that peer, in the same time however many they are.

@@ -10,8 +10,9 @@ ghost use Rattle.peer_links.specs.Links.{Greets, HasEnded, HasRead, IsOneLine};
 ghost use Rattle.peer_links.specs.declared.link.LinkFault.{LinkFault};
 
 use crate::lines::LINE_END;
-use crate::link::{LinkFault, is_interrupted};
+use crate::link::LinkFault;
 use entry_codec::{Cut, LineCutter, read_line};
+use line_streams::read_some;
 use rights_types::{MAX_LINE, Message, SiteId};
 use std::alloc::Allocator;
 use std::io::Read;
@@ -59,7 +60,7 @@ fn read_first<I: Read, A: Allocator + Copy>(
     Err(LinkFault::NoHello)
 }
 
-/// Reads one byte, again where it was interrupted. `None` at the end.
+/// Reads one byte. `None` at the end.
 fn read_byte<I: Read>(reader: &mut I) -> Result<Option<u8>, LinkFault>
     ensures some { IfOk result (λ byte. IfSome byte (λ byte.
         Consumes (I.remaining reader.old) (I.remaining reader.new) (byte ∷ []))) }
@@ -69,18 +70,12 @@ fn read_byte<I: Read>(reader: &mut I) -> Result<Option<u8>, LinkFault>
         × Consumes (I.remaining reader.old) (I.remaining reader.new) []) }
 {
     let mut byte = [0];
-    'tries: for _ in 0..u64::MAX {
-        match reader.read(&mut byte) {
-            Ok(0) => return Ok(None),
-            Ok(_) => return Ok(Some(byte[0])),
-            Err(error) => {
-                if !is_interrupted(&error) {
-                    return Err(LinkFault::ReadFailed);
-                }
-            }
-        }
+    let length = read_some(reader, &mut byte)?;
+    if length == 0 {
+        Ok(None)
+    } else {
+        Ok(Some(byte[0]))
     }
-    Err(LinkFault::ReadFailed)
 }
 
 /// Who speaks, if the line says it.

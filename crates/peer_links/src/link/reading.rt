@@ -1,7 +1,6 @@
 //! The lines that come from a peer.
 ghost use Rattle.std.specs.Prelude.{◌≡◌, ℕ, ◌+◌, ◌<◌, ◌≤◌, ◌++◌, [], ◌∷◌, false, List, length, take, OnOk, IfOk, IfErr, IfSome, IsErrOf, MatchResult};
-ghost use Rattle.std.specs.Io.KnownBytes.{Consumes, Keeps, IsAtEnd, ReadConsumes};
-ghost use Rattle.std.specs.Io.{ReadsAtMost};
+ghost use Rattle.std.specs.Io.KnownBytes.{Consumes, IsAtEnd};
 ghost use Rattle.line_streams.specs.Counting.{counts_for, still};
 ghost use Rattle.peer_links.specs.Links.{IsFedAll, LinkGave, LinkEnds, IsOfIntake, MayFail};
 ghost use Rattle.peer_links.specs.Lines.{IsPiece};
@@ -12,9 +11,9 @@ ghost use Rattle.peer_links.specs.Takes.{TakesInput, TakesLine, TakesPiece, Asks
 ghost use Rattle.peer_links.specs.declared.link.LinkFault.{LinkFault};
 
 use crate::lines::{Piece, next_piece};
-use crate::link::{DeskMessage, LinkFault, Port, Skipped, is_interrupted};
+use crate::link::{DeskMessage, LinkFault, Port, Skipped};
 use entry_codec::LineCutter;
-use line_streams::LINE_LIMIT;
+use line_streams::{LINE_LIMIT, read_some};
 use link_intake::{Arrived, Intake, IntakeError};
 use rights_types::OutOfMemory;
 use site_core::InboundError;
@@ -49,32 +48,12 @@ pub fn read_link<R: Wait, I: Read, P: Port>(
     let mut room = [0; READ_SIZE];
     let mut count = 0;
     'reads: loop {
-        let length = read_some(rt, reader, &mut room)?;
+        let length = read_some(reader, &mut room)?;
         if length == 0 {
             return Ok(());
         }
         take_block(rt, cutter, &room[..length], &mut count, intake, port)?;
     }
-}
-
-/// Reads once, again where it was interrupted.
-fn read_some<R: Wait, I: Read>(rt: &R, reader: &mut I, room: &mut [u8]) -> Result<usize, LinkFault>
-    ensures same { length room.new ≡ length room.old }
-    ensures bound { ReadsAtMost result room.new }
-    ensures bytes { ReadConsumes (I.remaining reader.old) (I.remaining reader.new) result room.new }
-    ensures failed { IfErr result (λ fault. fault ≡ LinkFault.ReadFailed) }
-{
-    'reads: for _ in rt.forever() {
-        match reader.read(room) {
-            Ok(length) => return Ok(length),
-            Err(error) => {
-                if !is_interrupted(&error) {
-                    return Err(LinkFault::ReadFailed);
-                }
-            }
-        }
-    }
-    unreachable!()
 }
 
 /// Counts one more, which may be one too many.

@@ -5,8 +5,9 @@ ghost use Rattle.entry_codec.specs.Pieces.{pieces, IsLine};
 ghost use Rattle.peer_links.specs.Sources.{AreLines, SendsLines, WritesLines};
 
 use crate::lines::LINE_END;
-use crate::link::{LinkFault, is_interrupted};
+use crate::link::LinkFault;
 use crate::source::{Batch, LineSource};
+use line_streams::write_some;
 use memchr::memchr;
 use std::io::Write;
 use std::sync::Wait;
@@ -30,7 +31,7 @@ pub fn write_link<R: Wait, W: Write, S: LineSource>(
         match source.next_batch(rt, &mut room) {
             Batch::Over => return Ok(()),
             Batch::Copied(length) => write_copied(rt, writer, source, &room[..length])?,
-            Batch::Large(line) => write_line(rt, writer, &line)?,
+            Batch::Large(line) => write_line(writer, &line)?,
         }
     }
     unreachable!()
@@ -46,7 +47,7 @@ fn write_copied<R: Wait, W: Write, S: LineSource>(
     requires { (lines : List (List ℕ)) × S.waits source.old lines × AreLines lines text.now }
     ensures { SendsLines S.takes source.old source.new (W.contents writer.old) (W.contents writer.new) result }
 {
-    let written = write_front(rt, writer, text);
+    let written = write_front(writer, text);
     source.take_front(rt, begun(text, written));
     if written < text.len() {
         return Err(LinkFault::WriteFailed);
@@ -55,10 +56,10 @@ fn write_copied<R: Wait, W: Write, S: LineSource>(
 }
 
 /// Writes one line.
-fn write_line<R: Wait, W: Write>(rt: &R, writer: &mut W, line: &[u8]) -> Result<(), LinkFault>
+fn write_line<W: Write>(writer: &mut W, line: &[u8]) -> Result<(), LinkFault>
     ensures { WritesLines (W.contents writer.old) (W.contents writer.new) (line.now ∷ []) result }
 {
-    if write_front(rt, writer, line) < line.len() {
+    if write_front(writer, line) < line.len() {
         return Err(LinkFault::WriteFailed);
     }
     Ok(())
@@ -66,37 +67,19 @@ fn write_line<R: Wait, W: Write>(rt: &R, writer: &mut W, line: &[u8]) -> Result<
 
 /// Writes the text, in as many writes as it takes, and answers how much of it was written when a write
 /// failed, or took no byte.
-fn write_front<R: Wait, W: Write>(rt: &R, writer: &mut W, text: &[u8]) -> usize
+fn write_front<W: Write>(writer: &mut W, text: &[u8]) -> usize
     ensures within { result ≤ length text.now }
     ensures bytes { Appends (W.contents writer.old) (W.contents writer.new) (take result text.now) }
 {
     let mut done = 0;
     'writes: while done < text.len() {
-        let count = write_some(rt, writer, &text[done..]);
+        let count = write_some(writer, &text[done..]);
         if count == 0 {
             break;
         }
         done += count;
     }
     done
-}
-
-/// Writes once, again where it was interrupted, and answers how many bytes were taken: 0 where it failed.
-fn write_some<R: Wait, W: Write>(rt: &R, writer: &mut W, text: &[u8]) -> usize
-    ensures within { result ≤ length text.now }
-    ensures bytes { Appends (W.contents writer.old) (W.contents writer.new) (take result text.now) }
-{
-    'tries: for _ in rt.forever() {
-        match writer.write(text) {
-            Ok(count) => return count,
-            Err(error) => {
-                if !is_interrupted(&error) {
-                    return 0;
-                }
-            }
-        }
-    }
-    unreachable!()
 }
 
 /// How many lines of the text were begun, where so many of its bytes were written: those that were

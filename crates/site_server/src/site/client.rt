@@ -126,7 +126,7 @@ impl<'a, D: DeskNames, R: Wait, P: Peers + Drop, B: Bell + Drop> SiteClient<'a, 
 
     /// The seat, of which the client is taken apart.
     pub(crate) fn into_seat(self) -> Seat<D>
-        ensures { result ≡ self.seat }
+        ensures { result ≡ self.entry.seat }
     {
         let SiteClient { seat, .. } = self;
         seat

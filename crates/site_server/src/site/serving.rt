@@ -1,7 +1,6 @@
 //! Clients over HTTP: a thread and a seat for each connection.
 ghost use Rattle.std.specs.Prelude.{◌≡◌};
 ghost use Rattle.site_http.specs.Responding.{Responds};
-ghost use Rattle.site_http.specs.declared.config.TheConstants.{SERVICE};
 ghost use Rattle.site_server.specs.Requests.{Conversed, CountsCalls};
 ghost use Rattle.site_server.specs.Connections.{Responded};
 
@@ -30,7 +29,7 @@ fn converse<C: Client + Drop, I: Read, W: Write>(
     reader: &mut I,
     writer: &mut W,
 ) -> C
-    ensures { Conversed (Responds C.answers C.settles C.status C.metrics C.closed) SERVICE
+    ensures { Conversed (Responds C.answers C.settles C.status C.metrics C.closed)
         (I.remaining reader.old) (I.remaining reader.new) (W.contents writer.old) (W.contents writer.new) client result }
 {
     let mut connection = Connection::new(alloc, keys, service_config());
@@ -48,9 +47,9 @@ fn answer_requests<'a, D: DeskNames, R: Wait, P: Peers + Drop, B: Bell + Drop, I
     reader: &mut I,
     writer: &mut W,
 ) -> SiteClient<'a, D, R, P, B>
-    ensures { (talk : Conversed (Responded P.size P.sends B.has_ended D.id) SERVICE
-        (I.remaining reader.old) (I.remaining reader.new) (W.contents writer.old) (W.contents writer.new) client result)
-        × CountsCalls client.seat talk.history.calls result.seat }
+    ensures { (talk : Conversed (Responded P.size P.sends B.has_ended D.id)
+        (I.remaining reader.old) (I.remaining reader.new) (W.contents writer.old) (W.contents writer.new) client.entry result)
+        × CountsCalls client.entry.seat talk.history.calls result.seat }
 {
     converse(alloc, keys, client, reader, writer)
 }

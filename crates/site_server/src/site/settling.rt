@@ -54,6 +54,7 @@ impl<D: DeskNames, R: Wait, P: Peers + Drop, B: Bell + Drop> SiteClient<'_, D, R
 
     /// Waits, tick by tick, for what becomes of the spend of this ticket, and reads it, which frees its slot. At the end
     /// of the site it is told as queued.
+    #[tactic(auto, using(crate::proofs::SettleLaws::tells_outcome, crate::proofs::SettleLaws::keeps_seat))]
     fn outcome(&mut self, ticket: u64, mut seen: u64) -> Reply
         ensures settles { Settles (B.has_ended self.old.bell) D.id self.old.seat (Spends (IsQueued ticket)) result }
         ensures same { self.new ≡ self.old }

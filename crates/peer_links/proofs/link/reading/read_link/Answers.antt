@@ -26,7 +26,7 @@ returns-in_err-length-clause-gave g c =
     let p = err_from_is_err_and c.from_residual.result c.from_residual.ensures.1 in
     let inv = c.reads.invariant in
     let same = gave_same _ _ _ inv.5.0 (kept_none _ _ c.in_err-length.ensures.bytes) in
-    rw (p.1, p.2, c.in_err-length.ensures.failed) (same.0, omega (arith, same.1, inv.5.1, inv.1), λ stream h. rw same.2 (inv.5.2 stream h).1)
+    rw (p.1, p.2) (same.0, omega (arith, same.1, inv.5.1, inv.1), λ stream h. rw same.2 (inv.5.2 stream h).1)
 
 pub returns-then-length-eq0-clause-gave : goal.returns-then-length-eq0-clause-gave
 returns-then-length-eq0-clause-gave g c =
