@@ -27,6 +27,5 @@ impl<
         + Files
         + Eprint
         + RandomSource
-        + AllocGlobal
-        + Sync,
+        + AllocGlobal,
 > Host for R {}
