@@ -12,6 +12,8 @@ pub(crate) fn page() -> Bytes
 }
 
 pub(crate) const PAGE: &str = r##"<!doctype html>
+<html lang="en">
 <title>rights-site</title>
 <p>See <a href="/status">status</a> and <a href="/metrics">metrics</a>.
+</html>
 "##;
