@@ -1,6 +1,6 @@
 -- Each refusal has a name of its own.
-use Rattle.std.proofs.Common.{◌≡◌, ◌≢◌, ℕ, zero, suc, ◌+◌, ◌<◌, Bool, true, false, true≢false, ◌&&◌, ◌==◌, List, [], ◌++◌, length, take, drop, get_or, set, Option, Some, None, IfNone, codes, refl, ap, sym, ◌∙◌, arith, inl, inr, add-zero}
-use Rattle.std.proofs.lemmas.Bool.{cases_lt, cases_Bool, false_from_ne_true, eqb-true, eqb-false}
+use Rattle.std.proofs.Common.{◌≡◌, ◌≢◌, ℕ, zero, suc, ◌+◌, ◌<◌, ◌≤◌, leb, Bool, true, false, true≢false, ◌&&◌, ◌==◌, List, [], ◌++◌, length, take, drop, get_or, set, Option, Some, None, IfNone, codes, refl, ap, sym, ◌∙◌, arith, inl, inr, add-zero}
+use Rattle.std.proofs.lemmas.Bool.{cases_lt, cases_Bool, false_from_ne_true, eqb-true, eqb-false, leb-true}
 use Rattle.std.proofs.lemmas.List.{get_or-set_same, get_or-set_other}
 use Rattle.std.proofs.lemmas.Slice.Eq.{bytes_eq-Decides}
 use Rattle.std.specs.List.{position_or_len, flat_map, zip}
@@ -102,3 +102,7 @@ name_more f text before after counts place name low long done named more =
     get_or-zip refusal_names counts place ([], 0) low (omega (arith, long, low)) ∙ ap (λ (n : List ℕ). (n, get_or counts place 0)) (sym named) in
     more ∙ ap (λ (t : List ℕ). t ++ f (name, get_or counts place 0)) done ∙ ap (λ (e : List ℕ × ℕ). (text ++ flat_map f (take place all)) ++ f e) (sym item)
     ∙ flat_map_more f text (take place all) (get_or all place ([], 0)) ∙ ap (λ (es : List (List ℕ × ℕ)). text ++ flat_map f es) (sym (take_more all place ([], 0) within))
+
+-- no name is longer
+pub short_name : (place : ℕ) → place < 15 → length (get_or refusal_names place []) ≤ 16
+short_name place low = leb-true (length (get_or refusal_names place [])) 16 (below (λ i. leb (length (get_or refusal_names i [])) 16) 15 refl place low)

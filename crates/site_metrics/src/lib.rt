@@ -17,4 +17,4 @@ pub use counters::{Counters, PeerCounters};
 pub use metrics::{Metrics, PeerMetrics};
 pub use refusals::{REFUSAL_COUNT, REFUSALS, refusal_place};
 pub use replies::{ReplyCounts, count_replies};
-pub use text::put_metrics;
+pub use text::{PEER_ROOM, SITE_ROOM, put_metrics};

@@ -1,5 +1,5 @@
 //! The names of refusals, each with a place.
-ghost use Rattle.std.specs.Prelude.{◌≡◌, ◌≢◌, ℕ, ◌<◌, get_or, length, [], IfSome, IfNone};
+ghost use Rattle.std.specs.Prelude.{◌≡◌, ◌≢◌, ℕ, ◌<◌, ◌≤◌, get_or, length, [], IfSome, IfNone};
 ghost use Rattle.site_metrics.specs.Refusals.{refusal_names, refusal_text};
 
 /// How many names `REFUSALS` has.
@@ -25,9 +25,11 @@ pub const REFUSALS: [&[u8]; REFUSAL_COUNT] = [
 ];
 
 /// The name at a place.
+#[tactic(auto, using(crate::proofs::RefusalLaws::short_name))]
 pub(crate) fn refusal_name(place: usize) -> &'static [u8]
     requires { place < REFUSAL_COUNT }
-    ensures { result.now ≡ get_or refusal_names place [] }
+    ensures name { result.now ≡ get_or refusal_names place [] }
+    ensures short { length result.now ≤ 16 }
 {
     REFUSALS[place]
 }

@@ -1,6 +1,6 @@
 //! Putting one metric. Each line has its line feed before it, so that the last line of the text is left to
 //! `Replies::finish`. After an `Err` the reply at work has some part of it, and the whole replies are unchanged.
-ghost use Rattle.std.specs.Prelude.{◌≡◌, ℕ, List, ◌++◌, ◌∷◌, [], codes, drop, flat_map, OnOk};
+ghost use Rattle.std.specs.Prelude.{◌≡◌, ℕ, List, ◌++◌, ◌∷◌, [], codes, drop, flat_map, length, ◌≤◌, ◌+◌, ◌*◌, OnOk, IsOk};
 ghost use Rattle.std.specs.List.{zip};
 ghost use Rattle.site_metrics.specs.Format.{help_line, type_line, sample_line, led_lines};
 ghost use Rattle.site_metrics.specs.Table.{gauge, counter, alone, peer_sample, by_peer, name_sample, by_name};
@@ -14,6 +14,16 @@ use line_streams::Replies;
 use rights_types::OutOfMemory;
 use std::alloc::Allocator;
 
+/// The bytes of a name and of a help text, at most.
+pub(crate) const MAX_NAME: usize = 40;
+
+pub(crate) const MAX_HELP: usize = 120;
+
+/// The bytes of the two lines that a metric begins with, and of the line of one value, at most, line feeds included.
+pub(crate) const HEAD_ROOM: usize = 226;
+
+pub(crate) const SAMPLE_ROOM: usize = 96;
+
 /// A gauge with one value, at the beginning of the text, with no line feed before it.
 pub(crate) fn put_first_gauge<A: Allocator>(
     replies: &mut Replies<A>,
@@ -21,8 +31,12 @@ pub(crate) fn put_first_gauge<A: Allocator>(
     help: &[u8],
     value: u64,
 ) -> Result<(), OutOfMemory>
+    requires name { length name.now ≤ MAX_NAME }
+    requires help { length help.now ≤ MAX_HELP }
     ensures ok { OnOk result (replies.new.part ≡ replies.old.part ++ drop 1 (led_lines (gauge name.now help.now (alone value)))) }
     ensures kept { replies.new.whole ≡ replies.old.whole }
+    ensures room { HEAD_ROOM + SAMPLE_ROOM ≤ replies.old.room → IsOk result }
+    ensures left { replies.old.room ≤ replies.new.room + (HEAD_ROOM + SAMPLE_ROOM) }
 {
     put_head(replies, name, help, b"gauge")?;
     put_value(replies, name, value)
@@ -35,8 +49,12 @@ pub(crate) fn put_gauge<A: Allocator>(
     help: &[u8],
     value: u64,
 ) -> Result<(), OutOfMemory>
+    requires name { length name.now ≤ MAX_NAME }
+    requires help { length help.now ≤ MAX_HELP }
     ensures ok { OnOk result (replies.new.part ≡ replies.old.part ++ led_lines (gauge name.now help.now (alone value))) }
     ensures kept { replies.new.whole ≡ replies.old.whole }
+    ensures room { HEAD_ROOM + SAMPLE_ROOM ≤ replies.old.room → IsOk result }
+    ensures left { replies.old.room ≤ replies.new.room + (HEAD_ROOM + SAMPLE_ROOM) }
 {
     put_gauge_head(replies, name, help)?;
     put_value(replies, name, value)
@@ -49,8 +67,12 @@ pub(crate) fn put_counter<A: Allocator>(
     help: &[u8],
     value: u64,
 ) -> Result<(), OutOfMemory>
+    requires name { length name.now ≤ MAX_NAME }
+    requires help { length help.now ≤ MAX_HELP }
     ensures ok { OnOk result (replies.new.part ≡ replies.old.part ++ led_lines (counter name.now help.now (alone value))) }
     ensures kept { replies.new.whole ≡ replies.old.whole }
+    ensures room { HEAD_ROOM + SAMPLE_ROOM ≤ replies.old.room → IsOk result }
+    ensures left { replies.old.room ≤ replies.new.room + (HEAD_ROOM + SAMPLE_ROOM) }
 {
     put_counter_head(replies, name, help)?;
     put_value(replies, name, value)
@@ -64,8 +86,12 @@ pub(crate) fn put_peer_gauge<A: Allocator>(
     peers: &[PeerMetrics],
     value: PeerValue,
 ) -> Result<(), OutOfMemory>
+    requires name { length name.now ≤ MAX_NAME }
+    requires help { length help.now ≤ MAX_HELP }
     ensures ok { OnOk result (replies.new.part ≡ replies.old.part ++ led_lines (gauge name.now help.now (by_peer (peer_value value) peers.now))) }
     ensures kept { replies.new.whole ≡ replies.old.whole }
+    ensures room { HEAD_ROOM + SAMPLE_ROOM * length peers.now ≤ replies.old.room → IsOk result }
+    ensures left { replies.old.room ≤ replies.new.room + (HEAD_ROOM + SAMPLE_ROOM * length peers.now) }
 {
     put_gauge_head(replies, name, help)?;
     put_peer_values(replies, name, peers, value)
@@ -79,8 +105,12 @@ pub(crate) fn put_peer_counter<A: Allocator>(
     peers: &[PeerMetrics],
     value: PeerValue,
 ) -> Result<(), OutOfMemory>
+    requires name { length name.now ≤ MAX_NAME }
+    requires help { length help.now ≤ MAX_HELP }
     ensures ok { OnOk result (replies.new.part ≡ replies.old.part ++ led_lines (counter name.now help.now (by_peer (peer_value value) peers.now))) }
     ensures kept { replies.new.whole ≡ replies.old.whole }
+    ensures room { HEAD_ROOM + SAMPLE_ROOM * length peers.now ≤ replies.old.room → IsOk result }
+    ensures left { replies.old.room ≤ replies.new.room + (HEAD_ROOM + SAMPLE_ROOM * length peers.now) }
 {
     put_counter_head(replies, name, help)?;
     put_peer_values(replies, name, peers, value)
@@ -93,8 +123,12 @@ pub(crate) fn put_name_counter<A: Allocator>(
     help: &[u8],
     counts: &[u64; REFUSAL_COUNT],
 ) -> Result<(), OutOfMemory>
+    requires name { length name.now ≤ MAX_NAME }
+    requires help { length help.now ≤ MAX_HELP }
     ensures ok { OnOk result (replies.new.part ≡ replies.old.part ++ led_lines (counter name.now help.now (by_name counts.now))) }
     ensures kept { replies.new.whole ≡ replies.old.whole }
+    ensures room { HEAD_ROOM + SAMPLE_ROOM * REFUSAL_COUNT ≤ replies.old.room → IsOk result }
+    ensures left { replies.old.room ≤ replies.new.room + (HEAD_ROOM + SAMPLE_ROOM * REFUSAL_COUNT) }
 {
     put_counter_head(replies, name, help)?;
     put_name_counts(replies, name, counts)
@@ -106,8 +140,13 @@ fn put_head<A: Allocator>(
     help: &[u8],
     kind: &[u8],
 ) -> Result<(), OutOfMemory>
+    requires name { length name.now ≤ MAX_NAME }
+    requires help { length help.now ≤ MAX_HELP }
+    requires kind { length kind.now ≤ 7 }
     ensures ok { OnOk result (replies.new.part ≡ replies.old.part ++ (help_line name.now help.now ++ 10 ∷ type_line name.now kind.now)) }
     ensures kept { replies.new.whole ≡ replies.old.whole }
+    ensures room { 225 ≤ replies.old.room → IsOk result }
+    ensures left { replies.old.room ≤ replies.new.room + 225 }
 {
     put_words(replies, b"# HELP ", name, help)?;
     put_words(replies, b"\n# TYPE ", name, kind)
@@ -118,8 +157,12 @@ fn put_gauge_head<A: Allocator>(
     name: &[u8],
     help: &[u8],
 ) -> Result<(), OutOfMemory>
+    requires name { length name.now ≤ MAX_NAME }
+    requires help { length help.now ≤ MAX_HELP }
     ensures ok { OnOk result (replies.new.part ≡ replies.old.part ++ (10 ∷ help_line name.now help.now ++ 10 ∷ type_line name.now (codes "gauge"))) }
     ensures kept { replies.new.whole ≡ replies.old.whole }
+    ensures room { HEAD_ROOM ≤ replies.old.room → IsOk result }
+    ensures left { replies.old.room ≤ replies.new.room + HEAD_ROOM }
 {
     replies.put(b"\n")?;
     put_head(replies, name, help, b"gauge")
@@ -130,8 +173,12 @@ fn put_counter_head<A: Allocator>(
     name: &[u8],
     help: &[u8],
 ) -> Result<(), OutOfMemory>
+    requires name { length name.now ≤ MAX_NAME }
+    requires help { length help.now ≤ MAX_HELP }
     ensures ok { OnOk result (replies.new.part ≡ replies.old.part ++ (10 ∷ help_line name.now help.now ++ 10 ∷ type_line name.now (codes "counter"))) }
     ensures kept { replies.new.whole ≡ replies.old.whole }
+    ensures room { HEAD_ROOM ≤ replies.old.room → IsOk result }
+    ensures left { replies.old.room ≤ replies.new.room + HEAD_ROOM }
 {
     replies.put(b"\n")?;
     put_head(replies, name, help, b"counter")
@@ -145,6 +192,8 @@ fn put_words<A: Allocator>(
 ) -> Result<(), OutOfMemory>
     ensures ok { OnOk result (replies.new.part ≡ replies.old.part ++ (begin.now ++ name.now ++ codes " " ++ text.now)) }
     ensures kept { replies.new.whole ≡ replies.old.whole }
+    ensures room { length begin.now + length name.now + length text.now + 1 ≤ replies.old.room → IsOk result }
+    ensures left { replies.old.room ≤ replies.new.room + (length begin.now + length name.now + length text.now + 1) }
 {
     replies.put(begin)?;
     replies.put(name)?;
@@ -157,8 +206,11 @@ fn put_value<A: Allocator>(
     name: &[u8],
     value: u64,
 ) -> Result<(), OutOfMemory>
+    requires { length name.now ≤ MAX_NAME }
     ensures ok { OnOk result (replies.new.part ≡ replies.old.part ++ (10 ∷ sample_line name.now (record { labels = []; value = value }))) }
     ensures kept { replies.new.whole ≡ replies.old.whole }
+    ensures room { SAMPLE_ROOM ≤ replies.old.room → IsOk result }
+    ensures left { replies.old.room ≤ replies.new.room + SAMPLE_ROOM }
 {
     replies.put(b"\n")?;
     replies.put(name)?;
@@ -171,8 +223,11 @@ fn put_peer_values<A: Allocator>(
     peers: &[PeerMetrics],
     value: PeerValue,
 ) -> Result<(), OutOfMemory>
+    requires { length name.now ≤ MAX_NAME }
     ensures ok { OnOk result (replies.new.part ≡ replies.old.part ++ flat_map (λ p. 10 ∷ sample_line name.now (peer_sample (peer_value value) p)) peers.now) }
     ensures kept { replies.new.whole ≡ replies.old.whole }
+    ensures room { SAMPLE_ROOM * length peers.now ≤ replies.old.room → IsOk result }
+    ensures left { replies.old.room ≤ replies.new.room + (SAMPLE_ROOM * length peers.now) }
 {
     for peer in peers {
         put_peer_value(replies, name, peer, value)?;
@@ -186,8 +241,11 @@ fn put_peer_value<A: Allocator>(
     peer: &PeerMetrics,
     value: PeerValue,
 ) -> Result<(), OutOfMemory>
+    requires { length name.now ≤ MAX_NAME }
     ensures ok { OnOk result (replies.new.part ≡ replies.old.part ++ (10 ∷ sample_line name.now (peer_sample (peer_value value) peer.now))) }
     ensures kept { replies.new.whole ≡ replies.old.whole }
+    ensures room { SAMPLE_ROOM ≤ replies.old.room → IsOk result }
+    ensures left { replies.old.room ≤ replies.new.room + SAMPLE_ROOM }
 {
     replies.put(b"\n")?;
     replies.put(name)?;
@@ -200,8 +258,11 @@ fn put_name_counts<A: Allocator>(
     name: &[u8],
     counts: &[u64; REFUSAL_COUNT],
 ) -> Result<(), OutOfMemory>
+    requires { length name.now ≤ MAX_NAME }
     ensures ok { OnOk result (replies.new.part ≡ replies.old.part ++ flat_map (λ e. 10 ∷ sample_line name.now (name_sample e)) (zip refusal_names counts.now)) }
     ensures kept { replies.new.whole ≡ replies.old.whole }
+    ensures room { SAMPLE_ROOM * REFUSAL_COUNT ≤ replies.old.room → IsOk result }
+    ensures left { replies.old.room ≤ replies.new.room + (SAMPLE_ROOM * REFUSAL_COUNT) }
 {
     for place in 0..REFUSAL_COUNT {
         put_name_count(replies, name, refusal_name(place), counts[place])?;
@@ -215,8 +276,12 @@ fn put_name_count<A: Allocator>(
     refusal: &[u8],
     count: u64,
 ) -> Result<(), OutOfMemory>
+    requires name { length name.now ≤ MAX_NAME }
+    requires refusal { length refusal.now ≤ 16 }
     ensures ok { OnOk result (replies.new.part ≡ replies.old.part ++ (10 ∷ sample_line name.now (name_sample (refusal.now, count)))) }
     ensures kept { replies.new.whole ≡ replies.old.whole }
+    ensures room { SAMPLE_ROOM ≤ replies.old.room → IsOk result }
+    ensures left { replies.old.room ≤ replies.new.room + SAMPLE_ROOM }
 {
     replies.put(b"\n")?;
     replies.put(name)?;

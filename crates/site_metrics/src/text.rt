@@ -1,20 +1,28 @@
 //! The text of all metrics.
-ghost use Rattle.std.specs.Prelude.{◌≡◌, ◌++◌, [], drop, flat_map, OnOk, OnErr};
+ghost use Rattle.std.specs.Prelude.{◌≡◌, ◌++◌, [], drop, flat_map, length, ◌≤◌, ◌<◌, ◌+◌, ◌*◌, IfSome, IfNone, IsOk, OnOk, OnErr};
+ghost use Rattle.rights_types.specs.declared.limits.TheConstants.{MAX_SITES};
 ghost use Rattle.site_metrics.specs.Format.{led_lines};
 ghost use Rattle.site_metrics.specs.Table.{rights_metrics, state_metrics, client_metrics, log_metrics, line_metrics, all_metrics, metrics_text, bit};
 
 use crate::metrics::{Metrics, PeerMetrics};
 use crate::peer_value::PeerValue;
+use crate::refusals::REFUSAL_COUNT;
 use crate::samples::{
-    put_counter, put_first_gauge, put_gauge, put_name_counter, put_peer_counter, put_peer_gauge,
+    HEAD_ROOM, SAMPLE_ROOM, put_counter, put_first_gauge, put_gauge, put_name_counter,
+    put_peer_counter, put_peer_gauge,
 };
 use line_streams::Replies;
 use rights_types::OutOfMemory;
 use std::alloc::Allocator;
 
+/// The text has at most so many bytes, and so many more for each peer.
+pub const SITE_ROOM: usize = 8192;
+
+pub const PEER_ROOM: usize = 1024;
+
 /// Appends the metrics of a site and of its peers, in the order given, as one of the whole replies: a text that Prometheus
 /// reads, of the content type `text/plain; version=0.0.4`. Each line of it ends with a line feed. Every name of a refusal
-/// has its count from the start, also where it is 0. After an `Err` the reply at work has some part of the text.
+/// has its count from the start, also where it is 0. An `Err` leaves the replies as they were.
 pub fn put_metrics<A: Allocator>(
     metrics: &Metrics,
     peers: &[PeerMetrics],
@@ -22,7 +30,33 @@ pub fn put_metrics<A: Allocator>(
 ) -> Result<(), OutOfMemory>
     requires { replies.old.part ≡ [] }
     ensures ok { OnOk result ((replies.new.whole ≡ replies.old.whole ++ metrics_text metrics.now peers.now) × (replies.new.part ≡ [])) }
-    ensures err { OnErr result (replies.new.whole ≡ replies.old.whole) }
+    ensures err { OnErr result ((replies.new.whole ≡ replies.old.whole) × (replies.new.part ≡ [])) }
+    ensures memory { length peers.now ≤ MAX_SITES → SITE_ROOM + PEER_ROOM * length peers.now ≤ replies.old.room → IsOk result }
+{
+    let Some(room) = room_of(peers.len()) else {
+        return Err(OutOfMemory);
+    };
+    replies.reserve(room)?;
+    put_text(metrics, peers, replies).unwrap();
+    Ok(())
+}
+
+/// The most bytes that the text of so many peers may have; None where no memory is so large.
+fn room_of(peers: usize) -> Option<usize>
+    ensures some { IfSome result (λ room. room ≡ SITE_ROOM + PEER_ROOM * peers) }
+    ensures none { IfNone result (MAX_SITES < peers) }
+{
+    peers.checked_mul(PEER_ROOM)?.checked_add(SITE_ROOM)
+}
+
+fn put_text<A: Allocator>(
+    metrics: &Metrics,
+    peers: &[PeerMetrics],
+    replies: &mut Replies<A>,
+) -> Result<(), OutOfMemory>
+    requires { replies.old.part ≡ [] }
+    ensures ok { OnOk result ((replies.new.whole ≡ replies.old.whole ++ metrics_text metrics.now peers.now) × (replies.new.part ≡ [])) }
+    ensures room { SITE_ROOM + PEER_ROOM * length peers.now ≤ replies.old.room → IsOk result }
 {
     put_all(metrics, peers, replies)?;
     replies.finish()
@@ -36,6 +70,7 @@ fn put_all<A: Allocator>(
 ) -> Result<(), OutOfMemory>
     ensures ok { OnOk result (replies.new.part ≡ replies.old.part ++ drop 1 (flat_map led_lines (all_metrics metrics.now peers.now))) }
     ensures kept { replies.new.whole ≡ replies.old.whole }
+    ensures room { SITE_ROOM + PEER_ROOM * length peers.now ≤ replies.old.room → IsOk result × (1 ≤ replies.new.room) }
 {
     put_rights(metrics, replies)?;
     put_state(metrics, replies)?;
@@ -48,6 +83,8 @@ fn put_all<A: Allocator>(
 fn put_rights<A: Allocator>(metrics: &Metrics, replies: &mut Replies<A>) -> Result<(), OutOfMemory>
     ensures ok { OnOk result (replies.new.part ≡ replies.old.part ++ drop 1 (flat_map led_lines (rights_metrics metrics.now))) }
     ensures kept { replies.new.whole ≡ replies.old.whole }
+    ensures room { 7 * (HEAD_ROOM + SAMPLE_ROOM) ≤ replies.old.room → IsOk result }
+    ensures left { replies.old.room ≤ replies.new.room + (7 * (HEAD_ROOM + SAMPLE_ROOM)) }
 {
     put_first_gauge(
         replies,
@@ -96,6 +133,8 @@ fn put_rights<A: Allocator>(metrics: &Metrics, replies: &mut Replies<A>) -> Resu
 fn put_state<A: Allocator>(metrics: &Metrics, replies: &mut Replies<A>) -> Result<(), OutOfMemory>
     ensures ok { OnOk result (replies.new.part ≡ replies.old.part ++ flat_map led_lines (state_metrics metrics.now)) }
     ensures kept { replies.new.whole ≡ replies.old.whole }
+    ensures room { 4 * (HEAD_ROOM + SAMPLE_ROOM) ≤ replies.old.room → IsOk result }
+    ensures left { replies.old.room ≤ replies.new.room + (4 * (HEAD_ROOM + SAMPLE_ROOM)) }
 {
     put_counter(
         replies,
@@ -126,6 +165,8 @@ fn put_state<A: Allocator>(metrics: &Metrics, replies: &mut Replies<A>) -> Resul
 fn put_clients<A: Allocator>(metrics: &Metrics, replies: &mut Replies<A>) -> Result<(), OutOfMemory>
     ensures ok { OnOk result (replies.new.part ≡ replies.old.part ++ flat_map led_lines (client_metrics metrics.now)) }
     ensures kept { replies.new.whole ≡ replies.old.whole }
+    ensures room { 3 * HEAD_ROOM + (REFUSAL_COUNT + 2) * SAMPLE_ROOM ≤ replies.old.room → IsOk result }
+    ensures left { replies.old.room ≤ replies.new.room + (3 * HEAD_ROOM + (REFUSAL_COUNT + 2) * SAMPLE_ROOM) }
 {
     put_gauge(
         replies,
@@ -153,6 +194,8 @@ fn put_logs<A: Allocator>(
 ) -> Result<(), OutOfMemory>
     ensures ok { OnOk result (replies.new.part ≡ replies.old.part ++ flat_map led_lines (log_metrics peers.now)) }
     ensures kept { replies.new.whole ≡ replies.old.whole }
+    ensures room { 5 * HEAD_ROOM + 5 * (SAMPLE_ROOM * length peers.now) ≤ replies.old.room → IsOk result }
+    ensures left { replies.old.room ≤ replies.new.room + (5 * HEAD_ROOM + 5 * (SAMPLE_ROOM * length peers.now)) }
 {
     put_peer_counter(
         replies,
@@ -197,6 +240,8 @@ fn put_lines<A: Allocator>(
 ) -> Result<(), OutOfMemory>
     ensures ok { OnOk result (replies.new.part ≡ replies.old.part ++ flat_map led_lines (line_metrics peers.now)) }
     ensures kept { replies.new.whole ≡ replies.old.whole }
+    ensures room { 5 * HEAD_ROOM + 5 * (SAMPLE_ROOM * length peers.now) ≤ replies.old.room → IsOk result }
+    ensures left { replies.old.room ≤ replies.new.room + (5 * HEAD_ROOM + 5 * (SAMPLE_ROOM * length peers.now)) }
 {
     put_peer_counter(
         replies,

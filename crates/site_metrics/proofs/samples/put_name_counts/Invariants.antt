@@ -1,4 +1,4 @@
-use Rattle.std.proofs.Common.{◌≡◌, ◌∷◌, ◌++◌, take}
+use Rattle.std.proofs.Common.{◌≡◌, ◌≤◌, ◌+◌, ◌*◌, ◌∷◌, ◌++◌, take}
 use Rattle.std.specs.List.{flat_map, zip}
 use Rattle.site_metrics.specs.Format.{sample_line}
 use Rattle.site_metrics.specs.Table.{name_sample}
@@ -8,5 +8,6 @@ use Rattle.site_metrics.proofs.samples.put_name_counts.Given as goal
 abbrev pub invariant-loop-place : goal.invariant-loop-place
 invariant-loop-place g l = record {
   text : l.replies.part ≡ l.initial.replies.part ++ flat_map (λ e. 10 ∷ sample_line l.name (name_sample e)) (take l.place (zip refusal_names l.counts));
+  room : l.initial.replies.room ≤ l.replies.room + 96 * l.place;
   kept : l.replies.whole ≡ l.fn.replies.whole;
 }

@@ -1,7 +1,7 @@
 use Rattle.std.proofs.Common.{◌∙◌}
 use Rattle.std.proofs.lemmas.Result.{on_ok_weaker}
 use Rattle.site_metrics.proofs.TextLaws.{whole_text}
-use Rattle.site_metrics.proofs.text.put_metrics.Goals as goal
+use Rattle.site_metrics.proofs.text.put_text.Goals as goal
 
 pub returns-clause-ok : goal.returns-clause-ok
 returns-clause-ok g c =
