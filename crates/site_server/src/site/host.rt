@@ -27,5 +27,6 @@ impl<
         + Files
         + Eprint
         + RandomSource
-        + AllocGlobal,
+        + AllocGlobal
+        + Sync,
 > Host for R {}
