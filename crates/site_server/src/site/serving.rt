@@ -162,6 +162,22 @@ fn begin_caller<'s, E, D: DeskNames + Send + Sync + 's, R: Host + Sync>(
 }
 
 /// Lets in who connects, each with a thread of its own, till the site ends.
+fn let_in<'s, E, D: DeskNames + Send + Sync + 's, R: Host + Sync>(
+    scope: &Scope<'s, E>,
+    rt: &'s R,
+    site: &'s Site,
+    clients: &'s Clients,
+    shared: &Arc<Shared<D>>,
+) {
+    for _ in rt.forever() {
+        let Some(caller) = clients.next(rt) else {
+            return;
+        };
+        begin_caller(scope, rt, site, clients, shared, caller);
+    }
+}
+
+/// The same, and waits for all of them.
 fn keep_clients<D: DeskNames + Send + Sync, R: Host + Sync>(
     rt: &R,
     site: &Site,
@@ -169,12 +185,7 @@ fn keep_clients<D: DeskNames + Send + Sync, R: Host + Sync>(
     shared: Arc<Shared<D>>,
 ) {
     thread::scope(thread::scope_env(), rt, |scope| {
-        for _ in rt.forever() {
-            let Some(caller) = clients.next(rt) else {
-                return;
-            };
-            begin_caller(scope, rt, site, clients, &shared, caller);
-        }
+        let_in(scope, rt, site, clients, &shared);
     })
 }
 
