@@ -37,7 +37,7 @@ abbrev pub IsBusy : Response → Type 0
 IsBusy r =
     IsResponse 503 (plain ++ (codes "retry-after", codes "1") ∷ (codes "connection", codes "close") ∷ []) (codes "error Busy" ++ 10 ∷ []) r
 
-module _ {S : Type 0} (answers settles : Answering S) (status metrics : S → List ℕ → Type 0) (closed : S → Bool → Type 0) where
+module _ {S : Type 0} where
   -- the response to the lines of a body is their replies
   pub record IsReplied (replies_to : S → List (List ℕ) → ℕ → List (List ℕ) → S → Type 0) (old : S) (body : List ℕ) (r : Response) (new : S) : Type 0 where
     pub code : ℕ
@@ -45,13 +45,18 @@ module _ {S : Type 0} (answers settles : Answering S) (status metrics : S → Li
     pub replied : replies_to old (lines_of body) code replies new
     pub response : IsResponse code plain (text_of replies) r
 
-  -- a text that the client's site is told by
+  -- a text that the site is told by
   abbrev pub Tells : (S → List ℕ → Type 0) → List ℕ → S → Response → Type 0
   Tells says content_type old r = (text : List ℕ) × says old text × IsResponse 200 (headers_for content_type) text r
 
+  -- the same with a line feed behind it
+  abbrev pub TellsLine : (S → List ℕ → Type 0) → List ℕ → S → Response → Type 0
+  TellsLine says content_type old r = (text : List ℕ) × says old text × IsResponse 200 (headers_for content_type) (text ++ 10 ∷ []) r
+
+module _ {S : Type 0} (answers settles : Answering S) (status metrics : S → List ℕ → Type 0) (closed : S → Bool → Type 0) where
   -- the response to a request that changes nothing
   abbrev pub Shows : S → Route → Response → Type 0
-  Shows old Status r = Tells (λ s text. (object : List ℕ) × status s object × (text ≡ object ++ 10 ∷ [])) (codes "application/json") old r
+  Shows old Status r = TellsLine status (codes "application/json") old r
   Shows old Metrics r = Tells metrics (codes "text/plain; version=0.0.4") old r
   Shows old Health r = (is_closed : Bool) × closed old is_closed × IsHealth is_closed r
   Shows old Page r = IsResponse 200 (headers_for (codes "text/html; charset=utf-8")) PAGE.now r

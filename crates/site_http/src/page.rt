@@ -134,12 +134,12 @@ ul { list-style: none; margin: 0; padding: 0; }
   </section>
   <section class="card" aria-labelledby="peers-name">
     <div class="head"><h2 id="peers-name">Peers</h2><span class="small soft" id="peers-sum"></span></div>
-    <table>
-      <thead><tr>
-        <th scope="col">Peer</th><th scope="col">Applied</th><th scope="col">Gap</th><th scope="col">Receives</th><th scope="col">Sends</th>
-        <th scope="col">Lines</th><th scope="col">Refused</th><th scope="col">Dropped</th><th scope="col">Waiting</th><th scope="col">State</th>
+    <table role="table">
+      <thead role="rowgroup"><tr role="row">
+        <th scope="col" role="columnheader">Peer</th><th scope="col" role="columnheader">Applied</th><th scope="col" role="columnheader">Gap</th><th scope="col" role="columnheader">Receives</th><th scope="col" role="columnheader">Sends</th>
+        <th scope="col" role="columnheader">Lines</th><th scope="col" role="columnheader">Refused</th><th scope="col" role="columnheader">Dropped</th><th scope="col" role="columnheader">Waiting</th><th scope="col" role="columnheader">State</th>
       </tr></thead>
-      <tbody id="peers"></tbody>
+      <tbody role="rowgroup" id="peers"></tbody>
     </table>
   </section>
   <section class="card" aria-labelledby="refused-name" id="refused-card" hidden>
@@ -260,8 +260,9 @@ function rowOf(peer, metric, findings) {
     ["Lines", count("lines_total")], ["Refused", count("lines_refused_total")], ["Dropped", count("lines_dropped_total")],
     ["Waiting", count("lines_waiting")], ["State", make("ul", {}, ...marks)],
   ];
-  return make("tr", {}, make("th", { scope: "row" }, `Site ${peer.site}`),
-    ...cells.map(([name, value]) => make("td", { "data-name": name }, value)));
+  // The roles, since at a phone's width these are no table cells by their style.
+  return make("tr", { role: "row" }, make("th", { scope: "row", role: "rowheader" }, `Site ${peer.site}`),
+    ...cells.map(([name, value]) => make("td", { role: "cell", "data-name": name }, value)));
 }
 
 function showPeers(status, metric, now) {

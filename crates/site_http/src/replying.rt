@@ -1,5 +1,5 @@
 //! What the lines of a body are replied. No command is carried out whose reply finds no room.
-ghost use Rattle.std.specs.Prelude.{◌≡◌, ◌≢◌, ℕ, ◌+◌, ◌<◌, ◌≤◌, List, [], ◌∷◌, ◌++◌, length, IsOk, OnOk, OnErr};
+ghost use Rattle.std.specs.Prelude.{◌≡◌, ℕ, ◌+◌, ◌<◌, ◌≤◌, List, [], ◌∷◌, ◌++◌, length, IsOk, OnOk, OnErr};
 ghost use Rattle.line_streams.specs.Talk.{lines_of};
 ghost use Rattle.site_http.specs.Replying.{bad_command, no_memory, status_of, text_of, AnswersEach, AnswersSome, RepliesTo, RepliesToOne, IsPut, KeepsRoom};
 
@@ -26,10 +26,13 @@ pub(crate) fn answer_body<C: Client>(
     requires room { LAST_ROOM ≤ out.old.spare }
     ensures { (told : List (List ℕ)) × RepliesTo C.answers client.old (lines_of body.now) result told client.new × (out.new.items ≡ text_of told) }
 {
-    match split_line(body) {
-        Some((text, [])) => answer_one(client, text, replies, out),
-        _ => answer_many(client, body, replies, out),
+    let Some((text, rest)) = split_line(body) else {
+        return StatusCode::OK;
+    };
+    if rest.is_empty() {
+        return answer_one(client, text, replies, out);
     }
+    answer_many(client, body, replies, out)
 }
 
 /// Answers the line of a body that has one, and waits for what becomes of it.
@@ -44,8 +47,14 @@ pub(crate) fn settle_body<C: Client>(
     ensures { (told : List (List ℕ)) × RepliesToOne C.settles client.old (lines_of body.now) result told client.new × (out.new.items ≡ text_of told) }
 {
     match split_line(body) {
-        Some((text, [])) => settle_one(client, text, replies, out),
-        _ => refuse(out),
+        None => refuse(out),
+        Some((text, rest)) => {
+            if rest.is_empty() {
+                settle_one(client, text, replies, out)
+            } else {
+                refuse(out)
+            }
+        }
     }
 }
 
@@ -60,7 +69,7 @@ fn answer_one<C: Client>(
     ensures { (told : List (List ℕ)) × RepliesTo C.answers client.old ((text.now ++ 10 ∷ []) ∷ []) result told client.new × (out.new.items ≡ text_of told) }
 {
     match answer_line(client, text, replies, out) {
-        Ok(()) => status_of(replies.whole()),
+        Ok(()) => status_of_line(replies.whole()),
         Err(OutOfMemory) => stop(out),
     }
 }
@@ -76,12 +85,12 @@ fn settle_one<C: Client>(
     ensures { (told : List (List ℕ)) × RepliesTo C.settles client.old ((text.now ++ 10 ∷ []) ∷ []) result told client.new × (out.new.items ≡ text_of told) }
 {
     match settle_line(client, text, replies, out) {
-        Ok(()) => status_of(replies.whole()),
+        Ok(()) => status_of_line(replies.whole()),
         Err(OutOfMemory) => stop(out),
     }
 }
 
-/// Answers the lines of a body that has none, or several.
+/// Answers the lines of a body that has several.
 fn answer_many<C: Client>(
     client: &mut C,
     body: &[u8],
@@ -90,7 +99,7 @@ fn answer_many<C: Client>(
 ) -> StatusCode
     requires fresh { out.old.items ≡ [] }
     requires room { LAST_ROOM ≤ out.old.spare }
-    requires many { length (lines_of body.now) ≢ 1 }
+    requires many { 1 < length (lines_of body.now) }
     ensures { (told : List (List ℕ)) × RepliesTo C.answers client.old (lines_of body.now) result told client.new × (out.new.items ≡ text_of told) }
 {
     match answer_lines(client, body, replies, out) {
@@ -165,16 +174,21 @@ fn put_reply(replies: &Replies<Global>, out: &mut Rope) -> Result<(), OutOfMemor
 }
 
 /// The status of a response that is this reply, with its line feed.
-fn status_of(reply: &[u8]) -> StatusCode
-    requires { 0 < length reply.now }
-    ensures { (text : List ℕ) → reply.now ≡ text ++ 10 ∷ [] → result ≡ status_of text }
+fn status_of_line(line: &[u8]) -> StatusCode
+    requires { 0 < length line.now }
+    ensures { (reply : List ℕ) → line.now ≡ reply ++ 10 ∷ [] → result ≡ status_of reply }
 {
-    let text = &reply[..reply.len() - 1];
-    if text == b"error BadCommand".as_slice() {
+    status_of(&line[..line.len() - 1])
+}
+
+fn status_of(reply: &[u8]) -> StatusCode
+    ensures { result ≡ status_of reply.now }
+{
+    if reply == b"error BadCommand".as_slice() {
         StatusCode::BAD_REQUEST
-    } else if text == b"error OutOfMemory".as_slice() {
+    } else if reply == b"error OutOfMemory".as_slice() {
         StatusCode::SERVICE_UNAVAILABLE
-    } else if text.starts_with(b"error ") {
+    } else if reply.starts_with(b"error ") {
         StatusCode::CONFLICT
     } else {
         StatusCode::OK

@@ -3,7 +3,7 @@ ghost use Rattle.std.specs.Prelude.{◌≡◌, ◌≤◌, ℕ, Bool, List, [], �
 ghost use Rattle.http_server.specs.Response.{IsBlank, IsResponse, fields_of};
 ghost use Rattle.site_http.specs.Replying.{RepliesTo, RepliesToOne};
 ghost use Rattle.site_http.specs.declared.page.TheConstants.{PAGE};
-ghost use Rattle.site_http.specs.Responding.{headers_for, plain, methods_of, IsHealth, IsReplied, Tells, Responds};
+ghost use Rattle.site_http.specs.Responding.{headers_for, plain, methods_of, IsHealth, IsReplied, Tells, TellsLine, Responds};
 
 use crate::client::{Client, LONGEST_REPLY};
 use crate::page::page;
@@ -13,7 +13,6 @@ use bytes::{BufMut, Bytes};
 use http::{HeaderValue, Request, StatusCode, header};
 use http_server::Response;
 use line_streams::Replies;
-use rights_types::OutOfMemory;
 use std::alloc::{AllocError, Global};
 
 /// Answers a request.
@@ -77,10 +76,12 @@ fn tell_status<C: Client>(
     response: &mut Response,
 ) -> Result<(), AllocError>
     requires { IsBlank response.old }
-    ensures { OnOk result (Tells (λ s text. (object : List ℕ) × C.status s object × (text ≡ object ++ 10 ∷ [])) (codes "application/json") client.now response.new) }
+    ensures { OnOk result (TellsLine C.status (codes "application/json") client.now response.new) }
 {
     replies.clear();
-    client.put_status(replies).map_err(no_memory)?;
+    let Ok(()) = client.put_status(replies) else {
+        return Err(AllocError);
+    };
     tell(
         response,
         HeaderValue::from_static("application/json"),
@@ -97,7 +98,9 @@ fn tell_metrics<C: Client>(
     ensures { OnOk result (Tells C.metrics (codes "text/plain; version=0.0.4") client.now response.new) }
 {
     replies.clear();
-    client.put_metrics(replies).map_err(no_memory)?;
+    let Ok(()) = client.put_metrics(replies) else {
+        return Err(AllocError);
+    };
     tell(
         response,
         HeaderValue::from_static("text/plain; version=0.0.4"),
@@ -193,8 +196,4 @@ fn add_headers(response: &mut Response, content_type: HeaderValue) -> Result<(),
 {
     response.add_header(header::CONTENT_TYPE, content_type)?;
     response.add_header(header::CACHE_CONTROL, HeaderValue::from_static("no-store"))
-}
-
-fn no_memory(_error: OutOfMemory) -> AllocError {
-    AllocError
 }

@@ -41,7 +41,7 @@ use std::time::Clock;
 
 /// Runs one site till `quit` or the end of its commands. It listens before it reads the first one. Replies
 /// are written before each read, so they never wait for further commands.
-pub fn run_site<R: Host, I: Read, W: Write>(
+pub fn run_site<R: Host + Sync, I: Read, W: Write>(
     rt: &R,
     config: Config,
     reader: &mut I,
@@ -55,7 +55,7 @@ pub fn run_site<R: Host, I: Read, W: Write>(
 }
 
 /// Starts the threads of a site, answers its commands, ends the threads, and stops the desk.
-fn serve<D: DeskNames + Send + Sync, R: Host, I: Read + Drop, W: Write + Drop>(
+fn serve<D: DeskNames + Send + Sync, R: Host + Sync, I: Read + Drop, W: Write + Drop>(
     rt: &R,
     config: &Config,
     site: &Site,
@@ -91,7 +91,7 @@ fn stop_site<D: DeskNames, R: Host>(rt: &R, site: &Site, shared: Arc<Shared<D>>)
 }
 
 /// Answers the commands while the threads of the site run.
-fn run_threads<D: DeskNames + Send + Sync, R: Host, I: Read + Drop, W: Write + Drop>(
+fn run_threads<D: DeskNames + Send + Sync, R: Host + Sync, I: Read + Drop, W: Write + Drop>(
     rt: &R,
     site: &Site,
     every: Option<u64>,
@@ -129,7 +129,7 @@ fn answer_commands<D: DeskNames, R: Host, I: Read, W: Write>(
 }
 
 /// Starts all threads but that of the commands. False where one could not be started.
-fn begin_all<'s, E, D: DeskNames + Send + Sync + 's, R: Host>(
+fn begin_all<'s, E, D: DeskNames + Send + Sync + 's, R: Host + Sync>(
     scope: &Scope<'s, E>,
     rt: &'s R,
     site: &'s Site,
@@ -147,7 +147,7 @@ fn begin_all<'s, E, D: DeskNames + Send + Sync + 's, R: Host>(
 }
 
 /// Starts the threads that deal with one peer. False where one could not be started.
-fn begin_peer<'s, E, D: DeskNames + Send + Sync + 's, R: Host>(
+fn begin_peer<'s, E, D: DeskNames + Send + Sync + 's, R: Host + Sync>(
     scope: &Scope<'s, E>,
     rt: &'s R,
     site: &'s Site,

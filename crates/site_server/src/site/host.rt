@@ -16,8 +16,7 @@ pub trait Host: Net<Listener = TcpListener, Stream = TcpStream>
     + Files
     + Eprint
     + RandomSource
-    + AllocGlobal
-    + Sync {}
+    + AllocGlobal {}
 
 impl<
     R: Net<Listener = TcpListener, Stream = TcpStream>
@@ -27,6 +26,5 @@ impl<
         + Files
         + Eprint
         + RandomSource
-        + AllocGlobal
-        + Sync,
+        + AllocGlobal,
 > Host for R {}

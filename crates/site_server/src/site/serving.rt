@@ -106,55 +106,91 @@ fn answer_busy<R: Host>(rt: &R, stream: &TcpStream) -> Option<()> {
 }
 
 /// Starts the thread that deals with a client. Where it could not be started the connection is closed.
-fn begin_client<'s, E, D: DeskNames + Send + Sync + 's, R: Host>(
+fn begin_client<'s, E, D: DeskNames + Send + Sync + 's, R: Host + Sync>(
     scope: &Scope<'s, E>,
     rt: &'s R,
     site: &'s Site,
     clients: &'s Clients,
-    shared: Arc<Shared<D>>,
+    shared: &Arc<Shared<D>>,
+    stream: TcpStream,
+    place: usize,
+) {
+    let is_begun = match shared.clone() {
+        Ok(shared) => scope
+            .spawn(move || attend(rt, site, clients, shared, stream, place))
+            .is_ok(),
+        Err(_) => false,
+    };
+    if !is_begun {
+        clients.leave(rt, place);
+    }
+}
+
+/// Starts the thread that turns a client away. Where it could not be started the connection is closed.
+fn begin_turning_away<'s, E, R: Host + Sync>(
+    scope: &Scope<'s, E>,
+    rt: &'s R,
+    clients: &'s Clients,
+    stream: TcpStream,
+    place: usize,
+) {
+    if scope
+        .spawn(move || turn_away(rt, clients, stream, place))
+        .is_err()
+    {
+        clients.leave_porch(rt, place);
+    }
+}
+
+/// Starts the thread that deals with who connected.
+fn begin_caller<'s, E, D: DeskNames + Send + Sync + 's, R: Host + Sync>(
+    scope: &Scope<'s, E>,
+    rt: &'s R,
+    site: &'s Site,
+    clients: &'s Clients,
+    shared: &Arc<Shared<D>>,
     caller: Caller,
 ) {
     match caller {
         Caller::Client(stream, place) => {
-            if scope
-                .spawn(move || attend(rt, site, clients, shared, stream, place))
-                .is_err()
-            {
-                clients.leave(rt, place);
-            }
+            begin_client(scope, rt, site, clients, shared, stream, place);
         }
         Caller::TurnedAway(stream, place) => {
-            if scope
-                .spawn(move || turn_away(rt, clients, stream, place))
-                .is_err()
-            {
-                clients.leave_porch(rt, place);
-            }
+            begin_turning_away(scope, rt, clients, stream, place);
         }
     }
 }
 
 /// Lets in who connects, each with a thread of its own, till the site ends.
-fn keep_clients<D: DeskNames + Send + Sync, R: Host>(
+fn let_in<'s, E, D: DeskNames + Send + Sync + 's, R: Host + Sync>(
+    scope: &Scope<'s, E>,
+    rt: &'s R,
+    site: &'s Site,
+    clients: &'s Clients,
+    shared: &Arc<Shared<D>>,
+) {
+    for _ in rt.forever() {
+        let Some(caller) = clients.next(rt) else {
+            return;
+        };
+        begin_caller(scope, rt, site, clients, shared, caller);
+    }
+}
+
+/// The same, and waits for all of them.
+fn keep_clients<D: DeskNames + Send + Sync, R: Host + Sync>(
     rt: &R,
     site: &Site,
     clients: &Clients,
     shared: Arc<Shared<D>>,
 ) {
     thread::scope(thread::scope_env(), rt, |scope| {
-        for _ in rt.forever() {
-            let Some(caller) = clients.next(rt) else {
-                return;
-            };
-            if let Ok(shared) = shared.clone() {
-                begin_client(scope, rt, site, clients, shared, caller);
-            }
-        }
+        let_in(scope, rt, site, clients, &shared);
     })
 }
 
 /// Starts the thread that lets clients in, where any may connect. False where it could not be started.
-pub(crate) fn begin_clients<'s, E, D: DeskNames + Send + Sync + 's, R: Host>(
+pub(crate) fn begin_clients<'s, E, D: DeskNames + Send + Sync + 's, R: Host + Sync>(
     scope: &Scope<'s, E>,
     rt: &'s R,
     site: &'s Site,

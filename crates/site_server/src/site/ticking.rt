@@ -43,7 +43,7 @@ fn keep_time<D: DeskNames, R: Host>(rt: &R, site: &Site, every: u64, shared: Arc
 }
 
 /// Starts the thread that ticks, where the site ticks itself. False where it could not be started.
-pub(crate) fn begin_ticks<'s, E, D: DeskNames + Send + Sync + 's, R: Host>(
+pub(crate) fn begin_ticks<'s, E, D: DeskNames + Send + Sync + 's, R: Host + Sync>(
     scope: &Scope<'s, E>,
     rt: &'s R,
     site: &'s Site,

@@ -1,0 +1,17 @@
+use Rattle.std.proofs.Common.{ℕ, List, [], ◌∷◌, ◌++◌, inl, inr, refl, ap, sym, ◌∙◌}
+use Rattle.site_http.specs.Replying.{no_memory}
+use Rattle.site_http.proofs.Answered.{text_more, status_of_many}
+use Rattle.site_http.proofs.replying.answer_many.Goals as goal
+
+pub returns-in-Ok : goal.returns-in-Ok
+returns-in-Ok g c =
+    let ok = c.in-Ok.ensures.ok in
+    (ok.0, inl (record { each = ok.1; status = status_of_many g.C.Client.answers _ _ _ ok.0 c.requires.many ok.1 }), ok.2)
+
+pub returns-in-Err : goal.returns-in-Err
+returns-in-Err g c =
+    let err = c.in-Err.ensures.err in (
+      err.0 ++ no_memory ∷ [],
+      inr (record { given = err.0; some = err.1; told = refl; status = c.stop.ensures.status }),
+      c.stop.ensures.text ∙ ap (λ (l : List ℕ). l ++ (no_memory ++ 10 ∷ [])) err.2 ∙ sym (text_more err.0 no_memory),
+    )

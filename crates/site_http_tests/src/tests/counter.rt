@@ -1,0 +1,113 @@
+//! A client that counts what it carries out.
+ghost use Rattle.std.specs.Prelude.{◌≡◌, ◌+◌, ◌≤◌, ◌⊎◌, ⊤, ℕ, List, length, OnOk, OnErr};
+ghost use Rattle.line_streams.specs.Waiting.{IsEmpty, AddsReply};
+ghost use Rattle.site_http.specs.declared.client.TheConstants.{LONGEST_REPLY};
+
+use line_streams::Replies;
+use rights_types::OutOfMemory;
+use site_http::Client;
+use std::alloc::Global;
+
+/// Carries out each line, and replies how many it had carried out before. A line that is too long, or that begins with
+/// `error`, it refuses.
+#[derive(Drop)]
+pub struct Counter {
+    pub count: u8,
+    /// At this count it finds no memory.
+    pub last: u8,
+    pub closed: bool,
+}
+
+impl Counter {
+    pub fn new(last: u8) -> Counter {
+        Counter {
+            count: 0,
+            last,
+            closed: false,
+        }
+    }
+
+    fn answer(
+        &mut self,
+        text: Option<&[u8]>,
+        word: &[u8],
+        replies: &mut Replies<Global>,
+    ) -> Result<(), OutOfMemory>
+        requires empty { IsEmpty replies.old }
+        requires short { length word.now ≤ 20 }
+        ensures ok { OnOk result ((reply : List ℕ) × AddsReply replies.old replies.new reply) }
+        ensures short { OnOk result ((length replies.new.whole ≤ LONGEST_REPLY) ⊎ (self.new ≡ self.old)) }
+        ensures err { OnErr result (self.new ≡ self.old) }
+    {
+        if self.count >= self.last {
+            return Err(OutOfMemory);
+        }
+        let Some(text) = text else {
+            return put_line(replies, b"error BadCommand");
+        };
+        if text.starts_with(b"error ") {
+            return put_line(replies, text);
+        }
+        put_counted(replies, word, self.count)?;
+        self.count += 1;
+        Ok(())
+    }
+}
+
+fn put_line(replies: &mut Replies<Global>, text: &[u8]) -> Result<(), OutOfMemory>
+    requires { IsEmpty replies.old }
+    ensures { OnOk result (AddsReply replies.old replies.new text.now) }
+{
+    replies.put(text)?;
+    replies.finish()
+}
+
+fn put_counted(replies: &mut Replies<Global>, word: &[u8], count: u8) -> Result<(), OutOfMemory>
+    requires { IsEmpty replies.old }
+    ensures ok { OnOk result ((reply : List ℕ) × AddsReply replies.old replies.new reply) }
+    ensures short { OnOk result (length replies.new.whole ≤ length word.now + 2) }
+{
+    replies.put(word)?;
+    replies.put(&[b'0' + count % 10])?;
+    replies.finish()
+}
+
+impl Client for Counter {
+    ghost answers = { λ old line reply new. ⊤ };
+
+    ghost settles = { λ old line reply new. ⊤ };
+
+    ghost status = { λ client text. ⊤ };
+
+    ghost metrics = { λ client text. ⊤ };
+
+    ghost closed = { λ client is_closed. ⊤ };
+
+    fn reply(
+        &mut self,
+        text: Option<&[u8]>,
+        replies: &mut Replies<Global>,
+    ) -> Result<(), OutOfMemory> {
+        self.answer(text, b"number ", replies)
+    }
+
+    fn settle(
+        &mut self,
+        text: Option<&[u8]>,
+        replies: &mut Replies<Global>,
+    ) -> Result<(), OutOfMemory> {
+        self.answer(text, b"spent ", replies)
+    }
+
+    fn put_status(&self, replies: &mut Replies<Global>) -> Result<(), OutOfMemory> {
+        put_line(replies, b"{\"held\":0}")
+    }
+
+    fn put_metrics(&self, replies: &mut Replies<Global>) -> Result<(), OutOfMemory> {
+        put_line(replies, b"rights_held 0")
+    }
+
+    fn is_closed(&self) -> bool {
+        self.closed
+    }
+}

@@ -1,0 +1,70 @@
+//! Bodies and heads at their limits, and lines that are too long.
+
+use super::counter::Counter;
+use super::talk::{request, said};
+use site_http::ClientService;
+use std::test::Fail;
+
+/// The status of the response to a `POST /` of a line of so many bytes, with no line feed.
+fn status_of(rt: &HostRuntime, length: usize) -> Result<Vec<u8>, Fail> {
+    let alloc = rt.alloc();
+    let mut asked = format!(in alloc;
+        "POST / HTTP/1.1\r\nHost: h\r\nContent-Length: {length}\r\n\r\n"
+    )?.into_bytes();
+    asked.resize(asked.len() + length, b'x')?;
+    let mut service = ClientService::new(alloc, Counter::new(u8::MAX));
+    let mut sent = said(rt, &mut service, asked.as_slice(), 5_000)?;
+    sent.truncate(12);
+    Ok(sent)
+}
+
+#[test]
+fn a_body_has_a_limit(rt: HostRuntime) -> Result<(), Fail> {
+    assert_eq!(rt;
+        status_of(&rt, 1_048_576)?.as_slice(),
+        b"HTTP/1.1 400".as_slice()
+    );
+    assert_eq!(rt;
+        status_of(&rt, 1_048_577)?.as_slice(),
+        b"HTTP/1.1 413".as_slice()
+    );
+    Ok(())
+}
+
+#[test]
+fn a_line_has_a_limit(rt: HostRuntime) -> Result<(), Fail> {
+    assert_eq!(rt;
+        status_of(&rt, 16_383)?.as_slice(),
+        b"HTTP/1.1 200".as_slice()
+    );
+    assert_eq!(rt;
+        status_of(&rt, 16_384)?.as_slice(),
+        b"HTTP/1.1 400".as_slice()
+    );
+    Ok(())
+}
+
+/// The status of the response to a request with a header of so many bytes.
+fn status_with_header(rt: &HostRuntime, length: usize) -> Result<Vec<u8>, Fail> {
+    let alloc = rt.alloc();
+    let mut asked = b"GET /healthz HTTP/1.1\r\nHost: h\r\nX: ".to_vec(alloc)?;
+    asked.resize(asked.len() + length, b'x')?;
+    asked.extend_from_slice(b"\r\n\r\n")?;
+    let mut service = ClientService::new(alloc, Counter::new(u8::MAX));
+    let mut sent = said(rt, &mut service, asked.as_slice(), 5_000)?;
+    sent.truncate(12);
+    Ok(sent)
+}
+
+#[test]
+fn a_head_has_a_limit(rt: HostRuntime) -> Result<(), Fail> {
+    assert_eq!(rt;
+        status_with_header(&rt, 16_000)?.as_slice(),
+        b"HTTP/1.1 200".as_slice()
+    );
+    assert_eq!(rt;
+        status_with_header(&rt, 17_000)?.as_slice(),
+        b"HTTP/1.1 431".as_slice()
+    );
+    Ok(())
+}
