@@ -17,9 +17,11 @@ use std::alloc::Global;
 use std::hash::RandomState;
 use std::io::{Read, Write};
 use std::net::TcpStream;
+use std::random::RandomSource;
 use std::sync::{Arc, Wait};
 use std::thread;
 use std::thread::Scope;
+use std::time::Clock;
 
 /// Answers the requests of a connection, to its end.
 fn converse<C: Client + Drop, I: Read, W: Write>(
@@ -56,7 +58,7 @@ fn answer_requests<'a, D: DeskNames, R: Wait, P: Peers + Drop, B: Bell + Drop, I
 
 /// Answers the requests of a connection with the seat of its place, which is put back. Where there is no memory to begin
 /// with, no seat is taken.
-fn seat_client<D: DeskNames, R: Host>(
+fn seat_client<D: DeskNames, R: Wait + Clock + RandomSource + AllocGlobal>(
     rt: &R,
     site: &Site,
     clients: &Clients,
@@ -77,7 +79,7 @@ fn seat_client<D: DeskNames, R: Host>(
 }
 
 /// Deals with the client that has this place, till it goes.
-fn attend<D: DeskNames, R: Host>(
+fn attend<D: DeskNames, R: Wait + Clock + RandomSource + AllocGlobal>(
     rt: &R,
     site: &Site,
     clients: &Clients,
@@ -91,13 +93,21 @@ fn attend<D: DeskNames, R: Host>(
 }
 
 /// Tells a client that all places are taken. It has a second to ask.
-fn turn_away<R: Host>(rt: &R, clients: &Clients, stream: TcpStream, place: usize) {
+fn turn_away<R: Wait + Clock + RandomSource + AllocGlobal>(
+    rt: &R,
+    clients: &Clients,
+    stream: TcpStream,
+    place: usize,
+) {
     let _ = answer_busy(rt, &stream);
     part(rt, &stream);
     clients.leave_porch(rt, place);
 }
 
-fn answer_busy<R: Host>(rt: &R, stream: &TcpStream) -> Option<()> {
+fn answer_busy<R: Wait + Clock + RandomSource + AllocGlobal>(
+    rt: &R,
+    stream: &TcpStream,
+) -> Option<()> {
     let keys = RandomState::new(rt).ok()?;
     let mut connection = Connection::new(rt.alloc(), keys, service_config());
     let mut reader = hurried(rt, stream).ok()?;
@@ -106,7 +116,12 @@ fn answer_busy<R: Host>(rt: &R, stream: &TcpStream) -> Option<()> {
 }
 
 /// Starts the thread that deals with a client. Where it could not be started the connection is closed.
-fn begin_client<'s, E, D: DeskNames + Send + Sync + 's, R: Host + Sync>(
+fn begin_client<
+    's,
+    E,
+    D: DeskNames + Send + Sync + 's,
+    R: Wait + Clock + RandomSource + AllocGlobal + Sync,
+>(
     scope: &Scope<'s, E>,
     rt: &'s R,
     site: &'s Site,
@@ -127,7 +142,7 @@ fn begin_client<'s, E, D: DeskNames + Send + Sync + 's, R: Host + Sync>(
 }
 
 /// Starts the thread that turns a client away. Where it could not be started the connection is closed.
-fn begin_turning_away<'s, E, R: Host + Sync>(
+fn begin_turning_away<'s, E, R: Wait + Clock + RandomSource + AllocGlobal + Sync>(
     scope: &Scope<'s, E>,
     rt: &'s R,
     clients: &'s Clients,
@@ -143,7 +158,12 @@ fn begin_turning_away<'s, E, R: Host + Sync>(
 }
 
 /// Starts the thread that deals with who connected.
-fn begin_caller<'s, E, D: DeskNames + Send + Sync + 's, R: Host + Sync>(
+fn begin_caller<
+    's,
+    E,
+    D: DeskNames + Send + Sync + 's,
+    R: Wait + Clock + RandomSource + AllocGlobal + Sync,
+>(
     scope: &Scope<'s, E>,
     rt: &'s R,
     site: &'s Site,

@@ -2,7 +2,6 @@
 
 use crate::site::bell::Bell;
 use crate::site::client::{SiteClient, client_at};
-use crate::site::host::Host;
 use crate::site::shared::{Shared, TICKS};
 use apply_lanes::DeskNames;
 use site_node::Peers;
@@ -35,7 +34,12 @@ impl<D: DeskNames, R: Wait + Clock, P: Peers + Drop, B: Bell + Drop> SiteClient<
 }
 
 /// Does what is due every so many milliseconds, with a seat that is put back.
-fn keep_time<D: DeskNames, R: Host>(rt: &R, site: &Site, every: u64, shared: Arc<Shared<D>>) {
+fn keep_time<D: DeskNames, R: Wait + Clock + AllocGlobal>(
+    rt: &R,
+    site: &Site,
+    every: u64,
+    shared: Arc<Shared<D>>,
+) {
     if let Some(mut client) = client_at(rt, site, &shared, TICKS) {
         client.tick_all(rt, site, every);
         shared.seats.put(rt, TICKS, client.into_seat());
@@ -43,7 +47,12 @@ fn keep_time<D: DeskNames, R: Host>(rt: &R, site: &Site, every: u64, shared: Arc
 }
 
 /// Starts the thread that ticks, where the site ticks itself. False where it could not be started.
-pub(crate) fn begin_ticks<'s, E, D: DeskNames + Send + Sync + 's, R: Host + Sync>(
+pub(crate) fn begin_ticks<
+    's,
+    E,
+    D: DeskNames + Send + Sync + 's,
+    R: Wait + Clock + AllocGlobal + Sync,
+>(
     scope: &Scope<'s, E>,
     rt: &'s R,
     site: &'s Site,
