@@ -1,5 +1,5 @@
-//! The request queue of a site: spends that lack rights wait here, each with a ticket and a deadline, and are served
-//! only from the front.
+//! The short requests of a site: spends that lack rights wait here, each with a ticket and a
+//! deadline, and are served from the front alone.
 #![tactic(auto)]
 
 mod fault;
