@@ -6,7 +6,6 @@ ghost use Rattle.site_server.specs.Connections.{Responded};
 
 use crate::site::bell::Bell;
 use crate::site::client::{SiteClient, client_at};
-use crate::site::host::Host;
 use crate::site::shared::Shared;
 use apply_lanes::DeskNames;
 use http_server::{Connection, serve};
@@ -15,12 +14,12 @@ use site_node::Peers;
 use site_sockets::{Caller, Clients, Site, hurried, part};
 use std::alloc::Global;
 use std::hash::RandomState;
-use std::io::{Read, Write};
+use std::io::{Eprint, Read, Write};
 use std::net::TcpStream;
 use std::random::RandomSource;
 use std::sync::{Arc, Wait};
 use std::thread;
-use std::thread::Scope;
+use std::thread::{Scope, Threads};
 use std::time::Clock;
 
 /// Answers the requests of a connection, to its end.
@@ -182,13 +181,12 @@ fn begin_caller<
 }
 
 /// Lets in who connects, each with a thread of its own, till the site ends.
-fn let_in<'s, E, D: DeskNames + Send + Sync + 's, R: Host + Sync>(
-    scope: &Scope<'s, E>,
-    rt: &'s R,
-    site: &'s Site,
-    clients: &'s Clients,
-    shared: &Arc<Shared<D>>,
-) {
+fn let_in<
+    's,
+    E,
+    D: DeskNames + Send + Sync + 's,
+    R: Threads + Wait + Clock + RandomSource + AllocGlobal + Eprint + Sync,
+>(scope: &Scope<'s, E>, rt: &'s R, site: &'s Site, clients: &'s Clients, shared: &Arc<Shared<D>>) {
     for _ in rt.forever() {
         let Some(caller) = clients.next(rt) else {
             return;
@@ -198,24 +196,22 @@ fn let_in<'s, E, D: DeskNames + Send + Sync + 's, R: Host + Sync>(
 }
 
 /// The same, and waits for all of them.
-fn keep_clients<D: DeskNames + Send + Sync, R: Host + Sync>(
-    rt: &R,
-    site: &Site,
-    clients: &Clients,
-    shared: Arc<Shared<D>>,
-) {
+fn keep_clients<
+    D: DeskNames + Send + Sync,
+    R: Threads + Wait + Clock + RandomSource + AllocGlobal + Eprint + Sync,
+>(rt: &R, site: &Site, clients: &Clients, shared: Arc<Shared<D>>) {
     thread::scope(thread::scope_env(), rt, |scope| {
         let_in(scope, rt, site, clients, &shared);
     })
 }
 
 /// Starts the thread that lets clients in, where any may connect. False where it could not be started.
-pub(crate) fn begin_clients<'s, E, D: DeskNames + Send + Sync + 's, R: Host + Sync>(
-    scope: &Scope<'s, E>,
-    rt: &'s R,
-    site: &'s Site,
-    shared: &Arc<Shared<D>>,
-) -> bool {
+pub(crate) fn begin_clients<
+    's,
+    E,
+    D: DeskNames + Send + Sync + 's,
+    R: Threads + Wait + Clock + RandomSource + AllocGlobal + Eprint + Sync,
+>(scope: &Scope<'s, E>, rt: &'s R, site: &'s Site, shared: &Arc<Shared<D>>) -> bool {
     let Some(clients) = &site.clients else {
         return true;
     };
