@@ -158,18 +158,21 @@ module _ {P : Type 0} (size : P → ℕ) (sends : P → ℕ → ℕ → P → Ty
         record { turns = found.0; are_turns = found.1; has_turns = found.2; counted = turns_count old.seat found.0 new.seat found.2 }
 
 -- a connection from its beginning on
-pub conversed : {S : Type 0} (answers : S → Request (List ℕ) → Response → S → Type 0) (config : Config) (given left held holds : Option (List ℕ)) (old new : S) (before after : History)
-    → before ≡ new_history → ∥ IsServed config after ∥₁
+pub conversed : {S : Type 0} (answers : S → Request (List ℕ) → Response → S → Type 0) (config : Config) (given left held holds : Option (List ℕ)) (old first last new : S) (before after : History)
+    → first ≡ old → new ≡ last → before ≡ new_history → ∥ IsServed config after ∥₁
     → (more : List ℕ) × Consumes given left more × (after.received ≡ before.received ++ more)
     → (more : List ℕ) × Appends held holds more × (after.sent ≡ before.sent ++ more)
-    → Calls answers old new before.calls after.calls
+    → Calls answers first last before.calls after.calls
     → Conversed answers given left held holds old new
-conversed answers config given left held holds old new before after fresh served read written calls =
+conversed {S} answers config given left held holds old first last new before after begins ends fresh served read written calls =
     record {
       config = config;
       history = after;
       served = served;
       read = subst (λ (m : List ℕ). Consumes given left m) (sym (read.2 ∙ ap (λ (h : History). h.received ++ read.0) fresh)) read.1;
       written = subst (λ (m : List ℕ). Appends held holds m) (sym (written.2 ∙ ap (λ (h : History). h.sent ++ written.0) fresh)) written.1;
-      calls = subst (λ (cs : List Call). Chain answers old cs new) (sym (calls.1 ∙ ap (λ (h : History). h.calls ++ calls.0) fresh)) calls.2;
+      calls =
+          subst (λ (s : S). Chain answers s after.calls new) begins
+          (subst (λ (s : S). Chain answers first after.calls s) (sym ends)
+          (subst (λ (cs : List Call). Chain answers first cs last) (sym (calls.1 ∙ ap (λ (h : History). h.calls ++ calls.0) fresh)) calls.2));
     }
