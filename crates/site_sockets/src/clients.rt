@@ -2,9 +2,10 @@
 
 use crate::hall::Hall;
 use crate::patient::Patient;
+use line_streams::{read_some, write_some};
 use rights_types::OutOfMemory;
 use std::alloc::Global;
-use std::io::{Eprint, Read, Write};
+use std::io::{Eprint, ErrorKind, Read, Write};
 use std::net::{Net, Shutdown, TcpListener, TcpStream};
 use std::sync::Wait;
 use std::sync::atomic::{AtomicBool, Ordering};
@@ -155,7 +156,10 @@ impl Read for ClientStream<'_> {
             return Ok(0);
         }
         let mut stream = self.stream;
-        let count = stream.read(buf)?;
+        // An interrupted call is tried again: only a client ends its connection.
+        let Ok(count) = read_some(&mut stream, buf) else {
+            return Err(io::Error::from(ErrorKind::Other));
+        };
         if count > 0 {
             self.hall.set_idle(self.place, false);
         }
@@ -166,7 +170,7 @@ impl Read for ClientStream<'_> {
 impl Write for ClientStream<'_> {
     fn write(&mut self, buf: &[u8]) -> io::Result<usize> {
         let mut stream = self.stream;
-        let count = stream.write(buf)?;
+        let count = write_some(&mut stream, buf);
         self.hall.set_idle(self.place, true);
         Ok(count)
     }
