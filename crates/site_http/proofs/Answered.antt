@@ -1,5 +1,5 @@
 -- The replies to lines, one after another.
-use Rattle.std.proofs.Common.{◌≡◌, ℕ, ◌<◌, List, [], ◌∷◌, ◌++◌, length, refl, ap, ◌∙◌, sym, subst, arith, append-nil, Result, Ok, Err, OnOk}
+use Rattle.std.proofs.Common.{◌≡◌, ℕ, ◌<◌, List, [], ◌∷◌, ◌++◌, length, refl, ap, ◌∙◌, subst, arith, append-nil, Result, Ok, Err, OnOk}
 use Rattle.std.proofs.lemmas.Grind.{flat_map-append}
 use Rattle.site_http.specs.Replying.{Answering, AnswersEach, RepliesToOne, bad_command, text_of, status_of_all}
 
