@@ -112,9 +112,6 @@ module _ {P : Type 0} (size : P → ℕ) (sends : P → ℕ → ℕ → P → Ty
   settled_turns HasEnded (Some Quit) was before text told after h = tells_turns (Some Quit) was before text told after h
 
   module _ {B : Type 0} (has_ended : B → Type 0) where
-    seat_of : ClientValue P B → SeatValue
-    seat_of c = c.seat
-
     one : (old : ClientValue P B) (line reply : List ℕ) (new : ClientValue P B) → Answers size sends has_ended id old line reply new
         → (turns : List Turn) × IsTurn (asked line) reply turns × HasTurns old.seat turns new.seat
     one old line reply new h = tells_turns (asked line) old.seat old.peers reply new.seat new.peers h
@@ -131,17 +128,17 @@ module _ {P : Type 0} (size : P → ℕ) (sends : P → ℕ → ℕ → P → Ty
         turns_of_body (λ c. c.seat) IsTurn (Answers size sends has_ended id) one old (lines_of body) h.replies h.code r new h.replied h.response.body
     turns_of_route old Wait body r new h =
         turns_of_one (λ c. c.seat) IsSettledTurn (Settled size sends has_ended id) one_settled old (lines_of body) h.replies h.code r new h.replied h.response.body
-    turns_of_route old Shows body r new h = ([], refl, ap seat_of h.1)
-    turns_of_route old Metrics body r new h = ([], refl, ap seat_of h.1)
-    turns_of_route old Health body r new h = ([], refl, ap seat_of h.1)
-    turns_of_route old Page body r new h = ([], refl, ap seat_of h.1)
-    turns_of_route old Foreign body r new h = ([], refl, ap seat_of h.1)
-    turns_of_route old (NotAllowed allowed) body r new h = ([], refl, ap seat_of h.1)
-    turns_of_route old NotFound body r new h = ([], refl, ap seat_of h.1)
+    turns_of_route old Shows body r new h = ([], refl, ap (λ (c : ClientValue P B). c.seat) h.1)
+    turns_of_route old Metrics body r new h = ([], refl, ap (λ (c : ClientValue P B). c.seat) h.1)
+    turns_of_route old Health body r new h = ([], refl, ap (λ (c : ClientValue P B). c.seat) h.1)
+    turns_of_route old Page body r new h = ([], refl, ap (λ (c : ClientValue P B). c.seat) h.1)
+    turns_of_route old Foreign body r new h = ([], refl, ap (λ (c : ClientValue P B). c.seat) h.1)
+    turns_of_route old (NotAllowed allowed) body r new h = ([], refl, ap (λ (c : ClientValue P B). c.seat) h.1)
+    turns_of_route old NotFound body r new h = ([], refl, ap (λ (c : ClientValue P B). c.seat) h.1)
 
     turns_of_calls : (old : ClientValue P B) (calls : List Call) (new : ClientValue P B) → Chain (Responded size sends has_ended id) old calls new
         → (turns : List Turn) × AreCallsTurns calls turns × HasTurns old.seat turns new.seat
-    turns_of_calls old [] new h = ([], refl, ap seat_of h)
+    turns_of_calls old [] new h = ([], refl, ap (λ (c : ClientValue P B). c.seat) h)
     turns_of_calls old (call ∷ calls) new h =
         let next = h.0 in
         let first = turns_of_route old h.1.0 (body_of call.0) call.1 next h.1.2 in

@@ -11,7 +11,7 @@ fn status_of(rt: &HostRuntime, length: usize) -> Result<Vec<u8>, Fail> {
     let mut asked = format!(in alloc;
         "POST / HTTP/1.1\r\nHost: h\r\nContent-Length: {length}\r\n\r\n"
     )?.into_bytes();
-    asked.resize(asked.len() + length, b'x')?;
+    asked.resize(asked.len().saturating_add(length), b'x')?;
     let mut service = ClientService::new(alloc, Counter::new(u8::MAX));
     let mut sent = said(rt, &mut service, asked.as_slice(), 5_000)?;
     sent.truncate(12);
@@ -48,7 +48,7 @@ fn a_line_has_a_limit(rt: HostRuntime) -> Result<(), Fail> {
 fn status_with_header(rt: &HostRuntime, length: usize) -> Result<Vec<u8>, Fail> {
     let alloc = rt.alloc();
     let mut asked = b"GET /healthz HTTP/1.1\r\nHost: h\r\nX: ".to_vec(alloc)?;
-    asked.resize(asked.len() + length, b'x')?;
+    asked.resize(asked.len().saturating_add(length), b'x')?;
     asked.extend_from_slice(b"\r\n\r\n")?;
     let mut service = ClientService::new(alloc, Counter::new(u8::MAX));
     let mut sent = said(rt, &mut service, asked.as_slice(), 5_000)?;

@@ -5,9 +5,9 @@ ghost use Rattle.site_server.specs.Hearing.{IsBufferAt, IsForDesk, HandlesAtDesk
 use crate::site::outboxes::PeerOutbox;
 use crate::site::shared::Shared;
 use apply_lanes::{Applier, DeskNames, Free, Intake, MAX_LANE, Outlet, StepError, lane};
-use entry_codec::read_line;
+use line_streams::{first_number, only_number, split_word};
 use peer_links::{DeskMessage, Port, Skipped, read_link};
-use rights_types::{Message, OutOfMemory, SiteId};
+use rights_types::{OutOfMemory, SiteId};
 use site_core::{Inbound, InboundError};
 use site_node::{Sink, answer_ask, answer_query, note_denial};
 use site_sockets::{Connection, Peer, Site, SkipCause};
@@ -157,7 +157,7 @@ impl<D: DeskNames> Receiver<D> {
     }
 
     /// Reads the connections of this peer, one after another, till the mailbox is closed.
-    pub(crate) fn receive_all<R: Wait + Eprint + AllocGlobal>(mut self, rt: &R, peer: &Peer) {
+    pub(crate) fn receive_all<R: Wait + Eprint>(mut self, rt: &R, peer: &Peer) {
         for _ in rt.forever() {
             let Some(connection) = peer.mailbox.take(rt) else {
                 break;
@@ -175,12 +175,7 @@ impl<D: DeskNames> Receiver<D> {
     }
 
     /// Reads one connection to its end, or to a fault, which ends it just as well.
-    fn receive<R: Wait + Eprint + AllocGlobal>(
-        &mut self,
-        rt: &R,
-        peer: &Peer,
-        connection: Connection,
-    ) {
+    fn receive<R: Wait + Eprint>(&mut self, rt: &R, peer: &Peer, connection: Connection) {
         let Connection {
             mut stream,
             mut cutter,
@@ -205,7 +200,7 @@ struct SitePort<'a, D: DeskNames, E, S: Sink + Drop> {
     outbox: S,
 }
 
-impl<D: DeskNames, E: Wait + Eprint + AllocGlobal, S: Sink + Drop> SitePort<'_, D, E, S> {
+impl<D: DeskNames, E: Wait + Eprint, S: Sink + Drop> SitePort<'_, D, E, S> {
     fn handle(&mut self, message: DeskMessage) -> Result<(), OutOfMemory>
         requires { IsForDesk D.id message }
         ensures { HandlesAtDesk S.takes D.id message self.old.outbox result self.new.outbox }
@@ -226,21 +221,38 @@ impl<D: DeskNames, E: Wait + Eprint + AllocGlobal, S: Sink + Drop> SitePort<'_, 
 
     /// Notes which entries a query asks for.
     fn note_query(&self, line: &[u8]) {
-        if let Ok(Message::Query(query)) = read_line(self.rt.alloc(), line) {
-            self.peer.events.lacks(self.rt, query.first(), query.last());
+        if let Some((first, last)) = gap_in(line) {
+            self.peer.events.lacks(self.rt, first, last);
         }
     }
 
     /// Notes a beat below what was applied of the peer's log.
     fn note_beat(&self, line: &[u8]) {
-        let Ok(Message::Beat(beat)) = read_line(self.rt.alloc(), line) else {
+        let Some(number) = end_in(line) else {
             return;
         };
         let applied = self.shared.lock(self.rt).desk().applied(self.peer.site);
-        if beat.number() < applied {
-            self.peer.events.goes_back(self.rt, beat.number(), applied);
+        if number < applied {
+            self.peer.events.goes_back(self.rt, number, applied);
         }
     }
+}
+
+/// The first and the last number that a query asks for, by its line.
+fn gap_in(line: &[u8]) -> Option<(u64, u64)> {
+    let (_, words) = split_word(line.strip_suffix(b"\n")?);
+    let (_, words) = first_number(words)?;
+    let (_, words) = first_number(words)?;
+    let (first, words) = first_number(words)?;
+    let last = only_number(words)?;
+    Some((first, last))
+}
+
+/// The end of the log that a beat tells, by its line.
+fn end_in(line: &[u8]) -> Option<u64> {
+    let (_, words) = split_word(line.strip_suffix(b"\n")?);
+    let (_, words) = first_number(words)?;
+    only_number(words)
 }
 
 /// Why the line is skipped.
@@ -253,7 +265,7 @@ fn skip_cause(why: Skipped) -> SkipCause {
     }
 }
 
-impl<D: DeskNames, E: Wait + Eprint + AllocGlobal, S: Sink + Drop> Port for SitePort<'_, D, E, S> {
+impl<D: DeskNames, E: Wait + Eprint, S: Sink + Drop> Port for SitePort<'_, D, E, S> {
     ghost use Rattle.site_server.specs.Hearing.{IsForDesk, Hears};
 
     ghost accepts = { λ message. IsForDesk D.id message };
