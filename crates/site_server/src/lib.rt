@@ -3,4 +3,4 @@
 
 mod site;
 
-pub use site::{Host, run_site};
+pub use site::run_site;

@@ -8,7 +8,6 @@ mod bell;
 mod client;
 mod connection;
 mod ending;
-mod host;
 mod measuring;
 mod outboxes;
 mod receiving;
@@ -21,7 +20,6 @@ mod ticking;
 
 use crate::site::client::client_at;
 use crate::site::ending::{say_no_report, say_report, stop_desk};
-pub use crate::site::host::Host;
 use crate::site::receiving::{Link, links_of};
 use crate::site::serving::begin_clients;
 use crate::site::shared::{COMMANDS, Shared};
@@ -32,21 +30,31 @@ use line_streams::LineFault;
 use site_core::Desk;
 use site_sockets::{Peer, Site, begin_door, begin_sender};
 use site_words::{Config, SiteFault};
+use std::fs::Files;
 use std::io::{Eprint, Read, Write};
 use std::marker::Brand;
+use std::net::{Net, TcpListener, TcpStream};
+use std::random::RandomSource;
 use std::sync::{Arc, Wait};
 use std::thread;
-use std::thread::Scope;
+use std::thread::{Scope, Threads};
 use std::time::Clock;
 
 /// Runs one site till `quit` or the end of its commands. It listens before it reads the first one. Replies
 /// are written before each read, so they never wait for further commands.
-pub fn run_site<R: Host + Sync, I: Read, W: Write>(
-    rt: &R,
-    config: Config,
-    reader: &mut I,
-    writer: &mut W,
-) -> Result<(), SiteFault> {
+pub fn run_site<
+    R: Net<Listener = TcpListener, Stream = TcpStream>
+        + Threads
+        + Wait
+        + Clock
+        + RandomSource
+        + Eprint
+        + AllocGlobal
+        + Files
+        + Sync,
+    I: Read,
+    W: Write,
+>(rt: &R, config: Config, reader: &mut I, writer: &mut W) -> Result<(), SiteFault> {
     start_once(rt, config.once())?;
     let site = Site::open(rt, &config)?;
     site.announce(rt, &config);
@@ -55,7 +63,19 @@ pub fn run_site<R: Host + Sync, I: Read, W: Write>(
 }
 
 /// Starts the threads of a site, answers its commands, ends the threads, and stops the desk.
-fn serve<D: DeskNames + Send + Sync, R: Host + Sync, I: Read + Drop, W: Write + Drop>(
+fn serve<
+    D: DeskNames + Send + Sync,
+    R: Net<Listener = TcpListener, Stream = TcpStream>
+        + Threads
+        + Wait
+        + Clock
+        + RandomSource
+        + Eprint
+        + AllocGlobal
+        + Sync,
+    I: Read + Drop,
+    W: Write + Drop,
+>(
     rt: &R,
     config: &Config,
     site: &Site,
@@ -79,7 +99,7 @@ fn serve<D: DeskNames + Send + Sync, R: Host + Sync, I: Read + Drop, W: Write + 
 }
 
 /// Stops the desk of a site whose threads have ended, and says what it did, where clients could connect.
-fn stop_site<D: DeskNames, R: Host>(rt: &R, site: &Site, shared: Arc<Shared<D>>) {
+fn stop_site<D: DeskNames, R: Eprint + AllocGlobal>(rt: &R, site: &Site, shared: Arc<Shared<D>>) {
     match stop_desk(rt.alloc(), shared) {
         Ok(report) => {
             if site.clients.is_some() {
@@ -91,7 +111,19 @@ fn stop_site<D: DeskNames, R: Host>(rt: &R, site: &Site, shared: Arc<Shared<D>>)
 }
 
 /// Answers the commands while the threads of the site run.
-fn run_threads<D: DeskNames + Send + Sync, R: Host + Sync, I: Read + Drop, W: Write + Drop>(
+fn run_threads<
+    D: DeskNames + Send + Sync,
+    R: Net<Listener = TcpListener, Stream = TcpStream>
+        + Threads
+        + Wait
+        + Clock
+        + RandomSource
+        + Eprint
+        + AllocGlobal
+        + Sync,
+    I: Read + Drop,
+    W: Write + Drop,
+>(
     rt: &R,
     site: &Site,
     every: Option<u64>,
@@ -112,7 +144,7 @@ fn run_threads<D: DeskNames + Send + Sync, R: Host + Sync, I: Read + Drop, W: Wr
 }
 
 /// Answers the commands with their seat, which is put back.
-fn answer_commands<D: DeskNames, R: Host, I: Read, W: Write>(
+fn answer_commands<D: DeskNames, R: Wait + AllocGlobal, I: Read, W: Write>(
     rt: &R,
     site: &Site,
     shared: &Arc<Shared<D>>,
@@ -129,7 +161,19 @@ fn answer_commands<D: DeskNames, R: Host, I: Read, W: Write>(
 }
 
 /// Starts all threads but that of the commands. False where one could not be started.
-fn begin_all<'s, E, D: DeskNames + Send + Sync + 's, R: Host + Sync>(
+fn begin_all<
+    's,
+    E,
+    D: DeskNames + Send + Sync + 's,
+    R: Net<Listener = TcpListener, Stream = TcpStream>
+        + Threads
+        + Wait
+        + Clock
+        + RandomSource
+        + Eprint
+        + AllocGlobal
+        + Sync,
+>(
     scope: &Scope<'s, E>,
     rt: &'s R,
     site: &'s Site,
@@ -147,12 +191,19 @@ fn begin_all<'s, E, D: DeskNames + Send + Sync + 's, R: Host + Sync>(
 }
 
 /// Starts the threads that deal with one peer. False where one could not be started.
-fn begin_peer<'s, E, D: DeskNames + Send + Sync + 's, R: Host + Sync>(
-    scope: &Scope<'s, E>,
-    rt: &'s R,
-    site: &'s Site,
-    link: Link<D>,
-) -> bool {
+fn begin_peer<
+    's,
+    E,
+    D: DeskNames + Send + Sync + 's,
+    R: Net<Listener = TcpListener, Stream = TcpStream>
+        + Threads
+        + Wait
+        + Clock
+        + RandomSource
+        + Eprint
+        + AllocGlobal
+        + Sync,
+>(scope: &Scope<'s, E>, rt: &'s R, site: &'s Site, link: Link<D>) -> bool {
     match site.peer(link.origin) {
         Some(peer) => {
             begin_link(scope, rt, site, peer, link) && begin_sender(scope, rt, site, peer)
