@@ -303,12 +303,12 @@ def memory_of_connections():
         each = (memory_of(sites[1]) - before) / 60
         if each >= 64:
             raise AssertionError(f"{each:.0f} KB for a connection")
-        for _ in range(20):
+        for turn in range(20):
             for client in clients[:8]:
                 client.send(request("GET", "/status") * 20 + request("GET", "/metrics") * 5 + post(*["outcome 7"] * 100))
                 for _ in range(26):
                     client.read()
-            if _ == 2:
+            if turn == 2:
                 before = memory_of(sites[1])
         if memory_of(sites[1]) > before + 1000:
             raise AssertionError(f"{memory_of(sites[1]) - before} KB more after requests that change nothing")

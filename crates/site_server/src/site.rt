@@ -100,12 +100,12 @@ fn serve<
 
 /// Stops the desk of a site whose threads have ended, and says what it did, where clients could connect.
 fn stop_site<D: DeskNames, R: Eprint + AllocGlobal>(rt: &R, site: &Site, shared: Arc<Shared<D>>) {
-    match stop_desk(rt.alloc(), shared) {
-        Ok(report) => {
-            if site.clients.is_some() {
-                say_report(rt, &report);
-            }
-        }
+    let stopped = stop_desk(rt.alloc(), shared);
+    if site.clients.is_none() {
+        return;
+    }
+    match stopped {
+        Ok(report) => say_report(rt, &report),
         Err(why) => say_no_report(rt, why),
     }
 }

@@ -10,6 +10,7 @@ use std::io::Eprint;
 use std::sync::Arc;
 
 /// Why there is no report of a desk.
+#[derive(Clone, Copy)]
 pub(crate) enum NoReport {
     /// A thread still has the desk, or a seat or what an applier told did not come back.
     Missing,
