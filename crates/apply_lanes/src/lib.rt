@@ -1,6 +1,6 @@
-//! A site that threads share. What another site sends comes in by an `Intake`, goes over a lane in order,
-//! and is applied by an `Applier` under the lock of a `SharedDesk`, where seats spend. Intakes are link_intake's, and
-//! lanes, tallies and views thread_parts'; both are passed on.
+//! One site shared by threads. An `Intake` takes in what another site sends, a lane passes the entries on in order, and
+//! an `Applier` applies them under the lock of a `SharedDesk`, where seats spend. Re-exports intakes from link_intake,
+//! and lanes, tallies and views from thread_parts.
 #![tactic(auto)]
 
 mod applier;

@@ -1,5 +1,5 @@
-//! Lines of text over readers and writers: the words of a line, replies that wait to be written, a text written whole, and a
-//! conversation by lines, whatever answers them.
+//! Lines of text over readers and writers: the words of a line, a buffer of replies, writing a whole text, and the loop
+//! that answers the lines of a client through any handler.
 #![tactic(auto)]
 
 mod fault;

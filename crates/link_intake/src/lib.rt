@@ -1,4 +1,4 @@
-//! What one other site sends, taken in: its lines become entries on a lane, and messages for the desk.
+//! The input from one other site: its lines become entries on a lane, and messages for the desk.
 #![tactic(auto)]
 
 mod intake;

@@ -1,4 +1,4 @@
-//! Tests of logs: worked examples, long logs, and growths that are refused.
+//! Tests of logs: worked examples, long logs, and refused memory requests.
 #![tactic(auto)]
 
 #[cfg(test)]

@@ -1,4 +1,4 @@
-//! One connection with a peer, over any reader and writer: its first line, the lines that come, and the lines that go,
+//! One connection with a peer, over any reader and writer: its first line, the incoming lines, and the outgoing lines,
 //! from the outbox in which they wait.
 #![tactic(auto)]
 

@@ -1,4 +1,4 @@
-//! The texts of what a desk answers, for scripts and for running sites, without the line feed at their end.
+//! The texts of a desk's replies, for scripts and for running sites, without the line feed at their end.
 #![tactic(auto)]
 
 mod texts;

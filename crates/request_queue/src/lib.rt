@@ -1,5 +1,5 @@
-//! The short requests of a site: spends that lack rights wait here, each with a ticket and a
-//! deadline, and are served from the front alone.
+//! The request queue of a site: spends that lack rights wait here, each with a ticket and a deadline, and are served
+//! only from the front.
 #![tactic(auto)]
 
 mod fault;

@@ -1,5 +1,5 @@
-//! What the program `rights-site` does with the words and the streams of its process: its command line, its commands and
-//! its exit status. The program itself is a `main` that hands these over.
+//! What the program `rights-site` does with the arguments and the streams of its process: its command line, its
+//! commands and its exit status. The program itself is a `main` that passes these on.
 #![tactic(auto)]
 
 mod fault;

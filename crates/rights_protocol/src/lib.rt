@@ -1,34 +1,34 @@
-//! The protocol as laws: what the lists of a system of sites are, what may happen to them, what is
-//! kept, and what follows. There is no program in this crate; the desk of a site, its appliers and a
-//! world of sites are shown elsewhere to follow it. Read `specs/` in this order.
+//! The protocol as laws: the lists of a system of sites, the permitted changes to them, the invariant,
+//! and what follows. There is no program in this crate; other crates show that the desk of a site, its
+//! appliers and a world of sites follow it. Read `specs/` in this order.
 //!
 //! - **Lists.** Sites divide one stock of rights. Each site has a log, which it alone writes. At each
 //!   site, for the log of each other, there are three lists: the entries that reached it, those that
-//!   it put in order, and those that it applied. All else is a function of these lists. The rights
-//!   that a site holds are those that it issued, was given by entries that it applied and took back,
-//!   less those that it gave and spent; those that another gave it by entries that it did not apply
-//!   yet are on the way.
+//!   were delivered in order (`put`), and those that it applied. Everything else is a function of these
+//!   lists. A site holds the rights that it issued, was given by entries that it applied, and reclaimed,
+//!   less those that it gave and spent. Rights that another site gave it by entries that it has not
+//!   applied yet are in transit (`way`).
 //! - **Changes.** A site appends an entry that issues, spends or gives, no more than it holds; an
 //!   entry of a log is offered at another site, in any order, any number of times or never; a site
-//!   applies the next entry of those that it put; a site closes. Each change is made by one site, by
-//!   what that site knows. A closing entry has a frontier K: the number, for each other site, up to
-//!   which the closing site applied its log. A site that applies K takes back, in the same change, what
-//!   it gave to the closed site beyond its number in K. (`Retiring` has these words; `Writing` says
-//!   what a site may write, `Changes` what becomes of the lists.)
-//! - **Kept.** Every change keeps a fact of each site, which names no other site's lists, and a fact of
-//!   each link.
-//! - **Headline.** So no more is ever spent than was issued, and rights held, spent and on the way are
+//!   applies the next delivered entry; a site closes. Each change is made by one site, from what that
+//!   site knows. A closing entry has a frontier K: for each other site, the number up to which the
+//!   closing site applied its log. A site that applies K reclaims (takes back), in the same change, what
+//!   it gave to the closed site beyond its number in K. (`Retiring` defines these words; `Writing` says
+//!   what a site may write, `Changes` how each change affects the lists.)
+//! - **Kept.** The invariant: every change preserves a fact of each site, which names no other site's
+//!   lists, and a fact of each link.
+//! - **Headline.** So no more is ever spent than was issued, and rights held, spent and in transit are
 //!   the rights issued. No site was ever short, and what a site applied of a log is a prefix of the
 //!   longest prefix that reached it, each entry once and in order.
 //! - **Retirement.** What a closed site had applied is its frontier for good. A site that applied it has
-//!   taken back exactly what it gave beyond it, once, and then nothing is on the way from there to the
-//!   closed site. Nothing is taken back before.
-//! - **Bounded Counter.** The lists make up a Bounded Counter, as its authors define it: a site holds
-//!   its local rights over what it has, and each change is operations of one site, each within its
-//!   guard. (`BoundedCounter` has the authors' definitions, and taking back beside them;
+//!   reclaimed exactly what it gave beyond it, once, and then nothing is in transit from there to the
+//!   closed site. Nothing is reclaimed before.
+//! - **Bounded Counter.** The lists form a Bounded Counter, as its authors define it: a site holds
+//!   its local rights over what it has, and each change consists of operations of one site, each within
+//!   its guard. (`BoundedCounter` has the authors' definitions, and reclaiming besides them;
 //!   `CounterOfLists` reads the lists as such a counter; `CounterLaws` says what is proved.)
 //!
-//! The laws stand on empty functions, so that they are proved with the crate.
+//! The laws are on empty functions, so that they are proved with the crate.
 #![tactic(auto)]
 
 mod counter;

@@ -1,5 +1,5 @@
-//! Sites, amounts, moves, entries and messages, each in its limits, and the definitions that all
-//! crates share: chain, log end, prefix, sums, rights held and on the way.
+//! Sites, amounts, moves, entries and messages, each within its limits, and the definitions that all crates share:
+//! chain, log end, prefix, sums, rights held and in transit.
 #![tactic(auto)]
 
 mod amount;

@@ -1,8 +1,8 @@
-//! What the requests of a connection are answered over HTTP, as a service that has no thread, socket, clock or lock: which
-//! request is which, what each line of a body is replied, and the status, headers and body of each response.
+//! HTTP for the clients of a site, as a service that has no thread, socket, clock or lock: how requests are told apart,
+//! the reply to each line of a body, and the status, headers and body of each response.
 //!
-//! Nothing but the lines of a `POST` changes the client, and each of them is carried out once, in order. No command is
-//! carried out whose reply finds no room.
+//! Only the lines of a `POST` change the client, and each of them is carried out once, in order. No command is carried
+//! out whose reply finds no space.
 #![tactic(auto)]
 
 mod busy;

@@ -1,10 +1,10 @@
-//! Everything that a running site decides: what a command does at its desk and what is replied, what a tick does and what it
-//! sends to each peer, and what is answered to a message of a peer. There is no thread, socket, clock or lock here: who
-//! holds the lock of the shared desk lends what is under it, a `Kept`, and a seat.
+//! Every decision of a running site: the effect of a command at its desk and the reply, the effect of a tick and what
+//! it sends to each peer, and the answer to a peer's message. There is no thread, socket, clock or lock here: whoever
+//! holds the lock of the shared desk lends the value under it, a `Kept`, and a seat.
 //!
-//! **A client is told exactly what the desk did for it.** Each function has one relation in `specs/` for all that it may
-//! do: the reply belongs to what happened at the desk, or nothing happened. What a client was told as issued and as
-//! spent is, to the last right, what its seat counts (`laws::told_is_counted`).
+//! **A client is told exactly what the desk did for it.** Each function has one relation in `specs/` for all its
+//! possible effects: the reply belongs to what happened at the desk, or nothing happened. What a client was told as
+//! issued and as spent equals, to the last right, what its seat counts (`laws::told_is_counted`).
 #![tactic(auto)]
 
 mod answer;

@@ -1,4 +1,4 @@
-//! One site of a system as a process: its commands come from a reader, and its peers are met over TCP.
+//! One site of a system as a process: it reads commands from a reader, and talks to its peers over TCP.
 #![tactic(auto)]
 
 mod site;

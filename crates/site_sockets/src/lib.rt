@@ -1,5 +1,5 @@
-//! The sockets of a site that runs: who connects to it, what it connects to, and what waits to be sent to each peer. What
-//! its desk does with that is not known here.
+//! The sockets of a running site: incoming and outgoing connections, and the lines that wait to be sent to each peer.
+//! This crate does not know what the desk does with them.
 #![tactic(auto)]
 
 mod breaker;

@@ -1,5 +1,5 @@
-//! What a site as a process is told by the words of its command line and by the lines of its input, what it says of
-//! itself as a status, and why it stops.
+//! The command line of a site as a process, the commands that its input lines spell, its status object, and the reasons
+//! for which it stops.
 #![tactic(auto)]
 
 mod commands;

@@ -1,6 +1,5 @@
-//! What the test crates share: moves and entries by bare numbers, calls with each request for memory
-//! refused in turn, streams that give or take few bytes at a time, and numbers that look drawn. No part of the
-//! product uses it.
+//! What the test crates share: moves and entries by bare numbers, calls with each memory request refused in turn,
+//! streams that read or write few bytes at a time, and pseudo-random numbers. No part of the product uses it.
 #![tactic(auto)]
 
 mod dice;

@@ -1,5 +1,4 @@
-//! Scripts: what a line makes happen among all sites, and its reply. The world that it happens in is world_core's, which is
-//! passed on.
+//! Scripts: the event that each line causes among all sites, and its reply. Re-exports the world from world_core.
 #![tactic(auto)]
 
 mod script;

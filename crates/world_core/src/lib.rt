@@ -1,4 +1,4 @@
-//! All sites, and what may happen among them.
+//! All sites, and the events among them.
 #![tactic(auto)]
 
 mod event;
