@@ -89,6 +89,9 @@ impl<D: DeskNames, R: Wait> Peers for Outboxes<'_, D, R> {
 
     ghost sends = { λ before place sent after. SendsToPeer (PeerOutbox R) D.id before.peers.now place sent };
 
+    // How far it came stands in no view of the outboxes: their locks hide it.
+    ghost stops = { λ _ _ _. Unit {0} };
+
     fn count(&self) -> usize {
         self.peers.len()
     }

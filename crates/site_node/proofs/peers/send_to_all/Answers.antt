@@ -1,5 +1,21 @@
 use Rattle.std.proofs.Common.{◌∙◌, add-one, arith, refl}
+use Rattle.std.proofs.lemmas.Result.{err_from_is_err_and}
 use Rattle.site_node.proofs.peers.send_to_all.Goals as goal
+
+pub returns-in_err-sent-clause-err : goal.returns-in_err-sent-clause-err
+returns-in_err-sent-clause-err g c =
+    let inv = c.loop-place.invariant in
+    let p = err_from_is_err_and c.from_residual.result c.from_residual.ensures.1 in
+    rw p.1 (
+    record {
+      place = c.loop-place.place;
+      among = omega (arith, c.loop-place-test.true, c.loop-place.auto.place-end, c.count-place-end.ensures.value);
+      mid = c.loop-place.peers;
+      sent = c.loop-place.sent;
+      first = inv.first;
+      stopped = c.in_err-sent.ensures.err;
+    }
+    )
 
 pub loop-place-preserved : goal.loop-place-preserved
 loop-place-preserved g c =
