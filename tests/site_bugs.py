@@ -1,5 +1,7 @@
 """Bugs that another implementation of a running site may have, for tests of ./conformance: each changes the model."""
 
+from functools import partial
+
 import desk_model
 import line_model
 import site_model
@@ -11,26 +13,21 @@ BUGS = {}
 
 
 def replaces(owner, name):
-    """Makes of a function of the right method, of the class `owner`, a bug of the function's name."""
+    """Registers a function as a bug that takes the place of a method or property, which it is given as `right`."""
+    original = owner.__dict__[name]
 
-    def made(wrong):
+    def register(wrong):
         def plant(limits):
-            right = getattr(owner, name)
-            if isinstance(owner.__dict__.get(name), property):
-                setattr(owner, name, property(lambda self: wrong(owner_right(self), self)))
+            if isinstance(original, property):
+                planted = property(lambda self: wrong(partial(original.fget, self), self))
             else:
-                setattr(owner, name, lambda self, *values, **named: wrong(lambda *v, **n: right(self, *v, **n), self, *values, **named))
+                planted = lambda self, *values, **named: wrong(partial(original, self), self, *values, **named)  # noqa: E731
+            setattr(owner, name, planted)
 
-        original = owner.__dict__.get(name)
-
-        def owner_right(self):
-            return lambda: original.fget(self)
-
-        plant.__name__ = wrong.__name__
         BUGS[wrong.__name__] = plant
         return wrong
 
-    return made
+    return register
 
 
 def sets(owner, name, value):
@@ -422,17 +419,12 @@ def plans_in_the_order_of_numbers(right, site):
 
 @replaces(Site, "plan")
 def equal_peers_by_the_greater_number(right, site):
-    site.peers = dict(reversed(site.peers.items()))
-    known = Site.known
-    Site.known = lambda self, other: known(self, other)
+    # The plan sorts peers by their rights and then by their numbers.
+    desk_model.sorted = lambda peers, key: sorted(peers, key=lambda peer: (key(peer)[0], -peer))
     try:
-        order = sorted
-        desk_model.sorted = lambda keys, key: order(keys, key=lambda other: (-key(other)[0] * -1, -other))
         return right()
     finally:
         del desk_model.sorted
-        Site.known = known
-        site.peers = dict(sorted(site.peers.items()))
 
 
 @replaces(Site, "may_ask")

@@ -11,7 +11,7 @@ import time
 from cluster import expect
 from desk_model import MOST_HELD, MOST_REQUESTS
 from line_model import GREATEST, MOST_ANSWERED, MOST_BYTES
-from site_driver import PATIENCE, Difference, Node  # noqa: F401
+from site_driver import PATIENCE, Node
 from site_inputs import NO_COMMANDS
 
 # What neither these checks nor the seeded runs test.
