@@ -31,7 +31,7 @@ _rights_site() {
     done
 
     case $command in
-        '') mapfile -t COMPREPLY < <(compgen -W 'sim run --help' -- "$current") ;;
+        '') mapfile -t COMPREPLY < <(compgen -W 'sim run --help --version' -- "$current") ;;
         sim) mapfile -t COMPREPLY < <(compgen -W '--help' -- "$current") ;;
         run) _rights_site_run ;;
     esac

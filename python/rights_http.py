@@ -91,7 +91,7 @@ class SiteClient:
 
     def wait(self, command: str, timeout: float = 60.0) -> str:
         """Sends one command. Where its reply would be `queued T`, waits for what becomes of the spend: `spent N`, or
-        `expired` once its deadline is over. `timeout` is how many seconds that may take: more than its deadline is away.
+        `expired` after its deadline. `timeout` is how many seconds that may take: longer than until the deadline.
         At the end of the site the reply is `queued T` all the same."""
         return self._post("/wait", [command], timeout).rstrip("\n")
 

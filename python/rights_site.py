@@ -6,12 +6,11 @@
         site.status()["held"]           # 97
         site.ask("tick 11")             # send what is due, serve what waits
 
-The log of a site is in memory. So a number is used once in the life of a system of sites: a site that ended, or whose
+The log of a site is in memory, so a number is used once in the life of a system of sites: a site that ended, or whose
 machine was restarted, must not be started again under its number, or it sells its rights a second time. `once` names a
-file that keeps it from that.
+file that prevents it.
 
-Threads may share a site. Several processes can't: where they shall sell from one site, start it with `http`, and let
-them use `rights_http.py`. Nothing but Python's standard library is used, on systems that have `poll`.
+Threads may share a site. Several processes can't: for them, start the site with `http` and use `rights_http.py`. Nothing but Python's standard library is used, on systems that have `poll`.
 """
 
 from __future__ import annotations
@@ -243,7 +242,7 @@ def main() -> None:
 
         def sell() -> None:
             while True:
-                # A spend that can't be served at once waits for other sites, till its deadline is over.
+                # A spend that can't be served at once waits for other sites, until its deadline.
                 reply = site.ask(f"spend 1 {int(time.time())}")
                 if not reply.startswith("spent "):
                     return

@@ -1,28 +1,22 @@
 """Sites as processes on loopback, for those who drive them."""
 
 import os
-import socket
 import sys
-import threading
 import time
-from contextlib import suppress
 
 HERE = os.path.dirname(os.path.abspath(__file__))
-sys.path.insert(0, os.path.join(HERE, "..", "python"))
+TOP = os.path.dirname(HERE)
+for folder in ("python", os.path.join("examples", "ticket-sale")):
+    sys.path.insert(0, os.path.join(TOP, folder))
 
-from rights_site import PROGRAM, Site, SiteEnded  # noqa: E402, F401
+import proxies  # noqa: E402
+from proxies import free_ports  # noqa: E402, F401
+from rights_site import Site, SiteEnded  # noqa: E402, F401
 
-# What PROGRAM builds, and then calls.
-BUILT = os.path.join(os.path.dirname(PROGRAM), "crates", "rights_site", "out", "rights_site")
-
-
-def free_ports(count):
-    """Ports that nobody listened on a moment ago."""
-    sockets = [socket.create_server(("127.0.0.1", 0)) for _ in range(count)]
-    ports = [each.getsockname()[1] for each in sockets]
-    for each in sockets:
-        each.close()
-    return ports
+# The program that is tried: what suite.py says, or else ./rights-site, which builds it where it is not fresh.
+PROGRAM = os.environ.get("RIGHTS_SITE") or os.path.join(TOP, "rights-site")
+# What that builds, and then calls.
+BUILT = os.path.join(TOP, "crates", "rights_site", "out", "rights_site")
 
 
 def at(port):
@@ -94,33 +88,17 @@ class Cluster:
             site.kill()
 
 
-class Proxy:
-    """Passes lines on from one site to another, but for those that `drops` says yes to."""
+class Proxy(proxies.Proxy):
+    """Passes lines on from one site to another, but for those that `drops` says yes to, and keeps them all."""
 
     def __init__(self, target, drops=lambda line: False):
         self.drops = drops
-        self.target = target
-        self.server = socket.create_server(("127.0.0.1", 0))
-        self.address = at(self.server.getsockname()[1])
         self.lines = []
-        threading.Thread(target=self.accept, daemon=True).start()
+        super().__init__(target)
 
-    def accept(self):
-        while True:
-            try:
-                stream, _ = self.server.accept()
-            except OSError:
-                return
-            threading.Thread(target=self.carry, args=(stream,), daemon=True).start()
-
-    def carry(self, stream):
-        host, port = self.target.split(":")
-        # Where one of the two has ended, the other sees its connection end.
-        with stream, suppress(OSError), socket.create_connection((host, int(port))) as out:
-            for line in stream.makefile("rb"):
-                self.lines.append(line)
-                if not self.drops(line):
-                    out.sendall(line)
+    def passes(self, line):
+        self.lines.append(line)
+        return not self.drops(line)
 
 
 def sees(site, peer, **values):

@@ -8,7 +8,8 @@ Each seed makes one run. In most of them one process gets commands and lines of 
 In some, first more lines are to be sent than an outbox has room for (full). In others 2 to 5 processes talk to each
 other, and the test carries their lines, loses, repeats, reorders and delays them (cluster). Each process has a model
 that gets the same, and all that it says is compared: replies, status objects, and lines to each peer. A run that fails
-is told by its seed, step and input, and `--seeds SEED 1` runs it alone again. The last line is 'N passed, M failed'.
+is reported with its seed, step and input, and `--seeds SEED 1` runs it alone again. The last line is 'N passed, M failed'.
+tests/suite.py runs the first sixty seeds.
 """
 
 import argparse
@@ -20,9 +21,10 @@ import time
 
 sys.path.insert(0, os.path.dirname(os.path.abspath(__file__)))
 
+from cases import Skipped, case_of_pairs  # noqa: E402
 from cluster import BUILT, PROGRAM, SiteEnded  # noqa: E402
 from desk_model import total  # noqa: E402
-from site_driver import PATIENCE, Difference, Node, text_of  # noqa: E402
+from site_driver import Difference, Node, text_of  # noqa: E402
 from site_inputs import Inputs  # noqa: E402
 from site_model import ROOM  # noqa: E402
 
@@ -137,7 +139,7 @@ def go_on(run, node):
 # ---- outboxes that are full
 
 
-class NotTried(Exception):
+class NotTried(Skipped):
     """The machine was too busy for this run, which says nothing of the program."""
 
 
@@ -153,36 +155,11 @@ def run_full(run):
         me, *others = run.rng.sample(range(1, count + 1), count)
         node = Node(me, count, run.program, others)
         try:
-            if fill_outboxes(run, node):
+            if node.fill_outboxes(many_entries(run.rng, min(node.peers)), run.note):
                 return go_on(run, node)
         finally:
             node.close()
     raise NotTried("each time an attempt to connect was over before the outboxes were full")
-
-
-def fill_outboxes(run, node):
-    """Fills the outboxes of all peers, who hear again then. Whether the first attempts lasted so long: where not, it
-    is not known what was lost."""
-    peers = list(node.peers.values())
-    run.note("a first tick")
-    attempts = node.begin_attempts(peers)
-    run.note("ticks of many entries")
-    try:
-        node.give_commands(many_entries(run.rng, peers[0].number))
-    except Difference:
-        if node.attempts(peers) == attempts:
-            raise
-        return False
-    if node.attempts(peers) != attempts:
-        return False
-    # Once a line left each outbox, the answer that shows all to be read finds room.
-    if node.new_attempts(peers, attempts, PATIENCE) is None:
-        raise Difference("no peer answers an attempt to connect", "one more attempt for each", "less")
-    for peer in peers:
-        run.note("peer", peer.number, "hears again")
-        node.restore(peer.number)
-        node.settle()
-    return True
 
 
 def many_entries(rng, peer):
@@ -327,6 +304,10 @@ def fault(seed, options):
         cause = error if isinstance(error, Difference) else f"{type(error).__name__}: {error}"
         return f"seed {seed} ({kind}), step {run.step}: FAILED after {run.input}:\n  {cause}"
     return None
+
+
+USUAL = argparse.Namespace(kind=None, sites=None, steps=STEPS, program=PROGRAM)
+CASES = [case_of_pairs("Lockstep", [(f"seed {seed}", lambda seed=seed: fault(seed, USUAL)) for seed in range(1, 61)])]
 
 
 def main():

@@ -1,25 +1,17 @@
-#!/usr/bin/env python3
-"""Starts sites as processes on loopback, and drives them through their standard streams.
-
-    tests/loopback.py [PROGRAM]
-
-Each test binds to free ports, ends by itself, and says what it expected where it fails. The last line is
-'N passed, M failed'.
-"""
+"""Starts sites as processes on loopback, and drives them through their standard streams. Each test binds to free ports,
+ends by itself, and says what it expected where it fails."""
 
 import os
 import socket
 import struct
 import subprocess
-import sys
 import threading
 import time
 
-from cluster import BUILT, PROGRAM, Cluster, Proxy, Site, SiteEnded, at, expect, free_ports, sees, wait_for
+from cases import case
+from cluster import PROGRAM, Cluster, Proxy, Site, SiteEnded, at, expect, free_ports, sees, wait_for
 
 import rights_site
-
-program = sys.argv[1] if len(sys.argv) > 1 else PROGRAM
 
 
 class TickingSite(Site):
@@ -39,7 +31,10 @@ class TickingSite(Site):
         return replies
 
 
-Cluster.program, Cluster.kind = program, TickingSite
+class Sites(Cluster):
+    """Sites that tick as they are told, or are refused to."""
+
+    kind = TickingSite
 
 
 def connect(cluster, number, text=b""):
@@ -53,7 +48,7 @@ def connect(cluster, number, text=b""):
 
 
 def a_batch_travels():
-    with Cluster(2) as sites:
+    with Sites(2) as sites:
         expect(sites[1].ask("issue 10"), "number 1")
         expect(sites[1].ask("give 2 4"), "number 2")
         expect(sites[1].ask("tick 1"), "tick expired 0 served 0 asks 0 sent 3")
@@ -61,7 +56,7 @@ def a_batch_travels():
 
 
 def an_ask_is_granted_and_served():
-    with Cluster(2) as sites:
+    with Sites(2) as sites:
         sites[1].ask_all(["issue 10", "tick 1"])
         wait_for("site 2 knows of 10", sees(sites[2], 1, applied=1))
         expect(sites[2].ask("spend 6 99"), "queued 1")
@@ -76,7 +71,7 @@ def an_ask_is_granted_and_served():
 
 
 def an_ask_is_denied():
-    with Cluster(2) as sites:
+    with Sites(2) as sites:
         sites[1].ask_all(["issue 5", "tick 1"])
         wait_for("site 2 knows of 5", sees(sites[2], 1, applied=1))
         sites[1].ask("spend 5 9")
@@ -89,7 +84,7 @@ def an_ask_is_denied():
 
 def a_lost_entry_is_asked_for():
     """A proxy loses the first entry: the later one is held, and a query closes the gap."""
-    with Cluster(2, started=[2]) as sites:
+    with Sites(2, started=[2]) as sites:
         lost = []
 
         def drops(line):
@@ -111,7 +106,7 @@ def a_lost_entry_is_asked_for():
 def a_cut_connection_heals():
     """All that was sent over a while is lost. The next beat shows the gap, and answers close it."""
     cut = threading.Event()
-    with Cluster(2, started=[2]) as sites:
+    with Sites(2, started=[2]) as sites:
         proxy = Proxy(at(sites.ports[1]), lambda line: cut.is_set() and not line.startswith(b"H"))
         sites.routes[(1, 2)] = proxy.address
         site = sites.start(1)
@@ -130,7 +125,7 @@ def a_cut_connection_heals():
 
 
 def a_closed_sites_rights_are_taken_back():
-    with Cluster(3, started=[2, 3]) as sites:
+    with Sites(3, started=[2, 3]) as sites:
         lost = threading.Event()
         lost.set()
         proxy = Proxy(at(sites.ports[2]), lambda line: lost.is_set() and line.startswith((b"E 1", b"A 1")))
@@ -147,7 +142,7 @@ def a_closed_sites_rights_are_taken_back():
 
 
 def waiting_spends_are_served_by_one_tick():
-    with Cluster(2, started=[1]) as sites:
+    with Sites(2, started=[1]) as sites:
         expect(sites[1].ask_all(["spend 2 9"] * 5), [f"queued {ticket}" for ticket in range(1, 6)])
         with connect(sites, 1, b"H 2\nE 2 0 2 I:11 R:1:11\n"):
             wait_for("site 1 holds 11", sees(sites[1], None, held=11))
@@ -158,7 +153,7 @@ def waiting_spends_are_served_by_one_tick():
 
 def outcomes_that_nobody_reads():
     """32 spends wait or have outcomes that were not read, and no more."""
-    with Cluster(2, started=[1]) as sites:
+    with Sites(2, started=[1]) as sites:
         wanted = [f"queued {ticket}" for ticket in range(1, 33)] + ["error QueueFull"]
         expect(sites[1].ask_all(["spend 1 5"] * 33), wanted)
         expect(sites[1].ask("tick 6"), "tick expired 32 served 0 asks 0 sent 1")
@@ -171,7 +166,7 @@ def outcomes_that_nobody_reads():
 
 def lines_of_the_last_tick_go_out():
     """Rights that a closing site leaves to an heir arrive, though the site ends at once."""
-    with Cluster(2) as sites:
+    with Sites(2) as sites:
         sites[1].ask("issue 7")
         sites[1].process.stdin.write(b"close 2\ntick 1\nquit\n")
         expect(sites[1].process.wait(5), 0)
@@ -179,7 +174,7 @@ def lines_of_the_last_tick_go_out():
 
 
 def a_site_ends_and_others_go_on():
-    with Cluster(3) as sites:
+    with Sites(3) as sites:
         sites[1].kill()
         sites[2].ask_all(["issue 5", "give 3 5", "tick 1"])
         wait_for("site 3 holds 5", sees(sites[3], None, held=5))
@@ -190,7 +185,7 @@ def a_site_ends_and_others_go_on():
 
 
 def replies_come_at_once():
-    with Cluster(2) as sites:
+    with Sites(2) as sites:
         expect(sites[1].ask_all(["issue 10", "spend 1 1", "nonsense", "", "spend 0 1", "spend 01 1", "give 1 1"]), [
             "number 1", "spent 2", "error BadCommand", "error BadCommand", "error BadAmount", "error BadCommand",
             "error SameSite",
@@ -211,7 +206,7 @@ def an_unfinished_last_line_is_a_command():
 
 def site_words():
     own, other = free_ports(2)
-    return [program, "run", "--id", "1", "--sites", "2", "--listen", at(own), f"2={at(other)}"]
+    return [PROGRAM, "run", "--id", "1", "--sites", "2", "--listen", at(own), f"2={at(other)}"]
 
 
 def stream_that_is_reset(text):
@@ -241,7 +236,7 @@ def replies_before_a_read_that_fails():
 def dead_peers_hold_nothing_up():
     """Two thousand spends and ticks, with peers that refuse or never answer."""
     deaf = socket.create_server(("127.0.0.1", 0), backlog=1)
-    with Cluster(3, started=[1], routes={(1, 2): at(deaf.getsockname()[1])}) as sites:
+    with Sites(3, started=[1], routes={(1, 2): at(deaf.getsockname()[1])}) as sites:
         start = time.monotonic()
         sites[1].ask("issue 100000")
         for time_now in range(10):
@@ -262,7 +257,7 @@ def dead_peers_hold_nothing_up():
 
 
 def strangers_are_turned_away():
-    with Cluster(3, started=[1]) as sites:
+    with Sites(3, started=[1]) as sites:
         for text in [b"B 1 5\n", b"H 9\n", b"H 1\n", b"H 17\n", b"\n", b"\xff\xfe\n", b"H 2 \n", b"x" * 20000]:
             stream = connect(sites, 1, text)
             stream.settimeout(3)
@@ -276,7 +271,7 @@ def strangers_are_turned_away():
 
 def silence_is_cut_off():
     """A connection that says nothing is closed after 5 seconds, and holds up nobody."""
-    with Cluster(3, started=[1]) as sites:
+    with Sites(3, started=[1]) as sites:
         silent = [connect(sites, 1) for _ in range(40)]
         half = connect(sites, 1, b"H ")
         start = time.monotonic()
@@ -292,13 +287,13 @@ def silence_is_cut_off():
 
 
 def a_silent_peer_holds_up_nobody():
-    with Cluster(3, started=[1]) as sites:
+    with Sites(3, started=[1]) as sites:
         with connect(sites, 1, b"H 2\n"), connect(sites, 1, b"H 3\nE 3 0 2 I:9 R:1:7\n"):
             wait_for("site 1 heard site 3", sees(sites[1], None, received=7))
 
 
 def the_newest_connection_is_heard():
-    with Cluster(2, started=[1]) as sites:
+    with Sites(2, started=[1]) as sites:
         with connect(sites, 1, b"H 2\n") as old:
             time.sleep(0.1)
             with connect(sites, 1, b"H 2\nE 2 0 2 I:9 R:1:7\n"):
@@ -313,7 +308,7 @@ def the_newest_connection_is_heard():
 def a_link_may_be_silent():
     """Six seconds, which is longer than a first line may take: lines come then as before, both ways."""
     with socket.create_server(("127.0.0.1", 0)) as ear:
-        with Cluster(2, started=[1], routes={(1, 2): at(ear.getsockname()[1])}) as sites:
+        with Sites(2, started=[1], routes={(1, 2): at(ear.getsockname()[1])}) as sites:
             sites[1].ask("tick 1")
             heard = ear.accept()[0]
             heard.settimeout(5)
@@ -328,7 +323,7 @@ def a_link_may_be_silent():
 
 
 def an_entry_of_sixteen_moves():
-    with Cluster(2, started=[1]) as sites:
+    with Sites(2, started=[1]) as sites:
         moves = b" ".join(b"R:1:%d" % n for n in range(1, 17))
         with connect(sites, 1, b"H 2\nE 2 0 16 " + moves + b"\nE 2 16 33 " + moves + b" I:1\n"):
             wait_for("site 1 applied 16 moves", sees(sites[1], 2, applied=16))
@@ -340,7 +335,7 @@ def an_entry_of_sixteen_moves():
 
 def entries_are_held():
     """The status of a site that holds 60 entries, and of one that holds 64 and lost more."""
-    with Cluster(2, started=[1]) as sites:
+    with Sites(2, started=[1]) as sites:
 
         def says(applied, held, received):
             peer = f'{{"applied":{applied},"buffering":{str(held > 0).lower()},"held":{held},"site":2}}'
@@ -363,7 +358,7 @@ def entries_are_held():
 
 
 def bad_lines_are_skipped():
-    with Cluster(2, started=[1]) as sites:
+    with Sites(2, started=[1]) as sites:
         lines = b"H 2\nnonsense\nE 2 0 1 I:0\nE 3 0 1 I:1\n" + b"x" * 20000 + b"\nQ 2 1 0 0\nE 2 0 2 I:9 R:1:7\nE 2 2 3"
         with connect(sites, 1, lines):
             wait_for("site 1 heard site 2", sees(sites[1], None, received=7))
@@ -373,7 +368,7 @@ def bad_lines_are_skipped():
 
 def a_flood_grows_nothing():
     """Megabytes of repeats, and of entries that can't be held."""
-    with Cluster(2, started=[1]) as sites:
+    with Sites(2, started=[1]) as sites:
 
         def room():
             with open(f"/proc/{sites[1].process.pid}/status") as status:
@@ -394,7 +389,7 @@ def a_flood_grows_nothing():
 def a_peer_that_reads_nothing():
     """Its outbox fills, lines are lost, and the site goes on and ends in time."""
     deaf = socket.create_server(("127.0.0.1", 0))
-    with Cluster(2, started=[1], routes={(1, 2): at(deaf.getsockname()[1])}) as sites:
+    with Sites(2, started=[1], routes={(1, 2): at(deaf.getsockname()[1])}) as sites:
         sites[1].ask("issue 1000000000")
         full = False
         for time_now in range(400):
@@ -414,9 +409,8 @@ def a_peer_that_reads_nothing():
 
 
 def limited(kibibytes):
-    """The program, and no script before it, where it gets no more address space than that: in words."""
-    limited_program = BUILT if program == PROGRAM and os.path.exists(BUILT) else program
-    return ["sh", "-c", f'ulimit -v {kibibytes}; exec "$0" "$@"', limited_program, "run"]
+    """The program where it gets no more address space than that: in words."""
+    return ["sh", "-c", f'ulimit -v {kibibytes}; exec "$0" "$@"', PROGRAM, "run"]
 
 
 def a_start_without_memory():
@@ -439,7 +433,7 @@ def a_start_without_memory():
 
 def memory_runs_out():
     """A spend that gets none changes nothing, and the site goes on with what it has."""
-    with Cluster(2, started=[1], programs={1: limited(60000)}) as sites:
+    with Sites(2, started=[1], programs={1: limited(60000)}) as sites:
         expect(sites[1].ask("issue 1000000000"), "number 1")
         spent = 0
         replies = []
@@ -452,11 +446,41 @@ def memory_runs_out():
         expect(sites[1].end(), 0)
 
 
+def ends_at_a_take_back():
+    """Whether a site that found no memory ends, when what was on the way to a closed peer is to be taken back by an entry.
+    The rest of a block may still have room for that entry."""
+    with Cluster(2, started=[1], programs={1: limited(60000)}) as sites:
+        sites[1].ask("issue 1000000000")
+        with connect(sites, 1, b"H 2\nE 2 0 1 I:1\n") as stream:
+            wait_for("site 1 heard site 2", sees(sites[1], 2, applied=1))
+            replies, gifts = [], []
+            while "error OutOfMemory" not in replies:
+                replies = sites[1].ask_all(["give 2 1"] + ["spend 1 9"] * 500)
+                gifts += [int(reply[7:]) for reply in replies if reply.startswith("number ")]
+            # The peer applied all before the last gift, and closes.
+            stream.sendall(b"E 2 1 2 K:%d:0\n" % (gifts[-1] - 1))
+            # Commands are answered until the entry is applied.
+            until = time.monotonic() + 2
+            try:
+                while time.monotonic() < until:
+                    sites[1].ask("outcome 1")
+            except SiteEnded:
+                expect((sites[1].process.wait(5), sites[1].said()), (1, "rights-site: out of memory\n"))
+                return True
+    return False
+
+
+def an_applier_without_memory():
+    """An applier that finds no memory ends the program."""
+    if not any(ends_at_a_take_back() for _ in range(10)):
+        raise AssertionError("no applier ended the program")
+
+
 # ---- ends
 
 
 def the_end_of_input_ends_it():
-    with Cluster(2, started=[1]) as sites:
+    with Sites(2, started=[1]) as sites:
         with connect(sites, 1), connect(sites, 1, b"H 2\n"):
             time.sleep(0.1)
             sites[1].process.stdin.close()
@@ -469,7 +493,7 @@ def the_end_of_input_ends_it():
 def an_address_in_use_is_refused():
     with socket.create_server(("127.0.0.1", 0)) as taken:
         for address in [at(taken.getsockname()[1]), "", "nowhere", "127.0.0.1:99999", "256.1.1.1:1"]:
-            words = [program, "run", "--id", "1", "--sites", "2", "--listen", address, "2=127.0.0.1:1"]
+            words = [PROGRAM, "run", "--id", "1", "--sites", "2", "--listen", address, "2=127.0.0.1:1"]
             done = subprocess.run(words, input=b"issue 1\n", capture_output=True, timeout=30)
             expect((done.returncode, done.stdout, done.stderr), (1, b"", b"rights-site: cannot listen\n"), address)
 
@@ -484,8 +508,8 @@ def other_addresses():
     except OSError:
         pass
     for host in addresses:
-        one = Site(1, 2, f"{host}:{port}", {2: f"{host}:{other}"}, program)
-        two = Site(2, 2, f"{host}:{other}", {1: f"{host}:{port}"}, program)
+        one = Site(1, 2, f"{host}:{port}", {2: f"{host}:{other}"}, PROGRAM)
+        two = Site(2, 2, f"{host}:{other}", {1: f"{host}:{port}"}, PROGRAM)
         try:
             two.status()
             one.ask_all(["issue 10", "give 2 4", "tick 1"])
@@ -511,9 +535,9 @@ def a_start_that_fails_is_said():
     own, other = free_ports(2)
     with socket.create_server(("127.0.0.1", 0)) as taken:
         address = at(taken.getsockname()[1])
-        said = refusal_of(lambda: Site(1, 2, address, {2: at(other)}, program), SiteEnded)
+        said = refusal_of(lambda: Site(1, 2, address, {2: at(other)}, PROGRAM), SiteEnded)
         expect(said, "site 1: it ended; it said: rights-site: cannot listen")
-    expect(refusal_of(lambda: Site(3, 2, at(own), {2: at(other)}, program), SiteEnded)[-16:], "bad command line")
+    expect(refusal_of(lambda: Site(3, 2, at(own), {2: at(other)}, PROGRAM), SiteEnded)[-16:], "bad command line")
     mute = ["sh", "-c", "echo starting >&2; exec sleep 20", "sh"]
     silent = refusal_of(lambda: Site(1, 2, at(own), {2: at(other)}, mute, timeout=0.3), rights_site.SiteSilent)
     expect(silent, "site 1: no reply within 0.3 seconds; it said: starting")
@@ -530,7 +554,7 @@ def a_program_that_is_nowhere_is_said():
 
 
 def one_command_a_line():
-    with Cluster(2, started=[1]) as sites:
+    with Sites(2, started=[1]) as sites:
         for command in ("issue 1\nissue 1", "issue 1\n", "quit"):
             refusal_of(lambda: sites[1].ask_all(["issue 1", command]), ValueError)
         expect(sites[1].ask_all(["issue 5", "status"])[0], "number 1")
@@ -538,7 +562,7 @@ def one_command_a_line():
 
 def threads_share_a_client():
     """Each gets the replies to its own commands, though they come in any order."""
-    with Cluster(2, started=[1]) as sites:
+    with Sites(2, started=[1]) as sites:
         faults = []
 
         def ask(place):
@@ -555,52 +579,39 @@ def threads_share_a_client():
         expect(faults, [])
 
 
-def main():
-    tests = [
-        a_batch_travels,
-        an_ask_is_granted_and_served,
-        an_ask_is_denied,
-        a_lost_entry_is_asked_for,
-        a_cut_connection_heals,
-        a_closed_sites_rights_are_taken_back,
-        waiting_spends_are_served_by_one_tick,
-        outcomes_that_nobody_reads,
-        lines_of_the_last_tick_go_out,
-        a_site_ends_and_others_go_on,
-        replies_come_at_once,
-        an_unfinished_last_line_is_a_command,
-        replies_before_a_read_that_fails,
-        dead_peers_hold_nothing_up,
-        strangers_are_turned_away,
-        silence_is_cut_off,
-        a_silent_peer_holds_up_nobody,
-        the_newest_connection_is_heard,
-        a_link_may_be_silent,
-        an_entry_of_sixteen_moves,
-        entries_are_held,
-        bad_lines_are_skipped,
-        a_flood_grows_nothing,
-        a_peer_that_reads_nothing,
-        a_start_without_memory,
-        memory_runs_out,
-        the_end_of_input_ends_it,
-        an_address_in_use_is_refused,
-        other_addresses,
-        a_start_that_fails_is_said,
-        a_program_that_is_nowhere_is_said,
-        one_command_a_line,
-        threads_share_a_client,
-    ]
-    failed = 0
-    for test in tests:
-        try:
-            test()
-        except (AssertionError, SiteEnded, OSError, subprocess.TimeoutExpired) as error:
-            failed += 1
-            print(f"{test.__name__}: FAILED: {type(error).__name__}: {error}", flush=True)
-    print(f"{len(tests) - failed} passed, {failed} failed")
-    return 1 if failed else 0
-
-
-if __name__ == "__main__":
-    sys.exit(main())
+CASES = [case("Loopback", [
+    a_batch_travels,
+    an_ask_is_granted_and_served,
+    an_ask_is_denied,
+    a_lost_entry_is_asked_for,
+    a_cut_connection_heals,
+    a_closed_sites_rights_are_taken_back,
+    waiting_spends_are_served_by_one_tick,
+    outcomes_that_nobody_reads,
+    lines_of_the_last_tick_go_out,
+    a_site_ends_and_others_go_on,
+    replies_come_at_once,
+    an_unfinished_last_line_is_a_command,
+    replies_before_a_read_that_fails,
+    dead_peers_hold_nothing_up,
+    strangers_are_turned_away,
+    silence_is_cut_off,
+    a_silent_peer_holds_up_nobody,
+    the_newest_connection_is_heard,
+    a_link_may_be_silent,
+    an_entry_of_sixteen_moves,
+    entries_are_held,
+    bad_lines_are_skipped,
+    a_flood_grows_nothing,
+    a_peer_that_reads_nothing,
+    a_start_without_memory,
+    memory_runs_out,
+    an_applier_without_memory,
+    the_end_of_input_ends_it,
+    an_address_in_use_is_refused,
+    other_addresses,
+    a_start_that_fails_is_said,
+    a_program_that_is_nowhere_is_said,
+    one_command_a_line,
+    threads_share_a_client,
+])]

@@ -1,13 +1,7 @@
-#!/usr/bin/env python3
-"""Talks to running sites over HTTP, and drives them in every way that a client may.
+"""Talks to running sites over HTTP, and drives them in every way that a client may. Each test binds to free ports, ends
+by itself, and says what it expected where it fails."""
 
-    tests/over_http.py [PROGRAM] [--only TEST..]
-
-Each test binds to free ports, ends by itself, and says what it expected where it fails. The last line is
-'N passed, M failed'.
-"""
-
-import argparse
+import atexit
 import http.client
 import json
 import os
@@ -19,17 +13,18 @@ import subprocess
 import sys
 import tempfile
 import threading
-import time
 import urllib.error
 import urllib.request
 from contextlib import ExitStack, suppress
 
+import web_oddities
 import web_requests
 import web_sale
 import web_sites
-from cluster import PROGRAM, Cluster, at, expect, free_ports
-from web_driver import alone, in_threads, seats, skip
-from web_requests import MOST_CLIENTS, TOP
+from cases import Skipped, case
+from cluster import TOP, Cluster, at, expect, free_ports
+from web_driver import alone, in_threads, seats
+from web_requests import MOST_CLIENTS
 
 from rights_http import AnswerLost, SiteClient, SiteUnreachable, in_seconds
 from rights_site import Site
@@ -59,8 +54,7 @@ def pythons_clients():
 
 def curl():
     if shutil.which("curl") is None:
-        skip("curl: it is not here")
-        return
+        raise Skipped("curl is not here")
     with alone(tick=20) as sites:
         url = f"http://{sites.address()}"
 
@@ -80,8 +74,7 @@ def curl():
 
 def wrk():
     if shutil.which("wrk") is None:
-        skip("wrk: it is not here")
-        return
+        raise Skipped("wrk is not here")
     with alone() as sites:
         done = subprocess.run(["wrk", "-t2", "-c40", "-d1s", f"http://{sites.address()}/status"], capture_output=True, timeout=30)
         said = done.stdout.decode()
@@ -195,36 +188,27 @@ def many_clients_of_three_sites():
 
 # ---- all of them
 
+# Idle connections are looked at last, since they last a minute.
+IDLE = []
 
-def main():
-    words = argparse.ArgumentParser(description=__doc__.splitlines()[0])
-    words.add_argument("program", nargs="?", default=PROGRAM)
-    words.add_argument("--only", nargs="+", metavar="TEST")
-    given = words.parse_args()
-    Cluster.program = given.program
-    own = [
+
+def begin_idle():
+    if not IDLE:
+        IDLE.append(web_requests.Idle())
+        atexit.register(IDLE[0].sites.kill_all)
+
+
+def idle_connections():
+    begin_idle()
+    IDLE[0].idle_connections()
+
+
+CASES = [
+    case("Requests", web_requests.TESTS, begin_idle),
+    case("WebOddities", web_oddities.TESTS),
+    case("WebSites", web_sites.TESTS),
+    case("WebClients", [
         pythons_clients, curl, wrk, the_client_class, names_and_ipv6, a_lost_answer_is_not_asked_for_again,
-        examples_to_copy, many_clients_of_three_sites,
-    ]
-    tests = [*web_requests.TESTS, *web_sites.TESTS, *own]
-    # Idle connections are looked at last, since they last a minute.
-    idle = web_requests.Idle() if not given.only or "idle_connections" in given.only else None
-    if idle:
-        tests.append(idle.idle_connections)
-    chosen = [test for test in tests if not given.only or test.__name__ in given.only]
-    failed = 0
-    for test in chosen:
-        begun = time.monotonic()
-        try:
-            test()
-        except Exception as error:
-            failed += 1
-            print(f"{test.__name__}: FAILED: {type(error).__name__}: {error}", flush=True)
-        if given.only:
-            print(f"{test.__name__}: {time.monotonic() - begun:.2f} s", flush=True)
-    print(f"{len(chosen) - failed} passed, {failed} failed")
-    return 1 if failed else 0
-
-
-if __name__ == "__main__":
-    sys.exit(main())
+        examples_to_copy, many_clients_of_three_sites, idle_connections,
+    ]),
+]  # fmt: skip

@@ -1,41 +1,13 @@
-"""Bugs that another implementation of a running site may have, for tests of ./conformance: each changes the model."""
-
-from functools import partial
+"""Bugs that another implementation of a running site may have, for tests of ./conformance: what it decides at its desk,
+what it sends, and what it hears."""
 
 import desk_model
 import line_model
 import site_model
+from bug_kit import BUGS, closes_with, limit, replaces, sets
 from desk_model import Buffer, Peer, Refusal, Site
-from line_model import GREATEST, Answer, Beat, Move
+from line_model import GREATEST, Answer, Move
 from site_model import Outbox, RunningSite
-
-BUGS = {}
-
-
-def replaces(owner, name):
-    """Registers a function as a bug that takes the place of a method or property, which it is given as `right`."""
-    original = owner.__dict__[name]
-
-    def register(wrong):
-        def plant(limits):
-            if isinstance(original, property):
-                planted = property(lambda self: wrong(partial(original.fget, self), self))
-            else:
-                planted = lambda self, *values, **named: wrong(partial(original, self), self, *values, **named)  # noqa: E731
-            setattr(owner, name, planted)
-
-        BUGS[wrong.__name__] = plant
-        return wrong
-
-    return register
-
-
-def sets(owner, name, value):
-    def plant(limits):
-        setattr(owner, name, value)
-
-    return plant
-
 
 # ---- numbers
 
@@ -226,28 +198,20 @@ def closes_while_spends_wait(right, site, heir=None):
 
 @replaces(Site, "close")
 def closes_with_a_frontier_of_zeros(right, site, heir=None):
-    said = right(heir)
-    last = site.log.pop()
-    site.append(*last.moves[:-1], Move("K", (0,) * (len(site.peers) + 1)))
-    return said
+    zeros = Move("K", (0,) * (len(site.peers) + 1))
+    return closes_with(site, right, heir, lambda last: [*last.moves[:-1], zeros])
 
 
 @replaces(Site, "close")
 def closes_with_what_was_put(right, site, heir=None):
-    said = right(heir)
-    last = site.log.pop()
     known = {other: desk_model.end(peer.applied) + len(peer.buffer.kept) for other, peer in site.peers.items()}
     frontier = [known.get(o, 0) for o in range(1, len(site.peers) + 2)]
-    site.append(*last.moves[:-1], Move("K", tuple(frontier)))
-    return said
+    return closes_with(site, right, heir, lambda last: [*last.moves[:-1], Move("K", tuple(frontier))])
 
 
 @replaces(Site, "close")
 def closes_plainly(right, site, heir=None):
-    said = right(heir)
-    last = site.log.pop()
-    site.append(*last.moves[:-1], Move("C"))
-    return said
+    return closes_with(site, right, heir, lambda last: [*last.moves[:-1], Move("C")])
 
 
 @replaces(Site, "legacy")
@@ -745,10 +709,6 @@ BUGS["status_number_counts_entries"] = status_key("number", lambda site, values:
 
 
 # ---- connections
-
-
-def limit(name, value):
-    return lambda limits: setattr(limits, name, value)
 
 
 BUGS["a_first_line_has_a_minute"] = limit("hello_seconds", 60)

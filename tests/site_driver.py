@@ -21,6 +21,8 @@ SHOWN = 1000
 PATIENCE = 20
 # The state of a socket that tries to connect, as it stands in the system's table.
 TRYING = " 02 "
+# A site ends within some 4 seconds, whatever its peers do. A busy machine may need longer.
+END_SECONDS = 8
 # After so many seconds a process is killed, whatever it does.
 LIFE = 300
 
@@ -248,7 +250,8 @@ class Node:
         expected = self.model.reply(b"status")
         until = time.monotonic() + PATIENCE
         while (actual := self.site.ask("status").encode()) != expected:
-            if time.monotonic() > until:
+            # Another reply would be one too many to a command before.
+            if time.monotonic() > until or not actual.startswith(b"{"):
                 raise Difference("the status", expected, actual)
             time.sleep(0.001)
 
@@ -325,6 +328,31 @@ class Node:
                 return True
         return False
 
+    def fill_outboxes(self, commands, note=lambda *words: None):
+        """Gives commands while no peer answers an attempt to connect: of the lines for each one is at the attempt, and the
+        others wait. Then all hear again. Whether the first attempts lasted so long: where not, it is not known what was
+        lost."""
+        peers = list(self.peers.values())
+        note("a first tick")
+        attempts = self.begin_attempts(peers)
+        note("ticks of many entries")
+        try:
+            self.give_commands(commands)
+        except Difference:
+            if self.attempts(peers) == attempts:
+                raise
+            return False
+        if self.attempts(peers) != attempts:
+            return False
+        # Once a line left each outbox, the answer that shows all to be read finds room.
+        if self.new_attempts(peers, attempts, PATIENCE) is None:
+            raise Difference("no peer answers an attempt to connect", "one more attempt for each", "less")
+        for peer in peers:
+            note("peer", peer.number, "hears again")
+            self.restore(peer.number)
+            self.settle()
+        return True
+
     def begin_attempts(self, peers):
         """One line goes to each of these peers, none of which will answer the attempt to connect: the attempts, or None
         where not all were seen."""
@@ -360,7 +388,10 @@ class Node:
         if by_quit:
             self.site.process.stdin.write(b"quit\nissue 1\n")
         self.site.process.stdin.close()
+        begun = time.monotonic()
         status = self.site.process.wait(PATIENCE)
+        if time.monotonic() - begun > END_SECONDS:
+            raise Difference("the end", f"within {END_SECONDS} seconds", f"after {time.monotonic() - begun:.1f} seconds")
         said = self.site._unread + self.site.process.stdout.read()
         ended = [b"%d" % status, said, self.site.said().encode()]
         compare("the exit status, the standard output and error at the end", [b"0", b"", b""], ended)

@@ -22,6 +22,8 @@ NO_COMMANDS = [
     b"", b" ", b"issue", b"issue 01", b"issue -1", b"issue 1 ", b"issue  1", b"issue\t1", b"issue 1\r", b"ISSUE 1",
     b"issue 1 1", b"issue 18446744073709551616", b"give 0 1", b"give 17 1", b"give 2", b"spend 1", b"spend 1 2 3",
     b"tick", b"tick +1", b"outcome", b"status 1", b"close 0", b"close 17", b"close 2 3", b"quit 1", b"post 1 I:1",
+    b" status", b"status ", b"stat", b"issue +1", b"issue 1_0", b"issue 0x1", b"issue 1.0", b"issue 1\0", b"issue 1\x001",
+    b"issue 18446744073709551617", b"give 18 1", b"give +2 1", b"give 02 1", b"spend 1  2", b"tick ", b"close ", b"close 01",
     b"report", b"\xff\xfe", b"\x00", b"H 2", b"x" * (MOST_BYTES - 1), b"x" * MOST_BYTES,
     b"issue ".ljust(MOST_BYTES + 7, b"1"),
 ]  # fmt: skip

@@ -197,7 +197,3 @@ def in_threads(count, call):
         thread.join(60)
         if thread.is_alive():
             raise AssertionError("a client hangs")
-
-
-def skip(text):
-    print(f"skipped: {text}", flush=True)

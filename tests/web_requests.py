@@ -10,10 +10,9 @@ import threading
 import time
 from contextlib import ExitStack, suppress
 
-from cluster import expect, wait_for
+from cluster import TOP, expect, wait_for
 from web_driver import TEXT, alone, expect_served, in_threads, post, request, samples, seats
 
-TOP = os.path.dirname(os.path.dirname(os.path.abspath(__file__)))
 PAGE = os.path.join(TOP, "crates", "site_http", "src", "page.html")
 
 # So many connections a site has at a time.
@@ -452,7 +451,8 @@ def slow_senders():
 
 
 class Idle:
-    """Connections that say nothing more, from the start of all tests to their end: nobody waits for them before that."""
+    """Connections that say nothing more, or a byte in a while, from the start of all tests to their end: nobody waits for
+    them before that."""
 
     def __init__(self):
         self.sites = alone()
@@ -461,6 +461,9 @@ class Idle:
         self.clients[1].command("issue 1")
         self.clients[2].send(post("issue 1")[:-2])
         self.begun = time.monotonic()
+        self.slow = self.sites.client()
+        self.answer = None
+        threading.Thread(target=self.trickle, daemon=True).start()
         self.ends = [None] * 3
         self.threads = [threading.Thread(target=self.watch, args=(place,), daemon=True) for place in range(3)]
         for thread in self.threads:
@@ -474,15 +477,26 @@ class Idle:
                 pass
             self.ends[place] = time.monotonic() - self.begun
 
+    def trickle(self):
+        """Sends a head a byte at a time, for longer than a connection may say nothing."""
+        text = post("issue 1")
+        for byte in text[:-1]:
+            self.slow.send(bytes([byte]))
+            time.sleep((IDLE + 8) / len(text))
+        self.answer = self.slow.ask(text[-1:])
+
     def idle_connections(self):
         try:
+            wait_for("the slow one is answered", lambda: self.answer, IDLE + 30)
+            expect(self.answer.body, b"number 2\n", "a request that took longer than a minute")
+            self.slow.close()
             for thread in self.threads:
                 thread.join(IDLE + 15)
             for ended in self.ends:
                 if ended is None or not IDLE - 2 <= ended <= IDLE + 10:
                     raise AssertionError(f"idle connections ended after {self.ends} seconds")
             seats(self.sites, 1)
-            expect(self.sites[1].status()["issued"], 1)
+            expect(self.sites[1].status()["issued"], 2)
         finally:
             self.sites.kill_all()
 

@@ -9,12 +9,11 @@ import tempfile
 import time
 from contextlib import ExitStack, suppress
 
-from cluster import Cluster, at, expect, free_ports, sees, wait_for
-from web_driver import Client, WebCluster, alone, expect_served, post, request, samples, seats, skip
+from cluster import TOP, Cluster, at, expect, free_ports, sees, wait_for
+from web_driver import Client, WebCluster, alone, expect_served, post, request, samples, seats
 
 from rights_http import in_seconds
 
-TOP = os.path.dirname(os.path.dirname(os.path.abspath(__file__)))
 
 # ---- waiting
 
@@ -455,9 +454,6 @@ def the_report_adds_up():
 def a_service_that_is_stopped():
     """The shell part of the unit: SIGTERM to the whole group ends the site by the end of its input."""
     wrapper = os.path.join(TOP, "systemd", "rights-site-run")
-    if not os.path.exists(wrapper):
-        skip("a_service_that_is_stopped: the wrapper is not there")
-        return
     with tempfile.TemporaryDirectory() as room:
         own, peer, web = free_ports(3)
         stay = {**os.environ, "RIGHTS_SITE": Cluster.program, "RIGHTS_STATE": room, "RIGHTS_SITES": "2", "RIGHTS_LISTEN": at(own),

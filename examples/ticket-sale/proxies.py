@@ -2,6 +2,7 @@
 
 import socket
 import threading
+from contextlib import suppress
 
 
 class Witness:
@@ -68,32 +69,54 @@ def gifts_and_backs(moves):
 
 
 class Proxy:
-    """Passes lines on from one site to another. While it is cut, all are lost but the first of a connection."""
+    """Passes lines on from one site to another, but for those that `passes` says no to."""
 
-    def __init__(self, target, witness):
+    def __init__(self, target):
         self.target = target
-        self.witness = witness
-        self.is_cut = False
-        self.lost = 0
         self.server = socket.create_server(("127.0.0.1", 0))
         self.address = f"127.0.0.1:{self.server.getsockname()[1]}"
         threading.Thread(target=self.accept, daemon=True).start()
 
+    def passes(self, line):
+        return True
+
     def accept(self):
-        while True:
-            stream, _ = self.server.accept()
-            threading.Thread(target=self.carry, args=(stream,), daemon=True).start()
+        # Once its door is closed, it takes no connection more.
+        with suppress(OSError):
+            while True:
+                stream, _ = self.server.accept()
+                threading.Thread(target=self.carry, args=(stream,), daemon=True).start()
 
     def carry(self, stream):
         host, port = self.target.split(":")
-        try:
-            with stream, socket.create_connection((host, int(port))) as out:
-                out.setsockopt(socket.IPPROTO_TCP, socket.TCP_NODELAY, 1)
-                for line in stream.makefile("rb"):
-                    self.witness.see(line)
-                    if self.is_cut and not line.startswith(b"H"):
-                        self.lost += 1
-                    else:
-                        out.sendall(line)
-        except OSError:
-            pass  # a site ended: its peer connects anew
+        # Where one of the two has ended, the other sees its connection end.
+        with stream, suppress(OSError), socket.create_connection((host, int(port))) as out:
+            out.setsockopt(socket.IPPROTO_TCP, socket.TCP_NODELAY, 1)
+            for line in stream.makefile("rb"):
+                if self.passes(line):
+                    out.sendall(line)
+
+
+class Link(Proxy):
+    """A link of the sale. While it is cut, all lines are lost but the first of a connection."""
+
+    def __init__(self, target, witness):
+        self.witness = witness
+        self.is_cut = False
+        self.lost = 0
+        super().__init__(target)
+
+    def passes(self, line):
+        self.witness.see(line)
+        is_lost = self.is_cut and not line.startswith(b"H")
+        self.lost += is_lost
+        return not is_lost
+
+
+def free_ports(count):
+    """Ports that nobody listened on a moment ago."""
+    sockets = [socket.create_server(("127.0.0.1", 0)) for _ in range(count)]
+    ports = [each.getsockname()[1] for each in sockets]
+    for each in sockets:
+        each.close()
+    return ports

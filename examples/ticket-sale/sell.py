@@ -12,7 +12,6 @@ import argparse
 import os
 import random
 import re
-import socket
 import subprocess
 import sys
 import tempfile
@@ -23,7 +22,7 @@ HERE = os.path.dirname(os.path.abspath(__file__))
 sys.path.insert(0, os.path.join(HERE, "..", "..", "python"))
 
 from picture import draw  # noqa: E402
-from proxies import Proxy, Witness  # noqa: E402
+from proxies import Link, Witness, free_ports  # noqa: E402
 from rights_http import AnswerLost, SiteClient, SiteUnreachable  # noqa: E402
 from rights_site import PROGRAM, Site, SiteEnded  # noqa: E402
 
@@ -43,14 +42,6 @@ ENDED = re.compile(r"rights-site: ended: issued (\d+) spent (\d+) .*; told issue
 
 class WrongSum(Exception):
     """Something does not add up."""
-
-
-def free_ports(count):
-    sockets = [socket.create_server(("127.0.0.1", 0)) for _ in range(count)]
-    ports = [each.getsockname()[1] for each in sockets]
-    for each in sockets:
-        each.close()
-    return ports
 
 
 class Office:
@@ -143,7 +134,7 @@ class Sale:
         self.seed = seed
         self.witness = Witness()
         self.proxies = {
-            (site, peer): Proxy(f"127.0.0.1:{ports[peer]}", self.witness)
+            (site, peer): Link(f"127.0.0.1:{ports[peer]}", self.witness)
             for site in SITES for peer in SITES if site != peer
         }
         self.folder = tempfile.TemporaryDirectory()

@@ -9,7 +9,7 @@ use Rattle.rights_types.proofs.Chains.{chain_right, end-push}
 use Rattle.rights_types.proofs.Sums.{moves_of-nil, moves_of-push, to-append, to-cons, to-nil}
 use Rattle.rights_protocol.specs.Retiring.{numbers_in}
 use Rattle.rights_book.specs.Books.{BookValue, peer}
-use Rattle.site_core.specs.Ledgers.{owed_by, TakesBackIf}
+use Rattle.site_core.specs.Ledgers.{owed_by, TakingLeaves, ApplyKeeps}
 use Rattle.site_core.specs.Desks.{DeskValue}
 use Rattle.site_core.specs.Calls.{DeskApplies}
 use Rattle.thread_parts.specs.declared.item.Item.TheVariants.{Entry, End}
@@ -59,12 +59,23 @@ module _ {G A : Type 0} where
       let last = chain_right chain.0 false 0 c.applied (e ∷ []) all in
       last.2 ∙ sym c.number
 
+  -- .. in the log of its own origin
+  log_follows : (id : DeskId) (a : ApplierValue G A) (e : EntryValue) → (c : IsCounted id a) → a.hand ≡ Some e → a.dropping ≡ false → e.origin ≡ a.origin
+      → IsChain a.origin (c.applied ++ e ∷ [])
+  log_follows id a e c is free same =
+      let chain = c.chain in
+      let es = same_entries (c.applied ++ e ∷ []) chain.1 chain.2 (sym (taken_with id a e c is free) ∙ chain.4) in
+      let all : IsChain chain.0 (c.applied ++ e ∷ []) = subst (IsChain chain.0) (sym es) chain.3 in
+      let last = chain_right chain.0 false 0 c.applied (e ∷ []) all in
+      subst (λ o. IsChain o (c.applied ++ e ∷ [])) (sym last.1 ∙ same) all
+
   -- it was applied
   pub counted_apply : (id : DeskId) (a : ApplierValue G A) (e : EntryValue) (n r : ℕ) → IsCounted id a → a.hand ≡ Some e → a.dropping ≡ false
-      → n ≡ own e → r ≡ a.received + to id.site e.moves → IsCounted id (record a { hand = None; number = n; received = r })
-  counted_apply id a e n r c is free last gift = record {
+      → e.origin ≡ a.origin → n ≡ own e → r ≡ a.received + to id.site e.moves → IsCounted id (record a { hand = None; number = n; received = r })
+  counted_apply id a e n r c is free same last gift = record {
     applied = c.applied ++ e ∷ [];
     dropped = [];
+    log = log_follows id a e c is free same;
     taken =
         let now : List EntryValue = c.applied ++ e ∷ [] in
         taken_with id a e c is free ∙ ap items_of (sym (append-nil (now ++ []) ∙ append-nil now)) ∙ sym (append-nil (items_of ((now ++ []) ++ [])))
@@ -84,6 +95,7 @@ module _ {G A : Type 0} where
   counted_drop id a e c is = record {
     applied = c.applied;
     dropped = c.dropped ++ e ∷ [];
+    log = c.log;
     taken =
         c.taken ∙ ap (λ h. items_of (c.applied ++ c.dropped ++ in_hand h) ++ end_if a.ended) is
         ∙ ap (λ l. items_of l ++ end_if a.ended) (append_assoc c.applied c.dropped (e ∷ []) ∙ sym (append-nil (c.applied ++ (c.dropped ++ e ∷ []))));
@@ -108,6 +120,7 @@ module _ {G A : Type 0} where
   counted_take id a e o c none free more chain = record {
     applied = c.applied;
     dropped = c.dropped;
+    log = c.log;
     taken =
         more ∙ ap (λ l. l ++ Entry e ∷ []) (empty_taken id a c none free) ∙ sym (items_of-push (c.applied ++ c.dropped) e)
         ∙ sym (append-nil (items_of (c.applied ++ c.dropped ++ e ∷ [])))
@@ -125,6 +138,7 @@ module _ {G A : Type 0} where
   counted_end id a o c none free more chain = record {
     applied = c.applied;
     dropped = c.dropped;
+    log = c.log;
     taken =
         more ∙ ap (λ l. l ++ End ∷ []) (empty_taken id a c none free)
         ∙ ap (λ l. items_of l ++ End ∷ []) (sym (append-nil (c.applied ++ c.dropped)))
@@ -206,6 +220,7 @@ module _ {G A : Type 0} where
   counted_new id a none empty free n r = record {
     applied = [];
     dropped = [];
+    log = tt;
     taken = none ∙ sym (λ i. items_of {A = A} ([] ++ [] ++ in_hand (empty i)) ++ end_if (free i));
     chain = subst IsItemChain (sym none) empty_chain;
     none_dropped = λ _. refl;
@@ -240,23 +255,24 @@ nothing_given : (j o n : ℕ) → to j (TakeBack o n ∷ []) ≡ 0
 nothing_given j o n = omega (arith, to-cons j (TakeBack o n) [], to-nil j)
 
 -- what was given and received is as before what a K takes back
-same_between : (b : Bool) (old mid : BookValue) (o n : ℕ) → TakesBackIf b old o n mid
+same_between : (b : Bool) (old mid : BookValue) (o n : ℕ) → TakingLeaves b old o n mid
     → ((j : ℕ) → (peer mid j).given ≡ (peer old j).given) × ((j : ℕ) → (peer mid j).received ≡ (peer old j).received)
 same_between true old mid o n same = (λ j. ap (λ (x : BookValue). (peer x j).given) same, λ j. ap (λ (x : BookValue). (peer x j).received) same)
 same_between false old mid o n taken =
-    (λ j. omega (arith, taken.leaves.gives_to j, nothing_given j o n), taken.leaves.same_received_from)
+    (λ j. omega (arith, taken.gives_to j, nothing_given j o n), taken.same_received_from)
 
 -- the desk's book moved on by the entry
-pub moves_on : (id : DeskId) (k : KeptValue) (d : DeskValue) (o : ℕ) (e : EntryValue) → IsKept id k → DeskApplies k.desk o e d
-    → e.prev ≡ (peer k.desk.ledger.book o).log.end → MovesOn id.site k.desk o e d
-moves_on id k d o e is applies next =
+pub moves_on : (id : DeskId) (k : KeptValue) (d : DeskValue) (o : ℕ) (e : EntryValue) → IsKept id k → (h : DeskApplies k.desk o e d)
+    → ApplyKeeps k.desk.ledger o e h.entry.between d.ledger → e.prev ≡ (peer k.desk.ledger.book o).log.end → MovesOn id.site k.desk o e d
+moves_on id k d o e is applies keeps next =
     let a = applies.entry in
-    let l = a.leaves in
+    let l = keeps.leaves in
     let owed = owed_by k.desk.ledger o e in
-    let t = tallied_taking (owed == 0) k.desk.ledger.book a.between o owed k.issued.sum k.spent.sum k.number.sum k.received.sum a.taken is.tallied in
-    let s = same_between (owed == 0) k.desk.ledger.book a.between o owed a.taken in
+    let t = tallied_taking (owed == 0) k.desk.ledger.book a.between o owed k.issued.sum k.spent.sum k.number.sum k.received.sum keeps.taken is.tallied in
+    let s = same_between (owed == 0) k.desk.ledger.book a.between o owed keeps.taken in
     record {
       applies = applies;
+      keeps = keeps;
       from = sym next;
       up_to = l.applied;
       received = l.received_from ∙ ap (λ n. n + to a.between.me e.moves) (s.1 o) ∙ ap (λ m. (peer k.desk.ledger.book o).received + to m e.moves) (t.1 ∙ is.same_me);

@@ -1,32 +1,35 @@
 -- The invariant of the lock's value is kept by each change of its desk.
-use Rattle.std.proofs.Common.{◌≡◌, ℕ, ◌+◌, ◌-◌, ◌≤◌, ◌<◌, inl, inr, Bool, true, false, ◌==◌, Option, Some, None, List, [], ◌∷◌, ◌++◌, length, get_or, set, cond, refl, sym, ap, ◌∙◌, subst, arith}
-use Rattle.std.proofs.lemmas.Bool.{cases_eq}
+use Rattle.std.proofs.Common.{◌≡◌, ℕ, ◌+◌, ◌-◌, ◌≤◌, ◌<◌, inl, inr, Bool, true, false, ◌==◌, Option, Some, None, Result, Ok, Err, OnOk, OnErr, List, [], ◌∷◌, ◌++◌, length, get_or, set, cond, refl, sym, ap, ◌∙◌, subst, arith}
+use Rattle.std.proofs.lemmas.Bool.{cases_eq, eq-eqb, ne_eqb}
 use Rattle.std.proofs.lemmas.List.{length-set, get_or_default}
 use Rattle.std.proofs.lemmas.List.Sums.{sum_by-set, count_by-le-length}
-use Rattle.rights_types.specs.Entries.{EntryValue, own}
+use Rattle.rights_types.specs.Entries.{EntryValue, own, IsEntry}
 use Rattle.rights_types.specs.Rights.{issued, spent, to, sum_sites}
-use Rattle.rights_types.specs.Messages.{AskValue}
+use Rattle.rights_types.specs.Messages.{AskValue, MessageValue}
+use Rattle.rights_protocol.specs.Kept.{SiteKept}
 use Rattle.rights_types.specs.declared.moves.Move.{Move}
 use Rattle.rights_types.specs.declared.moves.Move.TheVariants.{Issue, Spend, Grant, Give, CloseAt, TakeBack}
 use Rattle.rights_types.specs.declared.limits.TheConstants.{MAX_NUMBER}
-use Rattle.rights_types.specs.Chains.{moves_of}
+use Rattle.rights_types.specs.Chains.{moves_of, IsChain, AddsEntry}
+use Rattle.rights_types.proofs.Chains.{chain_push}
 use Rattle.rights_types.specs.Places.{at_site}
 use Rattle.rights_types.proofs.Places.{at_site-index}
 use Rattle.rights_types.proofs.SiteSums.{sum_same, sum_zero, sum_risen, sum_bound}
 use Rattle.rights_types.proofs.Sums.{moves_of-nil, issued-cons, issued-nil, spent-cons, spent-nil, to-nil}
-use Rattle.origin_log.specs.Logs.{LogValue, with_entry}
+use Rattle.origin_log.specs.Logs.{LogValue, with_entry, published, all_published}
 use Rattle.rights_book.specs.Books.{BookValue, sites, peer, applied_by, held_by, received_by}
 use Rattle.rights_book.specs.StandsFor.{StandsForApplied}
 use Rattle.rights_book.specs.Leaves.{OwnLeaves, ApplyLeaves}
 use Rattle.rights_book.specs.declared.account.Account.{Account}
 use Rattle.transfer_manager.specs.declared.answer.AskAnswer.{AskAnswer}
 use Rattle.transfer_manager.specs.declared.answer.AskAnswer.TheVariants.{Grant as Granted, Deny, RepeatedDeny, Repeated, OldAsk}
-use Rattle.site_core.specs.Calls.{DeskAnswers}
-use Rattle.site_core.specs.Ledgers.{LedgerValue, owed_by, frontier_of, TakesBackIf, AppliesEntry, closing_by}
+use Rattle.site_core.specs.Calls.{DeskAnswers, AnswerKeeps, next_push, published_if, after_publish, after_skip}
+use Rattle.site_core.specs.Ledgers.{LedgerValue, HasApplied, SameApplied, MoreApplied, owed_by, frontier_of, TakingLeaves, AppliesEntry, ApplyKeeps, closing_by}
+use Rattle.site_core.proofs.Protocol.{none_applied}
 use Rattle.site_core.specs.Desks.{DeskValue}
 use Rattle.thread_parts.specs.Tallies.{TallyValue}
 use Rattle.apply_lanes.specs.Names.{DeskId, IsUnused}
-use Rattle.apply_lanes.specs.Kepts.{KeptValue, IsKept, IsTallied, IsPortioned, admitted_count, raised}
+use Rattle.apply_lanes.specs.Kepts.{KeptValue, IsKept, KeepsProtocol, IsTallied, IsPortioned, admitted_count, raised}
 
 -- ---- tallies
 
@@ -158,16 +161,21 @@ nothing_closing b (Some j) = closes_without (held_by b == 0) j (held_by b) (fron
 -- whatever the desk wrote and applied, as long as the tallies follow its book
 kept_by : (id : DeskId) (k : KeptValue) (d : DeskValue) (i s n r : TallyValue) → IsKept id k → d.ledger.log.site ≡ k.desk.ledger.log.site
     → d.ledger.book.me ≡ k.desk.ledger.book.me → sites d.ledger.book ≡ sites k.desk.ledger.book → IsTallied d.ledger.book i.sum s.sum n.sum r.sum
-    → SamePortions k.issued i → SamePortions k.spent s → SamePortions k.number n → SamePortions k.received r
+    → SamePortions k.issued i → SamePortions k.spent s → SamePortions k.number n → SamePortions k.received r → KeepsProtocol d.ledger
     → IsKept id (record k { desk = d; issued = i; spent = s; number = n; received = r })
-kept_by id k d i s n r is site me count tallied a b c e = record {
+kept_by id k d i s n r is site me count tallied a b c e protocol = record {
   site = site ∙ is.site;
   same_me = me ∙ is.same_me;
   same_sites = count ∙ is.same_sites;
   few = is.few;
   tallied = tallied;
   portioned = portioned k d i s n r is.portioned a b c e;
+  protocol = protocol;
 }
+
+-- what was applied is so still
+still_applied : (l m : LedgerValue) → KeepsProtocol l → SameApplied l m → KeepsProtocol m
+still_applied l m h same = (h.0, same.all h.0 h.1)
 
 all_same : (t : TallyValue) → SamePortions t t
 all_same t = record { left = refl; returned = refl }
@@ -178,50 +186,103 @@ same_ledger id k d is same =
     kept_by id k d k.issued k.spent k.number k.received is (ap (λ (l : LedgerValue). l.log.site) same) (ap (λ (l : LedgerValue). l.book.me) same)
     (ap (λ (l : LedgerValue). sites l.book) same)
     (subst (λ (l : LedgerValue). IsTallied l.book k.issued.sum k.spent.sum k.number.sum k.received.sum) (sym same) is.tallied) (all_same k.issued)
-    (all_same k.spent) (all_same k.number) (all_same k.received)
+    (all_same k.spent) (all_same k.number) (all_same k.received) (subst KeepsProtocol (sym same) is.protocol)
+
+-- the log has other cursors, and the same entries
+same_entries : (id : DeskId) (k : KeptValue) (log : LogValue) → IsKept id k → log.site ≡ k.desk.ledger.log.site → log.entries ≡ k.desk.ledger.log.entries
+    → IsKept id (record k { desk = record k.desk { ledger = record k.desk.ledger { log = log } } })
+same_entries id k log is site entries =
+    let h : HasApplied is.protocol.0 k.desk.ledger = is.protocol.1 in
+    let kept = subst (λ (x : ℕ × List EntryValue). SiteKept (sites k.desk.ledger.book) x.0 x.1 is.protocol.0) (λ i. (sym site i, sym entries i)) h.kept in
+    kept_by id k (record k.desk { ledger = record k.desk.ledger { log = log } }) k.issued k.spent k.number k.received is site refl refl is.tallied
+    (all_same k.issued) (all_same k.spent) (all_same k.number) (all_same k.received) (is.protocol.0, record { in_book = h.in_book; kept = kept })
+
+-- entries were published to a peer
+published_kept : (id : DeskId) (k : KeptValue) (peer : ℕ) (m : Option MessageValue) → IsKept id k
+    → IsKept id (record k { desk = record k.desk { ledger = record k.desk.ledger { log = published_if k.desk.ledger.log peer m } } })
+published_kept id k peer None is = is
+published_kept id k peer (Some m) is = same_entries id k (published k.desk.ledger.log peer) is refl refl
+
+pub kept_publish : {X E : Type 0} (id : DeskId) (k : KeptValue) (d : DeskValue) (peer : ℕ) (r : Result X E) → IsKept id k
+    → OnOk r (d ≡ after_publish k.desk peer) → OnErr r (d ≡ k.desk) → IsKept id (record k { desk = d })
+kept_publish id k d peer (Ok x) is ok err =
+    subst (λ (y : DeskValue). IsKept id (record k { desk = y })) (sym ok) (published_kept id k peer (next_push k.desk.ledger.log peer) is)
+kept_publish id k d peer (Err e) is ok err = subst (λ (y : DeskValue). IsKept id (record k { desk = y })) (sym err) is
+
+pub kept_skip : (id : DeskId) (k : KeptValue) (d : DeskValue) (peer : ℕ) → IsKept id k → d ≡ after_skip k.desk peer → IsKept id (record k { desk = d })
+kept_skip id k d peer is same =
+    subst (λ (y : DeskValue). IsKept id (record k { desk = y })) (sym same) (same_entries id k (all_published k.desk.ledger.log peer) is refl refl)
 
 -- the desk wrote an entry, by which so much was issued and spent
 pub kept_write : (id : DeskId) (k : KeptValue) (d : DeskValue) (ms : List Move) (a b : ℕ) (i s : TallyValue) → IsKept id k
-    → d.ledger.log ≡ with_entry k.desk.ledger.log ms → OwnLeaves k.desk.ledger.book ms d.ledger.book → issued ms ≡ a → spent ms ≡ b
-    → i ≡ raised k.issued a → s ≡ raised k.spent b → IsKept id (record k { desk = d; issued = i; spent = s })
-kept_write id k d ms a b i s is log l ia sb more used =
+    → d.ledger.log ≡ with_entry k.desk.ledger.log ms → OwnLeaves k.desk.ledger.book ms d.ledger.book → SameApplied k.desk.ledger d.ledger
+    → issued ms ≡ a → spent ms ≡ b → i ≡ raised k.issued a → s ≡ raised k.spent b → IsKept id (record k { desk = d; issued = i; spent = s })
+kept_write id k d ms a b i s is log l same ia sb more used =
     kept_by id k d i s k.number k.received is (ap (λ (x : LogValue). x.site) log) l.same_me l.same_sites
     (tallied_write k.desk.ledger.book d.ledger.book ms k.issued.sum k.spent.sum k.number.sum k.received.sum i.sum s.sum is.tallied l
     (omega (arith, raised_sum k.issued i a more, ia)) (omega (arith, raised_sum k.spent s b used, sb)))
     (raised_portions k.issued i a more) (raised_portions k.spent s b used) (all_same k.number) (all_same k.received)
+    (still_applied k.desk.ledger d.ledger is.protocol same)
 
 -- the book between what a K takes back and the K itself
-pub tallied_taking : (c : Bool) (b m : BookValue) (o x i s n r : ℕ) → TakesBackIf c b o x m → IsTallied b i s n r
+pub tallied_taking : (c : Bool) (b m : BookValue) (o x i s n r : ℕ) → TakingLeaves c b o x m → IsTallied b i s n r
     → IsTallied m i s n r × (m.me ≡ b.me) × (sites m ≡ sites b) × ((k : ℕ) → (peer m k).log ≡ (peer b k).log)
 tallied_taking true b m o x i s n r same is =
     (subst (λ (y : BookValue). IsTallied y i s n r) (sym same) is, ap (λ (y : BookValue). y.me) same, ap (λ (y : BookValue). sites y) same, λ k. ap (λ (y : BookValue). (peer y k).log) same)
-tallied_taking false b m o x i s n r taken is =
-    let l = taken.leaves in
+tallied_taking false b m o x i s n r l is =
     (tallied_write b m (TakeBack o x ∷ []) i s n r i s is l (omega (arith, issued-take_back o x)) (omega (arith, spent-take_back o x)), l.same_me, l.same_sites, l.same_applied)
+
+-- ---- what was applied
+
+-- these lists, with one more entry of o
+abbrev pub with_one : (ℕ → List EntryValue) → ℕ → EntryValue → ℕ → List EntryValue
+with_one applied o e = λ k. cond (k == o) (applied o ++ e ∷ []) (applied k)
+
+pub adds_one : (applied : ℕ → List EntryValue) (o : ℕ) (e : EntryValue) → AddsEntry applied o e (with_one applied o e)
+adds_one applied o e = record {
+  there = ap (λ b. cond b (applied o ++ e ∷ []) (applied o)) (eq-eqb o o refl);
+  elsewhere = λ k apart. ap (λ b. cond b (applied o ++ e ∷ []) (applied k)) (ne_eqb k o apart);
+}
+
+-- the next entry of o goes on the chain of those that were applied
+pub next_applied : (l : LedgerValue) (applied : ℕ → List EntryValue) (o : ℕ) (e : EntryValue) → HasApplied applied l → (peer l.book o).log.closed ≡ false
+    → e.prev ≡ (peer l.book o).log.end → e.origin ≡ o → IsEntry e → IsChain o (applied o ++ e ∷ [])
+next_applied l applied o e h live next of is =
+    let sums = h.in_book.sums o in
+    chain_push o false 0 (applied o) e (h.kept.chains o) (sym (ap (λ (a : Account). a.closed) sums) ∙ live) of (next ∙ ap (λ (a : Account). a.end) sums) is
+
+-- .. and it was applied
+pub has_one : (l m : LedgerValue) (applied : ℕ → List EntryValue) (o : ℕ) (e : EntryValue) → HasApplied applied l → (peer l.book o).log.closed ≡ false
+    → e.prev ≡ (peer l.book o).log.end → e.origin ≡ o → IsEntry e → MoreApplied l o e m → HasApplied (with_one applied o e) m
+has_one l m applied o e h live next of is more =
+    let adds = adds_one applied o e in
+    more.all applied (with_one applied o e) h adds (subst (IsChain o) (sym adds.there) (next_applied l applied o e h live next of is))
 
 -- the desk applied the next entry of site o
 pub kept_apply : (id : DeskId) (k : KeptValue) (d : DeskValue) (o : ℕ) (e : EntryValue) (n r : TallyValue) → IsKept id k
-    → AppliesEntry k.desk.ledger o e d.ledger → 1 ≤ o → o ≤ id.sites → e.prev ≡ (peer k.desk.ledger.book o).log.end → own e ≤ MAX_NUMBER
+    → (a : AppliesEntry k.desk.ledger o e d.ledger) → ApplyKeeps k.desk.ledger o e a.between d.ledger → 1 ≤ o → o ≤ id.sites
+    → e.prev ≡ (peer k.desk.ledger.book o).log.end → (peer k.desk.ledger.book o).log.closed ≡ false → e.origin ≡ o → IsEntry e
     → n ≡ raised k.number (length e.moves) → r ≡ raised k.received (to id.site e.moves) → IsKept id (record k { desk = d; number = n; received = r })
-kept_apply id k d o e n r is applies low high next small more gift =
+kept_apply id k d o e n r is applies keeps low high next live of entry more gift =
     let old = k.desk.ledger.book in
     let mid = applies.between in
     let new = d.ledger.book in
-    let l = applies.leaves in
-    let t = tallied_taking (owed_by k.desk.ledger o e == 0) old mid o (owed_by k.desk.ledger o e) k.issued.sum k.spent.sum k.number.sum k.received.sum applies.taken is.tallied in
+    let l = keeps.leaves in
+    let t = tallied_taking (owed_by k.desk.ledger o e == 0) old mid o (owed_by k.desk.ledger o e) k.issued.sum k.spent.sum k.number.sum k.received.sum keeps.taken is.tallied in
     kept_by id k d k.issued k.spent n r is (ap (λ (log : LogValue). log.site) applies.log) (l.same_me ∙ t.1) (l.same_sites ∙ t.2)
     (tallied_apply mid new o e k.issued.sum k.spent.sum k.number.sum k.received.sum n.sum r.sum t.0 l low
-    (omega (arith, high, t.2, is.same_sites)) (next ∙ ap (λ (x : Account). x.end) (sym (t.3 o))) small (raised_sum k.number n (length e.moves) more)
+    (omega (arith, high, t.2, is.same_sites)) (next ∙ ap (λ (x : Account). x.end) (sym (t.3 o))) entry.number (raised_sum k.number n (length e.moves) more)
     (raised_sum k.received r (to id.site e.moves) gift ∙ ap (λ s. k.received.sum + to s e.moves) (sym (t.1 ∙ is.same_me))))
     (all_same k.issued) (all_same k.spent) (raised_portions k.number n (length e.moves) more) (raised_portions k.received r (to id.site e.moves) gift)
+    (with_one is.protocol.0 o e, has_one k.desk.ledger d.ledger is.protocol.0 o e is.protocol.1 live next of entry keeps.applied)
 
 -- what the desk received by that entry
-pub gift_is : (id : DeskId) (k : KeptValue) (d : DeskValue) (o : ℕ) (e : EntryValue) → IsKept id k → AppliesEntry k.desk.ledger o e d.ledger
-    → received_by d.ledger.book ≡ received_by k.desk.ledger.book + to id.site e.moves
-gift_is id k d o e is applies =
+pub gift_is : (id : DeskId) (k : KeptValue) (d : DeskValue) (o : ℕ) (e : EntryValue) → IsKept id k → (a : AppliesEntry k.desk.ledger o e d.ledger)
+    → ApplyKeeps k.desk.ledger o e a.between d.ledger → received_by d.ledger.book ≡ received_by k.desk.ledger.book + to id.site e.moves
+gift_is id k d o e is applies keeps =
     let mid = applies.between in
-    let t = tallied_taking (owed_by k.desk.ledger o e == 0) k.desk.ledger.book mid o (owed_by k.desk.ledger o e) k.issued.sum k.spent.sum k.number.sum k.received.sum applies.taken is.tallied in
-    applies.leaves.receives ∙ ap (λ n. n + to mid.me e.moves) (sym t.0.received_is ∙ is.tallied.received_is)
+    let t = tallied_taking (owed_by k.desk.ledger o e == 0) k.desk.ledger.book mid o (owed_by k.desk.ledger o e) k.issued.sum k.spent.sum k.number.sum k.received.sum keeps.taken is.tallied in
+    keeps.leaves.receives ∙ ap (λ n. n + to mid.me e.moves) (sym t.0.received_is ∙ is.tallied.received_is)
     ∙ ap (λ s. received_by k.desk.ledger.book + to s e.moves) (t.1 ∙ is.same_me)
 
 -- ---- admitting
@@ -270,6 +331,7 @@ kept_admit id k i n r is within free of_number less of_received fewer =
         no_number_back = ap (λ (x : TallyValue). x.returned) of_number ∙ p.no_number_back;
         no_received_back = ap (λ (x : TallyValue). x.returned) of_received ∙ p.no_received_back;
       };
+      protocol = is.protocol;
     }
 
 -- a portion is left for each site that was not admitted
@@ -308,8 +370,8 @@ nothing_tallied d is i s r =
 pub opens : (id : DeskId) (d : DeskValue) (i s n r : TallyValue) (bs : List Bool) → id.site ≡ d.ledger.log.site → id.sites ≡ sites d.ledger.book
     → d.ledger.book.me ≡ d.ledger.log.site → sites d.ledger.book ≤ 16 → IsTallied d.ledger.book 0 0 0 0 → i ≡ record { sum = 0; left = 65; returned = 0 }
     → s ≡ record { sum = 0; left = 65; returned = 0 } → n ≡ record { sum = 0; left = 16; returned = 0 } → r ≡ record { sum = 0; left = 16; returned = 0 }
-    → length bs ≡ 16 → admitted_count bs ≡ 0 → IsKept id (record { desk = d; issued = i; spent = s; number = n; received = r; admitted = bs; clock_given = false })
-opens id d i s n r bs site count me few tallied hi hs hn hr places none = record {
+    → length bs ≡ 16 → admitted_count bs ≡ 0 → IsUnused d → IsKept id (record { desk = d; issued = i; spent = s; number = n; received = r; admitted = bs; clock_given = false })
+opens id d i s n r bs site count me few tallied hi hs hn hr places none unused = record {
   site = sym site;
   same_me = me ∙ sym site;
   same_sites = sym count;
@@ -333,17 +395,18 @@ opens id d i s n r bs site count me few tallied hi hs hn hr places none = record
     no_number_back = ap (λ (t : TallyValue). t.returned) hn;
     no_received_back = ap (λ (t : TallyValue). t.returned) hr;
   };
+  protocol = (λ o. [], none_applied d.ledger unused.nothing_written unused.nothing_applied);
 }
 
 -- ---- asks
 
 -- the desk answered an ask
 pub kept_answer : (id : DeskId) (k : KeptValue) (d : DeskValue) (ask : AskValue) (answer : AskAnswer) (number : Option ℕ) → IsKept id k
-    → DeskAnswers k.desk ask answer number d → IsKept id (record k { desk = d })
-kept_answer id k d ask (Granted n) number is a =
-    kept_write id k d (Grant ask.asker n ask.ask ∷ []) 0 0 k.issued k.spent is a.0.log a.0.leaves
+    → DeskAnswers k.desk ask answer number d → AnswerKeeps k.desk ask answer d → IsKept id (record k { desk = d })
+kept_answer id k d ask (Granted n) number is a keeps =
+    kept_write id k d (Grant ask.asker n ask.ask ∷ []) 0 0 k.issued k.spent is a.0.log keeps.leaves keeps.applied
     (issued-grant ask.asker n ask.ask) (spent-grant ask.asker n ask.ask) (raised_none k.issued) (raised_none k.spent)
-kept_answer id k d ask Deny number is a = same_ledger id k d is (ap (λ (x : DeskValue). x.ledger) a.1)
-kept_answer id k d ask RepeatedDeny number is a = same_ledger id k d is (ap (λ (x : DeskValue). x.ledger) a.1)
-kept_answer id k d ask Repeated number is a = same_ledger id k d is (ap (λ (x : DeskValue). x.ledger) a.1)
-kept_answer id k d ask OldAsk number is a = same_ledger id k d is (ap (λ (x : DeskValue). x.ledger) a.1)
+kept_answer id k d ask Deny number is a keeps = same_ledger id k d is (ap (λ (x : DeskValue). x.ledger) a.1)
+kept_answer id k d ask RepeatedDeny number is a keeps = same_ledger id k d is (ap (λ (x : DeskValue). x.ledger) a.1)
+kept_answer id k d ask Repeated number is a keeps = same_ledger id k d is (ap (λ (x : DeskValue). x.ledger) a.1)
+kept_answer id k d ask OldAsk number is a keeps = same_ledger id k d is (ap (λ (x : DeskValue). x.ledger) a.1)

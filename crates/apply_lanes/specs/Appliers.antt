@@ -1,11 +1,11 @@
 -- An applier: one thread's part in applying one log at a shared desk.
 use Rattle.std.specs.Prelude.{◌≡◌, ◌≢◌, ℕ, zero, suc, ◌+◌, ◌≤◌, Bool, true, false, not, ◌==◌, ◌||◌, List, [], ◌∷◌, ◌++◌, length, Option, Some, None, Result, Ok, Err, if◌then◌else◌}
 use Rattle.rights_types.specs.Entries.{EntryValue, own}
-use Rattle.rights_types.specs.Chains.{end, moves_of}
+use Rattle.rights_types.specs.Chains.{end, moves_of, IsChain}
 use Rattle.rights_types.specs.Rights.{to}
 use Rattle.rights_protocol.specs.Retiring.{numbers_in, one_taking}
 use Rattle.rights_book.specs.Books.{peer}
-use Rattle.site_core.specs.Ledgers.{owed_by, with_takings}
+use Rattle.site_core.specs.Ledgers.{owed_by, with_takings, ApplyKeeps}
 use Rattle.site_core.specs.Desks.{DeskValue}
 use Rattle.site_core.specs.Faults.{has_closed}
 use Rattle.site_core.specs.Calls.{DeskApplies}
@@ -40,12 +40,17 @@ abbrev pub in_hand : Option EntryValue → List EntryValue
 in_hand None = []
 in_hand (Some e) = e ∷ []
 
+-- the book has another number of o's log than the entry's previous one, or has it closed
+abbrev pub is_not_next : DeskValue → ℕ → EntryValue → Bool
+is_not_next d o e = let p = peer d.ledger.book o in p.log.closed || not (p.log.end == e.prev)
+
 module _ {G A : Type 0} where
-  -- what was taken is what was applied, then what was dropped at a closed desk, then the entry in hand; number and
-  -- received are those of what was applied
+  -- what was taken is what was applied, then what was dropped at a closed desk, then the entry in hand; what was applied
+  -- is of the origin's log, and number and received are those of it
   pub record IsCounted (id : DeskId) (a : ApplierValue G A) : Type 0 where
     pub applied : List EntryValue
     pub dropped : List EntryValue
+    pub log : IsChain a.origin applied
     pub taken : a.outlet.taken ≡ items_of (applied ++ dropped ++ in_hand a.hand) ++ end_if a.ended
     pub chain : IsItemChain a.outlet.taken
     pub none_dropped : a.dropping ≡ false → dropped ≡ []
@@ -68,9 +73,9 @@ module _ {G A : Type 0} where
   abbrev pub is_late : ApplierValue G A → DeskValue → Bool
   is_late a d = a.dropping || has_closed d
 
-  -- the book has another number of that origin than the entry's previous one, or has its log closed
+  -- the entry is of another site's log, or not the next one of the origin's
   abbrev pub is_out_of_step : ApplierValue G A → DeskValue → EntryValue → Bool
-  is_out_of_step a d e = let p = peer d.ledger.book a.origin in p.log.closed || not (p.log.end == e.prev)
+  is_out_of_step a d e = not (e.origin == a.origin) || is_not_next d a.origin e
 
   abbrev pub step_fault : ApplierValue G A → DeskValue → EntryValue → Option StepError
   step_fault a d e = if is_late a d then None else (if is_out_of_step a d e then Some OutOfStep else None)
@@ -92,6 +97,7 @@ StepRefuses fault (Err e) = fault ≡ Some e
 -- else stayed, but for one entry that takes back what a K leaves behind, and asks that e grants
 pub record MovesOn (site : ℕ) (old : DeskValue) (o : ℕ) (e : EntryValue) (new : DeskValue) : Type 0 where
   pub applies : DeskApplies old o e new
+  pub keeps : ApplyKeeps old.ledger o e applies.entry.between new.ledger
   pub from : (peer old.ledger.book o).log.end ≡ e.prev
   pub up_to : (peer new.ledger.book o).log.end ≡ own e
   pub received : (peer new.ledger.book o).received ≡ (peer old.ledger.book o).received + to site e.moves

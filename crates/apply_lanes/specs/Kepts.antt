@@ -1,11 +1,13 @@
 -- The value under the lock of a shared desk, and what its seats were told.
 use Rattle.std.specs.Prelude.{◌≡◌, ℕ, ◌+◌, ◌-◌, ◌≤◌, Bool, if◌then◌else◌, List, length, Option, Some, None, count_by}
+use Rattle.rights_types.specs.Entries.{EntryValue}
 use Rattle.rights_types.specs.Chains.{moves_of, IsChain}
 use Rattle.rights_types.specs.Rights.{issued, spent, out, taken_back, sum_sites}
 use Rattle.rights_types.specs.declared.limits.TheConstants.{MAX_NUMBER, MAX_SITES}
 use Rattle.rights_book.specs.Books.{BookValue, sites, peer, received_by, held_by, applied_by}
 use Rattle.request_queue.specs.declared.request.Request.{Request}
 use Rattle.request_queue.specs.Queues.{front_of}
+use Rattle.site_core.specs.Ledgers.{LedgerValue, HasApplied}
 use Rattle.site_core.specs.Desks.{DeskValue}
 use Rattle.site_core.specs.declared.desk.requests.Spending.{Spending}
 use Rattle.site_core.specs.declared.desk.requests.Spending.TheVariants.{Spent, Queued}
@@ -63,6 +65,11 @@ pub record IsPortioned (k : KeptValue) : Type 0 where
   pub no_number_back : k.number.returned ≡ 0
   pub no_received_back : k.received.returned ≡ 0
 
+-- there are lists of what the site applied of the other logs: its book stands for them, and the protocol's fact of one
+-- site holds of its log and them
+abbrev pub KeepsProtocol : LedgerValue → Type 0
+KeepsProtocol l = (applied : ℕ → List EntryValue) × HasApplied applied l
+
 -- whenever the lock is free
 pub record IsKept (id : DeskId) (k : KeptValue) : Type 0 where
   pub site : k.desk.ledger.log.site ≡ id.site
@@ -71,6 +78,7 @@ pub record IsKept (id : DeskId) (k : KeptValue) : Type 0 where
   pub few : id.sites ≤ MAX_SITES
   pub tallied : IsTallied k.desk.ledger.book k.issued.sum k.spent.sum k.number.sum k.received.sum
   pub portioned : IsPortioned k
+  pub protocol : KeepsProtocol k.desk.ledger
 
 -- the log is a chain; the sums are those of the log and of what was applied; and what is held is issued, received
 -- and taken back, less given and spent, so that this is not negative

@@ -21,8 +21,8 @@ use thread_parts::{Item, Outlet, Portion};
 pub enum StepError {
     /// The lane's other end is gone, and nothing waits on it.
     LaneClosed,
-    /// The desk's number of this log is not the one before the entry, or the desk has this log closed. The
-    /// entry stays in hand.
+    /// The entry is of another site's log; or the desk's number of this log is not the one before the entry,
+    /// or the desk has this log closed. The entry stays in hand.
     OutOfStep,
     /// A request for memory was refused. The entry stays in hand, and the next step tries it again.
     OutOfMemory,
@@ -55,6 +55,7 @@ impl<D: DeskNames, G: Gate, A: Allocator> Model for Applier<D, G, A> {
 impl<D: DeskNames, G: Gate, A: Allocator> Applier<D, G, A> {
     ghost use Rattle.apply_lanes.specs.Appliers.{ApplierValue, IsCounted, is_late, step_fault, StepRefuses, MovesOn, applied, dropped, counted_on, Fills, Steps, StepFails, Runs, RunFails};
     ghost use Rattle.apply_lanes.specs.Kepts.{IsKept};
+    ghost use Rattle.apply_lanes.specs.Steps.{StepsBy, apply_change};
 
     /// Applies the entry in hand, under the lock whose value this is; at a closed desk it is dropped. A
     /// refusal leaves it in hand, and changes nothing.
@@ -65,6 +66,8 @@ impl<D: DeskNames, G: Gate, A: Allocator> Applier<D, G, A> {
         ensures applied { OnOk result (is_late self.old kept.old.desk ≡ false → (e : EntryValue) → self.old.hand ≡ Some e → self.new ≡ applied D.id self.old e) }
         ensures desk { OnOk result (is_late self.old kept.old.desk ≡ false → (e : EntryValue) → self.old.hand ≡ Some e
             → MovesOn D.id.site kept.old.desk self.old.origin e kept.new.desk × (kept.new ≡ counted_on D.id kept.old e kept.new.desk)) }
+        ensures step { OnOk result ((e : EntryValue) → self.old.hand ≡ Some e
+            → StepsBy D.id kept.old.desk (apply_change (is_late self.old kept.old.desk) self.old.origin e) kept.new.desk) }
         ensures same { (self.new.origin ≡ self.old.origin) × (self.new.outlet ≡ self.old.outlet) }
         ensures before { IsCounted D.id self.old }
         ensures after { IsCounted D.id self.new }
@@ -80,6 +83,10 @@ impl<D: DeskNames, G: Gate, A: Allocator> Applier<D, G, A> {
             self.hand = None;
             self.dropping = true;
             return Ok(());
+        }
+        if entry.origin() != self.origin {
+            // The lane is another site's.
+            return Err(StepError::OutOfStep);
         }
         if kept.desk.closed(self.origin) || kept.desk.applied(self.origin) != entry.prev() {
             return Err(StepError::OutOfStep);

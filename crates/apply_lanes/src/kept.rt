@@ -1,13 +1,18 @@
 //! The value under the lock of a shared desk: a desk, with the four tallies of what it did.
-ghost use Rattle.std.specs.Prelude.{◌≡◌, ◌≢◌, ◌+◌, ◌≤◌, ◌<◌, true, false, [], List, Option, Some, None, IfOk, IfErr, IfSome, IsOk, OnOk, OnErr, MatchResult, length};
+ghost use Rattle.std.specs.Prelude.{◌≡◌, ◌≢◌, ℕ, ◌+◌, ◌≤◌, ◌<◌, true, false, [], List, Option, Some, None, IfOk, IfErr, IfSome, IsOk, OnOk, OnErr, MatchResult, length};
 ghost use Rattle.rights_types.specs.Entries.{EntryValue};
 ghost use Rattle.rights_types.specs.Places.{at_site, set_site};
 ghost use Rattle.rights_types.specs.Rights.{to};
 ghost use Rattle.rights_protocol.specs.Retiring.{numbers_in};
 ghost use Rattle.rights_book.specs.Books.{sites, peer};
 ghost use Rattle.request_queue.specs.declared.queue.TheConstants.{SLOTS};
+ghost use Rattle.site_core.specs.Ledgers.{ApplyKeeps};
 ghost use Rattle.site_core.specs.Faults.{has_closed};
 ghost use Rattle.site_core.specs.Calls.{DeskApplies};
+ghost use Rattle.site_core.specs.Ledgers.{HasApplied};
+ghost use Rattle.rights_protocol.specs.Kept.{SiteKept};
+ghost use Rattle.rights_protocol.specs.Schedules.LocalChange.{Apply as Applies};
+ghost use Rattle.apply_lanes.specs.Steps.{StepsBy};
 ghost use Rattle.apply_lanes.specs.Names.{id_of, AreBlank, IsUnused};
 ghost use Rattle.apply_lanes.specs.Kepts.{one_less, told_nothing};
 ghost use Rattle.apply_lanes.specs.Views.{IsViewOf};
@@ -118,6 +123,8 @@ impl<D: DeskNames, A: Allocator + Copy> Kept<D, A> {
         ensures balance { IsInBalance self.now }
         ensures valid { IsKept D.id self.now }
         ensures few { length self.now.desk.queue.waiting ≤ SLOTS }
+        ensures protocol { (applied : ℕ → List EntryValue) × HasApplied applied self.now.desk.ledger
+            × SiteKept D.id.sites D.id.site self.now.desk.ledger.log.entries applied }
     {
         let desk = &self.desk;
         // For the proof: what the desk's readers say of its log and queue.
@@ -261,8 +268,12 @@ impl<D: DeskNames, A: Allocator + Copy> Kept<D, A> {
         requires other { origin ≢ D.id.site }
         requires unclosed { (peer self.old.desk.ledger.book origin).log.closed ≡ false }
         requires next { entry.now.prev ≡ (peer self.old.desk.ledger.book origin).log.end }
+        requires own { entry.now.origin ≡ origin }
         requires open { has_closed self.old.desk ≡ false }
         ensures ok { OnOk result (DeskApplies self.old.desk origin entry.now self.new.desk) }
+        ensures keeps { OnOk result ((h : DeskApplies self.old.desk origin entry.now self.new.desk)
+            → ApplyKeeps self.old.desk.ledger origin entry.now h.entry.between self.new.desk.ledger) }
+        ensures step { OnOk result (StepsBy D.id self.old.desk (Applies origin entry.now) self.new.desk) }
         ensures tallies { OnOk result (self.new ≡ record self.old { desk = self.new.desk; number = raised self.old.number (length entry.now.moves); received = raised self.old.received (to D.id.site entry.now.moves) }) }
         ensures told { OnOk result ((number.new ≡ number.old + length entry.now.moves) × (received.new ≡ received.old + to D.id.site entry.now.moves)) }
         ensures err { OnErr result ((self.new ≡ self.old) × (number.new ≡ number.old) × (received.new ≡ received.old)) }

@@ -1,6 +1,8 @@
-//! What the two ends of one lane say of each other.
-ghost use Rattle.std.specs.Prelude.{◌≡◌, true};
+//! What the two ends of one lane say of each other, and what the calls at all desks of a system add up to.
+ghost use Rattle.std.specs.Prelude.{◌≡◌, true, false};
 ghost use Rattle.thread_parts.specs.Items.{StartsWith};
+ghost use Rattle.apply_lanes.specs.Between.{IsBetween};
+ghost use Rattle.apply_lanes.specs.Steps.{EverySchedule};
 
 use crate::applier::Applier;
 use crate::gate::Gate;
@@ -10,7 +12,8 @@ use std::alloc::Allocator;
 pub use thread_parts::ends_taken_in;
 
 /// Given the intake and the applier of one lane, what the applier took is a prefix of what the intake put,
-/// and all of it where End was taken. The applier comes back as it was.
+/// and all of it where End was taken. The applier comes back as it was. In whatever schedule of their threads, between
+/// two calls of each: what the buffer put is what was applied, dropped, is in hand, and waits on the lane, in this order.
 pub fn taken_in<D: DeskNames, G: Gate, A: Allocator>(
     intake: Intake<A>,
     mut applier: Applier<D, G, A>,
@@ -19,7 +22,15 @@ pub fn taken_in<D: DeskNames, G: Gate, A: Allocator>(
     ensures same { result ≡ applier }
     ensures prefix { StartsWith intake.inlet.put applier.outlet.taken }
     ensures whole { applier.ended ≡ true → applier.outlet.taken ≡ intake.inlet.put }
+    ensures between { intake.inlet.dead ≡ false → intake.finished ≡ false → IsBetween D.id intake applier }
 {
     applier.outlet = ends_taken_in(intake.into_inlet(), applier.outlet);
     applier
 }
+
+/// The desks of a system's sites, each under its lock, unused at first. In every schedule of calls under these locks,
+/// whichever thread of whichever site makes each, the headline and retirement hold whenever no lock is held. The
+/// premise: an entry that a site applies stands in its origin's log by then, which has one writer.
+pub fn every_schedule()
+    ensures { EverySchedule }
+{}

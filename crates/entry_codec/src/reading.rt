@@ -15,6 +15,8 @@ use crate::short::short_in;
 use rights_types::{MAX_LINE, Message, Move};
 use std::alloc::Allocator;
 
+// Its slots are no concern of an entry that is read without them: see `entry_of_moves_in`.
+#[inline(never)]
 fn push_in<A: Allocator>(
     alloc: A,
     fields: Option<&[u8]>,

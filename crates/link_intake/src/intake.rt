@@ -81,9 +81,13 @@ impl<A: Allocator> Model for Intake<A> {
 }
 
 impl<A: Allocator> Intake<A> {
-    /// The end of its lane, which it is taken apart for.
+    ghost use Rattle.link_intake.specs.Intakes.{IsInStep};
+
+    /// The end of its lane, which it is taken apart for. Where the lane was not found closed, and End was not put by
+    /// finishing, all that the buffer put went onto it.
     pub fn into_inlet(self) -> Inlet<A>
-        ensures { result ≡ self.inlet }
+        ensures inlet { result ≡ self.inlet }
+        ensures in_step { self.inlet.dead ≡ false → self.finished ≡ false → IsInStep self }
     {
         let Intake {
             inbound: _,

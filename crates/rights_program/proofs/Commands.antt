@@ -5,12 +5,12 @@ use Rattle.site_words.specs.Asked.{Asked, nothing, script}
 use Rattle.site_words.specs.Words.{MayAnswer}
 use Rattle.site_words.specs.declared.fault.SiteFault.{SiteFault}
 use Rattle.site_words.specs.declared.words.Command.{Command}
-use Rattle.site_words.specs.declared.words.Command.TheVariants.{Sim, Run, Help}
-use Rattle.rights_program.specs.Commands.{Does, IsHelp}
+use Rattle.site_words.specs.declared.words.Command.TheVariants.{Sim, Run, Help, Version}
+use Rattle.rights_program.specs.Commands.{Does, IsText}
 use Rattle.rights_program.specs.Endings.{Ending, MayEnd, reads}
 use Rattle.rights_program.specs.Scripts.{Answered, ending_of_script}
 use Rattle.rights_program.specs.declared.fault.Fault.TheVariants.{BadCommandLine}
-use Rattle.rights_program.proofs.Endings.{script_may_stop, script_may_be_done, script_reads, script_not_bad, site_may_stop, site_may_be_done, site_reads, site_no_script, site_no_nothing, site_not_bad, help_may_stop, help_may_be_done, help_no_script, help_no_nothing}
+use Rattle.rights_program.proofs.Endings.{script_may_stop, script_may_be_done, script_reads, script_not_bad, site_may_stop, site_may_be_done, site_reads, site_no_script, site_no_nothing, site_not_bad, help_may_stop, help_may_be_done, help_no_script, help_no_nothing, version_may_stop, version_may_be_done}
 
 pub script_ends : (a : Asked) (ended : Result (Unit {0}) LineFault) → a ≡ script → MayEnd a (ending_of_script ended)
 script_ends a (Ok done) same = script_may_be_done a same
@@ -23,23 +23,28 @@ command_may_end A given left held holds a (Run config) ending runs (Ok done, is)
 command_may_end A given left held holds a (Run config) ending runs (Err cause, is) = subst (λ e. MayEnd a e) (sym is) (site_may_stop a config cause runs)
 command_may_end A given left held holds a (Help text) (Ok done) wants printed = help_may_be_done a wants
 command_may_end A given left held holds a (Help text) (Err fault) wants (is, front) = subst (λ f. MayEnd a (Err f)) (sym is) (help_may_stop a wants)
+command_may_end A given left held holds a Version (Ok done) same printed = version_may_be_done a same
+command_may_end A given left held holds a Version (Err fault) same (is, front) = subst (λ f. MayEnd a (Err f)) (sym is) (version_may_stop a same)
 
 pub script_answered : (A : Type 0) (given left held holds : Option (List ℕ)) (a : Asked) (command : Command) (ending : Ending)
     → MayAnswer a (Ok command) → Does A command given left held holds ending → a ≡ script → Answered A given left held holds ending
 script_answered A given left held holds a Sim ending may does same = does
 script_answered A given left held holds a (Run config) ending runs does same = absurd (site_no_script a config runs same)
 script_answered A given left held holds a (Help text) ending wants does same = absurd (help_no_script a wants same)
+script_answered A given left held holds a Version ending is does same = cc
 
 -- only a script and a site read
-pub help_where_none_reads : (a : Asked) (command : Command) → MayAnswer a (Ok command) → reads a ≡ false → IsHelp command
-help_where_none_reads a Sim same none = absurd (script_reads a same none)
-help_where_none_reads a (Run config) runs none = absurd (site_reads a config runs none)
-help_where_none_reads a (Help text) wants none = tt
+pub text_where_none_reads : (a : Asked) (command : Command) → MayAnswer a (Ok command) → reads a ≡ false → IsText command
+text_where_none_reads a Sim same none = absurd (script_reads a same none)
+text_where_none_reads a (Run config) runs none = absurd (site_reads a config runs none)
+text_where_none_reads a (Help text) wants none = tt
+text_where_none_reads a Version is none = tt
 
 pub nothing_is_no_command : (a : Asked) (command : Command) → MayAnswer a (Ok command) → a ≡ nothing → ⊥
 nothing_is_no_command a Sim same none = cc
 nothing_is_no_command a (Run config) runs none = site_no_nothing a config runs none
 nothing_is_no_command a (Help text) wants none = help_no_nothing a wants none
+nothing_is_no_command a Version is none = cc
 
 pub command_not_bad : (A : Type 0) (given left held holds : Option (List ℕ)) (command : Command) (ending : Ending)
     → Does A command given left held holds ending → ending ≢ Err BadCommandLine
@@ -49,10 +54,12 @@ command_not_bad A given left held holds (Run config) ending (Ok done, is) bad = 
 command_not_bad A given left held holds (Run config) ending (Err cause, is) bad = site_not_bad cause cc
 command_not_bad A given left held holds (Help text) (Ok done) printed bad = cc
 command_not_bad A given left held holds (Help text) (Err fault) (is, front) bad = cc
+command_not_bad A given left held holds Version (Ok done) printed bad = cc
+command_not_bad A given left held holds Version (Err fault) (is, front) bad = cc
 
 pub did_script : (A : Type 0) (given left held holds : Option (List ℕ)) (command : Command) (ending : Ending)
     → command ≡ Sim → Answered A given left held holds ending → Does A command given left held holds ending
 did_script A given left held holds command ending is done = subst (λ k. Does A k given left held holds ending) (sym is) done
 
 -- how each command ends
-pub ruleset commands = (command_may_end, script_answered, help_where_none_reads, nothing_is_no_command, command_not_bad)
+pub ruleset commands = (command_may_end, script_answered, text_where_none_reads, nothing_is_no_command, command_not_bad)

@@ -2,7 +2,7 @@
 use Rattle.std.proofs.Common.{◌≡◌, ◌≢◌, ◌∙◌, false, refl, sym, ap, subst, Err, arith, inl, inr, true≢false}
 use Rattle.line_streams.specs.declared.fault.LineFault.{LineFault}
 use Rattle.line_streams.specs.declared.fault.LineFault.TheVariants as script_fault
-use Rattle.site_words.specs.Asked.{Asked, help, nothing, script, site}
+use Rattle.site_words.specs.Asked.{Asked, help, nothing, script, site, version}
 use Rattle.rights_program.specs.Endings.{MayBeDone, MayStop, reads}
 use Rattle.rights_program.specs.Faults.{fault_of_script, fault_of_site, fault_of_words, status_of}
 use Rattle.site_words.specs.Settings.{Settings}
@@ -18,6 +18,7 @@ pub memory_may_stop : (a : Asked) → MayStop a OutOfMemory
 memory_may_stop script = tt
 memory_may_stop (site kinds rows) = tt
 memory_may_stop help = tt
+memory_may_stop version = tt
 memory_may_stop nothing = tt
 
 -- words that are refused
@@ -25,6 +26,7 @@ pub refusal_may_stop : (a : Asked) → MayRefuse a → MayStop a BadCommandLine
 refusal_may_stop script h = h
 refusal_may_stop (site kinds rows) h = h
 refusal_may_stop help h = h
+refusal_may_stop version h = h
 refusal_may_stop nothing h = h
 
 pub words_may_stop : (a : Asked) (fault : WordsFault) → MayAnswer a (Err fault) → MayStop a (fault_of_words fault)
@@ -35,6 +37,7 @@ pub stopped_refuses : (a : Asked) → MayStop a BadCommandLine → MayRefuse a
 stopped_refuses script h = h
 stopped_refuses (site kinds rows) h = h
 stopped_refuses help h = h
+stopped_refuses version h = h
 stopped_refuses nothing h = h
 
 -- the status 2 tells of a refusal
@@ -81,18 +84,21 @@ site_may_stop (site kinds rows) s site_fault.WriteFailed runs = inl (s, runs)
 site_may_stop (site kinds rows) s site_fault.OutOfMemory runs = tt
 site_may_stop (site kinds rows) s site_fault.TooManyLines runs = (s, runs)
 site_may_stop help s cause runs = absurd runs
+site_may_stop version s cause runs = absurd runs
 site_may_stop nothing s cause runs = absurd runs
 
 pub site_may_be_done : (a : Asked) (s : Settings) → RunsSite a s → MayBeDone a
 site_may_be_done script s runs = absurd runs
 site_may_be_done (site kinds rows) s runs = inl (s, runs)
 site_may_be_done help s runs = absurd runs
+site_may_be_done version s runs = absurd runs
 site_may_be_done nothing s runs = absurd runs
 
 pub site_reads : (a : Asked) (s : Settings) → RunsSite a s → reads a ≡ false → ⊥
 site_reads script s runs none = absurd runs
 site_reads (site kinds rows) s runs none = true≢false (sym (ap (λ ks. reads (site ks rows)) runs.0) ∙ none)
 site_reads help s runs none = absurd runs
+site_reads version s runs none = absurd runs
 site_reads nothing s runs none = absurd runs
 
 pub site_no_script : (a : Asked) (s : Settings) → RunsSite a s → a ≡ script → ⊥
@@ -115,12 +121,14 @@ pub help_may_stop : (a : Asked) → WantsHelp a → MayStop a WriteFailed
 help_may_stop script wants = absurd wants
 help_may_stop (site kinds rows) wants = inr wants
 help_may_stop help wants = tt
+help_may_stop version wants = absurd wants
 help_may_stop nothing wants = absurd wants
 
 pub help_may_be_done : (a : Asked) → WantsHelp a → MayBeDone a
 help_may_be_done script wants = absurd wants
 help_may_be_done (site kinds rows) wants = inr wants
 help_may_be_done help wants = tt
+help_may_be_done version wants = absurd wants
 help_may_be_done nothing wants = absurd wants
 
 pub help_no_script : (a : Asked) → WantsHelp a → a ≡ script → ⊥
@@ -129,5 +137,12 @@ help_no_script a wants same = subst WantsHelp same wants
 pub help_no_nothing : (a : Asked) → WantsHelp a → a ≡ nothing → ⊥
 help_no_nothing a wants same = subst WantsHelp same wants
 
+-- the version
+pub version_may_stop : (a : Asked) → a ≡ version → MayStop a WriteFailed
+version_may_stop a same = subst (λ a. MayStop a WriteFailed) (sym same) tt
+
+pub version_may_be_done : (a : Asked) → a ≡ version → MayBeDone a
+version_may_be_done a same = subst MayBeDone (sym same) tt
+
 -- how each command may end
-pub ruleset endings = (words_may_stop, memory_may_stop, script_may_stop, script_reads, script_not_bad, site_may_stop, site_may_be_done, site_reads, site_no_script, site_no_nothing, site_not_bad, help_may_stop, help_may_be_done, help_no_script, help_no_nothing)
+pub ruleset endings = (words_may_stop, memory_may_stop, script_may_stop, script_reads, script_not_bad, site_may_stop, site_may_be_done, site_reads, site_no_script, site_no_nothing, site_not_bad, help_may_stop, help_may_be_done, help_no_script, help_no_nothing, version_may_stop, version_may_be_done)

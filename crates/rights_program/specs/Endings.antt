@@ -3,7 +3,7 @@ use Rattle.std.specs.Prelude.{◌≡◌, ◌==◌, ◌⊎◌, ℕ, Bool, true, f
 use Rattle.std.specs.Io.KnownBytes.{Appends}
 use Rattle.line_streams.specs.Fronts.{AppendsFront}
 use Rattle.line_streams.specs.declared.write.WriteFault.{WriteFault}
-use Rattle.site_words.specs.Asked.{Asked, help, nothing, script, site}
+use Rattle.site_words.specs.Asked.{Asked, help, nothing, script, site, version}
 use Rattle.rights_program.specs.Faults.{line_of, status_of}
 use Rattle.site_words.specs.Settings.{Settings}
 use Rattle.site_words.specs.Words.{MayRefuse, RunsSite, WantsHelp}
@@ -54,6 +54,9 @@ MayStop (site kinds rows) fault = IsRun (site kinds rows)
 MayStop help WriteFailed = ⊤
 MayStop help OutOfMemory = ⊤
 MayStop help fault = ⊥
+MayStop version WriteFailed = ⊤
+MayStop version OutOfMemory = ⊤
+MayStop version fault = ⊥
 MayStop nothing BadCommandLine = ⊤
 MayStop nothing OutOfMemory = ⊤
 MayStop nothing fault = ⊥

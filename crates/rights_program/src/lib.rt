@@ -5,7 +5,9 @@
 mod fault;
 mod given;
 mod run;
+mod version;
 
 pub use fault::Fault;
 pub use given::{run_arguments, run_given};
 pub use run::{Ended, run_words};
+pub use version::VERSION;

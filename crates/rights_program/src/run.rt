@@ -3,7 +3,7 @@ ghost use Rattle.std.specs.Prelude.{◌≡◌, false, Result, Err};
 ghost use Rattle.std.specs.declared.alloc.Global.{Global};
 ghost use Rattle.clap.specs.Walk.{texts};
 ghost use Rattle.site_words.specs.Asked.{asked_by, nothing, script};
-ghost use Rattle.rights_program.specs.Commands.{Does, IsHelp};
+ghost use Rattle.rights_program.specs.Commands.{Does, IsText};
 ghost use Rattle.rights_program.specs.Endings.{EndsWith, MayEnd, Says, reads};
 ghost use Rattle.rights_program.specs.Faults.{line_of, status_of};
 ghost use Rattle.rights_program.specs.Scripts.{Answered};
@@ -11,6 +11,7 @@ ghost use Rattle.site_words.specs.Words.{MayRefuse};
 ghost use Rattle.rights_program.specs.declared.fault.Fault.{Fault};
 
 use crate::fault::Fault;
+use crate::version::VERSION;
 use line_streams::{WriteFault, write_whole};
 use site_words::{Command, Config, SiteFault, read_words};
 use std::alloc::Global;
@@ -37,7 +38,7 @@ pub(crate) fn report<E: Write>(errors: &mut E, fault: Fault) -> Ended
     }
 }
 
-/// Does what a command says: a script is run, a site by `run`, and a help text is printed whole.
+/// Does what a command says: a script is run, a site by `run`, and a help text or the version is printed whole.
 #[tactic(auto, using(crate::proofs::Commands::commands))]
 fn carry_out<F: FnOnce(Config, &mut R, &mut W) -> Result<(), SiteFault>, R: Read, W: Write>(
     alloc: Global,
@@ -48,12 +49,13 @@ fn carry_out<F: FnOnce(Config, &mut R, &mut W) -> Result<(), SiteFault>, R: Read
 ) -> Result<(), Fault>
     requires { F.IsAlwaysCallable run }
     ensures does { Does Global command (R.remaining reader.old) (R.remaining reader.new) (W.contents writer.old) (W.contents writer.new) result }
-    ensures unread { IsHelp command → reader.new ≡ reader.old }
+    ensures unread { IsText command → reader.new ≡ reader.old }
 {
     match command {
         Command::Sim => Ok(run_last_script(alloc, reader, writer)?),
         Command::Run(config) => Ok(run(config, reader, writer)?),
         Command::Help(text) => Ok(write_whole(writer, text.as_bytes())?),
+        Command::Version => Ok(write_whole(writer, VERSION)?),
     }
 }
 

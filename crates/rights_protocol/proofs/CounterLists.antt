@@ -17,6 +17,7 @@ use Rattle.rights_protocol.specs.CounterOfLists.{counter_of, state_of, seen, sta
 use Rattle.rights_protocol.specs.CounterLaws.{ListsCount}
 use Rattle.rights_protocol.proofs.Frontiers.{to_one_more}
 use Rattle.rights_protocol.proofs.Promises.{held_sum, way_is}
+use Rattle.rights_protocol.proofs.Untouched.{untouched}
 use Rattle.rights_protocol.proofs.OneSite.{one_site}
 use Rattle.rights_protocol.proofs.CounterSums.{others_same, others_add, others_and_one}
 use Rattle.rights_protocol.proofs.CounterRuns.{Covered, safe_of}
@@ -104,19 +105,19 @@ seen_own w s = let at : eqb s s ≡ true = eq-eqb s s refl in rw at refl
 pub seen_other : (w : Lists) (s o : ℕ) → o ≢ s → moves_of (seen w s o) ≡ moves_of (w.applied s o)
 seen_other w s o ne = let at : eqb o s ≡ false = ne_eqb o s ne in rw at refl
 
-seen_gift : (w : Lists) (s o : ℕ) → Kept w → o ≢ s → (state_at w s).R o s ≡ to s (moves_of (w.applied s o))
-seen_gift w s o kept ne =
+seen_gift : (w : Lists) (s o : ℕ) → Kept w → IsSiteOf w.count o → o ≢ s → (state_at w s).R o s ≡ to s (moves_of (w.applied s o))
+seen_gift w s o kept among ne =
     let moves : ℕ → List Move = λ k. moves_of (seen w s k) in
     let is : (state_at w s).R o s ≡ to s (moves o) - back s (moves o) = cell moves o s (λ e. ne (sym e)) in
     let same : moves o ≡ moves_of (w.applied s o) = seen_other w s o ne in
-    omega (arith, is, ap (to s) same, ap (back s) same, kept.untouched s o)
+    omega (arith, is, ap (to s) same, ap (back s) same, untouched w s o kept among)
 
 pub seen_incoming : (w : Lists) (s : ℕ) → Kept w → IsSiteOf w.count s → incoming w.count (state_at w s) s ≡ received_at w s
 unfolding received
 seen_incoming w s kept among =
     let n : ℕ = w.count in
     let got : ℕ → ℕ = λ o. to s (moves_of (w.applied s o)) in
-    let is : incoming n (state_at w s) s ≡ sum_others n s got = others_same n s (λ o. (state_at w s).R o s) got (λ o of ne. seen_gift w s o kept ne) in
+    let is : incoming n (state_at w s) s ≡ sum_others n s got = others_same n s (λ o. (state_at w s).R o s) got (λ o of ne. seen_gift w s o kept of ne) in
     omega (arith, is, others_and_one n s got among, none_applied w s kept)
 
 holds_rights : (w : Lists) (s : ℕ) → Kept w → IsSiteOf w.count s → held_at w s ≡ local_rights w.count (state_at w s) s

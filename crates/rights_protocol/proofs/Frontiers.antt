@@ -1,7 +1,7 @@
 -- Laws of frontiers, of what lies beyond them and of what is owed by them.
 use Rattle.std.proofs.Common.{◌≡◌, ℕ, ◌+◌, ◌-◌, ◌≤◌, inl, inr, Bool, true, false, cond, leb, List, [], ◌∷◌, ◌++◌, length, Option, Some, None, arith, refl, ap, ◌∙◌}
 use Rattle.std.specs.List.{list_any, slice_get}
-use Rattle.std.proofs.lemmas.Bool.{cases_Bool, le-leb, lt-leb}
+use Rattle.std.proofs.lemmas.Bool.{cases_Bool, cases_lt, le-leb, lt-leb}
 use Rattle.std.proofs.lemmas.List.Elements.{filter-append}
 use Rattle.rights_types.specs.Entries.{EntryValue, own, closes}
 use Rattle.rights_types.specs.Chains.{end_from, end, closed_from, is_closed, ChainFrom, IsChain, moves_of}
@@ -111,6 +111,16 @@ pub owed_bound : (s c o : ℕ) (es : List EntryValue) (k : Option (List ℕ)) �
 owed_bound s c o es k chain =
     let ends : end es ≤ 1000000000 = end_from-bound o false 0 es chain (omega arith) in
     omega (arith, owed_less s c es k, log-to o c es chain, ends)
+
+-- where something is owed by a K, the place in it is within the log
+pub owed_within : (s c o place : ℕ) (es : List EntryValue) (numbers : List ℕ) → IsChain o es → slice_get numbers (s - 1) ≡ Some place → 1 ≤ owed s c es (Some numbers) → place ≤ end es
+owed_within s c o place es numbers chain at some = elim (cases_lt (end es) place) [
+  | inl past ↦
+      let none : beyond place es ≡ [] = beyond_none o false 0 place es chain (omega (arith, past)) in
+      let nothing : owed s c es (Some numbers) ≡ 0 = ap (given_beyond c es) at ∙ ap (λ xs. to c (moves_of xs)) none ∙ ap (to c) moves_of-nil ∙ to-nil c in
+      absurd (omega (arith, some, nothing))
+  | inr within ↦ within
+]
 
 -- an entry that gives c nothing leaves what is owed to it as it was
 beyond_push : (c f : ℕ) (es : List EntryValue) (e : EntryValue) → to c e.moves ≡ 0 → to c (moves_of (beyond f (es ++ e ∷ []))) ≡ to c (moves_of (beyond f es))

@@ -4,9 +4,9 @@ pub mod Numbers
 pub mod Writes
 pub mod Sites
 pub mod Links
-pub mod Untouched
 pub mod Steps
 pub mod Promises
+pub mod Untouched
 pub mod OneSite
 pub mod Runs
 pub mod TwoSites
@@ -17,3 +17,5 @@ pub mod CounterLists
 pub mod CounterMoves
 pub mod CounterSteps
 pub mod CounterEvery
+pub mod Cuts
+pub mod Interleavings

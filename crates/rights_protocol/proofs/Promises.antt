@@ -19,7 +19,7 @@ use Rattle.rights_protocol.proofs.Writes.{held_is}
 use Rattle.rights_protocol.proofs.Links.{applied_begins}
 
 -- what was applied begins the log
-begins : (w : Lists) (s o : ℕ) → Kept w → IsPrefix (w.applied s o) (w.log o)
+pub begins : (w : Lists) (s o : ℕ) → Kept w → IsPrefix (w.applied s o) (w.log o)
 begins w s o kept = applied_begins (w.log o) (w.reached s o) (w.put s o) (w.applied s o) (kept.links s o)
 
 pub held_sum : (w : Lists) (s : ℕ) → Kept w → held_at w s + (out (moves_of (w.log s)) + spent (moves_of (w.log s))) ≡ (issued (moves_of (w.log s)) + received_at w s) + taken_back (moves_of (w.log s))
@@ -40,6 +40,10 @@ frontier_is w o s numbers kept h =
     let same : frontier (w.log s) ≡ Some numbers = subst (λ es. frontier es ≡ Some numbers) whole h in
     cc
 
+-- and the place of o in it is the end of what s applied of its log
+pub place_is : (w : Lists) (o s : ℕ) (numbers : List ℕ) → Kept w → IsSiteOf w.count o → AppliedClose w o s numbers → slice_get numbers (o - 1) ≡ Some (end (w.applied s o))
+place_is w o s numbers kept among h = ap (λ (fs : List ℕ). slice_get fs (o - 1)) (frontier_is w o s numbers kept h) ∙ number_at w.count o (w.applied s) among
+
 -- the entries beyond that frontier are those that s did not apply
 beyond_is : (w : Lists) (o s : ℕ) → Kept w → beyond (end (w.applied s o)) (w.log o) ≡ unapplied w o s
 beyond_is w o s kept =
@@ -50,15 +54,13 @@ beyond_is w o s kept =
     subst (λ es. beyond (end a) es ≡ drop (length a) es) p.1 rest
 
 -- what o took back from s is what it owes by the K of s that it applied
-back_is : (w : Lists) (o s : ℕ) → Kept w → back s (moves_of (w.log o)) ≡ owed o s (w.log o) (frontier (w.applied o s))
+pub back_is : (w : Lists) (o s : ℕ) → Kept w → back s (moves_of (w.log o)) ≡ owed o s (w.log o) (frontier (w.applied o s))
 back_is w o s kept = taken_is s (owed o s (w.log o) (frontier (w.applied o s))) (w.log o) ((kept.sites o).taken s)
 
 -- by a K of s that is what s did not apply
 owed_is : (w : Lists) (o s : ℕ) (numbers : List ℕ) → Kept w → IsSiteOf w.count o → AppliedClose w o s numbers → owed o s (w.log o) (Some numbers) ≡ to s (moves_of (unapplied w o s))
 owed_is w o s numbers kept among h =
-    let is : numbers ≡ own_frontier w.count (w.applied s) = frontier_is w o s numbers kept h in
-    let at : slice_get numbers (o - 1) ≡ Some (end (w.applied s o)) = ap (λ (fs : List ℕ). slice_get fs (o - 1)) is ∙ number_at w.count o (w.applied s) among in
-    ap (given_beyond s (w.log o)) at ∙ ap (λ es. to s (moves_of es)) (beyond_is w o s kept)
+    ap (given_beyond s (w.log o)) (place_is w o s numbers kept among h) ∙ ap (λ es. to s (moves_of es)) (beyond_is w o s kept)
 
 over_cases : (w : Lists) (o s : ℕ) (k : Option (List ℕ)) → Kept w → IsSiteOf w.count o → frontier (w.applied o s) ≡ k → owed o s (w.log o) k ≤ to s (moves_of (unapplied w o s))
 over_cases w o s None kept among h = omega arith

@@ -1,6 +1,6 @@
 -- What one site does keeps what is kept of it. No other site's log is named.
-use Rattle.std.proofs.Common.{◌≡◌, ◌≢◌, ℕ, ◌+◌, ◌≤◌, inl, inr, Bool, true, false, cond, List, [], ◌∷◌, ◌++◌, length, Option, Some, None, arith, refl, sym, ap, ◌∙◌, subst}
-use Rattle.std.specs.List.{list_any}
+use Rattle.std.proofs.Common.{◌≡◌, ◌≢◌, ℕ, ◌+◌, ◌-◌, ◌≤◌, inl, inr, Bool, true, false, cond, List, [], ◌∷◌, ◌++◌, length, Option, Some, None, arith, refl, sym, ap, ◌∙◌, subst}
+use Rattle.std.specs.List.{list_any, slice_get}
 use Rattle.std.proofs.lemmas.Bool.{cases_eq, both_ways}
 use Rattle.std.proofs.lemmas.List.{append-nil}
 use Rattle.std.proofs.lemmas.List.Elements.{All-nil, All-append}
@@ -13,11 +13,11 @@ use Rattle.rights_types.specs.declared.moves.Move.TheVariants.{TakeBack}
 use Rattle.rights_types.proofs.Chains.{chain_push, end-push, closed-push}
 use Rattle.rights_types.proofs.Sums.{moves_of-nil, moves_of-push, covers-more, covers-append}
 use Rattle.rights_protocol.specs.Lists.{IsSiteOf}
-use Rattle.rights_protocol.specs.Retiring.{numbers_in, frontier, owed, own_frontier, entry_at_end, taking_back, takings, one_taking}
+use Rattle.rights_protocol.specs.Retiring.{numbers_in, frontier, beyond, owed, own_frontier, entry_at_end, taking_back, takings, one_taking}
 use Rattle.rights_protocol.specs.Writing.{MayAppend, MayClose, closing_moves}
 use Rattle.rights_protocol.specs.Kept.{SiteKept, known_closed}
-use Rattle.rights_protocol.proofs.Frontiers.{no_frontier, closes_by, frontier-push, front_open, owed_bound}
-use Rattle.rights_protocol.proofs.Takings.{taken_push, taken_now, taking_cases, takes_it, takes_no_other, is_one_taking}
+use Rattle.rights_protocol.proofs.Frontiers.{no_frontier, closes_by, frontier-push, front_open, owed_bound, owed_within}
+use Rattle.rights_protocol.proofs.Takings.{taken_push, taken_now, none_beyond, placed_push, placed_now, taking_cases, takes_it, takes_no_other, is_one_taking}
 use Rattle.rights_protocol.proofs.Numbers.{frontier_kept, known_kept, known_risen, known_few, received_kept, received_risen}
 use Rattle.rights_protocol.proofs.Writes.{Ready, Writable, Plain, plain_moves, append_writable, back_writable, back_gives_none, Closing, closing_writable}
 
@@ -35,6 +35,7 @@ site_same n s log now old new k e same = record {
   covered = rw (e, received_kept n s old new same) k.covered;
   closing = λ h. ap frontier e ∙ k.closing (subst (λ es. is_closed es ≡ true) e h) ∙ ap (λ fs. Some fs) (sym (frontier_kept n old new same));
   taken = λ c. rw (e, same c) (k.taken c);
+  placed = λ c numbers place h at. rw e (k.placed c numbers place (sym (ap frontier (same c)) ∙ h) at);
   fits = λ h. rw (e, known_kept n old new same) (k.fits (sym (ap is_closed e) ∙ h));
 }
 
@@ -57,6 +58,8 @@ ready n s log applied some few site unclosed k = record {
 record Keeps (n s : ℕ) (log : List EntryValue) (applied : ℕ → List EntryValue) (ms : List Move) : Type 0 where
   pub closing : list_any is_close ms ≡ true → numbers_in ms ≡ Some (own_frontier n applied)
   pub taken : (c : ℕ) → takings c (log ++ entry_at_end s log ms ∷ []) ≡ one_taking c (owed s c (log ++ entry_at_end s log ms ∷ []) (frontier (applied c)))
+  pub placed : (c : ℕ) (numbers : List ℕ) (place : ℕ) → frontier (applied c) ≡ Some numbers → slice_get numbers (s - 1) ≡ Some place
+      → takings c (beyond place (log ++ entry_at_end s log ms ∷ [])) ≡ takings c (log ++ entry_at_end s log ms ∷ [])
   pub fits : list_any is_close ms ≡ false → end log + length ms ≤ 999999900 + known_closed n applied
 
 site_writes : (n s : ℕ) (log : List EntryValue) (applied : ℕ → List EntryValue) (ms : List Move) → Ready n s log applied → Writable n s log applied ms → Keeps n s log applied ms
@@ -74,6 +77,7 @@ site_writes n s log applied ms k may keeps =
       covered = rw moves (covers-append (received n s applied) (moves_of log) ms k.covered may.covered);
       closing = λ h. frontier-push log e ∙ keeps.closing (sym closed ∙ h);
       taken = keeps.taken;
+      placed = keeps.placed;
       fits = λ h. omega (arith, ends, keeps.fits (sym closed ∙ h));
     }
 
@@ -86,6 +90,7 @@ site_appends n s log applied ms some few site k may =
     site_writes n s log applied ms r writable (record {
       closing = λ h. absurd (both_ways (list_any is_close ms) plain.open_moves h);
       taken = λ c. taken_push s c log (entry_at_end s log ms) (frontier (applied c)) (plain.taking c) (writable.given c) (k.taken c);
+      placed = λ c numbers place h at. placed_push c place log (entry_at_end s log ms) (plain.taking c) (k.placed c numbers place h at);
       fits = λ _. omega (arith, may.fits);
     })
 
@@ -100,6 +105,7 @@ site_closes n s log applied heir some few site k may =
     site_writes n s log applied ms r closing.may (record {
       closing = λ _. closing.numbers;
       taken = λ c. taken_push s c log (entry_at_end s log ms) (frontier (applied c)) (closing.none_taken c) (closing.may.given c) (k.taken c);
+      placed = λ c numbers place h at. placed_push c place log (entry_at_end s log ms) (closing.none_taken c) (k.placed c numbers place h at);
       fits = λ h. absurd (both_ways (list_any is_close ms) h shuts);
     })
 
@@ -153,6 +159,10 @@ takes_plain n s o log old new e k t step none =
         | inl p ↦ subst (λ j. takings j log ≡ one_taking j (owed s j log (frontier (new j)))) (sym p) (t.none_before ∙ ap (one_taking o) (sym owes))
         | inr ne ↦ rw (step.elsewhere c ne) (k.taken c)
       ];
+      placed = λ c numbers place h at. elim (cases_eq c o) [
+        | inl p ↦ subst (λ j. takings j (beyond place log) ≡ takings j log) (sym p) (none_beyond o place log t.none_before ∙ sym t.none_before)
+        | inr ne ↦ k.placed c numbers place (sym (ap frontier (step.elsewhere c ne)) ∙ h) at
+      ];
       fits = λ h. omega (arith, k.fits h, t.known);
     }
 
@@ -172,6 +182,14 @@ takes_back n s o amount log old new e k from differ t step is positive shut =
         | inl p ↦ subst (λ j. takings j (log ++ v ∷ []) ≡ one_taking j (owed s j (log ++ v ∷ []) (frontier (new j)))) (sym p)
             (taken_now s o amount log v (frontier (new o)) t.none_before (back_gives_none o o amount) (takes_it o amount) (is_one_taking o amount positive) owes)
         | inr ne ↦ rw (step.elsewhere c ne) (taken_push s c log v (frontier (old c)) (takes_no_other c o amount ne) (λ numbers _. back_gives_none c o amount) (k.taken c))
+      ];
+      placed = λ c numbers place h at. elim (cases_eq c o) [
+        | inl p ↦
+            let by : numbers_in e.moves ≡ Some numbers = sym t.now ∙ ap (λ j. frontier (new j)) (sym p) ∙ h in
+            let some : 1 ≤ owed s o log (Some numbers) = omega (arith, positive, is, ap (owed s o log) by) in
+            subst (λ j. takings j (beyond place (log ++ v ∷ [])) ≡ takings j (log ++ v ∷ [])) (sym p)
+            (placed_now o place log v t.none_before (owed_within s o s place log numbers k.chain at some))
+        | inr ne ↦ placed_push c place log v (takes_no_other c o amount ne) (k.placed c numbers place (sym (ap frontier (step.elsewhere c ne)) ∙ h) at)
       ];
       fits = λ h. omega (arith, k.fits t.ready.unclosed, t.known, one);
     })
@@ -209,5 +227,6 @@ site_starts n s log applied empty none =
       covered = rw nothing refl;
       closing = λ h. absurd (both_ways (is_closed log) (ap is_closed empty) h);
       taken = λ c. rw (empty, none c) refl;
+      placed = λ c numbers place h at. rw empty refl;
       fits = λ h. rw empty (omega arith);
     }

@@ -5,11 +5,9 @@ use Rattle.std.proofs.lemmas.Bool.{cases_eq}
 use Rattle.std.proofs.lemmas.List.{append-nil}
 use Rattle.std.proofs.lemmas.List.Elements.{All-nil}
 use Rattle.rights_types.specs.Entries.{EntryValue}
-use Rattle.rights_types.specs.Chains.{IsChain, IsLongest, moves_of}
-use Rattle.rights_types.specs.Rights.{back}
+use Rattle.rights_types.specs.Chains.{IsChain, IsLongest}
 use Rattle.rights_types.specs.declared.moves.Move.{Move}
 use Rattle.rights_types.proofs.Chains.{prefix_chain}
-use Rattle.rights_types.proofs.Sums.{moves_of-nil, back-nil}
 use Rattle.rights_protocol.specs.Lists.{Lists}
 use Rattle.rights_protocol.specs.Retiring.{entry_at_end, owed, numbers_in, taking_back}
 use Rattle.rights_protocol.specs.Writing.{closing_moves}
@@ -18,16 +16,12 @@ use Rattle.rights_protocol.specs.Changes.Change.{Append, Offer, Take, CloseSite,
 use Rattle.rights_protocol.specs.Kept.{SiteKept, LinkKept, Kept}
 use Rattle.rights_protocol.proofs.Takings.{taking_cases}
 use Rattle.rights_protocol.proofs.Links.{link_grows, link_reaches, link_applies, applied_begins}
-use Rattle.rights_protocol.proofs.Untouched.{next_untouched}
 use Rattle.rights_protocol.proofs.Sites.{site_same, site_appends, site_closes, site_takes, site_starts}
 
 -- ---- a link whose lists stay
 
 same_link : (old new : Lists) (s o : ℕ) → Kept old → LinkStays old new s o → LinkKept (old.log o) (new.reached s o) (new.put s o) (new.applied s o)
 same_link old new s o kept stays = rw (stays.reached, stays.put, stays.applied) (kept.links s o)
-
-same_untouched : (old new : Lists) (s o : ℕ) → Kept old → new.applied s o ≡ old.applied s o → back s (moves_of (new.applied s o)) ≡ 0
-same_untouched old new s o kept same = rw same (kept.untouched s o)
 
 pub stays_kept : (old new : Lists) → Kept old → Stays old new → Kept new
 stays_kept old new kept stays = record {
@@ -36,7 +30,6 @@ stays_kept old new kept stays = record {
   sites = λ s. rw stays.count
       (site_same old.count s (old.log s) (new.log s) (old.applied s) (new.applied s) (kept.sites s) (stays.sites s).log (λ o. ((stays.sites s).links o).applied));
   links = λ s o. rw (stays.sites o).log (same_link old new s o kept ((stays.sites s).links o));
-  untouched = λ s o. same_untouched old new s o kept ((stays.sites s).links o).applied;
 }
 
 -- ---- a change of one site
@@ -62,9 +55,9 @@ log_grows old new s e others grown chain o reached put applied k = elim (cases_e
 
 -- what site s keeps, and each of its links
 kept_by : (old new : Lists) (s : ℕ) → Kept old → OthersStay old new s → SiteKept old.count s (new.log s) (new.applied s) → GoesOn old new
-    → ((o : ℕ) → LinkKept (old.log o) (new.reached s o) (new.put s o) (new.applied s o)) → ((o : ℕ) → back s (moves_of (new.applied s o)) ≡ 0) → Kept new
+    → ((o : ℕ) → LinkKept (old.log o) (new.reached s o) (new.put s o) (new.applied s o)) → Kept new
 unfolding GoesOn
-kept_by old new s kept others site goes_on links untouched = record {
+kept_by old new s kept others site goes_on links = record {
   some = rw others.count kept.some;
   few = rw others.count kept.few;
   sites = λ k. rw others.count (elim (cases_eq k s) [
@@ -77,10 +70,6 @@ kept_by old new s kept others site goes_on links untouched = record {
     | inl p ↦ subst (λ j. LinkKept (old.log o) (new.reached j o) (new.put j o) (new.applied j o)) (sym p) (links o)
     | inr ne ↦ same_link old new k o kept ((others.sites k ne).links o)
   ]);
-  untouched = λ k o. elim (cases_eq k s) [
-    | inl p ↦ subst (λ j. back j (moves_of (new.applied j o)) ≡ 0) (sym p) (untouched o)
-    | inr ne ↦ same_untouched old new k o kept ((others.sites k ne).links o).applied
-  ];
 }
 
 -- an entry more of the log of s, and its links stay
@@ -89,7 +78,6 @@ writes_kept : (old new : Lists) (s : ℕ) (e : EntryValue) → Kept old → Othe
 writes_kept old new s e kept others grown links site =
     let here : SiteKept old.count s (new.log s) (new.applied s) = site_same old.count s (old.log s ++ e ∷ []) (new.log s) (old.applied s) (new.applied s) site grown (λ o. (links o).applied) in
     kept_by old new s kept others here (log_grows old new s e others grown here.chain) (λ o. same_link old new s o kept (links o))
-    (λ o. same_untouched old new s o kept (links o).applied)
 
 appends_kept : (old new : Lists) (s : ℕ) (ms : List Move) → Kept old → Appends old new s ms → Kept new
 appends_kept old new s ms kept step =
@@ -120,7 +108,6 @@ reaches_kept old new s o e kept sent r =
       | inl p ↦ subst (λ j. LinkKept (old.log j) (new.reached s j) (new.put s j) (new.applied s j)) (sym p) (reached_link old new s o e kept sent r)
       | inr ne ↦ same_link old new s k kept (r.links k ne)
     ])
-    (λ k. same_untouched old new s k kept (same_applied k))
 
 offers_kept : (old new : Lists) (s o : ℕ) (e : EntryValue) → Kept old → Offers old new s o e → Kept new
 offers_kept old new s o e kept offer = elim offer.comes [
@@ -155,10 +142,6 @@ takes_kept old new s o kept step =
           (rw (step.reached o, step.put o, step.applied.there) (link_applies (old.log o) (old.reached s o) (old.put s o) (old.applied s o) e (kept.links s o) step.next))
       | inr ne ↦ same_link old new s k kept (record { reached = step.reached k; put = step.put k; applied = step.applied.elsewhere k ne })
     ])
-    (λ k. elim (cases_eq k o) [
-      | inl p ↦ subst (λ j. back s (moves_of (new.applied s j)) ≡ 0) (sym p) (next_untouched old new s o kept step)
-      | inr ne ↦ same_untouched old new s k kept (step.applied.elsewhere k ne)
-    ])
 
 -- ---- any change, and the start
 
@@ -184,5 +167,4 @@ start_kept n w start = record {
     held = omega arith;
     begins = ([], refl);
   });
-  untouched = λ s o. ap (λ es. back s (moves_of es)) (start.applied s o) ∙ ap (back s) moves_of-nil ∙ back-nil s;
 }

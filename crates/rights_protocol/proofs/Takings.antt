@@ -1,8 +1,8 @@
 -- Laws of the entries that take back.
-use Rattle.std.proofs.Common.{◌≡◌, ◌≢◌, ℕ, ◌+◌, ◌≤◌, ◌⊎◌, inl, inr, Bool, true, false, eqb, List, [], ◌∷◌, ◌++◌, Option, Some, arith, refl, sym, ap, ◌∙◌}
+use Rattle.std.proofs.Common.{◌≡◌, ◌≢◌, ℕ, ◌+◌, ◌≤◌, ◌⊎◌, inl, inr, Bool, true, false, cond, eqb, leb, List, [], ◌∷◌, ◌++◌, Option, Some, arith, refl, sym, ap, ◌∙◌}
 use Rattle.std.specs.Prelude.{map}
 use Rattle.std.specs.List.{list_any, filter}
-use Rattle.std.proofs.lemmas.Bool.{cases_Bool, cases_eq, eq-eqb, ne_eqb, or_parts}
+use Rattle.std.proofs.lemmas.Bool.{cases_Bool, cases_eq, eq-eqb, le-leb, ne_eqb, or_parts}
 use Rattle.std.proofs.lemmas.List.{append-nil, map-append}
 use Rattle.std.proofs.lemmas.List.Elements.{filter-append}
 use Rattle.rights_types.specs.Entries.{EntryValue}
@@ -12,7 +12,7 @@ use Rattle.rights_types.specs.Rights.{to, back}
 use Rattle.rights_types.specs.declared.moves.Move.{Move}
 use Rattle.rights_types.specs.declared.moves.Move.TheVariants.{Issue, Spend, Grant, Give, Close, CloseAt, TakeBack}
 use Rattle.rights_types.proofs.Sums.{moves_of-nil, back-append, back-nil, back-cons, back-one}
-use Rattle.rights_protocol.specs.Retiring.{owed, entry_at_end, one_taking, takes_from, takings}
+use Rattle.rights_protocol.specs.Retiring.{beyond, owed, entry_at_end, one_taking, takes_from, takings}
 use Rattle.rights_protocol.proofs.Frontiers.{owed_push}
 
 abbrev moves_in : EntryValue → List Move
@@ -23,14 +23,14 @@ takes_one c e = list_any (takes_from c) e.moves
 
 -- ---- one more entry
 
-takings_split : (c : ℕ) (es : List EntryValue) (e : EntryValue) → takings c (es ++ e ∷ []) ≡ takings c es ++ takings c (e ∷ [])
-takings_split c es e =
-    ap (map moves_in) (filter-append (takes_one c) es (e ∷ [])) ∙ map-append moves_in (filter (takes_one c) es) (filter (takes_one c) (e ∷ []))
+takings_split : (c : ℕ) (xs ys : List EntryValue) → takings c (xs ++ ys) ≡ takings c xs ++ takings c ys
+takings_split c xs ys =
+    ap (map moves_in) (filter-append (takes_one c) xs ys) ∙ map-append moves_in (filter (takes_one c) xs) (filter (takes_one c) ys)
 
 takings_last : (c : ℕ) (es : List EntryValue) (e : EntryValue) → takes_one c e ≡ false → takings c (es ++ e ∷ []) ≡ takings c es
 takings_last c es e none =
     let last : takings c (e ∷ []) ≡ [] = rw none refl in
-    takings_split c es e ∙ ap (λ (xs : List (List Move)). takings c es ++ xs) last ∙ append-nil (takings c es)
+    takings_split c es (e ∷ []) ∙ ap (λ (xs : List (List Move)). takings c es ++ xs) last ∙ append-nil (takings c es)
 
 -- an entry that takes nothing back from c, and gives it nothing where a K of c was applied
 pub taken_push : (s c : ℕ) (es : List EntryValue) (e : EntryValue) (k : Option (List ℕ)) → list_any (takes_from c) e.moves ≡ false
@@ -42,8 +42,43 @@ pub taken_now : (s c n : ℕ) (es : List EntryValue) (e : EntryValue) (k : Optio
     → e.moves ∷ [] ≡ one_taking c n → n ≡ owed s c es k → takings c (es ++ e ∷ []) ≡ one_taking c (owed s c (es ++ e ∷ []) k)
 taken_now s c n es e k none given some one is =
     let last : takings c (e ∷ []) ≡ e.moves ∷ [] = rw some refl in
-    takings_split c es e ∙ ap (λ (xs : List (List Move)). takings c es ++ xs) last ∙ ap (λ (xs : List (List Move)). xs ++ e.moves ∷ []) none
+    takings_split c es (e ∷ []) ∙ ap (λ (xs : List (List Move)). takings c es ++ xs) last ∙ ap (λ (xs : List (List Move)). xs ++ e.moves ∷ []) none
     ∙ one ∙ ap (one_taking c) (is ∙ sym (owed_push s c es e k (λ numbers _. given)))
+
+-- ---- where they stand
+
+-- of entries that take nothing back from c, those beyond a number take nothing back either
+pub none_beyond : (c f : ℕ) (es : List EntryValue) → takings c es ≡ [] → takings c (beyond f es) ≡ []
+none_beyond c f [] none = refl
+none_beyond c f (e ∷ es) none = elim (cases_Bool (takes_one c e)) [
+  | inl t ↦ let some : takings c (e ∷ es) ≡ e.moves ∷ takings c es = rw t refl in absurd cc
+  | inr t ↦
+      let rest : takings c es ≡ [] = (let same : takings c (e ∷ es) ≡ takings c es = rw t refl in sym same ∙ none) in
+      elim (leb f e.prev) as (λ b. takings c (cond b (e ∷ beyond f es) (beyond f es)) ≡ []) [
+        | true ↦ rw t (none_beyond c f es rest)
+        | false ↦ none_beyond c f es rest
+      ]
+]
+
+beyond_split : (c f : ℕ) (es : List EntryValue) (e : EntryValue) → takings c (beyond f (es ++ e ∷ [])) ≡ takings c (beyond f es) ++ takings c (beyond f (e ∷ []))
+beyond_split c f es e = ap (takings c) (filter-append (λ (x : EntryValue). leb f x.prev) es (e ∷ [])) ∙ takings_split c (beyond f es) (beyond f (e ∷ []))
+
+-- an entry more that takes nothing back from c
+pub placed_push : (c f : ℕ) (es : List EntryValue) (e : EntryValue) → list_any (takes_from c) e.moves ≡ false → takings c (beyond f es) ≡ takings c es
+    → takings c (beyond f (es ++ e ∷ [])) ≡ takings c (es ++ e ∷ [])
+placed_push c f es e none old =
+    let last : takings c (beyond f (e ∷ [])) ≡ [] = none_beyond c f (e ∷ []) (rw none refl) in
+    beyond_split c f es e ∙ ap (λ (xs : List (List Move)). takings c (beyond f es) ++ xs) last ∙ append-nil (takings c (beyond f es)) ∙ old
+    ∙ sym (takings_last c es e none)
+
+-- the first entry that takes back from c
+pub placed_now : (c f : ℕ) (es : List EntryValue) (e : EntryValue) → takings c es ≡ [] → f ≤ e.prev → takings c (beyond f (es ++ e ∷ [])) ≡ takings c (es ++ e ∷ [])
+placed_now c f es e none at =
+    let here : leb f e.prev ≡ true = le-leb f e.prev at in
+    let last : beyond f (e ∷ []) ≡ e ∷ [] = rw here refl in
+    let front : takings c (beyond f es) ≡ takings c es = none_beyond c f es none ∙ sym none in
+    beyond_split c f es e ∙ ap (λ (xs : List EntryValue). takings c (beyond f es) ++ takings c xs) last ∙ ap (λ (xs : List (List Move)). xs ++ takings c (e ∷ [])) front
+    ∙ sym (takings_split c es (e ∷ []))
 
 -- ---- what they take back
 
@@ -92,6 +127,10 @@ one_gives c n = elim (cases_eq n 0) [
 -- where the entries that take back from c take n, n is taken back from c
 pub taken_is : (c n : ℕ) (es : List EntryValue) → takings c es ≡ one_taking c n → back c (moves_of es) ≡ n
 taken_is c n es h = each_taking c es ∙ ap (back_each c) h ∙ one_gives c n
+
+-- entries of the same takings take back the same
+pub same_takings : (c : ℕ) (xs ys : List EntryValue) → takings c xs ≡ takings c ys → back c (moves_of xs) ≡ back c (moves_of ys)
+same_takings c xs ys same = each_taking c xs ∙ ap (back_each c) same ∙ sym (each_taking c ys)
 
 -- ---- an entry that is written
 

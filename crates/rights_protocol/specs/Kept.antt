@@ -1,13 +1,13 @@
 -- What is kept by every change: of each site alone, and of each link between two.
-use Rattle.std.specs.Prelude.{◌≡◌, ◌≢◌, ℕ, ◌+◌, ◌≤◌, true, false, List, [], length, Some, if◌then◌else◌}
-use Rattle.std.specs.List.{All, AllPairs, Contains}
+use Rattle.std.specs.Prelude.{◌≡◌, ◌≢◌, ℕ, ◌+◌, ◌-◌, ◌≤◌, true, false, List, [], length, Some, if◌then◌else◌}
+use Rattle.std.specs.List.{All, AllPairs, Contains, slice_get}
 use Rattle.rights_types.specs.Entries.{EntryValue}
 use Rattle.rights_types.specs.Chains.{end, is_closed, IsChain, IsPrefix, IsLongest, moves_of}
 use Rattle.rights_types.specs.Moves.{NamesWithin}
-use Rattle.rights_types.specs.Rights.{covers, received, back, sum_sites}
+use Rattle.rights_types.specs.Rights.{covers, received, sum_sites}
 use Rattle.rights_types.specs.declared.limits.TheConstants.{MIN_SITES, MAX_SITES, MAX_HELD, LAST_APPEND}
 use Rattle.rights_protocol.specs.Lists.{Lists}
-use Rattle.rights_protocol.specs.Retiring.{frontier, own_frontier, owed, takings, one_taking}
+use Rattle.rights_protocol.specs.Retiring.{frontier, own_frontier, beyond, owed, takings, one_taking}
 
 -- how many of n sites are closed, by what was applied of their logs
 abbrev pub known_closed : ℕ → (ℕ → List EntryValue) → ℕ
@@ -26,6 +26,9 @@ pub record SiteKept (n s : ℕ) (log : List EntryValue) (applied : ℕ → List 
   pub closing : is_closed log ≡ true → frontier log ≡ Some (own_frontier n applied)
   -- from each c whose K it applied it took back what it owes by that K, once; and from no other
   pub taken : (c : ℕ) → takings c log ≡ one_taking c (owed s c log (frontier (applied c)))
+  -- and the entry that did so begins at its own place in that K, or after it: c has not applied it
+  pub placed : (c : ℕ) (numbers : List ℕ) (place : ℕ) → frontier (applied c) ≡ Some numbers → slice_get numbers (s - 1) ≡ Some place
+      → takings c (beyond place log) ≡ takings c log
   -- above the last number of an ordinary entry there is one take back, at most, for each site known as closed
   pub fits : is_closed log ≡ false → end log ≤ LAST_APPEND + known_closed n applied
 
@@ -42,5 +45,3 @@ pub record Kept (w : Lists) : Type 0 where
   pub few : w.count ≤ MAX_SITES
   pub sites : (s : ℕ) → SiteKept w.count s (w.log s) (w.applied s)
   pub links : (s o : ℕ) → LinkKept (w.log o) (w.reached s o) (w.put s o) (w.applied s o)
-  -- what a site applied takes nothing back from it
-  pub untouched : (s o : ℕ) → back s (moves_of (w.applied s o)) ≡ 0

@@ -1,5 +1,6 @@
 -- The protocol as laws, to be read in this order: the lists of a system of sites, what may happen to them,
--- what is kept, what follows, and the Bounded Counter that the lists make up.
+-- what is kept, what follows, the Bounded Counter that the lists make up, and what holds in every schedule of
+-- sites that run apart.
 pub mod Lists
 pub mod Retiring
 pub mod Writing
@@ -12,3 +13,4 @@ pub mod Examples
 pub mod BoundedCounter
 pub mod CounterOfLists
 pub mod CounterLaws
+pub mod Schedules

@@ -28,12 +28,18 @@
 //!   its guard. (`BoundedCounter` has the authors' definitions, and reclaiming besides them;
 //!   `CounterOfLists` reads the lists as such a counter; `CounterLaws` says what is proved.)
 //!
+//! - **Schedules.** Sites that run apart take steps of their own, each by its own lists alone. However these are
+//!   interleaved, it is a run of the protocol, and all of the above holds at each moment. Of a cut, where each site is
+//!   looked at in a moment of its own, it follows from the facts of the sites, with no history. The premise is one
+//!   writer for each log.
+//!
 //! The laws are on empty functions, so that they are proved with the crate.
 #![tactic(auto)]
 
 mod counter;
 mod examples;
 mod laws;
+mod schedules;
 
 pub use counter::{
     counter_is_safe, kept_counts, own_row_only, run_operates, small_counter, step_operates,
@@ -45,3 +51,4 @@ pub use laws::{
     applied_for_good, closed_for_good, every_moment, every_run, kept_promises, one_site,
     start_is_kept, step_keeps,
 };
+pub use schedules::{any_cut, any_schedule, local_keeps, local_run_kept};

@@ -3,6 +3,7 @@
 mod events;
 mod heaps;
 mod memory;
+mod pairs;
 mod script;
 mod session;
 mod sizes;

@@ -57,18 +57,25 @@ planned d b count new is ledger same by_book by_logs =
 
 -- ---- what can be granted
 
+-- n rights can be granted to site j: they are held, neither has closed, and the log has a number for the entry
+pub record CanGrant (d : DeskValue) (j n : ℕ) : Type 0 where
+  pub unclosed : has_closed d ≡ false
+  pub open_peer : (account d.ledger.book j).closed ≡ false
+  pub room : is_full d 1 ≡ false
+  pub held : n ≤ held_by d.ledger.book
+
 some_available : (closed gone full : Bool) (n most : ℕ) → 1 ≤ n → n ≤ cond (closed || gone || full) 0 most
-    → (gone ≡ false) × (n ≤ most)
+    → (closed ≡ false) × (gone ≡ false) × (full ≡ false) × (n ≤ most)
 some_available true gone full n most some le = absurd (omega arith)
 some_available false true full n most some le = absurd (omega arith)
 some_available false false true n most some le = absurd (omega arith)
-some_available false false false n most some le = (refl, le)
+some_available false false false n most some le = (refl, refl, refl, le)
 
--- where something is available the peer has not closed, and as much is held
-pub can_grant : (d : DeskValue) (j n : ℕ) → 1 ≤ n → n ≤ available d j → ((account d.ledger.book j).closed ≡ false) × (n ≤ held_by d.ledger.book)
+-- where something is available
+pub can_grant : (d : DeskValue) (j n : ℕ) → 1 ≤ n → n ≤ available d j → CanGrant d j n
 can_grant d j n some le =
     let p = some_available (has_closed d) (account d.ledger.book j).closed (is_full d 1) n (held_by d.ledger.book - total_of d.queue.waiting) some le in
-    (p.0, omega (arith, p.1))
+    record { unclosed = p.0; open_peer = p.1; room = p.2; held = omega (arith, p.3) }
 
 pub grant_unrefused : (b : BookValue) (j n a : ℕ) → j ≤ sites b → j ≢ b.me → (account b j).closed ≡ false → n ≤ held_by b → check_fault b (Grant j n a ∷ []) ≡ None
 grant_unrefused b j n a high other unclosed within =

@@ -7,3 +7,5 @@ pub mod ExpiryLaws
 pub mod AskLaws
 pub mod RetiringLaws
 pub mod InboundLaws
+pub mod Keeping
+pub mod Tested

@@ -19,7 +19,6 @@ use Rattle.rights_protocol.specs.Laws.{SiteGoesOn}
 use Rattle.rights_protocol.proofs.Sites.{site_starts}
 use Rattle.rights_protocol.proofs.OneSite.{site_goes_on}
 use Rattle.origin_log.specs.Logs.{with_entry, is_special}
-use Rattle.origin_log.specs.Faults.{append_fault}
 use Rattle.rights_book.specs.Books.{BookValue, sites, account, held_by, IsBook}
 use Rattle.rights_book.specs.Checks.{names_above, gives_to_closed, check_fault}
 use Rattle.rights_book.specs.Peers.{no_peer}
@@ -29,7 +28,7 @@ use Rattle.rights_book.specs.declared.peer.Peer.{Peer}
 use Rattle.rights_book.proofs.CallLaws.{other_account}
 use Rattle.rights_book.proofs.CheckLaws.{IsChecked, checked, named_within}
 use Rattle.rights_book.proofs.StandLaws.{held_stands}
-use Rattle.site_core.specs.Ledgers.{LedgerValue, IsLedger, HasApplied, frontier_of, SameApplied, MoreApplied, owed_by, with_takings}
+use Rattle.site_core.specs.Ledgers.{LedgerValue, IsLedger, HasApplied, frontier_of, IsWritable, SameApplied, MoreApplied, owed_by, with_takings}
 use Rattle.site_core.proofs.LedgerLaws.{no_cause, HasRoom, has_room}
 
 -- ---- what the book says, in the protocol's words
@@ -122,31 +121,24 @@ open_receivers b ms h =
     let closed = no_cause (list_any (gives_to_closed b) ms) _ _ same.1 in
     closed.0
 
--- moves that log and book do not refuse
-pub record IsOrdinary (l : LedgerValue) (ms : List Move) : Type 0 where
-  pub ranges : All IsMove ms
-  pub plain : list_any is_special ms ≡ false
-  pub room : append_fault l.log ms ≡ None
-  pub covered : check_fault l.book ms ≡ None
-
-pub may_append : (l : LedgerValue) (ms : List Move) (applied : ℕ → List EntryValue) → IsLedger l → IsOrdinary l ms → IsSiteState applied l
+pub may_append : (l : LedgerValue) (ms : List Move) (applied : ℕ → List EntryValue) → IsLedger l → All IsMove ms → IsWritable l ms → IsSiteState applied l
     → MayAppend (sites l.book) l.log.site l.log.entries applied ms
-may_append l ms applied is ordinary state =
-    let room : HasRoom l.log ms = has_room l.log ms ordinary.room in
-    let ok : IsChecked l.book ms = checked l.book ms ordinary.covered in
+may_append l ms applied is ranges ok state =
+    let room : HasRoom l.log ms = has_room l.log ms ok.room in
+    let tested : IsChecked l.book ms = checked l.book ms ok.covered in
     record {
       unclosed = room.unclosed;
       some = room.some;
       few = room.few;
-      moves = ordinary.ranges;
-      plain = plain_moves ms ordinary.plain;
-      within = named_within (sites l.book) ms ordinary.ranges ok.within;
-      others = subst (λ s. list_any (names s) ms ≡ false) is.same_site ok.others;
+      moves = ranges;
+      plain = plain_moves ms ok.plain;
+      within = named_within (sites l.book) ms ranges tested.within;
+      others = subst (λ s. list_any (names s) ms ≡ false) is.same_site tested.others;
       open_peers = λ c closed.
           (let ne : c ≢ l.book.me = λ e. both_ways (is_closed (applied c)) (ap is_closed (ap applied e ∙ state.itself)) closed in
-          none_named l.book c ms (state.closed c ne ∙ closed) ordinary.plain (open_receivers l.book ms ordinary.covered));
+          none_named l.book c ms (state.closed c ne ∙ closed) ok.plain (open_receivers l.book ms ok.covered));
       fits = room.within;
-      holds = subst (λ r. covers r ms ≡ true) state.held ok.covered;
+      holds = subst (λ r. covers r ms ≡ true) state.held tested.covered;
     }
 
 -- ---- what was applied is so still
@@ -164,12 +156,12 @@ same_applied old new ms log same in_book kept = record {
   all = λ applied h. record { in_book = in_book applied h.in_book; kept = rw (same, log) (kept applied h) };
 }
 
-pub written_applied : (old new : LedgerValue) (ms : List Move) → IsLedger old → IsBook old.book → IsOrdinary old ms → new.log ≡ with_entry old.log ms → sites new.book ≡ sites old.book
+pub written_applied : (old new : LedgerValue) (ms : List Move) → IsLedger old → IsBook old.book → All IsMove ms → IsWritable old ms → new.log ≡ with_entry old.log ms → sites new.book ≡ sites old.book
     → ((applied : ℕ → List EntryValue) → StandsForApplied applied old.book → StandsForApplied applied new.book) → SameApplied old new
-written_applied old new ms is book ordinary log same in_book =
+written_applied old new ms is book ranges ok log same in_book =
     same_applied old new ms log same in_book
     (λ applied h. (let state : IsSiteState applied old = site_state old applied is book h in
-    (goes_on old applied state).appends ms (may_append old ms applied is ordinary state)))
+    (goes_on old applied state).appends ms (may_append old ms applied is ranges ok state)))
 
 -- the next entry of another site, and what is taken back by it
 pub applied_more : (old new : LedgerValue) (o : ℕ) (e : EntryValue) → IsLedger old → IsBook old.book → 1 ≤ o → o ≤ sites old.book → o ≢ old.book.me → is_closed old.log.entries ≡ false

@@ -55,7 +55,7 @@ open_taken false log o n opened = closed_with log (TakeBack o n ∷ [])
 
 sites_taken : (none : Bool) (old : BookValue) (o n : ℕ) (new : BookValue) → TakesBackIf none old o n new → sites new ≡ sites old
 sites_taken true old o n new t = ap (λ (b : BookValue). sites b) t
-sites_taken false old o n new t = t.writes.same_sites
+sites_taken false old o n new t = t.same_sites
 
 -- after an entry was applied, once the asks that it grants have ended
 pub applied : (d : DeskValue) (o : ℕ) (e : EntryValue) (new : LedgerValue) (m : ManagerValue) → IsDesk d → has_closed d ≡ false → AppliesEntry d.ledger o e new

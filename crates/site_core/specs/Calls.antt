@@ -1,5 +1,5 @@
 -- What each call of a desk answers and leaves.
-use Rattle.std.specs.Prelude.{◌≡◌, ℕ, ◌-◌, ◌<◌, Bool, true, false, not, ◌||◌, List, [], ◌∷◌, ◌++◌, length, map, Option, Some, None, Ok, if◌then◌else◌}
+use Rattle.std.specs.Prelude.{◌≡◌, ℕ, ◌-◌, ◌<◌, ◌≤◌, Bool, true, false, not, ◌||◌, List, [], ◌∷◌, ◌++◌, length, map, Option, Some, None, Ok, if◌then◌else◌}
 use Rattle.std.specs.List.{filter, slice_get}
 use Rattle.std.specs.Option.{option_map}
 use Rattle.rights_types.specs.Entries.{EntryValue}
@@ -20,7 +20,7 @@ use Rattle.transfer_manager.specs.declared.answer.AskAnswer.{AskAnswer}
 use Rattle.transfer_manager.specs.declared.answer.AskAnswer.TheVariants.{Grant as Granted, Deny, RepeatedDeny, Repeated, OldAsk}
 use Rattle.transfer_manager.specs.Plans.{Plans, of_book, of_logs}
 use Rattle.transfer_manager.specs.AskAnswers.{answer_to, noted}
-use Rattle.site_core.specs.Ledgers.{HasApplied, WritesEntry, WritesClosing, AppliesEntry}
+use Rattle.site_core.specs.Ledgers.{HasApplied, WritesEntry, EntryKeeps, WritesClosing, AppliesEntry}
 use Rattle.site_core.specs.Desks.{DeskValue, after_grants}
 use Rattle.site_core.specs.Faults.{has_closed, is_full, can_spend}
 use Rattle.site_core.specs.declared.desk.requests.Spending.{Spending}
@@ -40,16 +40,22 @@ DeskSpends old n deadline (Spent number) new =
 DeskSpends old n deadline (Queued ticket) new =
     (can_spend old n ≡ false) × Puts old.queue n deadline (Ok ticket) new.queue × (new ≡ record old { queue = new.queue })
 
+-- what the entry keeps, where the spend is served at once
+abbrev pub SpendKeeps : DeskValue → ℕ → Spending → DeskValue → Type 0
+SpendKeeps old n (Spent number) new = EntryKeeps old.ledger (Spend n ∷ []) new.ledger
+SpendKeeps old n (Queued ticket) new = Unit {0}
+
 -- nothing waits, or less is held than the front request is for
 abbrev pub CannotServe : DeskValue → Option (ℕ × ℕ × ℕ) → Type 0
 CannotServe d None = Unit {0}
 CannotServe d (Some front) = held_by d.ledger.book < front.1
 
--- the front request was served by an entry that spends its amount
+-- the front request, for no more than was held, was served by an entry that spends its amount
 pub record ServesFront (old : DeskValue) (ticket number : ℕ) (new : DeskValue) : Type 0 where
   pub amount : ℕ
   pub deadline : ℕ
   pub front : front_of old.queue.waiting ≡ Some (ticket, amount, deadline)
+  pub covered : amount ≤ held_by old.ledger.book
   pub entry : WritesEntry old.ledger (Spend amount ∷ []) new.ledger
   pub at_end : number ≡ end new.ledger.log.entries
   pub queue : Serves old.queue number new.queue
@@ -58,6 +64,12 @@ pub record ServesFront (old : DeskValue) (ticket number : ℕ) (new : DeskValue)
 abbrev pub DeskServes : DeskValue → Option (ℕ × ℕ) → DeskValue → Type 0
 DeskServes old None new = CannotServe old (front_of old.queue.waiting) × (new ≡ old)
 DeskServes old (Some (ticket, number)) new = ServesFront old ticket number new
+
+-- what that entry keeps
+abbrev pub ServeKeeps : DeskValue → Option (ℕ × ℕ) → DeskValue → Type 0
+ServeKeeps old None new = Unit {0}
+ServeKeeps old (Some (ticket, number)) new =
+    (amount deadline : ℕ) → front_of old.queue.waiting ≡ Some (ticket, amount, deadline) → EntryKeeps old.ledger (Spend amount ∷ []) new.ledger
 
 -- the requests that are late at this time, and those that go on waiting
 abbrev pub late : ℕ → List Request → List Request
@@ -147,6 +159,11 @@ DeskAnswers old ask (Granted n) number new =
     WritesEntry old.ledger (Grant ask.asker n ask.ask ∷ []) new.ledger × (number ≡ Some (end new.ledger.log.entries))
     × (new ≡ record old { ledger = new.ledger; manager = noted old.manager ask (Granted n) })
 DeskAnswers old ask answer number new = (number ≡ None) × (new ≡ record old { manager = noted old.manager ask answer })
+
+-- what the entry of a grant keeps
+abbrev pub AnswerKeeps : DeskValue → AskValue → AskAnswer → DeskValue → Type 0
+AnswerKeeps old ask (Granted n) new = EntryKeeps old.ledger (Grant ask.asker n ask.ask ∷ []) new.ledger
+AnswerKeeps old ask answer new = Unit {0}
 
 -- ---- applying and closing
 

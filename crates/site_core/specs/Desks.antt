@@ -4,11 +4,11 @@ use Rattle.rights_types.specs.Chains.{moves_of, is_closed}
 use Rattle.rights_types.specs.Messages.{AskValue}
 use Rattle.rights_types.specs.declared.moves.Move.{Move}
 use Rattle.rights_types.specs.declared.moves.Move.TheVariants.{Grant}
-use Rattle.rights_book.specs.Books.{sites}
+use Rattle.rights_book.specs.Books.{sites, IsBook}
 use Rattle.request_queue.specs.Queues.{QueueValue, no_requests}
 use Rattle.transfer_manager.specs.Managers.{ManagerValue, new_manager, sites as asked_sites, ended}
 use Rattle.transfer_manager.specs.AskAnswers.{IsAnswered}
-use Rattle.site_core.specs.Ledgers.{LedgerValue, new_ledger}
+use Rattle.site_core.specs.Ledgers.{LedgerValue, new_ledger, IsLedger}
 
 -- what the site wrote, holds and knows, the spends that wait, its asks, and the time of the last expiry
 pub record DeskValue : Type 0 where
@@ -37,6 +37,12 @@ pub record IsDesk (d : DeskValue) : Type 0 where
   pub idle : is_closed d.ledger.log.entries ≡ true → d.queue.waiting ≡ []
   pub once : (j a : ℕ) → grant_count j a (moves_of d.ledger.log.entries) ≤ 1
   pub answered : (past : AskValue) → 1 ≤ grant_count past.asker past.ask (moves_of d.ledger.log.entries) → IsAnswered d.manager past
+
+-- of a desk, whatever it wrote and applied: its log and book are a ledger's, and a closed site keeps no spend waiting
+pub record DeskSound (d : DeskValue) : Type 0 where
+  pub ledger : IsLedger d.ledger
+  pub book : IsBook d.ledger.book
+  pub idle : is_closed d.ledger.log.entries ≡ true → d.queue.waiting ≡ []
 
 -- the asks, once this move of site o was applied at site me
 abbrev pub after_grant : ℕ → ℕ → Move → ManagerValue → ManagerValue

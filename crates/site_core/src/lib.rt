@@ -6,6 +6,7 @@
 mod desk;
 mod fault;
 mod inbound;
+pub mod laws;
 mod ledger;
 mod line;
 mod owed;

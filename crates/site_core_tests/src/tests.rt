@@ -9,6 +9,7 @@ mod random;
 mod readers;
 mod refusals;
 mod retiring;
+mod room;
 mod sites;
 mod sixteen;
 mod sizes;

@@ -1,16 +1,26 @@
 -- The metrics of a site, in their order.
 use Rattle.std.specs.Prelude.{ℕ, Bool, List, [], ◌∷◌, ◌++◌, codes, decimal, map, if◌then◌else◌}
 use Rattle.std.specs.List.{zip}
+use Rattle.site_metrics.specs.declared.kind.Kind.{Kind}
+use Rattle.site_metrics.specs.declared.kind.Kind.TheVariants.{Gauge, Counter}
 use Rattle.site_metrics.specs.declared.metrics.Metrics.{Metrics}
 use Rattle.site_metrics.specs.declared.metrics.PeerMetrics.{PeerMetrics}
 use Rattle.site_metrics.specs.Format.{Sample, Family, exposition}
 use Rattle.site_metrics.specs.Refusals.{refusal_names}
 
+-- the word for a type
+abbrev pub kind_word : Kind → List ℕ
+kind_word Gauge = codes "gauge"
+kind_word Counter = codes "counter"
+
+abbrev pub family : Kind → List ℕ → List ℕ → List Sample → Family
+family kind name help samples = record { name = name; help = help; kind = kind_word kind; samples = samples }
+
 abbrev pub gauge : List ℕ → List ℕ → List Sample → Family
-gauge name help samples = record { name = name; help = help; kind = codes "gauge"; samples = samples }
+gauge = family Gauge
 
 abbrev pub counter : List ℕ → List ℕ → List Sample → Family
-counter name help samples = record { name = name; help = help; kind = codes "counter"; samples = samples }
+counter = family Counter
 
 -- a metric with one value has no labels
 abbrev pub alone : ℕ → List Sample

@@ -6,6 +6,7 @@
 #![tactic(auto)]
 
 mod counters;
+mod kind;
 mod metrics;
 mod peer_value;
 mod refusals;

@@ -3,10 +3,11 @@
 ghost use Rattle.std.specs.Prelude.{◌≡◌, ℕ, List, ◌++◌, ◌∷◌, [], codes, drop, flat_map, length, ◌≤◌, ◌+◌, ◌*◌, OnOk, IsOk};
 ghost use Rattle.std.specs.List.{zip};
 ghost use Rattle.site_metrics.specs.Format.{help_line, type_line, sample_line, led_lines};
-ghost use Rattle.site_metrics.specs.Table.{gauge, counter, alone, peer_sample, by_peer, name_sample, by_name};
+ghost use Rattle.site_metrics.specs.Table.{kind_word, family, alone, peer_sample, by_peer, name_sample, by_name};
 ghost use Rattle.site_metrics.specs.Refusals.{refusal_names};
 ghost use Rattle.site_metrics.specs.PeerValues.{peer_value};
 
+use crate::kind::Kind;
 use crate::metrics::PeerMetrics;
 use crate::peer_value::PeerValue;
 use crate::refusals::{REFUSAL_COUNT, refusal_name};
@@ -24,63 +25,48 @@ pub(crate) const HEAD_ROOM: usize = 226;
 
 pub(crate) const SAMPLE_ROOM: usize = 96;
 
-/// A gauge with one value, at the beginning of the text, with no line feed before it.
-pub(crate) fn put_first_gauge<A: Allocator>(
+/// A metric with one value, at the beginning of the text, with no line feed before it.
+pub(crate) fn put_first<A: Allocator>(
     replies: &mut Replies<A>,
+    kind: Kind,
     name: &[u8],
     help: &[u8],
     value: u64,
 ) -> Result<(), OutOfMemory>
     requires name { length name.now ≤ MAX_NAME }
     requires help { length help.now ≤ MAX_HELP }
-    ensures ok { OnOk result (replies.new.part ≡ replies.old.part ++ drop 1 (led_lines (gauge name.now help.now (alone value)))) }
+    ensures ok { OnOk result (replies.new.part ≡ replies.old.part ++ drop 1 (led_lines (family kind name.now help.now (alone value)))) }
     ensures kept { replies.new.whole ≡ replies.old.whole }
     ensures room { HEAD_ROOM + SAMPLE_ROOM ≤ replies.old.room → IsOk result }
     ensures left { replies.old.room ≤ replies.new.room + (HEAD_ROOM + SAMPLE_ROOM) }
 {
-    put_head(replies, name, help, b"gauge")?;
+    put_head(replies, kind, name, help)?;
     put_value(replies, name, value)
 }
 
-/// A gauge with one value.
-pub(crate) fn put_gauge<A: Allocator>(
+/// A metric with one value.
+pub(crate) fn put_alone<A: Allocator>(
     replies: &mut Replies<A>,
+    kind: Kind,
     name: &[u8],
     help: &[u8],
     value: u64,
 ) -> Result<(), OutOfMemory>
     requires name { length name.now ≤ MAX_NAME }
     requires help { length help.now ≤ MAX_HELP }
-    ensures ok { OnOk result (replies.new.part ≡ replies.old.part ++ led_lines (gauge name.now help.now (alone value))) }
+    ensures ok { OnOk result (replies.new.part ≡ replies.old.part ++ led_lines (family kind name.now help.now (alone value))) }
     ensures kept { replies.new.whole ≡ replies.old.whole }
     ensures room { HEAD_ROOM + SAMPLE_ROOM ≤ replies.old.room → IsOk result }
     ensures left { replies.old.room ≤ replies.new.room + (HEAD_ROOM + SAMPLE_ROOM) }
 {
-    put_gauge_head(replies, name, help)?;
+    put_led_head(replies, kind, name, help)?;
     put_value(replies, name, value)
 }
 
-/// A counter with one value.
-pub(crate) fn put_counter<A: Allocator>(
+/// A metric with a value for each peer.
+pub(crate) fn put_by_peer<A: Allocator>(
     replies: &mut Replies<A>,
-    name: &[u8],
-    help: &[u8],
-    value: u64,
-) -> Result<(), OutOfMemory>
-    requires name { length name.now ≤ MAX_NAME }
-    requires help { length help.now ≤ MAX_HELP }
-    ensures ok { OnOk result (replies.new.part ≡ replies.old.part ++ led_lines (counter name.now help.now (alone value))) }
-    ensures kept { replies.new.whole ≡ replies.old.whole }
-    ensures room { HEAD_ROOM + SAMPLE_ROOM ≤ replies.old.room → IsOk result }
-    ensures left { replies.old.room ≤ replies.new.room + (HEAD_ROOM + SAMPLE_ROOM) }
-{
-    put_counter_head(replies, name, help)?;
-    put_value(replies, name, value)
-}
-
-/// A gauge with a value for each peer.
-pub(crate) fn put_peer_gauge<A: Allocator>(
-    replies: &mut Replies<A>,
+    kind: Kind,
     name: &[u8],
     help: &[u8],
     peers: &[PeerMetrics],
@@ -88,100 +74,66 @@ pub(crate) fn put_peer_gauge<A: Allocator>(
 ) -> Result<(), OutOfMemory>
     requires name { length name.now ≤ MAX_NAME }
     requires help { length help.now ≤ MAX_HELP }
-    ensures ok { OnOk result (replies.new.part ≡ replies.old.part ++ led_lines (gauge name.now help.now (by_peer (peer_value value) peers.now))) }
+    ensures ok { OnOk result (replies.new.part ≡ replies.old.part ++ led_lines (family kind name.now help.now (by_peer (peer_value value) peers.now))) }
     ensures kept { replies.new.whole ≡ replies.old.whole }
     ensures room { HEAD_ROOM + SAMPLE_ROOM * length peers.now ≤ replies.old.room → IsOk result }
     ensures left { replies.old.room ≤ replies.new.room + (HEAD_ROOM + SAMPLE_ROOM * length peers.now) }
 {
-    put_gauge_head(replies, name, help)?;
+    put_led_head(replies, kind, name, help)?;
     put_peer_values(replies, name, peers, value)
 }
 
-/// A counter with a value for each peer.
-pub(crate) fn put_peer_counter<A: Allocator>(
+/// A metric with a count for each name of a refusal.
+pub(crate) fn put_by_name<A: Allocator>(
     replies: &mut Replies<A>,
-    name: &[u8],
-    help: &[u8],
-    peers: &[PeerMetrics],
-    value: PeerValue,
-) -> Result<(), OutOfMemory>
-    requires name { length name.now ≤ MAX_NAME }
-    requires help { length help.now ≤ MAX_HELP }
-    ensures ok { OnOk result (replies.new.part ≡ replies.old.part ++ led_lines (counter name.now help.now (by_peer (peer_value value) peers.now))) }
-    ensures kept { replies.new.whole ≡ replies.old.whole }
-    ensures room { HEAD_ROOM + SAMPLE_ROOM * length peers.now ≤ replies.old.room → IsOk result }
-    ensures left { replies.old.room ≤ replies.new.room + (HEAD_ROOM + SAMPLE_ROOM * length peers.now) }
-{
-    put_counter_head(replies, name, help)?;
-    put_peer_values(replies, name, peers, value)
-}
-
-/// A counter with a count for each name of a refusal.
-pub(crate) fn put_name_counter<A: Allocator>(
-    replies: &mut Replies<A>,
+    kind: Kind,
     name: &[u8],
     help: &[u8],
     counts: &[u64; REFUSAL_COUNT],
 ) -> Result<(), OutOfMemory>
     requires name { length name.now ≤ MAX_NAME }
     requires help { length help.now ≤ MAX_HELP }
-    ensures ok { OnOk result (replies.new.part ≡ replies.old.part ++ led_lines (counter name.now help.now (by_name counts.now))) }
+    ensures ok { OnOk result (replies.new.part ≡ replies.old.part ++ led_lines (family kind name.now help.now (by_name counts.now))) }
     ensures kept { replies.new.whole ≡ replies.old.whole }
     ensures room { HEAD_ROOM + SAMPLE_ROOM * REFUSAL_COUNT ≤ replies.old.room → IsOk result }
     ensures left { replies.old.room ≤ replies.new.room + (HEAD_ROOM + SAMPLE_ROOM * REFUSAL_COUNT) }
 {
-    put_counter_head(replies, name, help)?;
+    put_led_head(replies, kind, name, help)?;
     put_name_counts(replies, name, counts)
+}
+
+fn put_led_head<A: Allocator>(
+    replies: &mut Replies<A>,
+    kind: Kind,
+    name: &[u8],
+    help: &[u8],
+) -> Result<(), OutOfMemory>
+    requires name { length name.now ≤ MAX_NAME }
+    requires help { length help.now ≤ MAX_HELP }
+    ensures ok { OnOk result (replies.new.part ≡ replies.old.part ++ (10 ∷ help_line name.now help.now ++ 10 ∷ type_line name.now (kind_word kind))) }
+    ensures kept { replies.new.whole ≡ replies.old.whole }
+    ensures room { HEAD_ROOM ≤ replies.old.room → IsOk result }
+    ensures left { replies.old.room ≤ replies.new.room + HEAD_ROOM }
+{
+    replies.put(b"\n")?;
+    put_head(replies, kind, name, help)
 }
 
 fn put_head<A: Allocator>(
     replies: &mut Replies<A>,
+    kind: Kind,
     name: &[u8],
     help: &[u8],
-    kind: &[u8],
 ) -> Result<(), OutOfMemory>
     requires name { length name.now ≤ MAX_NAME }
     requires help { length help.now ≤ MAX_HELP }
-    requires kind { length kind.now ≤ 7 }
-    ensures ok { OnOk result (replies.new.part ≡ replies.old.part ++ (help_line name.now help.now ++ 10 ∷ type_line name.now kind.now)) }
+    ensures ok { OnOk result (replies.new.part ≡ replies.old.part ++ (help_line name.now help.now ++ 10 ∷ type_line name.now (kind_word kind))) }
     ensures kept { replies.new.whole ≡ replies.old.whole }
     ensures room { 225 ≤ replies.old.room → IsOk result }
     ensures left { replies.old.room ≤ replies.new.room + 225 }
 {
     put_words(replies, b"# HELP ", name, help)?;
-    put_words(replies, b"\n# TYPE ", name, kind)
-}
-
-fn put_gauge_head<A: Allocator>(
-    replies: &mut Replies<A>,
-    name: &[u8],
-    help: &[u8],
-) -> Result<(), OutOfMemory>
-    requires name { length name.now ≤ MAX_NAME }
-    requires help { length help.now ≤ MAX_HELP }
-    ensures ok { OnOk result (replies.new.part ≡ replies.old.part ++ (10 ∷ help_line name.now help.now ++ 10 ∷ type_line name.now (codes "gauge"))) }
-    ensures kept { replies.new.whole ≡ replies.old.whole }
-    ensures room { HEAD_ROOM ≤ replies.old.room → IsOk result }
-    ensures left { replies.old.room ≤ replies.new.room + HEAD_ROOM }
-{
-    replies.put(b"\n")?;
-    put_head(replies, name, help, b"gauge")
-}
-
-fn put_counter_head<A: Allocator>(
-    replies: &mut Replies<A>,
-    name: &[u8],
-    help: &[u8],
-) -> Result<(), OutOfMemory>
-    requires name { length name.now ≤ MAX_NAME }
-    requires help { length help.now ≤ MAX_HELP }
-    ensures ok { OnOk result (replies.new.part ≡ replies.old.part ++ (10 ∷ help_line name.now help.now ++ 10 ∷ type_line name.now (codes "counter"))) }
-    ensures kept { replies.new.whole ≡ replies.old.whole }
-    ensures room { HEAD_ROOM ≤ replies.old.room → IsOk result }
-    ensures left { replies.old.room ≤ replies.new.room + HEAD_ROOM }
-{
-    replies.put(b"\n")?;
-    put_head(replies, name, help, b"counter")
+    put_words(replies, b"\n# TYPE ", name, kind.word())
 }
 
 fn put_words<A: Allocator>(

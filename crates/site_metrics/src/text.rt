@@ -4,13 +4,11 @@ ghost use Rattle.rights_types.specs.declared.limits.TheConstants.{MAX_SITES};
 ghost use Rattle.site_metrics.specs.Format.{led_lines};
 ghost use Rattle.site_metrics.specs.Table.{rights_metrics, state_metrics, client_metrics, log_metrics, line_metrics, all_metrics, metrics_text, bit};
 
+use crate::kind::Kind;
 use crate::metrics::{Metrics, PeerMetrics};
 use crate::peer_value::PeerValue;
 use crate::refusals::REFUSAL_COUNT;
-use crate::samples::{
-    HEAD_ROOM, SAMPLE_ROOM, put_counter, put_first_gauge, put_gauge, put_name_counter,
-    put_peer_counter, put_peer_gauge,
-};
+use crate::samples::{HEAD_ROOM, SAMPLE_ROOM, put_alone, put_by_name, put_by_peer, put_first};
 use line_streams::Replies;
 use rights_types::OutOfMemory;
 use std::alloc::Allocator;
@@ -86,44 +84,51 @@ fn put_rights<A: Allocator>(metrics: &Metrics, replies: &mut Replies<A>) -> Resu
     ensures room { 7 * (HEAD_ROOM + SAMPLE_ROOM) ≤ replies.old.room → IsOk result }
     ensures left { replies.old.room ≤ replies.new.room + (7 * (HEAD_ROOM + SAMPLE_ROOM)) }
 {
-    put_first_gauge(
+    put_first(
         replies,
+        Kind::Gauge,
         b"rights_held",
         b"Rights that the site holds.",
         metrics.held,
     )?;
-    put_gauge(
+    put_alone(
         replies,
+        Kind::Gauge,
         b"rights_queued",
         b"Rights that waiting spends are for.",
         metrics.queued,
     )?;
-    put_counter(
+    put_alone(
         replies,
+        Kind::Counter,
         b"rights_issued_total",
         b"Rights that the site issued.",
         metrics.issued,
     )?;
-    put_counter(
+    put_alone(
         replies,
+        Kind::Counter,
         b"rights_spent_total",
         b"Rights that the site spent.",
         metrics.spent,
     )?;
-    put_counter(
+    put_alone(
         replies,
+        Kind::Counter,
         b"rights_received_total",
         b"Rights that came from other sites.",
         metrics.received,
     )?;
-    put_counter(
+    put_alone(
         replies,
+        Kind::Counter,
         b"rights_given_total",
         b"Rights that went to other sites, taken back or not.",
         metrics.given,
     )?;
-    put_counter(
+    put_alone(
         replies,
+        Kind::Counter,
         b"rights_taken_back_total",
         b"Rights taken back after the site they were given to closed.",
         metrics.taken_back,
@@ -136,26 +141,30 @@ fn put_state<A: Allocator>(metrics: &Metrics, replies: &mut Replies<A>) -> Resul
     ensures room { 4 * (HEAD_ROOM + SAMPLE_ROOM) ≤ replies.old.room → IsOk result }
     ensures left { replies.old.room ≤ replies.new.room + (4 * (HEAD_ROOM + SAMPLE_ROOM)) }
 {
-    put_counter(
+    put_alone(
         replies,
+        Kind::Counter,
         b"rights_log_number",
         b"Number of the last entry of the site's log.",
         metrics.log_number,
     )?;
-    put_gauge(
+    put_alone(
         replies,
+        Kind::Gauge,
         b"rights_closed",
         b"1 once the site has closed, else 0.",
         bit(metrics.closed),
     )?;
-    put_gauge(
+    put_alone(
         replies,
+        Kind::Gauge,
         b"rights_requests_waiting",
         b"Slots of the queue taken by spends that wait.",
         metrics.requests_waiting,
     )?;
-    put_gauge(
+    put_alone(
         replies,
+        Kind::Gauge,
         b"rights_outcomes_unread",
         b"Slots of the queue taken by outcomes that nobody has read.",
         metrics.outcomes_unread,
@@ -168,20 +177,23 @@ fn put_clients<A: Allocator>(metrics: &Metrics, replies: &mut Replies<A>) -> Res
     ensures room { 3 * HEAD_ROOM + (REFUSAL_COUNT + 2) * SAMPLE_ROOM ≤ replies.old.room → IsOk result }
     ensures left { replies.old.room ≤ replies.new.room + (3 * HEAD_ROOM + (REFUSAL_COUNT + 2) * SAMPLE_ROOM) }
 {
-    put_gauge(
+    put_alone(
         replies,
+        Kind::Gauge,
         b"rights_clients",
         b"HTTP connections that stand.",
         metrics.clients,
     )?;
-    put_counter(
+    put_alone(
         replies,
+        Kind::Counter,
         b"rights_commands_total",
         b"Commands answered, of all clients and standard input.",
         metrics.commands,
     )?;
-    put_name_counter(
+    put_by_name(
         replies,
+        Kind::Counter,
         b"rights_commands_refused_total",
         b"Commands refused, by the name of the refusal.",
         &metrics.refused,
@@ -197,36 +209,41 @@ fn put_logs<A: Allocator>(
     ensures room { 5 * HEAD_ROOM + 5 * (SAMPLE_ROOM * length peers.now) ≤ replies.old.room → IsOk result }
     ensures left { replies.old.room ≤ replies.new.room + (5 * HEAD_ROOM + 5 * (SAMPLE_ROOM * length peers.now)) }
 {
-    put_peer_counter(
+    put_by_peer(
         replies,
+        Kind::Counter,
         b"rights_peer_applied",
         b"Number up to which the peer's log is applied.",
         peers,
         PeerValue::Applied,
     )?;
-    put_peer_gauge(
+    put_by_peer(
         replies,
+        Kind::Gauge,
         b"rights_peer_buffering",
         b"1 while entries of the peer wait for one that is missing, else 0.",
         peers,
         PeerValue::Buffering,
     )?;
-    put_peer_gauge(
+    put_by_peer(
         replies,
+        Kind::Gauge,
         b"rights_peer_entries_held",
         b"Entries of the peer that wait for one that is missing.",
         peers,
         PeerValue::Held,
     )?;
-    put_peer_gauge(
+    put_by_peer(
         replies,
+        Kind::Gauge,
         b"rights_peer_receiving",
         b"1 while a connection from the peer stands, else 0.",
         peers,
         PeerValue::Receiving,
     )?;
-    put_peer_gauge(
+    put_by_peer(
         replies,
+        Kind::Gauge,
         b"rights_peer_sending",
         b"1 while a connection to the peer stands, else 0.",
         peers,
@@ -243,36 +260,41 @@ fn put_lines<A: Allocator>(
     ensures room { 5 * HEAD_ROOM + 5 * (SAMPLE_ROOM * length peers.now) ≤ replies.old.room → IsOk result }
     ensures left { replies.old.room ≤ replies.new.room + (5 * HEAD_ROOM + 5 * (SAMPLE_ROOM * length peers.now)) }
 {
-    put_peer_counter(
+    put_by_peer(
         replies,
+        Kind::Counter,
         b"rights_peer_lines_total",
         b"Lines that came from the peer.",
         peers,
         PeerValue::Lines,
     )?;
-    put_peer_counter(
+    put_by_peer(
         replies,
+        Kind::Counter,
         b"rights_peer_lines_refused_total",
         b"Lines from the peer that were skipped.",
         peers,
         PeerValue::Refused,
     )?;
-    put_peer_counter(
+    put_by_peer(
         replies,
+        Kind::Counter,
         b"rights_peer_lines_dropped_total",
         b"Lines for the peer that found no room in the outbox, or were lost by a failed connection or write.",
         peers,
         PeerValue::Dropped,
     )?;
-    put_peer_gauge(
+    put_by_peer(
         replies,
+        Kind::Gauge,
         b"rights_peer_lines_waiting",
         b"Lines that wait in the peer's outbox.",
         peers,
         PeerValue::Waiting,
     )?;
-    put_peer_counter(
+    put_by_peer(
         replies,
+        Kind::Counter,
         b"rights_peer_number_went_back_total",
         b"Beats of the peer below what was applied of its log: it was started anew, or runs twice.",
         peers,

@@ -8,7 +8,8 @@ use Rattle.request_queue.specs.declared.request.Status.{Status}
 use Rattle.site_core.specs.declared.desk.requests.Spending.{Spending}
 use Rattle.site_core.specs.declared.fault.DeskError.{DeskError}
 use Rattle.site_core.specs.Faults.{issue_fault, give_fault, spend_fault, close_fault, can_spend}
-use Rattle.site_core.specs.Calls.{DeskWrites, DeskSpends, DeskCloses}
+use Rattle.site_core.specs.Ledgers.{EntryKeeps, ClosingKeeps}
+use Rattle.site_core.specs.Calls.{DeskWrites, DeskSpends, SpendKeeps, DeskCloses}
 use Rattle.apply_lanes.specs.Kepts.{KeptValue, SeatValue, raised, told_issued, told_spent, spent_by}
 use Rattle.site_words.specs.declared.commands.DeskCommand.{DeskCommand}
 use Rattle.site_words.specs.declared.commands.DeskCommand.TheVariants.{Issue, Give, Spend, Outcome, Close}
@@ -21,6 +22,7 @@ use Rattle.site_node.specs.declared.reply.Reply.TheVariants.{Number, Spending as
 -- an entry issued so many rights, and its number is told; the tally and the seat count them
 pub record HasIssued (old : KeptValue) (was : SeatValue) (amount number : ℕ) (new : KeptValue) (told : SeatValue) : Type 0 where
   pub entry : DeskWrites old.desk (Issues amount ∷ []) new.desk
+  pub keeps : EntryKeeps old.desk.ledger (Issues amount ∷ []) new.desk.ledger
   pub at_end : number ≡ end new.desk.ledger.log.entries
   pub tally : new ≡ record old { desk = new.desk; issued = raised old.issued amount }
   pub counted : told ≡ told_issued was amount
@@ -28,6 +30,7 @@ pub record HasIssued (old : KeptValue) (was : SeatValue) (amount number : ℕ) (
 -- an entry gave so many rights to the peer, and its number is told
 pub record HasGiven (old : KeptValue) (was : SeatValue) (peer amount number : ℕ) (new : KeptValue) (told : SeatValue) : Type 0 where
   pub entry : DeskWrites old.desk (Gives peer amount ∷ []) new.desk
+  pub keeps : EntryKeeps old.desk.ledger (Gives peer amount ∷ []) new.desk.ledger
   pub at_end : number ≡ end new.desk.ledger.log.entries
   pub rest : new ≡ record old { desk = new.desk }
   pub same_seat : told ≡ was
@@ -35,6 +38,7 @@ pub record HasGiven (old : KeptValue) (was : SeatValue) (peer amount number : �
 -- the spend was served or waits, as is told; the tally and the seat count what was spent
 pub record HasSpent (old : KeptValue) (was : SeatValue) (amount deadline : ℕ) (spending : Spending) (new : KeptValue) (told : SeatValue) : Type 0 where
   pub desk : DeskSpends old.desk amount deadline spending new.desk
+  pub keeps : SpendKeeps old.desk amount spending new.desk
   pub tally : new ≡ record old { desk = new.desk; spent = raised old.spent (spent_by amount spending) }
   pub counted : told ≡ told_spent was amount spending
 
@@ -47,6 +51,7 @@ pub record HasTold (old : KeptValue) (was : SeatValue) (ticket : ℕ) (status : 
 -- the closing entry was written, and its number is told
 pub record HasClosed (old : KeptValue) (was : SeatValue) (heir : Option ℕ) (number : ℕ) (new : KeptValue) (told : SeatValue) : Type 0 where
   pub entry : DeskCloses old.desk heir new.desk
+  pub keeps : ClosingKeeps old.desk.ledger heir new.desk.ledger
   pub at_end : number ≡ end new.desk.ledger.log.entries
   pub rest : new ≡ record old { desk = new.desk }
   pub same_seat : told ≡ was

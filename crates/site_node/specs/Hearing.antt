@@ -8,7 +8,7 @@ use Rattle.origin_log.specs.Answering.{answer_to_query}
 use Rattle.origin_log.specs.Faults.{query_fault}
 use Rattle.transfer_manager.specs.Managers.{ended}
 use Rattle.site_core.specs.Desks.{DeskValue}
-use Rattle.site_core.specs.Calls.{answer_of, denial_of, DeskAnswers}
+use Rattle.site_core.specs.Calls.{answer_of, denial_of, DeskAnswers, AnswerKeeps}
 use Rattle.apply_lanes.specs.Kepts.{KeptValue}
 use Rattle.site_node.specs.Sending.{OffersIf}
 
@@ -36,5 +36,6 @@ module _ {S : Type 0} (takes : S → List ℕ → Bool → S → Type 0) where
   pub record AnswersAsk (old : KeptValue) (ask : AskValue) (before : S) (new : KeptValue) (after : S) : Type 0 where
     pub number : Option ℕ
     pub answer : DeskAnswers old.desk ask (answer_of old.desk ask) number new.desk
+    pub keeps : AnswerKeeps old.desk ask (answer_of old.desk ask) new.desk
     pub rest : new ≡ record old { desk = new.desk }
     pub denial : Replies (denial_of ask (answer_of old.desk ask)) before after

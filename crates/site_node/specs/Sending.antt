@@ -1,7 +1,6 @@
 -- What a tick sends to a peer: the entries that were not published to it, an ask, and a beat.
-use Rattle.std.specs.Prelude.{◌≡◌, ◌≢◌, ℕ, ◌+◌, suc, zero, ◌⊎◌, Bool, true, false, List, [], ◌∷◌, ◌++◌, map, Option, Some, None}
+use Rattle.std.specs.Prelude.{◌≡◌, ◌≢◌, ℕ, ◌+◌, suc, zero, ◌⊎◌, Bool, true, false, List, Option, Some, None}
 use Rattle.std.specs.Option.{option_map}
-use Rattle.std.specs.declared.vec.Vec.{Vec}
 use Rattle.rights_types.specs.Messages.{MessageValue}
 use Rattle.rights_types.specs.Messages.MessageValue.{AnAsk}
 use Rattle.entry_codec.specs.Spelling.{Spells}
@@ -22,15 +21,6 @@ next_entry k peer = next_push k.desk.ledger.log peer
 abbrev pub count_of : Bool → ℕ
 count_of true = 1
 count_of false = 0
-
--- the texts of lines that are kept
-abbrev pub texts : {Z : Type 0} → List (Vec ℕ Z) → List (List ℕ)
-texts lines = map (λ (line : Vec ℕ _). line.items) lines
-
--- a sink that keeps the lines that find room, in order
-abbrev pub Collects : List (List ℕ) → List ℕ → Bool → List (List ℕ) → Type 0
-Collects before line true after = after ≡ before ++ line ∷ []
-Collects before line false after = after ≡ before
 
 -- Of a sink with this relation: from the sink before, a line, and whether that found room, to the sink behind.
 module _ {S : Type 0} (takes : S → List ℕ → Bool → S → Type 0) where

@@ -4,7 +4,7 @@ use Rattle.request_queue.specs.declared.request.Request.{Request}
 use Rattle.request_queue.specs.Queues.{front_of}
 use Rattle.site_core.specs.declared.fault.DeskError.{DeskError}
 use Rattle.site_core.specs.Faults.{can_serve, serve_fault, expire_fault}
-use Rattle.site_core.specs.Calls.{ServesFront, DeskExpires, DeskPlans, CannotServe}
+use Rattle.site_core.specs.Calls.{ServesFront, ServeKeeps, DeskExpires, DeskPlans, CannotServe}
 use Rattle.apply_lanes.specs.Kepts.{KeptValue, SeatValue, raised, told_served}
 use Rattle.site_node.specs.Refusals.{Refuses}
 use Rattle.site_node.specs.declared.tick.Ticked.{Ticked}
@@ -16,6 +16,7 @@ pub record ServesNext (old : KeptValue) (was : SeatValue) (request : Request) (n
   pub first : old.desk.queue.waiting ≡ request ∷ new.desk.queue.waiting
   pub number : ℕ
   pub desk : ServesFront old.desk request.ticket number new.desk
+  pub keeps : ServeKeeps old.desk (Some (request.ticket, number)) new.desk
   pub tally : new ≡ record old { desk = new.desk; spent = raised old.spent request.amount }
   pub counted : told ≡ told_served was request.amount
 

@@ -3,7 +3,7 @@ ghost use Rattle.std.specs.Prelude.{◌≡◌, ◌≢◌, ℕ, ◌+◌, ◌≤�
 ghost use Rattle.rights_types.specs.declared.limits.TheConstants.{MAX_NUMBER};
 ghost use Rattle.entry_codec.specs.Pieces.{IsLine};
 ghost use Rattle.site_core.specs.Calls.{beat_of};
-ghost use Rattle.site_node.specs.Sending.{OffersLine, Offers, OffersIf, OffersEntries, OffersDue, StopsAtEntry, StopsShort, due_ask, Collects, texts};
+ghost use Rattle.site_node.specs.Sending.{OffersLine, Offers, OffersIf, OffersEntries, OffersDue, StopsAtEntry, StopsShort, due_ask};
 
 use apply_lanes::{DeskNames, Kept};
 use rights_types::{MAX_NUMBER, OutOfMemory, SiteId};
@@ -18,15 +18,6 @@ pub trait Sink {
     fn offer(&mut self, line: Vec<u8>) -> bool
         requires { IsLine line.items }
         ensures { takes self.old line.items result self.new };
-}
-
-/// Keeps every line, as far as there is memory.
-impl Sink for Vec<Vec<u8>> {
-    ghost takes = { λ before line room after. Collects (texts before.items) line room (texts after.items) };
-
-    fn offer(&mut self, line: Vec<u8>) -> bool {
-        self.push(line).is_ok()
-    }
 }
 
 /// Offers all that is due to this peer: the line of each entry that was not published to it, of the ask that is

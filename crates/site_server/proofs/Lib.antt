@@ -4,3 +4,4 @@ mod LineLaws
 mod SendLaws
 mod SettleLaws
 mod ToldLaws
+mod EndingLaws

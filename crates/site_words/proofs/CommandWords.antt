@@ -22,11 +22,11 @@ use Rattle.clap.proofs.FaultLemmas.{fault_ends, stopped_fault}
 use Rattle.clap.proofs.LexerLemmas.{name_and_value-without}
 use Rattle.clap.proofs.OnLiterals.{clap_on_literals}
 use Rattle.clap.proofs.WalkLemmas.{bundle_ends, walk_stopped}
-use Rattle.site_words.specs.Asked.{Asked, asked_behind_dashes, asked_behind_sim, asked_by, asked_of_site, asks_for_help, help, nothing, script, site}
+use Rattle.site_words.specs.Asked.{Asked, asked_behind_dashes, asked_behind_sim, asked_of_clap, asked_of_site, asks_for_help, help, nothing, script, site, version}
 use Rattle.site_words.specs.CommandLine.{app}
 use Rattle.site_words.specs.Words.{AnswersMet, MayAnswer, MayRefuse, RunsBy, WantsHelp, is_refusal}
 use Rattle.site_words.specs.declared.words.Command.{Command}
-use Rattle.site_words.specs.declared.words.Command.TheVariants.{Sim, Run, Help}
+use Rattle.site_words.specs.declared.words.Command.TheVariants.{Sim, Run, Help, Version}
 use Rattle.site_words.specs.declared.words.WordsFault.{WordsFault}
 use Rattle.site_words.specs.declared.words.WordsFault.TheVariants.{OutOfMemory, Refused}
 
@@ -40,6 +40,7 @@ abbrev pub FaultsAs : Asked → Kinds → Type 0
 FaultsAs script kinds = kinds ≡ []
 FaultsAs (site known rows) kinds = kinds ≡ known
 FaultsAs help kinds = kinds ≡ kind.DisplayHelp ∷ []
+FaultsAs version kinds = ⊥
 FaultsAs nothing kinds = AreRefusals kinds
 
 abbrev help_or_nothing : Bool → Asked
@@ -275,7 +276,7 @@ sim_named rest =
     let below : fault_of app (codes "sim" ∷ rest) ≡ or_else (level_fault sim [] nothing_held rest false []) [] = ap₂ behind_walk walked_to passed in
     subst (FaultsAs (asked_behind_sim rest)) (sym (below ∙ or_else-nil _)) (behind_sim rest)
 
-dashes_first : (rest : List Text) → FaultsAs (asked_by (codes "--" ∷ rest)) (fault_of app (codes "--" ∷ rest))
+dashes_first : (rest : List Text) → FaultsAs (asked_of_clap (codes "--" ∷ rest)) (fault_of app (codes "--" ∷ rest))
 unfolding clap_on_literals
 dashes_first [] = refl
 dashes_first (word ∷ rest) = refl
@@ -285,23 +286,23 @@ unfolding asked_of_site
 run_named rest = refl
 
 -- the kinds of error that clap gives are those of what the words ask for
-pub faults_as_asked : (words : List Text) → FaultsAs (asked_by words) (fault_of app words)
+pub faults_as_asked : (words : List Text) → FaultsAs (asked_of_clap words) (fault_of app words)
 unfolding clap_on_literals
 faults_as_asked [] = refl
 faults_as_asked (word ∷ rest) =
     go (bytes_eq (codes "sim") word) (bytes_eq (codes "run") word) (bytes_eq word (codes "--")) refl refl refl
   where
     go : (names_sim names_run ends : Bool) → bytes_eq (codes "sim") word ≡ names_sim → bytes_eq (codes "run") word ≡ names_run
-        → bytes_eq word (codes "--") ≡ ends → FaultsAs (asked_by (word ∷ rest)) (fault_of app (word ∷ rest))
+        → bytes_eq word (codes "--") ≡ ends → FaultsAs (asked_of_clap (word ∷ rest)) (fault_of app (word ∷ rest))
     go true names_run ends e r f =
         let is : codes "sim" ≡ word = (bytes_eq-Decides (codes "sim") word).0 e in
-        subst (λ w. FaultsAs (asked_by (w ∷ rest)) (fault_of app (w ∷ rest))) is (sim_named rest)
+        subst (λ w. FaultsAs (asked_of_clap (w ∷ rest)) (fault_of app (w ∷ rest))) is (sim_named rest)
     go false true ends e r f =
         let is : codes "run" ≡ word = (bytes_eq-Decides (codes "run") word).0 r in
-        subst (λ w. FaultsAs (asked_by (w ∷ rest)) (fault_of app (w ∷ rest))) is (run_named rest)
+        subst (λ w. FaultsAs (asked_of_clap (w ∷ rest)) (fault_of app (w ∷ rest))) is (run_named rest)
     go false false true e r f =
         let is : word ≡ codes "--" = (bytes_eq-Decides word (codes "--")).0 f in
-        subst (λ w. FaultsAs (asked_by (w ∷ rest)) (fault_of app (w ∷ rest))) (sym is) (dashes_first rest)
+        subst (λ w. FaultsAs (asked_of_clap (w ∷ rest)) (fault_of app (w ∷ rest))) (sym is) (dashes_first rest)
     go false false false e r f =
         let a = built app in
         let stop = (walk rules (names_of a) nothing_held (word ∷ rest)).stopped in
@@ -309,7 +310,7 @@ faults_as_asked (word ∷ rest) =
         let none_met : subcommand_met (names_of a) idle word ≡ None = rw (e, r) refl in
         let first : FaultsAs (help_or_nothing asks) (turn_fault a.top (names_of a) (walk_from nothing_held) word) =
         subst (λ o. FaultsAs (help_or_nothing asks) (turn (codes "rights-site") false true word o)) (sym none_met) (word_asks (codes "rights-site") false true word f) in
-        let asked_is : asked_by (word ∷ rest) ≡ help_or_nothing asks = rw (e, r) refl in
+        let asked_is : asked_of_clap (word ∷ rest) ≡ help_or_nothing asks = rw (e, r) refl in
         subst (λ x. FaultsAs x (fault_of app (word ∷ rest))) (sym asked_is)
         (level_asks (codes "rights-site") false true word (names_of a) rest (is_some (entered a stop)) (entered_fault a stop) asks first)
 
@@ -355,7 +356,7 @@ run_met rest =
     let met = run_rows rest in
     met.1 ∙ ap (λ (m : Met). Some (codes "run", option_map_or (λ m. m.1) m [])) (sym met.1)
 
-pub met_as_asked : (words : List Text) → MetAs (asked_by words) (subcommand_of app words)
+pub met_as_asked : (words : List Text) → MetAs (asked_of_clap words) (subcommand_of app words)
 met_as_asked [] = tt
 met_as_asked (word ∷ rest) = go (bytes_eq (codes "sim") word) (bytes_eq (codes "run") word) refl refl
   where
@@ -366,15 +367,15 @@ met_as_asked (word ∷ rest) = go (bytes_eq (codes "sim") word) (bytes_eq (codes
     unmet true = tt
     unmet false = tt
 
-    go : (names_sim names_run : Bool) → bytes_eq (codes "sim") word ≡ names_sim → bytes_eq (codes "run") word ≡ names_run → MetAs (asked_by (word ∷ rest)) met
+    go : (names_sim names_run : Bool) → bytes_eq (codes "sim") word ≡ names_sim → bytes_eq (codes "run") word ≡ names_run → MetAs (asked_of_clap (word ∷ rest)) met
     go true names_run e r =
         let is : codes "sim" ≡ word = (bytes_eq-Decides (codes "sim") word).0 e in
-        subst (λ w. MetAs (asked_by (w ∷ rest)) (subcommand_of app (w ∷ rest))) is (behind_sim_met rest _ (sim_met rest))
+        subst (λ w. MetAs (asked_of_clap (w ∷ rest)) (subcommand_of app (w ∷ rest))) is (behind_sim_met rest _ (sim_met rest))
     go false true e r =
         let is : codes "run" ≡ word = (bytes_eq-Decides (codes "run") word).0 r in
-        subst (λ w. MetAs (asked_by (w ∷ rest)) (subcommand_of app (w ∷ rest))) is (run_met rest)
+        subst (λ w. MetAs (asked_of_clap (w ∷ rest)) (subcommand_of app (w ∷ rest))) is (run_met rest)
     go false false e r =
-        let asked_is : asked_by (word ∷ rest) ≡ help_or_nothing (asks_for_help word) = rw (e, r) refl in
+        let asked_is : asked_of_clap (word ∷ rest) ≡ help_or_nothing (asks_for_help word) = rw (e, r) refl in
         subst (λ x. MetAs x met) (sym asked_is) (unmet (asks_for_help word))
 
 -- ---- what a parse tells of the words
@@ -390,6 +391,7 @@ help_asked : (a : Asked) (kinds : Kinds) → FaultsAs a kinds → IsAmong kind.D
 help_asked script kinds h among = absurd (subst (IsAmong kind.DisplayHelp) h among)
 help_asked (site known rows) kinds h among = subst (IsAmong kind.DisplayHelp) h among
 help_asked help kinds h among = tt
+help_asked version kinds h among = absurd h
 help_asked nothing [] h among = absurd h
 help_asked nothing (k ∷ ks) h among = absurd (no_help_among (k ∷ ks) h among)
 
@@ -405,6 +407,7 @@ refusal_asked : (a : Asked) (kinds : Kinds) (k : ErrorKind) → FaultsAs a kinds
 refusal_asked script kinds k h among other refusal = absurd (subst (IsAmong k) h among)
 refusal_asked (site known rows) kinds k h among other refusal = inl (k, subst (IsAmong k) h among, refusal)
 refusal_asked help kinds k h among other refusal = absurd (⊎_elim other (λ none. absurd none) (subst (IsAmong k) h among))
+refusal_asked version kinds k h among other refusal = absurd h
 refusal_asked nothing kinds k h among other refusal = tt
 
 simple : is_simple_and_free app ≡ true
@@ -424,6 +427,7 @@ parsed_as : (a : Asked) (met : Met) (kinds : Kinds) → FaultsAs a kinds → kin
 parsed_as script met kinds h none m = m
 parsed_as (site known rows) met kinds h none m = (sym h ∙ none, m)
 parsed_as help met kinds h none m = cc
+parsed_as version met kinds h none m = absurd h
 parsed_as nothing met [] h none m = h
 parsed_as nothing met (k ∷ ks) h none m = cc
 
@@ -436,36 +440,38 @@ parsed_answers (site kinds rows) met r parsed h = go r (h.1 rows parsed.1)
     go (Ok (Run s)) runs = (parsed.0, runs)
     go (Ok Sim) runs = absurd runs
     go (Ok (Help text)) runs = absurd runs
+    go (Ok Version) runs = absurd runs
     go (Err Refused) runs = inr (parsed.0, runs)
     go (Err OutOfMemory) runs = tt
 parsed_answers help met r parsed h = absurd parsed
+parsed_answers version met r parsed h = absurd parsed
 parsed_answers nothing met r parsed h = absurd parsed
 
 module _ (told : App) (words : List Text) (is : told ≡ app) where
-  faults : FaultsAs (asked_by words) (fault_of told words)
-  faults = subst (λ a. FaultsAs (asked_by words) (fault_of a words)) (sym is) (faults_as_asked words)
+  faults : FaultsAs (asked_of_clap words) (fault_of told words)
+  faults = subst (λ a. FaultsAs (asked_of_clap words) (fault_of a words)) (sym is) (faults_as_asked words)
 
   told_simple : is_simple_and_free told ≡ true
   told_simple = ap is_simple_and_free is ∙ simple
 
   pub parsed_asks : (m : ArgMatches) → (is_simple_and_free told ≡ true → fault_of told words ≡ []) → HasMatchesOf told words m
-      → ParsedAs (asked_by words) (subcommand_rows_of m)
+      → ParsedAs (asked_of_clap words) (subcommand_rows_of m)
   parsed_asks m h found =
       let met : subcommand_rows_of m ≡ subcommand_of app words = (found (ap is_simple is ∙ is_simple_too)).1 ∙ ap (λ a. subcommand_of a words) is in
-      subst (ParsedAs (asked_by words)) (sym met) (parsed_as (asked_by words) _ _ faults (h told_simple) (met_as_asked words))
+      subst (ParsedAs (asked_of_clap words)) (sym met) (parsed_as (asked_of_clap words) _ _ faults (h told_simple) (met_as_asked words))
 
-  pub help_error_asks : (e : Error) → (is_simple_and_free told ≡ true → HasKind (fault_of told words) e) → kind_of e ≡ kind.DisplayHelp → WantsHelp (asked_by words)
+  pub help_error_asks : (e : Error) → (is_simple_and_free told ≡ true → HasKind (fault_of told words) e) → kind_of e ≡ kind.DisplayHelp → WantsHelp (asked_of_clap words)
   help_error_asks e h shown = ⊎_elim
       (λ (memory : kind_of e ≡ kind.OutOfMemory). absurd (differ (sym shown ∙ memory)))
-      (λ (among : IsAmong (kind_of e) (fault_of told words)). help_asked (asked_by words) _ faults (subst (λ k. IsAmong k (fault_of told words)) shown among))
+      (λ (among : IsAmong (kind_of e) (fault_of told words)). help_asked (asked_of_clap words) _ faults (subst (λ k. IsAmong k (fault_of told words)) shown among))
       (h told_simple)
     where
       differ : ◌≡◌ {A = ErrorKind} kind.DisplayHelp kind.OutOfMemory → ⊥
       differ same = cc
 
   pub other_error_asks : (e : Error) → (is_simple_and_free told ≡ true → HasKind (fault_of told words) e)
-      → (kind_of e ≡ kind.DisplayHelp → ⊥) → (kind_of e ≡ kind.OutOfMemory → ⊥) → MayRefuse (asked_by words)
+      → (kind_of e ≡ kind.DisplayHelp → ⊥) → (kind_of e ≡ kind.OutOfMemory → ⊥) → MayRefuse (asked_of_clap words)
   other_error_asks e h not_help not_memory = ⊎_elim
       (λ (memory : kind_of e ≡ kind.OutOfMemory). absurd (not_memory memory))
-      (λ (among : IsAmong (kind_of e) (fault_of told words)). refusal_asked (asked_by words) _ (kind_of e) faults among not_help (refuses (kind_of e) not_help not_memory))
+      (λ (among : IsAmong (kind_of e) (fault_of told words)). refusal_asked (asked_of_clap words) _ (kind_of e) faults among not_help (refuses (kind_of e) not_help not_memory))
       (h told_simple)

@@ -14,6 +14,7 @@ pub data Asked : Type 0 where
   -- it finds
   site : Kinds → List Row → Asked
   help : Asked
+  version : Asked
   nothing : Asked
 
 -- the first flag of a word such as `-hx`
@@ -40,10 +41,19 @@ asked_behind_sim (word ∷ rest) =
 unfoldable pub asked_of_site : List Text → Asked
 asked_of_site words = site (fault_of app words) (option_map_or (λ met. met.1) (subcommand_of app words) [])
 
--- what all the words ask for
-abbrev pub asked_by : List Text → Asked
-asked_by [] = nothing
-asked_by (word ∷ rest) =
+-- what the words ask for, as clap sees them
+abbrev pub asked_of_clap : List Text → Asked
+asked_of_clap [] = nothing
+asked_of_clap (word ∷ rest) =
     if bytes_eq (codes "sim") word then asked_behind_sim rest
     else (if bytes_eq (codes "run") word then asked_of_site (word ∷ rest)
     else (if asks_for_help word then help else nothing))
+
+-- the first word is `--version`, or `-V`
+abbrev pub asks_for_version : List Text → Bool
+asks_for_version [] = false
+asks_for_version (word ∷ rest) = bytes_eq word (codes "--version") || bytes_eq word (codes "-V")
+
+-- what all the words ask for
+abbrev pub asked_by : List Text → Asked
+asked_by words = if asks_for_version words then version else asked_of_clap words

@@ -4,10 +4,10 @@ use Rattle.clap.specs.Kinds.{IsAmong}
 use Rattle.clap.specs.Walk.{Row, Text}
 use Rattle.clap.specs.declared.error.kind.ErrorKind.{ErrorKind}
 use Rattle.clap.specs.declared.error.kind.ErrorKind.TheVariants as kind
-use Rattle.site_words.specs.Asked.{Asked, help, nothing, script, site}
+use Rattle.site_words.specs.Asked.{Asked, help, nothing, script, site, version}
 use Rattle.site_words.specs.Settings.{IsFound, IsSettings, Settings}
 use Rattle.site_words.specs.declared.words.Command.{Command}
-use Rattle.site_words.specs.declared.words.Command.TheVariants.{Sim, Run, Help}
+use Rattle.site_words.specs.declared.words.Command.TheVariants.{Sim, Run, Help, Version}
 use Rattle.site_words.specs.declared.words.WordsFault.{WordsFault}
 use Rattle.site_words.specs.declared.words.WordsFault.TheVariants.{OutOfMemory, Refused}
 
@@ -55,5 +55,6 @@ abbrev pub MayAnswer : Asked → Result Command WordsFault → Type 0
 MayAnswer asked (Ok Sim) = asked ≡ script
 MayAnswer asked (Ok (Run config)) = RunsSite asked config
 MayAnswer asked (Ok (Help text)) = WantsHelp asked
+MayAnswer asked (Ok Version) = asked ≡ version
 MayAnswer asked (Err Refused) = MayRefuse asked
 MayAnswer asked (Err OutOfMemory) = ⊤

@@ -5,7 +5,7 @@ ghost use Rattle.clap.specs.Simple.{app_of, new_shape, shape_of, subcommand_rows
 ghost use Rattle.clap.specs.Walk.{rows_of, rule_of, texts};
 ghost use Rattle.clap.specs.declared.builder.command.Command.TheViews.{out-Command};
 ghost use Rattle.rights_types.specs.declared.limits.TheConstants.{MIN_SITES, MAX_SITES};
-ghost use Rattle.site_words.specs.Asked.{asked_by};
+ghost use Rattle.site_words.specs.Asked.{asked_by, asked_of_clap, asks_for_version};
 ghost use Rattle.site_words.specs.CommandLine.{app, flag_rule, number_rule, option_rule, peer_rule, required_shape, run_numbers_shape, run_shape, tick_rule, value_rule};
 ghost use Rattle.site_words.specs.Settings.{AreFound, HasFlag, HasNumber, IsFound, IsTick, MayHaveNumber, Options};
 ghost use Rattle.site_words.specs.declared.config.TheConstants.{MAX_TICK, MIN_TICK};
@@ -27,6 +27,8 @@ pub enum Command {
     Run(Config),
     /// To print this text.
     Help(HelpText),
+    /// To print the version.
+    Version,
 }
 
 /// The text that `--help` prints.
@@ -80,6 +82,26 @@ impl<T: Drop> From<AllocFailed<T>> for WordsFault {
     }
 }
 
+/// What stands below the options in the help text of the program.
+const USE: &str = "\
+`rights-site --version` prints the version. `rights-site run --help` has an example.";
+
+/// What stands below the options in the help text of `run`.
+const RUN_USE: &str = "\
+Commands, one a line on standard input, and their replies:
+  issue N      creates N rights             number E   (E: its entry in the log)
+  give J N     gives N rights to site J     number E
+  spend N T    spends N rights              spent E, or queued K: it waits until time T
+  outcome K    what became of ticket K      waiting, spent E, expired or unknown
+  tick T       does what is due at time T, and sends what is new
+  status       the state of the site, as an object of JSON
+  close [J]    closes the site; site J gets what it holds
+  quit         ends the program
+
+Example, one site of two, which ticks by itself and also serves HTTP:
+  rights-site run --id 1 --sites 2 --listen 127.0.0.1:7001 --http 127.0.0.1:8001 \\
+      --tick 100 --once site-1.started 2=127.0.0.1:7002";
+
 /// An option that takes one value, and may be left out.
 fn optional<'a>(alloc: Global, name: &'a str, value: &'a str, help: &'a str) -> Arg<'a>
     ensures rule { rule_of result ≡ value_rule name.entry.now }
@@ -104,9 +126,9 @@ fn id_option<'a>(alloc: Global) -> Arg<'a>
     ensures rule { rule_of result ≡ number_rule (codes "id") 1 MAX_SITES }
     ensures local { result.global ≡ false }
 {
-    option(alloc, "id", "I", "The number of this site").value_parser(value_parser!(u64).range(
-        1..=16,
-    ))
+    option(alloc, "id", "I", "The number of this site, 1 to N").value_parser(value_parser!(
+        u64
+    ).range(1..=16))
 }
 
 /// The option that tells how many sites there are.
@@ -114,9 +136,9 @@ fn sites_option<'a>(alloc: Global) -> Arg<'a>
     ensures rule { rule_of result ≡ number_rule (codes "sites") MIN_SITES MAX_SITES }
     ensures local { result.global ≡ false }
 {
-    option(alloc, "sites", "N", "How many sites there are").value_parser(value_parser!(u64).range(
-        2..=16,
-    ))
+    option(alloc, "sites", "N", "How many sites the system has").value_parser(value_parser!(
+        u64
+    ).range(2..=16))
 }
 
 /// The option that tells how often the site ticks itself.
@@ -129,7 +151,7 @@ fn tick_option<'a>(alloc: Global) -> Arg<'a>
         alloc,
         "tick",
         "MS",
-        "Every how many milliseconds it ticks itself",
+        "Ticks by itself, every MS milliseconds (1 to 60,000)",
     )
     .value_parser(milliseconds)
 }
@@ -142,7 +164,7 @@ fn log_flag<'a>(alloc: Global) -> Arg<'a>
     Arg::new(alloc, "log")
         .long("log")
         .action(ArgAction::SetTrue)
-        .help("Writes what happens to links and clients to standard error")
+        .help("Reports links and clients on standard error")
 }
 
 /// The argument that tells the peers.
@@ -154,7 +176,7 @@ fn peers_argument<'a>(alloc: Global) -> Arg<'a>
         .value_name("PEER")
         .num_args(1..)
         .required(true)
-        .help("Each other site and where it listens, as J=ADDRESS")
+        .help("Each other site, as J=ADDRESS: its number, and where it listens")
 }
 
 /// The command that runs one site, so far without its addresses.
@@ -164,6 +186,7 @@ fn run_numbers_parser<'a>(alloc: Global) -> Result<Parser<'a>, AllocError>
 {
     Parser::new(alloc, "run")
         .about("Runs one site, which talks with its peers over TCP")
+        .after_help(RUN_USE)
         .arg(id_option(alloc))?
         .arg(sites_option(alloc))
 }
@@ -174,7 +197,12 @@ fn required_parser<'a>(alloc: Global) -> Result<Parser<'a>, AllocError>
         × ((out-Command parser).has_globals ≡ false)) }
 {
     run_numbers_parser(alloc)?
-        .arg(option(alloc, "listen", "ADDRESS", "Where this site listens"))?
+        .arg(option(
+            alloc,
+            "listen",
+            "ADDRESS",
+            "Where this site listens for its peers",
+        ))?
         .arg(peers_argument(alloc))
 }
 
@@ -184,13 +212,13 @@ fn run_parser<'a>(alloc: Global) -> Result<Parser<'a>, AllocError>
         × ((out-Command parser).has_globals ≡ false)) }
 {
     required_parser(alloc)?
-        .arg(optional(alloc, "http", "ADDRESS", "Where this site serves HTTP"))?
+        .arg(optional(alloc, "http", "ADDRESS", "Also serves HTTP at this address"))?
         .arg(tick_option(alloc))?
         .arg(optional(
             alloc,
             "once",
             "FILE",
-            "A file to create at the start, which must not exist",
+            "Creates FILE at the start, and does not start if it exists",
         ))?
         .arg(log_flag(alloc))
 }
@@ -200,7 +228,7 @@ fn sim_parser<'a>(alloc: Global) -> Parser<'a>
     ensures shape { shape_of result ≡ new_shape (codes "sim") }
     ensures local { (out-Command result).has_globals ≡ false }
 {
-    Parser::new(alloc, "sim").about("Runs the script on standard input over sites in memory")
+    Parser::new(alloc, "sim").about("Runs the script on standard input, over sites in memory")
 }
 
 /// The program without its commands.
@@ -210,7 +238,8 @@ fn bare_parser<'a>(alloc: Global) -> Result<Parser<'a>, AllocError>
     Ok(
         Parser::new(alloc, "rights-site")
             .bin_name("rights-site")?
-            .about("Keeps and moves the right to spend among replicated sites")
+            .about("Sites that share one stock of rights, and never oversell it")
+            .after_help(USE)
             .no_binary_name(true)
             .subcommand_required(true)
             .disable_help_subcommand(true),
@@ -300,12 +329,19 @@ fn command_of(alloc: Global, matches: &ArgMatches<'_>) -> Result<Command, WordsF
     }
 }
 
-/// Reads the program's words, without its name. `sim` takes no further word, but as everywhere in
-/// `clap` one `--` may end its flags. `run` is refused where `clap` refuses its words, and where what
-/// it finds in them is no site's configuration. Which answer comes is decided by the words, and `OutOfMemory`
-/// may come in place of each. Of the help text, which `clap` makes, no contract speaks.
-pub fn read_words(alloc: Global, words: &[&str]) -> Result<Command, WordsFault>
-    ensures { MayAnswer (asked_by (texts words.now)) result }
+/// Whether the first word asks for the version.
+fn asks_for_version(words: &[&str]) -> bool
+    ensures { result ≡ asks_for_version (texts words.now) }
+{
+    match words {
+        [first, ..] => *first == "--version" || *first == "-V",
+        [] => false,
+    }
+}
+
+/// What `clap` reads the words as.
+fn read_by_clap(alloc: Global, words: &[&str]) -> Result<Command, WordsFault>
+    ensures { MayAnswer (asked_of_clap (texts words.now)) result }
 {
     let error = match parser(alloc)?.try_get_matches_from(words) {
         Ok(matches) => return command_of(alloc, &matches),
@@ -321,4 +357,17 @@ pub fn read_words(alloc: Global, words: &[&str]) -> Result<Command, WordsFault>
         ErrorKind::OutOfMemory => Err(WordsFault::OutOfMemory),
         _ => Err(WordsFault::Refused),
     }
+}
+
+/// Reads the program's words, without its name. `sim` takes no further word, but as everywhere in
+/// `clap` one `--` may end its flags. `run` is refused where `clap` refuses its words, and where what
+/// it finds in them is no site's configuration. Which answer comes is decided by the words, and `OutOfMemory`
+/// may come in place of each but the version. Of the help text, which `clap` makes, no contract speaks.
+pub fn read_words(alloc: Global, words: &[&str]) -> Result<Command, WordsFault>
+    ensures { MayAnswer (asked_by (texts words.now)) result }
+{
+    if asks_for_version(words) {
+        return Ok(Command::Version);
+    }
+    read_by_clap(alloc, words)
 }

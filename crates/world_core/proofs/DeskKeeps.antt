@@ -1,10 +1,12 @@
 -- Events at a desk keep what is kept of a world.
-use Rattle.std.proofs.Common.{◌≡◌, ◌≢◌, ℕ, ◌≤◌, false, inl, inr, List, [], ◌∷◌, ◌++◌, length, Option, Some, None, refl, ap, sym, subst, ◌∙◌, arith, append-nil}
+use Rattle.std.proofs.Common.{◌≡◌, ◌≢◌, ℕ, ◌≤◌, true, false, inl, inr, List, [], ◌∷◌, ◌++◌, length, Option, Some, None, refl, ap, sym, subst, ◌∙◌, arith, append-nil}
 use Rattle.std.specs.List.{All, Contains}
+use Rattle.std.proofs.lemmas.Bool.{both_ways}
 use Rattle.std.proofs.lemmas.List.{length-append}
-use Rattle.std.proofs.lemmas.List.Elements.{All-weaker, Contains-append_left}
+use Rattle.std.proofs.lemmas.List.Elements.{All-head, All-weaker, Contains-append_left}
 use Rattle.rights_types.specs.Entries.{EntryValue}
-use Rattle.rights_types.specs.Chains.{end, IsChain, IsPrefix}
+use Rattle.rights_types.specs.Chains.{end, is_closed, IsChain, IsPrefix}
+use Rattle.rights_types.specs.Moves.{IsMove}
 use Rattle.rights_types.specs.Messages.{AskValue, MessageValue}
 use Rattle.rights_types.specs.Messages.MessageValue.{AnEntry, AQuery, AnAnswer, ABeat, AnAsk, ADenial, AHello}
 use Rattle.rights_types.specs.declared.moves.Move.{Move}
@@ -17,15 +19,19 @@ use Rattle.rights_protocol.specs.Writing.{MayAppend, MayClose, closing_moves}
 use Rattle.rights_protocol.specs.Changes.{OthersStay, Stays}
 use Rattle.rights_protocol.specs.Changes.Change.{Append, CloseSite, Nothing}
 use Rattle.origin_log.specs.Logs.{LogValue, with_entry}
-use Rattle.rights_book.specs.Books.{BookValue, sites}
+use Rattle.rights_book.specs.Books.{BookValue, sites, IsBook}
+use Rattle.request_queue.specs.Queues.{QueueValue}
 use Rattle.transfer_manager.specs.Managers.{ended}
 use Rattle.transfer_manager.specs.declared.answer.AskAnswer.{AskAnswer}
 use Rattle.transfer_manager.specs.declared.answer.AskAnswer.TheVariants.{Grant as Granted, Deny, RepeatedDeny, Repeated, OldAsk}
 use Rattle.sub_buffer.specs.Follows.{Follows}
 use Rattle.sub_buffer.proofs.Growth.{follows_longer}
-use Rattle.site_core.specs.Ledgers.{LedgerValue, HasApplied, SameApplied, WritesEntry, WritesClosing, ClosesAs, closing_by}
-use Rattle.site_core.specs.Calls.{next_push, published_if, after_publish, DeskAnswers}
-use Rattle.site_core.specs.Desks.{DeskValue, new_desk}
+use Rattle.site_core.specs.Ledgers.{LedgerValue, HasApplied, SameApplied, IsWritable, WritesEntry, WritesClosing, ClosesAs, closing_by}
+use Rattle.site_core.specs.Calls.{next_push, published_if, after_publish, answer_of, DeskAnswers}
+use Rattle.site_core.specs.Desks.{DeskValue, DeskSound, new_desk}
+use Rattle.site_core.specs.Faults.{has_closed}
+use Rattle.site_core.proofs.Keeping.{EntryKept, entry_kept, ClosingKept, closing_kept}
+use Rattle.site_core.proofs.Tested.{CanClose, grant_writable}
 use Rattle.world_core.specs.Values.{LinkValue, BodyValue, PacketValue, WorldValue}
 use Rattle.world_core.specs.Values.BodyValue.{EntryAt, Text}
 use Rattle.world_core.specs.Worlds.{count, desk, with_desk, log, applied, lists_of}
@@ -144,6 +150,7 @@ pub record IsDeskOf (n k : ℕ) (d : DeskValue) : Type 0 where
 -- a desk of s with its log, which may have gone on by moves of this system
 pub record DeskGoesOn (w : WorldValue) (s : ℕ) (d : DeskValue) : Type 0 where
   pub own : IsDeskOf (count w) s d
+  pub sound : DeskSound d
   pub longer : IsPrefix (log w s) d.ledger.log.entries
   pub native : NativeLog (count w) d.ledger.log.entries
 
@@ -185,6 +192,8 @@ site_still w s d is site next stands k among =
       me = own.me;
       manager = own.manager;
       system = own.system ∙ sym (same_count w s d);
+      sound = each_desk (λ k x. IsSiteOf (count w) k → DeskSound x) w s d site (λ _. next.sound)
+          (λ k _ a. (is.sites k a).sound) k among;
       applied = each_desk (λ k x. IsSiteOf (count w) k → HasApplied (applied w k) x.ledger) w s d site (λ _. stands)
           (λ k _ a. (is.sites k a).applied) k among;
       width = old.width ∙ sym (same_count w s d);
@@ -229,11 +238,28 @@ lists_stay w s d site same = record {
   };
 }
 
+-- a desk with this log and book, which keeps no spend waiting where it has closed
+still_sound : (old d : DeskValue) → DeskSound old → d.ledger.log.site ≡ old.ledger.log.site
+    → d.ledger.log.entries ≡ old.ledger.log.entries → d.ledger.book ≡ old.ledger.book
+    → (has_closed d ≡ true → d.queue.waiting ≡ []) → DeskSound d
+still_sound old d is site entries book idle =
+    record {
+      ledger = record {
+        same_site = ap (λ (b : BookValue). b.me) book ∙ is.ledger.same_site ∙ sym site;
+        own = rw (entries, book) is.ledger.own;
+        none_back = rw book is.ledger.none_back;
+        room = rw (entries, book) is.ledger.room;
+      };
+      book = subst IsBook (sym book) is.book;
+      idle = idle;
+    }
+
 -- nothing changed but the log's cursors, what waits, the asks and the time
 pub same_log : (w : WorldValue) (s : ℕ) (d : DeskValue) → IsWorld w → IsSiteOf (count w) s
     → d.ledger.log.site ≡ (desk w s).ledger.log.site → d.ledger.log.entries ≡ log w s
-    → d.ledger.book ≡ (desk w s).ledger.book → d.manager.me ≡ (desk w s).manager.me → WorldGoesOn w (with_desk w s d)
-same_log w s d is site me entries book manager =
+    → d.ledger.book ≡ (desk w s).ledger.book → d.manager.me ≡ (desk w s).manager.me
+    → (has_closed (desk w s) ≡ true → d.queue.waiting ≡ []) → WorldGoesOn w (with_desk w s d)
+same_log w s d is site me entries book manager idle =
     let here : SiteSound w s = is.sites s site in
     let next : DeskGoesOn w s d = record {
       own = record {
@@ -241,6 +267,7 @@ same_log w s d is site me entries book manager =
         manager = manager ∙ here.manager;
         system = ap (λ (b : BookValue). sites b) book ∙ here.system;
       };
+      sound = still_sound (desk w s) d here.sound me entries book (λ h. idle (ap is_closed (sym entries) ∙ h));
       longer = same_longer w s d entries;
       native = subst (NativeLog (count w)) (sym entries) (is.native s);
     } in
@@ -251,10 +278,19 @@ same_log w s d is site me entries book manager =
 
 -- nothing changed but what waits, the asks and the time
 pub same_ledger : (w : WorldValue) (s : ℕ) (d : DeskValue) → IsWorld w → IsSiteOf (count w) s
-    → d.ledger ≡ (desk w s).ledger → d.manager.me ≡ (desk w s).manager.me → WorldGoesOn w (with_desk w s d)
-same_ledger w s d is site same manager =
+    → d.ledger ≡ (desk w s).ledger → d.manager.me ≡ (desk w s).manager.me
+    → (has_closed (desk w s) ≡ true → d.queue.waiting ≡ []) → WorldGoesOn w (with_desk w s d)
+same_ledger w s d is site same manager idle =
     same_log w s d is site (ap (λ (l : LedgerValue). l.log.site) same) (ap (λ (l : LedgerValue). l.log.entries) same)
-    (ap (λ (l : LedgerValue). l.book) same) manager
+    (ap (λ (l : LedgerValue). l.book) same) manager idle
+
+-- .. nor what waits
+pub same_requests : (w : WorldValue) (s : ℕ) (d : DeskValue) → IsWorld w → IsSiteOf (count w) s
+    → d.ledger ≡ (desk w s).ledger → d.manager.me ≡ (desk w s).manager.me → d.queue ≡ (desk w s).queue
+    → WorldGoesOn w (with_desk w s d)
+same_requests w s d is site same manager queue =
+    same_ledger w s d is site same manager
+    (λ h. ap (λ (q : QueueValue). q.waiting) queue ∙ (is.sites s site).sound.idle h)
 
 -- a log with other cursors
 record SameEntries (old new : LogValue) : Type 0 where
@@ -272,13 +308,13 @@ pub published : (w : WorldValue) (s p : ℕ) → IsWorld w → IsSiteOf (count w
     → WorldGoesOn w (with_desk w s (after_publish (desk w s) p))
 published w s p is site =
     let same = publishes_same (desk w s) p (next_push (desk w s).ledger.log p) in
-    same_log w s (after_publish (desk w s) p) is site same.site same.entries refl refl
+    same_log w s (after_publish (desk w s) p) is site same.site same.entries refl refl (is.sites s site).sound.idle
 
 -- an ask of s ended
 pub ask_denied : (w : WorldValue) (s j a : ℕ) → IsWorld w → IsSiteOf (count w) s
     → WorldGoesOn w (with_desk w s (record (desk w s) { manager = ended (desk w s).manager j a }))
 ask_denied w s j a is site =
-    same_ledger w s (record (desk w s) { manager = ended (desk w s).manager j a }) is site refl refl
+    same_requests w s (record (desk w s) { manager = ended (desk w s).manager j a }) is site refl refl refl
 
 -- ---- a desk that wrote an entry
 
@@ -288,6 +324,7 @@ pub record Wrote (w : WorldValue) (s : ℕ) (ms : List Move) (d : DeskValue) : T
   pub book : sites d.ledger.book ≡ sites (desk w s).ledger.book
   pub applied : SameApplied (desk w s).ledger d.ledger
   pub manager : d.manager.me ≡ (desk w s).manager.me
+  pub sound : DeskSound d
   pub native : All (NativeMove (count w)) ms
 
 abbrev entry_by : WorldValue → ℕ → List Move → EntryValue
@@ -329,27 +366,36 @@ entry_keeps w s ms d is site wrote by =
         manager = wrote.manager ∙ here.manager;
         system = wrote.book ∙ here.system;
       };
+      sound = wrote.sound;
       longer = (entry_by w s ms ∷ [], sym stands);
       native = subst (NativeLog (count w)) (sym stands)
           (native_push (count w) (log w s) (entry_by w s ms) (is.native s) wrote.native);
     } in
     desk_grows w s d is site next (wrote.applied.all (applied w s) here.applied) by
 
--- an ordinary entry keeps the world
+-- an ordinary entry that neither log nor book refuses keeps the world
 pub wrote : (w : WorldValue) (s : ℕ) (ms : List Move) (d : DeskValue) → IsWorld w → IsSiteOf (count w) s
-    → WritesEntry (desk w s).ledger ms d.ledger → d.manager.me ≡ (desk w s).manager.me → WorldGoesOn w (with_desk w s d)
-wrote w s ms d is site h manager =
+    → IsWritable (desk w s).ledger ms → WritesEntry (desk w s).ledger ms d.ledger
+    → d.manager.me ≡ (desk w s).manager.me → WorldGoesOn w (with_desk w s d)
+wrote w s ms d is site ok h manager =
     let here : SiteSound w s = is.sites s site in
+    let kept : EntryKept (desk w s).ledger ms d.ledger =
+    entry_kept (desk w s).ledger d.ledger ms here.sound.ledger here.sound.book ok h in
     let by_log : MayAppend (count w) (desk w s).ledger.log.site (log w s) (applied w s) ms =
     subst (λ n. MayAppend n (desk w s).ledger.log.site (log w s) (applied w s) ms) here.system
-    (h.may (applied w s) here.applied) in
+    (kept.keeps.may (applied w s) here.applied) in
     let may : MayAppend (count w) s (log w s) (applied w s) ms =
     subst (λ j. MayAppend (count w) j (log w s) (applied w s) ms) here.me by_log in
     let how : Wrote w s ms d = record {
       log = h.log;
       book = h.book.same_sites;
-      applied = h.applied;
+      applied = kept.keeps.applied;
       manager = manager;
+      sound = record {
+        ledger = kept.ledger;
+        book = kept.book;
+        idle = λ closed. absurd (both_ways (has_closed d) kept.unclosed closed);
+      };
       native = native_append (count w) s (log w s) (applied w s) ms may;
     } in
     entry_keeps w s ms d is site how
@@ -380,17 +426,26 @@ closes_here w s heir is site h =
           ∙ ap (λ j. closing_moves (count w) j (log w s) (applied w s) heir) here.me;
     }
 
--- a closing entry keeps the world
+-- a closing entry keeps the world, where the desk may close
 pub closed : (w : WorldValue) (s : ℕ) (heir : Option ℕ) (d : DeskValue) → IsWorld w → IsSiteOf (count w) s
-    → WritesClosing (desk w s).ledger heir d.ledger → d.manager.me ≡ (desk w s).manager.me → WorldGoesOn w (with_desk w s d)
-closed w s heir d is site h manager =
-    let by : ClosesHere w s heir = closes_here w s heir is site (h.may (applied w s) (is.sites s site).applied) in
+    → CanClose (desk w s) heir → WritesClosing (desk w s).ledger heir d.ledger
+    → d.manager.me ≡ (desk w s).manager.me → d.queue ≡ (desk w s).queue → WorldGoesOn w (with_desk w s d)
+closed w s heir d is site can h manager queue =
+    let here : SiteSound w s = is.sites s site in
+    let kept : ClosingKept (desk w s).ledger heir d.ledger =
+    closing_kept (desk w s).ledger d.ledger heir here.sound.ledger here.sound.book can.unclosed can.inherits h in
+    let by : ClosesHere w s heir = closes_here w s heir is site (kept.keeps.may (applied w s) here.applied) in
     let ms : List Move = closing_moves (count w) s (log w s) (applied w s) heir in
     let how : Wrote w s ms d = record {
       log = h.log ∙ ap (λ xs. with_entry (desk w s).ledger.log xs) by.moves;
       book = h.book.same_sites;
-      applied = h.applied;
+      applied = kept.keeps.applied;
       manager = manager;
+      sound = record {
+        ledger = kept.ledger;
+        book = kept.book;
+        idle = λ closed. ap (λ (q : QueueValue). q.waiting) queue ∙ can.idle;
+      };
       native = native_closing (count w) s (log w s) (applied w s) heir by.may;
     } in
     entry_keeps w s ms d is site how
@@ -404,16 +459,27 @@ closed w s heir d is site h manager =
 
 -- ---- a desk that answered an ask
 
--- s answered an ask: by an entry, or by none
+-- s answered an ask of another site as its desk answers asks: by an entry, or by none
 pub answered : (w : WorldValue) (s : ℕ) (ask : AskValue) (answer : AskAnswer) (number : Option ℕ) (d : DeskValue)
-    → IsWorld w → IsSiteOf (count w) s → DeskAnswers (desk w s) ask answer number d → WorldGoesOn w (with_desk w s d)
-answered w s ask (Granted n) number d is site h =
-    wrote w s (Grant ask.asker n ask.ask ∷ []) d is site h.0 (ap (λ (x : DeskValue). x.manager.me) h.2)
-answered w s ask Deny number d is site h =
-    same_ledger w s d is site (ap (λ (x : DeskValue). x.ledger) h.1) (ap (λ (x : DeskValue). x.manager.me) h.1)
-answered w s ask RepeatedDeny number d is site h =
-    same_ledger w s d is site (ap (λ (x : DeskValue). x.ledger) h.1) (ap (λ (x : DeskValue). x.manager.me) h.1)
-answered w s ask Repeated number d is site h =
-    same_ledger w s d is site (ap (λ (x : DeskValue). x.ledger) h.1) (ap (λ (x : DeskValue). x.manager.me) h.1)
-answered w s ask OldAsk number d is site h =
-    same_ledger w s d is site (ap (λ (x : DeskValue). x.ledger) h.1) (ap (λ (x : DeskValue). x.manager.me) h.1)
+    → IsWorld w → IsSiteOf (count w) s → IsSiteOf (count w) ask.asker → ask.asker ≢ s
+    → answer_of (desk w s) ask ≡ answer → DeskAnswers (desk w s) ask answer number d → WorldGoesOn w (with_desk w s d)
+answered w s ask (Granted n) number d is site from differ answers h =
+    let here : SiteSound w s = is.sites s site in
+    let ms : List Move = Grant ask.asker n ask.ask ∷ [] in
+    let some : 1 ≤ n = (All-head IsMove (Grant ask.asker n ask.ask) [] h.0.moves).1.0 in
+    let high : ask.asker ≤ sites (desk w s).ledger.book = omega (arith, from.1, here.system) in
+    let me : (desk w s).ledger.book.me ≡ s = here.sound.ledger.same_site ∙ here.me in
+    wrote w s ms d is site (grant_writable (desk w s) ask n answers some high (λ e. differ (e ∙ me))) h.0
+    (ap (λ (x : DeskValue). x.manager.me) h.2)
+answered w s ask Deny number d is site from differ answers h =
+    same_requests w s d is site (ap (λ (x : DeskValue). x.ledger) h.1) (ap (λ (x : DeskValue). x.manager.me) h.1)
+    (ap (λ (x : DeskValue). x.queue) h.1)
+answered w s ask RepeatedDeny number d is site from differ answers h =
+    same_requests w s d is site (ap (λ (x : DeskValue). x.ledger) h.1) (ap (λ (x : DeskValue). x.manager.me) h.1)
+    (ap (λ (x : DeskValue). x.queue) h.1)
+answered w s ask Repeated number d is site from differ answers h =
+    same_requests w s d is site (ap (λ (x : DeskValue). x.ledger) h.1) (ap (λ (x : DeskValue). x.manager.me) h.1)
+    (ap (λ (x : DeskValue). x.queue) h.1)
+answered w s ask OldAsk number d is site from differ answers h =
+    same_requests w s d is site (ap (λ (x : DeskValue). x.ledger) h.1) (ap (λ (x : DeskValue). x.manager.me) h.1)
+    (ap (λ (x : DeskValue). x.queue) h.1)

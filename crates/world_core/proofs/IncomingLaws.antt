@@ -2,7 +2,6 @@
 use Rattle.std.proofs.Common.{◌≡◌, ◌+◌, ◌≤◌, append_assoc, map, IfSome, vec_capacity, drop, get_or, ℕ, List, [], ◌∷◌, ◌++◌, length, length-append, ap, arith, refl, sym, ◌∙◌}
 use Rattle.std.specs.Prelude.{Option, Some, None, IsSome, MatchOption, unwrap_or}
 use Rattle.std.specs.Option.{option_map}
-use Rattle.std.specs.declared.vec.Vec.{Vec}
 use Rattle.std.proofs.lemmas.List.{length-map}
 use Rattle.rights_types.specs.Entries.{EntryValue, own}
 use Rattle.sub_buffer.specs.Arrivals.{MayFree, all_ready}
@@ -14,6 +13,7 @@ use Rattle.site_core.specs.Inbounds.{ready_in}
 use Rattle.world_core.specs.LinkEvents.{told, told_all}
 use Rattle.world_core.specs.IncomingLists.{HasRoom, IncomingTakes}
 use Rattle.world_core.specs.declared.link.incoming.Incoming.{Incoming}
+use Rattle.world_core.specs.declared.link.incoming.Scratch.{Scratch}
 use Rattle.world_core.specs.declared.reply.Verdict.{Verdict}
 use Rattle.world_core.specs.declared.reply.Verdict.TheVariants.{Ready as IsReady}
 
@@ -106,15 +106,15 @@ room_apart n (Some old) (Some new) items capacity v e lists same room =
     omega (arith, room, ap (λ es. length es) listed, longer_apart v e (items old), some_is _ _ same)
 
 -- an entry came: there is room for one less
-pub keeps_room : {A K : Type 0} (n : ℕ) (old new : Incoming A K) (list later : Vec Verdict A) (e : EntryValue) (v : BufferVerdict A) (freed : List EntryValue)
-    → HasRoom (n + 1) old list → IncomingTakes old list.items e v freed new later.items
+pub keeps_room : {A K : Type 0} (n : ℕ) (old new : Incoming A K) (list later : Scratch A) (e : EntryValue) (v : BufferVerdict A) (freed : List EntryValue)
+    → HasRoom (n + 1) old list → IncomingTakes old list.told.items e v freed new later.told.items
     → vec_capacity new.put ≡ vec_capacity old.put → option_map (λ l. vec_capacity l) new.apart ≡ option_map (λ l. vec_capacity l) old.apart
-    → vec_capacity new.verdicts ≡ vec_capacity old.verdicts → vec_capacity later ≡ vec_capacity list → HasRoom n new later
+    → vec_capacity later.verdicts ≡ vec_capacity list.verdicts → vec_capacity later.told ≡ vec_capacity list.told → HasRoom n new later
 keeps_room n old new list later e v freed room t put apart verdicts told_room = record {
   put = omega (arith, room.put, put_or_held old.put.items v freed _ _ t.arrives.count, ap (λ es. length es) t.put, put);
   apart = room_apart n old.apart new.apart (λ l. l.items) (λ l. vec_capacity l) v e t.apart apart room.apart;
   verdicts = omega (arith, room.verdicts, t.arrives.count, one_held v, verdicts);
-  told = omega (arith, room.told, t.arrives.count, one_held v, told_len v freed, ap (λ ts. length ts) t.told, length-append list.items (told_all v freed), told_room);
+  told = omega (arith, room.told, t.arrives.count, one_held v, told_len v freed, ap (λ ts. length ts) t.told, length-append list.told.items (told_all v freed), told_room);
 }
 
 -- ---- copies

@@ -7,6 +7,7 @@ pub mod LinkKeeps
 pub mod SendKeeps
 pub mod TakeKeeps
 pub mod PacketKeeps
+pub mod PacketsLaws
 pub mod StartLaws
 pub mod WorldLaws
 pub mod RefinementLaws

@@ -138,6 +138,7 @@ link_keeps w s o old new is site from there sound same by =
               me = x.me;
               manager = x.manager;
               system = x.system;
+              sound = x.sound;
               applied = subst (λ lists. HasApplied lists (desk w k).ledger) (sym applies) x.applied;
               width = width_kept w s o k new is site ∙ x.width;
               itself = elim (link_cases w s o k k new is site from) [

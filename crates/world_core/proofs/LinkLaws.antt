@@ -1,10 +1,10 @@
 -- What entries of a log leave of a link.
-use Rattle.std.proofs.Common.{zero-add, suc-add, ◌≡◌, ◌+◌, ◌≤◌, ℕ, max, List, [], ◌∷◌, ◌++◌, length, length-append, take, ap, arith, refl, sym, subst, ◌∙◌, append-nil, append_assoc}
+use Rattle.std.proofs.Common.{zero-add, suc-add, ◌≡◌, ◌+◌, ◌≤◌, ℕ, max, List, [], ◌∷◌, ◌++◌, length, length-append, take, drop, ap, arith, refl, sym, subst, ◌∙◌, append-nil, append_assoc}
 use Rattle.std.specs.Prelude.{Bool, true, false, Option, Some, None}
 use Rattle.std.specs.Option.{option_map}
 use Rattle.std.specs.List.{All, Contains, slice_get}
 use Rattle.std.proofs.lemmas.Option.{get_or_from_slice_get, slice_get_within}
-use Rattle.std.proofs.lemmas.List.{take-append-le, take_all, take_more, length-take-le, nil_from_length}
+use Rattle.std.proofs.lemmas.List.{take-append-le, take-append-drop, take_more, length-take-le, nil_from_length}
 use Rattle.std.proofs.lemmas.List.Elements.{All-head, All-tail, All-contains_itself, Contains-append_right}
 use Rattle.rights_types.specs.Entries.{EntryValue, own}
 use Rattle.rights_types.specs.Chains.{end, closed_from, IsChain}
@@ -227,11 +227,6 @@ same_link keeps old new applied same =
     ∙ ap (λ xs. with old.inbound (reached_in keeps old) xs new.put.items) (gone_is keeps old new same.gone)
     ∙ ap (λ ys. with old.inbound (reached_in keeps old) (gone_in keeps old) ys) same.put
 
--- nor does room for verdicts
-pub spare_link : {A K : Type 0} (keeps : Bool) (old new : Incoming A K) (applied : ℕ) → new ≡ record old { spare = new.spare } → link_of keeps new applied ≡ link_of keeps old applied
-spare_link true old new applied is = ap (λ i. link_of true i applied) is
-spare_link false old new applied is = ap (λ i. link_of false i applied) is
-
 -- room was made, and entries are to come
 pub goes_on_start : {A K : Type 0} (keeps : Bool) (es entries : List EntryValue) (link : LinkValue) (old room : Incoming A K) (applied : ℕ) (list : List Verdict)
     → link_of keeps old applied ≡ link → SameLists old room → list ≡ [] → All (Contains es) entries → Follows es link.reached link.put link.inbound.buffer
@@ -248,13 +243,12 @@ pub still_incoming : {A K : Type 0} (applied : ℕ) (old new : Incoming A K) (be
 still_incoming applied old new before after e v freed ok t =
     let more = more_put old.put.items v freed in
     let longer : new.put.items ≡ old.put.items ++ more.0 = t.put ∙ more.1 in
-    record { within = omega (arith, ok.within, ap (λ es. length es) longer, length-append old.put.items more.0); few = t.arrives.few; settled = t.verdicts }
+    record { within = omega (arith, ok.within, ap (λ es. length es) longer, length-append old.put.items more.0); few = t.arrives.few }
 
 pub roomy_incoming : {A K : Type 0} (applied : ℕ) (old new : Incoming A K) → IsIncoming old applied → SameLists old new → IsIncoming new applied
 roomy_incoming applied old new ok same = record {
   within = omega (arith, ok.within, ap (λ es. length es) same.put);
   few = omega (arith, ok.few, ap (λ (i : InboundValue). length i.buffer.held) same.inbound);
-  settled = same.verdicts ∙ ok.settled;
 }
 
 -- ---- applying
@@ -280,16 +274,18 @@ one_applied keeps i applied l e is within next =
     let all = ap (λ xs. gone_in keeps i ++ xs) more ∙ sym (append_assoc (gone_in keeps i) (take applied i.put.items) (e ∷ [])) in
     ap (λ (xs : List EntryValue). record (link_of keeps i applied) { applied = xs }) all ∙ ap (λ (x : LinkValue). with_applied x e) is
 
--- the entry e was the last to be applied, and all that were put are gone
-pub all_gone : {A K : Type 0} (keeps : Bool) (old new : Incoming A K) (applied : ℕ) (l : LinkValue) (e : EntryValue) → keeps ≡ false → link_of keeps old applied ≡ l → applied ≤ length old.put.items
-    → length old.put.items ≤ applied + 1 → slice_get l.put (length l.applied) ≡ Some e → new ≡ record old { gone = new.gone; put = new.put }
-    → new.gone.items ≡ old.gone.items ++ old.put.items → new.put.items ≡ [] → link_of keeps new 0 ≡ with_applied l e
-all_gone true old new applied l e is at within past next same gone none = absurd cc
-all_gone false old new applied l e is at within past next same gone none =
+-- the entry e was applied, and with those before it that were put it is gone
+pub some_gone : {A K : Type 0} (keeps : Bool) (old new : Incoming A K) (applied : ℕ) (l : LinkValue) (e : EntryValue) → keeps ≡ false → link_of keeps old applied ≡ l → applied ≤ length old.put.items
+    → slice_get l.put (length l.applied) ≡ Some e → new ≡ record old { gone = new.gone; put = new.put }
+    → new.gone.items ≡ old.gone.items ++ take (applied + 1) old.put.items → new.put.items ≡ drop (applied + 1) old.put.items → link_of keeps new 0 ≡ with_applied l e
+some_gone true old new applied l e is at within next same gone left = absurd cc
+some_gone false old new applied l e is at within next same gone left =
     let with : InboundValue → List EntryValue → List EntryValue → List EntryValue → LinkValue = λ i seen put xs. record { inbound = i; reached = seen; put = put; applied = xs } in
-    let put : new.gone.items ++ new.put.items ≡ old.gone.items ++ old.put.items = ap (λ es. new.gone.items ++ es) none ∙ append-nil new.gone.items ∙ gone in
-    let xs : new.gone.items ++ take 0 new.put.items ≡ old.gone.items ++ take (applied + 1) old.put.items =
-    append-nil new.gone.items ∙ gone ∙ ap (λ es. old.gone.items ++ es) (sym (take_all (applied + 1) old.put.items past)) in
+    let put : new.gone.items ++ new.put.items ≡ old.gone.items ++ old.put.items =
+    ap (λ es. new.gone.items ++ es) left ∙ ap (λ es. es ++ drop (applied + 1) old.put.items) gone
+    ∙ append_assoc old.gone.items (take (applied + 1) old.put.items) (drop (applied + 1) old.put.items)
+    ∙ ap (λ es. old.gone.items ++ es) (take-append-drop (applied + 1) old.put.items) in
+    let xs : new.gone.items ++ take 0 new.put.items ≡ old.gone.items ++ take (applied + 1) old.put.items = append-nil new.gone.items ∙ gone in
     ap (λ i. with i new.seen.items (new.gone.items ++ new.put.items) (new.gone.items ++ take 0 new.put.items)) (ap (λ i. i.inbound) same)
     ∙ ap (λ seen. with old.inbound seen (new.gone.items ++ new.put.items) (new.gone.items ++ take 0 new.put.items)) (ap (λ i. i.seen.items) same)
     ∙ ap (λ es. with old.inbound old.seen.items es (new.gone.items ++ take 0 new.put.items)) put

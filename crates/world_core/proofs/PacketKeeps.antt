@@ -69,32 +69,38 @@ answer_or w new s q outcome (Some fault) is ends h = subst (WorldGoesOn w) (sym 
 -- ---- asks and denials
 
 denies_keep : (w new : WorldValue) (s o : ℕ) (ask : AskValue) (answer : AskAnswer) (number : ℕ) → IsWorld w
-    → Ends w s o → ask.asker ≡ o → ask.asked ≡ s → Denies w s ask answer number new
+    → Ends w s o → ask.asker ≡ o → ask.asked ≡ s → answer_of (desk w s) ask ≡ answer → Denies w s ask answer number new
     → WorldGoesOn w new
-denies_keep w new s o ask answer number is ends asker asked h =
+denies_keep w new s o ask answer number is ends asker asked answers h =
     let sites : count (with_desk w s h.0) ≡ count w = same_count w s h.0 in
     let there : Ends (with_desk w s h.0) s ask.asker = record {
       site = subst (λ n. IsSiteOf n s) (sym sites) ends.site;
       from = subst (λ n. IsSiteOf n ask.asker) (sym sites) (subst (IsSiteOf (count w)) (sym asker) ends.from);
       differ = λ e. ends.differ (sym asker ∙ e);
     } in
-    let by : WorldGoesOn w (with_desk w s h.0) = answered w s ask answer None h.0 is ends.site h.1 in
+    let by : WorldGoesOn w (with_desk w s h.0) =
+    answered w s ask answer None h.0 is ends.site (subst (IsSiteOf (count w)) (sym asker) ends.from)
+    (λ e. ends.differ (sym asker ∙ e)) answers h.1 in
     goes_then w (with_desk w s h.0) new by
     (sends_keep (with_desk w s h.0) new s ask.asker (ADenial (denial ask)) number by.is there (asked, refl) h.2)
 
 ask_comes : {A : Type 0} (answer : AskAnswer) (w new : WorldValue) (s o : ℕ) (ask : AskValue)
     (outcome : Result (Reply A) WorldError) → IsWorld w → Ends w s o → ask.asker ≡ o → ask.asked ≡ s
-    → AskComesBy answer w s ask outcome new → WorldGoesOn w new
-ask_comes (Grant n) w new s o ask (Ok (Granted number)) is ends asker asked h =
-    subst (WorldGoesOn w) (sym h.2) (answered w s ask (Grant n) (Some number) h.0 is ends.site h.1)
-ask_comes Deny w new s o ask (Ok (Denied number)) is ends asker asked h =
-    denies_keep w new s o ask Deny number is ends asker asked h
-ask_comes RepeatedDeny w new s o ask (Ok (Denied number)) is ends asker asked h =
-    denies_keep w new s o ask RepeatedDeny number is ends asker asked h
-ask_comes Repeated w new s o ask (Ok GrantedBefore) is ends asker asked h = subst (WorldGoesOn w) (sym h) (unchanged w is)
-ask_comes OldAsk w new s o ask (Ok Old) is ends asker asked h = subst (WorldGoesOn w) (sym h) (unchanged w is)
-ask_comes answer w new s o ask (Err OutOfMemory) is ends asker asked h = subst (WorldGoesOn w) (sym h) (unchanged w is)
-ask_comes answer w new s o ask outcome is ends asker asked h = absurd h
+    → answer_of (desk w s) ask ≡ answer → AskComesBy answer w s ask outcome new → WorldGoesOn w new
+ask_comes (Grant n) w new s o ask (Ok (Granted number)) is ends asker asked answers h =
+    subst (WorldGoesOn w) (sym h.2)
+    (answered w s ask (Grant n) (Some number) h.0 is ends.site (subst (IsSiteOf (count w)) (sym asker) ends.from)
+    (λ e. ends.differ (sym asker ∙ e)) answers h.1)
+ask_comes Deny w new s o ask (Ok (Denied number)) is ends asker asked answers h =
+    denies_keep w new s o ask Deny number is ends asker asked answers h
+ask_comes RepeatedDeny w new s o ask (Ok (Denied number)) is ends asker asked answers h =
+    denies_keep w new s o ask RepeatedDeny number is ends asker asked answers h
+ask_comes Repeated w new s o ask (Ok GrantedBefore) is ends asker asked answers h =
+    subst (WorldGoesOn w) (sym h) (unchanged w is)
+ask_comes OldAsk w new s o ask (Ok Old) is ends asker asked answers h = subst (WorldGoesOn w) (sym h) (unchanged w is)
+ask_comes answer w new s o ask (Err OutOfMemory) is ends asker asked answers h =
+    subst (WorldGoesOn w) (sym h) (unchanged w is)
+ask_comes answer w new s o ask outcome is ends asker asked answers h = absurd h
 
 denial_comes : {A : Type 0} (w new : WorldValue) (s : ℕ) (d : DenyValue) (outcome : Result (Reply A) WorldError)
     → IsWorld w → IsSiteOf (count w) s → DenialComes w s d outcome new → WorldGoesOn w new
@@ -114,7 +120,7 @@ message_keeps w new s o (ABeat b) outcome is ends may h = beat_comes w new s o b
 message_keeps w new s o (AQuery q) outcome is ends may h =
     answer_or w new s q outcome (query_fault (desk w s).ledger.log q) is (subst (Ends w s) (sym may.0) ends) h
 message_keeps w new s o (AnAsk a) outcome is ends may h =
-    ask_comes (answer_of (desk w s) a) w new s o a outcome is ends may.0 may.1 h
+    ask_comes (answer_of (desk w s) a) w new s o a outcome is ends may.0 may.1 refl h
 message_keeps w new s o (ADenial d) outcome is ends may h = denial_comes w new s d outcome is ends.site h
 message_keeps w new s o (AHello site) outcome is ends may h = absurd h
 

@@ -80,6 +80,7 @@ parts_keep w packets over is sent =
               me = x.me;
               manager = x.manager;
               system = x.system;
+              sound = x.sound;
               applied = x.applied;
               width = x.width;
               itself = x.itself;

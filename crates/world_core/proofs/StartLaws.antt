@@ -14,11 +14,13 @@ use Rattle.rights_types.proofs.Sums.{moves_of-nil}
 use Rattle.rights_protocol.specs.Lists.{IsSiteOf}
 use Rattle.rights_protocol.specs.Changes.{Start}
 use Rattle.rights_protocol.proofs.Steps.{start_kept}
+use Rattle.rights_book.proofs.BookLaws.{new_is_book}
 use Rattle.rights_book.proofs.StandLaws.{new_stands}
 use Rattle.sub_buffer.proofs.Offers.{follows_new}
 use Rattle.site_core.specs.Ledgers.{LedgerValue, HasApplied, new_ledger}
-use Rattle.site_core.specs.Desks.{DeskValue, new_desk}
+use Rattle.site_core.specs.Desks.{DeskValue, DeskSound, new_desk}
 use Rattle.site_core.specs.Inbounds.{is_foreign}
+use Rattle.site_core.proofs.LedgerLaws.{new_is_ledger}
 use Rattle.site_core.proofs.Protocol.{none_applied}
 use Rattle.world_core.specs.Values.{LinkValue}
 use Rattle.world_core.specs.Worlds.{count, desk, log, row, link, list_of, applied, lists_of, new_link, link_to, new_row, start}
@@ -103,13 +105,21 @@ start_applied n s site =
     subst (λ (d : DeskValue). HasApplied (applied (start n) s) d.ledger) (sym (desk_start n s site))
     (subst (λ lists. HasApplied lists l) (sym same) none)
 
-start_site : (n s : ℕ) → IsSiteOf n s → SiteSound (start n) s
-start_site n s site =
+new_sound : (n s : ℕ) → 2 ≤ n → n ≤ 16 → IsSiteOf n s → DeskSound (new_desk s n)
+new_sound n s some few site = record {
+  ledger = new_is_ledger s (new_ledger s n) refl refl (new_stands s n).of_own;
+  book = new_is_book s n some few site.0 site.1;
+  idle = λ closed. refl;
+}
+
+start_site : (n s : ℕ) → 2 ≤ n → n ≤ 16 → IsSiteOf n s → SiteSound (start n) s
+start_site n s some few site =
     let at : desk (start n) s ≡ new_desk s n = desk_start n s site in
     record {
       me = ap (λ (d : DeskValue). d.ledger.log.site) at;
       manager = ap (λ (d : DeskValue). d.manager.me) at;
       system = ap (λ (d : DeskValue). length d.ledger.book.peers) at ∙ length-replicate n _ ∙ sym (count_start n);
+      sound = subst DeskSound (sym at) (new_sound n s some few site);
       applied = start_applied n s site;
       width = ap (λ (r : List (Option LinkValue)). length r) (row_start n s site)
           ∙ length-map-range_with_len (link_to n s) 1 n ∙ sym (count_start n);
@@ -121,8 +131,8 @@ start_site n s site =
       );
     }
 
-new_sound : (n s o : ℕ) → LinkSound (start n) s o (new_link n s o)
-new_sound n s o = record {
+new_link_sound : (n s o : ℕ) → LinkSound (start n) s o (new_link n s o)
+new_link_sound n s o = record {
   me = refl;
   origin = refl;
   system = sym (count_start n);
@@ -133,7 +143,7 @@ new_sound n s o = record {
 to_sound : (n s o : ℕ) (l : LinkValue) (itself : Bool) → cond itself None (Some (new_link n s o)) ≡ Some l
     → LinkSound (start n) s o l
 to_sound n s o l true at = absurd cc
-to_sound n s o l false at = let same : new_link n s o ≡ l = cc in subst (LinkSound (start n) s o) same (new_sound n s o)
+to_sound n s o l false at = let same : new_link n s o ≡ l = cc in subst (LinkSound (start n) s o) same (new_link_sound n s o)
 
 start_link : (n s o : ℕ) (l : LinkValue) → link (start n) s o ≡ Some l → LinkSound (start n) s o l
 start_link n s o l at = elim (link_cases n s o) [
@@ -157,7 +167,7 @@ pub start_world : (n : ℕ) → 2 ≤ n → n ≤ 16 → IsWorld (start n)
 start_world n some few = record {
   kept = start_kept n (lists_of (start n)) (start_lists n some few);
   rows = length-map-range_with_len (new_row n) 1 n ∙ sym (count_start n);
-  sites = λ s site. start_site n s (subst (λ k. IsSiteOf k s) (count_start n) site);
+  sites = λ s site. start_site n s some few (subst (λ k. IsSiteOf k s) (count_start n) site);
   links = start_link n;
   native = λ s. subst (λ es. All (λ (m : Move). is_foreign (count (start n)) m ≡ false) (moves_of es))
       (sym (log_start n s)) (rw moves_of-nil (All-nil _));

@@ -1,10 +1,12 @@
 -- A take keeps what is kept of a world: the site applies one more entry, and its desk may take back by it.
-use Rattle.std.proofs.Common.{◌≡◌, ◌≢◌, ℕ, Bool, true, false, cond, eqb, inl, inr, List, [], ◌∷◌, ◌++◌, length, map, Option, Some, None, Result, Ok, Err, refl, ap, sym, subst, ◌∙◌, append-nil}
+use Rattle.std.proofs.Common.{◌≡◌, ◌≢◌, ℕ, Bool, true, false, cond, eqb, inl, inr, List, [], ◌∷◌, ◌++◌, length, map, Option, Some, None, Result, Ok, Err, refl, ap, sym, subst, ◌∙◌, arith, append-nil}
 use Rattle.std.specs.List.{slice_get}
+use Rattle.std.proofs.lemmas.Bool.{both_ways}
 use Rattle.rights_types.specs.Entries.{EntryValue}
-use Rattle.rights_types.specs.Chains.{IsPrefix, is_closed, AddsEntry}
+use Rattle.rights_types.specs.Chains.{IsChain, IsPrefix, is_closed, AddsEntry}
 use Rattle.rights_types.specs.declared.moves.Move.{Move}
 use Rattle.rights_types.specs.declared.moves.Move.TheVariants.{Issue, Spend, Grant, Give, Close, CloseAt, TakeBack}
+use Rattle.rights_types.proofs.Chains.{chain_right}
 use Rattle.rights_types.proofs.Places.{length-set_site}
 use Rattle.rights_types.specs.Places.{set_site}
 use Rattle.rights_protocol.specs.Lists.{IsSiteOf}
@@ -14,10 +16,13 @@ use Rattle.rights_protocol.specs.Changes.Change.{Take}
 use Rattle.rights_protocol.specs.Kept.{Kept}
 use Rattle.origin_log.specs.Logs.{LogValue}
 use Rattle.rights_book.specs.Books.{BookValue, sites}
+use Rattle.rights_book.specs.declared.account.Account.{Account}
 use Rattle.transfer_manager.specs.Managers.{ManagerValue}
-use Rattle.site_core.specs.Ledgers.{HasApplied, TakesBackIf}
-use Rattle.site_core.specs.Desks.{DeskValue, after_grant, after_grants}
+use Rattle.site_core.specs.Ledgers.{HasApplied, TakesBackIf, IsNextOf}
+use Rattle.site_core.specs.Desks.{DeskValue, DeskSound, after_grant, after_grants}
 use Rattle.site_core.specs.Calls.{DeskApplies}
+use Rattle.site_core.specs.Faults.{has_closed}
+use Rattle.site_core.proofs.Keeping.{ApplyKept, apply_kept}
 use Rattle.world_core.specs.Values.{LinkValue, WorldValue}
 use Rattle.world_core.specs.Worlds.{count, desk, with_desk, log, row, link, with_link, list_of, applied, lists_of}
 use Rattle.world_core.specs.Faults.{link_fault}
@@ -57,7 +62,7 @@ same_asker me o (x ∷ xs) m = same_asker me o xs (after_grant me o x m) ∙ one
 same_system : (none : Bool) (old : BookValue) (o n : ℕ) (new : BookValue) → TakesBackIf none old o n new
     → sites new ≡ sites old
 same_system true old o n new h = ap (λ (b : BookValue). sites b) h
-same_system false old o n new h = h.writes.same_sites
+same_system false old o n new h = h.same_sites
 
 -- a log with what was taken back from o
 native_taken : (n s o amount : ℕ) (none : Bool) (es : List EntryValue) → IsSiteOf n o → NativeLog n es
@@ -74,8 +79,8 @@ log_after w s o e d is site h =
 
 -- the desk that applied an entry goes on
 desk_applies : (w : WorldValue) (s o : ℕ) (e : EntryValue) (d : DeskValue) → IsWorld w → Ends w s o
-    → DeskApplies (desk w s) o e d → DeskGoesOn w s d
-desk_applies w s o e d is ends h =
+    → DeskApplies (desk w s) o e d → DeskSound d → DeskGoesOn w s d
+desk_applies w s o e d is ends h sound =
     let here : SiteSound w s = is.sites s ends.site in
     let wrote : d.ledger.log.entries ≡ log w s ++ taking_back s o (log w s) e = log_after w s o e d is ends.site h in
     let owes : ℕ = owed s o (log w s) (numbers_in e.moves) in
@@ -86,6 +91,7 @@ desk_applies w s o e d is ends h =
             ∙ same_asker (desk w s).ledger.log.site o e.moves (desk w s).manager ∙ here.manager;
         system = h.entry.book.same_sites ∙ same_system _ _ o _ _ h.entry.taken ∙ here.system;
       };
+      sound = sound;
       longer = (taking_back s o (log w s) e, sym wrote);
       native = subst (NativeLog (count w)) (sym wrote)
           (native_taken (count w) s o owes (eqb owes 0) (log w s) ends.from (is.native s));
@@ -148,6 +154,41 @@ takes w s o l e d is h =
       };
     }
 
+-- it was the next entry of o, which had not closed, as far as s had applied its log
+is_next : (w : WorldValue) (s o : ℕ) (l : LinkValue) (e : EntryValue) (d : DeskValue) → IsWorld w
+    → Applied w s o l e d → Kept (lists_of (after w s o l e d)) → IsNextOf (desk w s).ledger.book o e
+is_next w s o l e d is h kept =
+    let here : SiteSound w s = is.sites s h.ends.site in
+    let before : List EntryValue = applied w s o in
+    let longer : IsChain o (before ++ e ∷ []) = subst (IsChain o) (adds w s o l e d is h).there ((kept.sites s).chains o) in
+    let last = chain_right o false 0 before (e ∷ []) longer in
+    let account = here.applied.in_book.sums o in
+    let me : (desk w s).ledger.book.me ≡ s = here.sound.ledger.same_site ∙ here.me in
+    record {
+      site = (h.ends.from.0, omega (arith, h.ends.from.1, is.kept.few));
+      high = omega (arith, h.ends.from.1, here.system);
+      other = λ q. h.ends.differ (q ∙ me);
+      unclosed = ap (λ (a : Account). a.closed) account ∙ last.0;
+      next = last.2 ∙ sym (ap (λ (a : Account). a.end) account);
+      moves = last.3.moves;
+      number = last.3.number;
+    }
+
+-- so its desk is sound still, and what it applied is one entry more
+desk_after : (w : WorldValue) (s o : ℕ) (l : LinkValue) (e : EntryValue) (d : DeskValue) → IsWorld w
+    → (h : Applied w s o l e d) → Kept (lists_of (after w s o l e d))
+    → ApplyKept (desk w s).ledger o e h.desk.entry.between d.ledger
+desk_after w s o l e d is h kept =
+    let here : SiteSound w s = is.sites s h.ends.site in
+    apply_kept (desk w s).ledger d.ledger o e here.sound.ledger here.sound.book (is_next w s o l e d is h kept) h.unclosed
+    h.desk.entry
+
+sound_after : (w : WorldValue) (s o : ℕ) (l : LinkValue) (e : EntryValue) (d : DeskValue) → IsWorld w
+    → (h : Applied w s o l e d) → Kept (lists_of (after w s o l e d)) → DeskSound d
+sound_after w s o l e d is h kept =
+    let k : ApplyKept (desk w s).ledger o e h.desk.entry.between d.ledger = desk_after w s o l e d is h kept in
+    record { ledger = k.ledger; book = k.book; idle = λ closed. absurd (both_ways (has_closed d) k.unclosed closed) }
+
 -- each site is sound still
 site_after : (w : WorldValue) (s o : ℕ) (l : LinkValue) (e : EntryValue) (d : DeskValue) → IsWorld w
     → Applied w s o l e d → Kept (lists_of (after w s o l e d)) → (k : ℕ) → IsSiteOf (count w) k
@@ -158,10 +199,11 @@ site_after w s o l e d is h kept k among =
     let site : IsSiteOf (count w) s = h.ends.site in
     let from : IsSiteOf (count w) o = h.ends.from in
     let old : SiteSound w k = is.sites k among in
+    let sound : DeskSound d = sound_after w s o l e d is h kept in
     let own : IsDeskOf (count w) k (desk new k) =
-    desks_still w s d is site (desk_applies w s o e d is h.ends h.desk) k among in
+    desks_still w s d is site (desk_applies w s o e d is h.ends h.desk sound) k among in
     let here : HasApplied (applied new s) d.ledger =
-    h.desk.entry.applied.all (applied w s) (applied new s) (is.sites s site).applied (adds w s o l e d is h)
+    (desk_after w s o l e d is h kept).keeps.applied.all (applied w s) (applied new s) (is.sites s site).applied (adds w s o l e d is h)
     ((kept.sites s).chains o) in
     let others : (i : ℕ) → i ≢ s → IsSiteOf (count w) i → HasApplied (applied new i) (desk w i).ledger = λ i ne a.
     let same : applied new i ≡ applied w i =
@@ -172,6 +214,7 @@ site_after w s o l e d is h kept k among =
       me = own.me;
       manager = own.manager;
       system = own.system ∙ sym (same_count w s d);
+      sound = each_desk (λ i x. IsSiteOf (count w) i → DeskSound x) w s d site (λ _. sound) (λ i _ a. (is.sites i a).sound) k among;
       applied = each_desk (λ i x. IsSiteOf (count w) i → HasApplied (applied new i) x.ledger) w s d site (λ _. here)
           others k among;
       width = width_kept w s o k later is site ∙ old.width ∙ sym (same_count w s d);
@@ -207,8 +250,8 @@ take_world : (w : WorldValue) (s o : ℕ) (l : LinkValue) (e : EntryValue) (d : 
     → Applied w s o l e d → WorldGoesOn w (after w s o l e d)
 take_world w s o l e d is h =
     let new : WorldValue = after w s o l e d in
-    let next : DeskGoesOn w s d = desk_applies w s o e d is h.ends h.desk in
     let by : Leads w new = leads w new (Take s o) is (takes w s o l e d is h) in
+    let next : DeskGoesOn w s d = desk_applies w s o e d is h.ends h.desk (sound_after w s o l e d is h by.kept) in
     let longer : (k : ℕ) → IsPrefix (log w k) (log new k) = logs_longer w s d h.ends.site next in
     let logs : LogsGoOn w new =
     record { same = same_count w s d; longer = longer; chains = λ k. (by.kept.sites k).chain } in

@@ -2,16 +2,16 @@
 use Rattle.std.specs.Prelude.{List}
 use Rattle.world_core.specs.Values.{BodyValue}
 use Rattle.world_core.specs.Values.BodyValue.{EntryAt, Text}
-use Rattle.world_core.specs.declared.packet.Body.{Body}
-use Rattle.world_core.specs.declared.packet.Body.TheVariants.{Entry, Own}
+use Rattle.world_core.specs.declared.packets.Body.{Body}
+use Rattle.world_core.specs.declared.packets.Body.TheVariants.{Entry, Own}
 use Rattle.world_core.specs.declared.reply.Told.{Told}
 use Rattle.world_core.specs.declared.reply.Told.TheVariants.{One, Many}
 use Rattle.world_core.specs.declared.reply.Verdict.{Verdict}
 
 -- what a packet carries
-abbrev pub body_of : {A : Type 0} → Body A → BodyValue
+abbrev pub body_of : Body → BodyValue
 body_of (Entry place) = EntryAt place
-body_of (Own line) = Text line
+body_of (Own line) = Text line.now
 
 -- the verdicts of one arrival
 abbrev pub told_of : {A : Type 0} → Told A → List Verdict

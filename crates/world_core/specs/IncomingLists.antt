@@ -1,7 +1,6 @@
 -- How a link keeps its lists, and the room in them.
 use Rattle.std.specs.Prelude.{◌≡◌, Bool, true, false, ℕ, ◌+◌, ◌*◌, ◌≤◌, max, List, [], ◌∷◌, ◌++◌, length, take, Option, Some, None, IfSome, vec_capacity}
 use Rattle.std.specs.Option.{option_map}
-use Rattle.std.specs.declared.vec.Vec.{Vec}
 use Rattle.rights_types.specs.Entries.{EntryValue, own}
 use Rattle.rights_types.specs.declared.limits.TheConstants.{MAX_HELD}
 use Rattle.sub_buffer.specs.Arrivals.{Arrives}
@@ -10,6 +9,7 @@ use Rattle.sub_buffer.specs.declared.verdict.Verdict.{Verdict as BufferVerdict}
 use Rattle.world_core.specs.Values.{LinkValue}
 use Rattle.world_core.specs.LinkEvents.{told_all}
 use Rattle.world_core.specs.declared.link.incoming.Incoming.{Incoming}
+use Rattle.world_core.specs.declared.link.incoming.Scratch.{Scratch}
 use Rattle.world_core.specs.declared.reply.Verdict.{Verdict}
 
 -- what reached a site: listed apart, or what was put, where nothing came out of its order
@@ -39,12 +39,10 @@ link_of keeps i applied = record {
   applied = gone_in keeps i ++ take applied i.put.items;
 }
 
--- of every link: so many were applied of what was put and is not gone, at most 64 entries are held, and all verdicts
--- were told
+-- of every link: so many were applied of what was put and is not gone, and at most 64 entries are held
 pub record IsIncoming {A K : Type 0} (i : Incoming A K) (applied : ℕ) : Type 0 where
   pub within : applied ≤ length i.put.items
   pub few : length i.inbound.buffer.held ≤ MAX_HELD
-  pub settled : i.verdicts.items ≡ []
 
 -- none of these entries begins after both the number n and the ends of those before it
 abbrev pub NoneAhead : ℕ → List EntryValue → Type 0
@@ -53,11 +51,11 @@ NoneAhead n (e ∷ es) = (e.prev ≤ n) × NoneAhead (max n (own e)) es
 
 -- room for n entries that are to come, and for the verdicts on them: each that comes can be held and freed again,
 -- but the last
-pub record HasRoom {A K : Type 0} (n : ℕ) (i : Incoming A K) (list : Vec Verdict A) : Type 0 where
+pub record HasRoom {A K : Type 0} (n : ℕ) (i : Incoming A K) (s : Scratch A) : Type 0 where
   pub put : length i.put.items + length i.inbound.buffer.held + n ≤ vec_capacity i.put
   pub apart : IfSome i.apart (λ v. length v.items + n ≤ vec_capacity v)
-  pub verdicts : length i.inbound.buffer.held + n ≤ vec_capacity i.verdicts
-  pub told : length list.items + length i.inbound.buffer.held + 2 * n ≤ vec_capacity list + 1
+  pub verdicts : length i.inbound.buffer.held + n ≤ vec_capacity s.verdicts
+  pub told : length s.told.items + length i.inbound.buffer.held + 2 * n ≤ vec_capacity s.told + 1
 
 -- only the room changed, and where the entries that reached the site are listed
 pub record SameLists {A K : Type 0} (old new : Incoming A K) : Type 0 where
@@ -65,7 +63,6 @@ pub record SameLists {A K : Type 0} (old new : Incoming A K) : Type 0 where
   pub gone : new.gone.items ≡ old.gone.items
   pub put : new.put.items ≡ old.put.items
   pub reached : (keeps : Bool) → reached_in keeps new ≡ reached_in keeps old
-  pub verdicts : new.verdicts.items ≡ old.verdicts.items
 
 -- an entry came: the verdict v on it, and the held entries that it freed, which are told behind what was told before
 pub record IncomingTakes {A K : Type 0} (old : Incoming A K) (before : List Verdict) (e : EntryValue) (v : BufferVerdict A) (freed : List EntryValue) (new : Incoming A K) (after : List Verdict) : Type 0 where
@@ -75,5 +72,4 @@ pub record IncomingTakes {A K : Type 0} (old : Incoming A K) (before : List Verd
   pub put : new.put.items ≡ put_after old.put.items v ++ freed
   pub seen : new.seen.items ≡ reached_after old.seen.items e v
   pub apart : option_map (λ l. l.items) new.apart ≡ option_map (λ l. reached_after l.items e v) old.apart
-  pub verdicts : new.verdicts.items ≡ []
   pub told : after ≡ before ++ told_all v freed

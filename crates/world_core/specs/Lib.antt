@@ -4,6 +4,7 @@
 pub mod Values
 pub mod Worlds
 pub mod Bodies
+pub mod Packets
 pub mod Causes
 pub mod Faults
 pub mod DeskEvents

@@ -12,6 +12,7 @@ use Rattle.rights_book.specs.Books.{sites}
 use Rattle.sub_buffer.specs.Buffers.{IsSettled}
 use Rattle.sub_buffer.specs.Follows.{Follows}
 use Rattle.site_core.specs.Ledgers.{HasApplied}
+use Rattle.site_core.specs.Desks.{DeskSound}
 use Rattle.site_core.specs.Inbounds.{is_foreign}
 use Rattle.world_core.specs.Values.{LinkValue, BodyValue, PacketValue, WorldValue}
 use Rattle.world_core.specs.Values.BodyValue.{EntryAt, Text}
@@ -22,6 +23,7 @@ pub record SiteSound (w : WorldValue) (s : ℕ) : Type 0 where
   pub me : (desk w s).ledger.log.site ≡ s
   pub manager : (desk w s).manager.me ≡ s
   pub system : sites (desk w s).ledger.book ≡ count w
+  pub sound : DeskSound (desk w s)
   pub applied : HasApplied (applied w s) (desk w s).ledger
   pub width : length (row w s) ≡ count w
   pub itself : link w s s ≡ None

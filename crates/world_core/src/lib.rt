@@ -8,7 +8,7 @@ mod keeping;
 mod laws;
 mod link;
 mod links;
-mod packet;
+mod packets;
 mod reply;
 mod system;
 mod world;

@@ -22,6 +22,7 @@ mod incoming;
 use crate::history::History;
 use crate::keeping::{ForReaders, Keeping};
 use crate::reply::Verdicts;
+pub(crate) use incoming::Scratch;
 use incoming::{Incoming, none_ahead};
 use rights_types::{Entry, Message, OutOfMemory, SiteId};
 use site_core::{Inbound, InboundError};
@@ -68,8 +69,6 @@ impl<A: Allocator + Copy, K: Keeping> Link<A, K> {
                 put: Vec::new(alloc),
                 seen: History::new(),
                 apart: None,
-                verdicts: Vec::new(alloc),
-                spare: Vec::new(alloc),
             },
             applied: 0,
         })
@@ -85,23 +84,28 @@ impl<A: Allocator + Copy, K: Keeping> Link<A, K> {
     }
 
     /// Takes in an entry.
-    pub(crate) fn take_entry(&mut self, entry: Entry<A>) -> Result<Verdicts<A>, OutOfMemory>
+    pub(crate) fn take_entry(
+        &mut self,
+        entry: Entry<A>,
+        scratch: &mut Scratch<A>,
+    ) -> Result<Verdicts<A>, OutOfMemory>
         requires origin { entry.origin ≡ self.old.inbound.buffer.origin }
         ensures ok { IfOk result (λ verdicts. (es : List EntryValue) → Contains es entry
             → Follows es self.old.reached self.old.put self.old.inbound.buffer → LinkTakesAll A es self.old (entry ∷ []) verdicts self.new) }
         ensures err { OnErr result (self.new ≡ self.old) }
     {
         let in_order = entry.prev() <= self.incoming.inbound.last();
-        let mut told = self.incoming.make_room(1, in_order)?;
+        self.incoming.make_room(1, in_order, scratch)?;
         let copy = self.incoming.copy_of(&entry)?;
-        self.incoming.take(entry, copy, &mut told);
-        Ok(self.incoming.verdicts(told))
+        self.incoming.take(entry, copy, scratch);
+        Ok(scratch.tell())
     }
 
     /// Takes in the entries of an answer, in order.
     pub(crate) fn take_answer(
         &mut self,
         entries: Vec<Entry<A>, A>,
+        scratch: &mut Scratch<A>,
     ) -> Result<Verdicts<A>, OutOfMemory>
         requires origin { All (λ (e : EntryValue). e.origin ≡ self.old.inbound.buffer.origin) entries.items }
         requires few { length entries.items ≤ MAX_ANSWER }
@@ -110,12 +114,12 @@ impl<A: Allocator + Copy, K: Keeping> Link<A, K> {
         ensures err { OnErr result (self.new ≡ self.old) }
     {
         let in_order = none_ahead(&entries, self.incoming.inbound.last());
-        let mut told = self.incoming.make_room(entries.len(), in_order)?;
+        self.incoming.make_room(entries.len(), in_order, scratch)?;
         let mut copies = self.incoming.copies_of(&entries)?.into_iter();
         for entry in entries {
-            self.incoming.take(entry, copies.next(), &mut told);
+            self.incoming.take(entry, copies.next(), scratch);
         }
-        Ok(self.incoming.verdicts(told))
+        Ok(scratch.tell())
     }
 
     /// Hears a beat of the origin.
@@ -148,10 +152,10 @@ impl<A: Allocator + Copy, K: Keeping> Link<A, K> {
         ensures { (e : EntryValue) → slice_get self.old.put (length self.old.applied) ≡ Some e → self.new ≡ with_applied self.old e }
     {
         let applied = self.applied + 1;
-        if K::keeps() || applied < self.incoming.put.len() {
+        if K::keeps() || self.incoming.stays(applied) {
             self.applied = applied;
         } else {
-            self.incoming.let_go();
+            self.incoming.let_go(applied);
             self.applied = 0;
         }
     }

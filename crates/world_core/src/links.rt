@@ -19,7 +19,7 @@ ghost use Rattle.world_core.specs.Worlds.{new_row, list_of};
 ghost use Rattle.world_core.specs.LinkEvents.{LinkTakesAll, heard, with_applied};
 
 use crate::keeping::Keeping;
-use crate::link::Link;
+use crate::link::{Link, Scratch};
 use crate::reply::Verdicts;
 use rights_types::{Entry, Message, OutOfMemory, SiteId};
 use site_core::InboundError;
@@ -73,6 +73,7 @@ impl<A: Allocator + Copy, K: Keeping> Links<A, K> {
         &mut self,
         origin: SiteId,
         entry: Entry<A>,
+        scratch: &mut Scratch<A>,
     ) -> Result<Verdicts<A>, OutOfMemory>
         requires there { (l : LinkValue) × (at_site self.old origin None ≡ Some l) × (entry.origin ≡ l.inbound.buffer.origin) }
         ensures ok { IfOk result (λ verdicts. (before : LinkValue) × (after : LinkValue) × (at_site self.old origin None ≡ Some before) × (self.new ≡ set_site self.old origin (Some after))
@@ -80,7 +81,7 @@ impl<A: Allocator + Copy, K: Keeping> Links<A, K> {
         ensures err { OnErr result (self.new ≡ self.old) }
     {
         match &mut self.links[origin.index()] {
-            Some(link) => link.take_entry(entry),
+            Some(link) => link.take_entry(entry, scratch),
             None => unreachable!(),
         }
     }
@@ -90,6 +91,7 @@ impl<A: Allocator + Copy, K: Keeping> Links<A, K> {
         &mut self,
         origin: SiteId,
         entries: Vec<Entry<A>, A>,
+        scratch: &mut Scratch<A>,
     ) -> Result<Verdicts<A>, OutOfMemory>
         requires there { (l : LinkValue) × (at_site self.old origin None ≡ Some l) × All (λ (e : EntryValue). e.origin ≡ l.inbound.buffer.origin) entries.items }
         requires few { length entries.items ≤ MAX_ANSWER }
@@ -98,7 +100,7 @@ impl<A: Allocator + Copy, K: Keeping> Links<A, K> {
         ensures err { OnErr result (self.new ≡ self.old) }
     {
         match &mut self.links[origin.index()] {
-            Some(link) => link.take_answer(entries),
+            Some(link) => link.take_answer(entries, scratch),
             None => unreachable!(),
         }
     }

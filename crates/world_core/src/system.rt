@@ -1,9 +1,7 @@
 //! The desks and links of all sites, and all packets: what each event does to them. What is kept of them all along is
 //! the world's, which passes it to each event.
-ghost use Rattle.std.specs.Prelude.{◌≡◌, ◌≤◌, ◌+◌, ◌<◌, ◌∷◌, [], ◌++◌, None, IfOk, length};
-ghost use Rattle.std.specs.Vec.{vec_capacity};
+ghost use Rattle.std.specs.Prelude.{◌≡◌, ◌≤◌, None, IfOk};
 ghost use Rattle.rights_types.specs.declared.limits.TheConstants.{MIN_SITES, MAX_SITES};
-ghost use Rattle.world_core.specs.Values.{PacketValue};
 ghost use Rattle.world_core.specs.Worlds.{start, ended};
 ghost use Rattle.world_core.specs.Faults.{is_site, site_fault, link_fault, arrive_fault, fault_of};
 ghost use Rattle.world_core.specs.Step.{wants_memory, Attempts, Step};
@@ -16,8 +14,9 @@ mod on_links;
 use crate::event::Event;
 use crate::fault::WorldError;
 use crate::keeping::Keeping;
+use crate::link::Scratch;
 use crate::links::Links;
-use crate::packet::Packet;
+use crate::packets::Packets;
 use crate::reply::Reply;
 use rights_types::{MAX_SITES, MIN_SITES, OutOfMemory, SiteId};
 use site_core::Desk;
@@ -29,8 +28,9 @@ use std::marker::Model;
 pub(crate) struct System<A: Allocator, K: Keeping> {
     pub(crate) desks: Vec<Desk<A>, A>,
     pub(crate) links: Vec<Links<A, K>, A>,
-    pub(crate) packets: Vec<Packet<A>, A>,
+    pub(crate) packets: Packets<A>,
     pub(crate) ended: bool,
+    pub(crate) scratch: Scratch<A>,
 }
 
 impl<A: Allocator, K: Keeping> Model for System<A, K> {
@@ -57,14 +57,15 @@ impl<A: Allocator + Copy, K: Keeping> System<A, K> {
         Ok(System {
             desks,
             links,
-            packets: Vec::new(alloc),
+            packets: Packets::new(alloc),
             ended: false,
+            scratch: Scratch::new(alloc),
         })
     }
 
     /// Where vectors of the system's keeping lie.
     pub(crate) fn allocator(&self) -> A {
-        *self.packets.allocator()
+        *self.desks.allocator()
     }
 
     /// Lets one event happen. Want of memory ends the system.
@@ -180,7 +181,7 @@ impl<A: Allocator, K: Keeping> System<A, K> {
         if number == 0 || number > self.packets.len() as u64 {
             return Some(WorldError::NoPacket);
         }
-        if self.packets[number as usize - 1].to() == site {
+        if self.packets.at(number as usize - 1).to() == site {
             None
         } else {
             Some(WorldError::NotForSite)
@@ -192,14 +193,4 @@ fn wants_memory<A: Allocator>(outcome: &Result<Reply<A>, WorldError>) -> bool
     ensures { result ≡ wants_memory outcome.now }
 {
     matches!(outcome, Err(WorldError::OutOfMemory))
-}
-
-// Adds a packet, for which there is room, and answers its number.
-fn add<A: Allocator>(packets: &mut Vec<Packet<A>, A>, packet: Packet<A>) -> u64
-    requires room { length packets.old.items < vec_capacity packets.old }
-    ensures number { result ≡ length packets.old.items + 1 }
-    ensures added { packets.new.items ≡ packets.old.items ++ packet ∷ [] }
-{
-    packets.push_reserved(packet);
-    packets.len() as u64
 }

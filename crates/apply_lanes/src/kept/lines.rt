@@ -7,6 +7,8 @@ ghost use Rattle.origin_log.specs.Answering.{answer_to_query};
 ghost use Rattle.origin_log.specs.Faults.{query_fault, ReadRefuses};
 ghost use Rattle.transfer_manager.specs.Managers.{outstanding_ask};
 ghost use Rattle.site_core.specs.Calls.{LineOf, next_push, after_publish, after_skip, beat_of};
+ghost use Rattle.rights_protocol.specs.Schedules.LocalChange.{Other};
+ghost use Rattle.apply_lanes.specs.Steps.{StepsBy};
 
 use crate::kept::Kept;
 use crate::names::DeskNames;
@@ -27,6 +29,7 @@ impl<D: DeskNames, A: Allocator + Copy> Kept<D, A> {
     pub fn publish(&mut self, peer: SiteId) -> Result<Option<Vec<u8, A>>, OutOfMemory>
         ensures line { IfOk result (λ line. LineOf (λ l. l.items) (next_push self.old.desk.ledger.log peer) line) }
         ensures ok { OnOk result (self.new ≡ record self.old { desk = after_publish self.old.desk peer }) }
+        ensures step { OnOk result (StepsBy D.id self.old.desk Other self.new.desk) }
         ensures err { OnErr result (self.new ≡ self.old) }
         ensures memory { next_push self.old.desk.ledger.log peer ≡ None → IsOk result }
     {
@@ -35,7 +38,8 @@ impl<D: DeskNames, A: Allocator + Copy> Kept<D, A> {
 
     /// Counts all entries as published to that peer, in the same time however many they are.
     pub fn skip_unpublished(&mut self, peer: SiteId)
-        ensures { self.new ≡ record self.old { desk = after_skip self.old.desk peer } }
+        ensures skips { self.new ≡ record self.old { desk = after_skip self.old.desk peer } }
+        ensures step { StepsBy D.id self.old.desk Other self.new.desk }
     {
         self.desk.skip_unpublished(peer);
     }

@@ -8,8 +8,11 @@ ghost use Rattle.request_queue.specs.declared.queue.TheConstants.{SLOTS};
 ghost use Rattle.request_queue.specs.Calls.{TellsOutcome};
 ghost use Rattle.transfer_manager.specs.Managers.{ended};
 ghost use Rattle.site_core.specs.Faults.{can_spend, can_serve, issue_fault, give_fault, spend_fault, serve_fault, expire_fault, close_fault, DeskRefuses};
-ghost use Rattle.site_core.specs.Calls.{DeskWrites, DeskSpends, DeskServes, DeskExpires, DeskPlans, DeskCloses, answer_of, is_ignored, denial_of, LineOf, DeskAnswers};
+ghost use Rattle.site_core.specs.Ledgers.{EntryKeeps, ClosingKeeps};
+ghost use Rattle.site_core.specs.Calls.{DeskWrites, DeskSpends, SpendKeeps, DeskServes, ServeKeeps, DeskExpires, DeskPlans, DeskCloses, answer_of, is_ignored, denial_of, LineOf, DeskAnswers, AnswerKeeps};
 ghost use Rattle.site_core.specs.declared.fault.DeskError.TheVariants.{OutOfMemory as NoMemory};
+ghost use Rattle.rights_protocol.specs.Schedules.LocalChange.{Write, Retire, Other};
+ghost use Rattle.apply_lanes.specs.Steps.{StepsBy, spend_change, serve_change, answer_change};
 
 use crate::kept::Kept;
 use crate::names::DeskNames;
@@ -26,6 +29,8 @@ impl<D: DeskNames, A: Allocator + Copy> Kept<D, A> {
     pub fn issue(&mut self, seat: &mut Seat<D>, amount: u64) -> Result<u64, DeskError>
         ensures refused { DeskRefuses (issue_fault self.old.desk amount) result }
         ensures ok { OnOk result (DeskWrites self.old.desk (Issues amount ∷ []) self.new.desk) }
+        ensures keeps { OnOk result (EntryKeeps self.old.desk.ledger (Issues amount ∷ []) self.new.desk.ledger) }
+        ensures step { OnOk result (StepsBy D.id self.old.desk (Write (Issues amount ∷ [])) self.new.desk) }
         ensures number { IfOk result (λ n. n ≡ end self.new.desk.ledger.log.entries) }
         ensures tallies { OnOk result (self.new ≡ record self.old { desk = self.new.desk; issued = raised self.old.issued amount }) }
         ensures told { OnOk result (seat.new ≡ told_issued seat.old amount) }
@@ -47,6 +52,8 @@ impl<D: DeskNames, A: Allocator + Copy> Kept<D, A> {
     ) -> Result<Spending, DeskError>
         ensures refused { DeskRefuses (spend_fault self.old.desk amount) result }
         ensures ok { OnOk result (IfOk result (λ spending. DeskSpends self.old.desk amount deadline spending self.new.desk)) }
+        ensures keeps { IfOk result (λ spending. SpendKeeps self.old.desk amount spending self.new.desk) }
+        ensures step { IfOk result (λ spending. StepsBy D.id self.old.desk (spend_change amount spending) self.new.desk) }
         ensures tallies { IfOk result (λ spending. self.new ≡ record self.old { desk = self.new.desk; spent = raised self.old.spent (spent_by amount spending) }) }
         ensures told { IfOk result (λ spending. seat.new ≡ told_spent seat.old amount spending) }
         ensures err { OnErr result ((self.new ≡ self.old) × (seat.new ≡ seat.old)) }
@@ -67,6 +74,8 @@ impl<D: DeskNames, A: Allocator + Copy> Kept<D, A> {
     pub fn serve(&mut self, seat: &mut Seat<D>) -> Result<Option<(u64, u64, u64)>, DeskError>
         ensures refused { DeskRefuses (serve_fault self.old.desk) result }
         ensures ok { IfOk result (λ served. DeskServes self.old.desk (without_amount served) self.new.desk) }
+        ensures keeps { IfOk result (λ served. ServeKeeps self.old.desk (without_amount served) self.new.desk) }
+        ensures step { IfOk result (λ served. StepsBy D.id self.old.desk (serve_change served) self.new.desk) }
         ensures front { IfOk result (λ served. IfSome served (IsFront self.old.desk.queue.waiting)) }
         ensures fewer { IfOk result (λ served. IfSome served (λ _. length self.new.desk.queue.waiting < length self.old.desk.queue.waiting)) }
         ensures few { length self.old.desk.queue.waiting ≤ SLOTS }
@@ -89,6 +98,8 @@ impl<D: DeskNames, A: Allocator + Copy> Kept<D, A> {
     pub fn give_back(&mut self, peer: SiteId, amount: u64) -> Result<u64, DeskError>
         ensures refused { DeskRefuses (give_fault self.old.desk peer amount) result }
         ensures ok { OnOk result (DeskWrites self.old.desk (Gives peer amount ∷ []) self.new.desk) }
+        ensures keeps { OnOk result (EntryKeeps self.old.desk.ledger (Gives peer amount ∷ []) self.new.desk.ledger) }
+        ensures step { OnOk result (StepsBy D.id self.old.desk (Write (Gives peer amount ∷ [])) self.new.desk) }
         ensures number { IfOk result (λ n. n ≡ end self.new.desk.ledger.log.entries) }
         ensures err { OnErr result (self.new ≡ self.old) }
         ensures rest { self.new ≡ record self.old { desk = self.new.desk } }
@@ -101,6 +112,7 @@ impl<D: DeskNames, A: Allocator + Copy> Kept<D, A> {
         ensures refused { DeskRefuses (expire_fault self.old.desk time) result }
         ensures memory { IfErr result (λ fault. ¬ (fault ≡ NoMemory)) }
         ensures ok { IfOk result (λ count. DeskExpires self.old.desk time count self.new.desk) }
+        ensures step { StepsBy D.id self.old.desk Other self.new.desk }
         ensures err { OnErr result (self.new ≡ self.old) }
         ensures rest { self.new ≡ record self.old { desk = self.new.desk } }
     {
@@ -110,6 +122,7 @@ impl<D: DeskNames, A: Allocator + Copy> Kept<D, A> {
     /// What became of the spend of this ticket. Its outcome is told once, which frees its slot.
     pub fn status(&mut self, ticket: u64) -> Status
         ensures outcome { TellsOutcome self.old.desk.queue ticket result self.new.desk.queue }
+        ensures step { StepsBy D.id self.old.desk Other self.new.desk }
         ensures rest { self.new ≡ record self.old { desk = record self.old.desk { queue = self.new.desk.queue } } }
     {
         self.desk.status(ticket)
@@ -119,6 +132,7 @@ impl<D: DeskNames, A: Allocator + Copy> Kept<D, A> {
     /// lack. Answers how many were asked.
     pub fn plan(&mut self) -> u64
         ensures plans { DeskPlans self.old.desk result self.new.desk }
+        ensures step { StepsBy D.id self.old.desk Other self.new.desk }
         ensures rest { self.new ≡ record self.old { desk = self.new.desk } }
     {
         self.desk.plan()
@@ -130,6 +144,8 @@ impl<D: DeskNames, A: Allocator + Copy> Kept<D, A> {
         requires mine { ask.now.asked ≡ self.old.desk.ledger.log.site }
         ensures answer { IfOk result (λ reply. reply.answer ≡ answer_of self.old.desk ask.now) }
         ensures ok { IfOk result (λ reply. DeskAnswers self.old.desk ask.now reply.answer reply.number self.new.desk) }
+        ensures keeps { IfOk result (λ reply. AnswerKeeps self.old.desk ask.now reply.answer self.new.desk) }
+        ensures step { IfOk result (λ reply. StepsBy D.id self.old.desk (answer_change ask.now reply.answer) self.new.desk) }
         ensures line { IfOk result (λ reply. LineOf (λ (l : List ℕ). l) (denial_of ask.now reply.answer) reply.line) }
         ensures err { OnErr result (self.new ≡ self.old) }
         ensures rest { self.new ≡ record self.old { desk = self.new.desk } }
@@ -141,7 +157,8 @@ impl<D: DeskNames, A: Allocator + Copy> Kept<D, A> {
     /// That peer denied the ask of this number. Only the outstanding one ends by it.
     pub fn on_deny(&mut self, peer: SiteId, ask: AskNumber)
         requires site { peer ≤ sites self.old.desk.ledger.book }
-        ensures { self.new ≡ record self.old { desk = record self.old.desk { manager = ended self.old.desk.manager peer ask } } }
+        ensures ends { self.new ≡ record self.old { desk = record self.old.desk { manager = ended self.old.desk.manager peer ask } } }
+        ensures step { StepsBy D.id self.old.desk Other self.new.desk }
     {
         self.desk.on_deny(peer, ask);
     }
@@ -151,6 +168,8 @@ impl<D: DeskNames, A: Allocator + Copy> Kept<D, A> {
     pub fn close(&mut self, heir: Option<SiteId>) -> Result<u64, DeskError>
         ensures refused { DeskRefuses (close_fault self.old.desk heir) result }
         ensures ok { OnOk result (DeskCloses self.old.desk heir self.new.desk) }
+        ensures keeps { OnOk result (ClosingKeeps self.old.desk.ledger heir self.new.desk.ledger) }
+        ensures step { OnOk result (StepsBy D.id self.old.desk (Retire heir) self.new.desk) }
         ensures number { IfOk result (λ n. n ≡ end self.new.desk.ledger.log.entries) }
         ensures err { OnErr result (self.new ≡ self.old) }
         ensures rest { self.new ≡ record self.old { desk = self.new.desk } }

@@ -1,6 +1,6 @@
 //! How the program ends as its site does, and where its words find no memory; and the texts of faults.
 use refusing_allocator::Refusing;
-use rights_program::{run_given, run_words};
+use rights_program::{VERSION, run_given, run_words};
 use site_words::{Command, Config, SiteFault, read_words};
 use std::alloc::Global;
 use std::env::{Env, FillError};
@@ -202,6 +202,7 @@ fn slow_writers_get_all(rt: HostRuntime) {
     assert!(rt; writes_help(alloc, &["--help"]));
     assert!(rt; writes_help(alloc, &["sim", "--help"]));
     assert!(rt; writes_help(alloc, &["run", "--id", "1", "-h"]));
+    assert!(rt; writes_slowly(alloc, &["--version"], 0, VERSION, ""));
     assert!(rt; writes_slowly(alloc, &["walk"], 2, b"", REFUSED));
 }
 

@@ -3,20 +3,22 @@ use site_words::{Command, Config, PeerAddress, WordsFault, read_words};
 use std::alloc::{AllocError, Global};
 
 const HELP: &str = "\
-Keeps and moves the right to spend among replicated sites
+Sites that share one stock of rights, and never oversell it
 
 Usage: rights-site <COMMAND>
 
 Commands:
-  sim  Runs the script on standard input over sites in memory
+  sim  Runs the script on standard input, over sites in memory
   run  Runs one site, which talks with its peers over TCP
 
 Options:
   -h, --help  Print help
+
+`rights-site --version` prints the version. `rights-site run --help` has an example.
 ";
 
 const SIM_HELP: &str = "\
-Runs the script on standard input over sites in memory
+Runs the script on standard input, over sites in memory
 
 Usage: rights-site sim
 
@@ -30,17 +32,31 @@ Runs one site, which talks with its peers over TCP
 Usage: rights-site run [OPTIONS] --id <I> --sites <N> --listen <ADDRESS> <PEER>...
 
 Arguments:
-  <PEER>...  Each other site and where it listens, as J=ADDRESS
+  <PEER>...  Each other site, as J=ADDRESS: its number, and where it listens
 
 Options:
-      --id <I>            The number of this site
-      --sites <N>         How many sites there are
-      --listen <ADDRESS>  Where this site listens
-      --http <ADDRESS>    Where this site serves HTTP
-      --tick <MS>         Every how many milliseconds it ticks itself
-      --once <FILE>       A file to create at the start, which must not exist
-      --log               Writes what happens to links and clients to standard error
+      --id <I>            The number of this site, 1 to N
+      --sites <N>         How many sites the system has
+      --listen <ADDRESS>  Where this site listens for its peers
+      --http <ADDRESS>    Also serves HTTP at this address
+      --tick <MS>         Ticks by itself, every MS milliseconds (1 to 60,000)
+      --once <FILE>       Creates FILE at the start, and does not start if it exists
+      --log               Reports links and clients on standard error
   -h, --help              Print help
+
+Commands, one a line on standard input, and their replies:
+  issue N      creates N rights             number E   (E: its entry in the log)
+  give J N     gives N rights to site J     number E
+  spend N T    spends N rights              spent E, or queued K: it waits until time T
+  outcome K    what became of ticket K      waiting, spent E, expired or unknown
+  tick T       does what is due at time T, and sends what is new
+  status       the state of the site, as an object of JSON
+  close [J]    closes the site; site J gets what it holds
+  quit         ends the program
+
+Example, one site of two, which ticks by itself and also serves HTTP:
+  rights-site run --id 1 --sites 2 --listen 127.0.0.1:7001 --http 127.0.0.1:8001 \\
+      --tick 100 --once site-1.started 2=127.0.0.1:7002
 ";
 
 /// Each line of words that asks for help, and the text.
@@ -111,9 +127,24 @@ fn other_words_are_refused(rt: HostRuntime) {
         "-- run --id 1 --sites 2 --listen a 2=b",
         "help",
         "--help=sim",
-        "--version",
+        "--version=1",
+        "-v",
+        "sim --version",
+        "run --version",
     ] {
         assert!(rt; is_refused(rt.alloc(), line), "at {line:?}");
+    }
+}
+
+/// Whether the words of a line ask for the version.
+fn asks_for_version(alloc: Global, line: &str) -> bool {
+    matches!(read(alloc, line), Ok(Command::Version))
+}
+
+#[test]
+fn the_version_is_asked_for(rt: HostRuntime) {
+    for line in ["--version", "-V", "--version sim", "-V x"] {
+        assert!(rt; asks_for_version(rt.alloc(), line), "at {line:?}");
     }
 }
 

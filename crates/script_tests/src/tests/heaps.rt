@@ -238,10 +238,10 @@ fn requests_of_beats(alloc: Global, count: u64) -> Option<u64> {
     requests_of(alloc, |memory| beats(memory, count))
 }
 
-/// A beat makes one request, for its line, and one more where the list of packets doubles its room.
+/// A beat makes one request, for its line, and two more where the lists of packets and of their lines double their room.
 #[test]
 fn requests_of_beats_lines(rt: HostRuntime) {
     let some = requests_of_beats(rt.alloc(), 64).expect(&rt, "beats");
     let more = requests_of_beats(rt.alloc(), 128).expect(&rt, "beats");
-    assert_eq!(rt; Some(more), some.checked_add(64 + 1));
+    assert_eq!(rt; Some(more), some.checked_add(64 + 2));
 }

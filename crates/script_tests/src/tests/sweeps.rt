@@ -206,3 +206,34 @@ fn ten_megabytes_of_replies(rt: HostRuntime) {
     let bytes = bytes_on_a_heap(rt.alloc(), 1_250, 1_000);
     assert!(rt; bytes > Some(10_000_000), "{bytes:?}");
 }
+
+/// A script of long lines, and of more replies than are kept at a time.
+fn long_script(alloc: Global) -> Result<Vec<u8>, AllocError> {
+    let mut text = Vec::from_slice(alloc, b"sites 2\nissue 1 5\nnoise 1 2 ")?;
+    for _ in 0..8 {
+        text.extend_from_slice(&LETTERS)?;
+    }
+    text.push(b'\n')?;
+    for _ in 0..10_000 {
+        text.extend_from_slice(b"x\n")?;
+    }
+    Ok(text)
+}
+
+/// How many bytes of replies that script gets on a heap of 512 KiB.
+fn bytes_on_a_small_heap(alloc: Global) -> Option<usize> {
+    let heap = LocalHeap::new(alloc, 1 << 19).ok()?;
+    let script = long_script(alloc).ok()?;
+    let mut reader = script.as_slice();
+    let mut writer = Counting(0);
+    run_script(&heap, &mut reader, &mut writer).ok()?;
+    Some(writer.0)
+}
+
+/// What a script takes besides its world: a block of what is read, the first bytes of a line, a block of replies, and
+/// the line of noise.
+#[test]
+fn a_script_on_a_small_heap(rt: HostRuntime) {
+    let replies = "ok\nnumber 1\nrefused 3\n".len() + 10_000 * "error BadCommand\n".len();
+    assert_eq!(rt; bytes_on_a_small_heap(rt.alloc()), Some(replies));
+}

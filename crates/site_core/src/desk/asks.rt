@@ -7,7 +7,7 @@ ghost use Rattle.rights_book.specs.Books.{sites};
 ghost use Rattle.transfer_manager.specs.Managers.{asks, outstanding_ask, ended};
 ghost use Rattle.transfer_manager.specs.AskAnswers.{IfNew, IsWithin, noted};
 ghost use Rattle.transfer_manager.specs.declared.answer.AskAnswer.TheVariants.{Grant as Grants};
-ghost use Rattle.site_core.specs.Calls.{DeskPlans, available, answer_of, is_ignored, denial, denial_of, LineOf, DeskAnswers};
+ghost use Rattle.site_core.specs.Calls.{DeskPlans, available, answer_of, is_ignored, denial, denial_of, LineOf, DeskAnswers, AnswerKeeps};
 
 use crate::desk::Desk;
 use crate::line::Line;
@@ -54,6 +54,7 @@ impl<A: Allocator + Copy> Desk<A> {
         requires mine { ask.now.asked ≡ self.old.ledger.log.site }
         ensures answer { IfOk result (λ reply. reply.answer ≡ answer_of self.old ask.now) }
         ensures ok { IfOk result (λ reply. DeskAnswers self.old ask.now reply.answer reply.number self.new) }
+        ensures keeps { IfOk result (λ reply. AnswerKeeps self.old ask.now reply.answer self.new) }
         ensures line { IfOk result (λ reply. LineOf (λ (l : List ℕ). l) (denial_of ask.now reply.answer) reply.line) }
         ensures err { OnErr result (self.new ≡ self.old) }
         ensures memory { is_ignored (answer_of self.old ask.now) ≡ true → IsOk result }
@@ -97,6 +98,7 @@ impl<A: Allocator + Copy> Desk<A> {
         requires answer { answer_of self.old ask.now ≡ Grants amount }
         requires within { IsWithin (Grants amount) ask.now (available self.old ask.now.asker) }
         ensures ok { IfOk result (λ number. DeskAnswers self.old ask.now (Grants amount) (Some number) self.new) }
+        ensures keeps { OnOk result (AnswerKeeps self.old ask.now (Grants amount) self.new) }
         ensures err { OnErr result (self.new ≡ self.old) }
     {
         let moves = [Move::Grant {

@@ -4,7 +4,7 @@ ghost use Rattle.request_queue.specs.Queues.{front_of};
 ghost use Rattle.request_queue.specs.declared.queue.TheConstants.{SLOTS};
 ghost use Rattle.request_queue.specs.Calls.{TellsOutcome};
 ghost use Rattle.site_core.specs.Faults.{can_spend, can_serve, spend_fault, serve_fault, expire_fault, DeskRefuses};
-ghost use Rattle.site_core.specs.Calls.{DeskSpends, DeskServes, DeskExpires, ExpiresLate};
+ghost use Rattle.site_core.specs.Calls.{DeskSpends, SpendKeeps, DeskServes, ServeKeeps, DeskExpires, ExpiresLate};
 ghost use Rattle.site_core.specs.declared.fault.DeskError.TheVariants.{OutOfMemory as NoMemory};
 
 use crate::desk::Desk;
@@ -29,6 +29,7 @@ impl<A: Allocator + Copy> Desk<A> {
     pub fn spend(&mut self, amount: u64, deadline: u64) -> Result<Spending, DeskError>
         ensures refused { DeskRefuses (spend_fault self.old amount) result }
         ensures ok { OnOk result (IfOk result (λ spending. DeskSpends self.old amount deadline spending self.new)) }
+        ensures keeps { IfOk result (λ spending. SpendKeeps self.old amount spending self.new) }
         ensures err { OnErr result (self.new ≡ self.old) }
         ensures memory { IfErr result (λ fault. fault ≡ NoMemory → can_spend self.old amount ≡ true) }
     {
@@ -56,6 +57,7 @@ impl<A: Allocator + Copy> Desk<A> {
     pub fn serve(&mut self) -> Result<Option<(u64, u64)>, DeskError>
         ensures refused { DeskRefuses (serve_fault self.old) result }
         ensures ok { IfOk result (λ served. DeskServes self.old served self.new) }
+        ensures keeps { IfOk result (λ served. ServeKeeps self.old served self.new) }
         ensures fewer { IfOk result (λ served. IfSome served (λ _. length self.new.queue.waiting < length self.old.queue.waiting)) }
         ensures few { length self.old.queue.waiting ≤ SLOTS }
         ensures err { OnErr result (self.new ≡ self.old) }

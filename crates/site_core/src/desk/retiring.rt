@@ -6,7 +6,7 @@ ghost use Rattle.rights_protocol.specs.Retiring.{numbers_in};
 ghost use Rattle.rights_book.specs.Books.{sites, peer};
 ghost use Rattle.transfer_manager.specs.Managers.{sites as asked_sites, SameSystem};
 ghost use Rattle.transfer_manager.specs.AskAnswers.{IsAnswered};
-ghost use Rattle.site_core.specs.Ledgers.{CanInherit, owed_by, number_of_taking};
+ghost use Rattle.site_core.specs.Ledgers.{CanInherit, ClosingKeeps, ApplyKeeps, owed_by, number_of_taking};
 ghost use Rattle.site_core.specs.Desks.{after_grant, after_grants};
 ghost use Rattle.site_core.specs.Faults.{has_closed, close_fault, heir_fault, DeskRefuses};
 ghost use Rattle.site_core.specs.Calls.{DeskApplies, DeskCloses};
@@ -32,6 +32,8 @@ impl<A: Allocator + Copy> Desk<A> {
         requires next { entry.now.prev ≡ (peer self.old.ledger.book origin).log.end }
         requires open { has_closed self.old ≡ false }
         ensures ok { OnOk result (DeskApplies self.old origin entry.now self.new) }
+        ensures keeps { OnOk result ((h : DeskApplies self.old origin entry.now self.new)
+            → ApplyKeeps self.old.ledger origin entry.now h.entry.between self.new.ledger) }
         ensures number { IfOk result (λ n. n ≡ number_of_taking (owed_by self.old.ledger origin entry.now) self.new.ledger.log) }
         ensures err { OnErr result (self.new ≡ self.old) }
         ensures memory { numbers_in entry.now.moves ≡ None → IsOk result }
@@ -48,6 +50,7 @@ impl<A: Allocator + Copy> Desk<A> {
     pub fn close(&mut self, heir: Option<SiteId>) -> Result<u64, DeskError>
         ensures refused { DeskRefuses (close_fault self.old heir) result }
         ensures ok { OnOk result (DeskCloses self.old heir self.new) }
+        ensures keeps { OnOk result (ClosingKeeps self.old.ledger heir self.new.ledger) }
         ensures number { IfOk result (λ n. n ≡ end self.new.ledger.log.entries) }
         ensures err { OnErr result (self.new ≡ self.old) }
     {

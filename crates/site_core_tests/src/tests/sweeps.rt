@@ -309,12 +309,12 @@ fn grow_to(rt: &impl Abort, desk: &mut Counted, end: u64) {
     }
 }
 
-// What a desk says at a log's end of about 10^4 and 10^5. The entries that are written on the way have 136 moves.
+// What a desk says at a log's end of about 10^4, 10^5 and 10^6. The entries that are written on the way have 136 moves.
 fn go_on_at_each_size(
     rt: &(impl Abort + AllocGlobal),
     desk: &mut Counted,
 ) -> Result<(), AllocError> {
-    for size in [10_000u64, 100_000] {
+    for size in [10_000u64, 100_000, 1_000_000] {
         grow_to(rt, desk, size);
         let end = desk.number();
         assert!(rt; end.saturating_add(16) > size);
@@ -323,9 +323,9 @@ fn go_on_at_each_size(
     Ok(())
 }
 
-/// Beats, entries of every size and their answers at logs of 10^4 and 10^5.
+/// Beats, entries of every size and their answers at logs of 10^4, 10^5 and 10^6.
 #[test]
-fn logs_of_a_hundred_thousand(rt: HostRuntime) -> Result<(), Fail> {
+fn logs_of_a_million(rt: HostRuntime) -> Result<(), Fail> {
     let memory = Refusing::new(rt.alloc(), u64::MAX);
     let mut desk = new_desk(&rt, &memory, 1, 2).expect(&rt, "memory");
     go_on_at_each_size(&rt, &mut desk)?;

@@ -1,5 +1,5 @@
 //! What came in of an origin's log, and where it was put.
-ghost use Rattle.std.specs.Prelude.{◌≡◌, ◌+◌, ◌<◌, ◌≤◌, if◌then◌else◌, [], ◌∷◌, ◌++◌, ◌↔◌, ℕ, None, Some, true, IfOk, IfSome, OnOk, IsSome, IsTrue, List, length, map, vec_capacity};
+ghost use Rattle.std.specs.Prelude.{◌≡◌, ◌+◌, ◌<◌, ◌≤◌, if◌then◌else◌, [], ◌∷◌, ◌++◌, ◌↔◌, ℕ, None, Some, true, IfOk, IfSome, OnOk, IsSome, IsTrue, List, length, map, take, drop, vec_capacity};
 ghost use Rattle.std.specs.Option.{option_map, is_some};
 ghost use Rattle.rights_types.specs.Entries.{EntryValue};
 ghost use Rattle.rights_types.specs.declared.limits.TheConstants.{MAX_ANSWER, MAX_HELD};
@@ -19,6 +19,9 @@ use std::marker::PhantomData;
 use std::mem;
 use sub_buffer::Verdict as BufferVerdict;
 
+// So many applied entries are let go at a time, or all that there are.
+const MANY: usize = 32;
+
 /// Entries lie in `put` once they are in order. Where entries are kept for readers, all that were put stay there, and
 /// what reached the site is listed apart only once something came that was not next: until then it is what was put.
 /// Where they are kept for replies alone, those that were applied go, and nothing is listed apart: what was put before
@@ -32,25 +35,50 @@ pub(super) struct Incoming<A: Allocator, K: Keeping> {
     pub(super) put: Vec<Entry<A>, A>,
     pub(super) seen: History<Entry<A>>,
     pub(super) apart: Option<Vec<Entry<A>, A>>,
-    // Empty between arrivals: it is kept for its room.
+}
+
+/// Lists that each arrival fills anew. They are kept for their room, and all links share them.
+#[derive(Drop)]
+pub(crate) struct Scratch<A: Allocator> {
     pub(super) verdicts: Vec<BufferVerdict<A>, A>,
-    // Room for the verdicts as they are told, so that an arrival with one of them takes no memory for it.
-    pub(super) spare: Vec<Verdict, A>,
+    // The verdicts as they are told.
+    pub(super) told: Vec<Verdict, A>,
+}
+
+impl<A: Allocator + Copy> Scratch<A> {
+    pub(crate) fn new(alloc: A) -> Scratch<A> {
+        Scratch {
+            verdicts: Vec::new(alloc),
+            told: Vec::new(alloc),
+        }
+    }
+
+    /// The verdicts that were told. One of them takes no memory of its own.
+    pub(super) fn tell(&mut self) -> Verdicts<A>
+        ensures { result ≡ self.old.told.items }
+    {
+        if self.told.len() == 1 {
+            return Verdicts::one(self.told[0]);
+        }
+        let alloc = *self.told.allocator();
+        Verdicts::many(mem::replace(&mut self.told, Vec::new(alloc)))
+    }
 }
 
 impl<A: Allocator + Copy, K: Keeping> Incoming<A, K> {
-    /// Makes room for so many entries that are to come, and a list in which their verdicts can be told: on each, and
-    /// again where it was held and is freed. Unless all come in order, what reached the site is listed apart.
+    /// Makes room for so many entries that are to come, and for their verdicts: on each, and again where it was held
+    /// and is freed. Unless all come in order, what reached the site is listed apart.
     #[inline(always)]
     pub(super) fn make_room(
         &mut self,
         entries: usize,
         in_order: bool,
-    ) -> Result<Vec<Verdict, A>, OutOfMemory>
+        scratch: &mut Scratch<A>,
+    ) -> Result<(), OutOfMemory>
         requires few { entries ≤ MAX_ANSWER }
         requires held { length self.old.inbound.buffer.held ≤ MAX_HELD }
         ensures same { SameLists self.old self.new }
-        ensures ok { IfOk result (λ told. (told.items ≡ []) × HasRoom entries self.new told) }
+        ensures ok { OnOk result ((scratch.new.verdicts.items ≡ []) × (scratch.new.told.items ≡ []) × HasRoom entries self.new scratch.new) }
         ensures apart { OnOk result (K.keeps ≡ true → self.new.apart ≡ None → in_order ≡ true) }
     {
         if K::keeps() && !in_order {
@@ -61,25 +89,11 @@ impl<A: Allocator + Copy, K: Keeping> Incoming<A, K> {
         }
         let room = entries + self.inbound.held_count();
         self.put.reserve(room)?;
-        self.verdicts.reserve(room)?;
-        let alloc = *self.put.allocator();
-        let mut told = mem::replace(&mut self.spare, Vec::new(alloc));
-        told.clear();
-        told.reserve(entries + room)?;
-        Ok(told)
-    }
-
-    /// The verdicts that were told. Where it is one, their list stays here for its room.
-    pub(super) fn verdicts(&mut self, told: Vec<Verdict, A>) -> Verdicts<A>
-        ensures value { result ≡ told.items }
-        ensures rest { self.new ≡ record self.old { spare = self.new.spare } }
-    {
-        if told.len() != 1 {
-            return Verdicts::many(told);
-        }
-        let verdict = told[0];
-        self.spare = told;
-        Verdicts::one(verdict)
+        scratch.verdicts.clear();
+        scratch.verdicts.reserve(room)?;
+        scratch.told.clear();
+        scratch.told.reserve(entries + room)?;
+        Ok(())
     }
 
     // Lists what reached the site apart.
@@ -117,46 +131,42 @@ impl<A: Allocator + Copy, K: Keeping> Incoming<A, K> {
     /// Takes in an entry for which room was made. Its copy, which there is where entries are listed apart, is listed
     /// where it reaches the site.
     #[inline(always)]
-    pub(super) fn take(
-        &mut self,
-        entry: Entry<A>,
-        copy: Option<Entry<A>>,
-        told: &mut Vec<Verdict, A>,
-    )
+    pub(super) fn take(&mut self, entry: Entry<A>, copy: Option<Entry<A>>, scratch: &mut Scratch<A>)
         requires origin { entry.origin ≡ self.old.inbound.buffer.origin }
-        requires empty { self.old.verdicts.items ≡ [] }
-        requires room { HasRoom 1 self.old told.old }
+        requires empty { scratch.old.verdicts.items ≡ [] }
+        requires room { HasRoom 1 self.old scratch.old }
         requires copy { IsSome self.old.apart → copy ≡ Some entry }
-        ensures takes { (v : AVerdict A) × (freed : List EntryValue) × IncomingTakes self.old told.old.items entry v freed self.new told.new.items }
-        ensures room { (n : ℕ) → HasRoom (n + 1) self.old told.old → HasRoom n self.new told.new }
+        ensures takes { (v : AVerdict A) × (freed : List EntryValue) × IncomingTakes self.old scratch.old.told.items entry v freed self.new scratch.new.told.items }
+        ensures empty { scratch.new.verdicts.items ≡ [] }
+        ensures room { (n : ℕ) → HasRoom (n + 1) self.old scratch.old → HasRoom n self.new scratch.new }
     {
         let seen = self.seen.and(&entry);
-        self.inbound.arrive(entry, &mut self.verdicts);
-        self.see(seen);
-        self.list(copy);
-        self.settle(told);
+        self.inbound.arrive(entry, &mut scratch.verdicts);
+        self.see(seen, &scratch.verdicts);
+        self.list(copy, &scratch.verdicts);
+        self.settle(scratch);
     }
 
     // What was seen with the entry that came, where it reaches the site by the first verdict.
-    fn see(&mut self, seen: History<Entry<A>>)
-        ensures seen { (v : AVerdict A) (rest : List (AVerdict A)) (e : EntryValue) → self.old.verdicts.items ≡ v ∷ rest → seen.items ≡ self.old.seen.items ++ e ∷ []
+    fn see(&mut self, seen: History<Entry<A>>, verdicts: &[BufferVerdict<A>])
+        ensures seen { (v : AVerdict A) (rest : List (AVerdict A)) (e : EntryValue) → verdicts.now ≡ v ∷ rest → seen.items ≡ self.old.seen.items ++ e ∷ []
             → self.new.seen.items ≡ reached_after self.old.seen.items e v }
         ensures rest { self.new ≡ record self.old { seen = self.new.seen } }
     {
-        if reaches(&self.verdicts) {
+        if reaches(verdicts) {
             self.seen = seen;
         }
     }
 
     // Lists the copy of an entry apart, where it reaches the site by the first verdict.
-    fn list(&mut self, copy: Option<Entry<A>>)
+    fn list(&mut self, copy: Option<Entry<A>>, verdicts: &[BufferVerdict<A>])
         requires room { IfSome self.old.apart (λ l. length l.items < vec_capacity l) }
-        ensures lists { (v : AVerdict A) (rest : List (AVerdict A)) (e : EntryValue) → self.old.verdicts.items ≡ v ∷ rest → (IsSome self.old.apart → copy ≡ Some e)
+        ensures lists { (v : AVerdict A) (rest : List (AVerdict A)) (e : EntryValue) → verdicts.now ≡ v ∷ rest → (IsSome self.old.apart → copy ≡ Some e)
             → option_map (λ l. l.items) self.new.apart ≡ option_map (λ l. reached_after l.items e v) self.old.apart }
         ensures rest { self.new ≡ record self.old { apart = self.new.apart } }
         ensures capacity { option_map (λ l. vec_capacity l) self.new.apart ≡ option_map (λ l. vec_capacity l) self.old.apart }
     {
-        if !reaches(&self.verdicts) {
+        if !reaches(verdicts) {
             return;
         }
         if let (Some(reached), Some(copy)) = (&mut self.apart, copy) {
@@ -165,21 +175,21 @@ impl<A: Allocator + Copy, K: Keeping> Incoming<A, K> {
     }
 
     // Tells the verdicts; the entries that are ready go to the end of what was put.
-    fn settle(&mut self, told: &mut Vec<Verdict, A>)
-        requires put { length self.old.put.items + length self.old.verdicts.items ≤ vec_capacity self.old.put }
-        requires told { length told.old.items + length self.old.verdicts.items ≤ vec_capacity told.old }
-        ensures put { self.new.put.items ≡ self.old.put.items ++ ready_in self.old.verdicts.items }
-        ensures told { told.new.items ≡ told.old.items ++ map as_told self.old.verdicts.items }
-        ensures verdicts { self.new.verdicts.items ≡ [] }
-        ensures rest { self.new ≡ record self.old { put = self.new.put; verdicts = self.new.verdicts } }
+    fn settle(&mut self, scratch: &mut Scratch<A>)
+        requires put { length self.old.put.items + length scratch.old.verdicts.items ≤ vec_capacity self.old.put }
+        requires told { length scratch.old.told.items + length scratch.old.verdicts.items ≤ vec_capacity scratch.old.told }
+        ensures put { self.new.put.items ≡ self.old.put.items ++ ready_in scratch.old.verdicts.items }
+        ensures told { scratch.new.told.items ≡ scratch.old.told.items ++ map as_told scratch.old.verdicts.items }
+        ensures verdicts { scratch.new.verdicts.items ≡ [] }
+        ensures rest { self.new ≡ record self.old { put = self.new.put } }
         ensures put_room { vec_capacity self.new.put ≡ vec_capacity self.old.put }
-        ensures verdicts_room { vec_capacity self.new.verdicts ≡ vec_capacity self.old.verdicts }
-        ensures told_room { vec_capacity told.new ≡ vec_capacity told.old }
+        ensures verdicts_room { vec_capacity scratch.new.verdicts ≡ vec_capacity scratch.old.verdicts }
+        ensures told_room { vec_capacity scratch.new.told ≡ vec_capacity scratch.old.told }
     {
         // The first is to leave first, from the end.
-        self.verdicts.reverse();
-        while let Some(verdict) = self.verdicts.pop() {
-            told.push_reserved(self.put_ready(verdict));
+        scratch.verdicts.reverse();
+        while let Some(verdict) = scratch.verdicts.pop() {
+            scratch.told.push_reserved(self.put_ready(verdict));
         }
     }
 
@@ -204,15 +214,29 @@ impl<A: Allocator + Copy, K: Keeping> Incoming<A, K> {
         }
     }
 
-    /// Lets the entries that were put go, once all of them were applied.
-    pub(super) fn let_go(&mut self)
-        ensures gone { self.new.gone.items ≡ self.old.gone.items ++ self.old.put.items }
-        ensures put { self.new.put.items ≡ [] }
+    /// Whether the first entries that were put, which were applied, stay for now. All of them go, or many and half, so
+    /// that each of the others moves up a few times at most.
+    pub(super) fn stays(&self, count: usize) -> bool {
+        let put = self.put.len();
+        count < put && (count < MANY || count < put / 2)
+    }
+
+    /// Lets the first entries that were put go, which were applied.
+    pub(super) fn let_go(&mut self, count: usize)
+        requires within { count ≤ length self.old.put.items }
+        ensures gone { self.new.gone.items ≡ self.old.gone.items ++ take count self.old.put.items }
+        ensures put { self.new.put.items ≡ drop count self.old.put.items }
         ensures rest { self.new ≡ record self.old { gone = self.new.gone; put = self.new.put } }
     {
         let gone = mem::replace(&mut self.gone, History::new());
-        self.gone = gone.and_all(&self.put);
-        self.put.clear();
+        self.gone = gone.and_all(&self.put[..count]);
+        let left = self.put.len() - count;
+        if left == 0 {
+            self.put.clear();
+        } else {
+            self.put.rotate_left(count);
+            self.put.truncate(left);
+        }
     }
 }
 

@@ -11,10 +11,9 @@ ghost use Rattle.world_core.specs.Faults.{arrive_fault};
 ghost use Rattle.world_core.specs.LinkEvents.{EntriesCome, QueryComes, AskComes, MessageComes, PacketComes};
 ghost use Rattle.world_core.specs.Sound.{IsWorld, IsSent, MayCome};
 
-use super::add;
 use crate::fault::WorldError;
 use crate::keeping::Keeping;
-use crate::packet::{Body, Packet};
+use crate::packets::{Body, Packet};
 use crate::reply::Reply;
 use crate::system::System;
 use origin_log::ReadError;
@@ -29,14 +28,14 @@ impl<A: Allocator + Copy, K: Keeping> System<A, K> {
         requires place { arrive_fault self.old site number ≡ None }
         ensures { PacketComes self.old site (packet self.old number) result self.new }
     {
-        let packet = &self.packets[number as usize - 1];
+        let packet = self.packets.at(number as usize - 1);
         let from = packet.from();
-        let message = self.read(packet)?;
+        let message = self.read(&packet)?;
         self.message_comes(site, from, message)
     }
 
     // The message of a packet.
-    fn read(&self, packet: &Packet<A>) -> Result<Message<A>, OutOfMemory>
+    fn read(&self, packet: &Packet<'_>) -> Result<Message<A>, OutOfMemory>
         requires kept { IsWorld self.now }
         requires sent { IsSent self.now packet.now }
         ensures spelled { IfOk result (λ m. Spells (value_of m) (packet_text self.now packet.now)) }
@@ -58,16 +57,16 @@ impl<A: Allocator + Copy, K: Keeping> System<A, K> {
     }
 
     /// The line of a packet.
-    pub(crate) fn line_of<'a>(&'a self, packet: &'a Packet<A>) -> &'a [u8]
+    pub(crate) fn line_of<'a>(&'a self, packet: &Packet<'a>) -> &'a [u8]
         requires { IsSent self.now packet.now }
         ensures { result.now ≡ packet_text self.now packet.now }
     {
         match packet.body() {
-            Body::Entry(place) => match self.desks[packet.from().index()].log().line(*place) {
+            Body::Entry(place) => match self.desks[packet.from().index()].log().line(place) {
                 Some(line) => line,
                 None => unreachable!(),
             },
-            Body::Own(line) => line.bytes(),
+            Body::Own(line) => line,
         }
     }
 
@@ -116,7 +115,7 @@ impl<A: Allocator + Copy, K: Keeping> System<A, K> {
         requires logged { Contains (log self.old from) entry }
         ensures { EntriesCome self.old site from (entry ∷ []) result self.new }
     {
-        let verdicts = self.links[site.index()].take_entry(from, entry)?;
+        let verdicts = self.links[site.index()].take_entry(from, entry, &mut self.scratch)?;
         Ok(Reply::Verdicts(verdicts))
     }
 
@@ -135,7 +134,7 @@ impl<A: Allocator + Copy, K: Keeping> System<A, K> {
         ensures { EntriesCome self.old site from answer.entries result self.new }
     {
         let entries = answer.into_entries();
-        let verdicts = self.links[site.index()].take_answer(from, entries)?;
+        let verdicts = self.links[site.index()].take_answer(from, entries, &mut self.scratch)?;
         Ok(Reply::Verdicts(verdicts))
     }
 
@@ -148,9 +147,9 @@ impl<A: Allocator + Copy, K: Keeping> System<A, K> {
             Err(ReadError::OutOfMemory) => return Err(WorldError::OutOfMemory),
             Err(_) => return Ok(Reply::Nothing),
         };
-        self.packets.reserve(1)?;
-        let packet = Packet::of_line(site, query.asker(), Line::new(line));
-        Ok(Reply::Packet(add(&mut self.packets, packet)))
+        self.packets.reserve_line()?;
+        let number = self.packets.add_line(site, query.asker(), Line::new(line));
+        Ok(Reply::Packet(number))
     }
 
     fn ask_comes(&mut self, site: SiteId, ask: &Ask) -> Result<Reply<A>, WorldError>
@@ -160,13 +159,13 @@ impl<A: Allocator + Copy, K: Keeping> System<A, K> {
         requires asked { ask.now.asked ≡ site }
         ensures { AskComes self.old site ask.now result self.new }
     {
-        self.packets.reserve(1)?;
+        self.packets.reserve_line()?;
         let reply = self.desks[site.index()].on_ask(ask)?;
         match (reply.answer, reply.number, reply.line) {
             (AskAnswer::Grant(_), Some(number), _) => Ok(Reply::Granted(number)),
             (AskAnswer::Deny | AskAnswer::RepeatedDeny, _, Some(line)) => {
-                let packet = Packet::of_line(site, ask.asker(), line);
-                Ok(Reply::Denied(add(&mut self.packets, packet)))
+                let number = self.packets.add_line(site, ask.asker(), line);
+                Ok(Reply::Denied(number))
             }
             (AskAnswer::Repeated, _, _) => Ok(Reply::GrantedBefore),
             (AskAnswer::OldAsk, _, _) => Ok(Reply::Old),

@@ -4,10 +4,8 @@ ghost use Rattle.world_core.specs.Faults.{link_fault};
 ghost use Rattle.world_core.specs.LinkEvents.{AskHappens, PublishHappens, BeatHappens, QueryHappens, NoiseHappens, TakeHappens};
 ghost use Rattle.world_core.specs.Sound.{IsWorld};
 
-use super::add;
 use crate::fault::WorldError;
 use crate::keeping::Keeping;
-use crate::packet::Packet;
 use crate::reply::Reply;
 use crate::system::System;
 use entry_codec::{LineError, read_line};
@@ -20,12 +18,12 @@ impl<A: Allocator + Copy, K: Keeping> System<A, K> {
         requires { link_fault self.old site peer ≡ None }
         ensures { AskHappens self.old site peer result self.new }
     {
-        self.packets.reserve(1)?;
+        self.packets.reserve_line()?;
         match self.desks[site.index()].ask_line(peer)? {
             None => Ok(Reply::Nothing),
             Some(line) => {
-                let packet = Packet::of_line(site, peer, Line::new(line));
-                Ok(Reply::Packet(add(&mut self.packets, packet)))
+                let number = self.packets.add_line(site, peer, Line::new(line));
+                Ok(Reply::Packet(number))
             }
         }
     }
@@ -34,12 +32,12 @@ impl<A: Allocator + Copy, K: Keeping> System<A, K> {
         requires { link_fault self.old site peer ≡ None }
         ensures { PublishHappens self.old site peer result self.new }
     {
-        self.packets.reserve(1)?;
+        self.packets.reserve_entry()?;
         match self.desks[site.index()].publish_next(peer) {
             None => Ok(Reply::Nothing),
             Some(place) => {
-                let packet = Packet::of_entry(site, peer, place);
-                Ok(Reply::Packet(add(&mut self.packets, packet)))
+                let number = self.packets.add_entry(site, peer, place);
+                Ok(Reply::Packet(number))
             }
         }
     }
@@ -48,10 +46,10 @@ impl<A: Allocator + Copy, K: Keeping> System<A, K> {
         requires { link_fault self.old site peer ≡ None }
         ensures { BeatHappens self.old site peer result self.new }
     {
-        self.packets.reserve(1)?;
+        self.packets.reserve_line()?;
         let line = self.desks[site.index()].beat_line(peer)?;
-        let packet = Packet::of_line(site, peer, Line::new(line));
-        Ok(Reply::Packet(add(&mut self.packets, packet)))
+        let number = self.packets.add_line(site, peer, Line::new(line));
+        Ok(Reply::Packet(number))
     }
 
     pub(super) fn query(
@@ -64,12 +62,12 @@ impl<A: Allocator + Copy, K: Keeping> System<A, K> {
         requires place { link_fault self.old site origin ≡ None }
         ensures { QueryHappens self.old site origin again result self.new }
     {
-        self.packets.reserve(1)?;
+        self.packets.reserve_line()?;
         match self.links[site.index()].query_line(origin, again)? {
             None => Ok(Reply::Nothing),
             Some(line) => {
-                let packet = Packet::of_line(site, origin, Line::new(line));
-                Ok(Reply::Packet(add(&mut self.packets, packet)))
+                let number = self.packets.add_line(site, origin, Line::new(line));
+                Ok(Reply::Packet(number))
             }
         }
     }

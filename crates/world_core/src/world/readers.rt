@@ -61,10 +61,8 @@ impl<A: Allocator + Copy, K: Keeping> World<A, K> {
         if number == 0 || number > self.system.packets.len() as u64 {
             return None;
         }
-        Some(
-            self.system
-                .line_of(&self.system.packets[number as usize - 1]),
-        )
+        let packet = self.system.packets.at(number as usize - 1);
+        Some(self.system.line_of(&packet))
     }
 
     /// A copy of a site's log.

@@ -2,12 +2,13 @@
 //! inbound that gives up on some size is proved, since it may always want memory, and is found here.
 
 use crate::tests::inbound::memory::comes_at_last;
-use crate::tests::inbound::steps::{Came, Said, at_site_2_of_16, comes, is_query};
+use crate::tests::inbound::steps::{Came, Said, at_site_2_of_16, comes, is_query, readers};
 use crate::tests::inbound::texts::{LONG_GRANT, answer_line, entry_line};
 use refusing_allocator::Refusing;
 use rights_types::{OutOfMemory, SiteId};
 use site_core::Inbound;
 use std::alloc::{AllocError, Allocator, Global};
+use std::test::Fail;
 use sub_buffer::State;
 use test_kit::requests_of;
 
@@ -116,39 +117,67 @@ fn queries_of_many_sizes(rt: HostRuntime) {
     }
 }
 
-// Whether an inbound of these sites is made, and nothing has come to it, unless memory is refused.
-fn makes<A: Allocator + Copy>(
-    memory: &Refusing<A>,
+// Whether an inbound is new, and a first beat leads to that query, unless memory is refused.
+fn asks_first<A: Allocator + Copy>(
+    inbound: &mut Inbound<A>,
+    memory: &Refusing<Global>,
+    beat: &str,
+    query: &str,
+) -> bool {
+    readers(inbound) == (State::Normal, 0, 0)
+        && comes(inbound, beat.as_bytes(), Came::Beat)
+        && (is_query(&inbound.query_line(false), Some(query)) || memory.refused())
+}
+
+// Whether an inbound of these sites is made, and its first beat leads to that query, unless memory is refused.
+fn makes(
+    memory: &Refusing<Global>,
     me: SiteId,
     origin: SiteId,
     sites: u64,
+    beat: &str,
+    query: &str,
 ) -> bool {
     if sites < 2 || sites > 16 || me.number() > sites || origin.number() > sites || origin == me {
         return false;
     }
     match Inbound::new(memory, me, origin, sites) {
-        Ok(inbound) => {
-            let is_new = inbound.last() == 0 && inbound.held_count() == 0;
-            is_new && inbound.state() == State::Normal && !memory.refused()
-        }
+        Ok(mut inbound) => asks_first(&mut inbound, memory, beat, query),
         Err(OutOfMemory) => memory.refused(),
     }
 }
 
-/// Any two sites of 2 to 16.
+// How many requests an inbound of these sites and its first query make.
+fn requests_of_pair(
+    alloc: Global,
+    me: u64,
+    origin: u64,
+    sites: u64,
+) -> Result<Option<u64>, AllocError> {
+    let beat = format!(in alloc; "B {origin} 9\n")?;
+    let query = format!(in alloc; "Q {me} {origin} 1 9\n")?;
+    let (Ok(me), Ok(origin)) = (SiteId::new(me), SiteId::new(origin)) else {
+        return Ok(None);
+    };
+    Ok(requests_of(
+        alloc,
+        |memory| makes(memory, me, origin, sites, &beat, &query),
+    ))
+}
+
+/// Any two sites of 2 to 16: an inbound is made, and asks for what is missing.
 #[test]
-fn inbounds_of_any_two_sites(rt: HostRuntime) {
+fn inbounds_of_any_two_sites(rt: HostRuntime) -> Result<(), Fail> {
     for sites in 2..=16u64 {
         for me in 1..=sites {
             for origin in 1..=sites {
                 if me == origin {
                     continue;
                 }
-                let made = requests_of(rt.alloc(), |memory| {
-                    makes(memory, SiteId::known(me), SiteId::known(origin), sites)
-                });
-                assert_eq!(rt; made, Some(1), "{me} of {origin} among {sites}");
+                let made = requests_of_pair(rt.alloc(), me, origin, sites)?;
+                assert_eq!(rt; made, Some(2), "{me} of {origin} among {sites}");
             }
         }
     }
+    Ok(())
 }

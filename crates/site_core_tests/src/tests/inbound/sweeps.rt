@@ -110,14 +110,14 @@ fn beats_come_at(
     )
 }
 
-/// Beats come at logs of 10^4 and 10^5.
+/// Beats come at logs of 10^4, 10^5 and 10^6.
 #[test]
 fn beats_at_long_logs(rt: HostRuntime) -> Result<(), Fail> {
     let mut inbound = at_site_2(rt.alloc()).expect(&rt, "memory");
-    for entry in 1..=6_250u64 {
+    for entry in 1..=62_500u64 {
         let prev = entry.saturating_sub(1).saturating_mul(16);
         assert!(rt; comes_next(rt.alloc(), &mut inbound, prev)?, "after {prev}");
-        if entry == 625 || entry == 6_250 {
+        if entry == 625 || entry == 6_250 || entry == 62_500 {
             let end = entry.saturating_mul(16);
             assert!(rt; beats_come_at(rt.alloc(), &mut inbound, end)?, "at {end}");
         }

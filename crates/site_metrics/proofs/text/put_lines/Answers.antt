@@ -5,4 +5,4 @@ use Rattle.site_metrics.proofs.text.put_lines.Goals as goal
 
 pub returns-clause-ok : goal.returns-clause-ok
 returns-clause-ok g c =
-    on_ok_weaker c.put_peer_counter-4.result (λ last. last ∙ rw (c.in_ok-put_peer_gauge.ensures.ok, c.in_ok-put_peer_counter-3.ensures.ok, c.in_ok-put_peer_counter-2.ensures.ok, c.in_ok-put_peer_counter.ensures.ok) (five _ _ _ _ _ _)) c.put_peer_counter-4.ensures.ok
+    on_ok_weaker c.put_by_peer-5.result (λ last. last ∙ rw (c.in_ok-put_by_peer-4.ensures.ok, c.in_ok-put_by_peer-3.ensures.ok, c.in_ok-put_by_peer-2.ensures.ok, c.in_ok-put_by_peer.ensures.ok) (five _ _ _ _ _ _)) c.put_by_peer-5.ensures.ok

@@ -5,4 +5,4 @@ use Rattle.site_metrics.proofs.text.put_rights.Goals as goal
 
 pub returns-clause-ok : goal.returns-clause-ok
 returns-clause-ok g c =
-    on_ok_weaker c.put_counter-5.result (λ last. last ∙ rw (c.in_ok-put_counter-4.ensures.ok, c.in_ok-put_counter-3.ensures.ok, c.in_ok-put_counter-2.ensures.ok, c.in_ok-put_counter.ensures.ok, c.in_ok-put_gauge.ensures.ok, c.in_ok-put_first_gauge.ensures.ok) (first_seven _ _ _ _ _ _ _ _)) c.put_counter-5.ensures.ok
+    on_ok_weaker c.put_alone-6.result (λ last. last ∙ rw (c.in_ok-put_alone-5.ensures.ok, c.in_ok-put_alone-4.ensures.ok, c.in_ok-put_alone-3.ensures.ok, c.in_ok-put_alone-2.ensures.ok, c.in_ok-put_alone.ensures.ok, c.in_ok-put_first.ensures.ok) (first_seven _ _ _ _ _ _ _ _)) c.put_alone-6.ensures.ok

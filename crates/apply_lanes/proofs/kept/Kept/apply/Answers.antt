@@ -1,8 +1,13 @@
-use Rattle.std.proofs.Common.{◌≡◌, ◌-◌, arith, sym, subst, length, rules}
+use Rattle.rights_protocol.specs.Schedules.LocalChange.{Apply}
+use Rattle.std.proofs.Common.{◌≡◌, ◌-◌, false, arith, sym, subst, length, rules}
 use Rattle.rights_types.specs.Rights.{to}
 use Rattle.rights_book.specs.Books.{peer}
+use Rattle.site_core.specs.Ledgers.{ApplyKeeps}
+use Rattle.site_core.specs.Calls.{DeskApplies}
 use Rattle.apply_lanes.specs.Kepts.{KeptValue, raised}
 use Rattle.apply_lanes.proofs.KeptLaws.{kept_apply, gift_is, numbers_bound}
+use Rattle.site_core.specs.Faults.{has_closed}
+use Rattle.apply_lanes.proofs.StepLaws.{seen, steps_apply}
 use Rattle.apply_lanes.proofs.kept.Kept.apply.Goals as goal
 
 pub add-requires : goal.add-requires
@@ -16,11 +21,13 @@ invariant_of-self-2 g c =
     let i = c.self.invariant in
     let e = c.args.entry.now in
     let applies = c.in_ok-apply.ensures.ok.entry in
+    let keeps = c.in_ok-apply.ensures.keeps c.in_ok-apply.ensures.ok in
     let next = subst (λ (k : KeptValue). e.prev ≡ (peer k.desk.ledger.book c.args.origin).log.end) (sym c.self.view_is) c.requires.next in
+    let live = subst (λ (k : KeptValue). (peer k.desk.ledger.book c.args.origin).log.closed ≡ false) (sym c.self.view_is) c.requires.unclosed in
     let count : c.own.result - c.prev.result ≡ length e.moves = omega (arith, c.own.ensures.value, c.prev.ensures.value) in
     let gift : c.received.result - c.received-before.result ≡ to g.D.DeskNames.id.site e.moves =
-    omega (arith, c.received.ensures.value, c.received-before.ensures.value, gift_is _ _ c.apply.new.self _ _ i applies) in
-    kept_apply _ _ c.apply.new.self _ _ _ _ i applies c.number.ensures.range.0 c.requires.site next c.own.ensures.valid.number
+    omega (arith, c.received.ensures.value, c.received-before.ensures.value, gift_is _ _ c.apply.new.self _ _ i applies keeps) in
+    kept_apply _ _ c.apply.new.self _ _ _ _ i applies keeps c.number.ensures.range.0 c.requires.site next live c.requires.own c.own.ensures.valid
     (subst (λ n. c.add.new.self ≡ raised c.self.inside.number n) count c.add.ensures.sum)
     (subst (λ n. c.add-2.new.self ≡ raised c.self.inside.received n) gift c.add-2.ensures.sum)
 
@@ -32,3 +39,23 @@ returns-clause-tallies g c = search rules
 
 pub returns-clause-told : goal.returns-clause-told
 returns-clause-told g c = search rules
+
+pub returns-clause-keeps : goal.returns-clause-keeps
+returns-clause-keeps g c =
+    let keeps : (h : DeskApplies c.self.inside.desk c.args.origin c.args.entry.now c.apply.new.self)
+    → ApplyKeeps c.self.inside.desk.ledger c.args.origin c.args.entry.now h.entry.between c.apply.new.self.ledger = c.in_ok-apply.ensures.keeps in
+    subst (λ (k : KeptValue). (h : DeskApplies k.desk c.args.origin c.args.entry.now c.apply.new.self) → ApplyKeeps k.desk.ledger c.args.origin c.args.entry.now h.entry.between c.apply.new.self.ledger)
+    c.self.view_is keeps
+
+pub returns-clause-step : goal.returns-clause-step
+returns-clause-step g c =
+    let i = c.self.invariant in
+    let applies = c.in_ok-apply.ensures.ok.entry in
+    let keeps = c.in_ok-apply.ensures.keeps c.in_ok-apply.ensures.ok in
+    let next = subst (λ (k : KeptValue). c.args.entry.now.prev ≡ (peer k.desk.ledger.book c.args.origin).log.end) (sym c.self.view_is) c.requires.next in
+    let live = subst (λ (k : KeptValue). (peer k.desk.ledger.book c.args.origin).log.closed ≡ false) (sym c.self.view_is) c.requires.unclosed in
+    let unclosed = subst (λ (k : KeptValue). has_closed k.desk ≡ false) (sym c.self.view_is) c.requires.open in
+    let id = g.D.DeskNames.id in
+    seen id _ _ (Apply c.args.origin c.args.entry.now) c.apply.new.self c.self.view_is
+    (steps_apply id _ c.apply.new.self c.args.origin c.args.entry.now i applies keeps c.number.ensures.range.0 c.requires.site c.requires.other unclosed
+    live next c.requires.own c.own.ensures.valid)

@@ -1,11 +1,17 @@
+use Rattle.std.proofs.Common.{List, [], ◌∷◌}
+use Rattle.rights_types.specs.declared.moves.Move.{Move}
+use Rattle.rights_types.specs.declared.moves.Move.TheVariants.{Issue}
+use Rattle.rights_protocol.specs.Schedules.LocalChange.{Write}
 use Rattle.std.proofs.Common.{rules}
 use Rattle.apply_lanes.proofs.KeptLaws.{kept_write, raised_none, issued-issue, spent-issue}
+use Rattle.apply_lanes.proofs.StepLaws.{seen, steps_write}
 use Rattle.apply_lanes.proofs.kept.Kept.issue.Goals as goal
 
 pub invariant_of-self-2 : goal.invariant_of-self-2
 invariant_of-self-2 g c =
     let wrote = c.in_ok-number.ensures.ok.entry in
-    kept_write _ _ _ _ _ _ _ _ c.self.invariant wrote.log wrote.leaves (issued-issue _) (spent-issue _) c.add.ensures.sum
+    let keeps = c.in_ok-number.ensures.keeps in
+    kept_write _ _ _ _ _ _ _ _ c.self.invariant wrote.log keeps.leaves keeps.applied (issued-issue _) (spent-issue _) c.add.ensures.sum
     (raised_none _)
 
 pub returns-clause-tallies : goal.returns-clause-tallies
@@ -13,3 +19,10 @@ returns-clause-tallies g c = search rules
 
 pub returns-clause-told : goal.returns-clause-told
 returns-clause-told g c = search rules
+
+pub returns-clause-step : goal.returns-clause-step
+returns-clause-step g c =
+    let id = g.D.DeskNames.id in
+    let moves : List Move = Issue c.args.amount ∷ [] in
+    seen id _ _ (Write moves) c.issue.new.self c.self.view_is
+    (steps_write id _ c.issue.new.self moves c.self.invariant c.in_ok-number.ensures.ok.entry c.in_ok-number.ensures.keeps)

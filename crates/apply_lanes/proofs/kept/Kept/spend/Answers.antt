@@ -1,13 +1,15 @@
+use Rattle.apply_lanes.specs.Steps.{spend_change}
 use Rattle.std.proofs.Common.{subst, rules}
-use Rattle.site_core.specs.Calls.{DeskSpends}
+use Rattle.site_core.specs.Calls.{DeskSpends, SpendKeeps}
 use Rattle.apply_lanes.proofs.KeptLaws.{kept_write, raised_none, issued-spend, spent-spend}
+use Rattle.apply_lanes.proofs.StepLaws.{seen, steps_spend}
 use Rattle.apply_lanes.proofs.kept.Kept.spend.Goals as goal
 
 pub invariant_of-self-in-Spent : goal.invariant_of-self-in-Spent
 invariant_of-self-in-Spent g c =
     let spends = subst (λ s. DeskSpends c.self.inside.desk c.args.amount c.args.deadline s c.spend.new.self) c.in-Spent.is c.in_ok-spending.ensures.ok in
-    let wrote = spends.1.entry in
-    kept_write _ _ _ _ _ _ _ _ c.self.invariant wrote.log wrote.leaves (issued-spend _) (spent-spend _) (raised_none _)
+    let keeps = subst (λ s. SpendKeeps c.self.inside.desk c.args.amount s c.spend.new.self) c.in-Spent.is c.in_ok-spending.ensures.keeps in
+    kept_write _ _ _ _ _ _ _ _ c.self.invariant spends.1.entry.log keeps.leaves keeps.applied (issued-spend _) (spent-spend _) (raised_none _)
     c.add.ensures.sum
 
 pub invariant_of-seat : goal.invariant_of-seat
@@ -33,3 +35,17 @@ returns-in_default-clause-tallies g c = search rules
 
 pub returns-in_default-clause-told : goal.returns-in_default-clause-told
 returns-in_default-clause-told g c = search rules
+
+pub returns-in-Spent-clause-step : goal.returns-in-Spent-clause-step
+returns-in-Spent-clause-step g c =
+    let id = g.D.DeskNames.id in
+    let answer = c.in_ok-spending.spending in
+    seen id _ _ (spend_change c.args.amount answer) c.spend.new.self c.self.view_is
+    (steps_spend id _ c.spend.new.self c.args.amount c.args.deadline answer c.self.invariant c.in_ok-spending.ensures.ok c.in_ok-spending.ensures.keeps)
+
+pub returns-in_default-clause-step : goal.returns-in_default-clause-step
+returns-in_default-clause-step g c =
+    let id = g.D.DeskNames.id in
+    let answer = c.in_ok-spending.spending in
+    seen id _ _ (spend_change c.args.amount answer) c.spend.new.self c.self.view_is
+    (steps_spend id _ c.spend.new.self c.args.amount c.args.deadline answer c.self.invariant c.in_ok-spending.ensures.ok c.in_ok-spending.ensures.keeps)

@@ -21,7 +21,7 @@ write-requires-clause-covered g c =
     let other : j ≢ old.ledger.book.me = λ e. c.asker.ensures.valid.differ (mine ∙ sym e) in
     let can = can_grant old j n c.requires.within.0 within in
     subst (λ k. check_fault old.ledger.book (Grant k n c.ask.result ∷ []) ≡ None) (sym c.asker.ensures.value)
-    (grant_unrefused old.ledger.book j n c.ask.result high other can.0 can.1)
+    (grant_unrefused old.ledger.book j n c.ask.result high other can.open_peer can.held)
 
 pub invariant_of-self-2 : goal.invariant_of-self-2
 invariant_of-self-2 g c =

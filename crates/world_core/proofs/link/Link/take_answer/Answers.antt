@@ -5,15 +5,14 @@ use Rattle.std.proofs.lemmas.List.Elements.{All-head, All-tail}
 use Rattle.rights_types.specs.Entries.{EntryValue}
 use Rattle.site_core.specs.Inbounds.{InboundValue}
 use Rattle.world_core.specs.Values.{LinkValue}
-use Rattle.world_core.specs.IncomingLists.{HasRoom, NoneAhead, link_of}
-use Rattle.world_core.specs.LinkEvents.{LinkTakesAll}
+use Rattle.world_core.specs.IncomingLists.{HasRoom, NoneAhead}
 use Rattle.world_core.proofs.IncomingLaws.{next_copy, still_some}
-use Rattle.world_core.proofs.LinkLaws.{spare_link, goes_on_start, goes_on_next, goes_on_last, still_incoming, roomy_incoming}
+use Rattle.world_core.proofs.LinkLaws.{goes_on_start, goes_on_next, goes_on_last, still_incoming, roomy_incoming}
 use Rattle.world_core.proofs.link.Link.take_answer.Goals as goal
 
 pub loop-entry-init : goal.loop-entry-init
 loop-entry-init g c =
-    let same = c.in_ok-told.ensures.same in
+    let same = c.in_ok-make_room.ensures.same in
     let entries : c.into_iter-entry-iterator.result.rest.items ≡ c.args.entries.items = c.into_iter-entry-iterator.ensures.into_iter_gives.0 in
     let last : c.last.result ≡ c.make_room.new.self.inbound.buffer.last = c.last.ensures ∙ sym (ap (λ (x : InboundValue). x.buffer.last) same.inbound) in
     let origin : c.make_room.new.self.inbound.buffer.origin ≡ c.args.self.now.inbound.buffer.origin =
@@ -21,11 +20,12 @@ loop-entry-init g c =
     record {
       incoming = roomy_incoming c.self.inside.applied c.self.inside.incoming c.make_room.new.self c.self.invariant same;
       goes_on = λ es of_log f.
-          rw entries (goes_on_start g.K.Keeping.keeps es c.args.entries.items c.args.self.now c.self.inside.incoming c.make_room.new.self c.self.inside.applied c.in_ok-told.told.items c.self.view_is same c.in_ok-told.ensures.ok.0 of_log f
-          (λ is none. subst (λ n. NoneAhead n c.args.entries.items) last (subst (NoneAhead c.last.result) c.deref.ensures.value (c.none_ahead-in_order.ensures.0 (c.in_ok-told.ensures.apart is none)))));
+          rw entries (goes_on_start g.K.Keeping.keeps es c.args.entries.items c.args.self.now c.self.inside.incoming c.make_room.new.self c.self.inside.applied c.make_room.new.scratch.told.items c.self.view_is same c.in_ok-make_room.ensures.ok.1 of_log f
+          (λ is none. subst (λ n. NoneAhead n c.args.entries.items) last (subst (NoneAhead c.last.result) c.deref.ensures.value (c.none_ahead-in_order.ensures.0 (c.in_ok-make_room.ensures.apart is none)))));
       origin = rw entries (subst (λ o. All (λ (e : EntryValue). e.origin ≡ o) c.args.entries.items) (sym origin) c.requires.origin);
       copies = λ some. c.into_iter-copies.ensures.rest ∙ (rw some at c.in_ok-copies_of.ensures) ∙ c.deref-2.ensures.value ∙ sym entries;
-      room = subst (λ n. HasRoom n c.make_room.new.self c.in_ok-told.told) (omega (arith, c.len.ensures, ap (λ es. length es) entries)) c.in_ok-told.ensures.ok.1;
+      empty = c.in_ok-make_room.ensures.ok.0;
+      room = subst (λ n. HasRoom n c.make_room.new.self c.make_room.new.scratch) (omega (arith, c.len.ensures, ap (λ es. length es) entries)) c.in_ok-make_room.ensures.ok.2;
     }
 
 pub take-requires-clause-origin : goal.take-requires-clause-origin
@@ -51,15 +51,16 @@ loop-entry-preserved g c =
     let t = c.take.ensures.takes in
     let all : All (λ (x : EntryValue). x.origin ≡ old.inbound.buffer.origin) (e ∷ rest) = rw next at c.loop-entry.invariant.origin in
     record {
-      incoming = still_incoming applied old c.take.new.self c.loop-entry.told.items c.take.new.told.items e t.0 t.1 c.loop-entry.invariant.incoming t.2;
+      incoming = still_incoming applied old c.take.new.self c.loop-entry.scratch.told.items c.take.new.scratch.told.items e t.0 t.1 c.loop-entry.invariant.incoming t.2;
       goes_on = λ es of_log f.
-          goes_on_next g.K.Keeping.keeps es c.args.self.now c.args.entries.items old c.take.new.self applied rest c.loop-entry.told.items c.take.new.told.items e t.0 t.1 c.loop-entry.invariant.incoming.within t.2
+          goes_on_next g.K.Keeping.keeps es c.args.self.now c.args.entries.items old c.take.new.self applied rest c.loop-entry.scratch.told.items c.take.new.scratch.told.items e t.0 t.1 c.loop-entry.invariant.incoming.within t.2
           (rw next at (c.loop-entry.invariant.goes_on es of_log f));
       origin = rw t.2.arrives.pair.origin (All-tail (λ (x : EntryValue). x.origin ≡ old.inbound.buffer.origin) e rest all);
       copies = λ some.
           let is = c.loop-entry.invariant.copies (still_some (λ l. l.items) old.apart c.take.new.self.apart t.0 e t.2.apart some) ∙ next in
           (next_copy c.next-in-loop-entry.result c.loop-entry.copies.rest.items c.next-in-loop-entry.new.self.rest.items rest _ _ e c.next-in-loop-entry.ensures.cases (omega arith) is).1;
-      room = c.take.ensures.room (length rest) (subst (λ n. HasRoom n old c.loop-entry.told) (omega (arith, ap (λ es. length es) next)) c.loop-entry.invariant.room);
+      empty = c.take.ensures.empty;
+      room = c.take.ensures.room (length rest) (subst (λ n. HasRoom n old c.loop-entry.scratch) (omega (arith, ap (λ es. length es) next)) c.loop-entry.invariant.room);
     }
 
 pub returns-clause-ok : goal.returns-clause-ok
@@ -67,6 +68,5 @@ returns-clause-ok g c es of_log f =
     let none : c.loop-entry.entry-iterator.rest.items ≡ [] = nil_from_length _ (omega (arith, c.in-None.ensures.steps.0)) in
     let incoming = c.loop-entry.self-inside.incoming in
     let applied = c.loop-entry.self-inside.applied in
-    let all = goes_on_last g.K.Keeping.keeps es c.args.self.now c.args.entries.items incoming applied c.loop-entry.told.items (rw none at (c.loop-entry.invariant.goes_on es of_log f)) in
-    let same : link_of g.K.Keeping.keeps c.verdicts.new.self applied ≡ link_of g.K.Keeping.keeps incoming applied = spare_link g.K.Keeping.keeps incoming c.verdicts.new.self applied c.verdicts.ensures.rest in
-    rw c.verdicts.ensures.value (subst (λ (l : LinkValue). LinkTakesAll g.row.A.Denot es c.args.self.now c.args.entries.items c.loop-entry.told.items l) (sym same) all)
+    let all = goes_on_last g.K.Keeping.keeps es c.args.self.now c.args.entries.items incoming applied c.loop-entry.scratch.told.items (rw none at (c.loop-entry.invariant.goes_on es of_log f)) in
+    rw c.tell.ensures all

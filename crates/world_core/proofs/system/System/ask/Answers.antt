@@ -1,4 +1,4 @@
-use Rattle.std.proofs.Common.{Some, subst}
+use Rattle.std.proofs.Common.{Some, refl, subst}
 use Rattle.std.specs.Option.{option_map}
 use Rattle.rights_types.specs.Messages.MessageValue.{AnAsk}
 use Rattle.transfer_manager.specs.Managers.{outstanding_ask}
@@ -25,4 +25,4 @@ returns-in-Some g c =
     (outstanding_ask d.manager c.args.peer)) (Some line)) at.is (rw c.in-Some.is
     at c.in_ok-ask_line.ensures.line) in
     sends_line g.row.A.Denot (λ l. l.items) there c.args.self.now _ _ _ _ line _ _ _ _ c.self.view_is spelled
-    c.new.ensures c.of_line-packet.ensures c.in_ok-reserve.ensures.items c.add.ensures.number c.add.ensures.added
+    c.new.ensures refl c.in_ok-reserve_line.ensures.items c.add_line-number.ensures.number c.add_line-number.ensures.added

@@ -1,4 +1,4 @@
-use Rattle.std.proofs.Common.{Some, subst}
+use Rattle.std.proofs.Common.{Some, refl, subst}
 use Rattle.std.proofs.lemmas.Result.{err_from_is_err_and}
 use Rattle.site_core.specs.Calls.{LineOf, beat_of}
 use Rattle.site_core.specs.Desks.{DeskValue}
@@ -11,7 +11,7 @@ use Rattle.world_core.proofs.system.System.beat.Goals as goal
 pub returns-in_err-line : goal.returns-in_err-line
 returns-in_err-line g c =
     let err = err_from_is_err_and c.from_residual-in_err-line.result c.from_residual-in_err-line.ensures.1 in
-    rw (err.1, err.2, c.in_ok-reserve.ensures.items) c.self.view_is
+    rw (err.1, err.2, c.in_ok-reserve_line.ensures.items) c.self.view_is
 
 pub returns : goal.returns
 returns g c =
@@ -28,4 +28,4 @@ returns g c =
     subst (λ (d : DeskValue). LineOf (λ l. l.items) (Some (beat_of d.ledger.log)) (Some line)) at.is c.in_ok-line.ensures in
     sends_line g.row.A.Denot (λ l. l.items) there c.args.self.now _ _ _
     (Some (beat_of (desk c.args.self.now c.args.site).ledger.log)) line _ _ _ _ c.self.view_is spelled
-    c.new.ensures c.of_line-packet.ensures c.in_ok-reserve.ensures.items c.add.ensures.number c.add.ensures.added
+    c.new.ensures refl c.in_ok-reserve_line.ensures.items c.add_line-number.ensures.number c.add_line-number.ensures.added

@@ -27,4 +27,4 @@ loop-index-preserved g c =
 pub returns : goal.returns
 returns g c =
     let all : c.loop-index.index ≡ c.args.sites = omega arith in
-    rw (c.loop-index.invariant.desks, c.loop-index.invariant.links, c.new-2.ensures.items, all) refl
+    rw (c.loop-index.invariant.desks, c.loop-index.invariant.links, c.new-2.ensures, all) refl

@@ -43,7 +43,7 @@ returns-in_err-query_line g c =
     in
     let err =
     err_from_is_err_and c.from_residual-in_err-query_line.result c.from_residual-in_err-query_line.ensures.1 in
-    rw (err.1, err.2, c.in_ok-reserve.ensures.items) (inr (t.2, asks))
+    rw (err.1, err.2, c.in_ok-reserve_line.ensures.items) (inr (t.2, asks))
 
 pub returns-in-None : goal.returns-in-None
 returns-in-None g c =
@@ -63,7 +63,7 @@ returns-in-None g c =
     asked there c.args.self.now _ _ _ _ _ _ t.0 t.1 t.2 c.self.view_is c.index.ensures.value links t.3 t.4 t.5 t.6
     in
     let none = subst (λ line. LineOf (λ l. l.items) (option_map (λ x. AQuery x) t.2) line) c.in-None.is t.7 in
-    rw c.in_ok-reserve.ensures.items (
+    rw c.in_ok-reserve_line.ensures.items (
       t.2,
       mid,
       asks,
@@ -94,6 +94,6 @@ returns-in-Some g c =
       mid,
       asks,
       sends_line g.row.A.Denot
-          (λ l. l.items) mid mid _ _ _ _ line _ _ _ _ refl spelled c.new.ensures c.of_line-packet.ensures
-          c.in_ok-reserve.ensures.items c.add.ensures.number c.add.ensures.added,
+          (λ l. l.items) mid mid _ _ _ _ line _ _ _ _ refl spelled c.new.ensures refl
+          c.in_ok-reserve_line.ensures.items c.add_line-number.ensures.number c.add_line-number.ensures.added,
     )

@@ -13,8 +13,7 @@ returns-clause-takes g c =
     let a = c.arrive.ensures.arrives in
     let v = a.0 in
     let freed = a.1 in
-    let came = a.2 ∙ ap (λ vs. vs ++ v ∷ all_ready freed) c.requires.empty in
-    let verdicts : c.list.new.self.verdicts.items ≡ v ∷ all_ready freed = ap (λ i. i.verdicts.items) c.list.ensures.rest ∙ ap (λ i. i.verdicts.items) c.see.ensures.rest ∙ came in
+    let came : c.arrive.new.verdicts.items ≡ v ∷ all_ready freed = a.2 ∙ ap (λ vs. vs ++ v ∷ all_ready freed) c.requires.empty in
     let inbound : c.settle.new.self.inbound ≡ c.arrive.new.self = ap (λ i. i.inbound) c.settle.ensures.rest ∙ ap (λ i. i.inbound) c.list.ensures.rest ∙ ap (λ i. i.inbound) c.see.ensures.rest in (
       v,
       freed,
@@ -22,24 +21,23 @@ returns-clause-takes g c =
         arrives = subst (λ i. Arrives c.args.self.now.inbound.buffer c.args.entry v freed i.buffer) (sym inbound) a.3;
         inbound = rw inbound c.arrive.ensures.rest;
         gone = ap (λ i. i.gone.items) c.settle.ensures.rest ∙ ap (λ i. i.gone.items) c.list.ensures.rest ∙ ap (λ i. i.gone.items) c.see.ensures.rest;
-        put = c.settle.ensures.put ∙ ap (λ vs. c.list.new.self.put.items ++ ready_in vs) verdicts
+        put = c.settle.ensures.put ∙ ap (λ vs. c.list.new.self.put.items ++ ready_in vs) came
             ∙ ap (λ i. i.put.items ++ ready_in (v ∷ all_ready freed)) c.list.ensures.rest
             ∙ ap (λ i. i.put.items ++ ready_in (v ∷ all_ready freed)) c.see.ensures.rest ∙ puts_one c.args.self.now.put.items v freed;
-        seen = ap (λ i. i.seen.items) c.settle.ensures.rest ∙ ap (λ i. i.seen.items) c.list.ensures.rest ∙ c.see.ensures.seen v (all_ready freed) c.args.entry came c.and-seen.ensures;
+        seen = ap (λ i. i.seen.items) c.settle.ensures.rest ∙ ap (λ i. i.seen.items) c.list.ensures.rest ∙ c.see.ensures.seen v (all_ready freed) c.args.entry (c.deref.ensures.value ∙ came) c.and-seen.ensures;
         apart = ap (λ i. option_map (λ l. l.items) i.apart) c.settle.ensures.rest
-            ∙ c.list.ensures.lists v (all_ready freed) c.args.entry (ap (λ i. i.verdicts.items) c.see.ensures.rest ∙ came)
+            ∙ c.list.ensures.lists v (all_ready freed) c.args.entry (c.deref-2.ensures.value ∙ came)
             (λ some. c.requires.copy (subst (λ i. IsSome i.apart) c.see.ensures.rest some))
             ∙ ap (λ i. option_map (λ l. reached_after l.items c.args.entry v) i.apart) c.see.ensures.rest;
-        verdicts = c.settle.ensures.verdicts;
-        told = c.settle.ensures.told ∙ ap (λ vs. c.args.told.now.items ++ map as_told vs) verdicts ∙ ap (λ ts. c.args.told.now.items ++ ts) (tells_one v freed);
+        told = c.settle.ensures.told ∙ ap (λ vs. c.args.scratch.now.told.items ++ map as_told vs) came ∙ ap (λ ts. c.args.scratch.now.told.items ++ ts) (tells_one v freed);
       },
     )
 
 pub returns-clause-room : goal.returns-clause-room
 returns-clause-room g c n room =
     let t = returns-clause-takes g c in
-    keeps_room n _ _ c.args.told.now c.settle.new.told c.args.entry t.0 t.1 room t.2
+    keeps_room n _ _ c.args.scratch.now c.settle.new.scratch c.args.entry t.0 t.1 room t.2
     (c.settle.ensures.put_room ∙ ap (λ i. vec_capacity i.put) c.list.ensures.rest ∙ ap (λ i. vec_capacity i.put) c.see.ensures.rest)
     (ap (λ i. option_map (λ l. vec_capacity l) i.apart) c.settle.ensures.rest ∙ c.list.ensures.capacity ∙ ap (λ i. option_map (λ l. vec_capacity l) i.apart) c.see.ensures.rest)
-    (c.settle.ensures.verdicts_room ∙ ap (λ i. vec_capacity i.verdicts) c.list.ensures.rest ∙ ap (λ i. vec_capacity i.verdicts) c.see.ensures.rest ∙ c.arrive.ensures.capacity)
+    (c.settle.ensures.verdicts_room ∙ c.arrive.ensures.capacity)
     c.settle.ensures.told_room

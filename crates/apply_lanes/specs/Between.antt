@@ -1,0 +1,22 @@
+-- The entries between the buffer of a peer and the desk's book.
+use Rattle.std.specs.Prelude.{◌≡◌, false, List, [], ◌++◌}
+use Rattle.rights_types.specs.Entries.{EntryValue}
+use Rattle.rights_types.specs.Chains.{end, moves_of, IsChain}
+use Rattle.rights_types.specs.Rights.{to}
+use Rattle.link_intake.specs.Intakes.{IntakeValue, IsInStep}
+use Rattle.apply_lanes.specs.Appliers.{ApplierValue, in_hand}
+use Rattle.apply_lanes.specs.Names.{DeskId}
+
+module _ {G A : Type 0} where
+  -- what the buffer put is what was applied, then what was dropped at a closed desk, then the entry in hand, then what
+  -- waits on the lane; number and received are those of what was applied
+  pub record IsBetween (id : DeskId) (i : IntakeValue A) (a : ApplierValue G A) : Type 0 where
+    pub put : IsInStep i
+    pub applied : List EntryValue
+    pub dropped : List EntryValue
+    pub waiting : List EntryValue
+    pub whole : put.entries ≡ applied ++ dropped ++ in_hand a.hand ++ waiting
+    pub log : IsChain a.origin applied
+    pub none_dropped : a.dropping ≡ false → dropped ≡ []
+    pub number : a.number ≡ end applied
+    pub received : a.received ≡ to id.site (moves_of applied)
