@@ -101,7 +101,7 @@ must_hold es set put b e f i le = (f.held e).1 (i, not_in_front b.origin es put 
 of_log : (es set put : List EntryValue) (b : BufferValue) (e : EntryValue) → Follows es set put b → Contains set e → Contains es e
 of_log es set put b e f i = All-contains (Contains es) set e f.of_log i
 
--- entries of the log behind a front that ends in e
+-- entries of the log after a prefix that ends in e
 past : (o : ℕ) (es put : List EntryValue) (e g : EntryValue) → IsChain o es → IsPrefix (put ++ e ∷ []) es → Contains es g → (Contains (put ++ e ∷ []) g → ⊥) → own e ≤ g.prev
 past o es put e g c begins i out =
     let le : end (put ++ e ∷ []) ≤ g.prev = beyond_front o es (put ++ e ∷ []) g c begins i out in

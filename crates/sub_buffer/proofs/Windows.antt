@@ -57,7 +57,7 @@ earlier_of n es low high window = λ k d lt.
     let small : k < low = omega (arith, length-take low es) in
     subst (λ (y : EntryValue). y.prev < n) (sym (get_or-take low es k d small)) (window.earlier k d small)
 
--- the window has closed behind the last entry
+-- the window has closed after the last entry
 pub place_at_end : (n : ℕ) (es : List EntryValue) (low high : ℕ) → IsWindow n es low high → high ≤ low → length es ≤ low → IsPlace n es low
 place_at_end n es low high window closed past = record {
   within = omega (arith, window.within, window.order);
