@@ -47,7 +47,7 @@ pub account_of-nil : account_of [] ≡ no_account
 account_of-nil =
     same_account (account_of []) no_account refl (rw moves_of-nil issued-nil) (rw moves_of-nil spent-nil) (rw moves_of-nil out-nil) (rw moves_of-nil taken_back-nil) refl
 
--- the account of a log with an entry more, which follows its end
+-- the account of a log with one more entry, which follows its end
 pub account_of-push : (es : List EntryValue) (e : EntryValue) (a : Account) → a ≡ account_of es → e.prev ≡ a.end → a.closed ≡ false
     → with_moves a e.moves ≡ account_of (es ++ e ∷ [])
 account_of-push es e a is next unclosed =

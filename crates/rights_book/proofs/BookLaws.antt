@@ -84,7 +84,7 @@ given_term b is j =
       | inr out ↦ omega (arith, ap (λ (p : Peer). p.given) (out b.peers refl))
     ]
 
--- no more is taken back than was given
+-- no more is reclaimed than was given
 pub back_given : (b : BookValue) → IsBook b → b.own.back ≤ b.own.given
 back_given b is = omega (arith, is.given_is, is.back_is, sum_le (sites b) (λ j. (peer b j).back) (λ j. (peer b j).given) (λ j low high. is.back_within j))
 
