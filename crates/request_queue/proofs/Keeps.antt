@@ -18,7 +18,7 @@ ticket_of r = r.ticket
 abbrev key_of : ℕ × Outcome → ℕ
 key_of e = e.0
 
--- no ticket stands twice
+-- no ticket occurs twice
 abbrev IsOnce : List ℕ → Type 0
 IsOnce ts = (t : ℕ) → count_by (λ k. k == t) ts ≤ 1
 
@@ -28,7 +28,7 @@ once_permuted ts us moved once t = omega (arith, sum_by-IsPermutation (λ k. con
 once_rest : (t : ℕ) (ts : List ℕ) → IsOnce (t ∷ ts) → IsOnce ts
 once_rest t ts once u = omega (arith, sum_by-cons (λ k. cond (k == u) 1 0) t ts, once u)
 
--- the next ticket does not stand among those that were given
+-- the next ticket was not given before
 not_given : (n : ℕ) (ts : List ℕ) → All (λ t. (1 ≤ t) × (t < n)) ts → count_by (λ k. k == n) ts ≡ 0
 not_given n [] given = refl
 not_given n (t ∷ ts) given =

@@ -36,7 +36,7 @@ is_false : (b : Bool) (n : ℕ) → cond b (Some n) None ≡ None → b ≡ fals
 is_false true n e = cc
 is_false false n e = refl
 
--- where there is no such element, none passes
+-- if there is no such element, none passes
 pub none_passes : {X : Type 0} (p : X → Bool) (xs : List X) → position p xs ≡ None → All (λ y. p y ≡ false) xs
 none_passes p xs none k d lt =
     let past : length xs ≤ position_or_len p xs = ltb-false (position_or_len p xs) (length xs) (is_false _ (position_or_len p xs) none) in
@@ -68,7 +68,7 @@ is_off : (b : Bool) (n : ℕ) → cond b 1 0 + n ≡ 0 → b ≡ false
 is_off true n e = absurd (omega arith)
 is_off false n e = refl
 
--- no entry has a key that does not stand among the keys
+-- if a key is not among the keys, no entry has it
 pub not_among : {X : Type 0} (t : ℕ) (es : List (ℕ × X)) → count_by (λ k. k == t) (map (λ e. e.0) es) ≡ 0 → All (λ x. (x.0 == t) ≡ false) es
 not_among {X} t [] none = All-nil (λ y. (y.0 == t) ≡ false)
 not_among {X} t (x ∷ xs) none =
