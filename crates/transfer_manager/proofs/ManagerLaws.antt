@@ -70,7 +70,7 @@ front me n ps = record { me = me; peers = take n ps }
 index_inside : (n i j : ℕ) (ps : List PeerAsks) → i + 1 ≡ j → j ≤ length (take n ps) → i < n
 index_inside n i j ps at high = omega (arith, at, high, length-take n ps)
 
--- the asks that stand at the index of site j
+-- the asks at the index of site j
 asks_read : (me n i j : ℕ) (ps : List PeerAsks) (d : PeerAsks) → i + 1 ≡ j → j ≤ length (take n ps) → get_or ps i d ≡ asks (front me n ps) j
 asks_read me n i j ps d at high =
     sym (get_or-take n ps i d (index_inside n i j ps at high)) ∙ get_or_default (take n ps) i d no_asks (omega arith)

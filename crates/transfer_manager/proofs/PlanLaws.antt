@@ -144,7 +144,7 @@ planned_few m k queued count new is p = omega (arith, p.counted, asks_few (sites
 
 -- ---- a manager after its plan
 
--- the items in front, once they were written
+-- the items of the prefix, once they were written
 pub front_written : (n : ℕ) (ps new : List PeerAsks) → n ≤ length ps → length new ≡ length (take n ps) → take n (new ++ drop n ps) ≡ new
 front_written n ps new fit same = take_at new (drop n ps) n (same ∙ length-take-le n ps fit)
 
@@ -230,7 +230,7 @@ plans_same m new x y queued count same p =
       counted = p.counted ∙ count_same (sites m) (planned m x queued) (planned m y queued) amounts;
     }
 
--- a book knows what the logs say that it stands for
+-- a book knows what the logs that it represents say
 pub by_logs : (b : BookValue) (log : List EntryValue) (applied : ℕ → List EntryValue) (n : ℕ) → IsBook b → StandsFor log applied b → book_sites b ≡ n
     → SameKnowledge n (of_book b) (of_logs n b.me log applied)
 by_logs b log applied n is s count = rw (← count) (record {
