@@ -1,10 +1,10 @@
--- The first bytes of a line that came in parts.
+-- The first bytes of a line that arrived in parts.
 use Rattle.std.proofs.Common.{◌≡◌, ℕ, ◌+◌, ◌-◌, ◌<◌, ◌≤◌, List, [], ◌∷◌, ◌++◌, length, take, refl, sym, ap, ◌∙◌, arith, inl, inr, length-take, length-take-le, length-append}
 use Rattle.std.proofs.lemmas.Bool.{cases_lt}
 use Rattle.std.proofs.lemmas.List.{take_at, drop_at, take_all, take-append-le, nil_from_length, take-take}
 use Rattle.line_streams.proofs.WriteLaws.{take_both}
 
--- what fits behind the bytes before
+-- what fits after the bytes before
 pub take_over : (n : ℕ) (xs ys : List ℕ) → length xs ≤ n → take n (xs ++ ys) ≡ xs ++ take (n - length xs) ys
 take_over n xs ys h =
     let parts : length xs + (n - length xs) ≡ n = omega arith in

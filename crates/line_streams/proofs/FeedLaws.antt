@@ -94,7 +94,7 @@ module _ {S : Type 0} (answers : Answering S) (start : S) (input : List ℕ) (st
     left = left;
   }
 
-  -- some of what waited was written, where a write failed
+  -- some of what waited was written, if a write failed
   pub talked_front : (after : Option (List ℕ)) (n : ℕ) → Appends now after (take n waits.whole) → Talked answers start (pieces input) state held after (drop n waits.whole)
   talked_front after n writes = record {
     replies = h.talked.replies;

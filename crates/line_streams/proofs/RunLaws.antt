@@ -71,7 +71,7 @@ module _ {S : Type 0} (answers : Answering S) (fails : S → S → Type 0) (star
       going_written answers start input state held now waits carry h after waits' waits.whole writes
       (sym (append-nil waits.whole) ∙ ap (λ (l : List ℕ). waits.whole ++ l) (sym none.whole)) none.part
 
-  -- some of it was, where a write failed
+  -- some of it was, if a write failed
   pub ran_written : (portions : List (List ℕ)) (input : List ℕ) (state : S) (held now after : Option (List ℕ)) (waits : Waiting) (carry rest : List ℕ) → Going answers start input state held now waits carry
       → AppendsFront now after waits.whole → Ran answers fails start portions input held after (Err WriteFailed) state rest
   ran_written portions input state held now after waits carry rest h part = (

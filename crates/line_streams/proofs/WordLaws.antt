@@ -1,4 +1,4 @@
--- A text that is parted at a byte, and a search of a table.
+-- A text that is split at a byte, and a search of a table.
 use Rattle.std.proofs.Common.{◌≡◌, ◌==◌, ◌<◌, ℕ, ◌+◌, ◌-◌, Bool, List, [], ◌∷◌, length, take, drop, get_or, Option, Some, None, refl, if◌then◌else◌}
 use Rattle.std.proofs.lemmas.List.{drop_more}
 use Rattle.std.specs.Borrow.{Bor}
