@@ -71,7 +71,7 @@ some_available false true full n most some le = absurd (omega arith)
 some_available false false true n most some le = absurd (omega arith)
 some_available false false false n most some le = (refl, refl, refl, le)
 
--- where something is available
+-- if something is available
 pub can_grant : (d : DeskValue) (j n : ℕ) → 1 ≤ n → n ≤ available d j → CanGrant d j n
 can_grant d j n some le =
     let p = some_available (has_closed d) (account d.ledger.book j).closed (is_full d 1) n (held_by d.ledger.book - total_of d.queue.waiting) some le in

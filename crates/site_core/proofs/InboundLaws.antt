@@ -53,7 +53,7 @@ pub arrival_chain : {A : Type 0} (old new : BufferValue) (e : EntryValue) (v : V
     → (put : List EntryValue) → HasPut put old → HasPut (put ++ ready_in (v ∷ all_ready freed)) new
 arrival_chain old new e v freed h put d = subst (λ xs. HasPut xs new) (sym (put_one put v freed)) (h.chain put d)
 
--- what is put after the verdicts before goes on the chain
+-- what is appended to the verdicts before continues the chain
 chain_behind : {A : Type 0} (es : List EntryValue) (old new : BufferValue) (before after : List (Verdict A)) → ArriveAll old before es new after
     → (put : List EntryValue) → HasPut (put ++ ready_in before) old → HasPut (put ++ ready_in after) new
 chain_behind [] old new before after h put d = subst (λ vs. HasPut (put ++ ready_in vs) new) (sym h.1) (subst (HasPut (put ++ ready_in before)) (sym h.0) d)

@@ -44,7 +44,7 @@ all_beyond f (e ∷ es) h =
     rw (le-leb f e.prev (All-head (λ (x : EntryValue). f ≤ x.prev) e es h))
     (ap (λ (xs : List EntryValue). e ∷ xs) (all_beyond f es (All-tail (λ (x : EntryValue). f ≤ x.prev) e es h)))
 
--- where an entry of a chain begins before f and none behind it does, those behind it are all that do not
+-- where an entry of a chain begins before f and none after it does, those after it are all that do not
 pub those_behind : (o : ℕ) (b : Bool) (n f : ℕ) (es : List EntryValue) (k : ℕ) (e : EntryValue) → ChainFrom o b n es → slice_get es k ≡ Some e → e.prev < f
     → All (λ (x : EntryValue). f ≤ x.prev) (drop (suc k) es) → beyond f es ≡ drop (suc k) es
 those_behind o b n f [] k e c at early later = absurd cc

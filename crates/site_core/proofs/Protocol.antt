@@ -163,7 +163,7 @@ written_applied old new ms is book ranges ok log same in_book =
     (λ applied h. (let state : IsSiteState applied old = site_state old applied is book h in
     (goes_on old applied state).appends ms (may_append old ms applied is ranges ok state)))
 
--- the next entry of another site, and what is taken back by it
+-- the next entry of another site, and what is reclaimed by it
 pub applied_more : (old new : LedgerValue) (o : ℕ) (e : EntryValue) → IsLedger old → IsBook old.book → 1 ≤ o → o ≤ sites old.book → o ≢ old.book.me → is_closed old.log.entries ≡ false
     → new.log ≡ with_takings old.log (one_taking o (owed_by old o e)) → sites new.book ≡ sites old.book
     → ((applied later : ℕ → List EntryValue) → StandsForApplied applied old.book → AddsEntry applied o e later → StandsForApplied later new.book) → MoreApplied old o e new
