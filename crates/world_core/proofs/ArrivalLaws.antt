@@ -122,7 +122,7 @@ not_refused X i read WrongOrigin none refused other = absurd cc
 not_refused X i read BadSite none refused other = absurd cc
 not_refused X i read (Line e) none refused other = absurd cc
 
--- ---- where a packet is to arrive
+-- ---- if a packet is to arrive
 
 delivered : (w : WorldValue) (s number : ℕ) → arrive_fault w s number ≡ None → (p : PacketValue) × (packet w number ≡ Some p) × (p.to ≡ s)
 delivered w s number h = at_site_of (is_site w s) (packet w number) h

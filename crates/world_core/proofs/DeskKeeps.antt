@@ -72,13 +72,13 @@ same_count w s d = length-set_site w.desks s d
 
 -- ---- logs that go on
 
--- of the same sites, each log goes on, and is a chain still
+-- of the same sites, each log grows, and is still a chain
 pub record LogsGoOn (old new : WorldValue) : Type 0 where
   pub same : count new ≡ count old
   pub longer : (o : ℕ) → IsPrefix (log old o) (log new o)
   pub chains : (o : ℕ) → IsChain o (log new o)
 
--- a link goes on to follow the longer log
+-- a link continues to follow the longer log
 pub link_goes_on : (old new : WorldValue) (s o : ℕ) (l : LinkValue) → LogsGoOn old new → LinkSound old s o l
     → LinkSound new s o l
 link_goes_on old new s o l logs h =
@@ -96,7 +96,7 @@ link_goes_on old new s o l logs h =
           (follows_longer l.inbound.buffer (log old o) more l.reached l.put here h.follows);
     }
 
--- what goes on ends no earlier
+-- a log that grows ends no earlier
 end_longer : (o : ℕ) (xs ys : List EntryValue) → IsChain o ys → IsPrefix xs ys → end xs ≤ end ys
 end_longer o xs ys chain (more, whole) =
     let split : IsChain o (xs ++ more) = subst (IsChain o) (sym whole) chain in
@@ -201,7 +201,7 @@ site_still w s d is site next stands k among =
       others = λ o from differ. old.others o (subst (λ n. IsSiteOf n o) (same_count w s d) from) differ;
     }
 
--- another desk of s whose log goes on keeps the world, where the protocol's part is kept
+-- another desk of s whose log grows preserves the invariant of the world, if the protocol's part is preserved
 pub desk_grows : (w : WorldValue) (s : ℕ) (d : DeskValue) → IsWorld w → IsSiteOf (count w) s → DeskGoesOn w s d
     → HasApplied (applied w s) d.ledger → Leads w (with_desk w s d) → WorldGoesOn w (with_desk w s d)
 desk_grows w s d is site next stands by =
@@ -238,7 +238,7 @@ lists_stay w s d site same = record {
   };
 }
 
--- a desk with this log and book, which keeps no spend waiting where it has closed
+-- a desk with this log and book, which keeps no spend waiting if it has closed
 still_sound : (old d : DeskValue) → DeskSound old → d.ledger.log.site ≡ old.ledger.log.site
     → d.ledger.log.entries ≡ old.ledger.log.entries → d.ledger.book ≡ old.ledger.book
     → (has_closed d ≡ true → d.queue.waiting ≡ []) → DeskSound d
@@ -330,7 +330,7 @@ pub record Wrote (w : WorldValue) (s : ℕ) (ms : List Move) (d : DeskValue) : T
 abbrev entry_by : WorldValue → ℕ → List Move → EntryValue
 entry_by w s ms = entry_at_end s (log w s) ms
 
--- that entry stands at the end of the desk's log, under the number of s
+-- that entry is at the end of the desk's log, under the number of s
 entry_stands : (w : WorldValue) (s : ℕ) (ms : List Move) (d : DeskValue) → IsWorld w → IsSiteOf (count w) s
     → Wrote w s ms d → d.ledger.log.entries ≡ log w s ++ entry_by w s ms ∷ []
 entry_stands w s ms d is site wrote =
@@ -426,7 +426,7 @@ closes_here w s heir is site h =
           ∙ ap (λ j. closing_moves (count w) j (log w s) (applied w s) heir) here.me;
     }
 
--- a closing entry keeps the world, where the desk may close
+-- a closing entry keeps the world, if the desk may close
 pub closed : (w : WorldValue) (s : ℕ) (heir : Option ℕ) (d : DeskValue) → IsWorld w → IsSiteOf (count w) s
     → CanClose (desk w s) heir → WritesClosing (desk w s).ledger heir d.ledger
     → d.manager.me ≡ (desk w s).manager.me → d.queue ≡ (desk w s).queue → WorldGoesOn w (with_desk w s d)

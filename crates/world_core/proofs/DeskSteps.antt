@@ -93,7 +93,7 @@ spend_keeps old new s n deadline outcome is known h =
     (Spends (desk old s) n deadline) outcome is
     (λ none reply d. spends_keep old s n deadline reply d is (site_known old s known) none) h
 
--- the front spend is served, or none
+-- the spend at the front is served, or none
 serves_keep : {A : Type 0} (w : WorldValue) (s : ℕ) (reply : Reply A) (d : DeskValue) → IsWorld w → IsSiteOf (count w) s
     → serve_fault (desk w s) ≡ None → Serves (desk w s) reply d → WorldGoesOn w (with_desk w s d)
 serves_keep w s (Served ticket number) d is site none h =
@@ -134,7 +134,7 @@ told_waiting old new ticket (SaysSpent number) h = ap (λ (q : QueueValue). q.wa
 told_waiting old new ticket SaysExpired h = ap (λ (q : QueueValue). q.waiting) h.1
 told_waiting old new ticket Unknown h = ap (λ (q : QueueValue). q.waiting) h.2
 
--- an outcome is told
+-- an outcome is reported
 tells_keep : {A : Type 0} (w : WorldValue) (s ticket : ℕ) (reply : Reply A) (d : DeskValue) → IsWorld w
     → IsSiteOf (count w) s → TellsStatus (desk w s) ticket reply d → WorldGoesOn w (with_desk w s d)
 tells_keep w s ticket (Tells status) d is site h =

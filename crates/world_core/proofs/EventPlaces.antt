@@ -1,4 +1,4 @@
--- What is known of an event's place, where the world does not refuse it, and what the code reads and writes there.
+-- What is known of an event's place, if the world does not refuse it, and what the code reads and writes there.
 use Rattle.std.proofs.Common.{◌≡◌, ◌≢◌, ℕ, ◌+◌, Bool, true, false, cond, not, ◌&&◌, eqb, leb, List, get_or, set, Option, Some, None, arith, refl, sym, ap, ◌∙◌, subst}
 use Rattle.std.proofs.lemmas.List.{get_or_read}
 use Rattle.std.proofs.lemmas.Bool.{and_parts, leb-true, eq-eqb}

@@ -27,7 +27,7 @@ lists_nothing items (Some l) v e h = ap (λ es. Some es) (sym (h (items l)))
 pub some_is : {X : Type 0} (x y : X) → Some x ≡ Some y → x ≡ y
 some_is x y h = ap (λ o. unwrap_or o x) h
 
--- the copy of the entry e, where there is one
+-- the copy of the entry e, if there is one
 pub lists_copy : {A V : Type 0} (items : V → List EntryValue) (apart : Option V) (l : V) (new : List EntryValue) (copy e : EntryValue) (given : Option EntryValue) (v : BufferVerdict A)
     → apart ≡ Some l → given ≡ Some copy → (IsSome apart → given ≡ Some e) → new ≡ items l ++ copy ∷ [] → reached_after (items l) e v ≡ items l ++ e ∷ []
     → Some new ≡ option_map (λ x. reached_after (items x) e v) apart

@@ -47,7 +47,7 @@ sends_line A bytes there w s p n (Some m) line text packet before after same spe
           ∙ ap (λ x. there.packets ++ x ∷ []) made_of) ∙ ap (λ v. with_packet v sent) same;
     }
 
--- where there is no line, there is no message
+-- if there is no line, there is no message
 pub sends_none : (A : Type 0) {V : Type 0} (bytes : V → List ℕ) (w : WorldValue) (s p : ℕ) (m : Option MessageValue)
     → LineOf bytes m None → SendsIf {A = A} w s p m (Ok Nothing) w
 sends_none A bytes w s p None none = refl
@@ -103,7 +103,7 @@ pub record CanApply (d : DeskValue) (o : ℕ) (e : EntryValue) : Type 0 where
   pub unclosed : (peer d.ledger.book o).log.closed ≡ false
   pub next : e.prev ≡ (peer d.ledger.book o).log.end
 
--- the next entry goes on with what was applied, and that is what the desk's book stands for
+-- the next entry continues what was applied, which the desk's book represents
 pub can_apply : (w : WorldValue) (s o : ℕ) (e : EntryValue) → IsWorld w → IsSiteOf (count w) s → IsSiteOf (count w) o
     → s ≢ o → slice_get (put w s o) (length (applied w s o)) ≡ Some e → CanApply (desk w s) o e
 can_apply w s o e is here there other next =

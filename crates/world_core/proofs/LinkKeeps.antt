@@ -33,7 +33,7 @@ use Rattle.world_core.proofs.DeskKeeps.{LogsGoOn, link_goes_on, all_sent_go_on}
 pub same_lists : (old new : ℕ → List EntryValue) → ((o : ℕ) → new o ≡ old o) → new ≡ old
 same_lists old new same = λ i o. same o i
 
--- where no desk changed, each log goes on
+-- if no desk changed, each log stays or grows
 pub logs_stay : (old new : WorldValue) → IsWorld old → count new ≡ count old → ((o : ℕ) → log new o ≡ log old o)
     → LogsGoOn old new
 logs_stay old new is sites same = record {

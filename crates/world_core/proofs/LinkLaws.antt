@@ -25,7 +25,7 @@ use Rattle.world_core.proofs.IncomingLaws.{some_is}
 
 -- ---- what is put
 
--- what was put stays, and more comes behind it
+-- what was put stays, and more comes after it
 more_put : {A : Type 0} (put : List EntryValue) (v : BufferVerdict A) (freed : List EntryValue) → (more : List EntryValue) × (put_after put v ++ freed ≡ put ++ more)
 more_put put (Ready e) freed = (e ∷ freed, append_assoc put (e ∷ []) freed)
 more_put put Held freed = (freed, refl)
@@ -68,13 +68,13 @@ reached_apart items None (Some new) put later e v lists h = absurd (grind (arith
 reached_apart items (Some old) None put later e v lists h = absurd (grind (arith, lists))
 reached_apart items (Some old) (Some new) put later e v lists h = some_is (items new) (reached_after (items old) e v) lists
 
--- an entry e of the log es comes, which is not ahead where what reached the site is kept and nothing is listed apart
+-- an entry e of the log es comes, which is not ahead if what reached the site is kept and nothing is listed apart
 pub record Coming {A K : Type 0} (keeps : Bool) (es : List EntryValue) (i : Incoming A K) (e : EntryValue) : Type 0 where
   pub of_log : Contains es e
   pub follows : Follows es (reached_in keeps i) (put_in keeps i) i.inbound.buffer
   pub next : keeps ≡ true → i.apart ≡ None → e.prev ≤ i.inbound.buffer.last
 
--- the arrival where nothing is listed apart
+-- the arrival if nothing is listed apart
 arrival_in_order : {A K : Type 0} (es : List EntryValue) (old new : Incoming A K) (before after : List Verdict) (e : EntryValue) (v : BufferVerdict A) (freed : List EntryValue)
     → Coming true es old e → IncomingTakes old before e v freed new after → old.apart ≡ None → SettledArrival es old.put.items old.put.items e v freed old.inbound.buffer.told new.inbound.buffer
 arrival_in_order es old new before after e v freed c t none =
@@ -170,8 +170,8 @@ last_after es old new before after e v freed c t none =
 
 -- ---- entries, one after another
 
--- what becomes of a link from here becomes of it from the start: `rest` is still to come of `entries`, these verdicts
--- were told, and where nothing is listed apart, none of the rest is ahead
+-- what becomes of a link from here becomes of it from the start: `rest` is what is still to come of `entries`, these
+-- verdicts were returned, and if there is no separate list, none of the rest is ahead
 pub record GoesOn {A K : Type 0} (keeps : Bool) (es : List EntryValue) (start : LinkValue) (entries : List EntryValue) (i : Incoming A K) (applied : ℕ) (rest : List EntryValue) (list : List Verdict) : Type 0 where
   pub of_log : All (Contains es) rest
   pub follows : Follows es (reached_in keeps i) (put_in keeps i) i.inbound.buffer
@@ -257,7 +257,7 @@ slice_get-behind : (xs ys : List EntryValue) (n : ℕ) → slice_get (xs ++ ys) 
 slice_get-behind [] ys n = ap (λ k. slice_get ys k) (zero-add n)
 slice_get-behind (x ∷ xs) ys n = ap (λ k. slice_get (x ∷ (xs ++ ys)) k) (suc-add (length xs) n) ∙ slice_get-behind xs ys n
 
--- the next one is behind those that are gone and those that were applied
+-- the next one is after those that are gone and those that were applied
 pub next_is : {A K : Type 0} (keeps : Bool) (i : Incoming A K) (applied : ℕ) → applied ≤ length i.put.items
     → slice_get (put_in keeps i) (length (gone_in keeps i ++ take applied i.put.items)) ≡ slice_get i.put.items applied
 next_is keeps i applied within =

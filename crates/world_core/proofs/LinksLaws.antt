@@ -30,7 +30,7 @@ lends links now i o was l same at there read some =
           (set_site-index links i o (Some x) at));
     }
 
--- ---- where there is a link
+-- ---- if there is a link
 
 -- what is some is not none: as `is_some` tells it, and by what it is
 pub some_there : {X : Type 0} (x : Option X) → IsSome x → x ≢ None
@@ -43,7 +43,7 @@ is_there x y is none =
     let bad : Some y ≡ None = sym is ∙ none in
     absurd cc
 
--- where an entry is next, there is a link
+-- if an entry is next, there is a link
 pub next_there : (l : Option LinkValue)
     → IsSome (slice_get (list_of (λ x. x.put) l) (length (list_of (λ x. x.applied) l))) → l ≢ None
 next_there l h none =

@@ -49,9 +49,9 @@ pub native_append : (n s : ℕ) (log : List EntryValue) (applied : ℕ → List 
     → MayAppend n s log applied ms → All (NativeMove n) ms
 native_append n s log applied ms may = native_plains n ms may.plain may.within
 
--- ---- an entry that takes back
+-- ---- an entry that reclaims
 
--- a take back from a site of the system is
+-- a reclaim from a site of the system is
 pub native_taking : (n o amount : ℕ) → IsSiteOf n o → All (NativeMove n) (TakeBack o amount ∷ [])
 native_taking n o amount from =
     All-cons (NativeMove n) (TakeBack o amount) [] (rw (le-ltb n o from.1) refl) (All-nil (NativeMove n))

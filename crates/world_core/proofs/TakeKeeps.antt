@@ -1,4 +1,4 @@
--- A take keeps what is kept of a world: the site applies one more entry, and its desk may take back by it.
+-- A take keeps what is kept of a world: the site applies one more entry, and its desk may reclaim by it.
 use Rattle.std.proofs.Common.{◌≡◌, ◌≢◌, ℕ, Bool, true, false, cond, eqb, inl, inr, List, [], ◌∷◌, ◌++◌, length, map, Option, Some, None, Result, Ok, Err, refl, ap, sym, subst, ◌∙◌, arith, append-nil}
 use Rattle.std.specs.List.{slice_get}
 use Rattle.std.proofs.lemmas.Bool.{both_ways}
@@ -58,13 +58,13 @@ same_asker me o (x ∷ xs) m = same_asker me o xs (after_grant me o x m) ∙ one
     one (CloseAt f) = refl
     one (TakeBack k n) = refl
 
--- a take back leaves the sites
+-- a reclaim leaves the sites
 same_system : (none : Bool) (old : BookValue) (o n : ℕ) (new : BookValue) → TakesBackIf none old o n new
     → sites new ≡ sites old
 same_system true old o n new h = ap (λ (b : BookValue). sites b) h
 same_system false old o n new h = h.same_sites
 
--- a log with what was taken back from o
+-- a log with what was reclaimed from o
 native_taken : (n s o amount : ℕ) (none : Bool) (es : List EntryValue) → IsSiteOf n o → NativeLog n es
     → NativeLog n (es ++ map (entry_at_end s es) (cond none [] ((TakeBack o amount ∷ []) ∷ [])))
 native_taken n s o amount true es from before = subst (NativeLog n) (sym (append-nil es)) before
@@ -77,7 +77,7 @@ log_after : (w : WorldValue) (s o : ℕ) (e : EntryValue) (d : DeskValue) → Is
 log_after w s o e d is site h =
     ap (λ (l : LogValue). l.entries) h.entry.log ∙ ap (λ j. log w s ++ taking_back j o (log w s) e) (is.sites s site).me
 
--- the desk that applied an entry goes on
+-- the log of a desk that applied an entry stays or grows
 desk_applies : (w : WorldValue) (s o : ℕ) (e : EntryValue) (d : DeskValue) → IsWorld w → Ends w s o
     → DeskApplies (desk w s) o e d → DeskSound d → DeskGoesOn w s d
 desk_applies w s o e d is ends h sound =
