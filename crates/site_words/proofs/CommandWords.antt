@@ -252,7 +252,7 @@ behind_sim (word ∷ rest) = go (bytes_eq word (codes "--")) refl
 
 -- ---- all the words
 
--- what a level comes to behind its walk
+-- what a level comes to after its walk
 abbrev behind_walk : Walk → Kinds → Kinds
 behind_walk w walked_kinds = let a = built app in
     or_else walked_kinds (or_else (entered_fault a w.stopped) (or_else (settle_fault rules false w.held)

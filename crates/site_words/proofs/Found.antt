@@ -44,7 +44,7 @@ module _ {E : Type 0} (G : List ℕ → Result ℕ E → Type 0) (reads : (u : L
       go None is = subst Finds (sym (none is)) (λ n small has. differ (sym has.1 ∙ sym (one_text-rows f option) ∙ is))
       go (Some t) is = read_of t r is (value t is)
 
-  -- the same, where want of one refuses the words
+  -- the same, if lack of one refuses the words
   pub number_or_refused : (r : Option ℕ) → (one_text f option ≡ None → r ≡ None) → ((t : Text) → one_text f option ≡ Some t → ReadsOne G t r)
       → MatchResult (ok_or r Refused) (HasNumber (rows_of f) option)
       (λ fault. (fault ≡ Refused) × ((n : ℕ) → n < 2 ^ 64 → HasNumber (rows_of f) option n → ⊥))

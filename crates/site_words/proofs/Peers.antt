@@ -96,7 +96,7 @@ one_more words i site d within before here p k same lt named = elim (up_to i k l
 no_peer : Peer
 no_peer = record { site = 0; address = [] }
 
--- where no word names one of the others, no settings have these values
+-- if no word names one of the others, no settings have these values
 pub lacking : (id sites : ℕ) (listen : Text) (words : List Text) (options : Options) → Lacks id sites words
     → (s : Settings) → IsSettings s → HasValues id sites listen words options s → ⊥
 lacking id sites listen words options lacks s valid has =
