@@ -24,7 +24,7 @@ piece_none bytes at none =
     sym (ap pieces (sym (take-append-drop at bytes)) ∙ pieces_append [] (take at bytes) (drop at bytes)
     ∙ ap (λ (l : List (List ℕ)). pieces (take at bytes) ++ l) ((no_piece (unfinished (take at bytes)) (drop at bytes) none).0) ∙ append-nil (pieces (take at bytes)))
 
--- a line feed behind both changes nothing
+-- a line feed after both changes nothing
 same_test : (line text : List ℕ) → bytes_eq (line ++ 10 ∷ []) (text ++ 10 ∷ []) ≡ bytes_eq line text
 same_test line text =
     let both = bytes_eq-Decides (line ++ 10 ∷ []) (text ++ 10 ∷ []) in

@@ -34,7 +34,7 @@ below test (suc n) h k lt =
 own_place : (k : ℕ) → k < 15 → place_in (get_or refusal_names k []) ≡ k
 own_place k lt = eqb-true (place_in (get_or refusal_names k [])) k (below (λ i. place_in (get_or refusal_names i []) == i) 15 refl k lt)
 
--- what stands behind `error ` is a name
+-- what follows `error ` is a name
 pub same_name : (xs ys : List ℕ) → codes "error " ++ xs ≡ codes "error " ++ ys → xs ≡ ys
 same_name xs ys h = ap (drop 6) h
 

@@ -1,4 +1,4 @@
--- Lines with a line feed before each, and with one behind each.
+-- Lines with a line feed before each, and with one after each.
 use Rattle.std.proofs.Common.{◌≡◌, ℕ, List, [], ◌∷◌, ◌++◌, drop, map, refl, ap, ◌∙◌, sym, append_assoc, append-nil}
 use Rattle.std.specs.List.{flat_map, zip}
 use Rattle.std.proofs.lemmas.List.{flat_map_more}
@@ -134,7 +134,7 @@ module _ (name help kind : List ℕ) where
       ∙ ap (λ (t : List ℕ). head ++ t) (flat_map-map (λ (line : List ℕ). 10 ∷ line) (sample_line name) (by_name counts)
       ∙ flat_map-map (λ (s : Sample). 10 ∷ sample_line name s) name_sample (zip refusal_names counts))
 
-  -- .. put behind a text
+  -- .. put after a text
   module _ (text : List ℕ) where
     pub put_alone : (value : ℕ)
         → (text ++ head) ++ 10 ∷ sample_line name (record { labels = []; value = value }) ≡ text ++ led_lines (record { name = name; help = help; kind = kind; samples = alone value })
