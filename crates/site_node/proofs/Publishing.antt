@@ -26,7 +26,7 @@ within entries i message h =
       | inr past ↦ let none : None ≡ Some message = sym (ap (λ (o : Option EntryValue). option_map (λ e. AnEntry e) o) past.1) ∙ h in absurd cc
     ]
 
--- since the start so many entries were published
+-- this many entries were published since the start
 pub record Published (entries : List EntryValue) (peer sent : ℕ) (k : KeptValue) : Type 0 where
   pub sixteen : length k.desk.ledger.log.cursors ≡ MAX_SITES
   pub same : k.desk.ledger.log.entries ≡ entries

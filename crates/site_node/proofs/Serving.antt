@@ -7,7 +7,7 @@ use Rattle.site_core.specs.declared.fault.DeskError.{DeskError}
 use Rattle.apply_lanes.specs.Kepts.{KeptValue, SeatValue}
 use Rattle.site_node.specs.Ticking.{ServesNext, ServesEach, HasServedAll, ServesNextIf, ServesAll, ServingFails}
 
--- what is served from here on was served from the start on, behind the requests so far
+-- what is served from here on was served from the start on, after the requests so far
 pub record FromStart (start : KeptValue) (was : SeatValue) (so_far : List Request) (k : KeptValue) (half : SeatValue) : Type 0 where
   pub follows : (others : List Request) (new : KeptValue) (told : SeatValue) → ServesEach k half others new told
       → ServesEach start was (so_far ++ others) new told
