@@ -241,7 +241,8 @@ def lines_for_readme(found):
     sites, strong = (next(each for each in found if each.kind is kind) for kind in (Sites, Strong))
     local = [took for spends in sites.spends.values() for took in times(spends, SOLD)]
     far = [milliseconds(percentile(times(strong.spends[place], SOLD), 0.5)) for place in (2, 3)]
-    over = [(f"{each.phase.stock():,}", f"{sold_by(each) - each.phase.stock():,}") for each in found if each.kind is Weak][1:]
+    weak = [each for each in found if each.kind is Weak][1:]
+    over = [(f"{each.phase.stock():,}", f"{sold_by(each) - each.phase.stock():,}") for each in weak]
     return paragraph(
         f"Between two coasts and Europe a site sells what it holds in {milliseconds(percentile(local, 0.5))} ms (median), cut off "
         f"or not. With one Redis in the East, buyers elsewhere wait {far[0]} and {far[1]} ms, and a place that is cut off sells "
