@@ -80,8 +80,8 @@ class Site:
     ) -> None:
         """Starts the site, and returns once it listens. If it cannot, raises SiteEnded with the reason.
 
-        `peers` has the address of each other site by its number. `program` is the path of the program, or a list of words that
-        replaces it and its word `run`. `http`, `tick` (milliseconds), `once` and `log` are the options of
+        `peers` has the address of each other site by its number. `program` is the path of the program, or a list of
+        words that replaces it and its word `run`. `http`, `tick` (milliseconds), `once` and `log` are the options of
         these names. The standard error of the site goes to `errors`, an open file; without it, it is kept, and `said`
         reads it. `timeout` is how many seconds a reply may take: no command waits for another site, so a longer wait
         means that the process is stuck."""
