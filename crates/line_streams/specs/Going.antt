@@ -42,7 +42,7 @@ pub record Stopped {S : Type 0} (answers : Answering S) (start : S) (all : List 
   pub talked : Talked answers start lines state held now waits
   pub left : leaves state
 
--- a state that a handler without memory may have reached from this one
+-- after is state itself, or one that a handler in this state may be left in when it runs out of memory
 abbrev pub Fails : {S : Type 0} → (S → S → Type 0) → S → S → Type 0
 Fails fails after state = (after ≡ state) ⊎ fails state after
 

@@ -28,7 +28,7 @@ pub trait LineHandler {
     // reply if the line ends the conversation.
     ghost answers: { Self → List ℕ → Option (List ℕ) → Self → Type 0 };
 
-    // The second state is one that a handler in the first state may be left in, if it ran out of memory.
+    // A handler in the first state may be left in the second one if it runs out of memory.
     ghost fails: { Self → Self → Type 0 };
 
     /// Whether it can answer more lines. Called before each read, which may block.

@@ -22,8 +22,8 @@ abbrev pub count_of : Bool → ℕ
 count_of true = 1
 count_of false = 0
 
--- For a sink with this relation: it was offered a line, which found space or not, and became the sink of the last
--- argument.
+-- For a sink with this relation: `takes before line fits after` says that it was offered this line, which found space
+-- if `fits`, and changed from `before` to `after`.
 module _ {S : Type 0} (takes : S → List ℕ → Bool → S → Type 0) where
   -- this line was offered; sent is 1 if it found space, else 0
   pub record OffersLine (line : List ℕ) (before : S) (sent : ℕ) (after : S) : Type 0 where

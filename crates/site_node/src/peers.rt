@@ -10,11 +10,12 @@ pub trait Peers {
     /// How many peers there are, which never changes.
     ghost size: { Self → ℕ };
 
-    /// These peers, after the peer at this index was sent what is due and this many lines found space, became the
-    /// peers of the last argument.
+    /// `sends before index sent after`: the peer at this index was offered what is due to it, `sent` lines found space,
+    /// and the peers changed from `before` to `after`.
     ghost sends: { Self → ℕ → ℕ → Self → Type 0 };
 
-    /// These peers, after memory ran out at the peer at this index, became the peers of the last argument.
+    /// `stops before index after`: memory ran out at the peer at this index, and the peers changed from `before` to
+    /// `after`.
     ghost stops: { Self → ℕ → Self → Type 0 };
 
     fn count(&self) -> usize
