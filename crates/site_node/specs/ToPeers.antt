@@ -1,8 +1,8 @@
 -- What a tick sends to all peers.
 use Rattle.std.specs.Prelude.{◌≡◌, ℕ, ◌+◌, ◌<◌, suc, zero}
 
--- For peers with this relation: `sends before index sent after` says that the peer at this index was offered what is due
--- to it, `sent` lines found space, and the peers changed from `before` to `after`.
+-- For peers with this relation: `sends before index sent after` says that the peer at this index was offered what is
+-- due to it, `sent` lines found space, and the peers changed from `before` to `after`.
 module _ {P : Type 0} (sends : P → ℕ → ℕ → P → Type 0) where
   -- the first peers were sent what is due, one after another; this many lines found space in all
   abbrev pub SendsToFirst : ℕ → P → ℕ → P → Type 0

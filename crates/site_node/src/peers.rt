@@ -10,8 +10,8 @@ pub trait Peers {
     /// How many peers there are, which never changes.
     ghost size: { Self → ℕ };
 
-    /// `sends before index sent after`: the peer at this index was offered what is due to it, `sent` lines found space,
-    /// and the peers changed from `before` to `after`.
+    /// `sends before index sent after`: the peer at this index was offered what is due to it, `sent` lines found
+    /// space, and the peers changed from `before` to `after`.
     ghost sends: { Self → ℕ → ℕ → Self → Type 0 };
 
     /// `stops before index after`: memory ran out at the peer at this index, and the peers changed from `before` to
