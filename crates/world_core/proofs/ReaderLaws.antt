@@ -1,4 +1,4 @@
--- What the readers of a world say.
+-- The results of the readers of a world.
 use Rattle.std.proofs.Common.{◌≡◌, ℕ, suc, ◌+◌, ◌-◌, ◌*◌, ◌<◌, ◌≤◌, false, List, [], length, drop, get_or, Some, None, arith, refl, sym, ap, subst, ◌∙◌, add-one}
 use Rattle.std.proofs.lemmas.Bool.{ne_eqb}
 use Rattle.std.proofs.lemmas.Option.{slice_get_read}
@@ -72,7 +72,7 @@ none_held w s is past none =
 
 -- ---- rights in transit
 
--- what the desk of o gave to s has come there, is in transit, or was reclaimed
+-- what the desk of o gave to s was applied there, is in transit, or was reclaimed
 pub way_left : (w : WorldValue) (o s : ℕ) (d : DeskValue) → IsWorld w → IsSiteOf (count w) o → d ≡ desk w o
     → to s (moves_of d.ledger.log.entries) ≡ (to s (moves_of (applied w s o)) + on_way w o s) + back s (moves_of d.ledger.log.entries)
 way_left w o s d is among same =

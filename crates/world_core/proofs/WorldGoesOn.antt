@@ -34,7 +34,7 @@ refines_then old mid new first more =
 
 -- ---- lists that are kept
 
--- the protocol leads to the lists of the new world, and keeps them
+-- changes of the protocol lead to the lists of the new world, and preserve the invariant
 pub record Leads (old new : WorldValue) : Type 0 where
   pub kept : Kept (lists_of new)
   pub refines : Refines old new
@@ -42,7 +42,7 @@ pub record Leads (old new : WorldValue) : Type 0 where
 pub leads_nowhere : (w : WorldValue) → IsWorld w → Leads w w
 leads_nowhere w is = record { kept = is.kept; refines = ([], stay (lists_of w)) }
 
--- by one change more
+-- by one more change
 pub leads_on : (old mid new : WorldValue) (change : Change) → Leads old mid → Step (lists_of mid) change (lists_of new)
     → Leads old new
 leads_on old mid new change h step = record {
