@@ -14,7 +14,7 @@ take_over n xs ys h =
 pub take_under : (n : ℕ) (xs ys : List ℕ) → length xs ≤ n → length ys ≤ n - length xs → take n (xs ++ ys) ≡ xs ++ ys
 take_under n xs ys h k = take_over n xs ys h ∙ ap (λ (l : List ℕ). xs ++ l) (take_all (n - length xs) ys k)
 
--- what is cut off in between would be cut off in the end
+-- what is cut off in between would be cut off at the end
 pub carry_more : (n : ℕ) (front text : List ℕ) → take n (take n front ++ text) ≡ take n (front ++ text)
 carry_more n front text = elim (cases_lt (length front) n) [
   | inl few ↦ ap (λ (l : List ℕ). take n (l ++ text)) (take_all n front (omega arith))

@@ -1,4 +1,4 @@
--- What reading to the end comes to, and the last write.
+-- The result of reading to the end, and the last write.
 use Rattle.std.proofs.Common.{◌≡◌, ℕ, ◌+◌, ◌<◌, ◌≤◌, ◌⊎◌, inl, inr, List, [], ◌∷◌, ◌++◌, length, length-append, take, drop, refl, ap, ◌∙◌, sym, subst, arith, Option, Result, Ok, Err, append-nil, append_assoc, take-append-drop}
 use Rattle.std.specs.Io.KnownBytes.{Appends, Consumes}
 use Rattle.std.proofs.KnownBytes.{Appends-trans, Appends-nil, Consumes-nil, Consumes-trans}
@@ -33,7 +33,7 @@ all_lines input some = ap (λ (l : List (List ℕ)). pieces input ++ l) (last_so
 pub all_ended : (input : List ℕ) → unfinished input ≡ [] → lines_of input ≡ pieces input
 all_ended input none = ap (λ (l : List ℕ). pieces input ++ last_line l) none ∙ append-nil (pieces input)
 
--- an unfinished line is one line more
+-- an unfinished line is one more line
 pub last_counted : (input : List ℕ) → 0 < length (unfinished input) → length (lines_of input) ≡ length (pieces input) + 1
 last_counted input some = length-append (pieces input) (last_line (unfinished input)) ∙ ap (λ (n : ℕ). length (pieces input) + n) (one_last (unfinished input) some)
 

@@ -20,7 +20,7 @@ or_false : (a : Bool) → (a || false) ≡ a
 or_false true = refl
 or_false false = refl
 
--- an account is its sums
+-- an account has the sums of its log
 abbrev made : ℕ → ℕ → ℕ → ℕ → ℕ → Bool → Account
 made n i s g b c = record { end = n; issued = i; spent = s; given = g; back = b; closed = c }
 

@@ -1,4 +1,4 @@
--- How a caller meets what a book requires, by what its readers answer.
+-- How a caller meets the preconditions of a book, from what its readers return.
 use Rattle.std.proofs.Common.{◌≡◌, ◌≢◌, ℕ, zero, suc, ◌-◌, ◌≤◌, true, false, None, List, [], ◌∷◌, inl, inr, refl, arith}
 use Rattle.std.specs.List.{All, list_any}
 use Rattle.std.proofs.lemmas.Bool.{eq-eqb, ne_eqb, cases_lt, le-ltb}
@@ -27,7 +27,7 @@ nothing_back j [] is out = back-nil j
 nothing_back j (m ∷ ms) is out =
     omega (arith, back-cons j m ms, none_from j m (All-head IsMove m ms is) out, nothing_back j ms (All-tail IsMove m ms is) out)
 
--- what was tested at each site holds at each number
+-- what was checked at each site holds for each number
 pub back_left : (b : BookValue) (ms : List Move) → All IsMove ms → ((j : ℕ) → 1 ≤ j → j ≤ 16 → back j ms ≤ (peer b j).given - (peer b j).back)
     → (j : ℕ) → back j ms ≤ (peer b j).given - (peer b j).back
 back_left b ms is tested zero = omega (arith, nothing_back 0 ms is (λ s. omega (arith, s.0)))

@@ -36,7 +36,7 @@ asks_changed d m is same answered = record {
   answered = λ past h. answered past (is.answered past h);
 }
 
--- a plan by the book, which is that of the ledger, is one by the logs
+-- a plan by the book, which is that of the ledger, is a plan by the logs
 pub planned : (d : DeskValue) (b : BookValue) (count : ℕ) (new : ManagerValue) → IsDesk d → IsLedger d.ledger → b ≡ d.ledger.book
     → Plans d.manager (of_book b) (total_of d.queue.waiting) count new
     → ((log : List EntryValue) (applied : ℕ → List EntryValue) → StandsFor log applied b → sites b ≡ asked_sites d.manager

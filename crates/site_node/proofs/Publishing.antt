@@ -18,7 +18,7 @@ use Rattle.site_node.specs.Sending.{next_entry}
 abbrev pub cursor : KeptValue → ℕ → ℕ
 cursor k peer = at_site k.desk.ledger.log.cursors peer 0
 
--- one that is left is in the log
+-- an entry that is left is in the log
 within : (entries : List EntryValue) (i : ℕ) (message : MessageValue) → option_map (λ e. AnEntry e) (slice_get entries i) ≡ Some message → i < length entries
 within entries i message h =
     elim (slice_get_cases entries i).1 [

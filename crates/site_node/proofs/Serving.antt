@@ -15,7 +15,7 @@ pub record FromStart (start : KeptValue) (was : SeatValue) (so_far : List Reques
 pub at_start : (start : KeptValue) (was : SeatValue) → FromStart start was [] start was
 at_start start was = record { follows = λ others new told h. h }
 
--- .. with one request more
+-- .. with one more request
 pub one_more : (start : KeptValue) (was : SeatValue) (so_far : List Request) (k : KeptValue) (half : SeatValue) (request : Request) (mid : KeptValue) (more : SeatValue)
     → FromStart start was so_far k half → ServesNext k half request mid more → FromStart start was (so_far ++ request ∷ []) mid more
 one_more start was so_far k half request mid more from next = record {

@@ -1,4 +1,4 @@
--- What a client was told is what its seat counts.
+-- What a client was told equals what its seat counts.
 use Rattle.std.proofs.Common.{◌≡◌, ℕ, ◌+◌, inl, inr, List, [], ◌∷◌, Result, Ok, Err, ap, arith}
 use Rattle.std.proofs.lemmas.List.Sums.{sum_by-cons}
 use Rattle.std.specs.List.{sum_by}

@@ -1,4 +1,4 @@
--- The search for a place among entries in order.
+-- The search for a position among entries in order.
 use Rattle.std.proofs.Common.{◌≡◌, ◌≢◌, ℕ, ◌+◌, ◌<◌, ◌≤◌, List, inl, inr, length, get_or, take, arith, sym, subst}
 use Rattle.std.specs.List.{All}
 use Rattle.std.proofs.lemmas.Bool.{cases_eq, cases_lt}
@@ -7,7 +7,7 @@ use Rattle.rights_types.specs.Entries.{EntryValue}
 use Rattle.sub_buffer.specs.Buffers.{HasPrev, InOrder}
 use Rattle.sub_buffer.specs.Places.{IsPlace}
 
--- the place of n is from low to high
+-- the position of n is between low and high
 pub record IsWindow (n : ℕ) (es : List EntryValue) (low high : ℕ) : Type 0 where
   pub order : low ≤ high
   pub within : high ≤ length es

@@ -39,7 +39,7 @@ rights_left me k j p h =
     let left = first_and (not (eqb j me) && is_none p.outstanding && not (k.closed j) && ltb p.last_ask 1000000000) (ltb 0 (above_zero (k.known j))) eligible in
     ltb-true p.last_ask 1000000000 (last_and (not (eqb j me) && is_none p.outstanding && not (k.closed j)) (ltb p.last_ask 1000000000) left)
 
--- a site is no peer of its own
+-- a site is not its own peer
 own_rights : (me : ℕ) (k : Knowledge) (p : PeerAsks) → eligible_rights me k me p ≡ 0
 own_rights me k p =
     ap (λ (t : Bool). cond (not t && is_none p.outstanding && not (k.closed me) && ltb p.last_ask 1000000000 && ltb 0 (above_zero (k.known me))) (above_zero (k.known me)) 0)
@@ -192,7 +192,7 @@ planned_is m new k queued count is p =
 
 -- ---- the same plan by the logs
 
--- of the sites 1 to n the same is known
+-- the same is known of the sites 1 to n
 pub record SameKnowledge (n : ℕ) (x y : Knowledge) : Type 0 where
   pub known : (j : ℕ) → 1 ≤ j → j ≤ n → x.known j ≡ y.known j
   pub closed : (j : ℕ) → 1 ≤ j → j ≤ n → x.closed j ≡ y.closed j

@@ -1,4 +1,4 @@
--- Lists with an item for each site that are written from site 1 on, and sums over the sites so far.
+-- Lists with an item for each site, written from site 1 on, and sums over the first sites.
 use Rattle.std.proofs.Common.{◌≡◌, ℕ, suc, ◌+◌, ◌<◌, ◌≤◌, Bool, true, false, cond, eqb, zero, take, inl, inr, List, length, set, refl, sym, ap, ◌∙◌, subst, arith}
 use Rattle.std.proofs.lemmas.Bool.{cases_eq, ne_eqb}
 use Rattle.std.proofs.lemmas.List.{get_or-take}
