@@ -1,23 +1,23 @@
-"""How an application talks to a site over HTTP: any number of processes and threads sell from one site.
+"""A client of a site over HTTP. Any number of processes and threads can sell from one site.
 
     site = SiteClient("127.0.0.1:8001")
     site.ask("issue 100")                       # 'number 1'
-    site.ask(f"spend 3 {in_seconds(5)}")        # 'spent 2', or 'queued 1' where too little is held
-    site.wait(f"spend 3 {in_seconds(5)}")       # 'spent 3', or 'expired' where five seconds brought no rights
+    site.ask(f"spend 3 {in_seconds(5)}")        # 'spent 2', or 'queued 1' if too little is held
+    site.wait(f"spend 3 {in_seconds(5)}")       # 'spent 3', or 'expired' if no rights came within five seconds
     site.status()["held"]                       # 94
     site.close()
 
-The site was started with `--http` and `--tick`. It has the shape of the class in `rights_site.py`, which starts a site
-and owns its standard streams. Threads may share a client, which keeps some connections open, and a forked process
-makes its own. Nothing but Python's standard library is used.
+The site must have been started with `--http` and `--tick`. The calls are those of the class in `rights_site.py`, which
+starts a site and owns its standard streams. Threads may share a client, which keeps some connections open; a forked
+process makes connections of its own. Only Python's standard library is used.
 
-**What is tried again, and what is not.** A status or metrics are asked for again, since that changes nothing. Commands
-are sent again only where it is certain that the site did not carry them out: no connection was made, the request did
-not leave whole, or the site said 503 since all its places for clients were taken. Once the whole request has gone out
-and no answer comes, nobody here can tell whether the rights were spent and the answer got lost, or whether the
-request never arrived. To send it again would sell twice in the first case, so `AnswerLost` is raised, and the
-application decides: as a rule it counts the rights as spent, since then nothing is sold twice and at worst some rights
-are not sold. `spent` of the status tells the sum of what the site spent.
+**What is retried, and what is not.** Requests for the status or the metrics are retried, since they change nothing.
+Commands are sent again only if it is certain that the site did not carry them out: no connection was made, the request
+was not sent whole, or the site answered 503 because all its client connections were taken. If the whole request was
+sent and no answer comes, nobody on this side can tell whether the rights were spent and the answer got lost, or whether
+the request never arrived. Sending it again would sell twice in the first case. So `AnswerLost` is raised, and the
+application decides: usually it counts the rights as spent, since then nothing is sold twice, and at worst some rights
+are not sold. `spent` in the status is the total that the site spent.
 """
 
 from __future__ import annotations
@@ -42,15 +42,15 @@ SAMPLE = re.compile(r'^([a-z_]+)(?:\{[a-z]+="([^"]*)"\})? (\d+)$', re.MULTILINE)
 
 
 class SiteUnreachable(Exception):
-    """The site was not reached, or has no place for a further client. It carried nothing of this out."""
+    """The site was not reached, or has no free client connection. It carried out nothing."""
 
 
 class SiteRefused(Exception):
-    """The site refused the request as a whole, as one from a web page, or is no site. It carried nothing of this out."""
+    """The site refused the whole request, such as one from a web page, or is not a site. It carried out nothing."""
 
 
 class AnswerLost(Exception):
-    """The request went out and no answer came: whether its `commands` were carried out is not known."""
+    """The request was sent and no answer came. It is unknown whether its `commands` were carried out."""
 
     def __init__(self, cause: object, commands: list[str]) -> None:
         super().__init__(f"no answer came to {', '.join(map(repr, commands[:3]))}{' ..' * (len(commands) > 3)}: {cause}")
@@ -58,11 +58,11 @@ class AnswerLost(Exception):
 
 
 class NotSent(Exception):
-    """What happened before a request had left whole."""
+    """A failure before a request was sent whole."""
 
 
 def in_seconds(seconds: float) -> int:
-    """The deadline so many seconds from now, at a site that ticks by itself: in milliseconds since 1970."""
+    """The deadline this many seconds from now, in milliseconds since 1970, for a site that ticks by itself."""
     return int((time.time() + seconds) * 1000)
 
 
@@ -70,9 +70,9 @@ class SiteClient:
     """A client of one site, for any number of threads."""
 
     def __init__(self, address: str, *, connections: int = 8, timeout: float = 10.0, tries: int = 5) -> None:
-        """`address` is what the site's `--http` says, a host and a port. At most so many connections are open at a
-        time, of which a site has 63 for all its clients. `timeout` is how many seconds an answer may take, and `tries`
-        how often a request is tried that was not carried out."""
+        """`address` is that of the site's `--http`, a host and a port. At most `connections` are open at a time; a site
+        has 63 for all its clients. `timeout` is how many seconds an answer may take, and `tries` how often a request
+        is tried that was not carried out."""
         host, _, port = address.rpartition(":")
         self._host, self._port = host.strip("[]"), int(port)
         self._timeout, self._tries, self._connections = timeout, max(1, tries), connections
@@ -81,7 +81,7 @@ class SiteClient:
     # ---- commands
 
     def ask(self, command: str) -> str:
-        """Sends one command, and returns its reply without the line feed: `error NAME` where it is refused."""
+        """Sends one command, and returns its reply without the line feed: `error NAME` if it is refused."""
         return self.ask_all([command])[0]
 
     def ask_all(self, commands: Iterable[str]) -> list[str]:
@@ -90,12 +90,12 @@ class SiteClient:
         return self._post("/", list(commands), self._timeout).splitlines()
 
     def wait(self, command: str, timeout: float = 60.0) -> str:
-        """Sends one command. Where its reply would be `queued T`, waits for what becomes of the spend: `spent N`, or
-        `expired` after its deadline. `timeout` is how many seconds that may take: longer than until the deadline.
-        At the end of the site the reply is `queued T` all the same."""
+        """Sends one command. If its reply would be `queued T`, waits for the outcome of the spend: `spent N`, or
+        `expired` after its deadline. `timeout` is how many seconds that may take; it should exceed the time to the
+        deadline. If the site ends meanwhile, the reply is `queued T` after all."""
         return self._post("/wait", [command], timeout).rstrip("\n")
 
-    # ---- what the site says of itself
+    # ---- status and metrics
 
     def status(self) -> dict[str, Any]:
         """The status object."""
@@ -103,7 +103,7 @@ class SiteClient:
         return found
 
     def metrics(self) -> dict[str, int | dict[str, int]]:
-        """The metrics: a number by its name, or numbers by the value of their label, which is a peer or a refusal."""
+        """The metrics by name: a number, or numbers by the value of their label, which is a peer or a refusal."""
         found: dict[str, Any] = {}
         for name, label, value in SAMPLE.findall(self._get("/metrics")):
             if label:
@@ -151,7 +151,7 @@ class SiteClient:
         return self._repeat(once)
 
     def _repeat(self, once: Callable[[], str]) -> str:
-        """Does it again where it was certainly not carried out."""
+        """Tries again if the request was certainly not carried out."""
         for attempt in range(1, self._tries + 1):
             try:
                 return once()
@@ -162,7 +162,7 @@ class SiteClient:
         raise AssertionError
 
     def _exchange(self, method: str, target: str, body: bytes, timeout: float) -> str:
-        """One request and its answer. NotSent where it did not leave whole, or was turned away."""
+        """One request and its answer. NotSent if it was not sent whole, or was turned away."""
         if self._process != os.getpid():
             # The connections of the process that this one was forked from are not ours.
             self._renew()
@@ -177,7 +177,7 @@ class SiteClient:
     def _talk(self, connection: http.client.HTTPConnection, method: str, target: str, body: bytes, timeout: float) -> str:
         connection.sock.settimeout(timeout)
         try:
-            # A body with a length is carried out once its last byte has come, so half a request is none.
+            # A body with a length is carried out only once its last byte has come, so half a request has no effect.
             connection.request(method, target, body or None, {"content-type": "text/plain"} if body else {})
         except OSError as cause:
             raise NotSent(cause) from cause
@@ -206,7 +206,7 @@ class SiteClient:
         self._idle: list[tuple[http.client.HTTPConnection, float]] = []
 
     def _connect(self) -> http.client.HTTPConnection:
-        """A connection that stands, as far as can be known: one that was used before, or a new one."""
+        """A connection that is open as far as can be known: one that was used before, or a new one."""
         while (connection := self._take_idle()) is not None:
             if is_silent(connection.sock):
                 return connection
@@ -230,7 +230,7 @@ class SiteClient:
 
 
 def is_silent(stream: socket.socket) -> bool:
-    """Whether nothing came over an idle connection: else it has ended."""
+    """Whether an idle connection is silent. Otherwise it has ended."""
     watch = select.poll()
     watch.register(stream, select.POLLIN)
     return not watch.poll(0)

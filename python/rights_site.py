@@ -1,16 +1,17 @@
-"""How an application starts a site and talks to it: one process, a line in and a line out.
+"""Starts a site as a process and talks to it: one line in, one line out.
 
     with Site(1, sites=2, listen="127.0.0.1:7001", peers={2: "127.0.0.1:7002"}, once="site-1.started") as site:
         site.ask("issue 100")           # 'number 1'
-        site.ask("spend 3 10")          # 'spent 2', or 'queued 1' where too little is held
+        site.ask("spend 3 10")          # 'spent 2', or 'queued 1' if too little is held
         site.status()["held"]           # 97
         site.ask("tick 11")             # send what is due, serve what waits
 
-The log of a site is in memory, so a number is used once in the life of a system of sites: a site that ended, or whose
-machine was restarted, must not be started again under its number, or it sells its rights a second time. `once` names a
-file that prevents it.
+The log of a site is in memory, so each number is used only once in a system of sites: a site that has ended, or whose
+machine was restarted, must not be started again with its number, or it would sell its rights a second time. `once`
+names a file that prevents that.
 
-Threads may share a site. Several processes can't: for them, start the site with `http` and use `rights_http.py`. Nothing but Python's standard library is used, on systems that have `poll`.
+Threads may share a site, processes cannot: for them, start the site with `http` and use `rights_http.py`. Only Python's
+standard library is used, on systems that have `poll`.
 """
 
 from __future__ import annotations
@@ -32,22 +33,22 @@ BESIDE = os.path.normpath(os.path.join(os.path.dirname(os.path.abspath(__file__)
 NAME = "rights-site"
 PROGRAM = BESIDE if os.path.isfile(BESIDE) else shutil.which(NAME) or NAME
 
-# So many commands are on their way at a time.
+# Commands that are sent before their replies are read.
 AT_ONCE = 500
-# So many bytes a pipe takes without a wait where it takes any.
+# Bytes that a pipe takes without blocking, if it takes any.
 PIECE = select.PIPE_BUF
 
 
 class SiteEnded(Exception):
-    """The site's process ended, or did not start, and answers no more. It says what its last words were."""
+    """The site's process has ended, or did not start. The text has the last line of its standard error."""
 
 
 class SiteSilent(SiteEnded):
-    """The site did not answer in time. Whether it carried out the commands that it was sent is not known."""
+    """The site did not answer in time. It is unknown whether it carried out the commands that were sent."""
 
 
 def find_program() -> str:
-    """The path of the program: that of the repository around this file, or else the first one on the path."""
+    """The path of the program: the one in the repository of this file, or else the first one on the path."""
     if os.path.isfile(BESIDE):
         return BESIDE
     found = shutil.which(NAME)
@@ -77,13 +78,13 @@ class Site:
         errors: IO[Any] | int | None = None,
         timeout: float = 30.0,
     ) -> None:
-        """Starts the site, and returns once it listens. Where it can't, this raises SiteEnded with what it said.
+        """Starts the site, and returns once it listens. If it cannot, raises SiteEnded with the reason.
 
         `peers` has the address of each other site by its number. `program` is the path of the program, or a list of
-        words that stands for it and its word `run`. `http`, `tick` (milliseconds), `once` and `log` are the options of
-        these names. What the site says on its standard error goes to `errors`, an open file; without it, it is kept,
-        and `said` reads it. `timeout` is how many seconds a reply may take: no command waits for another site, so one
-        that takes longer means that the process is stuck."""
+        words that replaces it and its word `run`. `http`, `tick` (milliseconds), `once` and `log` are the options of
+        these names. The standard error of the site goes to `errors`, an open file; without it, it is kept, and `said`
+        reads it. `timeout` is how many seconds a reply may take: no command waits for another site, so a longer wait
+        means that the process is stuck."""
         words = list(program) if isinstance(program, (list, tuple)) else [program or find_program(), "run"]
         words += ["--id", str(number), "--sites", str(sites), "--listen", listen]
         for option, value in (("--http", http), ("--tick", tick), ("--once", once)):
@@ -113,7 +114,7 @@ class Site:
     # ---- commands
 
     def ask(self, command: str) -> str:
-        """Sends one command, and returns its reply without the line feed: `error NAME` where it is refused."""
+        """Sends one command, and returns its reply without the line feed: `error NAME` if it is refused."""
         return self.ask_all([command])[0]
 
     def ask_all(self, commands: Iterable[str]) -> list[str]:
@@ -134,8 +135,8 @@ class Site:
     # ---- the end
 
     def end(self, timeout: float = 5.0) -> int:
-        """Ends the site by `quit`, waits for it, and returns its exit status. What it holds is lost, so close it
-        before, and tick until its peers have applied that."""
+        """Ends the site by `quit`, waits for it, and returns its exit status. What it holds is lost, so close it first,
+        and tick until its peers have applied that."""
         with self._lock:
             with suppress(BrokenPipeError, ValueError):
                 self._input.write(b"quit\n")
@@ -143,12 +144,12 @@ class Site:
         return self.process.wait(timeout)
 
     def kill(self) -> None:
-        """Ends the process at once, as a machine that goes does."""
+        """Kills the process at once, as a machine failure would."""
         self.process.kill()
         self.process.wait()
 
     def said(self) -> str:
-        """What the site has said on its standard error, where that is kept."""
+        """What the site has written to its standard error, if that is kept."""
         if self._errors is None:
             return ""
         size = os.fstat(self._errors.fileno()).st_size
@@ -166,7 +167,7 @@ class Site:
     # ---- streams
 
     def _exchange(self, data: bytes, count: int) -> list[str]:
-        """Writes these bytes, and reads so many replies meanwhile: neither waits for the other."""
+        """Writes these bytes and reads this many replies at the same time, so neither side blocks the other."""
         if self._is_broken:
             raise SiteSilent(f"site {self.number}: it did not answer in time before, so its replies can't be told apart")
         replies: list[str] = []
@@ -185,7 +186,7 @@ class Site:
         return replies
 
     def _wait(self, is_writing: bool) -> bool:
-        """Waits until it can be written to, or read from: whether the former alone."""
+        """Waits until it can be written to or read from. Whether it can be written to, with nothing to read."""
         self._poll.register(self._output, select.POLLIN)
         if is_writing and not self._input.closed:
             self._poll.register(self._input, select.POLLOUT)
@@ -217,7 +218,7 @@ class Site:
         return f"; it said: {lines[-1]}" if lines else ""
 
     def _ended(self) -> SiteEnded:
-        # Its last words are there once it has ended.
+        # Its last line is complete once it has ended.
         with suppress(subprocess.TimeoutExpired):
             self.process.wait(1)
         return SiteEnded(f"site {self.number}: it ended{self._last_words()}")
@@ -233,7 +234,7 @@ def line_of(command: str) -> bytes:
 
 
 def main() -> None:
-    """An example: a site of two that sells ten tickets to four threads. The other site is not there."""
+    """An example: a site of two that sells ten tickets to four threads. The other site is absent."""
     folder = tempfile.TemporaryDirectory()
     once = os.path.join(folder.name, "site-1.started")
     with folder, Site(1, 2, "127.0.0.1:7001", {2: "127.0.0.1:7002"}, once=once) as site:

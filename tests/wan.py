@@ -33,14 +33,14 @@ from wan_systems import PLACES, REFUSED, ROUND_TRIPS, SOLD, UNANSWERED, Sites, S
 
 SYSTEMS = (Sites, Strong, Weak)
 DOCS = os.path.join(HERE, "..", "docs")
-# What stands between these in docs/PERFORMANCE.md is written by this program.
+# This program writes what is between these in docs/PERFORMANCE.md.
 BEGIN, END = "<!-- made by ./bench wan --write -->\n", "<!-- end of what ./bench wan made -->\n"
 # The place that is cut off, and after which part of the phase.
 AWAY, CUT_AFTER = 3, 0.25
 STOCK_HEAD = (
-    "phase", "", "stock", "sold", "oversold", "sold after a wait", "refused", "no answer in time", "taken, and nobody told"
+    "phase", "", "stock", "sold", "oversold", "sold after a wait", "refused", "no answer in time", "taken without an answer"
 )
-# Seconds after which it ends, whatever stands.
+# Seconds after which it ends in any case.
 LONGEST = 300
 # A spend that took longer, in milliseconds, waited for another place.
 WAITED = min(ROUND_TRIPS.values()) / 2
@@ -207,7 +207,7 @@ def report(found, lost, given):
         table(["phase", "", *places], [latency_row(each, given.seconds) for each in found]),
         paragraph(
             f"What became of the stock. A spend that waited took longer than {WAITED:.0f} ms; "
-            "beside a count stands the median of the time that it took:"
+            "after each count comes the median time that it took:"
         ),
         table(STOCK_HEAD, [stock_row(each) for each in found]),
         paragraph(after_the_cut(found) + " " + after_a_loss(lost, given)),
@@ -221,13 +221,13 @@ def paragraph(words):
 
 def after_the_cut(found):
     (each,) = [each for each in found if each.kind is Sites and each.phase.away]
-    return f"Once {PLACES[AWAY]} was back, all sites knew all that had been sold after {each.settled:.1f} seconds."
+    return f"Once {PLACES[AWAY]} was back, all sites knew of all sales after {each.settled:.1f} seconds."
 
 
 def after_a_loss(lost, given):
     """What `caught_up` found, in words."""
     places = ", and ".join(
-        f"{PLACES[place]} was {behind:,} entries behind and then made up for {rate:,.0f} a second"
+        f"{PLACES[place]} was {behind:,} entries behind and then caught up at {rate:,.0f} a second"
         for place, (behind, rate) in lost.items()
     )
     return (
@@ -241,12 +241,14 @@ def lines_for_readme(found):
     sites, strong = (next(each for each in found if each.kind is kind) for kind in (Sites, Strong))
     local = [took for spends in sites.spends.values() for took in times(spends, SOLD)]
     far = [milliseconds(percentile(times(strong.spends[place], SOLD), 0.5)) for place in (2, 3)]
-    over = [f"{sold_by(each) - each.phase.stock():,} of {each.phase.stock():,}" for each in found if each.kind is Weak][1:]
+    weak = [each for each in found if each.kind is Weak][1:]
+    over = [(f"{each.phase.stock():,}", f"{sold_by(each) - each.phase.stock():,}") for each in weak]
     return paragraph(
         f"Between two coasts and Europe a site sells what it holds in {milliseconds(percentile(local, 0.5))} ms (median), cut off "
-        f"or not. At one Redis in East buyers elsewhere wait {far[0]} and {far[1]} ms, and a place that is cut off sells nothing; "
-        f"counters that are added up later oversold {over[0]} units, and {over[1]} while a place was cut off "
-        "(`./bench wan`, [docs/PERFORMANCE.md](docs/PERFORMANCE.md#three-places-far-apart))."
+        f"or not. With one Redis in the East, buyers elsewhere wait {far[0]} and {far[1]} ms, and a place that is cut off sells "
+        f"nothing; counters that are added up later oversold a stock of {over[0][0]} units by {over[0][1]}, and one of "
+        f"{over[1][0]} by {over[1][1]} while a place was cut off "
+        "([how this was measured](docs/PERFORMANCE.md#three-places-far-apart))."
     )
 
 

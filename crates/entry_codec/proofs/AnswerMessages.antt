@@ -1,4 +1,4 @@
--- An answer and its parts: what is read is spelled so and keeps its limits, and what is spelled so is read.
+-- An answer and its parts: what is read is spelled so and within its limits, and what is spelled so is read.
 use Rattle.std.proofs.Common.{◌≡◌, ℕ, ◌+◌, ◌≤◌, ◌<◌, true, not, ltb, List, [], ◌∷◌, ◌++◌, length, take, map, Option, Some, None, Result, Ok, Err, refl, sym, ap, subst, ◌∙◌, arith, inl, inr, append_assoc}
 use Rattle.std.specs.Prelude.{◌==◌, decimal, codes, IfSome}
 use Rattle.std.specs.Borrow.{Bor}
@@ -165,7 +165,7 @@ regroup : (front : List EntryValue) (e : EntryValue) (read : Result (List EntryV
 regroup front e (Ok es) = ap (λ (x : List EntryValue). Ok x) (sym (append_assoc front (e ∷ []) es))
 regroup front e (Err f) = refl
 
--- so many entries are read, and the rest gives what the whole gives
+-- this many entries are read, and reading the rest gives the same result as the whole
 pub record AreReadUpTo (count : ℕ) (rest whole : Result (List EntryValue) LineError) : Type 0 where
   pub entries : List EntryValue
   pub count-is : length entries ≡ count

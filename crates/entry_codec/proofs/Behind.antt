@@ -1,4 +1,4 @@
--- Texts that stand one after the other, each behind a byte.
+-- Texts one after another, each preceded by a separator.
 use Rattle.std.proofs.Common.{◌≡◌, ℕ, suc, ◌+◌, ◌<◌, ◌≤◌, List, [], ◌∷◌, ◌++◌, length, take, drop, get_or, map, refl, sym, ap, ◌∙◌, arith, append_assoc, length-append}
 use Rattle.std.specs.Prelude.{decimal}
 use Rattle.std.specs.List.{join_with_byte}
@@ -33,7 +33,7 @@ one_more {A} sep text head xs i x lt is =
     ap (λ (t : List ℕ). head ++ t) (behind_more sep text xs i x lt ∙ ap (λ (y : A). so_far ++ sep ∷ text y) (sym is))
     ∙ sym (append_assoc head so_far (sep ∷ text x))
 
--- and the next text stands behind its byte
+-- and the next text follows its separator
 pub then_put : (before so_far next : List ℕ) (sep : ℕ) → ((before ++ so_far) ++ sep ∷ []) ++ next ≡ before ++ (so_far ++ sep ∷ next)
 then_put before so_far next sep = append_assoc (before ++ so_far) (sep ∷ []) next ∙ append_assoc before so_far (sep ∷ next)
 

@@ -1,4 +1,4 @@
--- Bytes that a text lacks, so that it is parted where it was joined.
+-- Bytes that a text does not contain, so that splitting undoes joining.
 use Rattle.std.proofs.Common.{◌≡◌, ℕ, ◌≤◌, ◌<◌, ◌^◌, false, eqb, List, [], ◌∷◌, get_or, map, refl, ap, ◌∙◌, arith, inl, inr}
 use Rattle.std.specs.Prelude.{◌⊎◌, decimal, codes}
 use Rattle.std.specs.List.{All, AllByRecursion, join_with_byte}
@@ -87,7 +87,7 @@ moves_lack c (m ∷ ms) out other h = (join_lacks c 58 (move_values m) other (va
 
 -- ---- parts
 
--- fields of which none has a byte that parts fields or parts, or ends a line
+-- fields that contain no separator and no line feed
 abbrev pub IsPart : List (List ℕ) → Type 0
 IsPart [] = ⊥
 IsPart (x ∷ xs) = (c : ℕ) → IsApart c → (58 ≡ c → ⊥) → AllByRecursion (Lacks c) (x ∷ xs)
@@ -173,7 +173,7 @@ parts_back : (parts : List (List (List ℕ))) → AllByRecursion IsPart parts �
 parts_back [] h = refl
 parts_back (p ∷ ps) h = rw (part_back p h.0, parts_back ps h.1) refl
 
--- a joined text is parted again
+-- splitting a joined text gives its items back
 pub all_back : (part : List (List ℕ)) (parts : List (List (List ℕ))) → AllByRecursion IsPart (part ∷ parts)
     → map (split_at 32) (split_at 59 (join_with_byte 59 (map part_text (part ∷ parts)))) ≡ part ∷ parts
 all_back part parts h =

@@ -43,7 +43,7 @@ digits_lack c ds out h k d lt =
     let digit = digit_at ds k h lt in
     rw (get_or_default ds k d 0 lt) (ne_eqb (get_or ds k 0) c (λ e. omega (arith, e, digit.0, digit.1, out)))
 
--- digits up to the byte that parts are the first part
+-- digits up to the separator are the first part
 pub parted : (text : List ℕ) (count at : ℕ) → count < length text → (at < 48) ⊎ (57 < at) → get_or text count 0 ≡ at → AllDigits 10 (take count text)
     → split_at at text ≡ take count text ∷ split_at at (take (length text - (count + 1)) (drop (count + 1) text))
 parted text count at lt out is digits =
@@ -93,7 +93,7 @@ begins_part at (x ∷ xs) (suc i) lt none =
       same = rest.same;
     }
 
--- before the byte at count and at it nothing parts the text
+-- up to and including the byte at count, there is no separator
 none_parts : (text : List ℕ) (count at : ℕ) → count < length text → (at < 48) ⊎ (57 < at) → AllDigits 10 (take count text) → (get_or text count 0 ≡ at → ⊥) → (k : ℕ) → k < count + 1 → eqb (get_or text k 0) at ≡ false
 none_parts text count at lt out digits other k h =
     elim (cases_lt k count) [
@@ -148,7 +148,7 @@ digit_parted text at d more out is-at small is =
     let first = digit_first text d (omega (arith, more)) small is in
     parted text 1 at more out is-at first.0 ∙ ap (λ (t : List ℕ). t ∷ split_at at (take (length text - 2) (drop 2 text))) first.1
 
--- what follows the digits, and parts nothing, makes the first part no number
+-- what follows the digits, and is not a separator, makes the first part no number
 pub bad_first : (low high at count n : ℕ) (text : List ℕ) → count < length text → count ≤ 19 → (at < 48) ⊎ (57 < at) → high < 10 ^ 19 → IsReadUpTo text count n → (get_or text count 0 ≡ at → ⊥)
     → (count < 19 → 10 ≤ digit_value (get_or text count 0)) → first_number low high (split_at at text) ≡ None
 bad_first low high at count n text lt few out top h other stop =

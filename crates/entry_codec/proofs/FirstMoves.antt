@@ -27,7 +27,7 @@ lacks_before c (x ∷ a) t g gs h e =
     slice_split-cons_no (λ b. eqb b c) x (a ++ t) (All-head (λ b. eqb b c ≡ false) x a h)
     ∙ ap (onto_first x) (lacks_before c a t g gs (All-tail (λ b. eqb b c ≡ false) x a h) e)
 
--- a text is its first part, and what a byte parts from it
+-- a text is its first part, and what a separator sets off from it
 tail_of : (c : ℕ) (t : List ℕ) (g : List ℕ) (gs : List (List ℕ)) → split_at c t ≡ g ∷ gs → (tail : List ℕ) × (t ≡ g ++ tail)
 tail_of c t g [] e = ([], sym (join_with_byte-slice_split c t) ∙ ap (join_with_byte c) e ∙ sym (append-nil g))
 tail_of c t g (y ∷ gs) e = (c ∷ join_with_byte c (y ∷ gs), sym (join_with_byte-slice_split c t) ∙ ap (join_with_byte c) e)
@@ -45,7 +45,7 @@ both_answers : (low high n : ℕ) (parts rest : List (List ℕ)) → parts ≡ d
 both_answers low high n parts rest e fits above below none =
     let found = sym none ∙ ap (first_number low high) e ∙ first_again low high n rest fits above below in absurd cc
 
--- where the text up to a colon spells no number, the first field has no further value behind such a number
+-- if the text up to a colon spells no number, the first field has no further value after such a number
 no_value : (low high : ℕ) (t g : List ℕ) (gs : List (List ℕ)) (x : ℕ × List (List ℕ)) → high < 10 ^ 19 → split_at 32 t ≡ g ∷ gs → first_number low high (split_at 58 t) ≡ None → first_number low high (split_at 58 g) ≡ Some x → x.1 ≡ []
 no_value low high t g gs x top e none found =
     elim (rest_cases x.1) [
@@ -287,7 +287,7 @@ some_move text m hs h =
     let is = move_before (move_of p.0) p.1 m hs (sym (ap first_move p.2) ∙ h) in
     (p.0, p.2 ∙ ap (λ (gs : List (List ℕ)). p.0 ∷ gs) is.1, is.0)
 
--- what is left has no field only where nothing is left
+-- what is left has no field only if nothing is left
 left_last : (rest : Option (Bor (List ℕ))) → is_none rest ≡ (length (left 32 rest) == 0)
 left_last None = refl
 left_last (Some t) = sym (ne_eqb (length (split_at 32 t.now)) 0 (λ e. omega (arith, e, some_parts 32 t.now)))

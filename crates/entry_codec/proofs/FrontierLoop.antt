@@ -50,7 +50,7 @@ or_true : (b : Bool) → (b || true) ≡ true
 or_true true = refl
 or_true false = refl
 
--- no frontier where a value is no number, or there are more than 16
+-- no frontier if a value is no number, or there are more than 16
 pub stops : (numbers : List ℕ) (count : ℕ) (text : List ℕ) (more rest whole : List (List ℕ)) → rest ≡ text ∷ more
     → number_of 0 1000000000 text ≡ None → IsReadUpTo numbers count rest whole → None ≡ frontier_in whole
 unfolding all_numbers frontier_in

@@ -136,7 +136,7 @@ reads_wants view (Err CountWrong) read h none = tt
 reads_wants view (Err TrailingBytes) read h none = tt
 reads_wants view (Err OutOfMemory) read h none = absurd (none h)
 
--- the code's test for further parts is that of the definition
+-- the code's test for further parts agrees with the definition
 pub no_others : (o : Option (Bor (List ℕ))) (r : Bool) → r ≡ is_some o → r ≡ false → map (split_at 32) (left 59 o) ≡ []
 no_others None r h k = refl
 no_others (Some x) r h k = absurd cc
@@ -198,7 +198,7 @@ reading_ended text short =
 pub reading_again : (m : MessageValue) → IsMessage m → reading (line m) ≡ Ok m
 reading_again m h = reading_ended (text_of m) (line_room m h) ∙ ap message_of (parts_again m h) ∙ message_again m h
 
--- a text that reads as one entry behind its letter is that message: it has no further part
+-- a text that reads as one entry after its letter is that message: it has no further part
 pub one_entry : (text fields : List ℕ) (e : EntryValue) → text ≡ 69 ∷ 32 ∷ fields → entry_of 0 (split_at 32 fields) ≡ Ok e → message_of (parts_in text) ≡ Ok (AnEntry e)
 one_entry text fields e is h =
     let found = entry_is 0 (split_at 32 fields) e h in
@@ -214,7 +214,7 @@ is_found view text (Err e) given = tt
 pub is_once : (m n : MessageValue) (text : List ℕ) → Spells m text → Spells n text → m ≡ n
 is_once m n text h k = ok_is m n (sym (reading_again m h.0) ∙ ap reading (sym h.1 ∙ k.1) ∙ reading_again n k.0)
 
--- where a text ends in its only line feed, nothing stands behind its first one
+-- if a text ends in its only line feed, nothing comes after its first one
 first_end : (a b rest : List ℕ) → Lacks 10 b → a ++ 10 ∷ rest ≡ b ++ 10 ∷ [] → rest ≡ []
 first_end [] [] rest h e = cc
 first_end [] (y ∷ b) rest h e =

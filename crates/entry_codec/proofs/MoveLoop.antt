@@ -39,7 +39,7 @@ regroup : (front : List Move) (m : Move) (read : Result (List Move) LineError) �
 regroup front m (Ok ms) = ap (λ (x : List Move). Ok x) (sym (append_assoc front (m ∷ []) ms))
 regroup front m (Err e) = refl
 
--- so many moves are read and kept, and the rest gives what the whole gives
+-- this many moves are read and kept, and reading the rest gives the same result as the whole
 pub record AreReadUpTo (kept : List Move) (count : ℕ) (rest whole : Result (List Move) LineError) : Type 0 where
   pub moves : List Move
   pub count-is : length moves ≡ count
@@ -80,7 +80,7 @@ unfolding moves_from
 all_read kept count origin part field rest whole e h =
     (h.moves, sym h.so_far ∙ rw e (ap (λ (x : List Move). Ok x) (append-nil h.moves)), h.count-is, h.are_kept)
 
--- the code's test for the last field is that of the definition
+-- the code's test for the last field agrees with the definition
 pub same_last : (r : Bool) (o : Option (Bor (List ℕ))) (b : Bool) → is_some o ≡ not r → is_none o ≡ b → r ≡ b
 same_last true None b h k = k
 same_last true (Some x) b h k = absurd cc

@@ -1,8 +1,8 @@
--- Pieces of a stream that came in parts, and of one part with no line feed or with one at its end.
+-- Pieces of a stream that arrived in parts, and of a part with no line feed or with one at its end.
 use Rattle.std.proofs.Common.{◌≡◌, ◌≢◌, ℕ, suc, ◌<◌, true, false, cond, eqb, List, [], ◌∷◌, ◌++◌, length, get_or, refl, ap, ◌∙◌, sym, ne_eqb, arith, append_assoc, append-nil}
 use Rattle.entry_codec.specs.Pieces.{pieces_after, rest_after}
 
--- the pieces of two parts are those of the first and, after what it left, those of the second
+-- the pieces of two parts are those of the first and, from its remainder on, those of the second
 pub pieces_append : (front xs ys : List ℕ) → pieces_after front (xs ++ ys) ≡ pieces_after front xs ++ pieces_after (rest_after front xs) ys
 pieces_append front [] ys = refl
 pieces_append front (x ∷ xs) ys =

@@ -18,7 +18,7 @@ use Rattle.entry_codec.specs.Reading.{place, fault_if, value_at, other_site_at, 
 use Rattle.entry_codec.proofs.MoveFields.{both_are, which}
 use Rattle.entry_codec.proofs.Entries.{bind_ok, ok_is, past, IsNoWant, bind_no_want, test_no_want, number_at_is, number_at_again, number_no_want}
 
--- the parts are those of the message, which keeps its limits
+-- the parts are those of the message, which is within its limits
 abbrev pub AreParts : List (List (List ℕ)) → MessageValue → Type 0
 AreParts parts m = (parts ≡ parts_of m) × IsMessage m
 
@@ -33,7 +33,7 @@ none_left fields others h =
 trails_no_want : (fields : List (List ℕ)) (others : List (List (List ℕ))) → IsNoWant (fault_if TrailingBytes (trails fields others))
 trails_no_want fields others = test_no_want TrailingBytes (trails fields others) (λ same. absurd cc)
 
--- the code's tests for what is left are those of the definition
+-- the code's tests for what is left agree with the definition
 pub some_left : (at : ℕ) (o : Option (Bor (List ℕ))) (r : Bool) → r ≡ is_some o → not (length (left at o) == 0) ≡ r
 some_left at None r h = sym h
 some_left at (Some text) r h = rw (ne_eqb (length (split_at at text.now)) 0 (λ z. omega (arith, z, some_parts at text.now))) (sym h)
@@ -228,7 +228,7 @@ pub hello_short : (s : ℕ) → IsMessage (AHello s) → short_of (codes "H") (d
 unfolding short_of
 hello_short s h = hello_again s h
 
--- ---- want of memory is no fault
+-- ---- lack of memory is no fault
 
 query_no_want : (fields : List (List ℕ)) (others : List (List (List ℕ))) → IsNoWant (query_of fields others)
 unfolding query_of

@@ -5,7 +5,7 @@ use Rattle.entry_codec.specs.Pieces.{pieces, unfinished}
 use Rattle.rights_types.specs.declared.limits.TheConstants.{MAX_LINE}
 use Rattle.entry_codec.specs.declared.format.TheConstants.{LINE_END}
 
--- what it has of the piece at work: its bytes, unless they are too many
+-- what it has of the current piece: its bytes, unless they are too many
 pub record CutterView : Type 0 where
   pub kept : List ℕ
   pub is_long : Bool
@@ -21,12 +21,12 @@ view_of piece = record {
   is_finished = ends_with_byte LINE_END piece;
 }
 
--- it took these bytes since the last piece that it gave
+-- it has taken these bytes since the last piece that it returned
 abbrev pub Holds : CutterView → List ℕ → Type 0
 Holds cutter piece = cutter ≡ view_of piece
 
--- it took this stream and gave these pieces of it, and has the one that waits, or the bytes behind
--- the last line feed
+-- it took this stream and returned these pieces of it; it has the finished one that waits, or the bytes after the last
+-- line feed
 abbrev pub IsFed : CutterView → List ℕ → List (List ℕ) → Type 0
 IsFed cutter stream given = (piece : List ℕ) × Holds cutter piece
     × (pieces stream ≡ given ++ (if cutter.is_finished then piece ∷ [] else []))

@@ -1,4 +1,4 @@
--- The causes for which a line is refused, counted in the order in which they are looked for.
+-- The causes for which a line is refused, in the order in which they are checked.
 use Rattle.std.specs.Prelude.{ℕ}
 use Rattle.entry_codec.specs.declared.fault.LineError.{LineError}
 use Rattle.entry_codec.specs.declared.fault.LineError.TheVariants.{TooLong, NoEnd, BadKind, BadField, BadMove, CountWrong, TrailingBytes, OutOfMemory}

@@ -1,4 +1,4 @@
--- Moves that were read, of which sixteen slots keep the first.
+-- Moves that were read, of which the slots keep the first ones.
 use Rattle.std.specs.Prelude.{◌≡◌, ℕ, List, ◌∷◌, length, take, ◌==◌, Option, Some, None, Result, Ok, Err}
 use Rattle.std.specs.Borrow.{Bor}
 use Rattle.rights_types.specs.declared.moves.Move.{Move}
@@ -17,13 +17,13 @@ kept_entry origin prev count kept = record { origin = origin; prev = prev; moves
 abbrev pub AreKept : List Move → List Move → Type 0
 AreKept moves kept = take MAX_MOVES moves ≡ take (length moves) (take MAX_MOVES kept)
 
--- the answer is what comes after the first field, whose move is in the slot
+-- the result is what comes after the first field, whose move is in the slot
 abbrev pub FindsMove : Move → Option (Option (Bor (List ℕ)))
     → Option (Move × List (List ℕ)) → Type 0
 FindsMove slot (Some rest) read = read ≡ Some (slot, left FIELD_BREAK rest)
 FindsMove slot None read = read ≡ None
 
--- the same, for a field whose move may stand in an entry of this origin
+-- the same, for a field whose move an entry of this origin may have there
 abbrev pub ReadsMove : LineError → ℕ → Move → Result (Option (Bor (List ℕ))) LineError
     → List (List ℕ) → Type 0
 ReadsMove fault origin slot (Ok rest) fields =
@@ -33,13 +33,13 @@ ReadsMove fault origin slot (Err e) fields =
     (text : List ℕ) × (rest : List (List ℕ)) × (fields ≡ text ∷ rest)
     × (allowed fault origin (length rest == 0) (move_of text) ≡ Err e)
 
--- the answer is how many moves reading gives
+-- the result is the number of moves that reading gives
 abbrev pub ReadsMoves : List Move → Result ℕ LineError → Result (List Move) LineError → Type 0
 ReadsMoves kept (Ok count) read =
     (moves : List Move) × (read ≡ Ok moves) × (length moves ≡ count) × AreKept moves kept
 ReadsMoves kept (Err e) read = read ≡ Err e
 
--- the answer is how many entries reading gives
+-- the result is the number of entries that reading gives
 abbrev pub CountsEntries : Result ℕ LineError → Result (List EntryValue) LineError → Type 0
 CountsEntries (Ok count) read =
     (entries : List EntryValue) × (read ≡ Ok entries) × (length entries ≡ count)

@@ -1,4 +1,4 @@
--- Reading a move from its field, whose values colons part: a letter, and numbers in their ranges.
+-- Reading a move from its field, which is a letter and numbers in their ranges, separated by colons.
 use Rattle.std.specs.Prelude.{ℕ, ◌&&◌, ◌||◌, not, List, [], ◌∷◌, length, Option, Some, None, nat_lt, ◌==◌, if◌then◌else◌, decimal}
 use Rattle.std.specs.Str.{bytes_eq}
 use Rattle.std.specs.Str.Parse.{digits_value}

@@ -1,4 +1,4 @@
--- The parts of a text, and what code that walks them answers.
+-- The parts of a text, and the results of code that walks over them.
 use Rattle.std.specs.Prelude.{◌≡◌, ℕ, List, [], map, Option, Some, None, Result, Ok, Err, ◌==◌}
 use Rattle.std.specs.List.{slice_split}
 use Rattle.std.specs.Borrow.{Bor}
@@ -6,7 +6,7 @@ use Rattle.entry_codec.specs.declared.fault.LineError.{LineError}
 use Rattle.entry_codec.specs.declared.fault.LineError.TheVariants.{OutOfMemory}
 use Rattle.entry_codec.specs.declared.format.TheConstants.{FIELD_BREAK, PART_BREAK, VALUE_BREAK}
 
--- the parts of a text, which a byte parts
+-- the parts of a text that a byte separates
 abbrev pub split_at : ℕ → List ℕ → List (List ℕ)
 split_at at text = slice_split (λ b. b == at) text
 
@@ -29,7 +29,7 @@ values_left rest = left VALUE_BREAK rest
 abbrev pub parts_left : Option (Bor (List ℕ)) → List (List (List ℕ))
 parts_left rest = map (split_at FIELD_BREAK) (left PART_BREAK rest)
 
--- what a call that takes no memory answers, seen by view, is what reading gives
+-- the result of a call that never allocates, seen by view, is what reading gives
 abbrev pub Finds : {X Y : Type 0} → (X → Y) → Option X → Option Y → Type 0
 Finds view (Some x) read = read ≡ Some (view x)
 Finds view None read = read ≡ None
@@ -38,14 +38,13 @@ abbrev pub ReadsAs : {X Y : Type 0} → (X → Y) → Result X LineError → Res
 ReadsAs view (Ok x) read = read ≡ Ok (view x)
 ReadsAs view (Err e) read = read ≡ Err e
 
--- what a call answers, seen by view, is what reading gives; want of memory comes only where reading
--- gives a value
+-- the result of a call, seen by view, is what reading gives; lack of memory is possible only if reading gives a value
 abbrev pub Gives : {X Y : Type 0} → (X → Y) → Result X LineError → Result Y LineError → Type 0
 Gives view (Ok x) read = read ≡ Ok (view x)
 Gives {X} {Y} view (Err OutOfMemory) read = (y : Y) × (read ≡ Ok y)
 Gives view (Err e) read = read ≡ Err e
 
--- what a call answers that gives up where memory is refused, so that a fault may be hidden
+-- the result of a call that stops if memory is refused, so that it may miss a fault
 abbrev pub Tells : {X Y : Type 0} → (X → Y) → Result X LineError → Result Y LineError → Type 0
 Tells view (Ok x) read = read ≡ Ok (view x)
 Tells view (Err OutOfMemory) read = Unit {0}

@@ -1,5 +1,4 @@
--- Reading a line from left to right. The order of the steps is the order in which faults are looked
--- for.
+-- Reading a line from left to right. The order of the steps is the order in which faults are checked.
 use Rattle.std.specs.Prelude.{◌≡◌, ℕ, ◌+◌, ◌-◌, Bool, true, false, ◌&&◌, ◌||◌, not, List, [], ◌∷◌, length, take, Option, Some, None, Result, Ok, Err, nat_lt, ◌==◌, if◌then◌else◌, slice_index}
 use Rattle.rights_types.specs.declared.moves.Move.{Move}
 use Rattle.rights_types.specs.Moves.{is_close, names, lacks_own_place}
@@ -28,7 +27,7 @@ abbrev pub or_fault : {A : Type 0} → LineError → Option A → Result A LineE
 or_fault e None = Err e
 or_fault e (Some x) = Ok x
 
--- no fault where the test fails
+-- a fault if the test is true
 abbrev pub fault_if : LineError → Bool → Result (Unit {0}) LineError
 fault_if e b = if b then Err e else Ok tt
 
@@ -36,7 +35,7 @@ fault_if e b = if b then Err e else Ok tt
 unfoldable pub value_at : ℕ → ℕ → Place → List (List ℕ) → Result (ℕ × List (List ℕ)) LineError
 value_at low high at fields = or_fault (BadField at) (first_number low high fields)
 
--- a fixed field by what it spells
+-- a fixed field, by what it must spell
 abbrev pub site_at : Place → List (List ℕ) → Result (ℕ × List (List ℕ)) LineError
 site_at at fields = value_at 1 MAX_SITES at fields
 
@@ -49,7 +48,7 @@ ask_at at fields = value_at 1 MAX_ASK at fields
 abbrev pub amount_at : Place → List (List ℕ) → Result (ℕ × List (List ℕ)) LineError
 amount_at at fields = value_at 1 MAX_AMOUNT at fields
 
--- a move that names its origin, lacks its own place, or closes before the last field
+-- a move that names its origin, lacks the origin's own position, or closes before the last field
 abbrev pub is_misplaced : ℕ → Bool → Move → Bool
 is_misplaced origin last m = names origin m || lacks_own_place origin m || (is_close m && not last)
 
@@ -65,11 +64,11 @@ moves_from origin part field (text ∷ rest) = do
   ms ← moves_from origin part (field + 1) rest
   Ok (m ∷ ms)
 
--- no move, more than 16, or an own number that they do not lead to
+-- no move, more than 16, or an own number that is not the previous one plus their count
 abbrev pub is_miscounted : ℕ → ℕ → ℕ → Bool
 is_miscounted prev own count = count == 0 || nat_lt MAX_MOVES count || not (own == prev + count)
 
--- an entry of this origin, from the field behind the origin on
+-- an entry of this origin, from the field after the origin on
 unfoldable pub entry_after : ℕ → ℕ → List (List ℕ) → Result EntryValue LineError
 entry_after part origin fields = do
   prev ← number_at (place part 2) fields
@@ -78,7 +77,7 @@ entry_after part origin fields = do
   counted ← fault_if CountWrong (is_miscounted prev.0 own.0 (length moves))
   Ok (record { origin = origin; prev = prev.0; moves = moves })
 
--- an entry, from the field behind its letter on
+-- an entry, from the field after its letter on
 unfoldable pub entry_of : ℕ → List (List ℕ) → Result EntryValue LineError
 entry_of part fields = do
   origin ← site_at (place part 1) fields
@@ -107,7 +106,7 @@ other_site_at other at fields = do
   same ← fault_if (BadField at) (site.0 == other)
   Ok site
 
--- the two sites of an answer, which its first part has alone
+-- the two sites of an answer, which are all of its first part
 unfoldable pub answer_sites_of : List (List ℕ) → Result (ℕ × ℕ) LineError
 answer_sites_of fields = do
   origin ← site_at (place 0 1) fields
@@ -115,7 +114,7 @@ answer_sites_of fields = do
   alone ← fault_if TrailingBytes (not (length asker.1 == 0))
   Ok (origin.0, asker.0)
 
--- the entries of an answer of this origin: each in turn, and last their count
+-- the entries of an answer of this origin: each in turn, and then their count
 unfoldable pub answer_entries_of : ℕ → List (List (List ℕ)) → Result (List EntryValue) LineError
 answer_entries_of origin parts = do
   entries ← entries_of 1 origin parts
@@ -126,7 +125,7 @@ answer_entries_of origin parts = do
 abbrev pub trails : List (List ℕ) → List (List (List ℕ)) → Bool
 trails fields others = not (length fields == 0) || not (length others == 0)
 
--- each kind of message, by the fields behind its letter and by its further parts
+-- each kind of message, by the fields after its letter and by its further parts
 unfoldable pub push_of : List (List ℕ) → List (List (List ℕ)) → Result MessageValue LineError
 push_of fields others = do
   e ← entry_of 0 fields
@@ -207,13 +206,13 @@ reading line = do
   ended ← fault_if NoEnd (not (is_ended line))
   message_of (parts_in (take (length line - 1) line))
 
--- a message that has entries: no other takes memory
+-- a message that has entries: no other message takes memory
 abbrev pub has_entries : MessageValue → Bool
 has_entries (AnEntry e) = true
 has_entries (AnAnswer a) = true
 has_entries m = false
 
--- want of memory is answered of a message that has entries alone
+-- lack of memory is reported only for a message that has entries
 abbrev pub WantsRoom : {X : Type 0} → Result X LineError → Result MessageValue LineError → Type 0
 WantsRoom (Err OutOfMemory) read = (m : MessageValue) × (read ≡ Ok m) × (has_entries m ≡ true)
 WantsRoom result read = Unit {0}

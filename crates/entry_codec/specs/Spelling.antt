@@ -1,5 +1,4 @@
--- The one spelling of each message: parts parted by `;`, each of fields parted by spaces, and a
--- line feed.
+-- The one spelling of each message: parts separated by `;`, each of fields separated by spaces, and a line feed.
 use Rattle.std.specs.Prelude.{◌≡◌, ℕ, List, [], ◌∷◌, ◌++◌, map, decimal}
 use Rattle.std.specs.List.{join_with_byte}
 use Rattle.rights_types.specs.declared.moves.Move.{Move}
@@ -10,7 +9,7 @@ use Rattle.rights_types.specs.Messages.MessageValue.{AnEntry, AQuery, AnAnswer, 
 use Rattle.entry_codec.specs.declared.format.TheConstants.{ANSWER_LETTER, ASK_LETTER, BEAT_LETTER, CLOSE_AT_LETTER, CLOSE_LETTER, DENIAL_LETTER, ENTRY_LETTER, FIELD_BREAK, GIVE_LETTER, GRANT_LETTER, HELLO_LETTER, ISSUE_LETTER, LINE_END, PART_BREAK, QUERY_LETTER, SPEND_LETTER, TAKE_BACK_LETTER, VALUE_BREAK}
 use Rattle.entry_codec.specs.Letters.{one_letter}
 
--- a move's letter and values, which colons part
+-- a move's letter and values, which colons separate
 abbrev pub move_values : Move → List (List ℕ)
 move_values (Issue n) = one_letter ISSUE_LETTER ∷ decimal n ∷ []
 move_values (Spend n) = one_letter SPEND_LETTER ∷ decimal n ∷ []
@@ -23,7 +22,7 @@ move_values (TakeBack j n) = one_letter TAKE_BACK_LETTER ∷ decimal j ∷ decim
 abbrev pub move_text : Move → List ℕ
 move_text m = join_with_byte VALUE_BREAK (move_values m)
 
--- what stands before an entry's moves
+-- the fields before an entry's moves
 abbrev pub head_fields : EntryValue → List (List ℕ)
 head_fields e = one_letter ENTRY_LETTER ∷ decimal e.origin ∷ decimal e.prev ∷ decimal (own e) ∷ []
 

@@ -1,4 +1,4 @@
--- The parts of a line's text that are written one after the other.
+-- The texts of a line's parts, as they are written one after another.
 use Rattle.std.specs.Prelude.{ℕ, Bool, true, false, not, ◌==◌, List, [], ◌∷◌, ◌++◌, flat_map, decimal}
 use Rattle.rights_types.specs.Entries.{EntryValue}
 use Rattle.rights_types.specs.Messages.{AnswerValue}
@@ -6,7 +6,7 @@ use Rattle.entry_codec.specs.Spelling.{move_text, part_text, head_fields, answer
 use Rattle.entry_codec.specs.declared.format.TheConstants.{CLOSE_AT_LETTER, FIELD_BREAK, PART_BREAK, VALUE_BREAK}
 use Rattle.entry_codec.specs.Letters.{one_letter}
 
--- what each further part adds to a text, behind a byte
+-- the text of each item, each after a separator
 abbrev pub behind : {A : Type 0} → ℕ → (A → List ℕ) → List A → List ℕ
 behind at text xs = flat_map (λ x. at ∷ text x) xs
 
@@ -25,7 +25,7 @@ answer_head a = part_text (answer_fields a)
 abbrev pub answer_text : AnswerValue → List ℕ
 answer_text a = answer_head a ++ behind PART_BREAK entry_text a.entries
 
--- digits that some number has: at least one, and no leading zero but in `0`
+-- digits that some number has: at least one, and no leading zero except in `0`
 abbrev pub is_canonical : List ℕ → Bool
 is_canonical [] = false
 is_canonical (x ∷ []) = true

@@ -30,7 +30,7 @@ fn sites_in(fields: Option<&[u8]>) -> Result<(u64, u64), LineError>
     Ok((origin, asker))
 }
 
-// Reads the entries without memory, and answers how many there are.
+// Checks the entries without allocating, and returns how many there are.
 fn entry_count(origin: u64, parts: Option<&[u8]>) -> Result<usize, LineError>
     requires site { IsSite origin }
     requires short { IfSome parts (λ text. length text.now ≤ MAX_LINE) }
@@ -48,7 +48,7 @@ fn entry_count(origin: u64, parts: Option<&[u8]>) -> Result<usize, LineError>
     Ok(count)
 }
 
-// Past the last place an entry is dropped: the answer has too many.
+// Drops an entry beyond the last slot: the answer has too many.
 fn add_entry<A: Allocator + Copy>(
     alloc: A,
     entries: &mut Vec<Entry<A>, A>,
@@ -68,7 +68,7 @@ fn add_entry<A: Allocator + Copy>(
     Ok(())
 }
 
-// Room for the most entries that an answer has, where there are any.
+// Space for the most entries that an answer has, if there are any.
 fn no_entries<A: Allocator + Copy>(alloc: A, are_any: bool) -> Result<Vec<Entry<A>, A>, OutOfMemory>
     ensures { IfOk result (λ entries. entries.items ≡ []) }
 {
@@ -76,7 +76,7 @@ fn no_entries<A: Allocator + Copy>(alloc: A, are_any: bool) -> Result<Vec<Entry<
     Ok(Vec::with_capacity(alloc, room)?)
 }
 
-// Reads the entries and gives up where memory is refused.
+// Reads the entries. It stops if memory is refused, so it may miss a later fault.
 fn built_entries<A: Allocator + Copy>(
     alloc: A,
     origin: u64,
@@ -103,7 +103,7 @@ fn built_entries<A: Allocator + Copy>(
     Ok(entries)
 }
 
-// What refuses the entries where memory is refused: a fault, if there is one.
+// The error of entries for which memory was refused: their first fault, if there is one.
 fn refusal(origin: u64, parts: Option<&[u8]>) -> LineError
     requires site { IsSite origin }
     requires short { IfSome parts (λ text. length text.now ≤ MAX_LINE) }
@@ -138,7 +138,7 @@ fn entries_in<A: Allocator + Copy>(
     }
 }
 
-/// Reads an answer from the field behind its letter on, and from its further parts.
+/// Reads an answer, from the field after its letter on, and its further parts.
 pub(crate) fn answer_in<A: Allocator + Copy>(
     alloc: A,
     fields: Option<&[u8]>,

@@ -1,4 +1,4 @@
-//! Cutting a stream into its pieces, each of which ends in its first line feed.
+//! Splits a stream into its pieces, each of which ends in its first line feed.
 ghost use Rattle.std.specs.Prelude.{◌≡◌, ℕ, ◌<◌, ◌≤◌, ◌↔◌, false, List, [], ◌++◌, length, take, IsTrue, IfOk, OnErr, IfSome, IfNone, if◌then◌else◌};
 ghost use Rattle.std.specs.Io.BufRead.{take_through};
 ghost use Rattle.entry_codec.specs.Pieces.{unfinished};
@@ -20,7 +20,7 @@ pub enum Cut<A: Allocator = Global> {
     Long,
 }
 
-/// Takes the bytes of a stream, and gives its pieces.
+/// Takes the bytes of a stream, and returns its pieces.
 #[derive(Drop)]
 pub struct LineCutter<A: Allocator = Global> {
     room: Vec<u8, A>,
@@ -44,7 +44,7 @@ impl<A: Allocator> Model for LineCutter<A> {
     ghost invariant = { λ c. (vec_len c.room ≤ MAX_LINE) × (MAX_LINE ≤ vec_capacity c.room) };
 }
 
-// How many bytes there are up to the first line feed, that with them, or in all.
+// The number of bytes up to and including the first line feed; all of them, if there is none.
 fn count_through(bytes: &[u8]) -> usize
     ensures count { result ≡ length (take_through LINE_END bytes.now) }
     ensures within { result ≤ length bytes.now }
@@ -56,7 +56,7 @@ fn count_through(bytes: &[u8]) -> usize
 }
 
 impl<A: Allocator + Copy> LineCutter<A> {
-    /// A cutter that took nothing. Its room is made here, once.
+    /// A cutter that has taken nothing. It allocates its buffer, once. `OutOfMemory` if that is refused.
     pub fn new(alloc: A) -> Result<LineCutter<A>, OutOfMemory>
         ensures empty { IfOk result (λ cutter. cutter ≡ view_of []) }
         ensures fed { IfOk result (λ cutter. IsFed cutter [] []) }
@@ -68,8 +68,8 @@ impl<A: Allocator + Copy> LineCutter<A> {
         })
     }
 
-    /// Takes bytes up to the first line feed, and none where a finished line waits. It answers how
-    /// many it took.
+    /// Takes bytes up to and including the first line feed, and none if a finished line waits. Returns how many it
+    /// took.
     pub fn push(&mut self, bytes: &[u8]) -> usize
         ensures count { result
             ≡ (if self.old.is_finished then 0 else length (take_through LINE_END bytes.now)) }
@@ -100,7 +100,7 @@ impl<A: Allocator + Copy> LineCutter<A> {
         count
     }
 
-    /// Whether bytes came behind the last line feed, even too many to be kept.
+    /// Whether any bytes came after the last line feed, even if they were too many to keep.
     pub fn unfinished(&self) -> bool
         ensures piece { (piece : List ℕ) → Holds self.now piece → self.now.is_finished ≡ false
             → (IsTrue result ↔ (0 < length piece)) }
@@ -111,7 +111,7 @@ impl<A: Allocator + Copy> LineCutter<A> {
         !self.is_finished && (self.is_long || !self.room.is_empty())
     }
 
-    /// Gives the piece that waits, if one does. Where memory is refused it still waits.
+    /// Returns the piece that waits, if there is one. On `OutOfMemory` it still waits.
     pub fn next_line(&mut self) -> Result<Option<Cut<A>>, OutOfMemory>
         ensures cut { IfOk result (λ cut. IfSome cut (λ cut.
             IsTrue self.old.is_finished × (self.new ≡ view_of [])

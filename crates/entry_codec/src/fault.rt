@@ -5,40 +5,39 @@ ghost use Rattle.entry_codec.specs.declared.fault.LineError.TheVariants.{OutOfMe
 
 use rights_types::OutOfMemory;
 
-/// Where in a line a fault is: its parts are counted from 0, and within each part its fields.
+/// The position of a fault in a line: the part and, within it, the field, both counted from 0.
 #[derive(Clone, Copy, Debug, PartialEq, Eq)]
 pub struct Place {
     pub part: u16,
     pub field: u16,
 }
 
-/// Why a line is refused, in the order in which the causes are looked for.
+/// Why a line is refused, in the order in which the causes are checked.
 #[derive(Clone, Copy, Debug, PartialEq, Eq)]
 pub enum LineError {
     /// More than 16,384 bytes.
     TooLong,
-    /// No bytes, or the last byte is no line feed.
+    /// There are no bytes, or the last byte is not a line feed.
     NoEnd,
-    /// The first field is the letter of no kind of message.
+    /// The first field is not the letter of a kind of message.
     BadKind,
-    /// A fixed field is missing, is no decimal in its range, or names a site that must differ
-    /// from an earlier one; or a part of an answer begins with another letter than `E`, or is an
-    /// entry of another origin than the answer's.
+    /// A fixed field is missing, is not a decimal in its range, or names a site that must differ from an earlier one;
+    /// or a part of an answer does not begin with `E`, or is an entry of an origin other than the answer's.
     BadField(Place),
-    /// A field of an entry is no move, names the entry's origin, lacks the origin's own place in a
-    /// frontier, or closes before the end.
+    /// A field of an entry is not a move, names the entry's origin, lacks the origin's own position in a frontier, or
+    /// closes before the end.
     BadMove(Place),
-    /// An entry has no move, more than 16, or an own number that is not its previous one and the
-    /// count of its moves; or an answer has more than 16 entries.
+    /// An entry has no move, more than 16, or an own number that is not its previous one plus the number of its moves;
+    /// or an answer has more than 16 entries.
     CountWrong,
-    /// More fields or parts than the kind has.
+    /// More fields or parts than this kind of message has.
     TrailingBytes,
-    /// The line has no fault, and a request for the message's memory was refused.
+    /// The line has no fault, but memory for the message was refused.
     OutOfMemory,
 }
 
 impl LineError {
-    /// Which of the causes it is, from 1 to 8: what a script prints of a line that is refused.
+    /// The position of this cause in the order, from 1 to 8, as a script reports it for a refused line.
     pub fn number(self) -> u64
         ensures { result ≡ fault_number self }
     {

@@ -2,16 +2,16 @@
 
 use rights_types::MAX_LINE;
 
-/// Stands between the parts of a line.
+/// Separates the parts of a line.
 pub const PART_BREAK: u8 = b';';
 
-/// Stands between the fields of a part.
+/// Separates the fields of a part.
 pub(crate) const FIELD_BREAK: u8 = b' ';
 
-/// Stands between the values of a field.
+/// Separates the values of a field.
 pub(crate) const VALUE_BREAK: u8 = b':';
 
-/// The last byte of a line, and of no other place in it.
+/// The last byte of a line, which occurs nowhere else in it.
 pub(crate) const LINE_END: u8 = b'\n';
 
 // The letters of messages.
@@ -47,8 +47,8 @@ pub(crate) const TAKE_BACK_LETTER: u8 = b'V';
 /// Fields of a part, at most: one more than its bytes.
 pub(crate) const MAX_FIELDS: usize = MAX_LINE + 1;
 
-/// The field of an entry's first move.
+/// The index of the field with an entry's first move.
 pub(crate) const FIRST_MOVE: u16 = 4;
 
-/// Bytes that the line of any entry fits into.
+/// Bytes that suffice for the line of any entry.
 pub const ENTRY_ROOM: usize = 1_024;

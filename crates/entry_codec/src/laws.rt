@@ -1,4 +1,4 @@
-//! Laws of lines, which hold of the definitions alone. The functions do nothing.
+//! Laws of the definitions of lines. The functions do nothing.
 ghost use Rattle.std.specs.Prelude.{◌≡◌, ℕ, ◌≤◌, List, [], ◌∷◌, ◌++◌, length, Ok};
 ghost use Rattle.rights_types.specs.Messages.{MessageValue, IsMessage};
 ghost use Rattle.entry_codec.specs.Spelling.{line, Spells};
@@ -7,17 +7,17 @@ ghost use Rattle.entry_codec.specs.Reading.{reading};
 
 use rights_types::MAX_LINE;
 
-/// What was written is read again.
+/// A message that was written reads back.
 pub fn reads_back()
     ensures { (m : MessageValue) → IsMessage m → reading (line m) ≡ Ok m }
 {}
 
-/// What is read is what the text spells.
+/// A text whose reading is a message spells that message.
 pub fn read_is_spelled()
     ensures { (m : MessageValue) (text : List ℕ) → reading text ≡ Ok m → Spells m text }
 {}
 
-/// A message's line has one line feed, its last byte.
+/// A message's line has one line feed, which is its last byte.
 pub fn ends_once()
     ensures { (m : MessageValue) (text : List ℕ) → Spells m text → IsLine text }
 {}
@@ -30,8 +30,8 @@ pub fn spelled_once()
         → Spells m text → Spells m other → text ≡ other }
 {}
 
-/// What was written is read again whatever follows it: the line is a piece of the stream that
-/// begins with it, and no piece that is too long.
+/// A message that was written reads back whatever follows it: its line is the first piece of any stream that begins
+/// with it, and is not too long.
 pub fn reads_on()
     ensures piece { (m : MessageValue) (rest : List ℕ)
         → IsMessage m → pieces (line m ++ rest) ≡ line m ∷ pieces rest }

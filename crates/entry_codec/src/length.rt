@@ -1,4 +1,4 @@
-//! How many bytes a message's line has. The clauses `small` are rough bounds, by which no sum of
+//! The number of bytes in a message's line. The clauses `small` are rough bounds, from which it follows that no sum of
 //! these numbers wraps.
 ghost use Rattle.std.specs.Prelude.{◌≡◌, ◌+◌, ◌<◌, ◌≤◌, ◌^◌, nat_le, length, slice_index, decimal, if◌then◌else◌};
 ghost use Rattle.rights_types.specs.Entries.{IsEntry};
@@ -18,7 +18,7 @@ fn at_least(number: u64, least: u64) -> usize
     if number >= least { 1 } else { 0 }
 }
 
-// A sum of tests, which need no jump.
+// A sum of comparisons, which needs no branch.
 fn short_count(number: u64) -> usize
     requires { number < 10 ^ 10 }
     ensures value { result ≡ length (decimal number) }
@@ -49,7 +49,7 @@ pub(crate) fn place_of(frontier: &Frontier, index: usize) -> u64
     requires { index < length frontier.now }
     ensures { result ≡ slice_index frontier.now index }
 {
-    // Its contract tells that the frontier has at most 16 places, so that the index is a site's.
+    // For the proof: the frontier has at most 16 positions, so the index is a site's.
     let _ = frontier.count();
     frontier.at(SiteId::known(index as u64 + 1)).unwrap_or(0)
 }

@@ -1,4 +1,4 @@
-//! A move and its field.
+//! A move and the field that spells it.
 ghost use Rattle.std.specs.Prelude.{◌≡◌, ◌∷◌, ◌<◌, ◌≤◌, IfSome, Some};
 ghost use Rattle.rights_types.specs.Moves.{IsMove};
 ghost use Rattle.rights_types.specs.declared.moves.Move.{Move};
@@ -17,8 +17,8 @@ use rights_types::{
     SiteId, Total,
 };
 
-/// The move that a field spells. It knows no origin, so whether the move may stand in an entry is
-/// not tested.
+/// The move that a field spells, or None. The field does not name the origin, so whether an entry may have the move is
+/// not checked here.
 pub fn read_move(field: &[u8]) -> Option<Move>
     // What is read is what the field spells.
     ensures found { IfSome result (λ m. IsMove m × (field.now ≡ move_text m)) }
@@ -122,7 +122,7 @@ fn frontier_in(values: Option<&[u8]>) -> Option<Frontier>
     }
 }
 
-// The letter of a move that has values, and the text behind its colon.
+// The letter of a move that has values, and the text after its colon.
 fn letter_of(text: &[u8]) -> Option<(u8, &[u8])>
     ensures { IfSome result (λ x. text.now ≡ x.0 ∷ (VALUE_BREAK ∷ x.1.now)) }
 {
@@ -132,8 +132,8 @@ fn letter_of(text: &[u8]) -> Option<(u8, &[u8])>
     }
 }
 
-/// Puts the move of the first field into a slot, and answers what comes after the field. The moves
-/// that most entries have are read in one pass.
+/// Reads the move of the first field into a slot, and returns what comes after the field. Frequent moves are read in
+/// one pass.
 #[inline(always)]
 pub(crate) fn first_move<'a>(fields: &'a [u8], slot: &mut Move) -> Option<Option<&'a [u8]>>
     ensures { FindsMove slot.new result (first_move (split_at FIELD_BREAK fields.now)) }

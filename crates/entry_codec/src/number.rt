@@ -1,4 +1,4 @@
-//! Decimals: no sign, and no leading zero but in `0`.
+//! Decimals: no sign, and no leading zero except in `0` itself.
 ghost use Rattle.std.specs.Prelude.{◌≡◌, ℕ, ◌<◌, ◌≤◌, ◌^◌, length, slice_index, decimal, MatchOption, IfSome, Some};
 ghost use Rattle.std.specs.Char.{digit_value};
 ghost use Rattle.std.specs.Str.Parse.{AllDigits, digits_value};
@@ -6,10 +6,10 @@ ghost use Rattle.entry_codec.specs.Digits.{IsReadUpTo};
 ghost use Rattle.entry_codec.specs.Moves.{number_of};
 ghost use Rattle.entry_codec.specs.Texts.{is_canonical};
 
-//// So many digits are read without a test: their value fits a `u64`.
+// This many digits are read without an overflow check: their value fits a `u64`.
 pub(crate) const SAFE_DIGITS: usize = 19;
 
-/// The number from `least` to `most` that a text spells.
+/// The number from `least` to `most` that a text spells, or None.
 pub fn read_decimal(text: &[u8], least: u64, most: u64) -> Option<u64>
     // What is read is what the text spells.
     ensures found { IfSome result (λ n. (least ≤ n) × (n ≤ most) × (text.now ≡ decimal n)) }
@@ -21,7 +21,7 @@ pub fn read_decimal(text: &[u8], least: u64, most: u64) -> Option<u64>
     decimal_of(text, least, most)
 }
 
-// A number has no more than one digit behind the safe ones.
+// A number has at most one digit more than `SAFE_DIGITS`.
 fn decimal_of(text: &[u8], least: u64, most: u64) -> Option<u64>
     ensures { result ≡ number_of least most text.now }
 {
@@ -46,8 +46,7 @@ pub(crate) fn digit(byte: u8) -> Option<u64>
     }
 }
 
-/// The value of the digits that a text begins with, and how many they are, at most as many as are
-/// safe.
+/// The value of the digits that a text begins with, and how many there are, at most `SAFE_DIGITS`.
 pub(crate) fn leading_digits(text: &[u8]) -> (u64, usize)
     ensures read { IsReadUpTo text.now result.1 result.0 }
     ensures few { result.1 ≤ SAFE_DIGITS }
@@ -66,7 +65,7 @@ pub(crate) fn leading_digits(text: &[u8]) -> (u64, usize)
     (value, front.len())
 }
 
-// Whether the digits are those of some number, which has no leading zero.
+// Whether these digits are the canonical form of a number: no leading zero.
 fn is_canonical(digits: &[u8]) -> bool
     ensures { result ≡ is_canonical digits.now }
 {
@@ -77,7 +76,7 @@ fn is_canonical(digits: &[u8]) -> bool
     }
 }
 
-/// The value of digits, if they spell it and it is in the range.
+/// The value of these digits, if they are canonical and it is in the range.
 pub(crate) fn checked(digits: &[u8], value: u64, low: u64, high: u64) -> Option<u64>
     requires digits { AllDigits 10 digits.now }
     requires value { value ≡ digits_value 10 digits.now }

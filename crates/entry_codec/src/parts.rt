@@ -1,4 +1,4 @@
-//! Walking over the parts of a text, which a byte parts.
+//! Walking over the parts of a text that a byte separates.
 ghost use Rattle.std.specs.Prelude.{◌≡◌, ◌∷◌, ◌==◌, ◌<◌, ◌≤◌, ◌^◌, ◌⊎◌, length, position, is_none, decimal, IfSome, IfOk};
 ghost use Rattle.entry_codec.specs.Letters.{is_letter};
 ghost use Rattle.entry_codec.specs.Parts.{split_at, left, Finds, ReadsAs, fields_left};
@@ -21,14 +21,14 @@ fn position_of(text: &[u8], at: u8) -> Option<usize>
     None
 }
 
-/// Where the first such byte stands, in a text that is mostly long.
+/// The position of the first such byte, in a text that is mostly long.
 pub(crate) fn far_position(text: &[u8], at: u8) -> Option<usize>
     ensures { result ≡ position (λ b. b == at) text.now }
 {
     memchr(at, text)
 }
 
-/// Whether a field is this letter alone.
+/// Whether a field is exactly this letter.
 pub(crate) fn is_letter(field: &[u8], letter: u8) -> bool
     ensures { result ≡ is_letter letter field.now }
 {
@@ -38,7 +38,7 @@ pub(crate) fn is_letter(field: &[u8], letter: u8) -> bool
     }
 }
 
-/// The text before the first such byte, and what comes after it.
+/// The text before the first such byte, and what comes after it, if there is one.
 #[inline(always)]
 pub fn split_first(text: &[u8], at: u8) -> (&[u8], Option<&[u8]>)
     ensures parts { split_at at text.now ≡ result.0.now ∷ left at result.1 }
@@ -52,8 +52,7 @@ pub fn split_first(text: &[u8], at: u8) -> (&[u8], Option<&[u8]>)
     }
 }
 
-/// The same, for a part that is mostly long: it is looked for by `memchr`, where the other one goes byte by
-/// byte.
+/// The same, for a part that is mostly long: it searches with `memchr`, where the other one goes byte by byte.
 pub(crate) fn split_far(text: &[u8], at: u8) -> (&[u8], Option<&[u8]>)
     ensures parts { split_at at text.now ≡ result.0.now ∷ left at result.1 }
     ensures last { is_none result.1 ≡ (length (left at result.1) == 0) }
@@ -66,7 +65,7 @@ pub(crate) fn split_far(text: &[u8], at: u8) -> (&[u8], Option<&[u8]>)
     }
 }
 
-// The digit that the first part is, and what comes after it. None where it is no digit, or more.
+// The digit that is the whole first part, and what comes after it; None if that part is anything else.
 #[inline(always)]
 fn digit_part(text: &[u8], at: u8) -> Option<(u64, Option<&[u8]>)>
     requires apart { (at < 48) ⊎ (57 < at) }
@@ -86,8 +85,8 @@ fn digit_part(text: &[u8], at: u8) -> Option<(u64, Option<&[u8]>)>
     }
 }
 
-// What `first_number` finds where the first part is one digit. Most numbers are those of sites and small amounts, and
-// a digit needs neither a loop nor a test for leading zeros.
+// The result of `first_number` if the first part is one digit. Most numbers are those of sites and small amounts, and
+// one digit needs neither a loop nor a check for leading zeros.
 #[inline(always)]
 fn first_digit(text: &[u8], at: u8, low: u64, high: u64) -> Option<Option<(u64, Option<&[u8]>)>>
     requires apart { (at < 48) ⊎ (57 < at) }
@@ -104,7 +103,7 @@ fn first_digit(text: &[u8], at: u8, low: u64, high: u64) -> Option<Option<(u64, 
     Some(Some((value, rest)))
 }
 
-/// The number that the first part spells, and what comes after it. The byte that parts is no digit.
+/// The number that the first part spells, and what comes after it. The separator must not be a digit.
 #[inline(always)]
 pub(crate) fn first_number(
     parts: Option<&[u8]>,
@@ -135,8 +134,8 @@ pub(crate) fn first_number(
     Some((value, Some(&text[count + 1..])))
 }
 
-/// The number in a range that the first part spells, and what comes after it: the same for any range, and for callers
-/// of other crates. The byte that parts is no digit.
+/// The number in a range that the first part spells, and what comes after it, for any range and for other crates. The
+/// separator must not be a digit.
 #[inline(always)]
 #[tactic(auto, unfolding(crate::specs::Moves::first_number))]
 pub fn first_decimal(
@@ -164,7 +163,7 @@ pub fn first_decimal(
         let rest = &text[count + 1..];
         return Some((value, Some(rest)));
     }
-    // More digits than are safe, or none that spell a number.
+    // More digits than `SAFE_DIGITS`, or none that spell a number.
     let (word, rest) = split_first(text, at);
     Some((read_decimal(word, low, high)?, rest))
 }

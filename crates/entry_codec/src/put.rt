@@ -1,5 +1,5 @@
-//! Putting bytes into a slice that has the room, from a place on. Each call answers the place
-//! behind.
+//! Writing into a slice that has enough space, from a given position on. Each call returns the position after what it
+//! wrote.
 ghost use Rattle.std.specs.Prelude.{◌≡◌, ◌+◌, ◌<◌, ◌≤◌, ◌^◌, [], ◌∷◌, ◌++◌, length, take, decimal};
 ghost use Rattle.entry_codec.specs.Digits.{two_digits, four_digits, eight_digits};
 
@@ -20,22 +20,22 @@ pub(crate) fn put_byte(buffer: &mut [u8], at: usize, byte: u8) -> usize
     at + 1
 }
 
-/// Puts a number's digits, without leading zeros, into bytes that have room for them (no number has more than 20), from
-/// `at` on, and answers the place behind them.
+/// Writes a number's digits, without leading zeros, into bytes that have space for them (20 at most), from `at` on,
+/// and returns the position after them.
 #[tactic(auto, using(std::proofs::lemmas::Fmt::decimal_digit))]
 pub fn put_decimal(buffer: &mut [u8], at: usize, number: u64) -> usize
     requires { at + length (decimal number) ≤ length buffer.old }
     ensures end { result ≡ at + length (decimal number) }
     ensures text { take result buffer.new ≡ take at buffer.old ++ decimal number }
 {
-    // Many numbers have one digit, as those of sites.
+    // Many numbers have one digit, such as those of sites.
     if number < 10 {
         return put_byte(buffer, at, b'0' + number as u8);
     }
     put_digits(buffer, at, number)
 }
 
-// From the left: behind a number's front comes a known count of digits, so that none has to be counted first.
+// From the left: after the leading part comes a fixed number of digits, so none has to be counted first.
 fn put_digits(buffer: &mut [u8], at: usize, number: u64) -> usize
     requires { at + length (decimal number) ≤ length buffer.old }
     ensures end { result ≡ at + length (decimal number) }
@@ -48,7 +48,7 @@ fn put_digits(buffer: &mut [u8], at: usize, number: u64) -> usize
     put_eight(buffer, at, number % EIGHT_DIGITS)
 }
 
-// A number of at most so many digits.
+// A number of at most 12 digits.
 fn put_up_to_twelve(buffer: &mut [u8], at: usize, number: u64) -> usize
     requires small { number < 10 ^ 12 }
     requires room { at + length (decimal number) ≤ length buffer.old }
@@ -100,7 +100,7 @@ fn put_up_to_two(buffer: &mut [u8], at: usize, number: u64) -> usize
     put_two(buffer, at, number)
 }
 
-// So many digits, of which the first may be zeros.
+// Exactly 8 digits, of which the first may be zeros.
 fn put_eight(buffer: &mut [u8], at: usize, digits: u64) -> usize
     requires small { digits < EIGHT_DIGITS }
     requires room { at + 8 ≤ length buffer.old }

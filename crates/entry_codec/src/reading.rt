@@ -1,4 +1,4 @@
-//! A message from its line.
+//! A message, read from its line.
 ghost use Rattle.std.specs.Prelude.{◌≡◌, ◌∷◌, ◌≤◌, length, IfOk, IfSome, Ok};
 ghost use Rattle.rights_types.specs.Messages.{MessageValue};
 ghost use Rattle.rights_types.specs.Values.{value_of};
@@ -15,7 +15,7 @@ use crate::short::short_in;
 use rights_types::{MAX_LINE, Message, Move};
 use std::alloc::Allocator;
 
-// Its slots are no concern of an entry that is read without them: see `entry_of_moves_in`.
+// An entry that is read without the slots does not pay for them: see `entry_of_moves_in`.
 #[inline(never)]
 fn push_in<A: Allocator>(
     alloc: A,
@@ -44,7 +44,7 @@ fn answer_message_in<A: Allocator + Copy>(
     Ok(Message::Answer(answer_in(alloc, fields, others)?))
 }
 
-// The text behind the letter of an entry.
+// The text after the letter of an entry.
 fn behind_entry_letter(text: &[u8]) -> Option<&[u8]>
     ensures { IfSome result (λ fields. text.now ≡ ENTRY_LETTER ∷ (FIELD_BREAK ∷ fields.now)) }
 {
@@ -54,7 +54,7 @@ fn behind_entry_letter(text: &[u8]) -> Option<&[u8]>
     }
 }
 
-// A text that reads as one entry has no further part, so that none is looked for.
+// A text that reads as one entry has no further part, so it is not searched for one.
 fn message_in<A: Allocator + Copy>(alloc: A, text: &[u8]) -> Result<Message<A>, LineError>
     requires { length text.now ≤ MAX_LINE }
     ensures value { Gives value_of result (message_of (parts_in text.now)) }
@@ -101,16 +101,16 @@ fn message_of_line<A: Allocator + Copy>(alloc: A, line: &[u8]) -> Result<Message
     }
 }
 
-/// The message that a line spells. A line with a fault is refused by its first, whether there is
-/// memory or not.
+/// The message that a line spells. A line with a fault is refused for its first fault, even if memory is refused too.
+/// Errors: see `LineError`.
 pub fn read_line<A: Allocator + Copy>(alloc: A, line: &[u8]) -> Result<Message<A>, LineError>
-    // What is read is what the line spells.
+    // A message is returned only if the line spells it.
     ensures found { IfOk result (λ m. Spells (value_of m) line.now) }
-    // What is spelled is read, memory aside.
+    // If the line spells a message, that is returned, or `OutOfMemory`.
     ensures only { (m : MessageValue) → Spells m line.now → Gives value_of result (Ok m) }
-    // Which fault it is.
+    // The exact result, by the definition.
     ensures exact { Gives value_of result (reading line.now) }
-    // Only entries take memory.
+    // Only messages with entries allocate.
     ensures memory { WantsRoom result (reading line.now) }
 {
     message_of_line(alloc, line)

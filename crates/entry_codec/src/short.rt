@@ -15,7 +15,7 @@ use rights_types::{
 };
 use std::alloc::Allocator;
 
-/// The site in a field that differs from another one, and the fields after it.
+/// The site in a field, which must differ from another one, and the fields after it.
 #[tactic(auto, unfolding(crate::specs::Reading::other_site_at))]
 pub(crate) fn other_site_in(
     fields: Option<&[u8]>,
@@ -115,7 +115,7 @@ fn hello_in(fields: Option<&[u8]>, others: Option<&[u8]>) -> Result<SiteId, Line
     Ok(SiteId::known(site))
 }
 
-/// Reads a message without entries by its letter, the fields behind it and the further parts.
+/// Reads a message without entries, by its letter, the fields after it and the further parts.
 #[tactic(auto, unfolding(crate::specs::Reading::short_of))]
 pub(crate) fn short_in<A: Allocator>(
     letter: &[u8],

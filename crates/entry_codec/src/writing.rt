@@ -1,4 +1,4 @@
-//! A message's line.
+//! Writing a message as its line.
 ghost use Rattle.std.specs.Prelude.{◌≡◌, ◌+◌, ◌≤◌, [], ◌∷◌, ◌++◌, length, take, decimal, IfOk, OnOk, OnErr};
 ghost use Rattle.rights_types.specs.Entries.{IsEntry};
 ghost use Rattle.rights_types.specs.Values.{value_of};
@@ -19,7 +19,7 @@ use rights_types::{
 };
 use std::alloc::Allocator;
 
-// A number behind a space.
+// A number after a space.
 fn put_field(buffer: &mut [u8], at: usize, number: u64) -> usize
     requires { at + length (FIELD_BREAK ∷ decimal number) ≤ length buffer.old }
     ensures end { result ≡ at + length (FIELD_BREAK ∷ decimal number) }
@@ -29,7 +29,7 @@ fn put_field(buffer: &mut [u8], at: usize, number: u64) -> usize
     put_decimal(buffer, at, number)
 }
 
-// A number behind a colon.
+// A number after a colon.
 fn put_value(buffer: &mut [u8], at: usize, number: u64) -> usize
     requires { at + length (VALUE_BREAK ∷ decimal number) ≤ length buffer.old }
     ensures end { result ≡ at + length (VALUE_BREAK ∷ decimal number) }
@@ -205,7 +205,7 @@ fn put_line<B: Allocator>(buffer: &mut [u8], at: usize, message: &Message<B>) ->
     put_byte(buffer, at, LINE_END)
 }
 
-/// Appends a message's line. Where memory is refused, nothing is appended.
+/// Appends a message's line to a text. On `OutOfMemory` nothing is appended.
 pub fn write_into<A: Allocator, B: Allocator>(
     out: &mut Vec<u8, A>,
     message: &Message<B>,
@@ -220,8 +220,8 @@ pub fn write_into<A: Allocator, B: Allocator>(
     Ok(())
 }
 
-/// Writes the line of the message that pushes the entry of these values, which need not be made for it, to the front
-/// of a buffer that has room for any such line, so that none has to be counted first. Answers how many bytes it has.
+/// Writes the line of the message that pushes the entry of these values, from the start of a buffer that has space for
+/// any such line, so it is not measured first. The entry need not exist. Returns the number of bytes written.
 pub fn put_entry_line(buffer: &mut [u8], origin: SiteId, prev: u64, moves: &[Move]) -> usize
     requires valid { IsEntry (record { origin = origin; prev = prev; moves = moves.now }) }
     requires room { ENTRY_ROOM ≤ length buffer.old }
@@ -232,7 +232,7 @@ pub fn put_entry_line(buffer: &mut [u8], origin: SiteId, prev: u64, moves: &[Mov
     put_byte(buffer, at, LINE_END)
 }
 
-/// The one line of a message.
+/// The one line that spells a message. `OutOfMemory` if memory for it is refused.
 pub fn write_line<A: Allocator + Copy, B: Allocator>(
     alloc: A,
     message: &Message<B>,
@@ -244,7 +244,7 @@ pub fn write_line<A: Allocator + Copy, B: Allocator>(
     Ok(out)
 }
 
-/// The line of the message that pushes this entry.
+/// The line of the message that pushes this entry. `OutOfMemory` if memory for it is refused.
 pub fn write_entry<A: Allocator + Copy, B: Allocator>(
     alloc: A,
     entry: &Entry<B>,
@@ -257,7 +257,7 @@ pub fn write_entry<A: Allocator + Copy, B: Allocator>(
     Ok(out)
 }
 
-// The buffer has the length of the line.
+// The buffer has exactly the length of the line.
 fn fill_with_line<B: Allocator>(buffer: &mut [u8], entry: &Entry<B>)
     requires { length buffer.old ≡ length (entry_text entry.now) + 1 }
     ensures { buffer.new ≡ entry_text entry.now ++ LINE_END ∷ [] }

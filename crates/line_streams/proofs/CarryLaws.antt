@@ -1,10 +1,10 @@
--- The first bytes of a line that came in parts.
+-- The first bytes of a line that arrived in parts.
 use Rattle.std.proofs.Common.{◌≡◌, ℕ, ◌+◌, ◌-◌, ◌<◌, ◌≤◌, List, [], ◌∷◌, ◌++◌, length, take, refl, sym, ap, ◌∙◌, arith, inl, inr, length-take, length-take-le, length-append}
 use Rattle.std.proofs.lemmas.Bool.{cases_lt}
 use Rattle.std.proofs.lemmas.List.{take_at, drop_at, take_all, take-append-le, nil_from_length, take-take}
 use Rattle.line_streams.proofs.WriteLaws.{take_both}
 
--- what fits behind the bytes before
+-- what fits after the bytes before
 pub take_over : (n : ℕ) (xs ys : List ℕ) → length xs ≤ n → take n (xs ++ ys) ≡ xs ++ take (n - length xs) ys
 take_over n xs ys h =
     let parts : length xs + (n - length xs) ≡ n = omega arith in
@@ -14,7 +14,7 @@ take_over n xs ys h =
 pub take_under : (n : ℕ) (xs ys : List ℕ) → length xs ≤ n → length ys ≤ n - length xs → take n (xs ++ ys) ≡ xs ++ ys
 take_under n xs ys h k = take_over n xs ys h ∙ ap (λ (l : List ℕ). xs ++ l) (take_all (n - length xs) ys k)
 
--- what is cut off in between would be cut off in the end
+-- what is cut off in between would be cut off at the end
 pub carry_more : (n : ℕ) (front text : List ℕ) → take n (take n front ++ text) ≡ take n (front ++ text)
 carry_more n front text = elim (cases_lt (length front) n) [
   | inl few ↦ ap (λ (l : List ℕ). take n (l ++ text)) (take_all n front (omega arith))

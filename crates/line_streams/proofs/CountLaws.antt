@@ -23,12 +23,12 @@ lines_both xs ys =
     ap length (pieces_append [] xs ys) ∙ length-append (pieces xs) (pieces_after (unfinished xs) ys)
     ∙ ap (λ (n : ℕ). length (pieces xs) + n) (length-pieces_after (unfinished xs) ys)
 
--- one line more ends in the bytes up to the next line feed
+-- one more line ends in the bytes up to the next line feed
 pub line_more : (before text all : List ℕ) → HasNoEnd text → all ≡ before ++ (text ++ 10 ∷ []) → length (pieces all) ≡ length (pieces before) + 1
 line_more before text all none cut =
     ap (λ (l : List ℕ). length (pieces l)) cut ∙ lines_both before (text ++ 10 ∷ []) ∙ ap (λ (n : ℕ). length (pieces before) + n) (ap length ((one_piece [] text none).0))
 
--- none does in what is left
+-- no line ends in what is left
 pub line_none : (bytes : List ℕ) (at : ℕ) → HasNoEnd (drop at bytes) → length (pieces bytes) ≡ length (pieces (take at bytes))
 line_none bytes at none =
     let parts = ap (λ (l : List ℕ). length (pieces l)) (take-append-drop at bytes) in
@@ -40,7 +40,7 @@ line_some bytes at =
     let parts = ap (λ (l : List ℕ). length (pieces l)) (take-append-drop at bytes) in
     omega (arith, parts, lines_both (take at bytes) (drop at bytes))
 
--- what a read counts for, by the lines that end in it
+-- what a read counts as, by the lines that end in it
 pub counts_lines : (bytes : List ℕ) → 0 < length (pieces bytes) → counts_for bytes ≡ length (pieces bytes)
 counts_lines bytes some =
     let more : eqb (length (pieces bytes)) 0 ≡ false = ne_eqb (length (pieces bytes)) 0 (λ none. omega (arith, some, none)) in
@@ -61,7 +61,7 @@ counts_within bytes = omega arith
 pub none_parted : Parted [] []
 none_parted = record { whole = refl; some = All-nil (λ (bytes : List ℕ). 0 < length bytes) }
 
--- one read more
+-- one more read
 pub parted_more : (portions : List (List ℕ)) (input bytes : List ℕ) → Parted portions input → 0 < length bytes → Parted (portions ++ bytes ∷ []) (input ++ bytes)
 parted_more portions input bytes h some = record {
   whole = flat_map-append (λ (l : List ℕ). l) portions (bytes ∷ []) ∙ ap (λ (l : List ℕ). l ++ (bytes ++ [])) h.whole ∙ ap (λ (l : List ℕ). input ++ l) (append-nil bytes);

@@ -6,7 +6,7 @@ use Rattle.memchr.specs.Find.{IsFirstByte, is_byte}
 use Rattle.entry_codec.proofs.Pieces.{HasNoEnd}
 use Rattle.line_streams.proofs.WriteLaws.{take_both}
 
--- what memchr tells of the bytes from a place on: they go up to a line feed, or have none
+-- what memchr says of the bytes from a position on: they go up to a line feed, or have none
 pub cut_found : (bytes : List ℕ) (at n : ℕ) → at ≤ length bytes → IsFirstByte (is_byte 10) (take (length bytes - at) (drop at bytes)) (Some n)
     → (at + n < length bytes) × HasNoEnd (take n (drop at bytes)) × (take (at + (n + 1)) bytes ≡ take at bytes ++ (take n (drop at bytes) ++ 10 ∷ []))
 cut_found bytes at n within found =

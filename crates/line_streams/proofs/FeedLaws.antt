@@ -15,7 +15,7 @@ use Rattle.line_streams.proofs.LineLaws.{lines_append, lines_one}
 use Rattle.line_streams.proofs.CutLaws.{cut_found, cut_none}
 
 module _ {S : Type 0} (answers : Answering S) (start : S) (input : List ℕ) (state : S) (held now : Option (List ℕ)) (waits : Waiting) (carry : List ℕ) (h : Going answers start input state held now waits carry) where
-  -- the lines of the input, once the line at work has ended
+  -- the lines of the input, once the current line has ended
   line_ended : (text : List ℕ) → HasNoEnd text → pieces (input ++ (text ++ 10 ∷ [])) ≡ pieces input ++ ((unfinished input ++ text) ++ 10 ∷ []) ∷ []
   line_ended text none = pieces_append [] input (text ++ 10 ∷ []) ∙ ap (λ (l : List (List ℕ)). pieces input ++ l) ((one_piece (unfinished input) text none).0)
 
@@ -94,7 +94,7 @@ module _ {S : Type 0} (answers : Answering S) (start : S) (input : List ℕ) (st
     left = left;
   }
 
-  -- some of what waited was written, where a write failed
+  -- some of what waited was written, if a write failed
   pub talked_front : (after : Option (List ℕ)) (n : ℕ) → Appends now after (take n waits.whole) → Talked answers start (pieces input) state held after (drop n waits.whole)
   talked_front after n writes = record {
     replies = h.talked.replies;

@@ -1,4 +1,4 @@
--- A reply that becomes whole.
+-- A reply that is completed.
 use Rattle.std.proofs.Common.{◌≡◌, ◌≤◌, ℕ, List, ◌++◌, [], ◌∷◌, take, drop, refl, sym, ap, ◌∙◌, arith, take-append-drop}
 use Rattle.std.proofs.lemmas.List.{drop_all, take-take, length-take}
 use Rattle.line_streams.specs.Waiting.{Waiting, AddsReply}

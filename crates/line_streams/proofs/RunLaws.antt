@@ -1,4 +1,4 @@
--- What reading to the end comes to, and the last write.
+-- The result of reading to the end, and the last write.
 use Rattle.std.proofs.Common.{◌≡◌, ℕ, ◌+◌, ◌<◌, ◌≤◌, ◌⊎◌, inl, inr, List, [], ◌∷◌, ◌++◌, length, length-append, take, drop, refl, ap, ◌∙◌, sym, subst, arith, Option, Result, Ok, Err, append-nil, append_assoc, take-append-drop}
 use Rattle.std.specs.Io.KnownBytes.{Appends, Consumes}
 use Rattle.std.proofs.KnownBytes.{Appends-trans, Appends-nil, Consumes-nil, Consumes-trans}
@@ -33,7 +33,7 @@ all_lines input some = ap (λ (l : List (List ℕ)). pieces input ++ l) (last_so
 pub all_ended : (input : List ℕ) → unfinished input ≡ [] → lines_of input ≡ pieces input
 all_ended input none = ap (λ (l : List ℕ). pieces input ++ last_line l) none ∙ append-nil (pieces input)
 
--- an unfinished line is one line more
+-- an unfinished line is one more line
 pub last_counted : (input : List ℕ) → 0 < length (unfinished input) → length (lines_of input) ≡ length (pieces input) + 1
 last_counted input some = length-append (pieces input) (last_line (unfinished input)) ∙ ap (λ (n : ℕ). length (pieces input) + n) (one_last (unfinished input) some)
 
@@ -71,7 +71,7 @@ module _ {S : Type 0} (answers : Answering S) (fails : S → S → Type 0) (star
       going_written answers start input state held now waits carry h after waits' waits.whole writes
       (sym (append-nil waits.whole) ∙ ap (λ (l : List ℕ). waits.whole ++ l) (sym none.whole)) none.part
 
-  -- some of it was, where a write failed
+  -- some of it was, if a write failed
   pub ran_written : (portions : List (List ℕ)) (input : List ℕ) (state : S) (held now after : Option (List ℕ)) (waits : Waiting) (carry rest : List ℕ) → Going answers start input state held now waits carry
       → AppendsFront now after waits.whole → Ran answers fails start portions input held after (Err WriteFailed) state rest
   ran_written portions input state held now after waits carry rest h part = (

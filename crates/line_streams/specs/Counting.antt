@@ -1,4 +1,4 @@
--- How much of a stream of lines was read, as it is counted.
+-- How the lines of a stream, and its reads, are counted.
 use Rattle.std.specs.Prelude.{◌≡◌, ℕ, ◌<◌, ◌+◌, ◌==◌, Bool, List, [], ◌∷◌, All, count_by, flat_map, length}
 use Rattle.entry_codec.specs.Pieces.{pieces}
 
@@ -10,11 +10,11 @@ ends_none bytes = length (pieces bytes) == 0
 abbrev pub still : List (List ℕ) → ℕ
 still portions = count_by ends_none portions
 
--- so much each read gave, and each gave something
+-- the input is the concatenation of these reads, none of which is empty
 pub record Parted (portions : List (List ℕ)) (input : List ℕ) : Type 0 where
   pub whole : flat_map (λ bytes. bytes) portions ≡ input
   pub some : All (λ bytes. 0 < length bytes) portions
 
--- what a read counts for: each line that ends in it, and 1 where none does
+-- what a read counts as: the number of lines that end in it, or 1 if none does
 abbrev pub counts_for : List ℕ → ℕ
 counts_for bytes = length (pieces bytes) + still (bytes ∷ [])

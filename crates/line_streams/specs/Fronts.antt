@@ -2,6 +2,6 @@
 use Rattle.std.specs.Prelude.{◌≤◌, ℕ, List, Option, length, take}
 use Rattle.std.specs.Io.KnownBytes.{Appends}
 
--- a front of the text was appended, and nothing else
+-- a prefix of the text was appended, and nothing else
 abbrev pub AppendsFront : Option (List ℕ) → Option (List ℕ) → List ℕ → Type 0
 AppendsFront old new text = (n : ℕ) × (n ≤ length text) × Appends old new (take n text)

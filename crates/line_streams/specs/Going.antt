@@ -23,7 +23,8 @@ pub record Talked {S : Type 0} (answers : Answering S) (start : S) (lines : List
   pub writes : Appends held now written
   pub rest : replies ≡ written ++ waits
 
--- the lines that ended in the input were replied to, and the line that has not ended is carried, but for bytes past the longest line
+-- the lines that ended in the input were replied to, and the unfinished line is carried over, without the bytes beyond
+-- the longest line
 pub record Going {S : Type 0} (answers : Answering S) (start : S) (input : List ℕ) (state : S) (held now : Option (List ℕ)) (waits : Waiting) (carry : List ℕ) : Type 0 where
   pub talked : Talked answers start (pieces input) state held now waits.whole
   pub ready : waits.part ≡ []
@@ -33,7 +34,7 @@ pub record Going {S : Type 0} (answers : Answering S) (start : S) (input : List 
 abbrev pub IsNew : Waiting → List ℕ → ℕ → Type 0
 IsNew waits carry count = IsEmpty waits × (carry ≡ []) × (count ≡ 0)
 
--- the first of these lines were replied to, which left a state of this kind
+-- the first of these lines were replied to, which led to a state of this kind
 pub record Stopped {S : Type 0} (answers : Answering S) (start : S) (all : List (List ℕ)) (leaves : S → Type 0) (held now : Option (List ℕ)) (waits : List ℕ) : Type 0 where
   pub lines : List (List ℕ)
   pub state : S
@@ -41,7 +42,7 @@ pub record Stopped {S : Type 0} (answers : Answering S) (start : S) (all : List 
   pub talked : Talked answers start lines state held now waits
   pub left : leaves state
 
--- a state that a handler without memory may have left as this one
+-- after is state itself, or one that a handler in this state may be left in when it runs out of memory
 abbrev pub Fails : {S : Type 0} → (S → S → Type 0) → S → S → Type 0
 Fails fails after state = (after ≡ state) ⊎ fails state after
 
@@ -52,7 +53,7 @@ pub record Closed {S : Type 0} (answers : Answering S) (start : S) (all : List (
   pub talked : Talked answers start lines state held now waits
   pub ended : IsEnded answers all lines state after
 
--- what taking the last bytes of this input came to; after a failed write nothing is said of what waits
+-- the result of taking the last bytes of this input; after a failed write nothing is said of what waits
 abbrev pub Fed : {S : Type 0} → Answering S → (S → S → Type 0) → S → List ℕ → Option (List ℕ) → Option (List ℕ) → Result Goes LineFault → S → Waiting → List ℕ → Type 0
 Fed answers fails start input held now (Ok On) after waits carry = Going answers start input after held now waits carry
 Fed answers fails start input held now (Ok Ends) after waits carry = Closed answers start (pieces input) after held now waits.whole
@@ -61,7 +62,7 @@ Fed answers fails start input held now (Err WriteFailed) after waits carry = (re
 Fed answers fails start input held now (Err OutOfMemory) after waits carry = Stopped answers start (pieces input) (Fails fails after) held now waits.whole
 Fed answers fails start input held now (Err TooManyLines) after waits carry = Stopped answers start (pieces input) (λ state. after ≡ state) held now waits.whole
 
--- what these reads, which gave this input, came to, but for the last write
+-- the result of these reads, which together are this input, except for the last write
 abbrev pub Ran : {S : Type 0} → Answering S → (S → S → Type 0) → S → List (List ℕ) → List ℕ → Option (List ℕ) → Option (List ℕ) → Result EndedBy LineFault → S → List ℕ → Type 0
 Ran answers fails start portions input held now (Ok Input) after waits =
     Talked answers start (lines_of input) after held now waits × (length (lines_of input) + still portions < LINE_LIMIT)

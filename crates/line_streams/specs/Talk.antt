@@ -1,4 +1,4 @@
--- What a conversation by lines did to its reader, its writer and its handler.
+-- The effect of a conversation on its reader, its writer and its handler.
 use Rattle.std.specs.Prelude.{◌≡◌, ℕ, ◌<◌, ◌≤◌, ◌+◌, ◌⊎◌, List, [], ◌∷◌, ◌++◌, Option, None, Result, Ok, Err, length}
 use Rattle.std.specs.Io.KnownBytes.{Consumes, Appends}
 use Rattle.entry_codec.specs.Pieces.{pieces, unfinished}
@@ -10,7 +10,7 @@ use Rattle.line_streams.specs.declared.fault.LineFault.TheVariants.{ReadFailed, 
 use Rattle.line_streams.specs.declared.handler.EndedBy.{EndedBy}
 use Rattle.line_streams.specs.declared.handler.EndedBy.TheVariants.{Input, Handler}
 
--- an unfinished last line gets its line feed
+-- an unfinished last line gets a line feed
 abbrev pub last_line : List ℕ → List (List ℕ)
 last_line [] = []
 last_line (x ∷ xs) = ((x ∷ xs) ++ 10 ∷ []) ∷ []
@@ -19,11 +19,11 @@ last_line (x ∷ xs) = ((x ∷ xs) ++ 10 ∷ []) ∷ []
 abbrev pub lines_of : List ℕ → List (List ℕ)
 lines_of input = pieces input ++ last_line (unfinished input)
 
--- the list begins with front
+-- the list has this prefix
 abbrev pub BeginsWith : {X : Type 0} → List X → List X → Type 0
 BeginsWith {X} xs front = (rest : List X) × (xs ≡ front ++ rest)
 
--- the reader gave some input, some lines were replied to from the start on, and the writer took some text
+-- the reader gave some input, some lines were replied to from the initial state on, and the writer took some text
 pub record Talk {S : Type 0} (answers : Answering S) (start : S) (given left held holds : Option (List ℕ)) : Type 0 where
   pub portions : List (List ℕ)
   pub input : List ℕ
@@ -36,8 +36,8 @@ pub record Talk {S : Type 0} (answers : Answering S) (start : S) (given left hel
   pub answered : LinesGet answers start lines replies state
   pub writes : Appends held holds text
 
--- which lines were replied to, and how much of their replies was written. Lines, and reads that end none, are counted,
--- and at `LINE_LIMIT` the conversation is given up
+-- which lines were replied to, and how much of the replies was written. Lines, and reads that end none, are counted,
+-- and at `LINE_LIMIT` the conversation is aborted
 abbrev pub EndsBy : {S : Type 0} → {answers : Answering S} → {start : S} → {given left held holds : Option (List ℕ)}
     → Result EndedBy LineFault → Talk answers start given left held holds → Type 0
 EndsBy (Ok Input) talk =
@@ -50,13 +50,13 @@ EndsBy (Err OutOfMemory) talk = BeginsWith (lines_of talk.input) talk.lines × (
 EndsBy (Err TooManyLines) talk =
     BeginsWith (lines_of talk.input) talk.lines × (talk.text ≡ talk.replies) × (LINE_LIMIT ≤ length (lines_of talk.input) + still talk.portions)
 
--- the line behind those that were replied to ended the conversation
+-- the line after those that were replied to ended the conversation
 pub record IsEnded {S : Type 0} (answers : Answering S) (all lines : List (List ℕ)) (state after : S) : Type 0 where
   pub line : List ℕ
   pub next : BeginsWith all (lines ++ line ∷ [])
   pub ends : answers state line None after
 
--- how the handler is left: as after the last reply, unless a line ended the conversation, or it found no memory
+-- the final state of the handler: that after the last reply, unless a line ended the conversation, or memory ran out
 abbrev pub Leaves : {S : Type 0} → {answers : Answering S} → {start : S} → {given left held holds : Option (List ℕ)}
     → (S → S → Type 0) → Result EndedBy LineFault → Talk answers start given left held holds → S → Type 0
 Leaves fails (Ok Input) talk after = after ≡ talk.state

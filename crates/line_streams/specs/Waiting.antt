@@ -1,7 +1,7 @@
 -- Replies that wait to be written.
 use Rattle.std.specs.Prelude.{◌≡◌, ℕ, List, [], ◌∷◌, ◌++◌}
 
--- whole replies, each with its line feed, what there is of the next one, and for how many bytes more there is memory
+-- whole replies, each with its line feed; the beginning of the next one; and for how many more bytes there is memory
 pub record Waiting : Type 0 where
   pub whole : List ℕ
   pub part : List ℕ
@@ -12,7 +12,7 @@ pub record IsEmpty (replies : Waiting) : Type 0 where
   pub whole : replies.whole ≡ []
   pub part : replies.part ≡ []
 
--- one reply more is whole, and the next one has not begun
+-- one more reply is complete, and the next one has not begun
 pub record AddsReply (old new : Waiting) (reply : List ℕ) : Type 0 where
   pub whole : new.whole ≡ old.whole ++ (reply ++ 10 ∷ [])
   pub part : new.part ≡ []

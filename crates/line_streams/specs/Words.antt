@@ -1,4 +1,4 @@
--- The words of a line, parted at each single space, and the names, sites and numbers that they spell.
+-- The words of a line, separated by single spaces, and the names, sites and numbers that they spell.
 use Rattle.std.specs.Prelude.{ℕ, ◌-◌, ◌^◌, List, [], ◌∷◌, Option, Some, None, ◌==◌, if◌then◌else◌}
 use Rattle.std.specs.List.{slice_split}
 use Rattle.std.specs.Borrow.{Bor}
@@ -14,17 +14,17 @@ abbrev pub words_left : Option (Bor (List ℕ)) → List (List ℕ)
 words_left None = []
 words_left (Some text) = words_of text.now
 
--- what a name stands for, by a table
+-- the meaning of a name, looked up in a table
 abbrev pub named : {X : Type 0} → List (List ℕ × X) → List ℕ → Option X
 named [] text = None
 named (entry ∷ others) text = if bytes_eq text entry.0 then Some entry.1 else named others text
 
--- the names of a table as they are seen
+-- the names of a table, as lists of bytes
 abbrev pub names_of : {X : Type 0} → List (Bor (List ℕ) × X) → List (List ℕ × X)
 names_of [] = []
 names_of (entry ∷ others) = (entry.0.now, entry.1) ∷ names_of others
 
--- what a name means that stands alone
+-- the meaning of a name, if no words follow it
 abbrev pub alone : {X : Type 0} → X → List (List ℕ) → Option X
 alone meaning [] = Some meaning
 alone meaning (word ∷ words) = None
@@ -50,7 +50,7 @@ site_and_number words = do
   n ← only_number s.1
   Some (s.0, n)
 
--- the site that the only word spells, where there is a word
+-- the site that the only word spells, if there is a word
 abbrev pub optional_site : List (List ℕ) → Option (Option ℕ)
 optional_site [] = Some None
 optional_site (word ∷ words) = do

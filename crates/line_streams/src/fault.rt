@@ -1,4 +1,4 @@
-//! Why a conversation is given up.
+//! Why a conversation is aborted.
 ghost use Rattle.std.specs.Prelude.{◌≡◌};
 ghost use Rattle.line_streams.specs.declared.fault.LineFault.TheVariants.{ReadFailed, WriteFailed, OutOfMemory as NoMemory};
 
@@ -6,16 +6,16 @@ use crate::read::ReadFault;
 use crate::write::WriteFault;
 use rights_types::OutOfMemory;
 
-/// Why a conversation ended before its input.
+/// Why a conversation ended before its input did.
 #[derive(Clone, Copy, Debug, PartialEq, Eq)]
 pub enum LineFault {
     /// A read failed.
     ReadFailed,
     /// A write failed, or took no byte.
     WriteFailed,
-    /// A request for memory was refused.
+    /// A memory request was refused.
     OutOfMemory,
-    /// Lines, and reads that end no line, came to 1,000,000,000 together.
+    /// Lines, and reads that end no line, reached 1,000,000,000 together.
     TooManyLines,
 }
 

@@ -1,4 +1,4 @@
-//! How many lines a stream may bring.
+//! How many lines a stream may have.
 
-/// At so many lines, and reads that end no line, a stream of lines is given up.
+/// A stream is aborted once its lines, and the reads that end no line, reach this number together.
 pub const LINE_LIMIT: u64 = 1_000_000_000;

@@ -1,4 +1,4 @@
-//! A conversation by lines, from its first read to its last write.
+//! A conversation in lines, from its first read to its last write.
 ghost use Rattle.std.specs.Prelude.{◌≡◌, ℕ, ◌+◌, ◌<◌, ◌≤◌, ◌↔◌, List, [], ◌∷◌, ◌++◌, Option, Ok, length, take, IsTrue, OnOk, OnErr, IfOk, IfErr, IsErrOf};
 ghost use Rattle.std.specs.Io.KnownBytes.{Consumes, IsAtEnd};
 ghost use Rattle.entry_codec.specs.Pieces.{pieces};
@@ -20,20 +20,20 @@ use rights_types::{MAX_LINE, OutOfMemory};
 use std::alloc::Allocator;
 use std::io::{Read, Write};
 
-/// So many bytes are read at a time.
+/// Bytes that are read at a time.
 const READ_SIZE: usize = 65536;
 
-/// A conversation at work.
+/// A conversation in progress.
 #[derive(Drop)]
 struct Conversation<A: Allocator> {
     replies: Replies<A>,
-    /// The first bytes of a line that has not ended; those past the longest line are dropped.
+    /// The beginning of an unfinished line; bytes beyond the longest line are dropped.
     carry: Vec<u8, A>,
-    /// Lines, and reads that ended no line.
+    /// Lines, and reads that ended no line, so far.
     count: u64,
 }
 
-/// Goes on with a line that has not ended.
+/// Appends to an unfinished line.
 fn keep<A: Allocator>(carry: &mut Vec<u8, A>, bytes: &[u8]) -> Result<(), OutOfMemory>
     requires { length carry.old.items ≤ MAX_LINE }
     ensures { OnOk result (carry.new.items ≡ take MAX_LINE (carry.old.items ++ bytes.now)) }
@@ -47,7 +47,8 @@ fn keep<A: Allocator>(carry: &mut Vec<u8, A>, bytes: &[u8]) -> Result<(), OutOfM
     Ok(())
 }
 
-/// The text of a line, of which the first `MAX_LINE` bytes are given at least, unless the line is too long.
+/// The text of a line as a handler gets it, or None if the line is too long. `text` has at least its first `MAX_LINE`
+/// bytes.
 fn within_limit(text: &[u8]) -> Option<&[u8]>
     ensures { (whole : List ℕ) → take MAX_LINE whole ≡ take MAX_LINE text.now → IsGiven (whole ++ 10 ∷ []) result }
 {
@@ -59,7 +60,7 @@ fn within_limit(text: &[u8]) -> Option<&[u8]>
 }
 
 impl<A: Allocator> Conversation<A> {
-    /// Answers the line that ends after this text.
+    /// Answers the line that this text completes.
     fn end_line<H: LineHandler>(
         &mut self,
         handler: &mut H,
@@ -85,7 +86,7 @@ impl<A: Allocator> Conversation<A> {
         Ok(goes)
     }
 
-    /// Takes what was read, and answers each line that ends in it. Then less than a block of replies
+    /// Takes the bytes of a read, and answers each line that ends in them. Afterwards less than a block of replies
     /// waits.
     fn feed<H: LineHandler, W: Write>(
         &mut self,
@@ -126,7 +127,7 @@ impl<A: Allocator> Conversation<A> {
         Ok(Goes::On)
     }
 
-    /// Reads once. The read may wait, so no reply does.
+    /// Reads once. The read may block, so no reply may be waiting.
     fn read<R: Read>(&self, reader: &mut R, buffer: &mut [u8]) -> Result<usize, LineFault>
         requires written { IsEmpty self.now.replies }
         ensures bound { ReadsAtMost result buffer.new }
@@ -136,7 +137,7 @@ impl<A: Allocator> Conversation<A> {
         Ok(read_some(reader, buffer)?)
     }
 
-    /// Reads to the end of the input, or to a line that ends the conversation, and answers each line.
+    /// Answers each line, to the end of the input or to a line that ends the conversation.
     fn run<H: LineHandler, R: Read, W: Write>(
         &mut self,
         handler: &mut H,
@@ -166,7 +167,7 @@ impl<A: Allocator> Conversation<A> {
         self.end_input(handler, writer)
     }
 
-    /// Answers a last line that has not ended.
+    /// Answers an unfinished last line.
     fn end_input<H: LineHandler, W: Write>(
         &mut self,
         handler: &mut H,
@@ -189,7 +190,7 @@ impl<A: Allocator> Conversation<A> {
         }
     }
 
-    /// Answers all that the reader gives, and writes what was answered, also before a fault.
+    /// Answers all lines that the reader gives, and writes the replies, even if a fault ends it.
     fn run_whole<H: LineHandler, R: Read, W: Write>(
         &mut self,
         handler: &mut H,
@@ -212,7 +213,7 @@ impl<A: Allocator> Conversation<A> {
     }
 }
 
-/// Room for what is read at a time.
+/// The buffer for reads.
 fn read_room<A: Allocator>(alloc: A) -> Result<Vec<u8, A>, OutOfMemory>
     ensures { IfOk result (λ room. 0 < length room.items) }
 {
@@ -238,8 +239,9 @@ fn begin<A: Allocator + Copy>(alloc: A) -> Result<Conversation<A>, OutOfMemory>
     })
 }
 
-/// Reads lines to the end of the input, or to a line that ends the conversation, and writes the reply to each before the next
-/// read. An unfinished last line is a line too. What was answered before a fault is still written.
+/// Answers the lines of a reader, to the end of the input or to a line that ends the conversation, and writes all
+/// replies before the next read. An unfinished last line counts as a line. After a fault, replies to earlier lines are
+/// still written. Errors: see `LineFault`.
 pub fn answer_lines<A: Allocator + Copy, H: LineHandler, R: Read, W: Write>(
     alloc: A,
     handler: &mut H,

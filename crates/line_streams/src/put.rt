@@ -1,14 +1,15 @@
-//! Putting texts into bytes that have the room, from a place on. Each call answers the place behind.
+//! Writing texts into a buffer that has space for them, from a given position on. Each call returns the position after
+//! the text.
 ghost use Rattle.std.specs.Prelude.{◌≡◌, ◌+◌, ◌<◌, ◌≤◌, ◌++◌, length, take, vec_len, decimal, OnOk, IsOk};
 
 use entry_codec::put_decimal;
 use rights_types::OutOfMemory;
 use std::alloc::Allocator;
 
-/// No number has more.
+/// Digits of a 64-bit number, at most.
 pub const MAX_DIGITS: usize = 20;
 
-/// Sees that there is room for so many bytes behind `end`.
+/// Makes sure that there is space for this many bytes after `end`.
 #[inline(always)]
 pub(crate) fn make_room<A: Allocator>(
     bytes: &mut Vec<u8, A>,
@@ -27,7 +28,7 @@ pub(crate) fn make_room<A: Allocator>(
     grow(bytes, count)
 }
 
-/// All the memory that it gets is filled, so that it is seldom called.
+/// Fills all the memory that it gets, so that it is rarely called.
 #[cold]
 #[inline(never)]
 fn grow<A: Allocator>(bytes: &mut Vec<u8, A>, count: usize) -> Result<(), OutOfMemory>
@@ -52,7 +53,7 @@ pub(crate) fn put_text(bytes: &mut [u8], at: usize, text: &[u8]) -> usize
     end
 }
 
-/// The same for a word whose length the compiler knows, which makes it a store or two.
+/// Writes a word whose length the compiler knows, which makes this a store or two.
 #[inline(always)]
 fn put_word<const N: usize>(bytes: &mut [u8], at: usize, word: &[u8; N]) -> usize
     requires { at + N ≤ length bytes.old }
@@ -65,7 +66,7 @@ fn put_word<const N: usize>(bytes: &mut [u8], at: usize, word: &[u8; N]) -> usiz
     at + N
 }
 
-/// A word and its number.
+/// Writes a word and a number.
 #[inline(always)]
 pub(crate) fn put_field<const N: usize>(
     bytes: &mut [u8],

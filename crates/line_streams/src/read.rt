@@ -1,4 +1,4 @@
-//! Reading once.
+//! Reading once, and again after an interruption.
 ghost use Rattle.std.specs.Prelude.{◌≡◌, length};
 ghost use Rattle.std.specs.Io.{ReadsAtMost};
 ghost use Rattle.std.specs.Io.KnownBytes.{ReadConsumes};
@@ -10,7 +10,8 @@ use std::io::{ErrorKind, Read};
 #[derive(Clone, Copy, Debug, PartialEq, Eq)]
 pub struct ReadFault;
 
-/// Reads once, again where it was interrupted. 0 bytes are the end, where there is room for any.
+/// Reads once, and again if it was interrupted. Returns how many bytes were read; 0 means the end, if the buffer is
+/// not empty.
 pub fn read_some<R: Read>(reader: &mut R, room: &mut [u8]) -> Result<usize, ReadFault>
     ensures same { length room.new ≡ length room.old }
     ensures bound { ReadsAtMost result room.new }
@@ -29,7 +30,7 @@ pub fn read_some<R: Read>(reader: &mut R, room: &mut [u8]) -> Result<usize, Read
     Err(ReadFault)
 }
 
-/// Whether a read or a write was interrupted, and is to be tried again.
+/// Whether a read or a write was interrupted and should be retried.
 pub(crate) fn is_interrupted(error: &io::Error) -> bool {
     error.kind() == ErrorKind::Interrupted
 }

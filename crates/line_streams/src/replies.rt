@@ -1,4 +1,4 @@
-//! Replies on their way to a writer.
+//! Replies that wait to be written.
 ghost use Rattle.std.specs.Prelude.{◌≡◌, ℕ, List, [], ◌++◌, ◌<◌, ◌≤◌, ◌+◌, length, decimal, OnOk, OnErr, IsOk};
 ghost use Rattle.std.specs.Io.KnownBytes.{Appends};
 ghost use Rattle.line_streams.specs.Fronts.{AppendsFront};
@@ -11,14 +11,15 @@ use std::alloc::Allocator;
 use std::io::Write;
 use std::marker::Model;
 
-/// Whole replies of so many bytes are written before the next line is answered.
+/// Whole replies are written once they have this many bytes, before the next line is answered.
 pub const BLOCK: usize = 65536;
 
-/// Replies that wait to be written: whole ones, and behind them the part of the next one that is made so far. So no
-/// refused growth leaves a part of a reply among the whole ones.
+/// Replies that wait to be written: whole ones, and then the beginning of the next one. If memory runs out, an
+/// unfinished reply is not among the whole ones.
 #[derive(Drop)]
 pub struct Replies<A: Allocator> {
-    /// The replies, up to `end`. The bytes behind it are room, so that one test tells whether a word and its number fit.
+    /// The replies, up to `end`. The bytes after it are free space, so one comparison tells whether a word and its
+    /// number fit.
     bytes: Vec<u8, A>,
     end: usize,
     whole: usize,
@@ -46,7 +47,7 @@ impl<A: Allocator> Replies<A> {
         }
     }
 
-    /// Sees that the reply at work may take so many bytes more without a request for memory.
+    /// Makes sure that the current reply can grow by this many bytes without a memory request.
     pub fn reserve(&mut self, count: usize) -> Result<(), OutOfMemory>
         ensures ok { OnOk result (count ≤ self.new.room) }
         ensures memory { count ≤ self.old.room → IsOk result }
@@ -57,8 +58,8 @@ impl<A: Allocator> Replies<A> {
         make_room(&mut self.bytes, self.end, count)
     }
 
-    /// Goes on with the reply at work. The words of replies are known at each call, so that a call in line copies them
-    /// by a store or two.
+    /// Appends to the current reply. Call sites know their words at compile time, so an inlined call copies them by a
+    /// store or two.
     #[inline(always)]
     pub fn put(&mut self, text: &[u8]) -> Result<(), OutOfMemory>
         ensures ok { OnOk result (self.new.part ≡ self.old.part ++ text.now) }
@@ -71,7 +72,7 @@ impl<A: Allocator> Replies<A> {
         Ok(())
     }
 
-    /// A word and its number.
+    /// Appends a word and a number.
     #[inline(always)]
     pub fn put_field<const N: usize>(
         &mut self,
@@ -88,7 +89,7 @@ impl<A: Allocator> Replies<A> {
         Ok(())
     }
 
-    /// Ends the reply at work with a line feed.
+    /// Ends the current reply with a line feed.
     pub fn finish(&mut self) -> Result<(), OutOfMemory>
         ensures ok { OnOk result (AddsReply self.old self.new self.old.part) }
         ensures kept { OnErr result (self.new.whole ≡ self.old.whole) }
@@ -107,7 +108,7 @@ impl<A: Allocator> Replies<A> {
         &self.bytes[..self.whole]
     }
 
-    /// Drops all, and keeps the memory.
+    /// Drops all replies, and keeps the memory.
     pub fn clear(&mut self)
         ensures { IsEmpty self.new }
     {
@@ -115,8 +116,7 @@ impl<A: Allocator> Replies<A> {
         self.whole = 0;
     }
 
-    /// Writes the whole replies, and drops all. After an `Err` the writer has taken a front of
-    /// them.
+    /// Writes the whole replies, and drops everything. On `Err` the writer has taken a prefix of them.
     pub fn write_to<W: Write>(&mut self, writer: &mut W) -> Result<(), WriteFault>
         ensures whole { OnOk result (Appends (W.contents writer.old) (W.contents writer.new) self.old.whole) }
         ensures empty { OnOk result (IsEmpty self.new) }
@@ -128,8 +128,7 @@ impl<A: Allocator> Replies<A> {
         Ok(())
     }
 
-    /// Writes the whole replies once they are a block. After an `Err` the writer has taken a front
-    /// of them.
+    /// Writes the whole replies if they fill a block. On `Err` the writer has taken a prefix of them.
     pub fn pass_on<W: Write>(&mut self, writer: &mut W) -> Result<(), WriteFault>
         requires { self.old.part ≡ [] }
         ensures whole { OnOk result ((text : List ℕ) × Appends (W.contents writer.old) (W.contents writer.new) text

@@ -1,4 +1,4 @@
-//! Words of a line, read one after another. One space parts them.
+//! The words of a line, read one after another. They are separated by single spaces.
 ghost use Rattle.std.specs.Prelude.{◌≡◌, ◌∷◌, ◌==◌, ◌≤◌, length, is_none, IfSome};
 ghost use Rattle.std.specs.List.{slice_split};
 ghost use Rattle.rights_types.specs.Ranges.{IsSite};
@@ -18,7 +18,7 @@ pub fn split_word(text: &[u8]) -> (&[u8], Option<&[u8]>)
     split_first(text, b' ')
 }
 
-/// What a text stands for, by a table.
+/// The meaning of a text, looked up in a table.
 pub fn named<X: Copy>(table: &[(&[u8], X)], text: &[u8]) -> Option<X>
     ensures { result ≡ named (names_of table.now) text.now }
 {
@@ -30,7 +30,7 @@ pub fn named<X: Copy>(table: &[(&[u8], X)], text: &[u8]) -> Option<X>
     None
 }
 
-/// What a name means that stands alone: no words are behind it.
+/// The meaning of a name, if no words follow it.
 pub fn alone<X: Drop>(meaning: X, words: Option<&[u8]>) -> Option<X>
     ensures { result ≡ alone meaning (words_left words.entry) }
 {
@@ -50,7 +50,8 @@ fn first_in(words: Option<&[u8]>, low: u64, high: u64) -> Option<(u64, Option<&[
     first_decimal(words, b' ', low, high)
 }
 
-/// The number in the range that the only word spells: a decimal with no sign and no leading zero, as all numbers here.
+/// The number in the range that the only word spells: a decimal with no sign and no leading zero, like all numbers
+/// here.
 #[inline(always)]
 #[tactic(auto, unfolding(entry_codec::specs::Moves::only_number))]
 pub fn only_in(words: Option<&[u8]>, low: u64, high: u64) -> Option<u64>
@@ -64,7 +65,7 @@ pub fn only_in(words: Option<&[u8]>, low: u64, high: u64) -> Option<u64>
     }
 }
 
-/// The number of the site that the first word spells, and the words after it.
+/// The site number that the first word spells, and the words after it.
 #[inline(always)]
 pub fn first_site(words: Option<&[u8]>) -> Option<(u64, Option<&[u8]>)>
     ensures value { Finds (λ x. (x.0, words_left x.1)) result (first_site (words_left words.entry)) }
@@ -81,7 +82,7 @@ pub fn only_site(words: Option<&[u8]>) -> Option<SiteId>
     Some(SiteId::known(only_in(words, 1, MAX_SITES)?))
 }
 
-/// The site that the only word spells, where there is a word.
+/// The site that the only word spells, if there is a word.
 pub fn optional_site(words: Option<&[u8]>) -> Option<Option<SiteId>>
     ensures { result ≡ optional_site (words_left words.entry) }
 {

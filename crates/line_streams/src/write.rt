@@ -10,7 +10,7 @@ use std::io::Write;
 #[derive(Clone, Copy, Debug, PartialEq, Eq)]
 pub struct WriteFault;
 
-/// Writes once, again where it was interrupted, and answers how many bytes were taken: 0 where it failed.
+/// Writes once, and again if it was interrupted. Returns how many bytes were taken; 0 if the write failed.
 pub fn write_some<W: Write>(writer: &mut W, text: &[u8]) -> usize
     ensures within { result ≤ length text.now }
     ensures bytes { Appends (W.contents writer.old) (W.contents writer.new) (take result text.now) }
@@ -28,7 +28,7 @@ pub fn write_some<W: Write>(writer: &mut W, text: &[u8]) -> usize
     0
 }
 
-/// Writes the text, in as many writes as it takes. Where that fails, a front of it is written.
+/// Writes the whole text, in as many writes as it takes. On `Err` a prefix of it was written.
 pub fn write_whole<W: Write>(writer: &mut W, text: &[u8]) -> Result<(), WriteFault>
     ensures whole { OnOk result (Appends (W.contents writer.old) (W.contents writer.new) text.now) }
     ensures front { AppendsFront (W.contents writer.old) (W.contents writer.new) text.now }

@@ -16,7 +16,7 @@ abbrev pub spending_text : Spending → List ℕ
 spending_text (Spent number) = codes "spent " ++ decimal number
 spending_text (Queued ticket) = codes "queued " ++ decimal ticket
 
--- what became of a spend that waited
+-- the state of a spend that waited
 abbrev pub status_text : Status → List ℕ
 status_text Waiting = codes "waiting"
 status_text (SpentAt number) = codes "spent " ++ decimal number
@@ -43,6 +43,6 @@ desk_error_name TimeWentBack = codes "TimeWentBack"
 abbrev pub error_text : DeskError → List ℕ
 error_text error = codes "error " ++ desk_error_name error
 
--- the line is no command
+-- the line spells no command
 abbrev pub bad_command : List ℕ
 bad_command = codes "error BadCommand"

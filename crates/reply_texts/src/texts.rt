@@ -1,5 +1,5 @@
-//! One function for each kind of reply, which appends its text to the reply at work. After an `Err` the reply at work has some
-//! part of it, and the whole replies are unchanged.
+//! One function for each kind of reply, which appends its text to the current reply. On `Err` the current reply may
+//! have a part of it, and the whole replies are unchanged.
 ghost use Rattle.std.specs.Prelude.{◌≡◌, ◌≤◌, ◌++◌, length, OnOk, IsOk};
 ghost use Rattle.reply_texts.specs.Texts.{number_text, spending_text, status_text, desk_error_name, error_text, bad_command};
 
@@ -9,7 +9,7 @@ use rights_types::OutOfMemory;
 use site_core::{DeskError, Spending};
 use std::alloc::Allocator;
 
-/// No text of this crate is longer, the line feed behind it included.
+/// The longest text of this crate, with the line feed after it, in bytes.
 pub const REPLY_ROOM: usize = 32;
 
 /// Appends the number of a new entry.
@@ -22,7 +22,7 @@ pub fn put_number<A: Allocator>(replies: &mut Replies<A>, number: u64) -> Result
     replies.put_field(b"number ", number)
 }
 
-/// Appends whether a spend was served at once or waits.
+/// Appends whether a spend was served at once or waits, with its number.
 #[inline(always)]
 pub fn put_spending<A: Allocator>(
     replies: &mut Replies<A>,
@@ -38,7 +38,7 @@ pub fn put_spending<A: Allocator>(
     }
 }
 
-/// Appends what became of a spend that waited.
+/// Appends the state of a spend that waited.
 #[inline(always)]
 pub fn put_status<A: Allocator>(replies: &mut Replies<A>, status: Status) -> Result<(), OutOfMemory>
     ensures ok { OnOk result (replies.new.part ≡ replies.old.part ++ status_text status) }
@@ -53,7 +53,7 @@ pub fn put_status<A: Allocator>(replies: &mut Replies<A>, status: Status) -> Res
     }
 }
 
-/// Appends a refusal of a desk.
+/// Appends the refusal of a desk.
 pub fn put_error<A: Allocator>(
     replies: &mut Replies<A>,
     error: DeskError,
@@ -66,7 +66,7 @@ pub fn put_error<A: Allocator>(
     replies.put(desk_error_name(error))
 }
 
-/// Appends that a line is no command.
+/// Appends that a line spells no command.
 pub fn put_bad_command<A: Allocator>(replies: &mut Replies<A>) -> Result<(), OutOfMemory>
     ensures ok { OnOk result (replies.new.part ≡ replies.old.part ++ bad_command) }
     ensures kept { replies.new.whole ≡ replies.old.whole }
@@ -75,7 +75,7 @@ pub fn put_bad_command<A: Allocator>(replies: &mut Replies<A>) -> Result<(), Out
     replies.put(b"error BadCommand")
 }
 
-/// The name of a refusal, of 16 bytes at most.
+/// The name of a refusal, at most 16 bytes.
 pub fn desk_error_name(error: DeskError) -> &'static [u8]
     ensures name { result.now ≡ desk_error_name error }
     ensures short { length result.now ≤ 16 }

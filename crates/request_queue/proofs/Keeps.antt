@@ -1,4 +1,4 @@
--- Each change keeps a queue's limits.
+-- Each change preserves a queue's limits.
 use Rattle.std.proofs.Common.{◌≡◌, ℕ, suc, ◌+◌, ◌<◌, ◌≤◌, Bool, true, false, cond, ◌==◌, List, [], ◌∷◌, ◌++◌, length, get_or, take, drop, remove, map, All, count_by, refl, sym, ap, ◌∙◌, subst, arith}
 use Rattle.std.specs.List.Sorted.{IsPermutation}
 use Rattle.std.proofs.lemmas.Bool.{eqb-true, ne_eqb}
@@ -18,7 +18,7 @@ ticket_of r = r.ticket
 abbrev key_of : ℕ × Outcome → ℕ
 key_of e = e.0
 
--- no ticket stands twice
+-- no ticket occurs twice
 abbrev IsOnce : List ℕ → Type 0
 IsOnce ts = (t : ℕ) → count_by (λ k. k == t) ts ≤ 1
 
@@ -28,7 +28,7 @@ once_permuted ts us moved once t = omega (arith, sum_by-IsPermutation (λ k. con
 once_rest : (t : ℕ) (ts : List ℕ) → IsOnce (t ∷ ts) → IsOnce ts
 once_rest t ts once u = omega (arith, sum_by-cons (λ k. cond (k == u) 1 0) t ts, once u)
 
--- the next ticket does not stand among those that were given
+-- the next ticket was not given before
 not_given : (n : ℕ) (ts : List ℕ) → All (λ t. (1 ≤ t) × (t < n)) ts → count_by (λ k. k == n) ts ≡ 0
 not_given n [] given = refl
 not_given n (t ∷ ts) given =

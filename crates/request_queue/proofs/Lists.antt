@@ -1,4 +1,4 @@
--- Laws of lists that say nothing of queues.
+-- Laws of lists, independent of queues.
 use Rattle.std.proofs.Common.{◌≡◌, ℕ, suc, ◌+◌, ◌<◌, ◌≤◌, Bool, true, false, not, cond, ◌==◌, List, [], ◌∷◌, ◌++◌, length, get_or, take, drop, map, All, filter, count_by, position, Option, Some, None, refl, sym, ap, ◌∙◌, subst, arith}
 use Rattle.std.specs.List.{position_or_len}
 use Rattle.std.specs.Map.{lookup}
@@ -9,11 +9,11 @@ use Rattle.std.proofs.lemmas.List.Elements.{All-from_get_or, All-head, All-tail,
 use Rattle.std.proofs.lemmas.List.Quantifiers.{position-Some}
 use Rattle.std.proofs.lemmas.List.Sums.{sum_by-cons, fails_before_first}
 
--- a place in a list is one in an equal list
+-- an index of a list is an index of an equal list
 pub place_in : {X : Type 0} (p : X → Bool) (seen xs : List X) (place : Option ℕ) → seen ≡ xs → place ≡ position p seen → position p xs ≡ place
 place_in p seen xs place same found = ap (position p) (sym same) ∙ sym found
 
--- x, at place i, is the first element that passes a test
+-- x, at index i, is the first element that passes a test
 pub record IsFirst {X : Type 0} (p : X → Bool) (xs : List X) (i : ℕ) (x : X) : Type 0 where
   pub within : i < length xs
   pub passes : p x ≡ true
@@ -36,7 +36,7 @@ is_false : (b : Bool) (n : ℕ) → cond b (Some n) None ≡ None → b ≡ fals
 is_false true n e = cc
 is_false false n e = refl
 
--- where there is no such element, none passes
+-- if there is no such element, none passes
 pub none_passes : {X : Type 0} (p : X → Bool) (xs : List X) → position p xs ≡ None → All (λ y. p y ≡ false) xs
 none_passes p xs none k d lt =
     let past : length xs ≤ position_or_len p xs = ltb-false (position_or_len p xs) (length xs) (is_false _ (position_or_len p xs) none) in
@@ -57,7 +57,7 @@ lookup_none {X} t (x ∷ xs) none =
     ap (λ (b : Bool). cond b (Some x.1) (lookup (λ k. k == t) xs)) (All-head (λ y. (y.0 == t) ≡ false) x xs none)
     ∙ lookup_none t xs (All-tail (λ y. (y.0 == t) ≡ false) x xs none)
 
--- a list in which no entry has this key stays whole
+-- removing a key that no entry has leaves a list unchanged
 pub others_stay : {X : Type 0} (t : ℕ) (es : List (ℕ × X)) → All (λ x. (x.0 == t) ≡ false) es → filter (λ x. not (x.0 == t)) es ≡ es
 others_stay {X} t [] none = refl
 others_stay {X} t (x ∷ xs) none =
@@ -68,7 +68,7 @@ is_off : (b : Bool) (n : ℕ) → cond b 1 0 + n ≡ 0 → b ≡ false
 is_off true n e = absurd (omega arith)
 is_off false n e = refl
 
--- no entry has a key that does not stand among the keys
+-- if a key is not among the keys, no entry has it
 pub not_among : {X : Type 0} (t : ℕ) (es : List (ℕ × X)) → count_by (λ k. k == t) (map (λ e. e.0) es) ≡ 0 → All (λ x. (x.0 == t) ≡ false) es
 not_among {X} t [] none = All-nil (λ y. (y.0 == t) ≡ false)
 not_among {X} t (x ∷ xs) none =

@@ -46,7 +46,7 @@ counted : (b : Bool) (all before after n : ℕ) → b ≡ true → cond b 1 0 + 
 counted true all before after n is sum le one = omega arith
 counted false all before after n is sum le one = cc
 
--- behind the outcome of a ticket there is no other of it
+-- after the outcome of a ticket there is no other of it
 none_behind : (q : QueueValue) (t i : ℕ) (e : ℕ × Outcome) → IsQueue q → i < length q.outcomes → e ≡ get_or q.outcomes i e → (e.0 == t) ≡ true
     → All (λ x. is_of t x ≡ false) (drop (suc i) q.outcomes)
 none_behind q t i e h lt at is =

@@ -1,4 +1,4 @@
--- What each call of a queue answers and leaves.
+-- What each call of a queue returns and leaves.
 use Rattle.std.specs.Prelude.{◌≡◌, ℕ, ◌<◌, ◌≤◌, true, false, nat_lt, nat_le, ◌||◌, List, ◌∷◌, ◌++◌, Option, Some, None, Result, Ok, Err, if◌then◌else◌}
 use Rattle.std.specs.List.{All, slice_get, remove}
 use Rattle.rights_types.specs.declared.limits.TheConstants.{MAX_AMOUNT}
@@ -12,7 +12,7 @@ use Rattle.request_queue.specs.declared.request.Status.TheVariants.{Waiting, Spe
 use Rattle.request_queue.specs.declared.fault.QueueError.{QueueError}
 use Rattle.request_queue.specs.declared.fault.QueueError.TheVariants.{BadAmount, QueueFull}
 
--- why no request of this amount is put
+-- why a request for this amount is refused
 abbrev pub put_fault : QueueValue → ℕ → Option QueueError
 put_fault q amount =
     if nat_lt amount 1 || nat_lt MAX_AMOUNT amount then Some BadAmount
@@ -24,7 +24,7 @@ Puts old amount deadline (Ok ticket) new =
     (put_fault old amount ≡ None) × (ticket ≡ old.next) × (new ≡ with_request old amount deadline)
 Puts old amount deadline (Err fault) new = (put_fault old amount ≡ Some fault) × (new ≡ old)
 
--- the request at this place, which has this ticket, came to this outcome
+-- the request at this index, which has this ticket, ended with this outcome
 abbrev pub Settles : QueueValue → ℕ → Outcome → ℕ → QueueValue → Type 0
 Settles old index outcome ticket new =
     (r : Request) × (slice_get old.waiting index ≡ Some r) × (ticket ≡ r.ticket)
@@ -35,7 +35,7 @@ abbrev pub Serves : QueueValue → ℕ → QueueValue → Type 0
 Serves old number new =
     (r : Request) × (others : List Request) × (old.waiting ≡ r ∷ others) × (new ≡ settled old others r (Spent number))
 
--- the first request that is late came to an end
+-- the first late request expired
 abbrev pub Expires : QueueValue → ℕ → Option ℕ → QueueValue → Type 0
 Expires old now None new = All (λ (r : Request). now ≤ r.deadline) old.waiting × (new ≡ old)
 Expires old now (Some ticket) new =
@@ -43,7 +43,7 @@ Expires old now (Some ticket) new =
     × All (λ (s : Request). now ≤ s.deadline) before × (r.deadline < now) × (ticket ≡ r.ticket)
     × (new ≡ settled old (before ++ after) r Expired)
 
--- an outcome is told once, and its slot is free then
+-- an outcome is reported once, and its slot is then free
 abbrev pub TellsOutcome : QueueValue → ℕ → Status → QueueValue → Type 0
 TellsOutcome old t Waiting new = (outcome_of old t ≡ None) × (has_ticket t old.waiting ≡ true) × (new ≡ old)
 TellsOutcome old t (SaysSpent number) new = (outcome_of old t ≡ Some (Spent number)) × (new ≡ without old t)

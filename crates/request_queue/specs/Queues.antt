@@ -21,7 +21,7 @@ abbrev pub front_of : List Request → Option (ℕ × ℕ × ℕ)
 front_of [] = None
 front_of (r ∷ _) = Some (r.ticket, r.amount, r.deadline)
 
--- the amounts of these requests together
+-- the sum of the amounts of these requests
 abbrev pub total_of : List Request → ℕ
 total_of requests = sum_by (λ (r : Request). r.amount) requests
 
@@ -37,7 +37,7 @@ outcome_of q t = lookup (λ k. k == t) q.outcomes
 abbrev pub is_late : ℕ → Request → Bool
 is_late now r = nat_lt r.deadline now
 
--- the slots that are taken
+-- how many slots are taken
 abbrev pub used : QueueValue → ℕ
 used q = length q.waiting + length q.outcomes
 
@@ -50,11 +50,11 @@ with_request q amount deadline =
       next = q.next + 1;
     }
 
--- this request came to this outcome, and the others wait
+-- this request ended with this outcome, and the others wait
 abbrev pub settled : QueueValue → List Request → Request → Outcome → QueueValue
 settled q others r outcome = record { waiting = others; outcomes = q.outcomes ++ (r.ticket, outcome) ∷ []; next = q.next }
 
--- the outcome of this ticket was read
+-- the queue once the outcome of this ticket was read
 abbrev pub without : QueueValue → ℕ → QueueValue
 without q t = record { waiting = q.waiting; outcomes = filter (λ (e : ℕ × Outcome). not (e.0 == t)) q.outcomes; next = q.next }
 
@@ -62,7 +62,7 @@ without q t = record { waiting = q.waiting; outcomes = filter (λ (e : ℕ × Ou
 abbrev pub tickets : QueueValue → List ℕ
 tickets q = map (λ (r : Request). r.ticket) q.waiting ++ map (λ (e : ℕ × Outcome). e.0) q.outcomes
 
--- a queue that keeps its limits; no ticket stands in it twice
+-- a queue within its limits; no ticket occurs twice
 pub record IsQueue (q : QueueValue) : Type 0 where
   pub slots : used q ≤ SLOTS
   pub amounts : All (λ (r : Request). IsAmount r.amount) q.waiting

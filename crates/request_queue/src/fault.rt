@@ -1,6 +1,6 @@
 //! Why a request is refused.
 
-/// Why a request is not put into the queue, which then stays as it is. No ticket is used up.
+/// Why a request is refused. The queue is unchanged, and no ticket is used up.
 #[derive(Clone, Copy, Debug, PartialEq, Eq)]
 pub enum QueueError {
     /// The amount is outside 1 to 10^9.

@@ -1,4 +1,4 @@
-//! The queue of short requests.
+//! The queue of spends that wait for rights.
 ghost use Rattle.std.specs.Prelude.{◌≡◌, ℕ, ◌+◌, ◌*◌, ◌<◌, ◌≤◌, ◌==◌, ◌↔◌, length, IfOk, IfSome, IsSome, position};
 ghost use Rattle.request_queue.specs.Queues.{no_requests, front_of, total_of, has_ticket, is_late, IsQueue};
 ghost use Rattle.request_queue.specs.declared.request.Request.{Request};
@@ -17,8 +17,8 @@ pub const SLOTS: usize = 32;
 /// The greatest ticket; the first is 1.
 pub const LAST_TICKET: u64 = 1_000_000_000_000_000_000;
 
-/// The requests that wait, the oldest first, and the outcomes that were not read yet.
-/// Its memory is made once, by `new`.
+/// The waiting requests, the oldest first, and the outcomes that nobody has read yet. `new` allocates all of its
+/// memory.
 #[derive(Drop)]
 pub struct RequestQueue<A: Allocator = Global> {
     waiting: Vec<Request, A>,
@@ -41,7 +41,7 @@ impl<A: Allocator> Model for RequestQueue<A> {
 }
 
 impl<A: Allocator + Copy> RequestQueue<A> {
-    /// A queue with no request, whose first ticket will be 1.
+    /// An empty queue, whose first ticket will be 1. `OutOfMemory` if memory for its 32 slots is refused.
     pub fn new(alloc: A) -> Result<RequestQueue<A>, OutOfMemory>
         ensures { IfOk result (λ queue. queue ≡ no_requests) }
     {
@@ -54,8 +54,8 @@ impl<A: Allocator + Copy> RequestQueue<A> {
 }
 
 impl<A: Allocator> RequestQueue<A> {
-    /// Lets a spend of this amount wait behind all others, and answers its ticket. A deadline that
-    /// has passed already is no refusal.
+    /// Appends a request for this amount, 1 to 10^9, and returns its ticket. Errors, in this order: `BadAmount`,
+    /// `QueueFull`. A deadline that has already passed is accepted.
     pub fn put(&mut self, amount: u64, deadline: u64) -> Result<u64, QueueError>
         ensures { Puts self.old amount deadline result self.new }
     {
@@ -77,7 +77,7 @@ impl<A: Allocator> RequestQueue<A> {
         Ok(ticket)
     }
 
-    /// Ticket, amount and deadline of the request that is to be served next.
+    /// Ticket, amount and deadline of the next request to be served.
     pub fn front(&self) -> Option<(u64, Amount, u64)>
         ensures value { result ≡ front_of self.now.waiting }
         ensures some { IsSome result ↔ (0 < length self.now.waiting) }
@@ -87,7 +87,7 @@ impl<A: Allocator> RequestQueue<A> {
         Some((request.ticket, request.amount, request.deadline))
     }
 
-    /// The front request waits no more: the log entry of this number spent its amount.
+    /// Ends the request at the front: the log entry of this number spent its amount.
     pub fn serve_front(&mut self, number: u64)
         requires { 0 < length self.old.waiting }
         ensures { Serves self.old number self.new }
@@ -95,8 +95,8 @@ impl<A: Allocator> RequestQueue<A> {
         self.settle(0, Outcome::Spent(number));
     }
 
-    /// The first request whose deadline is less than `now` waits no more. Answers its ticket, or
-    /// None where no deadline has passed.
+    /// Ends the first request whose deadline is less than `now`, and returns its ticket; None if there is no such
+    /// request.
     pub fn expire_one(&mut self, now: u64) -> Option<u64>
         ensures expires { Expires self.old now result self.new }
         ensures fewer { IfSome result (λ _. length self.new.waiting + 1 ≡ length self.old.waiting) }
@@ -105,7 +105,7 @@ impl<A: Allocator> RequestQueue<A> {
         Some(self.settle(index, Outcome::Expired))
     }
 
-    /// The rights that all waiting requests are to spend.
+    /// The sum of the amounts of all waiting requests.
     pub fn total(&self) -> u64
         ensures value { result ≡ total_of self.now.waiting }
         ensures range { result ≤ SLOTS * MAX_AMOUNT }
@@ -114,7 +114,7 @@ impl<A: Allocator> RequestQueue<A> {
         total_amount(&self.waiting)
     }
 
-    /// How many requests wait.
+    /// How many requests wait, at most 32.
     pub fn waiting(&self) -> usize
         ensures value { result ≡ length self.now.waiting }
         ensures valid { IsQueue self.now }
@@ -122,7 +122,7 @@ impl<A: Allocator> RequestQueue<A> {
         self.waiting.len()
     }
 
-    /// How many outcomes were not read yet.
+    /// How many outcomes have not been read yet. With the waiting requests there are at most 32.
     pub fn unread(&self) -> usize
         ensures value { result ≡ length self.now.outcomes }
         ensures valid { IsQueue self.now }
@@ -130,8 +130,8 @@ impl<A: Allocator> RequestQueue<A> {
         self.outcomes.len()
     }
 
-    /// What became of the request of this ticket. An outcome is read once: reading it frees its
-    /// slot, and the ticket is then unknown.
+    /// The state of the request with this ticket. A final outcome is reported once: reading it frees its slot, and
+    /// from then on the ticket is unknown.
     pub fn status(&mut self, ticket: u64) -> Status
         ensures { TellsOutcome self.old ticket result self.new }
     {
@@ -149,7 +149,7 @@ impl<A: Allocator> RequestQueue<A> {
         }
     }
 
-    // The request at this place waits no more, and its outcome takes its slot. Answers its ticket.
+    // Ends the request at this index with this outcome, which takes over its slot. Returns its ticket.
     fn settle(&mut self, index: usize, outcome: Outcome) -> u64
         requires { index < length self.old.waiting }
         ensures { Settles self.old index outcome result self.new }
@@ -160,7 +160,7 @@ impl<A: Allocator> RequestQueue<A> {
     }
 }
 
-// The place of the first request whose deadline is less than `now`.
+// The index of the first request whose deadline is less than `now`.
 fn first_late(requests: &[Request], now: u64) -> Option<usize>
     ensures { result ≡ position (is_late now) requests.now }
 {

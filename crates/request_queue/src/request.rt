@@ -1,15 +1,15 @@
-//! A request, and what becomes of it.
+//! A request and its outcome.
 
 use rights_types::Amount;
 
 /// A spend that waits for rights.
 #[derive(Clone, Copy)]
 pub(crate) struct Request {
-    /// By which its status is asked, from 1.
+    /// Identifies the request; the first ticket is 1.
     pub(crate) ticket: u64,
-    /// The rights that it is to spend.
+    /// The rights that it will spend.
     pub(crate) amount: Amount,
-    /// The last time at which it may still wait, in whatever unit its site counts time.
+    /// The latest time at which it may still wait, in the unit in which its site counts time.
     pub(crate) deadline: u64,
 }
 
@@ -22,15 +22,15 @@ pub(crate) enum Outcome {
     Expired,
 }
 
-/// What a ticket stands for.
+/// The state of a ticket.
 #[derive(Clone, Copy, Debug, PartialEq, Eq)]
 pub enum Status {
     /// The request waits.
     Waiting,
-    /// It was served by the log entry of this number. This is said once.
+    /// It was served by the log entry of this number. Reported once.
     Spent(u64),
-    /// Its deadline passed. This is said once.
+    /// Its deadline passed. Reported once.
     Expired,
-    /// No such ticket was given, or its outcome was read before.
+    /// No such ticket was issued, or its outcome was read before.
     Unknown,
 }

@@ -20,7 +20,7 @@ or_false : (a : Bool) → (a || false) ≡ a
 or_false true = refl
 or_false false = refl
 
--- an account is its sums
+-- an account has the sums of its log
 abbrev made : ℕ → ℕ → ℕ → ℕ → ℕ → Bool → Account
 made n i s g b c = record { end = n; issued = i; spent = s; given = g; back = b; closed = c }
 
@@ -47,7 +47,7 @@ pub account_of-nil : account_of [] ≡ no_account
 account_of-nil =
     same_account (account_of []) no_account refl (rw moves_of-nil issued-nil) (rw moves_of-nil spent-nil) (rw moves_of-nil out-nil) (rw moves_of-nil taken_back-nil) refl
 
--- the account of a log with an entry more, which follows its end
+-- the account of a log with one more entry, which follows its end
 pub account_of-push : (es : List EntryValue) (e : EntryValue) (a : Account) → a ≡ account_of es → e.prev ≡ a.end → a.closed ≡ false
     → with_moves a e.moves ≡ account_of (es ++ e ∷ [])
 account_of-push es e a is next unclosed =

@@ -1,4 +1,4 @@
--- What is true of every book, and stays true.
+-- What is true of every book, and remains true.
 use Rattle.std.proofs.Common.{◌≡◌, ◌≢◌, ℕ, zero, suc, ◌+◌, ◌-◌, ◌*◌, ◌≤◌, ◌⊎◌, inl, inr, Bool, true, false, cond, eqb, List, length, get_or, set, replicate, refl, sym, ap, ◌∙◌, subst, arith}
 use Rattle.std.specs.List.{All}
 use Rattle.std.proofs.lemmas.Bool.{eq-eqb, ne_eqb, cases_eq, cases_lt}
@@ -84,7 +84,7 @@ given_term b is j =
       | inr out ↦ omega (arith, ap (λ (p : Peer). p.given) (out b.peers refl))
     ]
 
--- no more is taken back than was given
+-- no more is reclaimed than was given
 pub back_given : (b : BookValue) → IsBook b → b.own.back ≤ b.own.given
 back_given b is = omega (arith, is.given_is, is.back_is, sum_le (sites b) (λ j. (peer b j).back) (λ j. (peer b j).given) (λ j low high. is.back_within j))
 
@@ -189,7 +189,7 @@ peer_here old new o ms a low high = a.each o low high ∙ (rw (eq-eqb o o refl) 
 cong : {X : Type 0} (f : Peer → X) (p q : Peer) → p ≡ q → f p ≡ f q
 cong f p q e = ap f e
 
--- what a gift does not change, at another site
+-- a gift changes nothing of another site
 kept_other : {X : Type 0} (f : Peer → X) (old new : BookValue) (o : ℕ) (ms : List Move) → Applies old o ms new → ((p : Peer) (n : ℕ) → f (gifted_peer p n) ≡ f p)
     → (k : ℕ) → k ≢ o → f (peer new k) ≡ f (peer old k)
 kept_other f old new o ms a kept k ne =
@@ -287,7 +287,7 @@ applied_book old new o ms is low high other ranges kept a =
       );
     }
 
--- what the code leaves: gifts to each site, and then the origin's own entry
+-- the effect of the code: gifts to each site, and then the origin's own entry
 pub record IsBooked (x : BookValue) (o : ℕ) (ms : List Move) (log : Account) (y : BookValue) : Type 0 where
   pub applies : Applies x o ms y
   pub kept : IsAccount log → IsAccount (with_moves (peer x o).log ms)

@@ -1,4 +1,4 @@
--- How a caller meets what a book requires, by what its readers answer.
+-- How a caller meets the preconditions of a book, from what its readers return.
 use Rattle.std.proofs.Common.{◌≡◌, ◌≢◌, ℕ, zero, suc, ◌-◌, ◌≤◌, true, false, None, List, [], ◌∷◌, inl, inr, refl, arith}
 use Rattle.std.specs.List.{All, list_any}
 use Rattle.std.proofs.lemmas.Bool.{eq-eqb, ne_eqb, cases_lt, le-ltb}
@@ -21,13 +21,13 @@ none_from j Close is out = refl
 none_from j (CloseAt f) is out = refl
 none_from j (TakeBack k a) is out = rw (ne_eqb k j (λ e. out (omega (arith, e, is.0.0), omega (arith, e, is.0.1)))) refl
 
--- nothing is taken back from a number that no site has
+-- nothing is reclaimed from a number that no site has
 pub nothing_back : (j : ℕ) (ms : List Move) → All IsMove ms → (IsSite j → ⊥) → back j ms ≡ 0
 nothing_back j [] is out = back-nil j
 nothing_back j (m ∷ ms) is out =
     omega (arith, back-cons j m ms, none_from j m (All-head IsMove m ms is) out, nothing_back j ms (All-tail IsMove m ms is) out)
 
--- what was tested at each site holds at each number
+-- what was checked at each site holds for each number
 pub back_left : (b : BookValue) (ms : List Move) → All IsMove ms → ((j : ℕ) → 1 ≤ j → j ≤ 16 → back j ms ≤ (peer b j).given - (peer b j).back)
     → (j : ℕ) → back j ms ≤ (peer b j).given - (peer b j).back
 back_left b ms is tested zero = omega (arith, nothing_back 0 ms is (λ s. omega (arith, s.0)))
@@ -50,7 +50,7 @@ pub unrefused : (b : BookValue) (ms : List Move) → list_any (names_above (site
 unfolding check_fault
 unrefused b ms within others unclosed covered = rw (within, others, unclosed, covered) refl
 
--- a site may take back from another one, whatever it holds
+-- a site may reclaim from another one, whatever it holds
 pub take_back_unrefused : (b : BookValue) (j n : ℕ) → j ≤ sites b → j ≢ b.me → check_fault b (TakeBack j n ∷ []) ≡ None
 take_back_unrefused b j n high ne =
     unrefused b (TakeBack j n ∷ []) (rw (le-ltb (sites b) j high) refl) (rw (ne_eqb j b.me ne) refl) refl (rw (le-ltb (held_by b) 0 (omega arith)) refl)

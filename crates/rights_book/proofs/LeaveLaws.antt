@@ -1,4 +1,4 @@
--- What booking an entry leaves.
+-- The effect of booking an entry.
 use Rattle.std.proofs.Common.{◌≡◌, ◌≢◌, ℕ, ◌+◌, false, List, inl, inr, refl, sym, ap, ◌∙◌, arith}
 use Rattle.std.proofs.lemmas.Bool.{eq-eqb, cases_eq}
 use Rattle.rights_types.specs.Entries.{EntryValue}

@@ -51,7 +51,7 @@ few_more false p n most h = omega (arith, h)
 pub gifts-bound : (p : Peer) (o j : ℕ) (m : Move) → IsMove m → (let q : Peer = with_move_gift p o j m in q.gifts ≤ p.gifts + 1000000000)
 gifts-bound p o j m h = few_more (eqb j o) p (gift_to j m) 1000000000 (gift_to-bound j m h)
 
--- of the origin itself no gift is booked
+-- a gift to the origin itself is not booked
 pub no_gift_here : (p : Peer) (o : ℕ) (ms : List Move) → with_gifts p o o ms ≡ p
 no_gift_here p o ms = rw (eq-eqb o o refl) refl
 

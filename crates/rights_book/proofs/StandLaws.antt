@@ -1,4 +1,4 @@
--- The logs that a book stands for.
+-- The logs that a book represents.
 use Rattle.std.proofs.Common.{◌≡◌, ◌≢◌, ℕ, ◌+◌, ◌≤◌, pos, ◌-ℤ◌, Bool, true, false, cond, eqb, List, [], ◌∷◌, ◌++◌, inl, inr, refl, sym, ap, ◌∙◌, subst, arith}
 use Rattle.std.specs.List.{All}
 use Rattle.std.proofs.lemmas.Int.{ints}
@@ -53,7 +53,7 @@ new_stands me n =
 
 -- ---- moves of the book's own site
 
--- what its log leaves is what the book's site holds
+-- what its log leaves of the rights is what the book's site holds
 left_is_held : (b : BookValue) (log : List EntryValue) → StandsForOwn log b → rights_after (received_by b) (moves_of log) ≡ held_by b
 left_is_held b log s =
     omega (
@@ -191,7 +191,7 @@ gifts_me n me log applied =
     sum_same n (λ o. cond (eqb o me) 0 (to me (moves_of (logs_at me log applied o)))) (λ o. cond (eqb o me) 0 (to me (moves_of (applied o))))
     (λ o low high. gift_me (eqb o me) me log (applied o))
 
--- the site itself gives to another
+-- the site itself gives to another site
 gifts_other : (n me j : ℕ) (log : List EntryValue) (applied : ℕ → List EntryValue) → 1 ≤ me → me ≤ n → j ≢ me → applied me ≡ []
     → known_gifts n j (logs_at me log applied) ≡ known_gifts n j applied + to j (moves_of log)
 gifts_other n me j log applied low high ne none =

@@ -25,7 +25,7 @@ account_of es = record {
   closed = is_closed es;
 }
 
--- the account with one move more
+-- the account with one more move
 abbrev pub with_move : Account → Move → Account
 with_move a m = record {
   end = a.end + 1;
@@ -36,7 +36,7 @@ with_move a m = record {
   closed = a.closed || is_close m;
 }
 
--- the account with these moves more
+-- the account with these moves added
 abbrev pub with_moves : Account → List Move → Account
 with_moves a ms = record {
   end = a.end + length ms;
@@ -47,8 +47,8 @@ with_moves a ms = record {
   closed = a.closed || list_any is_close ms;
 }
 
--- for each of its numbers, a log issues, spends and gives the greatest amount at most, and takes back the greatest
--- total at most
+-- for each of its numbers, a log issues, spends and gives at most the greatest amount, and reclaims at most the
+-- greatest total
 pub record IsAccount (a : Account) : Type 0 where
   pub in_range : IsNumber a.end
   pub issues : a.issued ≤ a.end * MAX_AMOUNT

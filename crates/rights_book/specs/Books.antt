@@ -9,7 +9,7 @@ use Rattle.rights_book.specs.declared.peer.Peer.{Peer}
 use Rattle.rights_book.specs.Accounts.{no_account, with_moves, IsAccount}
 use Rattle.rights_book.specs.Peers.{no_peer, with_own, with_applied}
 
--- whose book it is, what its log adds up to, and what it knows of each site, from site 1 on
+-- whose book it is, the sums of its log, and what it knows of each site, from site 1 on
 pub record BookValue : Type 0 where
   pub me : ℕ
   pub own : Account
@@ -18,15 +18,15 @@ pub record BookValue : Type 0 where
 abbrev pub sites : BookValue → ℕ
 sites b = length b.peers
 
--- what is known of a site; nothing of one that the system does not have
+-- what is known of a site; nothing of a site that the system does not have
 abbrev pub peer : BookValue → ℕ → Peer
 peer b j = at_site b.peers j no_peer
 
--- the account of site j: its own, or that of what was applied of another log
+-- the account of site j: of its own log, or of what was applied of another log
 abbrev pub account : BookValue → ℕ → Account
 account b j = if j == b.me then b.own else (peer b j).log
 
--- what all other sites gave to it
+-- what all other sites gave to this one
 abbrev pub received_by : BookValue → ℕ
 received_by b = (peer b b.me).gifts
 
@@ -38,7 +38,7 @@ held_by b = (b.own.issued + received_by b + b.own.back) - (b.own.given + b.own.s
 abbrev pub known_by : BookValue → ℕ → ℤ
 known_by b j = let a = account b j in let p = peer b j in pos (a.issued + p.gifts + p.given + a.back) -ℤ pos (a.given + a.spent)
 
--- a book of site me among n, at the start
+-- the book of site me among n, at the start
 abbrev pub new_book : ℕ → ℕ → BookValue
 new_book me n = record { me = me; own = no_account; peers = replicate n no_peer }
 
@@ -56,11 +56,11 @@ pub record Applies (old : BookValue) (o : ℕ) (ms : List Move) (new : BookValue
   pub same_own : new.own ≡ old.own
   pub each : (j : ℕ) → 1 ≤ j → j ≤ sites old → peer new j ≡ with_applied old.me (peer old j) o j ms
 
--- the numbers that were applied of all logs
+-- the sum of the numbers that were applied of all logs
 abbrev pub applied_by : BookValue → ℕ
 applied_by b = sum_sites (sites b) (λ o. (peer b o).log.end)
 
--- what is true of every book, whatever the logs
+-- what is true of every book, whatever the logs are
 pub record IsBook (b : BookValue) : Type 0 where
   pub some : MIN_SITES ≤ sites b
   pub few : sites b ≤ MAX_SITES

@@ -31,7 +31,7 @@ is_closed_site b (Some j) = (account b j).closed
 abbrev pub gives_to_closed : BookValue → Move → Bool
 gives_to_closed b m = is_closed_site b (receiver_of m)
 
--- the first cause why these moves are refused
+-- the first cause for which these moves are refused
 unfoldable pub check_fault : BookValue → List Move → Option BookError
 check_fault b ms =
     if list_any (names_above (sites b)) ms then Some NoSuchSite

@@ -1,4 +1,4 @@
--- What a book's readers answer once it booked an entry, beside what they answered before.
+-- What a book's readers return after it booked an entry, compared with before.
 use Rattle.std.specs.Prelude.{◌≡◌, ◌≢◌, ℕ, ◌+◌, List, length}
 use Rattle.std.specs.List.{list_any}
 use Rattle.rights_types.specs.Entries.{EntryValue, own, closes}

@@ -4,7 +4,7 @@ ghost use Rattle.rights_book.specs.Accounts.{no_account, with_move, with_moves, 
 
 use rights_types::{MAX_NUMBER, Move};
 
-/// What the moves of one log add up to.
+/// The sums over the moves of one log.
 #[derive(Clone, Copy)]
 pub(crate) struct Account {
     /// The number of the log's last entry.
@@ -13,7 +13,7 @@ pub(crate) struct Account {
     pub(crate) spent: u64,
     /// What was given to other sites.
     pub(crate) given: u64,
-    /// What was taken back. It is wide, since nothing here bounds what another site takes back.
+    /// What was reclaimed. It has 128 bits, since nothing here bounds what another site reclaims.
     pub(crate) back: u128,
     /// Whether the log ends in a closing move.
     pub(crate) closed: bool,

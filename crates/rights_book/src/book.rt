@@ -16,15 +16,15 @@ use rights_types::{
 use std::alloc::{Allocator, Global};
 use std::marker::Model;
 
-/// The rights that a book may know a site to have, at most: 17 * 10^18 as a site holds them, and the
-/// greatest take backs that a log has numbers for.
+/// The most rights that a book can know a site to have: 17 * 10^18, the most that a site holds, and the greatest
+/// reclaims that a log has numbers for.
 pub const MAX_KNOWN: u128 = 1_000_000_017_000_000_000_000_000_000;
 
-/// What one site holds, gave and received, and what it knows of the others: sums over its own log
-/// and over the entries that it applied of each other one. The rights are those of the Bounded
-/// Counter (Balegas and others, SRDS 2015) with bound 0; taking back is this project's own.
+/// What one site holds, gave and received, and what it knows of the others: sums over its own log and over the entries
+/// of the others that it applied. The rights are those of the Bounded Counter (Balegas and others, SRDS 2015) with
+/// bound 0; reclaiming is this project's own.
 ///
-/// Readers cost the same whatever the logs hold, and no call but `new` takes memory.
+/// Readers take constant time however long the logs are, and only `new` allocates.
 #[derive(Drop)]
 pub struct Book<A: Allocator = Global> {
     me: SiteId,
@@ -49,7 +49,8 @@ impl<A: Allocator> Book<A> {
     ghost use Rattle.rights_book.specs.Known.{logs_at, known};
     ghost use Rattle.rights_book.specs.StandsFor.{StandsForOwn, StandsForApplied, StandsFor, own_entry};
 
-    /// The book of site `me` among so many sites, 2 to 16, where nothing is written or applied.
+    /// The book of site `me` in a system of `sites` sites, 2 to 16, before anything was written or applied.
+    /// `OutOfMemory` if its memory is refused.
     pub fn new(alloc: A, me: SiteId, sites: u64) -> Result<Book<A>, OutOfMemory>
         requires sites { (MIN_SITES ≤ sites) × (sites ≤ MAX_SITES) }
         requires me { me ≤ sites }
@@ -70,8 +71,8 @@ impl<A: Allocator> Book<A> {
         })
     }
 
-    /// Whether the book's site may write these moves as its next entry. Not tested here: how many
-    /// they are, whether the site's log has numbers for them or has closed, and what they take back.
+    /// Checks whether the book's site may write these moves as its next entry; `BookError` has the order. Not checked
+    /// here: how many moves there are, whether the log is open and has numbers for them, and what they reclaim.
     /// Closing moves pass.
     #[tactic(auto, unfolding(crate::specs::Checks::check_fault))]
     pub fn check(&self, moves: &[Move]) -> Result<(), BookError>
@@ -94,7 +95,7 @@ impl<A: Allocator> Book<A> {
         Ok(())
     }
 
-    /// Books the next entry of the site's own log. A closing move closes it, wherever it stands.
+    /// Books the next entry of the site's own log. A closing move closes it, at whatever position it is.
     #[inline(always)]
     pub fn own(&mut self, moves: &[Move])
         requires checked { check_fault self.old moves.now ≡ None }
@@ -116,9 +117,8 @@ impl<A: Allocator> Book<A> {
         add_own(&mut self.peers, moves);
     }
 
-    /// Books the next entry of the origin's log. Its moves count as the origin's, whatever site the
-    /// entry names; gifts to the origin itself and to sites that the system does not have go to
-    /// nobody.
+    /// Books the next entry of the origin's log. Its moves count as the origin's, whatever site the entry names; gifts
+    /// to the origin itself, and to sites that the system does not have, are ignored.
     pub fn apply<B: Allocator>(&mut self, origin: SiteId, entry: &Entry<B>)
         requires site { origin ≤ sites self.old }
         requires other { origin ≢ self.old.me }
@@ -153,8 +153,8 @@ impl<A: Allocator> Book<A> {
         self.peers.len() as u64
     }
 
-    /// The number of the last entry of that site's log that was applied, at most 10^9. It is 0 where
-    /// none was, for the book's own site, and for a site that the system does not have.
+    /// The number of the last entry of that site's log that was applied, at most 10^9. It is 0 if none was, for the
+    /// book's own site, and for a site that the system does not have.
     pub fn applied(&self, origin: SiteId) -> u64
         ensures value { result ≡ (peer self.now origin).log.end }
         ensures range { result ≤ MAX_NUMBER }
@@ -186,7 +186,7 @@ impl<A: Allocator> Book<A> {
         ensures stands_known { (log : List EntryValue) (applied : ℕ → List EntryValue) → StandsFor log applied self.now
             → pos result ≡ known (sites self.now) self.now.me (logs_at self.now.me log applied) }
 
-        // No cut of the log, so also none within its last entry, gives or spends what was not held.
+        // No prefix of the log, even one that ends within its last entry, gives or spends what was not held.
         ensures never_short { (log : List EntryValue) (applied : ℕ → List EntryValue) → StandsFor log applied self.now
             → IsNeverShort (sites self.now) (received (sites self.now) self.now.me applied) (moves_of log) }
     {
@@ -215,7 +215,7 @@ impl<A: Allocator> Book<A> {
         self.peer(origin).received
     }
 
-    /// What this site gave to that one, taken back or not.
+    /// What this site gave to that one, reclaimed or not.
     pub fn given_to(&self, site: SiteId) -> u64
         ensures value { result ≡ (peer self.now site).given }
         ensures range { result ≤ MAX_TOTAL }
@@ -224,7 +224,7 @@ impl<A: Allocator> Book<A> {
         self.peer(site).given
     }
 
-    /// What this site gave to all others, taken back or not.
+    /// What this site gave to all others, reclaimed or not.
     pub fn given(&self) -> u64
         ensures value { result ≡ self.now.own.given }
         ensures sum { result ≡ sum_sites (sites self.now) (λ j. (peer self.now j).given) }
@@ -234,7 +234,7 @@ impl<A: Allocator> Book<A> {
         self.own.given
     }
 
-    /// What this site took back from that one, at most what it gave to it.
+    /// What this site reclaimed from that one, at most what it gave to it.
     pub fn back(&self, site: SiteId) -> u64
         ensures value { result ≡ (peer self.now site).back }
         ensures range { result ≤ (peer self.now site).given }
@@ -243,7 +243,7 @@ impl<A: Allocator> Book<A> {
         self.peer(site).back
     }
 
-    /// What this site took back from all others, at most what it gave to them.
+    /// What this site reclaimed from all others, at most what it gave to them.
     pub fn taken_back(&self) -> u64
         ensures value { result ≡ self.now.own.back }
         ensures sum { result ≡ sum_sites (sites self.now) (λ j. (peer self.now j).back) }
@@ -271,8 +271,8 @@ impl<A: Allocator> Book<A> {
         self.own.spent
     }
 
-    /// The rights of that site, as far as this one's log and what it applied tell. It is negative
-    /// where the site used gifts that were not applied here yet.
+    /// The rights of that site as far as this book knows, by its own log and what it applied. Negative if the site
+    /// used gifts that were not applied here yet.
     pub fn known(&self, site: SiteId) -> i128
         ensures value { result ≡ known_by self.now site }
         ensures itself { site ≡ self.now.me → result ≡ pos (held_by self.now) }
@@ -286,8 +286,7 @@ impl<A: Allocator> Book<A> {
         gained as i128 - (log.given + log.spent) as i128
     }
 
-    /// Whether that site's log ends in a closing move, as far as it was applied; for the book's own
-    /// site, whether its log does.
+    /// Whether that site's log is closed, as far as it was applied; for the book's own site, whether its own log is.
     pub fn closed(&self, site: SiteId) -> bool
         ensures value { result ≡ (account self.now site).closed }
         ensures stands { (log : List EntryValue) (applied : ℕ → List EntryValue) → StandsFor log applied self.now

@@ -1,4 +1,4 @@
-//! What a book tests of moves, and their sums.
+//! The checks that a book makes of moves, and their sums.
 ghost use Rattle.std.specs.Prelude.{◌≡◌, ◌*◌, ◌≤◌, length};
 ghost use Rattle.std.specs.List.{list_any};
 ghost use Rattle.rights_types.specs.Rights.{covers, to};
@@ -6,7 +6,7 @@ ghost use Rattle.rights_book.specs.Checks.{names_above};
 
 use rights_types::{MAX_AMOUNT, MAX_MOVES, Move, SiteId};
 
-/// Whether a move names a site above the last one.
+/// Whether a move names a site above the last one of the system.
 pub(crate) fn any_above(moves: &[Move], sites: u64) -> bool
     ensures { result ≡ list_any (names_above sites) moves.now }
 {
@@ -22,8 +22,8 @@ fn names_above(m: &Move, sites: u64) -> bool
     }
 }
 
-/// Whether, in order, each move costs no more than what is held after the moves before it. It
-/// counts wide, since nothing bounds how many moves there are.
+/// Whether each move, in order, costs no more than is held after the moves before it. It computes in 128 bits, since
+/// nothing bounds how many moves there are.
 pub(crate) fn covers(rights: u64, moves: &[Move]) -> bool
     ensures { result ≡ covers rights moves.now }
 {

@@ -1,5 +1,5 @@
-//! The book of rights of one site: what its own log and the entries that it applied of the others
-//! issued, spent, gave and took back, as running totals.
+//! The book of rights of one site: what its own log and the entries that it applied of the others issued, spent, gave
+//! and reclaimed, as running totals.
 #![tactic(auto)]
 
 mod account;

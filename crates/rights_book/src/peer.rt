@@ -9,10 +9,10 @@ ghost use Rattle.rights_book.specs.Peers.{no_peer, with_own_move, with_own, with
 use crate::account::Account;
 use rights_types::{Amount, MAX_MOVES, MAX_RECEIVED, MAX_TOTAL, Move, SiteId};
 
-/// What a book knows of one site. Of the book's own site it holds only the gifts to it.
+/// What a book knows of one site. For the book's own site it has only the gifts to it.
 #[derive(Clone, Copy)]
 pub(crate) struct Peer {
-    /// What was applied of the site's log.
+    /// The sums of what was applied of the site's log.
     pub(crate) log: Account,
     /// What it gave to the book's site.
     pub(crate) received: u64,
@@ -20,12 +20,12 @@ pub(crate) struct Peer {
     pub(crate) gifts: u64,
     /// What the book's site gave to it.
     pub(crate) given: u64,
-    /// What the book's site took back from it.
+    /// What the book's site reclaimed from it.
     pub(crate) back: u64,
 }
 
 impl Peer {
-    /// A site of which nothing is known.
+    /// A site of which nothing is known yet.
     pub(crate) fn new() -> Peer
         ensures { result ≡ no_peer }
     {
@@ -39,7 +39,7 @@ impl Peer {
     }
 }
 
-/// Books what these moves of the book's own site give to each site and take back from it.
+/// Books what these moves of the book's own site give to, and reclaim from, each site.
 pub(crate) fn add_own(peers: &mut [Peer], moves: &[Move])
     requires named { All (NamesWithin (length peers.old)) moves.now }
     requires few { length moves.now ≤ MAX_MOVES }
@@ -100,7 +100,7 @@ fn add_move_gift(peers: &mut [Peer], origin: SiteId, m: &Move)
     }
 }
 
-// A gift to the origin itself, or to a site outside the system, is none.
+// Ignores a gift to the origin itself, or to a site outside the system.
 fn add_gift(peers: &mut [Peer], origin: SiteId, peer: SiteId, amount: Amount)
     requires { (j : ℕ) → 1 ≤ j → j ≤ length peers.old → (at_site peers.old j no_peer).gifts ≤ MAX_RECEIVED + MAX_TOTAL }
     ensures { (j : ℕ) → 1 ≤ j → j ≤ length peers.old →

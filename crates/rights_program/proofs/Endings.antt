@@ -40,7 +40,7 @@ stopped_refuses help h = h
 stopped_refuses version h = h
 stopped_refuses nothing h = h
 
--- the status 2 tells of a refusal
+-- status 2 means a refusal
 pub two_is_bad : (fault : Fault) → status_of fault ≡ 2 → fault ≡ BadCommandLine
 two_is_bad BadCommandLine is = refl
 two_is_bad StartedBefore is = absurd (omega (arith, is))

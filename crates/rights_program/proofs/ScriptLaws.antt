@@ -1,4 +1,4 @@
--- A program that never came to its script.
+-- A program that never reached its script.
 use Rattle.std.proofs.Common.{◌≡◌, subst, refl, ℕ, List, Option, Err}
 use Rattle.transfer_world.proofs.RunLaws.{nothing_ran}
 use Rattle.line_streams.specs.declared.fault.LineFault.TheVariants as script_fault

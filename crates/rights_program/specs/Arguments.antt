@@ -1,4 +1,4 @@
--- The words that a process was given.
+-- The arguments of a process.
 use Rattle.std.specs.Prelude.{List, drop, map}
 use Rattle.std.specs.String.{string_bytes}
 use Rattle.std.specs.declared.string.String.{String}

@@ -1,4 +1,4 @@
--- What the program did of a command.
+-- The effect of a command of the program.
 use Rattle.std.specs.Prelude.{◌≡◌, ⊤, ℕ, List, Option, Result, Ok, Err}
 use Rattle.std.specs.Io.KnownBytes.{Appends}
 use Rattle.line_streams.specs.Fronts.{AppendsFront}
@@ -15,19 +15,19 @@ abbrev pub ending_of_site : Result (Unit {0}) SiteFault → Ending
 ending_of_site (Ok done) = Ok done
 ending_of_site (Err fault) = Err (fault_of_site fault)
 
--- a text was printed whole, or a write failed behind a front of it
+-- a text was printed whole, or a write failed after a prefix of it
 abbrev pub Prints : Option (List ℕ) → Option (List ℕ) → List ℕ → Ending → Type 0
 Prints held holds text (Ok done) = Appends held holds text
 Prints held holds text (Err fault) = (fault ≡ WriteFailed) × AppendsFront held holds text
 
--- a script is answered, the program ends as its site does, and a help text or the version is printed
+-- a script is answered, or the program ends as its site does, or a help text or the version is printed
 abbrev pub Does : Type 0 → Command → Option (List ℕ) → Option (List ℕ) → Option (List ℕ) → Option (List ℕ) → Ending → Type 0
 Does A Sim given left held holds ending = Answered A given left held holds ending
 Does A (Run config) given left held holds ending = (ended : Result (Unit {0}) SiteFault) × (ending ≡ ending_of_site ended)
 Does A (Help text) given left held holds ending = Prints held holds text ending
 Does A Version given left held holds ending = Prints held holds VERSION.now ending
 
--- to print a text is all that is asked for
+-- the command only prints a text
 abbrev pub IsText : Command → Type 0
 IsText (Help text) = ⊤
 IsText Version = ⊤

@@ -24,17 +24,17 @@ abbrev pub line_of_ending : Ending → List ℕ
 line_of_ending (Ok done) = []
 line_of_ending (Err fault) = line_of fault
 
--- whether commands are read: those of a script, or of a site where clap takes the words
+-- whether commands are read: those of a script, or of a site if clap takes the words
 abbrev pub reads : Asked → Bool
 reads script = true
 reads (site kinds rows) = length kinds == 0
 reads asked = false
 
--- clap takes the words, and what it finds is a site's
+-- clap accepts the words, and the values that it finds are a site's configuration
 abbrev pub IsRun : Asked → Type 0
 IsRun asked = (s : Settings) × RunsSite asked s
 
--- words that ask for nothing are never done, nor those of `run` that are refused
+-- the program may end without a fault: not for words that ask for nothing, nor for words of `run` that are refused
 abbrev pub MayBeDone : Asked → Type 0
 MayBeDone nothing = ⊥
 MayBeDone (site kinds rows) = IsRun (site kinds rows) ⊎ WantsHelp (site kinds rows)
@@ -65,11 +65,11 @@ abbrev pub MayEnd : Asked → Ending → Type 0
 MayEnd asked (Ok done) = MayBeDone asked
 MayEnd asked (Err fault) = MayStop asked fault
 
--- what was written of a text: all of it unless a write failed, and then a front of it
+-- what was written of a text: all of it, unless a write failed, and then a prefix of it
 abbrev pub Says : Option (List ℕ) → Option (List ℕ) → List ℕ → Result (Unit {0}) WriteFault → Type 0
 Says old new text said = AppendsFront old new text × OnOk said (Appends old new text)
 
--- the status, and what was printed on standard error, are those of this ending
+-- the status and the line on standard error are those of this ending
 abbrev pub EndsWith : Ended → Option (List ℕ) → Option (List ℕ) → Ending → Type 0
 EndsWith ended old new ending =
     (ended.status ≡ status_of_ending ending) × Says old new (line_of_ending ending) ended.said

@@ -1,4 +1,4 @@
--- What the program ends with where it is stopped.
+-- How the program ends if it is stopped.
 use Rattle.std.specs.Prelude.{ℕ, List, [], ◌∷◌, ◌++◌, codes}
 use Rattle.std.specs.declared.io.ErrorKind.{ErrorKind}
 use Rattle.std.specs.declared.io.ErrorKind.TheVariants.{InvalidData}
@@ -36,7 +36,7 @@ fault_text TooManyLines = codes "rights-site: too many lines"
 abbrev pub line_of : Fault → List ℕ
 line_of fault = fault_text fault ++ 10 ∷ []
 
--- why the words of the process cannot be told, by the kind of the error
+-- why the arguments of the process cannot be read, by the kind of the error
 abbrev pub fault_of_given : ErrorKind → Fault
 fault_of_given InvalidData = BadCommandLine
 fault_of_given kind = OutOfMemory

@@ -1,4 +1,4 @@
--- What the program did with a script.
+-- The effect of a script on the program's streams and its end.
 use Rattle.std.specs.Prelude.{◌≡◌, ℕ, List, Option, Result, Ok, Err}
 use Rattle.transfer_world.specs.Talk.{Talk, EndsBy}
 use Rattle.line_streams.specs.declared.fault.LineFault.{LineFault}

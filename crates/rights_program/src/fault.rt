@@ -1,4 +1,4 @@
-//! Why the program ends with another status than 0, and what it says then.
+//! Why the program ends with a status other than 0, and the line that it then prints.
 ghost use Rattle.std.specs.Prelude.{◌≡◌};
 ghost use Rattle.rights_program.specs.Faults.{line_of, status_of};
 ghost use Rattle.rights_program.specs.declared.fault.Fault.TheVariants.{OutOfMemory, WriteFailed};
@@ -8,7 +8,7 @@ use site_words::{SiteFault, WordsFault};
 use std::alloc::AllocError;
 use transfer_world::ScriptFault;
 
-/// Why the program ends with another status than 0.
+/// Why the program ends with a status other than 0.
 #[derive(Clone, Copy, Debug, PartialEq, Eq)]
 pub enum Fault {
     /// The command line is refused.
@@ -17,20 +17,20 @@ pub enum Fault {
     StartedBefore,
     /// The file that a site creates at its start cannot be created.
     CannotCreateStartFile,
-    /// An address of a site is none that can be listened on.
+    /// An address of a site cannot be listened on.
     CannotListen,
     /// Reading the commands failed.
     ReadFailed,
     /// Writing the replies or the help text failed.
     WriteFailed,
-    /// A request for memory was refused.
+    /// A memory request was refused.
     OutOfMemory,
-    /// The commands are more lines than a script may have.
+    /// The commands have more lines than the limit.
     TooManyLines,
 }
 
 impl Fault {
-    /// The exit status that tells of this.
+    /// The exit status for this cause, 1 or 2.
     pub fn status(self) -> u8
         ensures { result ≡ status_of self }
     {
@@ -40,7 +40,7 @@ impl Fault {
         }
     }
 
-    /// The line that tells of this, with its line feed.
+    /// The line on standard error for this cause, with its line feed.
     pub fn line(self) -> &'static [u8]
         ensures { result.now ≡ line_of self }
     {

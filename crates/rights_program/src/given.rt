@@ -1,4 +1,4 @@
-//! The words that the process was given.
+//! The command-line arguments of the process.
 ghost use Rattle.std.specs.Prelude.{◌≡◌, IfErr, IfOk, Result, drop, false, map};
 ghost use Rattle.std.specs.IoError.{error_kind};
 ghost use Rattle.std.specs.String.{string_bytes};
@@ -20,7 +20,7 @@ use std::env::Env;
 use std::io::{ErrorKind, Read, Write};
 use std::{env, io};
 
-/// What it means that the words cannot be told: one is no text, or there is no memory for them.
+/// Why the arguments cannot be read: one is not UTF-8 text, or memory for them was refused.
 fn fault_of_given(error: io::Error) -> Fault
     ensures { result ≡ fault_of_given (error_kind error) }
 {
@@ -30,7 +30,7 @@ fn fault_of_given(error: io::Error) -> Fault
     }
 }
 
-/// The words that the process was given, its name among them.
+/// The arguments of the process, with its name.
 fn given_words<V: Env + Alloc>(env: &V) -> Result<Vec<String<V::A>, V::A>, Fault>
     ensures { IfErr result (λ fault. MayStop nothing fault) }
 {
@@ -40,7 +40,7 @@ fn given_words<V: Env + Alloc>(env: &V) -> Result<Vec<String<V::A>, V::A>, Fault
     }
 }
 
-/// The texts of these words.
+/// The texts of these arguments.
 fn texts_of<'a, A: Allocator>(
     alloc: Global,
     words: &'a [String<A>],
@@ -50,7 +50,7 @@ fn texts_of<'a, A: Allocator>(
     words.iter().map(|word| word.as_str()).collect(alloc)
 }
 
-/// The words behind the first one.
+/// The arguments after the name.
 fn behind_name<'a>(words: &'a [&'a str]) -> &'a [&'a str]
     ensures { texts result.now ≡ drop 1 (texts words.now) }
 {
@@ -60,7 +60,8 @@ fn behind_name<'a>(words: &'a [&'a str]) -> &'a [&'a str]
     }
 }
 
-/// Runs the program on the words of its process, of which the first is its name, as `run_words` does on those behind it.
+/// Runs the program on the arguments of its process, the first of which is its name: the same as `run_words` on the
+/// others.
 pub fn run_arguments<
     F: FnOnce(Config, &mut R, &mut W) -> Result<(), SiteFault>,
     A: Allocator,
@@ -92,8 +93,8 @@ pub fn run_arguments<
     run_words(alloc, run, behind_name(&texts), reader, writer, errors)
 }
 
-/// Runs the program on the words that its process was given. Where they cannot be told, `errors` is told why. No contract
-/// says what words those are: the rest is `run_arguments`.
+/// Runs the program on the arguments of its process. If they cannot be read, the cause is printed to `errors`. No
+/// contract says what the arguments are; all else is `run_arguments`.
 pub fn run_given<
     F: FnOnce(Config, &mut R, &mut W) -> Result<(), SiteFault>,
     V: Env + Alloc,

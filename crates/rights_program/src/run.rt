@@ -23,11 +23,12 @@ use transfer_world::run_last_script;
 pub struct Ended {
     /// The exit status: 0 to 2.
     pub status: u8,
-    /// Whether the line that says why it stopped was written whole. Where it did not stop there is no such line.
+    /// Whether the line with the cause was written whole. If the program did not stop for a cause, there is no such
+    /// line.
     pub said: Result<(), WriteFault>,
 }
 
-/// Says why the program stops. Where a write fails, the rest of that is left out.
+/// Prints why the program stops. If a write fails, the rest of the line is left out.
 pub(crate) fn report<E: Write>(errors: &mut E, fault: Fault) -> Ended
     ensures status { result.status ≡ status_of fault }
     ensures says { Says (E.contents errors.old) (E.contents errors.new) (line_of fault) result.said }
@@ -38,7 +39,7 @@ pub(crate) fn report<E: Write>(errors: &mut E, fault: Fault) -> Ended
     }
 }
 
-/// Does what a command says: a script is run, a site by `run`, and a help text or the version is printed whole.
+/// Carries out a command: runs a script, runs a site by `run`, or prints a help text or the version whole.
 #[tactic(auto, using(crate::proofs::Commands::commands))]
 fn carry_out<F: FnOnce(Config, &mut R, &mut W) -> Result<(), SiteFault>, R: Read, W: Write>(
     alloc: Global,
@@ -59,7 +60,7 @@ fn carry_out<F: FnOnce(Config, &mut R, &mut W) -> Result<(), SiteFault>, R: Read
     }
 }
 
-/// Does what the words ask for.
+/// Carries out what the words ask for.
 #[tactic(auto, using(crate::proofs::Commands::commands, crate::proofs::Endings::words_may_stop))]
 fn run_command<F: FnOnce(Config, &mut R, &mut W) -> Result<(), SiteFault>, R: Read, W: Write>(
     alloc: Global,
@@ -80,7 +81,7 @@ fn run_command<F: FnOnce(Config, &mut R, &mut W) -> Result<(), SiteFault>, R: Re
     carry_out(alloc, run, command, reader, writer)
 }
 
-/// Runs the program on its words, without its name: does what they ask for, a site by `run`, and says on
+/// Runs the program on its words, without its name: does what they ask for, runs a site by `run`, and prints to
 /// `errors` what stopped it.
 pub fn run_words<
     F: FnOnce(Config, &mut R, &mut W) -> Result<(), SiteFault>,
@@ -89,8 +90,8 @@ pub fn run_words<
     E: Write,
 >(alloc: Global, run: F, words: &[&str], reader: &mut R, writer: &mut W, errors: &mut E) -> Ended
     requires { F.IsAlwaysCallable run }
-    // The status and the line on `errors` are those of one ending, which the words allow. Where they
-    // ask for it, the script was answered, and ended so.
+    // The status and the line on `errors` are those of one ending, which the words allow. If the words ask for a
+    // script, the script was answered, and ended in that way.
     ensures ends { (ending : Result (Unit {0}) Fault) × MayEnd (asked_by (texts words.now)) ending
         × (asked_by (texts words.now) ≡ script
         → Answered Global (R.remaining reader.old) (R.remaining reader.new) (W.contents writer.old) (W.contents writer.new) ending)

@@ -1,4 +1,4 @@
-//! The version of the program, and of what is packed with it. No other file says which it is.
+//! The version of the program and of its packages. It is written in no other file.
 
 /// The line that `--version` prints.
 pub const VERSION: &[u8] = b"rights-site 0.1.0\n";

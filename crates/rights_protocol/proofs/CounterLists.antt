@@ -1,4 +1,4 @@
--- The lists of a system of sites as a Bounded Counter, from what is kept of them.
+-- The lists of a system of sites as a Bounded Counter, from the invariant.
 use Rattle.std.proofs.Common.{◌≡◌, ◌≢◌, ℕ, ◌+◌, ◌-◌, ◌≤◌, Bool, true, false, eqb, List, [], ◌∷◌, arith, refl, sym, ap, ◌∙◌, subst}
 use Rattle.std.specs.List.{All, list_any}
 use Rattle.std.proofs.lemmas.Bool.{eq-eqb, ne_eqb}
@@ -30,7 +30,7 @@ own_cell moves i = let at : eqb i i ≡ true = eq-eqb i i refl in rw at refl
 pub cell : (moves : ℕ → List Move) (i j : ℕ) → j ≢ i → (counter_of moves).R i j ≡ to j (moves i) - back j (moves i)
 cell moves i j ne = let at : eqb j i ≡ false = ne_eqb j i ne in rw at refl
 
--- what a site gave to others, beside what it took back
+-- what a site gave to others, plus what it reclaimed
 out_moved : (n s : ℕ) (moves : ℕ → List Move) → IsSiteOf n s → All (NamesWithin n) (moves s) → to s (moves s) ≡ 0 → ((c : ℕ) → back c (moves s) ≤ to c (moves s))
     → outgoing n (counter_of moves) s + taken_back (moves s) ≡ out (moves s)
 out_moved n s moves site within none given =
@@ -53,7 +53,7 @@ none_to_itself s b n (e ∷ es) c =
 pub gives_itself_none : (w : Lists) (s : ℕ) → Kept w → to s (moves_of (w.log s)) ≡ 0
 gives_itself_none w s kept = none_to_itself s false 0 (w.log s) (kept.sites s).chain
 
--- ---- what is on the way
+-- ---- what is in transit
 
 none_applied : (w : Lists) (s : ℕ) → Kept w → to s (moves_of (w.applied s s)) ≡ 0
 none_applied w s kept = ap (λ es. to s (moves_of es)) (kept.sites s).itself ∙ ap (to s) moves_of-nil ∙ to-nil s

@@ -55,7 +55,7 @@ moves_to s m moves now a j ne = omega (arith, cell now s j ne, ap (to j) a.here,
 others_use : (s : ℕ) (m : Move) (moves now : ℕ → List Move) → Added s m moves now → (k : ℕ) → k ≢ s → (counter_of now).U k ≡ (counter_of moves).U k
 others_use s m moves now a k ne = ap spent (a.others k ne)
 
--- of the entries of R, m changes that of (s, t) at most
+-- of the entries of R, m changes at most that of (s, t)
 record Touches (s t : ℕ) (m : Move) : Type 0 where
   pub issue : t ≢ s → issue_of m ≡ 0
   pub gift : (j : ℕ) → j ≢ t → gift_to j m ≡ 0
@@ -186,7 +186,7 @@ room_transfer n s j amount r old new op le h =
       h,
     )
 
--- ---- moves that take nothing back
+-- ---- moves that reclaim nothing
 
 abbrev pub is_own : Move → Bool
 is_own (Issue a) = true
@@ -256,7 +256,7 @@ adds_one s m moves = record {
   others = λ k ne. rw (ne_eqb k s ne) refl;
 }
 
--- what a site may write that has r rights
+-- what a site with r rights may write
 pub record Fit (n s r : ℕ) (ms : List Move) : Type 0 where
   pub covered : covers r ms ≡ true
   pub within : All (NamesWithin n) ms

@@ -88,7 +88,7 @@ covered_decrement n i amount k old new op h = elim (cases_eq k i) [
   | inr ne ↦ omega (arith, use_in n i k old new op.others, use_out n i k old new op.others, op.others.R k k, op.others.U k ne, h)
 ]
 
--- a transfer and a taking back: this amount goes from a site that has it to another
+-- a transfer and a reclaiming: this amount goes from a site that has it to another
 covered_giver : (n i j amount : ℕ) (old new : Counter) → Transfers n i j amount old new → Covered n old i → Covered n new i
 covered_giver n i j amount old new op was =
     omega (
@@ -174,7 +174,7 @@ covered_run n k (op ∷ ops) old new run h = covered_run n k ops run.1.0 new run
 
 -- ---- the whole
 
--- where no local rights are negative, the rest follows
+-- if no local rights are negative, the rest follows
 pub safe_of : (n : ℕ) (c : Counter) → ((k : ℕ) → IsSiteOf n k → Covered n c k) → IsSafe n c
 safe_of n c rights =
     let out : ℕ → ℕ = λ k. outgoing n c k + c.U k in

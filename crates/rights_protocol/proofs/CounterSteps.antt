@@ -126,7 +126,7 @@ to_none : (o n : ℕ) → to o (TakeBack o n ∷ []) ≡ 0
 unfolding to
 to_none o n = refl
 
--- what is taken back was on the way
+-- what is reclaimed was in transit
 taken_from_way : (old new : Lists) (s o amount : ℕ) → Kept old → Kept new → (step : Takes old new s o) → moves_of (new.log s) ≡ moves_of (old.log s) ++ TakeBack o amount ∷ []
     → (amount ≤ on_way old s o) × (back o (moves_of (old.log s)) + amount ≤ to o (moves_of (old.log s)))
 taken_from_way old new s o amount kept kept_now step grown =

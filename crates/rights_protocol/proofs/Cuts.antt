@@ -1,4 +1,4 @@
--- A cut through sites that run apart, from what is kept of each.
+-- A cut through sites that run independently, from the invariants of the sites.
 use Rattle.std.proofs.Common.{◌≡◌, ◌≢◌, ℕ, zero, suc, ◌≤◌, ◌⊎◌, inl, inr, Bool, false, List, [], ◌∷◌, ◌++◌, length, get_or, arith, refl, sym, ap, subst}
 use Rattle.std.specs.List.{All, AllPairs, Contains}
 use Rattle.std.proofs.lemmas.Bool.{cases_lt}

@@ -25,7 +25,7 @@ open_in (Close ∷ ms) h = absurd cc
 open_in (CloseAt f ∷ ms) h = absurd cc
 open_in (TakeBack j n ∷ ms) h = open_in ms h
 
--- an entry with a K closes
+-- an entry with a frontier closes
 pub closes_by : (e : EntryValue) (numbers : List ℕ) → numbers_in e.moves ≡ Some numbers → closes e ≡ true
 closes_by e numbers h = elim (cases_Bool (closes e)) [
   | inl t ↦ t
@@ -36,7 +36,7 @@ open_from : (b : Bool) (k : Option (List ℕ)) (es : List EntryValue) → (b ≡
 open_from b k [] start h = start h
 open_from b k (e ∷ es) start h = open_from (closes e) (numbers_in e.moves) es (open_in e.moves) h
 
--- what has not closed has no frontier, and what has one has closed
+-- an open log has no frontier, and a log with a frontier is closed
 pub no_frontier : (es : List EntryValue) → is_closed es ≡ false → frontier es ≡ None
 no_frontier es h = open_from false None es (λ _. refl) h
 
@@ -53,7 +53,7 @@ frontier_from-append k (x ∷ xs) ys = frontier_from-append (numbers_in x.moves)
 pub frontier-push : (es : List EntryValue) (e : EntryValue) → frontier (es ++ e ∷ []) ≡ numbers_in e.moves
 frontier-push es e = frontier_from-append None es (e ∷ [])
 
--- a front that has closed is the whole chain, and one that is followed by an entry has not closed
+-- a closed prefix is the whole chain, and one that is followed by an entry is open
 pub front_open : (o : ℕ) (xs : List EntryValue) (e : EntryValue) (rest : List EntryValue) → IsChain o (xs ++ e ∷ rest) → is_closed xs ≡ false
 front_open o xs e rest c = (chain_right o false 0 xs (e ∷ rest) c).0
 
@@ -77,7 +77,7 @@ beyond_none o b n f (e ∷ es) c h =
     let at : leb f e.prev ≡ false = lt-leb f e.prev (omega (arith, end_from-le o (closes e) (own e) es c.4)) in
     rw at (beyond_none o (closes e) (own e) f es c.4 h)
 
--- the entries that begin at the end of a front, or after it, are those after the front
+-- the entries that begin at the end of a prefix, or after it, are those after the prefix
 pub beyond_rest : (o : ℕ) (front rest : List EntryValue) → IsChain o (front ++ rest) → beyond (end front) (front ++ rest) ≡ rest
 beyond_rest o front rest c =
     let f : ℕ = end front in
@@ -112,7 +112,7 @@ owed_bound s c o es k chain =
     let ends : end es ≤ 1000000000 = end_from-bound o false 0 es chain (omega arith) in
     omega (arith, owed_less s c es k, log-to o c es chain, ends)
 
--- where something is owed by a K, the place in it is within the log
+-- if something is owed by a frontier, the position in it is within the log
 pub owed_within : (s c o place : ℕ) (es : List EntryValue) (numbers : List ℕ) → IsChain o es → slice_get numbers (s - 1) ≡ Some place → 1 ≤ owed s c es (Some numbers) → place ≤ end es
 owed_within s c o place es numbers chain at some = elim (cases_lt (end es) place) [
   | inl past ↦
@@ -122,7 +122,7 @@ owed_within s c o place es numbers chain at some = elim (cases_lt (end es) place
   | inr within ↦ within
 ]
 
--- an entry that gives c nothing leaves what is owed to it as it was
+-- an entry that gives c nothing leaves what is owed by c unchanged
 beyond_push : (c f : ℕ) (es : List EntryValue) (e : EntryValue) → to c e.moves ≡ 0 → to c (moves_of (beyond f (es ++ e ∷ []))) ≡ to c (moves_of (beyond f es))
 beyond_push c f es e none =
     let split : to c (moves_of (beyond f (es ++ e ∷ []))) ≡ to c (moves_of (beyond f es)) + to c (moves_of (beyond f (e ∷ []))) =

@@ -20,7 +20,7 @@ use Rattle.rights_protocol.proofs.Cuts.{front_longest, all_promised}
 
 -- ---- changes that lead from lists to lists
 
--- what is kept is kept still, and whatever follows from the new lists follows from the old ones
+-- the invariant is preserved, and whatever follows from the new lists follows from the old ones
 record Lead (old : Lists) (changes : List Change) (new : Lists) : Type 0 where
   pub kept : Kept new
   pub runs : (rest : List Change) (last : Lists) → Runs new rest last → Runs old (changes ++ rest) last
@@ -56,7 +56,7 @@ all_stay n old new same = record {
 
 -- ---- an apply: an offer, and then a take
 
--- between the two, the entry has come to the site, and is not applied
+-- between the two, the entry has reached the site, and is not applied
 abbrev between : ℕ → (ℕ → SiteLists) → (ℕ → SiteLists) → Lists
 between n old new = record {
   count = n;

@@ -12,7 +12,7 @@ use Rattle.rights_protocol.specs.Kept.{LinkKept}
 
 -- ---- the log grows
 
--- a set of a log's entries has none that comes after it
+-- a set of a log's entries does not contain the entry that comes after it
 not_sent : (o : ℕ) (es : List EntryValue) (e : EntryValue) (set : List EntryValue) → IsChain o (es ++ e ∷ []) → All (Contains es) set → Contains set e → ⊥
 not_sent o es e set c a i =
     let next = chain_right o false 0 es (e ∷ []) c in
@@ -46,7 +46,7 @@ link_grows o es e reached put applied c k = record {
 
 -- ---- an entry reaches
 
--- of two fronts of one list, the one within the set and the one that goes on no further
+-- of two prefixes of one list, the one within the set and the one that cannot be extended
 front_within : (set p q r t : List EntryValue) → p ++ r ≡ q ++ t → All (Contains set) p → HeadNotIn set t → IsPrefix p q
 front_within set [] q r t e a n = (q, refl)
 front_within set (x ∷ p) [] r t e a n =
@@ -60,11 +60,11 @@ front_within set (x ∷ p) (y ∷ q) r t e a n =
       ap (λ (z : EntryValue). z ∷ (p ++ rest.0)) first ∙ ap (λ (zs : List EntryValue). y ∷ zs) rest.1,
     )
 
--- a front within the set is no longer than the longest one
+-- a prefix within the set is no longer than the longest one
 within_longest : (set es p r q : List EntryValue) → p ++ r ≡ es → All (Contains set) p → IsLongest set es q → IsPrefix p q
 within_longest set es p r q whole inside l = front_within set p q r l.rest (whole ∙ sym l.whole) inside l.no_longer
 
--- what is longest only grows with the set
+-- the longest prefix only grows with the set
 longest_more : (set es p q : List EntryValue) (e : EntryValue) → IsLongest set es p → IsLongest (set ++ e ∷ []) es q → IsPrefix p q
 longest_more set es p q e k l = within_longest (set ++ e ∷ []) es p k.rest q k.whole (all_in_more set p e k.inside) l
 
@@ -74,7 +74,7 @@ prefix_of_prefix xs ys zs (a, p) (b, q) = (a ++ b, sym (append_assoc xs a b) ∙
 prefix_length : (xs ys : List EntryValue) → IsPrefix xs ys → length xs ≤ length ys
 prefix_length xs ys (rest, p) = omega (arith, length-append xs rest, ap length p)
 
--- the entry that comes next is put, so put is longer
+-- the next entry is delivered, so put is longer
 next_put : (o : ℕ) (es set p q : List EntryValue) (e : EntryValue) → IsChain o es → Contains es e → e.prev ≡ end p → IsLongest set es p → IsLongest (set ++ e ∷ []) es q → length p + 1 ≤ length q
 next_put o es set p q e c sent next k l =
     let chain : IsChain o (p ++ k.rest) = subst (IsChain o) (sym k.whole) c in
@@ -115,6 +115,6 @@ link_applies es reached put applied e k next = record {
   begins = prefix_next applied put e k.begins (slice_get_within put (length applied) e next) (get_or_from_slice_get put (length applied) e e next);
 }
 
--- what was applied begins the log
+-- what was applied is a prefix of the log
 pub applied_begins : (es reached put applied : List EntryValue) → LinkKept es reached put applied → IsPrefix applied es
 applied_begins es reached put applied k = prefix_of_prefix applied put es k.begins (k.longest.rest, k.longest.whole)

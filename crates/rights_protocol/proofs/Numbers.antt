@@ -74,7 +74,7 @@ one_at_most : (b : Bool) → cond b 1 0 ≤ 1
 one_at_most true = omega arith
 one_at_most false = omega arith
 
--- all sites but itself, at most
+-- at most all sites but itself
 pub known_few : (n s : ℕ) (applied : ℕ → List EntryValue) → IsSiteOf n s → applied s ≡ [] → known_closed n applied + 1 ≤ n
 known_few n s applied of itself =
     omega (arith, sum_bound_but n s 1 (λ o. closed_one (applied o)) of.0 of.1 (ap closed_one itself) (λ o. one_at_most (is_closed (applied o))))

@@ -1,4 +1,4 @@
--- What is kept of one site is kept by what it does, and bounds what it holds, owes and writes.
+-- Each step of one site preserves the invariant of that site, which bounds what it holds, owes and writes.
 use Rattle.std.proofs.Common.{◌≡◌, ℕ, ◌+◌, ◌≤◌, false, List, arith, ap, ◌∙◌}
 use Rattle.rights_types.specs.Entries.{EntryValue}
 use Rattle.rights_types.specs.Chains.{end, moves_of}
@@ -19,11 +19,11 @@ use Rattle.rights_protocol.proofs.Sites.{site_appends, site_takes, site_closes}
 back_is : (n s c : ℕ) (log : List EntryValue) (applied : ℕ → List EntryValue) → SiteKept n s log applied → back c (moves_of log) ≡ owed s c log (frontier (applied c))
 back_is n s c log applied k = taken_is c (owed s c log (frontier (applied c))) log (k.taken c)
 
--- no more is taken back from a site than was given to it
+-- no more is reclaimed from a site than was given to it
 back_within : (n s c : ℕ) (log : List EntryValue) (applied : ℕ → List EntryValue) → SiteKept n s log applied → back c (moves_of log) ≤ to c (moves_of log)
 back_within n s c log applied k = omega (arith, back_is n s c log applied k, owed_less s c log (frontier (applied c)))
 
--- what a site took back it had given, so it holds what it received and issued, at most
+-- what a site reclaimed it had given, so it holds at most what it received and issued
 held_within : (n s : ℕ) (log : List EntryValue) (applied : ℕ → List EntryValue) → SiteKept n s log applied → held n s log applied ≤ received n s applied + 1000000000000000000
 held_within n s log applied k =
     let ms = moves_of log in

@@ -1,4 +1,4 @@
--- The headline and retirement, from what is kept.
+-- The headline and retirement, from the invariant.
 use Rattle.std.proofs.Common.{◌≡◌, ℕ, ◌+◌, ◌-◌, ◌≤◌, true, List, [], ◌++◌, length, drop, Option, Some, None, arith, refl, sym, ap, ◌∙◌, subst}
 use Rattle.std.specs.List.{slice_get}
 use Rattle.std.proofs.lemmas.List.{drop_at, append-nil}
@@ -18,7 +18,7 @@ use Rattle.rights_protocol.proofs.Numbers.{number_at}
 use Rattle.rights_protocol.proofs.Writes.{held_is}
 use Rattle.rights_protocol.proofs.Links.{applied_begins}
 
--- what was applied begins the log
+-- what was applied is a prefix of the log
 pub begins : (w : Lists) (s o : ℕ) → Kept w → IsPrefix (w.applied s o) (w.log o)
 begins w s o kept = applied_begins (w.log o) (w.reached s o) (w.put s o) (w.applied s o) (kept.links s o)
 
@@ -27,7 +27,7 @@ held_sum w s kept =
     let site = kept.sites s in
     omega (arith, held_is w.count s (w.log s) (w.applied s) site.within site.covered, rights_after_is (received_at w s) (moves_of (w.log s)) site.covered)
 
--- ---- what is on the way
+-- ---- what is in transit
 
 -- the frontier that o applied from the log of s is the one that s wrote
 frontier_is : (w : Lists) (o s : ℕ) (numbers : List ℕ) → Kept w → AppliedClose w o s numbers → numbers ≡ own_frontier w.count (w.applied s)
@@ -40,7 +40,7 @@ frontier_is w o s numbers kept h =
     let same : frontier (w.log s) ≡ Some numbers = subst (λ es. frontier es ≡ Some numbers) whole h in
     cc
 
--- and the place of o in it is the end of what s applied of its log
+-- and the position of o in it is the end of what s applied of its log
 pub place_is : (w : Lists) (o s : ℕ) (numbers : List ℕ) → Kept w → IsSiteOf w.count o → AppliedClose w o s numbers → slice_get numbers (o - 1) ≡ Some (end (w.applied s o))
 place_is w o s numbers kept among h = ap (λ (fs : List ℕ). slice_get fs (o - 1)) (frontier_is w o s numbers kept h) ∙ number_at w.count o (w.applied s) among
 
@@ -53,11 +53,11 @@ beyond_is w o s kept =
     let rest : beyond (end a) (a ++ p.0) ≡ drop (length a) (a ++ p.0) = beyond_rest o a p.0 chain ∙ sym (drop_at a p.0 (length a) refl) in
     subst (λ es. beyond (end a) es ≡ drop (length a) es) p.1 rest
 
--- what o took back from s is what it owes by the K of s that it applied
+-- what o reclaimed from s is what it is owed by the frontier of s that it applied
 pub back_is : (w : Lists) (o s : ℕ) → Kept w → back s (moves_of (w.log o)) ≡ owed o s (w.log o) (frontier (w.applied o s))
 back_is w o s kept = taken_is s (owed o s (w.log o) (frontier (w.applied o s))) (w.log o) ((kept.sites o).taken s)
 
--- by a K of s that is what s did not apply
+-- by that frontier, it is what s did not apply
 owed_is : (w : Lists) (o s : ℕ) (numbers : List ℕ) → Kept w → IsSiteOf w.count o → AppliedClose w o s numbers → owed o s (w.log o) (Some numbers) ≡ to s (moves_of (unapplied w o s))
 owed_is w o s numbers kept among h =
     ap (given_beyond s (w.log o)) (place_is w o s numbers kept among h) ∙ ap (λ es. to s (moves_of es)) (beyond_is w o s kept)
@@ -75,7 +75,7 @@ none_on_way w o s numbers kept among h =
     let owes : owed o s (w.log o) (frontier (w.applied o s)) ≡ owed o s (w.log o) (Some numbers) = ap (owed o s (w.log o)) h in
     omega (arith, back_is w o s kept, owes, owed_is w o s numbers kept among h)
 
--- what o gave to s was applied there, is on the way, or was taken back
+-- what o gave to s was applied there, is in transit, or was reclaimed
 pub way_is : (w : Lists) (o s : ℕ) → Kept w → IsSiteOf w.count o → to s (moves_of (w.log o)) ≡ (to s (moves_of (w.applied s o)) + on_way w o s) + back s (moves_of (w.log o))
 unfolding way
 way_is w o s kept among =

@@ -1,4 +1,4 @@
--- What holds along every run, and what stays for good.
+-- What holds along every run, and what stays true forever.
 use Rattle.std.proofs.Common.{◌≡◌, ◌≢◌, ℕ, inl, inr, true, false, List, [], ◌∷◌, ap, ◌∙◌, sym, subst}
 use Rattle.std.proofs.lemmas.Bool.{cases_eq, both_ways}
 use Rattle.rights_types.specs.Chains.{is_closed}
@@ -76,7 +76,7 @@ closed_for_good old (change ∷ changes) new c run closed =
 
 -- ---- a closed log that was applied
 
--- of sites that stay, the applied lists stay; s is the site of the change
+-- for sites that do not change, the applied lists stay; s is the site of the change
 applied_stays : (old new : Lists) (s a c : ℕ) → OthersStay old new s → (a ≡ s → new.applied s c ≡ old.applied s c) → new.applied a c ≡ old.applied a c
 applied_stays old new s a c others here = elim (cases_eq a s) [
   | inl e ↦ subst (λ k. new.applied k c ≡ old.applied k c) (sym e) (here e)

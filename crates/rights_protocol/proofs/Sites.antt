@@ -1,4 +1,4 @@
--- What one site does keeps what is kept of it. No other site's log is named.
+-- Each step of one site preserves the invariant of that site. No other site's log is named.
 use Rattle.std.proofs.Common.{◌≡◌, ◌≢◌, ℕ, ◌+◌, ◌-◌, ◌≤◌, inl, inr, Bool, true, false, cond, List, [], ◌∷◌, ◌++◌, length, Option, Some, None, arith, refl, sym, ap, ◌∙◌, subst}
 use Rattle.std.specs.List.{list_any, slice_get}
 use Rattle.std.proofs.lemmas.Bool.{cases_eq, both_ways}
@@ -54,7 +54,7 @@ ready n s log applied some few site unclosed k = record {
   covered = k.covered;
 }
 
--- what an entry of these moves has to keep, beside being one that the site may write
+-- what an entry of these moves has to satisfy, besides being one that the site may write
 record Keeps (n s : ℕ) (log : List EntryValue) (applied : ℕ → List EntryValue) (ms : List Move) : Type 0 where
   pub closing : list_any is_close ms ≡ true → numbers_in ms ≡ Some (own_frontier n applied)
   pub taken : (c : ℕ) → takings c (log ++ entry_at_end s log ms ∷ []) ≡ one_taking c (owed s c (log ++ entry_at_end s log ms ∷ []) (frontier (applied c)))
@@ -143,7 +143,7 @@ taking n s o log old new e k r from differ chain step =
       known = known_risen n o e old new from was_open step;
     }
 
--- where nothing is owed
+-- if nothing is owed
 takes_plain : (n s o : ℕ) (log : List EntryValue) (old new : ℕ → List EntryValue) (e : EntryValue) → SiteKept n s log old → Taking n s o log old new e → AddsEntry old o e new
     → owed s o log (numbers_in e.moves) ≡ 0 → SiteKept n s log new
 takes_plain n s o log old new e k t step none =
@@ -166,7 +166,7 @@ takes_plain n s o log old new e k t step none =
       fits = λ h. omega (arith, k.fits h, t.known);
     }
 
--- where something is owed
+-- if something is owed
 takes_back : (n s o amount : ℕ) (log : List EntryValue) (old new : ℕ → List EntryValue) (e : EntryValue) → SiteKept n s log old → IsSiteOf n o → s ≢ o → Taking n s o log old new e → AddsEntry old o e new
     → amount ≡ owed s o log (numbers_in e.moves) → 1 ≤ amount → closes e ≡ true → SiteKept n s (log ++ entry_at_end s log (TakeBack o amount ∷ []) ∷ []) new
 takes_back n s o amount log old new e k from differ t step is positive shut =
@@ -194,7 +194,7 @@ takes_back n s o amount log old new e k from differ t step is positive shut =
       fits = λ h. omega (arith, k.fits t.ready.unclosed, t.known, one);
     })
 
--- what is owed is owed by a K
+-- what is owed is owed by a frontier
 owed_closes : (s o : ℕ) (es : List EntryValue) (e : EntryValue) (k : Option (List ℕ)) → numbers_in e.moves ≡ k → 1 ≤ owed s o es k → closes e ≡ true
 owed_closes s o es e None h some = absurd (omega arith)
 owed_closes s o es e (Some numbers) h some = closes_by e numbers h

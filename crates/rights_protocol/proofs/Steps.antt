@@ -1,4 +1,4 @@
--- Each change keeps what is kept.
+-- Each change preserves the invariant.
 use Rattle.std.proofs.Common.{◌≡◌, ℕ, inl, inr, List, [], ◌∷◌, ◌++◌, Option, arith, refl, sym, ap, ◌∙◌, subst}
 use Rattle.std.specs.List.{Contains}
 use Rattle.std.proofs.lemmas.Bool.{cases_eq}
@@ -34,7 +34,7 @@ stays_kept old new kept stays = record {
 
 -- ---- a change of one site
 
--- a link to any log is kept as the log of s goes on
+-- the invariant of a link to any site is preserved as the log of s grows
 GoesOn : Lists → Lists → Type 0
 GoesOn old new = (o : ℕ) (reached put applied : List EntryValue) → LinkKept (old.log o) reached put applied → LinkKept (new.log o) reached put applied
 
@@ -53,7 +53,7 @@ log_grows old new s e others grown chain o reached put applied k = elim (cases_e
   | inr ne ↦ rw (others.sites o ne).log k
 ]
 
--- what site s keeps, and each of its links
+-- the invariant of site s, and of each of its links
 kept_by : (old new : Lists) (s : ℕ) → Kept old → OthersStay old new s → SiteKept old.count s (new.log s) (new.applied s) → GoesOn old new
     → ((o : ℕ) → LinkKept (old.log o) (new.reached s o) (new.put s o) (new.applied s o)) → Kept new
 unfolding GoesOn
@@ -72,7 +72,7 @@ kept_by old new s kept others site goes_on links = record {
   ]);
 }
 
--- an entry more of the log of s, and its links stay
+-- the log of s grows by an entry, and its links stay
 writes_kept : (old new : Lists) (s : ℕ) (e : EntryValue) → Kept old → OthersStay old new s → new.log s ≡ old.log s ++ e ∷ [] → ((o : ℕ) → LinkStays old new s o)
     → SiteKept old.count s (old.log s ++ e ∷ []) (old.applied s) → Kept new
 writes_kept old new s e kept others grown links site =
@@ -117,7 +117,7 @@ offers_kept old new s o e kept offer = elim offer.comes [
 
 -- ---- a take
 
--- the next entry goes on with what was applied
+-- the next entry continues what was applied
 pub next_chain : (old new : Lists) (s o : ℕ) → Kept old → (step : Takes old new s o) → IsChain o (old.applied s o ++ step.entry ∷ [])
 next_chain old new s o kept step =
     let longer = link_applies (old.log o) (old.reached s o) (old.put s o) (old.applied s o) step.entry (kept.links s o) step.next in

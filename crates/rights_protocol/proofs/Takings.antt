@@ -1,4 +1,4 @@
--- Laws of the entries that take back.
+-- Laws of the entries that reclaim.
 use Rattle.std.proofs.Common.{◌≡◌, ◌≢◌, ℕ, ◌+◌, ◌≤◌, ◌⊎◌, inl, inr, Bool, true, false, cond, eqb, leb, List, [], ◌∷◌, ◌++◌, Option, Some, arith, refl, sym, ap, ◌∙◌}
 use Rattle.std.specs.Prelude.{map}
 use Rattle.std.specs.List.{list_any, filter}
@@ -32,12 +32,12 @@ takings_last c es e none =
     let last : takings c (e ∷ []) ≡ [] = rw none refl in
     takings_split c es (e ∷ []) ∙ ap (λ (xs : List (List Move)). takings c es ++ xs) last ∙ append-nil (takings c es)
 
--- an entry that takes nothing back from c, and gives it nothing where a K of c was applied
+-- an entry that reclaims nothing from c, and gives it nothing if a frontier of c was applied
 pub taken_push : (s c : ℕ) (es : List EntryValue) (e : EntryValue) (k : Option (List ℕ)) → list_any (takes_from c) e.moves ≡ false
     → ((numbers : List ℕ) → k ≡ Some numbers → to c e.moves ≡ 0) → takings c es ≡ one_taking c (owed s c es k) → takings c (es ++ e ∷ []) ≡ one_taking c (owed s c (es ++ e ∷ []) k)
 taken_push s c es e k none given old = takings_last c es e none ∙ old ∙ ap (one_taking c) (sym (owed_push s c es e k given))
 
--- the entry that takes back what is owed
+-- the entry that reclaims what is owed
 pub taken_now : (s c n : ℕ) (es : List EntryValue) (e : EntryValue) (k : Option (List ℕ)) → takings c es ≡ [] → to c e.moves ≡ 0 → list_any (takes_from c) e.moves ≡ true
     → e.moves ∷ [] ≡ one_taking c n → n ≡ owed s c es k → takings c (es ++ e ∷ []) ≡ one_taking c (owed s c (es ++ e ∷ []) k)
 taken_now s c n es e k none given some one is =
@@ -47,7 +47,7 @@ taken_now s c n es e k none given some one is =
 
 -- ---- where they stand
 
--- of entries that take nothing back from c, those beyond a number take nothing back either
+-- of entries that reclaim nothing from c, those beyond a number reclaim nothing either
 pub none_beyond : (c f : ℕ) (es : List EntryValue) → takings c es ≡ [] → takings c (beyond f es) ≡ []
 none_beyond c f [] none = refl
 none_beyond c f (e ∷ es) none = elim (cases_Bool (takes_one c e)) [
@@ -63,7 +63,7 @@ none_beyond c f (e ∷ es) none = elim (cases_Bool (takes_one c e)) [
 beyond_split : (c f : ℕ) (es : List EntryValue) (e : EntryValue) → takings c (beyond f (es ++ e ∷ [])) ≡ takings c (beyond f es) ++ takings c (beyond f (e ∷ []))
 beyond_split c f es e = ap (takings c) (filter-append (λ (x : EntryValue). leb f x.prev) es (e ∷ [])) ∙ takings_split c (beyond f es) (beyond f (e ∷ []))
 
--- an entry more that takes nothing back from c
+-- one more entry that reclaims nothing from c
 pub placed_push : (c f : ℕ) (es : List EntryValue) (e : EntryValue) → list_any (takes_from c) e.moves ≡ false → takings c (beyond f es) ≡ takings c es
     → takings c (beyond f (es ++ e ∷ [])) ≡ takings c (es ++ e ∷ [])
 placed_push c f es e none old =
@@ -71,7 +71,7 @@ placed_push c f es e none old =
     beyond_split c f es e ∙ ap (λ (xs : List (List Move)). takings c (beyond f es) ++ xs) last ∙ append-nil (takings c (beyond f es)) ∙ old
     ∙ sym (takings_last c es e none)
 
--- the first entry that takes back from c
+-- the first entry that reclaims from c
 pub placed_now : (c f : ℕ) (es : List EntryValue) (e : EntryValue) → takings c es ≡ [] → f ≤ e.prev → takings c (beyond f (es ++ e ∷ [])) ≡ takings c (es ++ e ∷ [])
 placed_now c f es e none at =
     let here : leb f e.prev ≡ true = le-leb f e.prev at in
@@ -80,7 +80,7 @@ placed_now c f es e none at =
     beyond_split c f es e ∙ ap (λ (xs : List EntryValue). takings c (beyond f es) ++ takings c xs) last ∙ ap (λ (xs : List (List Move)). xs ++ takings c (e ∷ [])) front
     ∙ sym (takings_split c es (e ∷ []))
 
--- ---- what they take back
+-- ---- what they reclaim
 
 back_split : (c : ℕ) (e : EntryValue) (es : List EntryValue) → back c (moves_of (e ∷ es)) ≡ back c e.moves + back c (moves_of es)
 unfolding moves_of
@@ -101,7 +101,7 @@ nothing_back c (m ∷ ms) h =
     let p = or_parts (takes_from c m) (list_any (takes_from c) ms) h in
     omega (arith, back-cons c m ms, none_from c m p.0, nothing_back c ms p.1)
 
--- what these entries take back, one after another
+-- what these entries reclaim, one after another
 back_each : ℕ → List (List Move) → ℕ
 back_each c [] = 0
 back_each c (ms ∷ rest) = back c ms + back_each c rest
@@ -124,17 +124,17 @@ one_gives c n = elim (cases_eq n 0) [
   | inr ne ↦ let some : eqb n 0 ≡ false = ne_eqb n 0 ne in rw some (omega (arith, back_same c n))
 ]
 
--- where the entries that take back from c take n, n is taken back from c
+-- if the entries that reclaim from c reclaim n, then n is reclaimed from c
 pub taken_is : (c n : ℕ) (es : List EntryValue) → takings c es ≡ one_taking c n → back c (moves_of es) ≡ n
 taken_is c n es h = each_taking c es ∙ ap (back_each c) h ∙ one_gives c n
 
--- entries of the same takings take back the same
+-- logs with the same reclaims reclaim the same amount
 pub same_takings : (c : ℕ) (xs ys : List EntryValue) → takings c xs ≡ takings c ys → back c (moves_of xs) ≡ back c (moves_of ys)
 same_takings c xs ys same = each_taking c xs ∙ ap (back_each c) same ∙ sym (each_taking c ys)
 
 -- ---- an entry that is written
 
--- nothing is taken back, or by one entry
+-- nothing is reclaimed, or by one entry
 pub taking_cases : (s o : ℕ) (log : List EntryValue) (n : ℕ)
     → ((n ≡ 0) × (map (entry_at_end s log) (one_taking o n) ≡ [])) ⊎ ((1 ≤ n) × (map (entry_at_end s log) (one_taking o n) ≡ entry_at_end s log (TakeBack o n ∷ []) ∷ []))
 taking_cases s o log n = elim (cases_eq n 0) [

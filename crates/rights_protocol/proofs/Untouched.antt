@@ -1,4 +1,4 @@
--- What a site applied takes nothing back from it.
+-- What a site applied reclaims nothing from it.
 use Rattle.std.proofs.Common.{◌≡◌, ℕ, ◌+◌, List, ◌++◌, Option, Some, None, arith, refl, sym, ap, ◌∙◌, subst}
 use Rattle.rights_types.specs.Entries.{EntryValue}
 use Rattle.rights_types.specs.Chains.{end, IsChain, IsPrefix, moves_of}
@@ -14,8 +14,9 @@ use Rattle.rights_protocol.proofs.Promises.{begins, place_is, back_is}
 back_parts : (s : ℕ) (xs ys : List EntryValue) → back s (moves_of (xs ++ ys)) ≡ back s (moves_of xs) + back s (moves_of ys)
 back_parts s xs ys = ap (back s) (moves_of-append xs ys) ∙ back-append s (moves_of xs) (moves_of ys)
 
--- The log of o begins with what s applied of it. Where o applied no K of s, nothing in that log takes anything back
--- from s; else only the entries that begin at its place in the K, which is the end of what s applied.
+-- What s applied of the log of o is a prefix of it. If o applied no closing entry of s, nothing in that log reclaims
+-- anything from s; else only the entries that begin at its position in the frontier, which is the end of what s
+-- applied.
 by_frontier : (w : Lists) (s o : ℕ) (k : Option (List ℕ)) → Kept w → IsSiteOf w.count o → frontier (w.applied o s) ≡ k → back s (moves_of (w.applied s o)) ≡ 0
 by_frontier w s o None kept among h =
     let p : IsPrefix (w.applied s o) (w.log o) = begins w s o kept in

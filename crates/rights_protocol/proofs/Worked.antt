@@ -90,7 +90,7 @@ inherits = record {
   after = record { held_1 = refl; held_2 = refl; way_1 = refl; way_2 = refl };
 }
 
--- ---- taking back
+-- ---- reclaiming
 
 append_one : (log : List EntryValue) (m : Move) → is_closed log ≡ false → IsMove m → is_plain m ≡ true → NamesWithin 2 m → names 1 m ≡ false → end log + 1 ≤ 999999900
     → covers (held 2 1 log (λ o. from_other 1 o [])) (m ∷ []) ≡ true → Step (two (in_order log [] []) empty_side) (Append 1 (m ∷ [])) (two (in_order (log ++ entry_at_end 1 log (m ∷ []) ∷ []) [] []) empty_side)

@@ -1,4 +1,4 @@
--- The entries that a site writes: ordinary ones, those that take back, and closing ones.
+-- The entries that a site writes: ordinary ones, those that reclaim, and closing ones.
 use Rattle.std.proofs.Common.{◌≡◌, ◌≢◌, ℕ, ◌≤◌, inl, inr, true, false, eqb, List, [], ◌∷◌, ◌++◌, Option, Some, None, arith, refl, sym, subst}
 use Rattle.std.specs.Prelude.{IfSome}
 use Rattle.std.specs.List.{All, list_any}
@@ -35,7 +35,7 @@ pub record Writable (n s : ℕ) (log : List EntryValue) (applied : ℕ → List 
   pub is : IsEntry (entry_at_end s log ms)
   pub named : All (NamesWithin n) ms
   pub covered : covers (rights_after (received n s applied) (moves_of log)) ms ≡ true
-  -- they give nothing to a site whose K it applied
+  -- they give nothing to a site whose frontier it applied
   pub given : (c : ℕ) (numbers : List ℕ) → frontier (applied c) ≡ Some numbers → to c ms ≡ 0
 
 -- the rights that a site holds are what its log leaves of what it received
@@ -106,7 +106,7 @@ append_writable n s log applied ms k may =
       given = λ c numbers h. nothing_to c ms (may.open_peers c (has_closed (applied c) numbers h));
     }
 
--- ---- an entry that takes back
+-- ---- an entry that reclaims
 
 pub back_gives_none : (c o n : ℕ) → to c (TakeBack o n ∷ []) ≡ 0
 unfolding to

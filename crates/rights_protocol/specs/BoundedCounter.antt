@@ -14,7 +14,7 @@ pub record Counter : Type 0 where
   pub R : ℕ → ℕ → ℕ
   pub U : ℕ → ℕ
 
--- f over the sites 1 to n, without i
+-- the sum of f over the sites 1 to n except i
 abbrev pub sum_others : ℕ → ℕ → (ℕ → ℕ) → ℕ
 sum_others n i f = sum_sites n (λ j. if j == i then 0 else f j)
 
@@ -33,7 +33,7 @@ all_created n c = sum_sites n (λ i. c.R i i)
 abbrev pub all_consumed : ℕ → Counter → ℕ
 all_consumed n c = sum_sites n (λ i. c.U i)
 
--- what the counter counts to
+-- the value of the counter
 abbrev pub value : ℕ → Counter → ℕ
 value n c = all_created n c - all_consumed n c
 
@@ -58,13 +58,13 @@ pub record Increments (i amount : ℕ) (old new : Counter) : Type 0 where
   pub created : new.R i i ≡ old.R i i + amount
   pub others : OnlyEntry i i old new
 
--- i consumes this amount: no more than it has
+-- i consumes this amount, at most what it has
 pub record Decrements (n i amount : ℕ) (old new : Counter) : Type 0 where
   pub guard : amount ≤ local_rights n old i
   pub consumed : new.U i ≡ old.U i + amount
   pub others : OnlyUse i old new
 
--- one site transfers this amount to another: no more than it has
+-- one site transfers this amount to another, at most what it has
 pub record Transfers (n from to amount : ℕ) (old new : Counter) : Type 0 where
   pub site : IsSiteOf n to
   pub differ : to ≢ from
@@ -72,9 +72,8 @@ pub record Transfers (n from to amount : ℕ) (old new : Counter) : Type 0 where
   pub transferred : new.R from to ≡ old.R from to + amount
   pub others : OnlyEntry from to old new
 
--- The one operation that the paper does not have: i takes this amount back from j, no more than i transferred
--- to it and no more than j has. (In the protocol i does so once j has closed, and only with what was still on
--- the way to j.)
+-- The one operation that the paper does not have: i reclaims this amount from j, at most what i transferred to it and
+-- at most what j has. (In the protocol i does so once j has closed, and only with what was still in transit to j.)
 pub record TakesBack (n i j amount : ℕ) (old new : Counter) : Type 0 where
   pub site : IsSiteOf n j
   pub differ : j ≢ i
@@ -83,7 +82,7 @@ pub record TakesBack (n i j amount : ℕ) (old new : Counter) : Type 0 where
   pub taken : new.R i j + amount ≡ old.R i j
   pub others : OnlyEntry i j old new
 
--- a move of i as an operation; a closing move is none
+-- a move of i as an operation; a closing move is not one
 abbrev pub Operates : ℕ → ℕ → Move → Counter → Counter → Type 0
 Operates n i (Issue amount) old new = Increments i amount old new
 Operates n i (Spend amount) old new = Decrements n i amount old new
@@ -113,7 +112,7 @@ pub record EmptyCounter (c : Counter) : Type 0 where
   pub R : (i j : ℕ) → c.R i j ≡ 0
   pub U : (i : ℕ) → c.U i ≡ 0
 
--- no local rights are negative, nor is the value, and the value is the sum of all local rights
+-- neither local rights nor the value are negative, and the value is the sum of all local rights
 pub record IsSafe (n : ℕ) (c : Counter) : Type 0 where
   pub rights : (i : ℕ) → IsSiteOf n i → outgoing n c i + c.U i ≤ c.R i i + incoming n c i
   pub not_negative : all_consumed n c ≤ all_created n c

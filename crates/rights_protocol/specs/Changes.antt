@@ -1,4 +1,4 @@
--- What may happen to the lists. Each change is one site's, and touches no list of another site.
+-- The permitted changes to the lists. Each change is made by one site, and changes no list of another site.
 use Rattle.std.specs.Prelude.{◌≡◌, ◌≢◌, ℕ, ◌≤◌, ◌⊎◌, false, List, [], ◌∷◌, ◌++◌, length, Option, Some}
 use Rattle.std.specs.List.{Contains, slice_get}
 use Rattle.rights_types.specs.Entries.{EntryValue}
@@ -12,13 +12,13 @@ use Rattle.rights_protocol.specs.Writing.{MayAppend, MayClose, closing_moves}
 pub data Change : Type 0 where
   -- s appends an ordinary entry of these moves: it issues, spends or gives
   Append : ℕ → List Move → Change
-  -- at s, an entry of the log of o is offered
+  -- an entry of the log of o is offered at s
   Offer : ℕ → ℕ → EntryValue → Change
-  -- s takes the next entry of o and applies it
+  -- s applies the next entry of o
   Take : ℕ → ℕ → Change
   -- s closes, with an heir or none
   CloseSite : ℕ → Option ℕ → Change
-  -- a refusal, and whatever else touches none of these lists
+  -- a refusal, or anything else that changes none of these lists
   Nothing : Change
 
 -- ---- what stays
@@ -55,7 +55,7 @@ pub record Appends (old new : Lists) (s : ℕ) (ms : List Move) : Type 0 where
 
 -- ---- an offer
 
--- the entry reaches s, as the next one or as one that is held; s puts all that is in order now
+-- the entry reaches s, as the next one or as one that is held; s delivers everything that is now in order
 pub record Reaches (old new : Lists) (s o : ℕ) (e : EntryValue) : Type 0 where
   pub fresh : ¬ Contains (old.reached s o) e
   pub room : (e.prev ≡ end (old.put s o)) ⊎ (¬ IsFull (old.reached s o) (old.put s o))
@@ -66,7 +66,7 @@ pub record Reaches (old new : Lists) (s o : ℕ) (e : EntryValue) : Type 0 where
   pub links : (k : ℕ) → k ≢ o → LinkStays old new s k
   pub others : OthersStay old new s
 
--- it had reached s before, or it is not the next one and s holds all that it can
+-- it had reached s before, or it is not next and s already holds as many entries as it may
 pub record TurnedAway (old new : Lists) (s o : ℕ) (e : EntryValue) : Type 0 where
   pub why : Contains (old.reached s o) e ⊎ ((e.prev ≢ end (old.put s o)) × IsFull (old.reached s o) (old.put s o))
   pub all : Stays old new
@@ -80,8 +80,8 @@ pub record Offers (old new : Lists) (s o : ℕ) (e : EntryValue) : Type 0 where
 
 -- ---- a take
 
--- s, not closed, applies the next entry of what it put; where that ends in a K of o, it takes back what it
--- owes in the same change
+-- s, not closed, applies the next delivered entry; if that is a closing entry of o with a frontier, s reclaims what it
+-- is owed in the same change
 pub record Takes (old new : Lists) (s o : ℕ) : Type 0 where
   pub site : IsSiteOf old.count s
   pub from : IsSiteOf old.count o

@@ -1,4 +1,4 @@
--- The laws of the Bounded Counter, alone and as the lists of the protocol make it up.
+-- The laws of the Bounded Counter, alone and as formed by the lists of the protocol.
 use Rattle.std.specs.Prelude.{◌≡◌, ◌≢◌, ℕ, ◌+◌, ◌≤◌, ◌⊎◌, ◌==◌, List, [], ◌∷◌, if◌then◌else◌}
 use Rattle.rights_types.specs.Chains.{moves_of}
 use Rattle.rights_types.specs.Rights.{sum_sites, to, back}
@@ -22,27 +22,27 @@ pub record OwnRow (i : ℕ) (old new : Counter) : Type 0 where
 abbrev pub OwnRowOnly : Type 0
 OwnRowOnly = (n i : ℕ) (moves : List Move) (old new : Counter) → Operate n i moves old new → OwnRow i old new
 
--- whatever the sites do from the start, nothing is overdrawn
+-- whatever operations the sites make from the start, nothing is overdrawn
 abbrev pub CounterIsSafe : Type 0
 CounterIsSafe = (n : ℕ) (ops : List Operation) (start new : Counter) → EmptyCounter start → CounterRun n ops start new → IsSafe n new
 
 -- ---- the lists as a counter
 
--- what the lists say of a site's rights
+-- what the lists say about a site's rights
 pub record RightsCount (w : Lists) (s : ℕ) : Type 0 where
-  -- what it holds are its local rights over what it has
+  -- the rights that it holds are its local rights according to what it has
   pub holds : held_at w s ≡ local_rights w.count (state_at w s) s
-  -- by all logs it has this, and what is on the way to it
+  -- according to all logs it has these, and what is in transit to it
   pub has : local_rights w.count (state_of w) s ≡ held_at w s + sum_sites w.count (λ o. on_way w o s)
-  -- so it counts on no more than it has
+  -- so it never counts on more than it has
   pub no_more : local_rights w.count (state_at w s) s ≤ local_rights w.count (state_of w) s
 
 pub record ListsCount (w : Lists) : Type 0 where
   pub safe : IsSafe w.count (state_of w)
-  -- no site took back more than it gave, so nothing is cut off in the differences of `counter_of`
+  -- no site reclaimed more than it gave, so no difference in `counter_of` is cut off at 0
   pub taken_given : (s : ℕ) → IsSiteOf w.count s → (c : ℕ) → back c (moves_of (w.log s)) ≤ to c (moves_of (w.log s))
   pub rights : (s : ℕ) → IsSiteOf w.count s → RightsCount w s
-  -- the counter's value is what was issued and not spent
+  -- the counter's value is what was issued less what was spent
   pub counts : value w.count (state_of w) + all_spent w ≡ all_issued w
 
 abbrev pub KeptCounts : Type 0
@@ -50,7 +50,7 @@ KeptCounts = (w : Lists) → Kept w → ListsCount w
 
 -- ---- the changes as operations
 
--- the moves that s writes, each of them allowed, by all logs and by what s has
+-- the moves that s writes; each is permitted, both according to all logs and according to what s has
 pub record OperatesBoth (s : ℕ) (moves : List Move) (old new : Lists) : Type 0 where
   pub state : Operate old.count s moves (state_of old) (state_of new)
   pub view : Operate old.count s moves (state_at old s) (state_at new s)
@@ -65,7 +65,7 @@ ByOperations old Nothing new = SameCounter (state_of old) (state_of new)
 abbrev pub StepOperates : Type 0
 StepOperates = (old : Lists) (change : Change) (new : Lists) → Kept old → Step old change new → ByOperations old change new
 
--- so each run of the protocol is one of the counter
+-- so each run of the protocol is a run of the counter
 abbrev pub RunOperates : Type 0
 RunOperates = (n : ℕ) (start : Lists) (changes : List Change) (new : Lists) → Start n start → Runs start changes new
     → (ops : List Operation) × ((empty : Counter) × EmptyCounter empty × CounterRun n ops empty (state_of new))

@@ -11,7 +11,7 @@ use Rattle.rights_protocol.specs.Changes.Change.{Append, Offer, Take, CloseSite,
 
 -- ---- two sites
 
--- what one of two sites has: its log, and of the other's log what reached it, was put and was applied
+-- the lists of one of two sites: its log, and of the other's log what reached it, was delivered and was applied
 pub record Side : Type 0 where
   pub log : List EntryValue
   pub reached : List EntryValue
@@ -39,11 +39,11 @@ two a b = record {
 abbrev pub entry : ℕ → ℕ → List Move → EntryValue
 entry o prev ms = record { origin = o; prev = prev; moves = ms }
 
--- a site that has put all of es that reached it, and applied so much of it
+-- a site that has delivered all of es that reached it, and applied this prefix of it
 abbrev pub in_order : List EntryValue → List EntryValue → List EntryValue → Side
 in_order log es applied = record { log = log; reached = es; put = es; applied = applied }
 
--- sites 1 and 2 hold so much, and so much is on the way from 1 to 2 and from 2 to 1
+-- sites 1 and 2 hold these amounts, and these are in transit from 1 to 2 and from 2 to 1
 pub record Stands (w : Lists) (one two from_1 from_2 : ℕ) : Type 0 where
   pub held_1 : held_at w 1 ≡ one
   pub held_2 : held_at w 2 ≡ two
@@ -61,7 +61,7 @@ leaving = entry 1 3 (Give 2 3 ∷ (CloseAt (0 ∷ (0 ∷ [])) ∷ []))
 abbrev pub leaver : Side
 leaver = in_order (opening ∷ (leaving ∷ [])) [] []
 
--- the closing entry comes first and is held, until the one before it comes too
+-- the closing entry arrives first and is held until the one before it arrives too
 abbrev pub held_back : Side
 held_back = record { log = []; reached = leaving ∷ []; put = []; applied = [] }
 
@@ -72,13 +72,13 @@ pub record Inherits : Type 0 where
   pub run : Runs (two empty_side empty_side)
       (Append 1 opening.moves ∷ (CloseSite 1 (Some 2) ∷ (Offer 2 1 leaving ∷ (Offer 2 1 opening ∷ (Take 2 1 ∷ (Take 2 1 ∷ []))))))
       (two leaver (both_came (opening ∷ (leaving ∷ []))))
-  -- the gift stands with its giver, on the way and with its taker; then the heritage
+  -- the gift is held by its giver, then in transit, then held by its receiver; then the inheritance follows
   pub before : Stands (two (in_order (opening ∷ []) [] []) empty_side) 3 0 3 0
   pub given : Stands (two (in_order (opening ∷ []) [] []) (in_order [] (opening ∷ []) (opening ∷ []))) 3 3 0 0
   pub closed : Stands (two leaver (both_came (opening ∷ []))) 0 3 3 0
   pub after : Stands (two leaver (both_came (opening ∷ (leaving ∷ [])))) 0 6 0 0
 
--- ---- taking back: site 1 issues 10 and gives 4 to site 2, which closes without having applied the gift
+-- ---- reclaiming: site 1 issues 10 and gives 4 to site 2, which closes without having applied the gift
 
 abbrev pub issuing : EntryValue
 issuing = entry 1 0 (Issue 10 ∷ [])
@@ -101,7 +101,7 @@ closer = in_order (closing ∷ []) (issuing ∷ []) (issuing ∷ [])
 abbrev pub regainer : Side
 regainer = in_order (issuing ∷ (giving ∷ (regaining ∷ []))) (closing ∷ []) (closing ∷ [])
 
--- the gift still comes, and is applied no more
+-- the gift still arrives, and is not applied any more
 abbrev pub told_late : Side
 told_late = in_order (closing ∷ []) (issuing ∷ (giving ∷ [])) (issuing ∷ [])
 
@@ -115,7 +115,7 @@ pub record GiftComesBack : Type 0 where
   pub after : Stands (two regainer closer) 10 0 0 0
   pub at_last : Stands (two regainer told_late) 10 0 0 0
 
--- ---- two that close towards each other: what was on the way stays there
+-- ---- two that close towards each other: what was in transit stays there
 
 abbrev pub closing_too : EntryValue
 closing_too = entry 1 2 (CloseAt (0 ∷ (0 ∷ [])) ∷ [])

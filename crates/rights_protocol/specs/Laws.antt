@@ -45,30 +45,30 @@ abbrev pub ClosedForGood : Type 0
 ClosedForGood = (old : Lists) (changes : List Change) (new : Lists) (c : ℕ) → Runs old changes new → is_closed (old.log c) ≡ true
     → (is_closed (new.log c) ≡ true) × ((o : ℕ) → new.applied c o ≡ old.applied c o)
 
--- a K that was applied stays applied
+-- a closing entry that was applied stays applied
 abbrev pub AppliedForGood : Type 0
 AppliedForGood = (old : Lists) (changes : List Change) (new : Lists) (s c : ℕ) (numbers : List ℕ)
     → Kept old → Runs old changes new → AppliedClose old s c numbers → AppliedClose new s c numbers
 
 -- ---- one site
 
--- what is kept of one site is kept by what the site does, and that names no other site's log
+-- each step of a site preserves the invariant of that site, in which no other site's log is named
 pub record SiteGoesOn (n s : ℕ) (log : List EntryValue) (applied : ℕ → List EntryValue) : Type 0 where
   pub appends : (ms : List Move) → MayAppend n s log applied ms → SiteKept n s (log ++ entry_at_end s log ms ∷ []) applied
   pub takes : (o : ℕ) (e : EntryValue) (now : ℕ → List EntryValue) → IsSiteOf n o → s ≢ o → is_closed log ≡ false → IsChain o (applied o ++ e ∷ [])
       → AddsEntry applied o e now → SiteKept n s (log ++ taking_back s o log e) now
   pub closes : (heir : Option ℕ) → MayClose n s log applied heir → SiteKept n s (log ++ entry_at_end s log (closing_moves n s log applied heir) ∷ []) applied
 
--- and it bounds the site's log and its book
+-- and the invariant bounds the site's log and its book
 pub record SiteBounds (n s : ℕ) (log : List EntryValue) (applied : ℕ → List EntryValue) : Type 0 where
-  -- above the last number of an ordinary entry, a log that is not closed has a take back for each other
-  -- site, at most; so one more, and the two moves of a closing entry, always fit
+  -- above the last number of an ordinary entry, a log that is not closed has at most one reclaim for each other site;
+  -- so one more reclaim, and the two moves of a closing entry, always fit
   pub room : is_closed log ≡ false → end log < LAST_APPEND + MAX_SITES
-  -- it took back what it owes, nothing where it applied no K, and never more than it gave
+  -- it reclaimed what it is owed: nothing if it applied no closing entry with a frontier, and never more than it gave
   pub taken : (c : ℕ) → back c (moves_of log) ≡ owed s c log (frontier (applied c))
   pub none_taken : (c : ℕ) → is_closed (applied c) ≡ false → back c (moves_of log) ≡ 0
   pub taken_given : (c : ℕ) → back c (moves_of log) ≤ to c (moves_of log)
-  -- what any K makes it owe is what it gave, or less, and is no more than one take back can say
+  -- what it is owed by any frontier is at most what it gave, and fits one reclaim
   pub owes_given : (c : ℕ) (k : Option (List ℕ)) → owed s c log k ≤ to c (moves_of log)
   pub owes_total : (c : ℕ) (k : Option (List ℕ)) → owed s c log k ≤ MAX_TOTAL
   pub received : received n s applied ≤ MAX_RECEIVED

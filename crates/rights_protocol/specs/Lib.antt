@@ -1,6 +1,6 @@
--- The protocol as laws, to be read in this order: the lists of a system of sites, what may happen to them,
--- what is kept, what follows, the Bounded Counter that the lists make up, and what holds in every schedule of
--- sites that run apart.
+-- The protocol as laws, to be read in this order: the lists of a system of sites, the permitted changes, the
+-- invariant, what follows from it, the Bounded Counter that the lists form, and what holds in every schedule of sites
+-- that run independently.
 pub mod Lists
 pub mod Retiring
 pub mod Writing

@@ -1,9 +1,9 @@
--- Sites that run apart, in threads or processes: what is promised of them in every schedule.
+-- Sites that run independently, in threads or processes: what is promised of them in every schedule.
 --
--- Each site makes steps of its own, of which each changes the lists of that site alone. Let them be interleaved in any
--- way. As long as what a site applies of a log stands in that log (one writer for each log), the headline and
--- retirement hold at each moment (`AnySchedule`). They hold too of any cut, where each site is looked at when it likes
--- (`AnyCut`): that needs no history, and no order of what happened.
+-- Each step of a site changes only the lists of that site. Let the steps be interleaved in any order. As long as what
+-- a site applies of a log is in that log (one writer for each log), the headline and retirement hold at each moment
+-- (`AnySchedule`). They also hold of any cut, where each site is read at a moment of its own (`AnyCut`): that needs no
+-- history, and no order of what happened.
 use Rattle.std.specs.Prelude.{◌≡◌, ◌≢◌, ℕ, ◌≤◌, false, List, [], ◌∷◌, ◌++◌, Option}
 use Rattle.std.specs.List.{Contains}
 use Rattle.rights_types.specs.Entries.{EntryValue}
@@ -21,7 +21,7 @@ use Rattle.rights_protocol.specs.CounterLaws.{ListsCount}
 
 -- ---- the lists of one site, and of all
 
--- its log, and what it applied of the log of each other site
+-- its log, and what it applied of each other site's log
 pub record SiteLists : Type 0 where
   pub log : List EntryValue
   pub applied : ℕ → List EntryValue
@@ -35,8 +35,8 @@ pub record IsFresh (lists : SiteLists) : Type 0 where
   pub log : lists.log ≡ []
   pub applied : (o : ℕ) → lists.applied o ≡ []
 
--- The lists of n sites, as the protocol has them. What came to a site, and what it put in order, is read as what it
--- applied: no other site looks at these, so an entry may as well come just before it is applied.
+-- The lists of n sites, as the protocol has them. What reached a site, and what was delivered to it, is read as what
+-- it applied: no other site reads these lists, so an entry may as well arrive just before it is applied.
 abbrev pub together : ℕ → (ℕ → SiteLists) → Lists
 together n sites = record {
   count = n;
@@ -48,15 +48,15 @@ together n sites = record {
 
 -- ---- a step of one site
 
--- what a site may do to its lists
+-- a change that a site may make to its lists
 pub data LocalChange : Type 0 where
   -- it writes an ordinary entry of these moves
   Write : List Move → LocalChange
-  -- it applies this entry of the log of o, the next one there
+  -- it applies this entry, the next one of the log of o
   Apply : ℕ → EntryValue → LocalChange
   -- it closes, with an heir or none
   Retire : Option ℕ → LocalChange
-  -- it does anything else, which leaves these lists as they are
+  -- it does something else, which leaves these lists as they are
   Other : LocalChange
 
 -- s writes an entry that the protocol lets it write: it issues, or spends or gives what it holds
@@ -65,7 +65,8 @@ pub record WritesOwn (n s : ℕ) (old : SiteLists) (ms : List Move) (new : SiteL
   pub log : new.log ≡ old.log ++ entry_at_end s old.log ms ∷ []
   pub applied : (o : ℕ) → new.applied o ≡ old.applied o
 
--- s, not closed, applies the next entry of o; where that ends in a K, it takes back what it owes in the same step
+-- s, not closed, applies the next entry of o; if that closes with a frontier, s reclaims what it is owed in the same
+-- step
 pub record AppliesNext (n s : ℕ) (old : SiteLists) (o : ℕ) (e : EntryValue) (new : SiteLists) : Type 0 where
   pub from : IsSiteOf n o
   pub differ : s ≢ o
@@ -80,7 +81,7 @@ pub record Retires (n s : ℕ) (old : SiteLists) (heir : Option ℕ) (new : Site
   pub log : new.log ≡ old.log ++ entry_at_end s old.log (closing_moves n s old.log old.applied heir) ∷ []
   pub applied : (o : ℕ) → new.applied o ≡ old.applied o
 
--- One step of s, one of n sites. No other site's lists are named.
+-- One step of s, one of n sites. It names no other site's lists.
 abbrev pub LocalStep : ℕ → ℕ → SiteLists → LocalChange → SiteLists → Type 0
 LocalStep n s old (Write ms) new = WritesOwn n s old ms new
 LocalStep n s old (Apply o e) new = AppliesNext n s old o e new
@@ -92,35 +93,35 @@ abbrev pub LocalRun : ℕ → ℕ → SiteLists → List LocalChange → SiteLis
 LocalRun n s old [] new = SameLists old new
 LocalRun n s old (change ∷ changes) new = (mid : SiteLists) × LocalStep n s old change mid × LocalRun n s mid changes new
 
--- what the protocol keeps of a site is kept by each step of that site
+-- each step of a site preserves the invariant of that site
 abbrev pub LocalKeeps : Type 0
 LocalKeeps = (n s : ℕ) (old : SiteLists) (change : LocalChange) (new : SiteLists) → MIN_SITES ≤ n → n ≤ MAX_SITES → IsSiteOf n s
     → SiteKept n s old.log old.applied → LocalStep n s old change new → SiteKept n s new.log new.applied
 
--- so it is kept of a site that took any such steps from the start, whatever the others did
+-- so the invariant holds of a site after any such steps from the start, whatever the others did
 abbrev pub LocalRunKept : Type 0
 LocalRunKept = (n s : ℕ) (start : SiteLists) (changes : List LocalChange) (now : SiteLists) → MIN_SITES ≤ n → n ≤ MAX_SITES → IsSiteOf n s
     → IsFresh start → LocalRun n s start changes now → SiteKept n s now.log now.applied
 
 -- ---- a cut
 
--- Of each of n sites its lists at some moment between two of its steps. The moments need not be the same, and how the
--- sites came there is not asked.
+-- The lists of each of n sites at some moment between two of its steps. The moments may differ, and the sites may have
+-- reached these lists in any way.
 pub record IsCut (n : ℕ) (sites : ℕ → SiteLists) : Type 0 where
   pub some : MIN_SITES ≤ n
   pub few : n ≤ MAX_SITES
-  -- what the protocol keeps of each site alone
+  -- the invariant of each site alone
   pub kept : (s : ℕ) → IsSiteOf n s → SiteKept n s (sites s).log (sites s).applied
   -- one writer: what a site applied of a log is a prefix of that log
   pub begins : (s o : ℕ) → IsSiteOf n s → IsPrefix ((sites s).applied o) (sites o).log
-  -- a number that is no site's has nothing
+  -- a number that no site has comes with no entries
   pub others : (k : ℕ) → ¬ IsSiteOf n k → IsFresh (sites k)
 
--- all that is promised of the protocol's lists, and that they are those of a Bounded Counter
+-- everything that is promised of the protocol's lists, and that they form a Bounded Counter
 pub record AllPromised (w : Lists) : Type 0 where
   pub promised : Promised w
   pub counts : ListsCount w
-  -- no entry that a site applied takes anything back from it
+  -- no entry that a site applied reclaims anything from that site
   pub untouched : (s o : ℕ) → IsSiteOf w.count o → back s (moves_of (w.applied s o)) ≡ 0
 
 abbrev pub AnyCut : Type 0
@@ -133,7 +134,7 @@ pub record Turn : Type 0 where
   pub site : ℕ
   pub change : LocalChange
 
--- one writer: an entry of o that is applied stands in the log of o by then
+-- one writer: an entry of o that is applied is in the log of o by then
 abbrev pub IsSent : (ℕ → SiteLists) → LocalChange → Type 0
 IsSent sites (Apply o e) = Contains (sites o).log e
 IsSent sites change = Unit {0}
@@ -154,7 +155,7 @@ pub record AllFresh (n : ℕ) (sites : ℕ → SiteLists) : Type 0 where
   pub few : n ≤ MAX_SITES
   pub each : (s : ℕ) → IsFresh (sites s)
 
--- the changes of the protocol that a step of s is: an apply is an offer, and then a take
+-- a step of s as changes of the protocol: an apply is an offer and then a take
 abbrev pub changes_by : ℕ → LocalChange → List Change
 changes_by s (Write ms) = Append s ms ∷ []
 changes_by s (Apply o e) = Offer s o e ∷ (Take s o ∷ [])
@@ -171,10 +172,10 @@ AtEachMoment P n old [] new schedule = P (together n old) × P (together n new)
 AtEachMoment P n old (turn ∷ turns) new schedule = P (together n old) × AtEachMoment P n schedule.0 turns new schedule.2
 
 pub record FollowsProtocol (n : ℕ) (start : ℕ → SiteLists) (turns : List Turn) (now : ℕ → SiteLists) (schedule : Schedule n start turns now) : Type 0 where
-  -- it is a run of the protocol, from its start, by these changes
+  -- it is a run of the protocol from its start, by these changes
   pub from_start : Start n (together n start)
   pub run : Runs (together n start) (changes_of turns) (together n now)
-  -- so all that is promised holds whenever no site is within a step
+  -- so everything that is promised holds whenever no site is in the middle of a step
   pub promised : AtEachMoment AllPromised n start turns now schedule
 
 abbrev pub AnySchedule : Type 0

@@ -1,5 +1,5 @@
--- What one site may write, by its own log and by what it applied of the others. No other site's lists are
--- named: each site decides by what it knows.
+-- What one site may write, given its own log and what it applied of the others. No other site's lists are named: each
+-- site decides by what it knows.
 use Rattle.std.specs.Prelude.{◌≡◌, ◌≢◌, ℕ, ◌+◌, ◌≤◌, Bool, true, false, ◌==◌, List, [], ◌∷◌, ◌++◌, length, Option, Some, None, IfSome, if◌then◌else◌}
 use Rattle.std.specs.List.{All, list_any}
 use Rattle.rights_types.specs.Entries.{EntryValue}
@@ -20,8 +20,8 @@ is_plain (Grant j n a) = true
 is_plain (Give j n) = true
 is_plain m = false
 
--- s may append an ordinary entry of these moves: it holds what they spend and give, in order, and gives
--- nothing to itself or to a site that it knows as closed
+-- s may append an ordinary entry of these moves: it holds what they spend and give, in order, and gives nothing to
+-- itself or to a site that it knows to be closed
 pub record MayAppend (n s : ℕ) (log : List EntryValue) (applied : ℕ → List EntryValue) (ms : List Move) : Type 0 where
   pub unclosed : is_closed log ≡ false
   pub some : 1 ≤ length ms
@@ -34,7 +34,7 @@ pub record MayAppend (n s : ℕ) (log : List EntryValue) (applied : ℕ → List
   pub fits : end log + length ms ≤ LAST_APPEND
   pub holds : covers (held n s log applied) ms ≡ true
 
--- the heir is another site, not closed as s knows, and one move can give it all that s holds
+-- the heir is another site, not known by s to be closed, and one move can give it everything that s holds
 pub record MayInherit (n s : ℕ) (log : List EntryValue) (applied : ℕ → List EntryValue) (heir : ℕ) : Type 0 where
   pub site : IsSiteOf n heir
   pub differ : s ≢ heir
@@ -50,8 +50,8 @@ pub record MayClose (n s : ℕ) (log : List EntryValue) (applied : ℕ → List 
 abbrev pub heritage : ℕ → ℕ → List Move
 heritage heir n = if n == 0 then [] else Give heir n ∷ []
 
--- the moves of a closing entry: all that s holds goes to the heir, if there is one, and then comes the K.
--- With no heir s keeps what it holds.
+-- the moves of a closing entry: everything that s holds goes to the heir, if there is one, and then comes the
+-- frontier. Without an heir s keeps what it holds.
 abbrev pub closing_moves : ℕ → ℕ → List EntryValue → (ℕ → List EntryValue) → Option ℕ → List Move
 closing_moves n s log applied None = CloseAt (own_frontier n applied) ∷ []
 closing_moves n s log applied (Some heir) = heritage heir (held n s log applied) ++ CloseAt (own_frontier n applied) ∷ []

@@ -1,28 +1,29 @@
-//! The Bounded Counter, alone and as the lists make it up: laws on functions that do nothing.
+//! The Bounded Counter, alone and as formed by the lists of a system: laws on functions that do nothing.
 ghost use Rattle.rights_protocol.specs.CounterLaws.{OwnRowOnly, CounterIsSafe, KeptCounts, StepOperates, RunOperates, SmallCounter};
 
-/// An operation of a site changes its own row of R and its own entry of U alone.
+/// An operation of a site changes only its own row of R and its own entry of U.
 pub fn own_row_only()
     ensures { OwnRowOnly }
 {}
 
-/// Whatever operations the sites make from the start, no local rights are negative, nor is the value.
+/// After any operations of the sites from the start, neither local rights nor the value are negative.
 pub fn counter_is_safe()
     ensures { CounterIsSafe }
 {}
 
-/// What is kept of the lists makes up such a counter. A site holds its local rights over what it has,
-/// by all logs it has what is on the way to it besides, and the value is what was issued and not spent.
+/// Lists that satisfy the invariant form such a counter. What a site holds is its local rights according to what it
+/// has; according to all logs it also has what is in transit to it; and the value is what was issued less what was
+/// spent.
 pub fn kept_counts()
     ensures { KeptCounts }
 {}
 
-/// Each change is operations of one site, each within its guard.
+/// Each change consists of operations of one site, each within its guard.
 pub fn step_operates()
     ensures { StepOperates }
 {}
 
-/// Each run from the start is a run of the counter's operations.
+/// Each run of the protocol from the start is a run of the counter's operations.
 pub fn run_operates()
     ensures { RunOperates }
 {}

@@ -6,22 +6,22 @@ pub fn every_moment()
     ensures { EveryMoment }
 {}
 
-/// The headline and retirement hold of all lists that a run from the start leads to.
+/// The headline and retirement hold of all lists that any run from the start leads to.
 pub fn every_run()
     ensures { EveryRun }
 {}
 
-/// What is kept holds at the start.
+/// The invariant holds at the start.
 pub fn start_is_kept()
     ensures { StartKept }
 {}
 
-/// What is kept is kept by each change.
+/// Each change preserves the invariant.
 pub fn step_keeps()
     ensures { StepKeeps }
 {}
 
-/// The headline and retirement hold wherever that is kept.
+/// The invariant implies the headline and retirement.
 pub fn kept_promises()
     ensures { KeptPromises }
 {}
@@ -31,12 +31,12 @@ pub fn closed_for_good()
     ensures { ClosedForGood }
 {}
 
-/// A closing entry that was applied stays applied, and the last of its log.
+/// A closing entry that was applied stays applied, and stays the last of its log.
 pub fn applied_for_good()
     ensures { AppliedForGood }
 {}
 
-/// What is kept of one site is kept by what it does, and bounds its log and its book.
+/// Each step of one site preserves the invariant of that site, which bounds its log and its book.
 pub fn one_site()
     ensures { OneSite }
 {}

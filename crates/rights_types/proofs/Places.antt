@@ -15,7 +15,7 @@ pub length-set_site : {X : Type 0} (xs : List X) (s : ℕ) (x : X) → length (s
 length-set_site xs zero x = refl
 length-set_site xs (suc i) x = length-set xs i x
 
--- past the last site
+-- a number above the last site's
 pub at_site_past : {X : Type 0} (xs : List X) (s : ℕ) (d : X) → length xs < s → at_site xs s d ≡ d
 at_site_past xs zero d h = refl
 at_site_past xs (suc i) d h = get_or_past xs i d (omega arith)

@@ -44,7 +44,7 @@ sum_bound (suc n) m f h =
     let grows : suc n * m ≡ n * m + m = omega arith in
     omega (arith, rest, grows, h (suc n))
 
--- one term is 0: the bound of the others
+-- one term is 0: a bound from the others
 pub sum_bound_but : (n s m : ℕ) (f : ℕ → ℕ) → 1 ≤ s → s ≤ n → f s ≡ 0 → ((k : ℕ) → f k ≤ m) → sum_sites n f + m ≤ n * m
 sum_bound_but zero s m f low high none h = absurd (omega arith)
 sum_bound_but (suc n) s m f low high none h =
@@ -65,7 +65,7 @@ sum_fewer (suc n) k f h =
       | inr ne ↦ omega (arith, sum_fewer n k f (omega arith))
     ]
 
--- one term has risen
+-- one term has risen, and so has the sum
 pub sum_risen : (n o rise : ℕ) (f g : ℕ → ℕ) → 1 ≤ o → o ≤ n → ((k : ℕ) → k ≢ o → g k ≡ f k) → g o ≡ f o + rise → sum_sites n g ≡ sum_sites n f + rise
 sum_risen zero o rise f g low high others here = absurd (omega arith)
 sum_risen (suc n) o rise f g low high others here =

@@ -51,7 +51,7 @@ pub back-append : (s : ℕ) (xs ys : List Move) → back s (xs ++ ys) ≡ back s
 unfolding back
 back-append s xs ys = sum_by-append (take_back_from s) xs ys
 
--- the moves from one on
+-- the moves from index i on begin with the move at i
 pub next_move : (ms : List Move) (i : ℕ) (m : Move) → i < length ms → m ≡ get_or ms i m → drop i ms ≡ m ∷ drop (i + 1) ms
 next_move ms i m lt is = at_drop_more (λ xs. xs) ms i m lt ∙ ap (λ (x : Move). x ∷ drop (i + 1) ms) (sym is)
 
@@ -95,7 +95,7 @@ pub to-nil : (s : ℕ) → to s [] ≡ 0
 unfolding to
 to-nil s = refl
 
--- what is taken back by one move alone
+-- the amount reclaimed by a single move
 pub back-one : (c j n : ℕ) → back c (TakeBack j n ∷ []) ≡ cond (eqb j c) n 0
 back-one c j n = omega (arith, back-cons c (TakeBack j n) [], back-nil c)
 
@@ -115,7 +115,7 @@ nothing_to s (m ∷ ms) h =
     let p = or_parts (names s m) (list_any (names s) ms) h in
     omega (arith, to-cons s m ms, no_gift s m p.0, nothing_to s ms p.1)
 
--- one more of some moves
+-- one more of the first moves
 pub to-more : (s : ℕ) (ms : List Move) (i : ℕ) (d : Move) → i < length ms → to s (take (i + 1) ms) ≡ to s (take i ms) + gift_to s (get_or ms i d)
 unfolding to
 to-more s ms i d h = sum_by_more (gift_to s) ms i d h
@@ -230,7 +230,7 @@ back_from-bound s Close = omega arith
 back_from-bound s (CloseAt f) = omega arith
 back_from-bound s (TakeBack j n) = at_least (eqb j s) n
 
--- what is taken back from one site is no more than what is taken back
+-- what is reclaimed from one site is at most what is reclaimed in all
 pub back-bound : (s : ℕ) (ms : List Move) → back s ms ≤ taken_back ms
 unfolding back taken_back
 back-bound s ms = sum_by-le-sum_by (take_back_from s) take_back_of ms (back_from-bound s)
@@ -247,7 +247,7 @@ unfolding spent out
 costs [] = refl
 costs (m ∷ ms) = simp sum_by-cons (omega (arith, costs ms))
 
--- the first move is covered, and the others by what it leaves
+-- the first move is covered, and the others by what remains after it
 pub covers_parts : (r : ℕ) (m : Move) (ms : List Move) → covers r (m ∷ ms) ≡ true → (cost_of m ≤ r) × (covers ((r - cost_of m) + gain_of m) ms ≡ true)
 covers_parts r m ms h =
     let p = and_parts (not (ltb r (cost_of m))) (covers ((r - cost_of m) + gain_of m) ms) h in
@@ -256,11 +256,11 @@ covers_parts r m ms h =
 pub covers_both : (r : ℕ) (m : Move) (ms : List Move) → cost_of m ≤ r → covers ((r - cost_of m) + gain_of m) ms ≡ true → covers r (m ∷ ms) ≡ true
 covers_both r m ms le h = rw (le-ltb r (cost_of m) le, h) refl
 
--- a covered move leaves the others to what is left
+-- after a covered move, the others must be covered by what remains
 pub covers_next : (r : ℕ) (m : Move) (ms : List Move) → cost_of m ≤ r → covers r (m ∷ ms) ≡ covers ((r - cost_of m) + gain_of m) ms
 covers_next r m ms le = rw (le-ltb r (cost_of m) le) refl
 
--- a move that costs more than there is
+-- a move that costs more than there is is not covered
 pub covers_not : (r : ℕ) (m : Move) (ms : List Move) → r < cost_of m → covers r (m ∷ ms) ≡ false
 covers_not r m ms lt = rw (lt-ltb r (cost_of m) lt) refl
 
@@ -270,11 +270,11 @@ after_by r (m ∷ ms) h =
     let p = covers_parts r m ms h in
     simp sum_by-cons (omega (arith, p.0, after_by ((r - cost_of m) + gain_of m) ms p.1))
 
--- what is left and what was spent and given is what there was, was issued and was taken back
+-- what remains, was spent and was given is what there was, was issued and was reclaimed
 pub rights_after_is : (r : ℕ) (ms : List Move) → covers r ms ≡ true → rights_after r ms + spent ms + out ms ≡ r + issued ms + taken_back ms
 rights_after_is r ms h = omega (arith, after_by r ms h, gains ms, costs ms)
 
--- more rights cover what fewer do
+-- more rights cover whatever fewer rights cover
 pub covers-more : (r q : ℕ) (ms : List Move) → r ≤ q → covers r ms ≡ true → covers q ms ≡ true
 covers-more r q [] le h = refl
 covers-more r q (m ∷ ms) le h =
@@ -304,7 +304,7 @@ one_gift n Close h = sum_zero n
 one_gift n (CloseAt f) h = sum_zero n
 one_gift n (TakeBack j a) h = sum_zero n
 
--- moves that name the sites 1 to n give away what they give to each of them
+-- moves that name only the sites 1 to n give away the sum of what they give to each of them
 pub out_is : (n : ℕ) (ms : List Move) → All (NamesWithin n) ms → sum_sites n (λ s. to s ms) ≡ out ms
 unfolding to out
 out_is n [] h = sum_zero n
@@ -334,7 +334,7 @@ taken_back_is n (m ∷ ms) h =
     ∙ ap (λ k. k + sum_by take_back_of ms) (one_back n m (All-head (NamesWithin n) m ms h))
     ∙ sym (sum_by-cons take_back_of m ms)
 
--- no cut of covered moves is short
+-- no prefix of covered moves overspends
 pub never_short : (n r : ℕ) (ms : List Move) → covers r ms ≡ true → All (NamesWithin n) ms → IsNeverShort n r ms
 never_short n r ms h named k =
     let cut : List Move = take k ms in

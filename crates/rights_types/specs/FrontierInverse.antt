@@ -1,4 +1,5 @@
--- A frontier's numbers give its places back. It stands here since the type itself cites it.
+-- A frontier's numbers and its sixteen slots determine each other. This proof is here because the type itself cites
+-- it.
 use Rattle.std.specs.Prelude.{◌≡◌, ℕ, ◌-◌, List, ◌++◌, length, take, replicate}
 use Rattle.std.proofs.Common.{arith, ap, ◌∙◌, sym, take-append-drop}
 use Rattle.std.proofs.lemmas.List.{length-take-le}

@@ -25,7 +25,7 @@ pub record BeatValue : Type 0 where
   pub origin : ℕ
   pub number : ℕ
 
--- the asker asks for so many rights
+-- the asker asks for this amount of rights
 pub record AskValue : Type 0 where
   pub asker : ℕ
   pub asked : ℕ
@@ -79,7 +79,7 @@ pub record IsDenial (d : DenyValue) : Type 0 where
   pub differ : d.asker ≢ d.denier
   pub ask : IsAskNumber d.ask
 
--- a message that keeps its limits
+-- a message within its limits
 abbrev pub IsMessage : MessageValue → Type 0
 IsMessage (AnEntry e) = IsEntry e
 IsMessage (AQuery q) = IsQuery q
@@ -89,25 +89,25 @@ IsMessage (AnAsk a) = IsAsk a
 IsMessage (ADenial d) = IsDenial d
 IsMessage (AHello s) = IsSite s
 
--- what making a query answers
+-- the result of constructing a query
 abbrev pub QueryMade : QueryValue → Result QueryValue TypeError → Type 0
 QueryMade q (Ok made) = IsQuery q × (made ≡ q)
 QueryMade q (Err fault) = (if nat_lt MAX_NUMBER q.first || nat_lt MAX_NUMBER q.last then Some BadNumber
     else (if q.origin == q.asker then Some SameSite else None)) ≡ Some fault
 
--- what making an answer answers
+-- the result of constructing an answer
 abbrev pub AnswerMade : AnswerValue → Result AnswerValue TypeError → Type 0
 AnswerMade a (Ok made) = IsAnswer a × (made ≡ a)
 AnswerMade a (Err fault) = (if list_any (λ (e : EntryValue). not (e.origin == a.origin)) a.entries then Some BadSite
     else (if nat_lt MAX_ANSWER (length a.entries) then Some BadCount
     else (if a.asker == a.origin then Some SameSite else None))) ≡ Some fault
 
--- what making a beat answers
+-- the result of constructing a beat
 abbrev pub BeatMade : BeatValue → Result BeatValue TypeError → Type 0
 BeatMade b (Ok made) = IsBeat b × (made ≡ b)
 BeatMade b (Err fault) = (MAX_NUMBER < b.number) × (fault ≡ BadNumber)
 
--- what making an ask or a denial of values in their ranges answers
+-- the result of constructing an ask or a denial from values in their ranges
 abbrev pub AskMade : AskValue → Result AskValue TypeError → Type 0
 AskMade a (Ok made) = IsAsk a × (made ≡ a)
 AskMade a (Err fault) = (a.asked ≡ a.asker) × (fault ≡ SameSite)

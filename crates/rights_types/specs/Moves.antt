@@ -1,4 +1,4 @@
--- Moves, and what each does to rights.
+-- Moves, and the effect of each on rights.
 use Rattle.std.specs.Prelude.{ℕ, ◌+◌, ◌-◌, ◌≤◌, Bool, true, false, not, ◌==◌, ◌||◌, List, [], ◌∷◌, Option, Some, None, IfSome, if◌then◌else◌}
 use Rattle.std.specs.List.{slice_get}
 use Rattle.rights_types.specs.Ranges.{IsSite, IsAmount, IsAskNumber, IsTotal, IsFrontier}
@@ -34,7 +34,7 @@ is_site s (Some j) = j == s
 abbrev pub names : ℕ → Move → Bool
 names s m = is_site s (peer_of m)
 
--- where the move names a site, it is one of the sites 1 to n
+-- if the move names a site, it is one of the sites 1 to n
 abbrev pub NamesWithin : ℕ → Move → Type 0
 NamesWithin n m = IfSome (peer_of m) (λ j. (1 ≤ j) × (j ≤ n))
 
@@ -42,18 +42,18 @@ abbrev pub is_zero : Option ℕ → Bool
 is_zero None = false
 is_zero (Some n) = n == 0
 
--- a frontier in which the origin's own place is missing or not 0
+-- a frontier in which the origin's own position is missing or not 0
 abbrev pub lacks_own_place : ℕ → Move → Bool
 lacks_own_place o (CloseAt f) = not (is_zero (slice_get f (o - 1)))
 lacks_own_place o m = false
 
--- a closing move stands before the last move
+-- a closing move comes before the last move
 abbrev pub closes_early : List Move → Bool
 closes_early [] = false
 closes_early (m ∷ []) = false
 closes_early (m ∷ (n ∷ ms)) = is_close m || closes_early (n ∷ ms)
 
--- what a move issues, spends, gives away, gives to j, takes back, takes back from j
+-- the amount that a move issues, spends, gives away, gives to j, reclaims, reclaims from j
 abbrev pub issue_of : Move → ℕ
 issue_of (Issue n) = n
 issue_of m = 0
@@ -80,7 +80,7 @@ abbrev pub take_back_from : ℕ → Move → ℕ
 take_back_from s (TakeBack j n) = if j == s then n else 0
 take_back_from s m = 0
 
--- what a move adds to the rights of its origin, and what it takes from them
+-- the amount that a move adds to the rights of its origin, and that it takes from them
 abbrev pub gain_of : Move → ℕ
 gain_of m = issue_of m + take_back_of m
 

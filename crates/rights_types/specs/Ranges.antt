@@ -15,11 +15,11 @@ IsAskNumber n = (1 ≤ n) × (n ≤ MAX_ASK)
 abbrev pub IsTotal : ℕ → Type 0
 IsTotal n = (1 ≤ n) × (n ≤ MAX_TOTAL)
 
--- a number of a log, 0 before its first move
+-- a number of a log; 0 is the one before its first move
 abbrev pub IsNumber : ℕ → Type 0
 IsNumber n = n ≤ MAX_NUMBER
 
--- for each site of a system, a number of its log
+-- a number of a log for each site of a system
 pub record IsFrontier (numbers : List ℕ) : Type 0 where
   pub some : MIN_SITES ≤ length numbers
   pub few : length numbers ≤ MAX_SITES

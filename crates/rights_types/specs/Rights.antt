@@ -1,5 +1,5 @@
--- Sums over moves, and the rights that sites hold and that are on the way. The rights are those of the
--- Bounded Counter with bound 0: R(i,i) is what i issued, R(i,j) what i gave to j, U(i) what i spent.
+-- Sums over moves, and the rights that sites hold and that are in transit. The rights are those of the Bounded Counter
+-- with bound 0: R(i,i) is what i issued, R(i,j) what i gave to j, U(i) what i spent.
 use Rattle.std.specs.Prelude.{ℕ, zero, suc, ◌+◌, ◌-◌, ◌≤◌, Bool, true, not, nat_lt, ◌&&◌, List, [], ◌∷◌, length, take, drop}
 use Rattle.std.specs.List.{sum_by}
 use Rattle.rights_types.specs.Entries.{EntryValue}
@@ -7,7 +7,7 @@ use Rattle.rights_types.specs.Chains.{moves_of}
 use Rattle.rights_types.specs.Moves.{issue_of, spend_of, gift_of, gift_to, take_back_of, take_back_from, gain_of, cost_of}
 use Rattle.rights_types.specs.declared.moves.Move.{Move}
 
--- what these moves issue, spend, give away, give to j, take back, take back from j
+-- the sum of what these moves issue, spend, give away, give to j, reclaim, reclaim from j
 unfoldable pub issued : List Move → ℕ
 issued ms = sum_by issue_of ms
 
@@ -31,20 +31,20 @@ abbrev pub sum_sites : ℕ → (ℕ → ℕ) → ℕ
 sum_sites zero f = 0
 sum_sites (suc n) f = sum_sites n f + f (suc n)
 
--- what s received, among n sites, where applied o is what it applied of the log of o
+-- what s received among n sites, where applied o is what s applied of the log of o
 unfoldable pub received : ℕ → ℕ → (ℕ → List EntryValue) → ℕ
 received n s applied = sum_sites n (λ o. to s (moves_of (applied o)))
 
--- the rights that s holds: issued, received and taken back, less given and spent
+-- the rights that s holds: issued, received and reclaimed, less given and spent
 unfoldable pub held : ℕ → ℕ → List EntryValue → (ℕ → List EntryValue) → ℕ
 held n s log applied =
     let ms = moves_of log in (issued ms + received n s applied + sum_sites n (λ j. back j ms)) - (out ms + spent ms)
 
--- the rights on the way to s from the site of this log, of which s applied so many entries
+-- the rights in transit to s from the site with this log, of which s applied a prefix of this length
 unfoldable pub way : ℕ → List EntryValue → List EntryValue → ℕ
 way s log applied = to s (moves_of (drop (length applied) log)) - back s (moves_of log)
 
--- no cut of these moves gives and spends more than it issues and takes back, beside so many rights received
+-- no prefix of these moves gives and spends more than it issues and reclaims, plus what was received
 abbrev pub IsNeverShort : ℕ → ℕ → List Move → Type 0
 IsNeverShort n received ms =
     (k : ℕ) → let cut = take k ms in out cut + spent cut ≤ issued cut + received + sum_sites n (λ j. back j cut)

@@ -1,4 +1,4 @@
--- What a message says, without where it lies in memory.
+-- The value of a message, independent of where it is stored in memory.
 use Rattle.rights_types.specs.Messages.{MessageValue}
 use Rattle.rights_types.specs.Messages.MessageValue.{AnEntry, AQuery, AnAnswer, ABeat, AnAsk, ADenial, AHello}
 use Rattle.rights_types.specs.declared.message.Message.{Message}

@@ -38,7 +38,7 @@ impl Amount {
         Ok(Amount::known(value))
     }
 
-    /// The amount of a number that is known to be one.
+    /// The amount with this number, which must be in range: a precondition, not a check.
     pub fn known(value: u64) -> Amount
         requires { IsAmount value }
         ensures { result ≡ value }
@@ -88,7 +88,7 @@ impl AskNumber {
         Ok(AskNumber::known(value))
     }
 
-    /// The ask number of a number that is known to be one.
+    /// The ask number with this number, which must be in range: a precondition, not a check.
     pub fn known(value: u64) -> AskNumber
         requires { IsAskNumber value }
         ensures { result ≡ value }
@@ -107,7 +107,7 @@ impl AskNumber {
     }
 }
 
-/// What a site takes back at once from one that has closed, from 1 to 10^18.
+/// What a site reclaims in one move from a site that has closed, from 1 to 10^18.
 #[derive(Clone, Copy, Debug, PartialEq, Eq, PartialOrd, Ord)]
 pub struct Total {
     total: u64,
@@ -138,7 +138,7 @@ impl Total {
         Ok(Total::known(value))
     }
 
-    /// The total of a number that is known to be one.
+    /// The total with this number, which must be in range: a precondition, not a check.
     pub fn known(value: u64) -> Total
         requires { IsTotal value }
         ensures { result ≡ value }

@@ -1,4 +1,4 @@
-//! What a site answers to a query.
+//! Answers to queries.
 ghost use Rattle.std.specs.Prelude.{◌≡◌, ◌≤◌, ◌==◌, not, length};
 ghost use Rattle.std.specs.List.{list_any, All};
 ghost use Rattle.rights_types.specs.Entries.{EntryValue, IsEntry};
@@ -30,8 +30,8 @@ impl<A: Allocator> Model for Answer<A> {
 }
 
 impl<A: Allocator> Answer<A> {
-    /// `BadSite` where an entry is of another origin, else `BadCount` over 16 entries, else
-    /// `SameSite` where the origin answers itself. A refusal drops the entries.
+    /// Errors, in this order: `BadSite` if an entry is of another origin, `BadCount` for more than 16 entries,
+    /// `SameSite` if the origin answers itself. On an error the entries are dropped.
     pub fn new(
         origin: SiteId,
         asker: SiteId,
@@ -54,7 +54,7 @@ impl<A: Allocator> Answer<A> {
         Ok(Answer::known(origin, asker, entries))
     }
 
-    /// The answer of values that are known to keep the limits.
+    /// The answer of these values, which must be within the limits: a precondition, not a check.
     pub fn known(origin: SiteId, asker: SiteId, entries: Vec<Entry<A>, A>) -> Answer<A>
         requires { IsAnswer (record { origin = origin; asker = asker; entries = entries.items }) }
         ensures { result ≡ record { origin = origin; asker = asker; entries = entries.items } }
@@ -90,7 +90,7 @@ impl<A: Allocator> Answer<A> {
         &self.entries
     }
 
-    /// The entries, to be kept.
+    /// The entries, owned by the caller from now on. There are at most 16.
     pub fn into_entries(self) -> Vec<Entry<A>, A>
         ensures value { result.items ≡ self.entries }
         ensures valid { IsAnswer self }
@@ -106,7 +106,7 @@ fn any_foreign<A: Allocator>(entries: &[Entry<A>], origin: SiteId) -> bool
     entries.iter().any(|entry| entry.origin() != origin)
 }
 
-// For the proof: each entry keeps its limits, as its type does.
+// For the proof: each entry is within its limits, as its type guarantees.
 fn all_valid<A: Allocator>(entries: &[Entry<A>])
     ensures { All IsEntry entries.now }
 {

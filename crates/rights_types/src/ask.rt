@@ -1,4 +1,4 @@
-//! Asking for rights.
+//! Asks for rights.
 ghost use Rattle.std.specs.Prelude.{◌≡◌, ◌≢◌};
 ghost use Rattle.rights_types.specs.Messages.{AskMade, IsAsk};
 
@@ -29,7 +29,7 @@ impl Model for Ask {
 }
 
 impl Ask {
-    /// `SameSite` where a site asks itself.
+    /// `SameSite` if a site asks itself.
     pub fn new(
         asker: SiteId,
         asked: SiteId,
@@ -46,7 +46,7 @@ impl Ask {
         Ok(Ask::known(asker, asked, ask, amount))
     }
 
-    /// The ask of two sites that are known to differ.
+    /// The ask of two sites, which must differ: a precondition, not a check.
     pub fn known(asker: SiteId, asked: SiteId, ask: AskNumber, amount: Amount) -> Ask
         requires { asked ≢ asker }
         ensures { result ≡ record { asker = asker; asked = asked; ask = ask; amount = amount } }
@@ -85,7 +85,7 @@ impl Ask {
         self.ask
     }
 
-    /// The rights asked for.
+    /// The rights that are asked for.
     pub fn amount(&self) -> Amount
         ensures value { result ≡ self.now.amount }
         ensures valid { IsAsk self.now }

@@ -1,4 +1,4 @@
-//! Telling how far a log goes.
+//! Beats: the end of a log.
 ghost use Rattle.std.specs.Prelude.{◌≡◌, ◌≢◌};
 ghost use Rattle.rights_types.specs.Ranges.{IsNumber};
 ghost use Rattle.rights_types.specs.Messages.{BeatMade, IsBeat};
@@ -28,7 +28,7 @@ impl Model for Beat {
 }
 
 impl Beat {
-    /// `BadNumber` where the number is above 10^9.
+    /// `BadNumber` if the number is above 10^9.
     pub fn new(origin: SiteId, number: u64) -> Result<Beat, TypeError>
         ensures { BeatMade (record { origin = origin; number = number }) result }
     {
@@ -40,7 +40,7 @@ impl Beat {
         Ok(Beat::known(origin, number))
     }
 
-    /// The beat of a number that is known to be a log's.
+    /// The beat with this number, at most 10^9: a precondition, not a check.
     pub fn known(origin: SiteId, number: u64) -> Beat
         requires { IsNumber number }
         ensures { result ≡ record { origin = origin; number = number } }

@@ -1,4 +1,4 @@
-//! Refusing an ask.
+//! Denials of asks.
 ghost use Rattle.std.specs.Prelude.{◌≡◌, ◌≢◌};
 ghost use Rattle.rights_types.specs.Messages.{DenialMade, IsDenial};
 
@@ -7,7 +7,7 @@ use crate::fault::TypeError;
 use crate::site::SiteId;
 use std::marker::Model;
 
-/// The denier gives nothing for that ask.
+/// The denier grants nothing for this ask.
 #[derive(Clone, Copy, Debug, PartialEq, Eq)]
 pub struct Deny {
     denier: SiteId,
@@ -28,7 +28,7 @@ impl Model for Deny {
 }
 
 impl Deny {
-    /// `SameSite` where a site denies itself.
+    /// `SameSite` if a site denies itself.
     pub fn new(denier: SiteId, asker: SiteId, ask: AskNumber) -> Result<Deny, TypeError>
         ensures { DenialMade (record { denier = denier; asker = asker; ask = ask }) result }
     {
@@ -40,7 +40,7 @@ impl Deny {
         Ok(Deny::known(denier, asker, ask))
     }
 
-    /// The denial of two sites that are known to differ.
+    /// The denial of two sites, which must differ: a precondition, not a check.
     pub fn known(denier: SiteId, asker: SiteId, ask: AskNumber) -> Deny
         requires { asker ≢ denier }
         ensures { result ≡ record { denier = denier; asker = asker; ask = ask } }

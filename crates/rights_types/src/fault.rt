@@ -1,26 +1,26 @@
-//! Why a value is refused, and want of memory.
+//! Why a value is refused, and lack of memory.
 
 use std::alloc::{AllocError, AllocFailed};
 
-/// The limit that a value does not keep.
+/// The first limit that a value violates.
 #[derive(Clone, Copy, Debug, PartialEq, Eq)]
 pub enum TypeError {
     /// A site number outside 1 to 16, or an entry of another origin than its answer.
     BadSite,
     /// An amount outside 1 to 10^9, or a total outside 1 to 10^18.
     BadAmount,
-    /// A log number above 10^9, an ask number outside 1 to 10^9, or a frontier whose origin's own
-    /// place is missing or not 0.
+    /// A log number above 10^9, an ask number outside 1 to 10^9, or a frontier in which the origin's own position is
+    /// missing or not 0.
     BadNumber,
-    /// Not 1 to 16 moves, not 2 to 16 numbers of a frontier, or more than 16 entries of an answer.
+    /// Not 1 to 16 moves, not 2 to 16 numbers in a frontier, or more than 16 entries in an answer.
     BadCount,
     /// A closing move before the last move.
     CloseNotLast,
-    /// A move that names its origin, or a message whose two sites are one.
+    /// A move that names its origin, or a message whose two sites are the same.
     SameSite,
 }
 
-/// A request for memory was refused. What was called on is unchanged, except where a call says so.
+/// A memory request was refused. The value whose call failed is unchanged, unless the call says otherwise.
 #[derive(Clone, Copy, Debug, PartialEq, Eq)]
 pub struct OutOfMemory;
 

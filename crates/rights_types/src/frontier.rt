@@ -1,4 +1,4 @@
-//! What a closing site had applied of each site.
+//! What a closing site had applied of each other site's log.
 ghost use Rattle.std.specs.Prelude.{◌≡◌, ℕ, ◌-◌, ◌<◌, ◌≤◌, ◌↔◌, length, IfOk, IsErrOf, slice_get, Result, Ok, Err};
 ghost use Rattle.rights_types.specs.Ranges.{IsFrontier};
 ghost use Rattle.rights_types.specs.Frontiers.{FrontierMade};
@@ -8,7 +8,7 @@ use crate::limits::{MAX_NUMBER, MAX_SITES, MIN_SITES};
 use crate::site::SiteId;
 use std::marker::Model;
 
-/// For each site of a system of 2 to 16, the last number of its log that a closing site had applied.
+/// For each site of a system of 2 to 16, the last number of its log that the closing site had applied.
 #[derive(Clone, Copy, Debug, PartialEq, Eq)]
 pub struct Frontier {
     numbers: [u32; 16],
@@ -34,7 +34,7 @@ impl Model for Frontier {
 }
 
 impl Frontier {
-    /// `BadCount` where there are not 2 to 16 numbers, else `BadNumber` where one is above 10^9.
+    /// `BadCount` if there are not 2 to 16 numbers, else `BadNumber` if one is above 10^9.
     pub fn new(numbers: &[u64]) -> Result<Frontier, TypeError>
         ensures { FrontierMade numbers.now result }
     {
@@ -55,7 +55,7 @@ impl Frontier {
         })
     }
 
-    /// The number of a site, if the system has it.
+    /// The number for a site, or None if the system does not have it.
     pub fn at(&self, site: SiteId) -> Option<u64>
         ensures { result ≡ slice_get self.now (site - 1) }
     {

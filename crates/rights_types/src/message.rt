@@ -1,4 +1,4 @@
-//! What sites say to one another.
+//! The messages between sites.
 use crate::answer::Answer;
 use crate::ask::Ask;
 use crate::beat::Beat;
@@ -8,21 +8,21 @@ use crate::query::Query;
 use crate::site::SiteId;
 use std::alloc::{Allocator, Global};
 
-/// What a line says.
+/// The message that a line spells.
 #[derive(Drop)]
 pub enum Message<A: Allocator = Global> {
-    /// An entry of the log of its origin, for anybody.
+    /// An entry of its origin's log. Any site may read it.
     Push(Entry<A>),
     /// Asks an origin for entries.
     Query(Query),
     /// Answers a query.
     Answer(Answer<A>),
-    /// The last number of a log, for anybody.
+    /// The last number of a log. Any site may read it.
     Beat(Beat),
     /// Asks for rights.
     Ask(Ask),
     /// Denies an ask.
     Deny(Deny),
-    /// The first line of a connection: who speaks.
+    /// The first line of a connection: the site that opened it.
     Hello(SiteId),
 }

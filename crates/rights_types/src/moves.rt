@@ -8,8 +8,8 @@ use crate::frontier::Frontier;
 use crate::limits::{MAX_AMOUNT, MAX_TOTAL};
 use crate::site::SiteId;
 
-/// A change of rights that a site writes into its log. The rights are those of the Bounded Counter
-/// (Balegas and others, SRDS 2015); taking back is this project's own.
+/// A change of rights that a site writes into its log. The rights are those of the Bounded Counter (Balegas and
+/// others, SRDS 2015); reclaiming is this project's own.
 #[derive(Clone, Copy, Debug, PartialEq, Eq)]
 pub enum Move {
     /// Creates rights.
@@ -27,11 +27,11 @@ pub enum Move {
         peer: SiteId,
         amount: Amount,
     },
-    /// Closes the log without a frontier. Read for logs of an older writer, and never written.
+    /// Closes the log without a frontier. It is read from the logs of older writers, and never written.
     Close,
-    /// Closes the log, with what this site had applied of each other one.
+    /// Closes the log, with the frontier: what this site had applied of each other log.
     CloseAt(Frontier),
-    /// Takes back rights that were on the way to a peer that has closed.
+    /// Reclaims rights that were in transit to a peer that has closed.
     TakeBack {
         peer: SiteId,
         amount: Total,
@@ -39,7 +39,7 @@ pub enum Move {
 }
 
 impl Move {
-    /// Whether it closes its log.
+    /// Whether it closes the log.
     pub fn is_close(&self) -> bool
         ensures { result ≡ is_close self.now }
     {
@@ -50,7 +50,7 @@ impl Move {
         }
     }
 
-    /// The other site that it names.
+    /// The other site that it names, if any.
     pub fn peer(&self) -> Option<SiteId>
         ensures { result ≡ peer_of self.now }
     {
@@ -76,14 +76,14 @@ impl Move {
         }
     }
 
-    /// Whether one of these moves names the site.
+    /// Whether any of these moves names the site.
     pub fn any_names(moves: &[Move], site: SiteId) -> bool
         ensures { result ≡ list_any (names site) moves.now }
     {
         moves.iter().any(|m| m.names(site))
     }
 
-    /// Whether it is a frontier whose place of the origin is missing or not 0.
+    /// Whether it is a frontier in which the origin's position is missing or not 0.
     pub fn lacks_own_place(&self, origin: SiteId) -> bool
         ensures { result ≡ lacks_own_place origin self.now }
     {
@@ -131,7 +131,7 @@ impl Move {
         }
     }
 
-    /// What it adds to the rights of its origin: what it issues or takes back.
+    /// What it adds to the rights of its origin: what it issues or reclaims.
     pub fn gain(&self) -> u64
         ensures value { result ≡ gain_of self.now }
         ensures range { result ≤ MAX_TOTAL }
@@ -160,8 +160,8 @@ impl Move {
         }
     }
 
-    /// For proofs: its values are in their ranges, as their types keep them. A reader of each value
-    /// brings its range; nothing is left of this when it runs.
+    /// For proofs: its values are in their ranges, as their types guarantee. It only reads each value, and has no
+    /// effect.
     pub fn in_range(&self)
         ensures { IsMove self.now }
     {
@@ -192,7 +192,7 @@ impl Move {
         }
     }
 
-    /// For proofs: the same of each of these moves.
+    /// For proofs: the same for each of these moves.
     pub fn all_in_range(moves: &[Move])
         ensures { All IsMove moves.now }
     {

@@ -1,4 +1,4 @@
-//! Asking for entries that are missing.
+//! Queries for missing entries.
 ghost use Rattle.std.specs.Prelude.{◌≡◌, ◌≢◌};
 ghost use Rattle.rights_types.specs.Messages.{QueryMade, IsQuery};
 
@@ -7,7 +7,7 @@ use crate::limits::MAX_NUMBER;
 use crate::site::SiteId;
 use std::marker::Model;
 
-/// The asker wants the entries of the origin's log that hold its numbers from `first` to `last`.
+/// The asker wants the entries of the origin's log that contain its numbers from `first` to `last`.
 #[derive(Clone, Copy, Debug, PartialEq, Eq)]
 pub struct Query {
     asker: SiteId,
@@ -29,8 +29,8 @@ impl Model for Query {
 }
 
 impl Query {
-    /// `BadNumber` where a number is above 10^9, else `SameSite` where the asker is the origin.
-    /// A range may be empty: the log's reader refuses it.
+    /// Errors, in this order: `BadNumber` if a number is above 10^9, `SameSite` if the asker is the origin. An empty
+    /// range is accepted here; the log's reader refuses it.
     pub fn new(asker: SiteId, origin: SiteId, first: u64, last: u64) -> Result<Query, TypeError>
         ensures { QueryMade (record { asker = asker; origin = origin; first = first; last = last }) result }
     {
@@ -45,7 +45,7 @@ impl Query {
         Ok(Query::known(asker, origin, first, last))
     }
 
-    /// The query of values that are known to keep the limits.
+    /// The query of these values, which must be within the limits: a precondition, not a check.
     pub fn known(asker: SiteId, origin: SiteId, first: u64, last: u64) -> Query
         requires { IsQuery (record { asker = asker; origin = origin; first = first; last = last }) }
         ensures { result ≡ record { asker = asker; origin = origin; first = first; last = last } }

@@ -27,7 +27,7 @@ impl Model for SiteId {
 }
 
 impl SiteId {
-    /// The site of a number that may be none: `BadSite` outside 1 to 16.
+    /// The site with this number. `BadSite` outside 1 to 16.
     pub fn new(number: u64) -> Result<SiteId, TypeError>
         ensures ok { OkIff result (IsSite number) number }
         ensures err { IfErr result (λ fault. fault ≡ TypeError.BadSite) }
@@ -38,7 +38,7 @@ impl SiteId {
         Ok(SiteId::known(number))
     }
 
-    /// The site of a number that is known to be one.
+    /// The site with this number, which must be 1 to 16: a precondition, not a check.
     pub fn known(number: u64) -> SiteId
         requires { IsSite number }
         ensures { result ≡ number }
@@ -56,7 +56,7 @@ impl SiteId {
         self.number as u64
     }
 
-    /// The place of this site in a list that begins with site 1.
+    /// The index of this site in a list that begins with site 1.
     pub fn index(self) -> usize
         ensures value { result + 1 ≡ self }
         ensures range { result < MAX_SITES }

@@ -36,7 +36,7 @@ asks_changed d m is same answered = record {
   answered = λ past h. answered past (is.answered past h);
 }
 
--- a plan by the book, which is that of the ledger, is one by the logs
+-- a plan by the book, which is that of the ledger, is a plan by the logs
 pub planned : (d : DeskValue) (b : BookValue) (count : ℕ) (new : ManagerValue) → IsDesk d → IsLedger d.ledger → b ≡ d.ledger.book
     → Plans d.manager (of_book b) (total_of d.queue.waiting) count new
     → ((log : List EntryValue) (applied : ℕ → List EntryValue) → StandsFor log applied b → sites b ≡ asked_sites d.manager
@@ -71,7 +71,7 @@ some_available false true full n most some le = absurd (omega arith)
 some_available false false true n most some le = absurd (omega arith)
 some_available false false false n most some le = (refl, refl, refl, le)
 
--- where something is available
+-- if something is available
 pub can_grant : (d : DeskValue) (j n : ℕ) → 1 ≤ n → n ≤ available d j → CanGrant d j n
 can_grant d j n some le =
     let p = some_available (has_closed d) (account d.ledger.book j).closed (is_full d 1) n (held_by d.ledger.book - total_of d.queue.waiting) some le in

@@ -1,4 +1,4 @@
--- What a desk keeps.
+-- What each call of a desk preserves.
 use Rattle.std.proofs.Common.{◌≡◌, ℕ, ◌+◌, ◌≤◌, Bool, true, false, not, cond, List, [], ◌∷◌, ◌++◌, length, None, refl, ap, sym, subst, ◌∙◌, arith}
 use Rattle.std.specs.List.{list_any}
 use Rattle.std.proofs.lemmas.Bool.{or_parts}
@@ -33,7 +33,7 @@ grant_count-cons j a m ms = sum_by-cons (λ x. one_if (grants j a x)) m ms
 pub grant_count-append : (j a : ℕ) (xs ys : List Move) → grant_count j a (xs ++ ys) ≡ grant_count j a xs + grant_count j a ys
 grant_count-append j a xs ys = sum_by-append (λ x. one_if (grants j a x)) xs ys
 
--- moves that may be posted grant nothing, and neither close nor take back
+-- moves that may be posted grant nothing, and neither close nor reclaim
 
 abbrev pub any_unpostable : List Move → Bool
 any_unpostable ms = list_any (λ m. not (is_postable m)) ms

@@ -1,4 +1,4 @@
--- What entries that came leave of an inbound, and its gap.
+-- The effect of arriving entries on an inbound, and its gap.
 use Rattle.std.proofs.Common.{◌≡◌, ◌≤◌, Bool, eqb, not, length, List, [], ◌∷◌, ◌++◌, Option, None, refl, ap, sym, subst, ◌∙◌}
 use Rattle.std.specs.List.{All}
 use Rattle.std.proofs.lemmas.Bool.{eqb-true, not-false}
@@ -19,7 +19,7 @@ use Rattle.site_core.proofs.LedgerLaws.{no_cause}
 
 -- ---- whose entries they are
 
--- a message with no fault is the origin's
+-- a message without a fault is the origin's
 pub from_origin : (i : InboundValue) (m : MessageValue) → message_fault i m ≡ None → sender m ≡ i.buffer.origin
 from_origin i m h = eqb-true (sender m) i.buffer.origin (not-false _ (no_cause (not (eqb (sender m) i.buffer.origin)) _ _ h).0)
 
@@ -41,7 +41,7 @@ ready_in-freed : (A : Type 0) (freed : List EntryValue) → ready_in (all_ready 
 ready_in-freed A [] = refl
 ready_in-freed A (e ∷ es) = ap (λ (xs : List EntryValue). e ∷ xs) (ready_in-freed A es)
 
--- what one arrival put
+-- what one arrival delivered
 put_one : {A : Type 0} (put : List EntryValue) (v : Verdict A) (freed : List EntryValue) → put ++ ready_in (v ∷ all_ready freed) ≡ put_after put v ++ freed
 put_one {A} put (Ready e) freed = ap (λ (xs : List EntryValue). put ++ e ∷ xs) (ready_in-freed A freed) ∙ sym (append_assoc put (e ∷ []) freed)
 put_one {A} put Held freed = ap (λ (xs : List EntryValue). put ++ xs) (ready_in-freed A freed)
@@ -53,7 +53,7 @@ pub arrival_chain : {A : Type 0} (old new : BufferValue) (e : EntryValue) (v : V
     → (put : List EntryValue) → HasPut put old → HasPut (put ++ ready_in (v ∷ all_ready freed)) new
 arrival_chain old new e v freed h put d = subst (λ xs. HasPut xs new) (sym (put_one put v freed)) (h.chain put d)
 
--- what is put after the verdicts before goes on the chain
+-- what is appended to the verdicts before continues the chain
 chain_behind : {A : Type 0} (es : List EntryValue) (old new : BufferValue) (before after : List (Verdict A)) → ArriveAll old before es new after
     → (put : List EntryValue) → HasPut (put ++ ready_in before) old → HasPut (put ++ ready_in after) new
 chain_behind [] old new before after h put d = subst (λ vs. HasPut (put ++ ready_in vs) new) (sym h.1) (subst (HasPut (put ++ ready_in before)) (sym h.0) d)

@@ -15,7 +15,7 @@ use Rattle.rights_protocol.specs.Retiring.{beyond}
 
 -- ---- an entry before a place
 
--- the entry before place i is the last of those before i, and comes right before the others
+-- the entry before index i is the last of those before i, and directly precedes the others
 pub record IsBefore (es : List EntryValue) (i : ℕ) (e : EntryValue) : Type 0 where
   pub place : suc (i - 1) ≡ i
   pub at : slice_get es (i - 1) ≡ Some e
@@ -44,7 +44,7 @@ all_beyond f (e ∷ es) h =
     rw (le-leb f e.prev (All-head (λ (x : EntryValue). f ≤ x.prev) e es h))
     (ap (λ (xs : List EntryValue). e ∷ xs) (all_beyond f es (All-tail (λ (x : EntryValue). f ≤ x.prev) e es h)))
 
--- where an entry of a chain begins before f and none behind it does, those behind it are all that do not
+-- if an entry of a chain begins before f and none after it does, exactly those after it do not
 pub those_behind : (o : ℕ) (b : Bool) (n f : ℕ) (es : List EntryValue) (k : ℕ) (e : EntryValue) → ChainFrom o b n es → slice_get es k ≡ Some e → e.prev < f
     → All (λ (x : EntryValue). f ≤ x.prev) (drop (suc k) es) → beyond f es ≡ drop (suc k) es
 those_behind o b n f [] k e c at early later = absurd cc
@@ -63,7 +63,7 @@ pub given_before : (c : ℕ) (es : List EntryValue) (i : ℕ) (e : EntryValue) �
 given_before c es i e is =
     ap (λ xs. to c (moves_of xs)) is.front ∙ ap (to c) (moves_of-push (take (i - 1) es) e) ∙ to-append c (moves_of (take (i - 1) es)) e.moves
 
--- what all give, before place i and from there on
+-- what all entries give, before index i and from there on
 pub given_parts : (c : ℕ) (es : List EntryValue) (i : ℕ) → to c (moves_of es) ≡ to c (moves_of (take i es)) + to c (moves_of (drop i es))
 given_parts c es i =
     ap (λ xs. to c (moves_of xs)) (sym (take-append-drop i es)) ∙ ap (to c) (moves_of-append (take i es) (drop i es))

@@ -1,4 +1,4 @@
--- What the protocol keeps of a site, by its log, its book and what it applied.
+-- The protocol's fact of a site, by its log, its book and what it applied.
 use Rattle.std.proofs.Common.{◌≡◌, ◌≢◌, ℕ, ◌+◌, ◌<◌, ◌≤◌, eqb, true, false, List, [], ◌∷◌, ◌++◌, length, map, None, suc, refl, ap, sym, subst, ◌∙◌, arith}
 use Rattle.std.specs.List.{All, list_any, range_with_len}
 use Rattle.std.proofs.lemmas.Bool.{or_parts, both_ways, ne_eqb}
@@ -93,7 +93,7 @@ plain_moves (m ∷ ms) h =
     let p = or_parts (is_special m) (list_any is_special ms) h in
     All-cons (λ x. is_plain x ≡ true) m ms (plain_move m p.0) (plain_moves ms p.1)
 
--- who gives nothing to a closed site does not give to this one
+-- whoever gives nothing to a closed site does not give to this one
 not_it : (b : BookValue) (j c : ℕ) → (account b c).closed ≡ true → (account b j).closed ≡ false → eqb j c ≡ false
 not_it b j c shut free = ne_eqb j c (λ e. both_ways (account b c).closed (subst (λ k. (account b k).closed ≡ false) e free) shut)
 
@@ -163,7 +163,7 @@ written_applied old new ms is book ranges ok log same in_book =
     (λ applied h. (let state : IsSiteState applied old = site_state old applied is book h in
     (goes_on old applied state).appends ms (may_append old ms applied is ranges ok state)))
 
--- the next entry of another site, and what is taken back by it
+-- the next entry of another site, and what is reclaimed by it
 pub applied_more : (old new : LedgerValue) (o : ℕ) (e : EntryValue) → IsLedger old → IsBook old.book → 1 ≤ o → o ≤ sites old.book → o ≢ old.book.me → is_closed old.log.entries ≡ false
     → new.log ≡ with_takings old.log (one_taking o (owed_by old o e)) → sites new.book ≡ sites old.book
     → ((applied later : ℕ → List EntryValue) → StandsForApplied applied old.book → AddsEntry applied o e later → StandsForApplied later new.book) → MoreApplied old o e new

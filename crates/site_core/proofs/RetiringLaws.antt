@@ -1,4 +1,4 @@
--- Closing, and what is taken back from a site that closed.
+-- Closing, and what is reclaimed from a site that closed.
 use Rattle.std.proofs.Common.{◌≡◌, ℕ, Bool, true, false, cond, eqb, List, [], ◌∷◌, ◌++◌, Option, Some, None, refl, ap, sym, ◌∙◌, arith, append-nil}
 use Rattle.rights_types.specs.Entries.{EntryValue}
 use Rattle.rights_types.specs.Chains.{is_closed, moves_of}
@@ -34,7 +34,7 @@ closed d heir new is w none =
 
 -- ---- an entry of another site
 
--- what may have been taken back from o: n rights, or nothing
+-- what may have been reclaimed from o: n rights, or nothing
 abbrev taking : Bool → ℕ → ℕ → List Move
 taking none o n = cond none [] (TakeBack o n ∷ [])
 

@@ -1,4 +1,4 @@
--- What the tests of a desk let it write.
+-- What passed the tests of a desk.
 use Rattle.std.proofs.Common.{◌≡◌, ◌≢◌, ℕ, ◌+◌, ◌≤◌, inl, inr, Bool, true, false, not, cond, eqb, ltb, min, List, [], ◌∷◌, length, Option, Some, None, refl, ap, sym, subst, ◌∙◌, arith}
 use Rattle.std.specs.Prelude.{◌||◌, ◌&&◌, IfSome}
 use Rattle.std.proofs.Math.Nat.{min-le_right}

@@ -1,4 +1,4 @@
--- What each call of a desk answers and leaves.
+-- The result and effect of each call of a desk.
 use Rattle.std.specs.Prelude.{◌≡◌, ℕ, ◌-◌, ◌<◌, ◌≤◌, Bool, true, false, not, ◌||◌, List, [], ◌∷◌, ◌++◌, length, map, Option, Some, None, Ok, if◌then◌else◌}
 use Rattle.std.specs.List.{filter, slice_get}
 use Rattle.std.specs.Option.{option_map}
@@ -33,14 +33,14 @@ pub record DeskWrites (old : DeskValue) (ms : List Move) (new : DeskValue) : Typ
   pub entry : WritesEntry old.ledger ms new.ledger
   pub rest : new ≡ record old { ledger = new.ledger }
 
--- a spend of so many rights is served at once, or waits
+-- a spend of this many rights is served at once, or waits
 abbrev pub DeskSpends : DeskValue → ℕ → ℕ → Spending → DeskValue → Type 0
 DeskSpends old n deadline (Spent number) new =
     (can_spend old n ≡ true) × DeskWrites old (Spend n ∷ []) new × (number ≡ end new.ledger.log.entries)
 DeskSpends old n deadline (Queued ticket) new =
     (can_spend old n ≡ false) × Puts old.queue n deadline (Ok ticket) new.queue × (new ≡ record old { queue = new.queue })
 
--- what the entry keeps, where the spend is served at once
+-- what the entry preserves, if the spend is served at once
 abbrev pub SpendKeeps : DeskValue → ℕ → Spending → DeskValue → Type 0
 SpendKeeps old n (Spent number) new = EntryKeeps old.ledger (Spend n ∷ []) new.ledger
 SpendKeeps old n (Queued ticket) new = Unit {0}
@@ -65,20 +65,20 @@ abbrev pub DeskServes : DeskValue → Option (ℕ × ℕ) → DeskValue → Type
 DeskServes old None new = CannotServe old (front_of old.queue.waiting) × (new ≡ old)
 DeskServes old (Some (ticket, number)) new = ServesFront old ticket number new
 
--- what that entry keeps
+-- what that entry preserves
 abbrev pub ServeKeeps : DeskValue → Option (ℕ × ℕ) → DeskValue → Type 0
 ServeKeeps old None new = Unit {0}
 ServeKeeps old (Some (ticket, number)) new =
     (amount deadline : ℕ) → front_of old.queue.waiting ≡ Some (ticket, amount, deadline) → EntryKeeps old.ledger (Spend amount ∷ []) new.ledger
 
--- the requests that are late at this time, and those that go on waiting
+-- the requests that are late at this time, and those that continue to wait
 abbrev pub late : ℕ → List Request → List Request
 late time requests = filter (is_late time) requests
 
 abbrev pub in_time : ℕ → List Request → List Request
 in_time time requests = filter (λ r. not (is_late time r)) requests
 
--- all that were late have expired, in order, and so many they were
+-- all late requests have expired, in order, and count is how many there were
 pub record ExpiresLate (old : QueueValue) (time count : ℕ) (new : QueueValue) : Type 0 where
   pub waiting : new.waiting ≡ in_time time old.waiting
   pub outcomes : new.outcomes ≡ old.outcomes ++ map (λ r. (r.ticket, Expired)) (late time old.waiting)
@@ -91,13 +91,13 @@ pub record DeskExpires (old : DeskValue) (time count : ℕ) (new : DeskValue) : 
 
 -- ---- lines
 
--- the text spells this message; where there is none, there is no text
+-- the text spells this message; without a message there is no text
 abbrev pub LineOf : {V : Type 0} → (V → List ℕ) → Option MessageValue → Option V → Type 0
 LineOf bytes None None = Unit {0}
 LineOf bytes (Some m) (Some text) = Spells m (bytes text)
 LineOf bytes m text = ⊥
 
--- the place of the next entry for the peer
+-- the index of the next entry for the peer
 abbrev pub next_place : LogValue → ℕ → Option ℕ
 next_place log p = option_map (λ e. at_site log.cursors p 0) (slice_get log.entries (at_site log.cursors p 0))
 
@@ -105,7 +105,7 @@ next_place log p = option_map (λ e. at_site log.cursors p 0) (slice_get log.ent
 abbrev pub next_push : LogValue → ℕ → Option MessageValue
 next_push log p = option_map (λ e. AnEntry e) (slice_get log.entries (at_site log.cursors p 0))
 
--- .. which is published with its line, and not without
+-- .. which counts as published if its line is returned, and not otherwise
 abbrev pub published_if : LogValue → ℕ → Option MessageValue → LogValue
 published_if log p None = log
 published_if log p (Some m) = published log p
@@ -122,7 +122,7 @@ beat_of log = ABeat (record { origin = log.site; number = end log.entries })
 
 -- ---- asks
 
--- the asks were planned, by what the book knows, which is what the logs say
+-- the asks were planned according to what the book knows, which is what the logs say
 pub record DeskPlans (old : DeskValue) (count : ℕ) (new : DeskValue) : Type 0 where
   pub by_book : Plans old.manager (of_book old.ledger.book) (total_of old.queue.waiting) count new.manager
   pub by_logs : (applied : ℕ → List EntryValue) → HasApplied applied old.ledger
@@ -138,7 +138,7 @@ available d j =
 abbrev pub answer_of : DeskValue → AskValue → AskAnswer
 answer_of d ask = answer_to d.manager ask (available d ask.asker)
 
--- an ask that gets neither a grant nor a line: it was granted before, or is too old
+-- an ask that gets neither a grant nor a line: it was granted before, or a later one was answered
 abbrev pub is_ignored : AskAnswer → Bool
 is_ignored Repeated = true
 is_ignored OldAsk = true
@@ -147,27 +147,28 @@ is_ignored answer = false
 abbrev pub denial : AskValue → DenyValue
 denial ask = record { denier = ask.asked; asker = ask.asker; ask = ask.ask }
 
--- the message of a denial, old or new
+-- the message of a denial, new or repeated
 abbrev pub denial_of : AskValue → AskAnswer → Option MessageValue
 denial_of ask Deny = Some (ADenial (denial ask))
 denial_of ask RepeatedDeny = Some (ADenial (denial ask))
 denial_of ask answer = None
 
--- what an answer to an ask leaves: a grant is an entry of its own, whose number is told, and a new answer is noted
+-- the effect of an answer to an ask: a grant is an entry of its own, whose number is returned, and a new answer is
+-- recorded
 abbrev pub DeskAnswers : DeskValue → AskValue → AskAnswer → Option ℕ → DeskValue → Type 0
 DeskAnswers old ask (Granted n) number new =
     WritesEntry old.ledger (Grant ask.asker n ask.ask ∷ []) new.ledger × (number ≡ Some (end new.ledger.log.entries))
     × (new ≡ record old { ledger = new.ledger; manager = noted old.manager ask (Granted n) })
 DeskAnswers old ask answer number new = (number ≡ None) × (new ≡ record old { manager = noted old.manager ask answer })
 
--- what the entry of a grant keeps
+-- what the entry of a grant preserves
 abbrev pub AnswerKeeps : DeskValue → AskValue → AskAnswer → DeskValue → Type 0
 AnswerKeeps old ask (Granted n) new = EntryKeeps old.ledger (Grant ask.asker n ask.ask ∷ []) new.ledger
 AnswerKeeps old ask answer new = Unit {0}
 
 -- ---- applying and closing
 
--- the desk applied the entry e of site o, took back what it owed, and ended the asks that e grants
+-- the desk applied the entry e of site o, reclaimed what it was owed, and ended the asks that e grants
 pub record DeskApplies (old : DeskValue) (o : ℕ) (e : EntryValue) (new : DeskValue) : Type 0 where
   pub entry : AppliesEntry old.ledger o e new.ledger
   pub rest : new ≡ record old { ledger = new.ledger; manager = after_grants old.ledger.log.site o e.moves old.manager }

@@ -10,7 +10,7 @@ use Rattle.transfer_manager.specs.Managers.{ManagerValue, new_manager, sites as 
 use Rattle.transfer_manager.specs.AskAnswers.{IsAnswered}
 use Rattle.site_core.specs.Ledgers.{LedgerValue, new_ledger, IsLedger}
 
--- what the site wrote, holds and knows, the spends that wait, its asks, and the time of the last expiry
+-- the site's log and book, the spends that wait, its asks, and the time of the last expiry
 pub record DeskValue : Type 0 where
   pub ledger : LedgerValue
   pub queue : QueueValue
@@ -25,12 +25,12 @@ abbrev pub grants : ℕ → ℕ → Move → Bool
 grants j a (Grant k n b) = (k == j) && (b == a)
 grants j a m = false
 
--- how many of these moves do
+-- how many of these moves grant it
 abbrev pub grant_count : ℕ → ℕ → List Move → ℕ
 grant_count j a ms = count_by (grants j a) ms
 
--- of every desk: its parts are of one site of one system; a closed site keeps no spend waiting; no ask was
--- granted twice, and one that was granted is never granted again
+-- of every desk: its parts belong to one site of one system; at a closed site no spend waits; no ask was granted
+-- twice, and one that was granted will not be granted again
 pub record IsDesk (d : DeskValue) : Type 0 where
   pub same_site : d.manager.me ≡ d.ledger.log.site
   pub same_sites : asked_sites d.manager ≡ sites d.ledger.book
@@ -38,13 +38,13 @@ pub record IsDesk (d : DeskValue) : Type 0 where
   pub once : (j a : ℕ) → grant_count j a (moves_of d.ledger.log.entries) ≤ 1
   pub answered : (past : AskValue) → 1 ≤ grant_count past.asker past.ask (moves_of d.ledger.log.entries) → IsAnswered d.manager past
 
--- of a desk, whatever it wrote and applied: its log and book are a ledger's, and a closed site keeps no spend waiting
+-- of a desk, whatever it wrote and applied: its log and book form a ledger, and at a closed site no spend waits
 pub record DeskSound (d : DeskValue) : Type 0 where
   pub ledger : IsLedger d.ledger
   pub book : IsBook d.ledger.book
   pub idle : is_closed d.ledger.log.entries ≡ true → d.queue.waiting ≡ []
 
--- the asks, once this move of site o was applied at site me
+-- the asks after this move of site o was applied at site me
 abbrev pub after_grant : ℕ → ℕ → Move → ManagerValue → ManagerValue
 after_grant me o (Grant k n a) m = if k == me then ended m o a else m
 after_grant me o x m = m

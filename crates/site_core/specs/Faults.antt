@@ -1,4 +1,4 @@
--- Why a desk refuses, by the first cause of each call's order.
+-- Why a desk refuses: the first cause in the order of each call.
 use Rattle.std.specs.Prelude.{◌≡◌, ℕ, ◌+◌, Bool, true, false, not, nat_lt, nat_le, ◌==◌, ◌||◌, ◌&&◌, List, [], ◌∷◌, length, Option, Some, None, Result, Ok, Err, if◌then◌else◌}
 use Rattle.std.specs.List.{list_any}
 use Rattle.rights_types.specs.declared.limits.TheConstants.{MAX_AMOUNT, MAX_MOVES, LAST_APPEND}
@@ -17,7 +17,7 @@ use Rattle.site_core.specs.Desks.{DeskValue}
 
 -- ---- entries that are posted
 
--- a move that may be posted: all others answer an ask, close or take back
+-- a move that may be posted: all others answer an ask, close or reclaim
 abbrev pub is_postable : Move → Bool
 is_postable (Issue n) = true
 is_postable (Spend n) = true
@@ -27,11 +27,11 @@ is_postable m = false
 abbrev pub has_closed : DeskValue → Bool
 has_closed d = is_closed d.ledger.log.entries
 
--- an ordinary entry of so many moves has no numbers left
+-- the log has no numbers left for an ordinary entry of this many moves
 abbrev pub is_full : DeskValue → ℕ → Bool
 is_full d count = nat_lt LAST_APPEND (end d.ledger.log.entries + count)
 
--- a book's cause; a full log comes before a want of rights
+-- the cause of a book; a full log comes before a lack of rights
 abbrev pub book_cause : Bool → Option BookError → Option DeskError
 book_cause full (Some NoSite) = Some NoSuchSite
 book_cause full (Some OwnSite) = Some SameSite
@@ -66,7 +66,7 @@ give_fault d j n =
 
 -- ---- spends
 
--- the spend of so many rights can be served now
+-- a spend of this many rights can be served now
 abbrev pub can_spend : DeskValue → ℕ → Bool
 can_spend d n = (length d.queue.waiting == 0) && nat_le n (held_by d.ledger.book)
 
@@ -80,7 +80,7 @@ spend_fault d n =
     else (if can_spend d n then (if is_full d 1 then Some LogFull else None)
     else (if is_queue_full d then Some QueueFull else None)))
 
--- the rights of the front request can be spent now
+-- the request at the front can be served now
 abbrev pub can_serve : DeskValue → Option (ℕ × ℕ × ℕ) → Bool
 can_serve d None = false
 can_serve d (Some front) = nat_le front.1 (held_by d.ledger.book)

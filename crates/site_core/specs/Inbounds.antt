@@ -1,4 +1,4 @@
--- What comes in from one other site.
+-- The input from one other site.
 use Rattle.std.specs.Prelude.{◌≡◌, ℕ, ◌≤◌, Bool, true, false, not, ◌==◌, ◌||◌, List, [], ◌∷◌, ◌++◌, length, Option, Some, None, Result, Ok, Err, is_none, if◌then◌else◌}
 use Rattle.std.specs.List.{list_any}
 use Rattle.rights_types.specs.declared.limits.TheConstants.{MIN_SITES, MAX_SITES}
@@ -31,7 +31,7 @@ pub record InboundValue : Type 0 where
 abbrev pub new_inbound : ℕ → ℕ → ℕ → InboundValue
 new_inbound me origin n = record { buffer = new_buffer me origin; sites = n }
 
--- of every inbound: both sites are of the system, and nothing that is held is next
+-- of every inbound: both sites are of the system, and no held entry is next
 pub record IsInbound (i : InboundValue) : Type 0 where
   pub some : MIN_SITES ≤ i.sites
   pub few : i.sites ≤ MAX_SITES
@@ -50,7 +50,7 @@ sender (AnAsk a) = a.asker
 sender (ADenial d) = d.denier
 sender (AHello s) = s
 
--- the one site that a message is for; others are for anybody
+-- the site that a message is addressed to, if there is one
 abbrev pub addressee : MessageValue → Option ℕ
 addressee (AQuery q) = Some q.origin
 addressee (AnAnswer a) = Some a.asker
@@ -68,12 +68,12 @@ entries_of m = []
 
 -- ---- why a line is refused
 
--- a frontier that has not a number for each of n sites
+-- a frontier that does not have exactly n numbers
 abbrev pub has_other_count : ℕ → Move → Bool
 has_other_count n (CloseAt numbers) = not (length numbers == n)
 has_other_count n m = false
 
--- a move of another system than one of n sites: it names a site above n, or has another frontier
+-- a move of a system other than one of n sites: it names a site above n, or has another frontier
 abbrev pub is_foreign : ℕ → Move → Bool
 is_foreign n m = names_above n m || has_other_count n m
 
@@ -95,7 +95,7 @@ abbrev pub Reads : Result MessageValue LineError → Type 0
 Reads (Ok m) = Unit {0}
 Reads (Err fault) = ⊥
 
--- a line is refused by its fault; where memory is wanted, whose message it is may not have been looked at
+-- a line is refused for its fault; if memory was refused, its sender and addressee may not have been checked
 abbrev pub InboundRefuses : {X : Type 0} → InboundValue → Result MessageValue LineError → Result X InboundError → Type 0
 InboundRefuses i read (Ok x) = line_fault i read ≡ None
 InboundRefuses i read (Err OutOfMemory) = Reads read
@@ -109,10 +109,10 @@ ready_in [] = []
 ready_in (Ready e ∷ vs) = e ∷ ready_in vs
 ready_in (v ∷ vs) = ready_in vs
 
--- entries came, and these are the verdicts on them, each followed by those on the entries that it freed
+-- entries came, with these verdicts: on each, followed by Ready for each entry that it freed
 pub record EntriesCome {A : Type 0} (old : InboundValue) (es : List EntryValue) (verdicts : List (Verdict A)) (new : InboundValue) : Type 0 where
   pub arrive : ArriveAll old.buffer [] es new.buffer verdicts
-  -- whatever came, one writer or not: what is Ready goes on the chain of what was put
+  -- whatever came, from one writer or not: the Ready entries continue the chain of what was delivered
   pub chain : (put : List EntryValue) → HasPut put old.buffer → HasPut (put ++ ready_in verdicts) new.buffer
   pub few : length verdicts ≤ MAX_VERDICTS
   pub rest : new ≡ record old { buffer = new.buffer }
@@ -121,7 +121,7 @@ abbrev pub BringsEntries : {A : Type 0} → InboundValue → List EntryValue →
 BringsEntries old es (Entries verdicts) new = EntriesCome old es verdicts new
 BringsEntries old es arrival new = ⊥
 
--- what a message leaves, by its kind
+-- the effect of a message, by its kind
 abbrev pub Arrives : {A : Type 0} → InboundValue → MessageValue → Arrival A → InboundValue → Type 0
 Arrives old (AnEntry e) arrival new = BringsEntries old (e ∷ []) arrival new
 Arrives old (AnAnswer a) arrival new = BringsEntries old a.entries arrival new
@@ -133,12 +133,13 @@ Arrives old (AHello s) arrival new = (arrival ≡ Hello) × (new ≡ old)
 
 -- ---- what is asked
 
--- the query q asks for the gap: again, or where it is not the one asked for last
+-- the query q asks for the gap: with again for any gap, else if it is not the one asked for last
 abbrev pub Asks : Bool → Option QueryValue → Option QueryValue → Option QueryValue → Type 0
 Asks true gap asked q = q ≡ gap
 Asks false gap asked q = Wants gap asked q
 
--- the gap, by the buffer and by any log that it follows, and what is asked of it, which then counts as asked
+-- the gap, according to the buffer and to any log that it follows, and the query for it, which from then on counts as
+-- asked for
 pub record QueryOf (old : InboundValue) (again : Bool) (q : Option QueryValue) (new : InboundValue) : Type 0 where
   pub gap : Option QueryValue
   pub by_table : GapOf old.buffer gap

@@ -1,5 +1,5 @@
--- One site, to be read in this order: its log and book, the whole desk, why it refuses, what each call answers
--- and leaves, and what comes in from one other site.
+-- One site, to be read in this order: its log and book, the whole desk, why it refuses, the result and effect of each
+-- call, and the input from one other site.
 pub mod Ledgers
 pub mod Desks
 pub mod Faults

@@ -20,8 +20,8 @@ pub use requests::Spending;
 
 /// One site: its log and book, the spends that wait, its asks, and the time of the last expiry.
 ///
-/// A refused call changes nothing. OutOfMemory is the last cause of each call, and comes only where a
-/// request for memory was refused.
+/// A refused call changes nothing. `OutOfMemory` is the last cause of each call, and comes only if a memory request
+/// was refused.
 #[derive(Drop)]
 pub struct Desk<A: Allocator = Global> {
     ledger: Ledger<A>,
@@ -46,7 +46,8 @@ impl<A: Allocator + Copy> Desk<A> {
     ghost use Rattle.site_core.specs.Ledgers.{HasApplied};
     ghost use Rattle.site_core.specs.Desks.{new_desk};
 
-    /// The desk of site `me` among so many sites, 2 to 16, at the start.
+    /// The desk of site `me` in a system of `sites` sites, 2 to 16, at the start. `OutOfMemory` if its memory is
+    /// refused.
     pub fn new(alloc: A, me: SiteId, sites: u64) -> Result<Desk<A>, OutOfMemory>
         requires sites { (MIN_SITES ≤ sites) × (sites ≤ MAX_SITES) }
         requires me { me ≤ sites }

@@ -7,36 +7,34 @@ use entry_codec::LineError;
 use rights_types::OutOfMemory;
 use std::alloc::AllocError;
 
-/// Why a call of a desk is refused. The desk is unchanged. Each call looks for its causes in an order of its
-/// own.
+/// Why a call of a desk is refused. The desk is unchanged. Each call checks its causes in an order of its own.
 #[derive(Clone, Copy, Debug, PartialEq, Eq)]
 pub enum DeskError {
-    /// The site has closed: it writes and spends nothing more.
+    /// The site has closed: it no longer writes or spends.
     Closed,
     /// There are no moves, or more than 16.
     BadCount,
-    /// One of the moves answers an ask, closes or takes back, which no caller may write.
+    /// One of the moves answers an ask, closes or reclaims, which no caller may write directly.
     BadMove,
     /// The amount is 0 or above 10^9.
     BadAmount,
-    /// A site is named that the system does not have.
+    /// The system does not have the named site.
     NoSuchSite,
-    /// The site itself is named as the other one.
+    /// The named site is this site itself.
     SameSite,
     /// Rights would go to a site whose closing entry was applied here.
     PeerClosed,
-    /// The own number would pass 999,999,900; the numbers above are kept for closing and taking back.
+    /// The own number would exceed 999,999,900; the numbers above are reserved for closing and reclaiming.
     LogFull,
-    /// More is spent or given than is held, after the moves before it.
+    /// In order, a move spends or gives more than is held after the moves before it.
     Short,
-    /// A request for memory was refused.
+    /// A memory request was refused.
     OutOfMemory,
-    /// Waiting spends and unread outcomes take all 32 slots, or the tickets have run out.
+    /// Waiting spends and unread outcomes take all 32 slots, or no ticket is left.
     QueueFull,
-    /// A spend is waiting. It is served or expires before the site can close.
+    /// A spend waits. The site can close once it is served or has expired.
     QueueBusy,
-    /// An heir is named, and more than 10^9 rights are held: one move cannot give them. Give or spend some
-    /// before.
+    /// An heir is named, and more than 10^9 rights are held: one move cannot give them. Give or spend some first.
     HeldTooMuch,
     /// The time is less than that of an earlier expiry.
     TimeWentBack,
@@ -50,18 +48,18 @@ impl From<OutOfMemory> for DeskError {
     }
 }
 
-/// Why a line is skipped, in the order in which the causes are looked for. Nothing has changed.
+/// Why a line is skipped, in the order in which the causes are checked. Nothing has changed.
 #[derive(Clone, Copy, Debug, PartialEq, Eq)]
 pub enum InboundError {
-    /// It is no line of a message.
+    /// It does not spell a message.
     Line(LineError),
-    /// Another site than the origin sent it.
+    /// A site other than the origin sent it.
     WrongOrigin,
-    /// It is for another site, or an entry in it is of another system: it names a site that this one does not
-    /// have, or has a frontier of another count of sites.
+    /// It is addressed to another site, or an entry in it is of another system: it names a site that this one does not
+    /// have, or has a frontier for another number of sites.
     BadSite,
-    /// A request for memory was refused. Where the line's own message found none, the two causes before were
-    /// not looked for.
+    /// A memory request was refused. If it was the one for the line's own message, the two causes before were not
+    /// checked.
     OutOfMemory,
 }
 

@@ -1,4 +1,4 @@
-//! What comes in from one other site.
+//! The input from one other site.
 ghost use Rattle.std.specs.Prelude.{◌≡◌, ◌≢◌, ◌≤◌, ◌<◌, ◌+◌, true, [], ◌∷◌, ◌++◌, vec_capacity, Ok, None, Some, IfOk, IfErr, OnErr, MatchResult, IsSome, List, Option, length};
 ghost use Rattle.std.specs.List.{All, list_any};
 ghost use Rattle.std.specs.Option.{option_map};
@@ -25,8 +25,8 @@ use std::alloc::{Allocator, Global};
 use std::marker::Model;
 use sub_buffer::{MAX_VERDICTS, State, SubBuffer, Verdict};
 
-/// The verdicts on the entries of one line, in order, each followed by Ready for each entry that it freed.
-/// They are 94 at most.
+/// The verdicts on the entries of one line, in order, each followed by Ready for each entry that it freed. There are
+/// at most 94.
 #[derive(Drop)]
 pub struct Verdicts<A: Allocator = Global> {
     verdicts: Vec<Verdict<A>, A>,
@@ -57,12 +57,12 @@ impl<A: Allocator> Verdicts<A> {
     }
 }
 
-/// What a line brought.
+/// The content of a line.
 #[derive(Drop)]
 pub enum Arrival<A: Allocator = Global> {
-    /// Entries, one or those of an answer.
+    /// Entries: one, or those of an answer.
     Entries { verdicts: Verdicts<A> },
-    /// A beat, which the buffer has heard.
+    /// A beat, which the buffer has taken in.
     Beat,
     /// The origin asks for entries of this site's log.
     Query(Query),
@@ -74,8 +74,8 @@ pub enum Arrival<A: Allocator = Global> {
     Hello,
 }
 
-/// The lines that one other site sends, and the buffer that puts its entries in order. It is lent no desk:
-/// what it says goes to an applier, or to the desk by its owner.
+/// The lines that one other site sends, and the buffer that puts its entries in order. It has no access to the desk:
+/// its owner passes entries to an applier, and other messages to the desk.
 #[derive(Drop)]
 pub struct Inbound<A: Allocator = Global> {
     buffer: SubBuffer<A>,
@@ -96,7 +96,8 @@ impl<A: Allocator> Model for Inbound<A> {
 impl<A: Allocator + Copy> Inbound<A> {
     ghost use Rattle.site_core.specs.Inbounds.{new_inbound, message_fault, InboundRefuses, BringsEntries, Arrives, QueryOf};
 
-    /// What site `me` gets from the origin, in a system of so many sites, 2 to 16.
+    /// The input of site `me` from the origin, in a system of `sites` sites, 2 to 16. `OutOfMemory` if its memory is
+    /// refused.
     pub fn new(alloc: A, me: SiteId, origin: SiteId, sites: u64) -> Result<Inbound<A>, OutOfMemory>
         requires sites { (MIN_SITES ≤ sites) × (sites ≤ MAX_SITES) }
         requires me { me ≤ sites }
@@ -111,25 +112,25 @@ impl<A: Allocator + Copy> Inbound<A> {
         })
     }
 
-    /// Takes a line in. A line that is refused is to be skipped: it has changed nothing.
+    /// Takes a line in. A line that is refused should be skipped: it has changed nothing. Errors: see `InboundError`.
     pub fn on_line(&mut self, line: &[u8]) -> Result<Arrival<A>, InboundError>
         ensures refused { InboundRefuses self.old (reading line.now) result }
         ensures ok { IfOk result (λ arrival. (m : MessageValue) × (reading line.now ≡ Ok m) × Arrives self.old m arrival self.new) }
         ensures err { OnErr result (self.new ≡ self.old) }
-        // Only entries take memory.
+        // Only entries allocate.
         ensures memory { IfErr result (λ fault. fault ≡ NoMemory → (m : MessageValue) × (reading line.now ≡ Ok m) × (has_entries m ≡ true)) }
     {
         let message = self.read(line)?;
         Ok(self.take_in(message)?)
     }
 
-    /// The message of a line, where it is the origin's, for this site, and of this system. It has not come in
-    /// by that.
+    /// The message of a line, if it is from the origin, for this site, and of this system. It is only read, not taken
+    /// in.
     #[inline(always)]
     pub fn read(&self, line: &[u8]) -> Result<Message<A>, InboundError>
         ensures refused { InboundRefuses self.now (reading line.now) result }
         ensures ok { IfOk result (λ m. reading line.now ≡ Ok (value_of m)) }
-        // Only entries take memory.
+        // Only entries allocate.
         ensures memory { IfErr result (λ fault. fault ≡ NoMemory → (m : MessageValue) × (reading line.now ≡ Ok m) × (has_entries m ≡ true)) }
     {
         let message = match read_line(self.alloc, line) {
@@ -141,8 +142,8 @@ impl<A: Allocator + Copy> Inbound<A> {
         Ok(message)
     }
 
-    /// Lets one entry of the origin come in, and adds its verdict, and those on the entries that it freed, to
-    /// the caller's. Their room is the caller's to make: one verdict, and one for each entry that is held.
+    /// Takes in one entry of the origin, and appends its verdict, and those on the entries that it freed, to the
+    /// caller's list. The caller reserves the memory: for one verdict, and one for each held entry.
     pub fn arrive(&mut self, entry: Entry<A>, verdicts: &mut Vec<Verdict<A>, A>)
         requires origin { entry.origin ≡ self.old.buffer.origin }
         requires room { length verdicts.old.items + length self.old.buffer.held < vec_capacity verdicts.old }
@@ -154,7 +155,7 @@ impl<A: Allocator + Copy> Inbound<A> {
         self.buffer.arrive(entry, verdicts);
     }
 
-    /// Hears a beat of the origin.
+    /// Takes in a beat of the origin.
     pub fn hear(&mut self, number: u64)
         requires { IsNumber number }
         ensures { self.new ≡ record self.old { buffer = after_beat self.old.buffer number } }
@@ -162,7 +163,7 @@ impl<A: Allocator + Copy> Inbound<A> {
         self.buffer.beat(number);
     }
 
-    // Whose message it is, and of which system.
+    // The errors of the sender, the addressee and the system.
     fn check(&self, message: &Message<A>) -> Result<(), InboundError>
         ensures { MatchResult result
             (λ _. message_fault self.now (value_of message.now) ≡ None)
@@ -177,7 +178,7 @@ impl<A: Allocator + Copy> Inbound<A> {
         Ok(())
     }
 
-    // What a message brings that may come in.
+    // Takes in a message that was not refused.
     fn take_in(&mut self, message: Message<A>) -> Result<Arrival<A>, OutOfMemory>
         requires { message_fault self.old (value_of message) ≡ None }
         ensures ok { IfOk result (λ arrival. Arrives self.old (value_of message) arrival self.new) }
@@ -223,8 +224,8 @@ impl<A: Allocator + Copy> Inbound<A> {
         })
     }
 
-    /// The line of the query for the gap, where there is one: always with `again`, else where it is not the
-    /// gap that was asked for last. It counts as asked for from then on, also where the line found no memory.
+    /// The line of the query for the gap, if one is due: with `again` for any gap, else if it is not the gap that was
+    /// asked for last. From then on it counts as asked for, even if memory for the line was refused.
     pub fn query_line(&mut self, again: bool) -> Result<Option<Vec<u8, A>>, OutOfMemory>
         ensures { (q : Option QueryValue) × QueryOf self.old again q self.new
             × MatchResult result (λ line. LineOf (λ l. l.items) (option_map (λ x. AQuery x) q) line) (λ _. IsSome q) }
@@ -236,7 +237,7 @@ impl<A: Allocator + Copy> Inbound<A> {
         Ok(Some(write_line(self.alloc, &message)?))
     }
 
-    // The query for the gap, where there is one to be sent: the gap counts as asked for from then on.
+    // The query for the gap, if one is due. From then on the gap counts as asked for.
     fn query(&mut self, again: bool) -> Option<Query>
         ensures { QueryOf self.old again result self.new }
     {
@@ -247,7 +248,7 @@ impl<A: Allocator + Copy> Inbound<A> {
         }
     }
 
-    /// Buffering where there is a gap.
+    /// `Buffering` if there is a gap.
     pub fn state(&self) -> State
         ensures table { (gap : Option QueryValue) × GapOf self.now.buffer gap × StateOf gap result }
         ensures log { (es set put : List EntryValue) → Follows es set put self.now.buffer
@@ -256,7 +257,7 @@ impl<A: Allocator + Copy> Inbound<A> {
         self.buffer.state()
     }
 
-    /// The own number of the last entry that was put, 0 at first.
+    /// The own number of the last entry that was delivered, 0 at first.
     pub fn last(&self) -> u64
         ensures { result ≡ self.now.buffer.last }
     {
@@ -286,7 +287,7 @@ fn sender<A: Allocator>(message: &Message<A>) -> SiteId
     }
 }
 
-// Whether the message is for the site, or for anybody.
+// Whether the message is addressed to the site, or to no site in particular.
 fn is_for<A: Allocator>(message: &Message<A>, me: SiteId) -> bool
     ensures { result ≡ is_for me (value_of message.now) }
 {
@@ -299,7 +300,7 @@ fn is_for<A: Allocator>(message: &Message<A>, me: SiteId) -> bool
     }
 }
 
-// Whether an entry of the message is of another system than one of so many sites.
+// Whether an entry of the message does not fit a system of this many sites.
 fn has_foreign<A: Allocator>(message: &Message<A>, sites: u64) -> bool
     ensures { result ≡ has_foreign sites (entries_of (value_of message.now)) }
 {
@@ -319,7 +320,7 @@ fn any_foreign(moves: &[Move], sites: u64) -> bool
     moves.iter().any(|m| is_foreign(m, sites))
 }
 
-// Whether the move names a site above the last one, or has another frontier.
+// Whether the move names a site above the last one, or has a frontier for another number of sites.
 fn is_foreign(m: &Move, sites: u64) -> bool
     ensures { result ≡ is_foreign sites m.now }
 {

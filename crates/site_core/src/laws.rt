@@ -12,9 +12,9 @@ ghost use Rattle.site_core.specs.Faults.{has_closed, post_fault, issue_fault, gi
 ghost use Rattle.site_core.specs.Calls.{DeskWrites, DeskSpends, SpendKeeps, DeskServes, ServeKeeps, answer_of, DeskAnswers, AnswerKeeps, DeskApplies, DeskCloses};
 ghost use Rattle.site_core.specs.declared.desk.requests.Spending.{Spending};
 
-/// What the tests of a desk let it write, the protocol allows: the relation of each call says what was tested and what
-/// was written, and from that follows what the site may write, that what was applied is so still, and what the book's
-/// readers answer.
+/// What passed the tests of a desk, the protocol allows. The relation of each call says what was tested and what was
+/// written. From that follow what the site may write, that the same entries count as applied, and what the book's
+/// readers return.
 pub fn tested_is_allowed()
     ensures post { (d new : DeskValue) (ms : List Move) → DeskSound d → post_fault d ms ≡ None → DeskWrites d ms new
         → EntryKeeps d.ledger ms new.ledger }

@@ -1,6 +1,6 @@
 //! The core of one site. `Desk` is its log, its book of rights, its waiting spends and its asks: every decision on
-//! rights is one call of it. `Inbound` is the input from one other site: the lines of its messages, and the buffer that
-//! delivers its entries in order. Neither blocks.
+//! rights is one call of it. `Inbound` is the input from one other site: the lines of its messages, and the buffer
+//! that delivers its entries in order. Neither blocks.
 #![tactic(auto)]
 
 mod desk;

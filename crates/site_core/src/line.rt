@@ -1,4 +1,4 @@
-//! A line that a desk's reply has.
+//! A line that is part of a desk's reply.
 ghost use Rattle.std.specs.Prelude.{◌≡◌};
 
 use std::alloc::{Allocator, Global};
@@ -26,7 +26,7 @@ impl<A: Allocator> Line<A> {
         Line { bytes }
     }
 
-    /// The bytes, lent.
+    /// The bytes, borrowed.
     pub fn bytes(&self) -> &[u8]
         ensures { result.now ≡ self.now }
     {

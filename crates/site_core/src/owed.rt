@@ -1,4 +1,4 @@
-//! What a site takes back from one that has closed.
+//! The amount that a site reclaims from a site that has closed.
 ghost use Rattle.std.specs.Prelude.{◌≡◌, ◌≤◌, IfOk, length, Some};
 ghost use Rattle.rights_types.specs.Chains.{moves_of};
 ghost use Rattle.rights_types.specs.Rights.{to};
@@ -9,7 +9,7 @@ use origin_log::OriginLog;
 use rights_types::{Entry, Frontier, Move, OutOfMemory, SiteId};
 use std::alloc::Allocator;
 
-/// The frontier of the K among these moves, if there is one.
+/// The frontier among these moves, if there is one.
 pub(crate) fn frontier_in(moves: &[Move]) -> Option<Frontier>
     ensures { result ≡ numbers_in moves.now }
 {
@@ -21,8 +21,8 @@ pub(crate) fn frontier_in(moves: &[Move]) -> Option<Frontier>
     None
 }
 
-/// What the log gave to the peer in the entries that begin at this number or after it. It reads them back
-/// from the log's end, and one more.
+/// What the log gave to the peer in the entries that begin at this number or after it. It reads these from the log's
+/// end backwards, and one more.
 pub(crate) fn given_beyond<A: Allocator + Copy>(
     log: &OriginLog<A>,
     peer: SiteId,

@@ -27,7 +27,7 @@ module _ {S : Type 0} (answers : Answering S) where
   refused_many old (line ∷ []) many = absurd (omega arith)
   refused_many old (line ∷ other ∷ lines) many = (refl, refl, refl)
 
--- what follows where a call succeeds
+-- what follows if a call succeeds
 pub on_ok : {T E A B : Type 0} (r : Result T E) → (A → B) → OnOk r A → OnOk r B
 on_ok (Ok x) f a = f a
 on_ok (Err e) f a = a

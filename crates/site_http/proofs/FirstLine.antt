@@ -13,7 +13,7 @@ line_first xs ys none =
     let p = one_piece [] xs none in
     rw (pieces_append [] (xs ++ 10 ∷ []) ys, rest_append [] (xs ++ 10 ∷ []) ys, p.0, p.1) refl
 
--- what memchr tells of a line feed
+-- what memchr says of a line feed
 pub cut_first : (xs : List ℕ) (n : ℕ) → IsFirstByte (is_byte 10) xs (Some n) → (n < length xs) × HasNoEnd (take n xs) × (xs ≡ (take n xs ++ 10 ∷ []) ++ drop (n + 1) xs)
 cut_first xs n found =
     let high : n < length xs = found.0.high in
@@ -38,7 +38,7 @@ lines_uncut (x ∷ xs) some none =
     let p = no_piece [] (x ∷ xs) (λ k h e. none k (omega arith) h (eq-eqb (get_or (x ∷ xs) k 0) 10 e)) in
     rw (p.0, p.1) refl
 
--- where there are bytes, there is a line
+-- if there are bytes, there is a line
 abbrev lines_after : List ℕ → List ℕ → List (List ℕ)
 lines_after front xs = pieces_after front xs ++ last_line (rest_after front xs)
 
@@ -58,7 +58,7 @@ nothing : (xs : List ℕ) → length xs ≡ 0 → xs ≡ []
 nothing [] none = refl
 nothing (x ∷ xs) none = absurd (omega arith)
 
--- where no bytes follow it, the first line is the only one; where some do, it is one of several
+-- if no bytes follow it, the first line is the only one; if some do, it is one of several
 pub lines_one : (xs rest line : List ℕ) → lines_of xs ≡ line ∷ lines_of rest → length rest ≡ 0 → lines_of xs ≡ line ∷ []
 lines_one xs rest line first none = first ∙ ap (λ (l : List ℕ). line ∷ lines_of l) (nothing rest none)
 

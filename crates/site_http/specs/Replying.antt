@@ -1,23 +1,23 @@
--- What the lines of a body are replied.
+-- The replies to the lines of a body.
 use Rattle.std.specs.Prelude.{◌≡◌, ℕ, ◌≤◌, ◌⊎◌, List, [], ◌∷◌, ◌++◌, flat_map, codes, nat_eq, if◌then◌else◌, bytes_eq}
 use Rattle.std.specs.List.{starts_with}
 use Rattle.bytes.specs.Filled.{Filled}
 use Rattle.line_streams.specs.Waiting.{Waiting}
 use Rattle.site_http.specs.declared.replying.TheConstants.{LAST_ROOM}
 
--- from the first state, a line with its line feed gets this reply, without one, and leaves the second state
+-- in the first state, this line with its line feed gets this reply, without a line feed, and leads to the second state
 abbrev pub Answering : Type 0 → Type 1
 Answering S = S → List ℕ → List ℕ → S → Type 0
 
--- the reply to a line that is no command
+-- the reply to a line that spells no command
 abbrev pub bad_command : List ℕ
 bad_command = codes "error BadCommand"
 
--- the reply to a command that was not carried out for want of memory
+-- the reply to a command that was not carried out for lack of memory
 abbrev pub no_memory : List ℕ
 no_memory = codes "error OutOfMemory"
 
--- the status of a response that is one reply
+-- the status of a response with one reply
 abbrev pub status_of : List ℕ → ℕ
 status_of reply =
     if bytes_eq reply bad_command then 400
@@ -25,7 +25,7 @@ status_of reply =
     else if starts_with nat_eq reply (codes "error ") then 409
     else 200
 
--- .. and of one that is many
+-- .. and of one with several
 abbrev pub status_of_all : List (List ℕ) → ℕ
 status_of_all (reply ∷ []) = status_of reply
 status_of_all replies = 200
@@ -47,7 +47,7 @@ module _ {S : Type 0} (answers : Answering S) where
     pub each : AnswersEach old lines replies new
     pub status : code ≡ status_of_all replies
 
-  -- the first lines got these replies, and one at least is left
+  -- the first lines got these replies, and at least one line is left
   pub record AnswersSome (old : S) (lines : List (List ℕ)) (replies : List (List ℕ)) (new : S) : Type 0 where
     pub done : List (List ℕ)
     pub line : List ℕ
@@ -55,7 +55,7 @@ module _ {S : Type 0} (answers : Answering S) where
     pub parted : lines ≡ done ++ line ∷ left
     pub each : AnswersEach old done replies new
 
-  -- memory ran out at a line: those before it were answered, its reply says so, and neither it nor those behind it were
+  -- memory ran out at a line: those before it were answered, its reply says so, and neither it nor those after it were
   -- carried out
   pub record StopsAt (old : S) (lines : List (List ℕ)) (code : ℕ) (replies : List (List ℕ)) (new : S) : Type 0 where
     pub given : List (List ℕ)
@@ -63,22 +63,22 @@ module _ {S : Type 0} (answers : Answering S) where
     pub told : replies ≡ given ++ no_memory ∷ []
     pub status : code ≡ 503
 
-  -- these replies, with this status, are what the lines of a body come to
+  -- these replies, with this status, are the answer to the lines of a body
   abbrev pub RepliesTo : S → List (List ℕ) → ℕ → List (List ℕ) → S → Type 0
   RepliesTo old lines code replies new = AnswersAll old lines code replies new ⊎ StopsAt old lines code replies new
 
-  -- the same where there has to be one line
+  -- the same for a body that must have exactly one line
   abbrev pub RepliesToOne : S → List (List ℕ) → ℕ → List (List ℕ) → S → Type 0
   RepliesToOne old (line ∷ []) code replies new = RepliesTo old (line ∷ []) code replies new
   RepliesToOne old lines code replies new = (code ≡ 400) × (replies ≡ bad_command ∷ []) × (new ≡ old)
 
--- the reply was put, as the whole replies have it, and there is room for one more
+-- the reply was appended, as the whole replies have it, and there is memory for one more
 pub record IsPut (reply : List ℕ) (replies : Waiting) (old new : Filled) : Type 0 where
   pub whole : replies.whole ≡ reply ++ 10 ∷ []
   pub text : new.items ≡ old.items ++ (reply ++ 10 ∷ [])
   pub room : LAST_ROOM ≤ new.spare
 
--- nothing was put, and there is no less room
+-- nothing was appended, and there is no less memory
 pub record KeepsRoom (old new : Filled) : Type 0 where
   pub text : new.items ≡ old.items
   pub room : old.spare ≤ new.spare

@@ -1,4 +1,4 @@
--- What each request is answered.
+-- The responses to requests.
 use Rattle.std.specs.Prelude.{◌≡◌, ℕ, Bool, true, false, List, [], ◌∷◌, ◌++◌, codes}
 use Rattle.http.specs.declared.request.Request.{Request}
 use Rattle.http.specs.Request.{body_of}
@@ -27,7 +27,7 @@ methods_of Only.Get = codes "GET, HEAD"
 methods_of Only.Post = codes "POST"
 methods_of Only.GetAndPost = codes "GET, HEAD, POST"
 
--- whether the site is well
+-- the response to a health check, by whether the site has closed
 abbrev pub IsHealth : Bool → Response → Type 0
 IsHealth true r = IsResponse 503 plain (codes "closed" ++ 10 ∷ []) r
 IsHealth false r = IsResponse 200 plain (codes "ok" ++ 10 ∷ []) r
@@ -45,11 +45,11 @@ module _ {S : Type 0} where
     pub replied : replies_to old (lines_of body) code replies new
     pub response : IsResponse code plain (text_of replies) r
 
-  -- a text that the site is told by
+  -- the response is a text that the site reports
   abbrev pub Tells : (S → List ℕ → Type 0) → List ℕ → S → Response → Type 0
   Tells says content_type old r = (text : List ℕ) × says old text × IsResponse 200 (headers_for content_type) text r
 
-  -- the same with a line feed behind it
+  -- the same with a line feed after it
   abbrev pub TellsLine : (S → List ℕ → Type 0) → List ℕ → S → Response → Type 0
   TellsLine says content_type old r = (text : List ℕ) × says old text × IsResponse 200 (headers_for content_type) (text ++ 10 ∷ []) r
 
@@ -66,12 +66,12 @@ module _ {S : Type 0} (answers settles : Answering S) (status metrics : S → Li
   Shows old NotFound r = IsResponse 404 plain (codes "error Target" ++ 10 ∷ []) r
   Shows old route r = ⊥
 
-  -- from the first state, a request with this route and body gets this response and leaves the second state
+  -- in the first state, a request with this route and body gets this response and leads to the second state
   abbrev pub RespondsBy : S → Route → List ℕ → Response → S → Type 0
   RespondsBy old Commands body r new = IsReplied (RepliesTo answers) old body r new
   RespondsBy old Wait body r new = IsReplied (RepliesToOne settles) old body r new
   RespondsBy old route body r new = Shows old route r × (new ≡ old)
 
-  -- from the first state, the request gets this response and leaves the second state
+  -- in the first state, the request gets this response and leads to the second state
   abbrev pub Responds : S → Request (List ℕ) → Response → S → Type 0
   Responds old request r new = (route : Route) × Leads request route × RespondsBy old route (body_of request) r new

@@ -1,4 +1,4 @@
--- Which request is which.
+-- How requests are told apart.
 use Rattle.std.specs.Prelude.{◌≡◌, ◌↔◌, ℕ, Bool, true, List, [], ◌∷◌, codes, unwrap_or, IsTrue}
 use Rattle.line_streams.specs.Words.{named}
 use Rattle.http.specs.declared.request.Request.{Request}
@@ -13,11 +13,11 @@ use Rattle.site_http.specs.declared.route.Allowed.TheVariants as Only
 use Rattle.site_http.specs.declared.route.Route.{Route}
 use Rattle.site_http.specs.declared.route.Route.TheVariants as Routes
 
--- `HEAD` is answered as `GET`
+-- `HEAD` is treated like `GET`
 unfoldable pub verb_of : List ℕ → Verb
 verb_of method = unwrap_or (named ((codes "POST", Post) ∷ (codes "GET", Get) ∷ (codes "HEAD", Get) ∷ []) method) Other
 
--- what a path names; the query is not looked at
+-- what a path stands for; the query is ignored
 unfoldable pub target_of : List ℕ → Target
 target_of path =
     unwrap_or (named (

@@ -1,4 +1,4 @@
-//! What a connection gets that finds no seat.
+//! The service of a connection that finds no seat.
 ghost use Rattle.std.specs.Prelude.{◌≡◌};
 ghost use Rattle.site_http.specs.Responding.{IsBusy};
 

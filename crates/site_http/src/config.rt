@@ -16,8 +16,8 @@ const SERVICE: Config = Config {
     read_size: 4_096,
 };
 
-/// The limits of a connection: a head of 16 KiB, a body of 1 MiB, and no request is read while more than 64 KiB of responses wait. An
-/// idle connection that had no large body keeps some 12 KiB.
+/// The limits of a connection: a head of 16 KiB, a body of 1 MiB, and no request is read while more than 64 KiB of
+/// responses wait. An idle connection that had no large body keeps some 12 KiB.
 pub fn service_config() -> Config
     ensures { result ≡ SERVICE }
 {

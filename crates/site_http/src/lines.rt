@@ -6,7 +6,7 @@ ghost use Rattle.line_streams.specs.Talk.{lines_of};
 use memchr::memchr;
 use rights_types::MAX_LINE;
 
-/// The text of the first line, and the lines behind it. The last line may lack its line feed.
+/// The text of the first line, and the lines after it. The last line may lack its line feed.
 pub(crate) fn split_line(lines: &[u8]) -> Option<(&[u8], &[u8])>
     ensures first { IfSome result (λ parts. lines_of lines.now ≡ (parts.0.now ++ 10 ∷ []) ∷ lines_of parts.1.now) }
     ensures fewer { IfSome result (λ parts. length parts.1.now < length lines.now) }
@@ -21,7 +21,7 @@ pub(crate) fn split_line(lines: &[u8]) -> Option<(&[u8], &[u8])>
     }
 }
 
-/// The text of a line, unless the line is too long.
+/// The text of a line, or None if the line is too long.
 pub(crate) fn within_limit(text: &[u8]) -> Option<&[u8]>
     ensures { IsGiven (text.now ++ 10 ∷ []) result }
 {

@@ -1,4 +1,4 @@
-//! What the lines of a body are replied. No command is carried out whose reply finds no room.
+//! The replies to the lines of a body. No command is carried out whose reply finds no memory.
 ghost use Rattle.std.specs.Prelude.{◌≡◌, ℕ, ◌+◌, ◌<◌, ◌≤◌, List, [], ◌∷◌, ◌++◌, length, IsOk, OnOk, OnErr};
 ghost use Rattle.line_streams.specs.Talk.{lines_of};
 ghost use Rattle.site_http.specs.Replying.{bad_command, no_memory, status_of, text_of, AnswersEach, AnswersSome, RepliesTo, RepliesToOne, IsPut, KeepsRoom};
@@ -12,10 +12,10 @@ use line_streams::Replies;
 use rights_types::OutOfMemory;
 use std::alloc::Global;
 
-/// The reply where memory ran out is not longer, its line feed included, nor is any other of this crate's own.
+/// The longest reply of this crate's own, such as that for lack of memory, with its line feed, in bytes.
 pub(crate) const LAST_ROOM: usize = 18;
 
-/// Answers the lines of a body, and says with which status.
+/// Answers the lines of a body, and returns the status of the response.
 pub(crate) fn answer_body<C: Client>(
     client: &mut C,
     body: &[u8],
@@ -35,7 +35,7 @@ pub(crate) fn answer_body<C: Client>(
     answer_many(client, body, replies, out)
 }
 
-/// Answers the line of a body that has one, and waits for what becomes of it.
+/// Answers the line of a body that must have exactly one, and waits for its outcome.
 pub(crate) fn settle_body<C: Client>(
     client: &mut C,
     body: &[u8],
@@ -129,7 +129,7 @@ fn answer_lines<C: Client>(
     Ok(())
 }
 
-/// Answers a line, or does nothing. There is room for one more reply behind it.
+/// Answers a line, or does nothing. Afterwards there is memory for one more reply.
 fn answer_line<C: Client>(
     client: &mut C,
     text: &[u8],
@@ -145,7 +145,7 @@ fn answer_line<C: Client>(
     put_reply(replies, out)
 }
 
-/// The same, and waits for what becomes of the command.
+/// The same, and waits for the outcome of the command.
 fn settle_line<C: Client>(
     client: &mut C,
     text: &[u8],
@@ -161,7 +161,7 @@ fn settle_line<C: Client>(
     put_reply(replies, out)
 }
 
-/// Puts a reply, behind which there is room for one more.
+/// Appends a reply, after which there is memory for one more.
 fn put_reply(replies: &Replies<Global>, out: &mut Rope) -> Result<(), OutOfMemory>
     ensures ok { OnOk result ((out.new.items ≡ out.old.items ++ replies.now.whole) × (LAST_ROOM ≤ out.new.spare)) }
     ensures err { OnErr result (KeepsRoom out.old out.new) }
@@ -173,7 +173,7 @@ fn put_reply(replies: &Replies<Global>, out: &mut Rope) -> Result<(), OutOfMemor
     Ok(())
 }
 
-/// The status of a response that is this reply, with its line feed.
+/// The status of a response that consists of this reply, with its line feed.
 fn status_of_line(line: &[u8]) -> StatusCode
     requires { 0 < length line.now }
     ensures { (reply : List ℕ) → line.now ≡ reply ++ 10 ∷ [] → result ≡ status_of reply }
@@ -195,7 +195,7 @@ fn status_of(reply: &[u8]) -> StatusCode
     }
 }
 
-/// Says that memory ran out.
+/// Replies that memory ran out.
 fn stop(out: &mut Rope) -> StatusCode
     requires { LAST_ROOM ≤ out.old.spare }
     ensures text { out.new.items ≡ out.old.items ++ (no_memory ++ 10 ∷ []) }
@@ -205,7 +205,7 @@ fn stop(out: &mut Rope) -> StatusCode
     StatusCode::SERVICE_UNAVAILABLE
 }
 
-/// Says that a body is no command.
+/// Replies that a body is not a command.
 fn refuse(out: &mut Rope) -> StatusCode
     requires { LAST_ROOM ≤ out.old.spare }
     ensures text { out.new.items ≡ out.old.items ++ (bad_command ++ 10 ∷ []) }

@@ -1,4 +1,4 @@
-//! What each request is answered.
+//! The responses to requests.
 ghost use Rattle.std.specs.Prelude.{◌≡◌, ◌≤◌, ℕ, Bool, List, [], ◌∷◌, ◌++◌, codes, OnOk, OnErr};
 ghost use Rattle.http_server.specs.Response.{IsBlank, IsResponse, fields_of};
 ghost use Rattle.site_http.specs.Replying.{RepliesTo, RepliesToOne};
@@ -15,7 +15,7 @@ use http_server::Response;
 use line_streams::Replies;
 use std::alloc::{AllocError, Global};
 
-/// Answers a request.
+/// Responds to a request.
 pub(crate) fn respond<C: Client>(
     client: &mut C,
     replies: &mut Replies<Global>,
@@ -148,7 +148,7 @@ fn methods_of(allowed: Allowed) -> HeaderValue
     }
 }
 
-/// Answers with the whole replies.
+/// Responds with the whole replies.
 fn tell(
     response: &mut Response,
     content_type: HeaderValue,
@@ -161,7 +161,7 @@ fn tell(
     response.body.put_slice(replies.whole())
 }
 
-/// Answers with a short text.
+/// Responds with a short text.
 pub(crate) fn say(
     response: &mut Response,
     status: StatusCode,
@@ -175,7 +175,7 @@ pub(crate) fn say(
     response.body.put_slice(text)
 }
 
-/// Adds the headers of replies, and sees that there is room for a first one. Nothing fails behind it but a line.
+/// Adds the headers of replies, and reserves memory for the first reply. After that only a line can fail.
 fn begin_reply(response: &mut Response) -> Result<(), AllocError>
     requires { IsBlank response.old }
     ensures headers { OnOk result (fields_of response.new ≡ plain) }

@@ -1,4 +1,4 @@
-//! Which request is which.
+//! How requests are told apart.
 ghost use Rattle.std.specs.Prelude.{◌≡◌, ℕ, List};
 ghost use Rattle.site_http.specs.Routing.{verb_of, target_of, route_by, Leads};
 
@@ -6,7 +6,7 @@ use bytes::Bytes;
 use http::{Request, header};
 use line_streams::named;
 
-/// What a method does.
+/// The effect of a method.
 #[derive(Clone, Copy)]
 pub(crate) enum Verb {
     Post,
@@ -15,7 +15,7 @@ pub(crate) enum Verb {
     Other,
 }
 
-/// What a path names.
+/// What a path stands for.
 #[derive(Clone, Copy)]
 pub(crate) enum Target {
     Root,
@@ -34,12 +34,12 @@ pub enum Allowed {
     GetAndPost,
 }
 
-/// What a request comes to.
+/// The meaning of a request.
 #[derive(Clone, Copy)]
 pub enum Route {
-    /// To carry out commands.
+    /// Carry out commands.
     Commands,
-    /// To carry out one command and wait for what becomes of it.
+    /// Carry out one command and wait for its outcome.
     Wait,
     Status,
     Metrics,
@@ -51,7 +51,7 @@ pub enum Route {
     NotFound,
 }
 
-/// The route of a request. A query behind the path is not looked at.
+/// The route of a request. A query after the path is ignored.
 pub(crate) fn route_of(request: &Request<Bytes>) -> Route
     ensures { Leads request.now result }
 {

@@ -11,11 +11,11 @@ use line_streams::Replies;
 use std::alloc::{AllocError, Global};
 use std::marker::Model;
 
-/// Answers the requests of one connection for a client of the site. A clause sees the client.
+/// Responds to the requests of one connection, for a client of the site. Clauses see the client.
 #[derive(Drop)]
 pub struct ClientService<C: Client> {
     client: C,
-    /// Kept, so that a request allocates nothing here.
+    /// Kept between requests, so that a request allocates nothing here.
     replies: Replies<Global>,
 }
 
@@ -36,7 +36,7 @@ impl<C: Client> ClientService<C> {
         }
     }
 
-    /// The client, whose connection has ended.
+    /// The client, once its connection has ended.
     pub fn into_client(self) -> C
         ensures { result ≡ self }
     {

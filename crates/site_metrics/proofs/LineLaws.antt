@@ -1,4 +1,4 @@
--- One line more of a text of replies.
+-- One more line of a text of replies.
 use Rattle.std.proofs.Common.{◌≡◌, ℕ, ◌+◌, ◌≤◌, cond, List, [], ◌∷◌, ◌++◌, length, take, drop, ap, ◌∙◌, sym, arith, append-nil, take-append-drop}
 use Rattle.std.specs.Prelude.{Decides}
 use Rattle.std.specs.Bool.{one_answer}
@@ -18,13 +18,13 @@ piece_more before line ended none =
       rest_append [] before (line ++ 10 ∷ []) ∙ ap (λ (l : List ℕ). rest_after l (line ++ 10 ∷ [])) ended ∙ one.1,
     )
 
--- bytes with no line feed are no line
+-- bytes with no line feed do not form a line
 pub piece_none : (bytes : List ℕ) (at : ℕ) → HasNoEnd (drop at bytes) → pieces (take at bytes) ≡ pieces bytes
 piece_none bytes at none =
     sym (ap pieces (sym (take-append-drop at bytes)) ∙ pieces_append [] (take at bytes) (drop at bytes)
     ∙ ap (λ (l : List (List ℕ)). pieces (take at bytes) ++ l) ((no_piece (unfinished (take at bytes)) (drop at bytes) none).0) ∙ append-nil (pieces (take at bytes)))
 
--- a line feed behind both changes nothing
+-- a line feed after both changes nothing
 same_test : (line text : List ℕ) → bytes_eq (line ++ 10 ∷ []) (text ++ 10 ∷ []) ≡ bytes_eq line text
 same_test line text =
     let both = bytes_eq-Decides (line ++ 10 ∷ []) (text ++ 10 ∷ []) in
@@ -43,7 +43,7 @@ refused_more place lines line =
 pub few_refused : (place : ℕ) (lines : List (List ℕ)) → refused_lines place lines ≤ length lines
 few_refused place lines = count_by-le-length (λ line. bytes_eq line (refusal_text place ++ 10 ∷ [])) lines
 
--- one line more of a text was counted
+-- one more line of a text was counted
 pub counted_line : (old new place : ℕ) (reply line : List ℕ) (before after : List (List ℕ)) → reply ≡ line → after ≡ before ++ (line ++ 10 ∷ []) ∷ []
     → old ≡ refused_lines place before → new ≡ old + one_where_refused place reply → new ≡ refused_lines place after
 counted_line old new place reply line before after same all counted more =

@@ -9,7 +9,7 @@ use Rattle.std.proofs.lemmas.Slice.Zip.{length-zip, get_or-zip}
 use Rattle.std.specs.Str.{bytes_eq}
 use Rattle.site_metrics.specs.Refusals.{refusal_names, refusal_text, one_where_refused}
 
--- the first place of a name
+-- the first index of a name
 abbrev place_in : List ℕ → ℕ
 place_in name = position_or_len (λ other. bytes_eq other name) refusal_names
 
@@ -34,7 +34,7 @@ below test (suc n) h k lt =
 own_place : (k : ℕ) → k < 15 → place_in (get_or refusal_names k []) ≡ k
 own_place k lt = eqb-true (place_in (get_or refusal_names k [])) k (below (λ i. place_in (get_or refusal_names i []) == i) 15 refl k lt)
 
--- what stands behind `error ` is a name
+-- what follows `error ` is a name
 pub same_name : (xs ys : List ℕ) → codes "error " ++ xs ≡ codes "error " ++ ys → xs ≡ ys
 same_name xs ys h = ap (drop 6) h
 
@@ -51,7 +51,7 @@ module _ (reply : List ℕ) where
       let other = false_from_ne_true (bytes_eq reply (refusal_text place)) (λ e. h ((bytes_eq-Decides reply (refusal_text place)).0 e)) in
       rw other refl
 
-  -- one count more at the place of the refusal
+  -- one more count at the index of the refusal
   pub counted : (counts : List ℕ) (place more : ℕ) → place < length counts → place < 15 → reply ≡ refusal_text place → more ≡ get_or counts place 0 + 1
       → (k : ℕ) → k < 15 → get_or (set counts place more) k 0 ≡ get_or counts k 0 + one_where_refused k reply
   counted counts place more within low told one k lt =
@@ -68,21 +68,21 @@ module _ (reply : List ℕ) where
   pub not_counted : (counts : List ℕ) → ((k : ℕ) → k < 15 → reply ≢ refusal_text k) → (k : ℕ) → k < 15 → get_or counts k 0 ≡ get_or counts k 0 + one_where_refused k reply
   not_counted counts none k lt = sym (ap {B = ℕ} (λ n. get_or counts k 0 + n) (counts_not k (none k lt)) ∙ add-zero (get_or counts k 0))
 
--- what a test of two texts tells
+-- what a comparison of two texts says
 pub agree : (xs ys zs : List ℕ) → true ≡ bytes_eq xs ys → ys ≡ zs → xs ≡ zs
 agree xs ys zs same h = (bytes_eq-Decides xs ys).0 (sym same) ∙ h
 
 pub differ : (xs ys zs : List ℕ) → false ≡ bytes_eq xs ys → ys ≡ zs → xs ≢ zs
 differ xs ys zs other h e = true≢false (sym ((bytes_eq-Decides xs ys).1 (e ∙ sym h)) ∙ sym other)
 
--- one name more is another
+-- one more name, which differs from the others
 pub none_more : (name : List ℕ) (place : ℕ) → ((i : ℕ) → i < place → name ≢ get_or refusal_names i []) → name ≢ get_or refusal_names place [] → (i : ℕ) → i < place + 1 → name ≢ get_or refusal_names i []
 none_more name place before here i lt = elim (cases_lt i place) [
   | inl less ↦ before i less
   | inr past ↦ let same : i ≡ place = omega (arith, lt, past) in rw same here
 ]
 
--- what a clause says of a None
+-- what a clause says of None
 pub if_none : {X P : Type 0} (r : Option X) → ((x : X) → r ≡ Some x → ⊥) → IfNone r P → P
 if_none None other h = h
 if_none (Some x) other h = absurd (other x refl)
@@ -91,7 +91,7 @@ pub none_then : {X P Q : Type 0} (r : Option X) → (P → Q) → IfNone r P →
 none_then None f h = f h
 none_then (Some x) f h = h
 
--- the counts of one name more were put
+-- the counts of one more name were appended
 pub name_more : (f : List ℕ × ℕ → List ℕ) (text before after counts : List ℕ) (place : ℕ) (name : List ℕ) → place < 15 → length counts ≡ 15
     → before ≡ text ++ flat_map f (take place (zip refusal_names counts)) → name ≡ get_or refusal_names place [] → after ≡ before ++ f (name, get_or counts place 0)
     → after ≡ text ++ flat_map f (take (place + 1) (zip refusal_names counts))

@@ -1,4 +1,4 @@
--- Lines with a line feed before each, and with one behind each.
+-- Lines with a line feed before each, and with one after each.
 use Rattle.std.proofs.Common.{◌≡◌, ℕ, List, [], ◌∷◌, ◌++◌, drop, map, refl, ap, ◌∙◌, sym, append_assoc, append-nil}
 use Rattle.std.specs.List.{flat_map, zip}
 use Rattle.std.proofs.lemmas.List.{flat_map_more}
@@ -40,7 +40,7 @@ pub more_families : (family : Family) (families others : List Family)
 unfolding led_lines
 more_families family families others = ap (drop 1) (sym (flat_map-append led_lines (family ∷ families) others))
 
--- one metric more
+-- one more metric
 module _ (text : List ℕ) where
   one : (a : Family) → text ++ led_lines a ≡ text ++ flat_map led_lines (a ∷ [])
   one a = ap (λ (t : List ℕ). text ++ t) (sym (append-nil (led_lines a)))
@@ -57,7 +57,7 @@ module _ (text : List ℕ) where
   pub five : (a b c d e : Family) → ((((text ++ led_lines a) ++ led_lines b) ++ led_lines c) ++ led_lines d) ++ led_lines e ≡ text ++ flat_map led_lines (a ∷ b ∷ c ∷ d ∷ e ∷ [])
   five a b c d e = more _ (a ∷ b ∷ c ∷ d ∷ []) e (four a b c d)
 
-  -- the same where the first line feed is left out
+  -- the same if the first line feed is left out
   first_one : (a : Family) → text ++ drop 1 (led_lines a) ≡ text ++ drop 1 (flat_map led_lines (a ∷ []))
   first_one a = ap (λ (t : List ℕ). text ++ drop 1 t) (sym (append-nil (led_lines a)))
 
@@ -134,7 +134,7 @@ module _ (name help kind : List ℕ) where
       ∙ ap (λ (t : List ℕ). head ++ t) (flat_map-map (λ (line : List ℕ). 10 ∷ line) (sample_line name) (by_name counts)
       ∙ flat_map-map (λ (s : Sample). 10 ∷ sample_line name s) name_sample (zip refusal_names counts))
 
-  -- .. put behind a text
+  -- .. appended to a text
   module _ (text : List ℕ) where
     pub put_alone : (value : ℕ)
         → (text ++ head) ++ 10 ∷ sample_line name (record { labels = []; value = value }) ≡ text ++ led_lines (record { name = name; help = help; kind = kind; samples = alone value })

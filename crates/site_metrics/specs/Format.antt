@@ -1,12 +1,12 @@
 -- The exposition format of Prometheus, version 0.0.4.
 use Rattle.std.specs.Prelude.{ℕ, List, [], ◌∷◌, ◌++◌, codes, decimal, map, flat_map}
 
--- one value of a metric, with the labels that tell it from the others
+-- one value of a metric, with the labels that distinguish it from the others
 pub record Sample : Type 0 where
   pub labels : List ℕ
   pub value : ℕ
 
--- a metric: its name, what it tells, its type, and its values
+-- a metric: its name, its help text, its type, and its values
 pub record Family : Type 0 where
   pub name : List ℕ
   pub help : List ℕ

@@ -1,4 +1,4 @@
--- The value of a peer that a metric tells, as a number.
+-- The value of a peer that a metric reports, as a number.
 use Rattle.std.specs.Prelude.{ℕ}
 use Rattle.site_metrics.specs.declared.metrics.PeerMetrics.{PeerMetrics}
 use Rattle.site_metrics.specs.declared.peer_value.PeerValue.{PeerValue}

@@ -36,7 +36,7 @@ peer_sample value peer = record { labels = codes "{peer=\"" ++ decimal peer.site
 abbrev pub by_peer : (PeerMetrics → ℕ) → List PeerMetrics → List Sample
 by_peer value peers = map (peer_sample value) peers
 
--- a count for each name of a refusal, also for those that never came
+-- a count for each name of a refusal, even if it is 0
 abbrev pub name_sample : List ℕ × ℕ → Sample
 name_sample counted = record { labels = codes "{name=\"" ++ counted.0 ++ codes "\"}"; value = counted.1 }
 
@@ -90,6 +90,6 @@ line_metrics peers =
 abbrev pub all_metrics : Metrics → List PeerMetrics → List Family
 all_metrics m peers = rights_metrics m ++ (state_metrics m ++ (client_metrics m ++ (log_metrics peers ++ line_metrics peers)))
 
--- what an operator's monitoring reads
+-- the whole text of a site's metrics
 abbrev pub metrics_text : Metrics → List PeerMetrics → List ℕ
 metrics_text m peers = exposition (all_metrics m peers)

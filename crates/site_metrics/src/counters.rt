@@ -1,10 +1,10 @@
-//! What threads count together. Each counter is added to and read in single steps; no lock is taken, and what several of them
-//! say need not be of one moment.
+//! The counters that threads share. Each is added to and read atomically, without a lock, so the values of several
+//! counters need not belong to one moment.
 use crate::refusals::REFUSAL_COUNT;
 use crate::replies::count_replies;
 use std::sync::atomic::{AtomicBool, AtomicU64, Ordering};
 
-/// The commands that were answered, of all clients and of standard input, and their refusals.
+/// The commands that were answered, of all clients and of standard input, and how many of them were refused.
 #[derive(Drop)]
 pub struct Counters {
     commands: AtomicU64,
@@ -19,7 +19,7 @@ impl Counters {
         }
     }
 
-    /// Counts a text of whole reply lines.
+    /// Counts the replies in a text of whole reply lines.
     pub fn note_replies(&self, text: &[u8]) {
         let counts = count_replies(text);
         add(&self.commands, counts.lines);
@@ -32,7 +32,7 @@ impl Counters {
         self.commands.load(Ordering::SeqCst)
     }
 
-    /// The refusals, each at the place of its name in `REFUSALS`.
+    /// How many commands were refused, by the index of the refusal's name in `REFUSALS`.
     pub fn refused(&self) -> [u64; REFUSAL_COUNT] {
         let mut refused = [0; REFUSAL_COUNT];
         for place in 0..REFUSAL_COUNT {
@@ -42,7 +42,7 @@ impl Counters {
     }
 }
 
-/// What is counted of one peer, and which connections to and from it stand.
+/// The counters of one peer, and which connections from it and to it are open.
 #[derive(Drop)]
 pub struct PeerCounters {
     lines: AtomicU64,
@@ -65,28 +65,28 @@ impl PeerCounters {
         }
     }
 
-    /// So many lines came, and so many of them were skipped.
+    /// Adds to the lines that came, and to those of them that were skipped.
     pub fn note_lines(&self, lines: u64, refused: u64) {
         add(&self.lines, lines);
         add(&self.refused, refused);
     }
 
-    /// So many lines found no room in the outbox, or were lost by a failed connection or write.
+    /// Adds to the lines that found no space in the outbox, or were lost by a failed connection or write.
     pub fn note_dropped(&self, lines: u64) {
         add(&self.dropped, lines);
     }
 
-    /// A beat told of fewer entries than were applied of the peer's log.
+    /// Counts a beat with a number below what was applied of the peer's log.
     pub fn note_went_back(&self) {
         add(&self.went_back, 1);
     }
 
-    /// Whether a connection that the peer made stands from now on.
+    /// Notes whether a connection that the peer made is open.
     pub fn set_receiving(&self, stands: bool) {
         self.receiving.store(stands, Ordering::SeqCst);
     }
 
-    /// Whether a connection that lines for the peer are sent by stands from now on.
+    /// Notes whether a connection over which lines are sent to the peer is open.
     pub fn set_sending(&self, stands: bool) {
         self.sending.store(stands, Ordering::SeqCst);
     }

@@ -1,5 +1,5 @@
-//! What monitoring reads of a site: its metrics as text, in the exposition format of Prometheus, version 0.0.4, and the
-//! counters behind them.
+//! What monitoring reads of a site: its metrics as text, in the exposition format of Prometheus, version 0.0.4, and
+//! the counters behind them.
 //!
 //! The text is exact for the values that were read. What counters hold at a given moment is not proved: other threads
 //! may add to them at any time. What is proved is how much one text of replies adds to them, by `count_replies`.

@@ -1,10 +1,10 @@
-//! Which value of a peer a metric tells.
+//! The values of a peer that metrics report.
 ghost use Rattle.std.specs.Prelude.{◌≡◌};
 ghost use Rattle.site_metrics.specs.PeerValues.{peer_value};
 
 use crate::metrics::PeerMetrics;
 
-/// Which value of a peer a metric tells.
+/// The value of a peer that a metric reports.
 #[derive(Clone, Copy)]
 pub(crate) enum PeerValue {
     Applied,

@@ -1,11 +1,11 @@
-//! The names of refusals, each with a place.
+//! The names of refusals, each with an index.
 ghost use Rattle.std.specs.Prelude.{◌≡◌, ◌≢◌, ℕ, ◌<◌, ◌≤◌, get_or, length, [], IfSome, IfNone};
 ghost use Rattle.site_metrics.specs.Refusals.{refusal_names, refusal_text};
 
 /// How many names `REFUSALS` has.
 pub const REFUSAL_COUNT: usize = 15;
 
-/// The NAMEs of the replies `error NAME`, each at its place: those of a desk's refusals, and of a line that is no command.
+/// The NAMEs of the replies `error NAME`: those of a desk's refusals, and that of a line that spells no command.
 pub const REFUSALS: [&[u8]; REFUSAL_COUNT] = [
     b"Closed",
     b"BadCount",
@@ -24,7 +24,7 @@ pub const REFUSALS: [&[u8]; REFUSAL_COUNT] = [
     b"BadCommand",
 ];
 
-/// The name at a place.
+/// The name at an index.
 #[tactic(auto, using(crate::proofs::RefusalLaws::short_name))]
 pub(crate) fn refusal_name(place: usize) -> &'static [u8]
     requires { place < REFUSAL_COUNT }
@@ -34,8 +34,8 @@ pub(crate) fn refusal_name(place: usize) -> &'static [u8]
     REFUSALS[place]
 }
 
-/// The place of the refusal that a reply tells, given without its line feed; None of a reply that tells none of
-/// `REFUSALS`. Most replies are told by their first byte.
+/// The index of the refusal that a reply reports, given without its line feed; None if it reports none of `REFUSALS`.
+/// The first byte of most replies decides.
 pub fn refusal_place(reply: &[u8]) -> Option<usize>
     ensures some { IfSome result (λ place. (place < REFUSAL_COUNT) × (reply.now ≡ refusal_text place)) }
     ensures none { IfNone result ((place : ℕ) → place < REFUSAL_COUNT → reply.now ≢ refusal_text place) }

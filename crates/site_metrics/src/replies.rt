@@ -6,14 +6,15 @@ ghost use Rattle.site_metrics.specs.Refusals.{one_where_refused, refused_lines};
 use crate::refusals::{REFUSAL_COUNT, refusal_place};
 use memchr::memchr;
 
-/// How many lines a text of replies has, and how many of them tell each refusal, by its place in `REFUSALS`.
+/// How many lines a text of replies has, and how many of them report each refusal, by its index in `REFUSALS`.
 #[derive(Clone, Copy)]
 pub struct ReplyCounts {
     pub lines: u64,
     pub refused: [u64; REFUSAL_COUNT],
 }
 
-/// Counts the lines of a text of replies, each of which ends with a line feed. Bytes behind the last line feed are no line.
+/// Counts the lines of a text of replies, each of which ends with a line feed. Bytes after the last line feed are not
+/// a line.
 pub fn count_replies(text: &[u8]) -> ReplyCounts
     ensures lines { result.lines ≡ length (pieces text.now) }
     ensures refused { (place : ℕ) → place < REFUSAL_COUNT → get_or result.refused place 0 ≡ refused_lines place (pieces text.now) }
@@ -29,7 +30,7 @@ pub fn count_replies(text: &[u8]) -> ReplyCounts
     ReplyCounts { lines, refused }
 }
 
-/// Counts the refusal that a reply tells, where it tells one.
+/// Counts the refusal that a reply reports, if it reports one.
 fn count_refusal(refused: &mut [u64; REFUSAL_COUNT], reply: &[u8])
     requires { (place : ℕ) → place < REFUSAL_COUNT → get_or refused.old place 0 + 1 < 2 ^ 64 }
     ensures { (place : ℕ) → place < REFUSAL_COUNT → get_or refused.new place 0 ≡ get_or refused.old place 0 + one_where_refused place reply.now }

@@ -1,5 +1,5 @@
-//! Putting one metric. Each line has its line feed before it, so that the last line of the text is left to
-//! `Replies::finish`. After an `Err` the reply at work has some part of it, and the whole replies are unchanged.
+//! Appending one metric. Each line has its line feed before it, so that the last line of the text is left to
+//! `Replies::finish`. On `Err` the current reply may have a part of it, and the whole replies are unchanged.
 ghost use Rattle.std.specs.Prelude.{◌≡◌, ℕ, List, ◌++◌, ◌∷◌, [], codes, drop, flat_map, length, ◌≤◌, ◌+◌, ◌*◌, OnOk, IsOk};
 ghost use Rattle.std.specs.List.{zip};
 ghost use Rattle.site_metrics.specs.Format.{help_line, type_line, sample_line, led_lines};
@@ -15,12 +15,12 @@ use line_streams::Replies;
 use rights_types::OutOfMemory;
 use std::alloc::Allocator;
 
-/// The bytes of a name and of a help text, at most.
+/// The longest name and the longest help text, in bytes.
 pub(crate) const MAX_NAME: usize = 40;
 
 pub(crate) const MAX_HELP: usize = 120;
 
-/// The bytes of the two lines that a metric begins with, and of the line of one value, at most, line feeds included.
+/// The most bytes of the two lines that a metric begins with, and of the line of one value, line feeds included.
 pub(crate) const HEAD_ROOM: usize = 226;
 
 pub(crate) const SAMPLE_ROOM: usize = 96;

@@ -13,14 +13,14 @@ use line_streams::Replies;
 use rights_types::OutOfMemory;
 use std::alloc::Allocator;
 
-/// The text has at most so many bytes, and so many more for each peer.
+/// The text has at most this many bytes, and as many again as the second constant for each peer.
 pub const SITE_ROOM: usize = 8192;
 
 pub const PEER_ROOM: usize = 1024;
 
-/// Appends the metrics of a site and of its peers, in the order given, as one of the whole replies: a text that Prometheus
-/// reads, of the content type `text/plain; version=0.0.4`. Each line of it ends with a line feed. Every name of a refusal
-/// has its count from the start, also where it is 0. An `Err` leaves the replies as they were.
+/// Appends the metrics of a site and of its peers, in the given order, as one of the whole replies: a text for
+/// Prometheus, of the content type `text/plain; version=0.0.4`, in which each line ends with a line feed. Every name
+/// of a refusal has its count from the start, even if it is 0. On `Err` the replies are as they were.
 pub fn put_metrics<A: Allocator>(
     metrics: &Metrics,
     peers: &[PeerMetrics],
@@ -39,7 +39,7 @@ pub fn put_metrics<A: Allocator>(
     Ok(())
 }
 
-/// The most bytes that the text of so many peers may have; None where no memory is so large.
+/// The most bytes that the text for this many peers can have; None if that exceeds all memory.
 fn room_of(peers: usize) -> Option<usize>
     ensures some { IfSome result (λ room. room ≡ SITE_ROOM + PEER_ROOM * peers) }
     ensures none { IfNone result (MAX_SITES < peers) }
@@ -302,7 +302,7 @@ fn put_lines<A: Allocator>(
     )
 }
 
-/// 1 where it is so, else 0.
+/// 1 if the value is true, else 0.
 fn bit(value: bool) -> u64
     ensures { result ≡ bit value }
 {

@@ -23,6 +23,6 @@ without : {V : Type 0} (bytes : V → List ℕ) (due : Option MessageValue) → 
 without bytes None h = refl
 without bytes (Some m) h = absurd h
 
--- no line, no message
+-- without a line there is no message
 pub no_message : {V : Type 0} (bytes : V → List ℕ) (due : Option MessageValue) (sent : Option V) → sent ≡ None → LineOf bytes due sent → due ≡ None
 no_message bytes due sent e h = without bytes due (subst (λ s. LineOf bytes due s) e h)

@@ -18,7 +18,7 @@ use Rattle.site_node.specs.Sending.{next_entry}
 abbrev pub cursor : KeptValue → ℕ → ℕ
 cursor k peer = at_site k.desk.ledger.log.cursors peer 0
 
--- one that is left is in the log
+-- an entry that is left is in the log
 within : (entries : List EntryValue) (i : ℕ) (message : MessageValue) → option_map (λ e. AnEntry e) (slice_get entries i) ≡ Some message → i < length entries
 within entries i message h =
     elim (slice_get_cases entries i).1 [
@@ -26,7 +26,7 @@ within entries i message h =
       | inr past ↦ let none : None ≡ Some message = sym (ap (λ (o : Option EntryValue). option_map (λ e. AnEntry e) o) past.1) ∙ h in absurd cc
     ]
 
--- since the start so many entries were published
+-- this many entries were published since the start
 pub record Published (entries : List EntryValue) (peer sent : ℕ) (k : KeptValue) : Type 0 where
   pub sixteen : length k.desk.ledger.log.cursors ≡ MAX_SITES
   pub same : k.desk.ledger.log.entries ≡ entries

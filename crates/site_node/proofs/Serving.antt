@@ -7,7 +7,7 @@ use Rattle.site_core.specs.declared.fault.DeskError.{DeskError}
 use Rattle.apply_lanes.specs.Kepts.{KeptValue, SeatValue}
 use Rattle.site_node.specs.Ticking.{ServesNext, ServesEach, HasServedAll, ServesNextIf, ServesAll, ServingFails}
 
--- what is served from here on was served from the start on, behind the requests so far
+-- what is served from here on was served from the start on, after the requests so far
 pub record FromStart (start : KeptValue) (was : SeatValue) (so_far : List Request) (k : KeptValue) (half : SeatValue) : Type 0 where
   pub follows : (others : List Request) (new : KeptValue) (told : SeatValue) → ServesEach k half others new told
       → ServesEach start was (so_far ++ others) new told
@@ -15,7 +15,7 @@ pub record FromStart (start : KeptValue) (was : SeatValue) (so_far : List Reques
 pub at_start : (start : KeptValue) (was : SeatValue) → FromStart start was [] start was
 at_start start was = record { follows = λ others new told h. h }
 
--- .. with one request more
+-- .. with one more request
 pub one_more : (start : KeptValue) (was : SeatValue) (so_far : List Request) (k : KeptValue) (half : SeatValue) (request : Request) (mid : KeptValue) (more : SeatValue)
     → FromStart start was so_far k half → ServesNext k half request mid more → FromStart start was (so_far ++ request ∷ []) mid more
 one_more start was so_far k half request mid more from next = record {

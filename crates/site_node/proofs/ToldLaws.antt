@@ -1,4 +1,4 @@
--- What a client was told is what its seat counts.
+-- What a client was told equals what its seat counts.
 use Rattle.std.proofs.Common.{◌≡◌, ℕ, ◌+◌, inl, inr, List, [], ◌∷◌, Result, Ok, Err, ap, arith}
 use Rattle.std.proofs.lemmas.List.Sums.{sum_by-cons}
 use Rattle.std.specs.List.{sum_by}
@@ -16,7 +16,7 @@ use Rattle.site_node.specs.Acting.{Acts}
 use Rattle.site_node.specs.Ticking.{ServesEach, Ticks}
 use Rattle.site_node.specs.Told.{Turn, ACommand, ATick, HasTurn, HasTurns, CountsTold, told_as_issued, told_as_spent, issued_in, spent_in}
 
--- the seat counts so many rights more as issued, and so many as spent
+-- the seat counts this many more rights as issued, and this many as spent
 record Counts (was : SeatValue) (issued spent : ℕ) (told : SeatValue) : Type 0 where
   issued_is : told.issued ≡ was.issued + issued
   spent_is : told.spent + told.served ≡ was.spent + was.served + spent

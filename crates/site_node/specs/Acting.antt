@@ -1,5 +1,5 @@
--- What a command does at the desk: from the desk and a seat to a reply, and to the desk and the seat behind it. The desk
--- is `old` and then `new`; the seat was `was` and then is `told` more.
+-- The effect of a command at the desk: from the desk and a seat to a reply, and to the desk and the seat afterwards.
+-- The desk is `old` and becomes `new`; the seat is `was` and becomes `told`.
 use Rattle.std.specs.Prelude.{◌≡◌, ℕ, true, [], ◌∷◌, Option, None}
 use Rattle.rights_types.specs.Chains.{end}
 use Rattle.rights_types.specs.declared.moves.Move.TheVariants.{Issue as Issues, Give as Gives}
@@ -19,7 +19,7 @@ use Rattle.site_node.specs.declared.reply.Reply.TheVariants.{Number, Spending as
 
 -- ---- what a command leaves that is not refused
 
--- an entry issued so many rights, and its number is told; the tally and the seat count them
+-- an entry issued this many rights, and its number is returned; the tally and the seat count them
 pub record HasIssued (old : KeptValue) (was : SeatValue) (amount number : ℕ) (new : KeptValue) (told : SeatValue) : Type 0 where
   pub entry : DeskWrites old.desk (Issues amount ∷ []) new.desk
   pub keeps : EntryKeeps old.desk.ledger (Issues amount ∷ []) new.desk.ledger
@@ -27,7 +27,7 @@ pub record HasIssued (old : KeptValue) (was : SeatValue) (amount number : ℕ) (
   pub tally : new ≡ record old { desk = new.desk; issued = raised old.issued amount }
   pub counted : told ≡ told_issued was amount
 
--- an entry gave so many rights to the peer, and its number is told
+-- an entry gave this many rights to the peer, and its number is returned
 pub record HasGiven (old : KeptValue) (was : SeatValue) (peer amount number : ℕ) (new : KeptValue) (told : SeatValue) : Type 0 where
   pub entry : DeskWrites old.desk (Gives peer amount ∷ []) new.desk
   pub keeps : EntryKeeps old.desk.ledger (Gives peer amount ∷ []) new.desk.ledger
@@ -35,20 +35,20 @@ pub record HasGiven (old : KeptValue) (was : SeatValue) (peer amount number : �
   pub rest : new ≡ record old { desk = new.desk }
   pub same_seat : told ≡ was
 
--- the spend was served or waits, as is told; the tally and the seat count what was spent
+-- the spend was served or waits, as the reply says; the tally and the seat count what was spent
 pub record HasSpent (old : KeptValue) (was : SeatValue) (amount deadline : ℕ) (spending : Spending) (new : KeptValue) (told : SeatValue) : Type 0 where
   pub desk : DeskSpends old.desk amount deadline spending new.desk
   pub keeps : SpendKeeps old.desk amount spending new.desk
   pub tally : new ≡ record old { desk = new.desk; spent = raised old.spent (spent_by amount spending) }
   pub counted : told ≡ told_spent was amount spending
 
--- what became of a spend is told, which frees its slot
+-- the state of a spend is returned; a final outcome frees its slot
 pub record HasTold (old : KeptValue) (was : SeatValue) (ticket : ℕ) (status : Status) (new : KeptValue) (told : SeatValue) : Type 0 where
   pub outcome : TellsOutcome old.desk.queue ticket status new.desk.queue
   pub rest : new ≡ record old { desk = record old.desk { queue = new.desk.queue } }
   pub same_seat : told ≡ was
 
--- the closing entry was written, and its number is told
+-- the closing entry was written, and its number is returned
 pub record HasClosed (old : KeptValue) (was : SeatValue) (heir : Option ℕ) (number : ℕ) (new : KeptValue) (told : SeatValue) : Type 0 where
   pub entry : DeskCloses old.desk heir new.desk
   pub keeps : ClosingKeeps old.desk.ledger heir new.desk.ledger
@@ -58,13 +58,13 @@ pub record HasClosed (old : KeptValue) (was : SeatValue) (heir : Option ℕ) (nu
 
 -- ---- a command
 
--- a refusal, by this fault or for want of memory, and nothing changed
+-- a refusal, for this cause or for lack of memory, and nothing changed
 pub record IsRefused (old : KeptValue) (was : SeatValue) (fault : Option DeskError) (Wants : Type 0) (cause : DeskError) (new : KeptValue) (told : SeatValue) : Type 0 where
   pub refuses : Refuses fault Wants cause
   pub same_desk : new ≡ old
   pub same_seat : told ≡ was
 
--- each command has replies of its own, and each of these says what it leaves; there are no others
+-- each command has only its own replies, and each of them determines its effect
 abbrev pub ActsIssue : KeptValue → SeatValue → ℕ → Reply → KeptValue → SeatValue → Type 0
 ActsIssue old was amount (Number n) new told = (issue_fault old.desk amount ≡ None) × HasIssued old was amount n new told
 ActsIssue old was amount (Refused cause) new told = IsRefused old was (issue_fault old.desk amount) Always cause new told
@@ -75,7 +75,7 @@ ActsGive old was peer amount (Number n) new told = (give_fault old.desk peer amo
 ActsGive old was peer amount (Refused cause) new told = IsRefused old was (give_fault old.desk peer amount) Always cause new told
 ActsGive old was peer amount reply new told = ⊥
 
--- a spend wants memory only where it is served at once
+-- a spend may run out of memory only if it is served at once
 abbrev pub ActsSpend : KeptValue → SeatValue → ℕ → ℕ → Reply → KeptValue → SeatValue → Type 0
 ActsSpend old was amount deadline (Spends spending) new told =
     (spend_fault old.desk amount ≡ None) × HasSpent old was amount deadline spending new told

@@ -9,7 +9,7 @@ use Rattle.site_core.specs.Desks.{DeskValue}
 use Rattle.site_core.specs.Calls.{next_push, after_publish, after_skip, beat_of}
 use Rattle.apply_lanes.specs.Kepts.{KeptValue}
 
--- the ask that is outstanding to that peer, as a message
+-- the outstanding ask to that peer, as a message
 abbrev pub due_ask : DeskValue → ℕ → Option MessageValue
 due_ask d peer = option_map (λ ask. AnAsk ask) (outstanding_ask d.manager peer)
 
@@ -17,26 +17,27 @@ due_ask d peer = option_map (λ ask. AnAsk ask) (outstanding_ask d.manager peer)
 abbrev pub next_entry : KeptValue → ℕ → Option MessageValue
 next_entry k peer = next_push k.desk.ledger.log peer
 
--- of one line, how many found room
+-- one if the line found space, else none
 abbrev pub count_of : Bool → ℕ
 count_of true = 1
 count_of false = 0
 
--- Of a sink with this relation: from the sink before, a line, and whether that found room, to the sink behind.
+-- For a sink with this relation: `takes before line fits after` says that it was offered this line, which found space
+-- if `fits`, and changed from `before` to `after`.
 module _ {S : Type 0} (takes : S → List ℕ → Bool → S → Type 0) where
-  -- this line was offered; so many lines found room, one or none
+  -- this line was offered; sent is 1 if it found space, else 0
   pub record OffersLine (line : List ℕ) (before : S) (sent : ℕ) (after : S) : Type 0 where
     pub room : Bool
     pub taken : takes before line room after
     pub counted : sent ≡ count_of room
 
-  -- the line of this message was
+  -- the line of this message was offered
   pub record Offers (message : MessageValue) (before : S) (sent : ℕ) (after : S) : Type 0 where
     pub line : List ℕ
     pub spells : Spells message line
     pub offered : OffersLine line before sent after
 
-  -- .. where there is a message
+  -- .. if there is a message
   abbrev pub OffersIf : Option MessageValue → S → ℕ → S → Type 0
   OffersIf None before sent after = (sent ≡ 0) × (after ≡ before)
   OffersIf (Some message) before sent after = Offers message before sent after
@@ -50,7 +51,7 @@ module _ {S : Type 0} (takes : S → List ℕ → Bool → S → Type 0) where
     pub offers : Offers message before sent after
     pub desk : new ≡ record old { desk = after_publish old.desk peer }
 
-  -- so many entries were, one after another, and the line of each found room
+  -- this many entries were, one after another, and the line of each found space
   abbrev pub SendsMany : KeptValue → ℕ → S → ℕ → KeptValue → S → Type 0
   SendsMany old peer before zero new after = (new ≡ old) × (after ≡ before)
   SendsMany old peer before (suc n) new after =
@@ -62,13 +63,13 @@ module _ {S : Type 0} (takes : S → List ℕ → Bool → S → Type 0) where
     pub same_desk : new ≡ old
     pub same_sink : after ≡ before
 
-  -- the line of the next one found no room, and all that are left count as published, with no line offered
+  -- the line of the next one found no space, and all that are left count as published, with no line offered
   pub record SkipsRest (old : KeptValue) (peer : ℕ) (before : S) (new : KeptValue) (after : S) : Type 0 where
     pub lost : KeptValue
     pub next : OffersNext old peer before 0 lost after
     pub skipped : new ≡ record lost { desk = after_skip lost.desk peer }
 
-  -- so many lines of entries found room; then none was left, or the next one found none
+  -- the lines of this many entries found space; then no entry was left, or the line of the next one found no space
   pub record OffersEntries (old : KeptValue) (peer : ℕ) (before : S) (sent : ℕ) (new : KeptValue) (after : S) : Type 0 where
     pub mid : KeptValue
     pub between : S
@@ -77,7 +78,7 @@ module _ {S : Type 0} (takes : S → List ℕ → Bool → S → Type 0) where
 
   -- ---- all that is due
 
-  -- first the entries were offered, then the ask, and then the beat; so many lines found room
+  -- the entries were offered first, then the ask, and then the beat; this many lines found space
   pub record OffersDue (old : KeptValue) (peer : ℕ) (before : S) (sent : ℕ) (new : KeptValue) (after : S) : Type 0 where
     pub sent_entries : ℕ
     pub with_entries : S
@@ -91,19 +92,19 @@ module _ {S : Type 0} (takes : S → List ℕ → Bool → S → Type 0) where
 
   -- ---- what was offered before memory was wanted that there was not: a front of what is due
 
-  -- some of the entries; the next one is not published
+  -- some of the entries were offered; the next one is not published
   pub record StopsAtEntry (old : KeptValue) (peer : ℕ) (before : S) (new : KeptValue) (after : S) : Type 0 where
     pub sent : ℕ
     pub many : SendsMany old peer before sent new after
     pub left : next_entry new peer ≢ None
 
-  -- the entries, and not the ask
+  -- the entries were offered, and not the ask
   pub record StopsAtAsk (old : KeptValue) (peer : ℕ) (before : S) (new : KeptValue) (after : S) : Type 0 where
     pub sent : ℕ
     pub entries : OffersEntries old peer before sent new after
     pub ask : due_ask new.desk peer ≢ None
 
-  -- the entries and the ask, and not the beat
+  -- the entries and the ask were offered, and not the beat
   pub record StopsAtBeat (old : KeptValue) (peer : ℕ) (before : S) (new : KeptValue) (after : S) : Type 0 where
     pub sent_entries : ℕ
     pub with_entries : S

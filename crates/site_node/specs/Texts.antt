@@ -12,7 +12,7 @@ reply_text (Spending spending) = spending_text spending
 reply_text (Outcome status) = status_text status
 reply_text (Refused cause) = error_text cause
 
--- what a tick did at the desk, and how many lines found room in outboxes
+-- what a tick did at the desk, and how many lines found space in outboxes
 abbrev pub ticked_text : Ticked → ℕ → List ℕ
 ticked_text ticked sent =
     codes "tick expired " ++ decimal ticked.expired

@@ -1,4 +1,4 @@
--- What a tick does at the desk, before anything is sent: it expires, serves and plans, in this order.
+-- The effect of a tick at the desk, before anything is sent: it expires, serves and plans, in this order.
 use Rattle.std.specs.Prelude.{◌≡◌, ℕ, ◌⊎◌, Bool, true, false, List, [], ◌∷◌, length, Some, Result, Ok, Err}
 use Rattle.request_queue.specs.declared.request.Request.{Request}
 use Rattle.request_queue.specs.Queues.{front_of}
@@ -30,34 +30,34 @@ ServesEach old was (request ∷ others) new told =
 abbrev pub HasServedAll : KeptValue → Type 0
 HasServedAll k = CannotServe k.desk (front_of k.desk.queue.waiting)
 
--- a serve answers whether one more was served; if not, nothing changed
+-- a serve returns whether one more request was served; if not, nothing changed
 abbrev pub ServesNextIf : Bool → KeptValue → SeatValue → KeptValue → SeatValue → Type 0
 ServesNextIf true old was new told = (request : Request) × ServesNext old was request new told
 ServesNextIf false old was new told = HasServedAll old × (new ≡ old) × (told ≡ was)
 
--- these were served, and then no other could be
+-- these requests were served, and then no other could be
 pub record ServesAll (old : KeptValue) (was : SeatValue) (served : List Request) (new : KeptValue) (told : SeatValue) : Type 0 where
   pub each : ServesEach old was served new told
   pub all : HasServedAll new
 
--- these were served, and then the next one, which could be, was refused
+-- these requests were served, and then the next one, which could be served, was refused
 pub record ServingFails (old : KeptValue) (was : SeatValue) (served : List Request) (fault : DeskError) (new : KeptValue) (told : SeatValue) : Type 0 where
   pub each : ServesEach old was served new told
   pub refuses : Refuses (serve_fault new.desk) (can_serve new.desk (front_of new.desk.queue.waiting) ≡ true) fault
 
 -- ---- a tick
 
--- so many were late at this time, and expired; the desk alone changed
+-- this many were late at this time, and expired; only the desk changed
 pub record ExpiresAll (old : KeptValue) (time count : ℕ) (new : KeptValue) : Type 0 where
   pub desk : DeskExpires old.desk time count new.desk
   pub rest : new ≡ record old { desk = new.desk }
 
--- so many asks were planned; the desk alone changed
+-- this many asks were planned; only the desk changed
 pub record PlansAsks (old : KeptValue) (count : ℕ) (new : KeptValue) : Type 0 where
   pub desk : DeskPlans old.desk count new.desk
   pub rest : new ≡ record old { desk = new.desk }
 
--- all that was late expired, then all that could be was served, and then asks were planned for what still waits
+-- everything late expired, then everything that could be was served, and then asks were planned for what still waits
 pub record HasTicked (old : KeptValue) (was : SeatValue) (time : ℕ) (served : List Request) (ticked : Ticked) (new : KeptValue) (told : SeatValue) : Type 0 where
   pub in_time : KeptValue
   pub left : KeptValue
@@ -73,14 +73,14 @@ pub record TimeRefused (old : KeptValue) (was : SeatValue) (time : ℕ) (served 
   pub same_desk : new ≡ old
   pub same_seat : told ≡ was
 
--- all that was late expired, and some were served before one was refused; nothing was planned
+-- everything late expired, and some requests were served before one was refused; nothing was planned
 pub record StopsServing (old : KeptValue) (was : SeatValue) (time : ℕ) (served : List Request) (fault : DeskError) (new : KeptValue) (told : SeatValue) : Type 0 where
   pub expired : ℕ
   pub in_time : KeptValue
   pub expires : ExpiresAll old time expired in_time
   pub fails : ServingFails in_time was served fault new told
 
--- from old and was, the tick at this time may serve these requests, answer this, and lead to new and told
+-- from old and was, the tick at this time may serve these requests, return this, and lead to new and told
 abbrev pub Ticks : KeptValue → SeatValue → ℕ → List Request → Result Ticked DeskError → KeptValue → SeatValue → Type 0
 Ticks old was time served (Ok ticked) new told = HasTicked old was time served ticked new told
 Ticks old was time served (Err fault) new told =

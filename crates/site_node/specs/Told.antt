@@ -1,4 +1,4 @@
--- What a client was told, over all that it said, and what its seat counts.
+-- What a client was told, over all its turns, and what its seat counts.
 use Rattle.std.specs.Prelude.{◌≡◌, ℕ, ◌+◌, List, [], ◌∷◌, sum_by, Result}
 use Rattle.request_queue.specs.declared.request.Request.{Request}
 use Rattle.request_queue.specs.Queues.{total_of}
@@ -13,12 +13,12 @@ use Rattle.site_node.specs.declared.tick.Ticked.{Ticked}
 use Rattle.site_node.specs.Acting.{Acts}
 use Rattle.site_node.specs.Ticking.{Ticks}
 
--- a turn of a client: a command and its reply, or a tick at a time, with the requests that it served and what is told of it
+-- a turn of a client: a command and its reply; or a tick at a time, with the requests that it served and the result
 pub data Turn : Type 0 where
   ACommand : DeskCommand → Reply → Turn
   ATick : ℕ → List Request → Result Ticked DeskError → Turn
 
--- the rights that were told as issued: those of an `issue` that was answered by a number
+-- the rights that the client was told as issued: those of an `issue` that was answered by a number
 abbrev pub told_as_issued : DeskCommand → Reply → ℕ
 told_as_issued (Issue amount) (Number number) = amount
 told_as_issued command reply = 0
@@ -27,7 +27,8 @@ abbrev pub issued_in : Turn → ℕ
 issued_in (ACommand command reply) = told_as_issued command reply
 issued_in (ATick time served ticked) = 0
 
--- the rights that were told as spent: those of a `spend` that was answered by `spent`, and of the requests that a tick served
+-- the rights that the client was told as spent: those of a `spend` that was answered by `spent`, and of the requests
+-- that a tick served
 abbrev pub told_as_spent : DeskCommand → Reply → ℕ
 told_as_spent (Spend amount deadline) (Spending (Spent number)) = amount
 told_as_spent command reply = 0
@@ -36,8 +37,8 @@ abbrev pub spent_in : Turn → ℕ
 spent_in (ACommand command reply) = told_as_spent command reply
 spent_in (ATick time served ticked) = total_of served
 
--- the turn leads from one value of the seat to another, whatever the desk is: other clients and peers change it between
--- any two turns
+-- the turn leads from one value of the seat to another, at any desk: other clients and peers change the desk between
+-- two turns
 abbrev pub HasTurn : SeatValue → Turn → SeatValue → Type 0
 HasTurn was (ACommand command reply) told = (old : KeptValue) × (new : KeptValue) × Acts old was command reply new told
 HasTurn was (ATick time served ticked) told =
@@ -48,7 +49,7 @@ abbrev pub HasTurns : SeatValue → List Turn → SeatValue → Type 0
 HasTurns was [] told = told ≡ was
 HasTurns was (turn ∷ turns) told = (half : SeatValue) × HasTurn was turn half × HasTurns half turns told
 
--- what the seat counts more is what the client was told
+-- what was added to the seat's count is what the client was told
 pub record CountsTold (was : SeatValue) (turns : List Turn) (told : SeatValue) : Type 0 where
   pub issued : told.issued ≡ was.issued + sum_by issued_in turns
   pub spent : told.spent + told.served ≡ was.spent + was.served + sum_by spent_in turns

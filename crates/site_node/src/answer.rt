@@ -1,4 +1,5 @@
-//! Replies to what was done. Room for them is reserved before it is done, so nothing is done whose reply finds no room.
+//! Replies. Memory for a reply is reserved before the command is carried out, so no command is carried out whose reply
+//! finds no memory.
 ghost use Rattle.std.specs.Prelude.{◌≡◌, ◌+◌, ◌≤◌, [], length};
 ghost use Rattle.line_streams.specs.Waiting.{AddsReply};
 ghost use Rattle.site_node.specs.Texts.{reply_text, tick_text};
@@ -11,7 +12,7 @@ use reply_texts::{REPLY_ROOM, put_error};
 use site_core::DeskError;
 use std::alloc::Allocator;
 
-/// Adds the reply to a command, for which room was reserved before the command was carried out.
+/// Appends the reply to a command. Its memory was reserved before the command was carried out.
 pub fn answer_reply<A: Allocator>(replies: &mut Replies<A>, reply: Reply)
     requires room { REPLY_ROOM ≤ replies.old.room }
     requires fresh { replies.old.part ≡ [] }
@@ -23,8 +24,8 @@ pub fn answer_reply<A: Allocator>(replies: &mut Replies<A>, reply: Reply)
     replies.finish().unwrap();
 }
 
-/// Adds the reply to a tick, for which room was reserved before the tick: what it did and how many lines found room, or
-/// why a part of it was refused.
+/// Appends the reply to a tick: what the tick did and how many lines found space, or why a part of it was refused. Its
+/// memory was reserved before the tick.
 pub fn answer_tick<A: Allocator>(replies: &mut Replies<A>, told: Result<(Ticked, u64), DeskError>)
     requires room { TICK_ROOM ≤ replies.old.room }
     requires fresh { replies.old.part ≡ [] }

@@ -1,4 +1,4 @@
-//! The commands that the desk carries out alone.
+//! The commands that are one call of the desk.
 ghost use Rattle.apply_lanes.specs.Kepts.{SeatValue};
 ghost use Rattle.site_node.specs.Acting.{Acts, ActsIssue, ActsGive, ActsSpend, ActsOutcome, ActsClose};
 
@@ -7,7 +7,7 @@ use apply_lanes::{DeskNames, Kept, Seat};
 use rights_types::SiteId;
 use site_words::DeskCommand;
 
-/// Carries out a command at the desk, for this seat, and answers the reply.
+/// Carries out a command at the desk, for this seat, and returns the reply.
 pub fn act<D: DeskNames>(kept: &mut Kept<D>, seat: &mut Seat<D>, command: DeskCommand) -> Reply
     ensures { Acts kept.old seat.old command result kept.new seat.new }
 {

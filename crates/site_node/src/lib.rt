@@ -1,9 +1,9 @@
 //! Every decision of a running site: the effect of a command at its desk and the reply, the effect of a tick and what
-//! it sends to each peer, and the answer to a peer's message. There is no thread, socket, clock or lock here: whoever
-//! holds the lock of the shared desk lends the value under it, a `Kept`, and a seat.
+//! it sends to each peer, and the answer to a peer's message. There is no thread, socket, clock or lock here: the
+//! holder of the shared desk's lock lends the value under it, a `Kept`, and a seat.
 //!
 //! **A client is told exactly what the desk did for it.** Each function has one relation in `specs/` for all its
-//! possible effects: the reply belongs to what happened at the desk, or nothing happened. What a client was told as
+//! possible effects: the reply matches what happened at the desk, or nothing happened. What a client was told as
 //! issued and as spent equals, to the last right, what its seat counts (`laws::told_is_counted`).
 #![tactic(auto)]
 

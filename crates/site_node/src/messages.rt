@@ -1,5 +1,5 @@
-//! What the messages of a peer lead to at the desk, and what is answered. Entries, answers and beats are not among them:
-//! they go to the peer's buffer.
+//! The effect of a peer's messages at the desk, and the answers. Entries, answers to queries and beats are not among
+//! them: they go to the peer's buffer.
 ghost use Rattle.std.specs.Prelude.{◌≡◌, ◌≤◌, false, None, OnOk, OnErr};
 ghost use Rattle.origin_log.specs.Faults.{query_fault};
 ghost use Rattle.site_core.specs.Calls.{is_ignored, answer_of};
@@ -10,7 +10,7 @@ use apply_lanes::{DeskNames, Kept};
 use origin_log::ReadError;
 use rights_types::{Ask, Deny, OutOfMemory, Query};
 
-/// Offers the line of the answer to a query; nothing where the query is refused.
+/// Offers the line of the answer to a query, to be sent; nothing if the query is refused.
 pub fn answer_query<D: DeskNames, S: Sink>(
     kept: &Kept<D>,
     query: &Query,
@@ -29,8 +29,8 @@ pub fn answer_query<D: DeskNames, S: Sink>(
     }
 }
 
-/// Answers an ask: by a grant, which is an entry of the log, or by the line of a denial. An ask that was granted before,
-/// or is older than the last one answered, gets neither.
+/// Answers an ask: by a grant, which is an entry of the log, or by the line of a denial. An ask that was granted
+/// before, or is older than the last one answered, gets neither.
 pub fn answer_ask<D: DeskNames, S: Sink>(
     kept: &mut Kept<D>,
     ask: &Ask,
@@ -41,7 +41,7 @@ pub fn answer_ask<D: DeskNames, S: Sink>(
     ensures ok { OnOk result (AnswersAsk S.takes kept.old ask.now sink.old kept.new sink.new) }
     ensures err { OnErr result ((is_ignored (answer_of kept.old.desk ask.now) ≡ false) × (kept.new ≡ kept.old) × (sink.new ≡ sink.old)) }
 {
-    // For the proof: the desk's site, and how many sites its system has.
+    // For the proof: the desk's site, and the number of sites in its system.
     let _ = kept.desk();
     let reply = kept.on_ask(ask)?;
     if let Some(line) = reply.line {
@@ -50,12 +50,12 @@ pub fn answer_ask<D: DeskNames, S: Sink>(
     Ok(())
 }
 
-/// Notes that a peer denied an ask. Only the ask that is outstanding to it ends.
+/// Notes that a peer denied an ask. Only the outstanding ask to that peer ends by this.
 pub fn note_denial<D: DeskNames>(kept: &mut Kept<D>, deny: &Deny)
     requires { deny.now.denier ≤ D.id.sites }
     ensures { NotesDenial kept.old deny.now kept.new }
 {
-    // For the proof: how many sites the desk's system has.
+    // For the proof: the number of sites in the desk's system.
     let _ = kept.desk();
     kept.on_deny(deny.denier(), deny.ask());
 }

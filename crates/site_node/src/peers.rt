@@ -5,22 +5,24 @@ ghost use Rattle.site_node.specs.ToPeers.{SendsToFirst, StopsAtPeer};
 
 use rights_types::{MAX_NUMBER, MAX_SITES, OutOfMemory};
 
-/// The peers of a site, in the order of their numbers, with what each call needs to reach one of them.
+/// The peers of a site, in the order of their numbers, with what a call needs to reach each of them.
 pub trait Peers {
-    /// How many there are, which stays so.
+    /// How many peers there are, which never changes.
     ghost size: { Self → ℕ };
 
-    /// From the peers before, the place of one in the order, and how many lines found room for it, to the peers behind.
+    /// `sends before index sent after`: the peer at this index was offered what is due to it, `sent` lines found
+    /// space, and the peers changed from `before` to `after`.
     ghost sends: { Self → ℕ → ℕ → Self → Type 0 };
 
-    /// From the peers before, the place of one in the order, to the peers behind, where memory was wanted that there was not.
+    /// `stops before index after`: memory ran out at the peer at this index, and the peers changed from `before` to
+    /// `after`.
     ghost stops: { Self → ℕ → Self → Type 0 };
 
     fn count(&self) -> usize
         ensures value { result ≡ size self.now }
         ensures few { result ≤ MAX_SITES };
 
-    /// Offers all that is due to the peer at this place, counted from 0, and answers how many lines found room.
+    /// Offers everything that is due to the peer at this index, from 0, and returns how many lines found space.
     fn send_due(&mut self, place: usize) -> Result<u64, OutOfMemory>
         requires { place < size self.old }
         ensures ok { IfOk result (λ sent. sends self.old place sent self.new) }
@@ -29,8 +31,8 @@ pub trait Peers {
         ensures same { size self.new ≡ size self.old };
 }
 
-/// Offers to each peer, one after another, all that is due to it, and answers how many lines found room. The first peer for
-/// which there is no memory ends it.
+/// Offers to each peer, one after another, everything that is due to it, and returns how many lines found space. Stops
+/// at the first peer for which memory runs out.
 pub fn send_to_all<P: Peers>(peers: &mut P) -> Result<u64, OutOfMemory>
     ensures ok { IfOk result (λ sent. SendsToFirst P.sends (P.size peers.old) peers.old sent peers.new) }
     ensures err { OnErr result (StopsAtPeer P.sends P.stops (P.size peers.old) peers.old peers.new) }

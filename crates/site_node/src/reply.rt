@@ -1,4 +1,4 @@
-//! What a site replies to a command that its desk carries out.
+//! The replies of a site to the commands that are one call of its desk.
 
 use request_queue::Status;
 use site_core::{DeskError, Spending};
@@ -8,9 +8,9 @@ use site_core::{DeskError, Spending};
 pub enum Reply {
     /// The number of the entry that was written.
     Number(u64),
-    /// What became of a spend.
+    /// The result of a spend.
     Spending(Spending),
-    /// What became of a spend that waited.
+    /// The state of a spend that waited.
     Outcome(Status),
     /// Why the command was refused. Nothing changed.
     Refused(DeskError),

@@ -1,4 +1,4 @@
-//! What a tick sends to a peer.
+//! What a tick sends to one peer.
 ghost use Rattle.std.specs.Prelude.{◌≡◌, ◌≢◌, ℕ, ◌+◌, ◌≤◌, Bool, List, None, IfOk, OnErr};
 ghost use Rattle.rights_types.specs.declared.limits.TheConstants.{MAX_NUMBER};
 ghost use Rattle.entry_codec.specs.Pieces.{IsLine};
@@ -8,21 +8,22 @@ ghost use Rattle.site_node.specs.Sending.{OffersLine, Offers, OffersIf, OffersEn
 use apply_lanes::{DeskNames, Kept};
 use rights_types::{MAX_NUMBER, OutOfMemory, SiteId};
 
-/// Where the lines for one peer go, as its outbox.
+/// A destination for the lines to one peer, such as its outbox.
 pub trait Sink {
-    /// From the sink before, a line, and whether the line found room, to the sink behind. An outbox whose lock hides
-    /// its lines has a relation that always holds: what is promised here is promised for every relation.
+    /// `takes before line fits after`: the sink was offered this line, which found space if `fits`, and changed from
+    /// `before` to `after`. An outbox, whose lock hides its lines, has a relation that always holds: the contracts
+    /// here hold for every relation.
     ghost takes: { Self → List ℕ → Bool → Self → Type 0 };
 
-    /// Offers a line. False where it found no room, and is lost.
+    /// Offers a line. False if it found no space, and is lost.
     fn offer(&mut self, line: Vec<u8>) -> bool
         requires { IsLine line.items }
         ensures { takes self.old line.items result self.new };
 }
 
-/// Offers all that is due to this peer: the line of each entry that was not published to it, of the ask that is
-/// outstanding to it, and of a beat. Answers how many lines found room. From the first entry that finds none on, entries
-/// count as published without a line, so this takes no longer than the lines that find room.
+/// Offers everything that is due to this peer: the line of each entry that was not published to it, of the outstanding
+/// ask to it, and of a beat. Returns how many lines found space. From the first entry that finds no space, entries
+/// count as published without a line, so this takes no longer than the lines that find space.
 pub fn send_due<D: DeskNames, S: Sink>(
     kept: &mut Kept<D>,
     peer: SiteId,
@@ -38,7 +39,7 @@ pub fn send_due<D: DeskNames, S: Sink>(
     Ok(entries + ask + beat)
 }
 
-/// Publishes the entries that were not published to the peer, and answers how many of their lines found room.
+/// Publishes the entries that were not published to the peer, and returns how many of their lines found space.
 fn send_entries<D: DeskNames, S: Sink>(
     kept: &mut Kept<D>,
     peer: SiteId,
@@ -48,7 +49,7 @@ fn send_entries<D: DeskNames, S: Sink>(
     ensures err { OnErr result (StopsAtEntry S.takes kept.old peer sink.old kept.new sink.new) }
     ensures range { IfOk result (λ sent. sent ≤ MAX_NUMBER) }
 {
-    // For the proof: how long the log is, and how many cursors it has.
+    // For the proof: the length of the log, and the number of its cursors.
     let _ = (kept.desk().log().len(), kept.desk().log().cursor(peer));
     let _ = peer.number();
     let mut sent = 0;
@@ -62,7 +63,7 @@ fn send_entries<D: DeskNames, S: Sink>(
     Ok(sent)
 }
 
-/// Offers the line of the ask that is outstanding, if one is.
+/// Offers the line of the outstanding ask, if there is one.
 fn send_ask<D: DeskNames, S: Sink>(
     kept: &Kept<D>,
     peer: SiteId,
@@ -91,7 +92,7 @@ fn send_beat<D: DeskNames, S: Sink>(
     Ok(offer(sink, line))
 }
 
-/// Offers a line. 1 where it found room, else 0.
+/// Offers a line. 1 if it found space, else 0.
 pub(crate) fn offer<S: Sink>(sink: &mut S, line: Vec<u8>) -> u64
     requires { IsLine line.items }
     ensures offered { OffersLine S.takes line.items sink.old result sink.new }

@@ -11,7 +11,7 @@ use rights_types::OutOfMemory;
 use site_core::{DeskError, Spending};
 use std::alloc::Allocator;
 
-/// No reply to a tick is longer, the line feed behind it included.
+/// The longest reply to a tick, with the line feed after it, in bytes.
 pub const TICK_ROOM: usize = 128;
 
 /// Appends the text of a reply to a command.
@@ -31,7 +31,7 @@ pub(crate) fn put_reply<A: Allocator>(
     }
 }
 
-/// Appends what a tick did, by which so many lines found room in outboxes.
+/// Appends what a tick did, and how many lines found space in outboxes.
 pub(crate) fn put_ticked<A: Allocator>(
     replies: &mut Replies<A>,
     ticked: Ticked,
@@ -52,7 +52,7 @@ fn digits_fit(number: u64)
     ensures { length (decimal number) ≤ MAX_DIGITS }
 {}
 
-/// For the proof: a reply to a command has room in what is reserved for it.
+/// For the proof: a reply to a command fits the memory that is reserved for it.
 pub(crate) fn reply_fits(reply: Reply)
     ensures { length (reply_text reply) < REPLY_ROOM }
 {
@@ -68,7 +68,7 @@ pub(crate) fn reply_fits(reply: Reply)
     }
 }
 
-/// For the proof: so has the reply to a tick.
+/// For the proof: so does the reply to a tick.
 pub(crate) fn tick_fits(told: Result<(Ticked, u64), DeskError>)
     ensures { length (tick_text told) < TICK_ROOM }
 {

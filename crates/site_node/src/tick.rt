@@ -1,4 +1,4 @@
-//! What a tick does at the desk, before anything is sent.
+//! The effect of a tick at the desk, before anything is sent.
 ghost use Rattle.std.specs.Prelude.{◌≡◌, List, [], length, IfOk, IfErr};
 ghost use Rattle.request_queue.specs.declared.request.Request.{Request};
 ghost use Rattle.request_queue.specs.declared.queue.TheConstants.{SLOTS};
@@ -15,13 +15,13 @@ pub struct Ticked {
     pub expired: u64,
     /// Waiting spends that were served.
     pub served: u64,
-    /// Peers that were asked for rights anew.
+    /// Peers that were newly asked for rights.
     pub asks: u64,
 }
 
-/// Expires the spends whose deadlines have passed, serves what waits as far as rights are held, and plans asks for the
-/// rest. A time that is refused does none of it. Where a serve is refused, what was served before stands, and nothing is
-/// planned.
+/// Expires the spends whose deadlines have passed, serves waiting spends as long as enough rights are held, and plans
+/// asks for the rest. If the time is refused, nothing is done. If a serve is refused, what was served before it
+/// remains, and nothing is planned.
 pub fn serve_due<D: DeskNames>(
     kept: &mut Kept<D>,
     seat: &mut Seat<D>,
@@ -39,12 +39,12 @@ pub fn serve_due<D: DeskNames>(
     })
 }
 
-/// Serves from the front until no request can be served, and answers how many were.
+/// Serves from the front until no request can be served, and returns how many were served.
 fn serve_all<D: DeskNames>(kept: &mut Kept<D>, seat: &mut Seat<D>) -> Result<u64, DeskError>
     ensures ok { IfOk result (λ count. (served : List Request) × ServesAll kept.old seat.old served kept.new seat.new × (count ≡ length served)) }
     ensures err { IfErr result (λ fault. (served : List Request) × ServingFails kept.old seat.old served fault kept.new seat.new) }
 {
-    // For the proof: no more than `SLOTS` requests wait.
+    // For the proof: at most `SLOTS` requests wait.
     let _ = kept.desk();
     let mut count = 0;
     'requests: while serve_next(kept, seat)? {
@@ -53,7 +53,7 @@ fn serve_all<D: DeskNames>(kept: &mut Kept<D>, seat: &mut Seat<D>) -> Result<u64
     Ok(count)
 }
 
-/// Serves the request at the front. False where none waits, or fewer rights are held than it is for.
+/// Serves the request at the front. False if none waits, or if fewer rights are held than it needs.
 fn serve_next<D: DeskNames>(kept: &mut Kept<D>, seat: &mut Seat<D>) -> Result<bool, DeskError>
     ensures ok { IfOk result (λ served. ServesNextIf served kept.old seat.old kept.new seat.new) }
     ensures err { IfErr result (λ fault. ServingFails kept.old seat.old [] fault kept.new seat.new) }

@@ -68,7 +68,7 @@ lacks c [] none i lt = absurd (omega arith)
 lacks c (x ∷ xs) none zero lt = let parts = or_parts (x == c) (has_byte c xs) none in grind (arith, nat_tests)
 lacks c (x ∷ xs) none (suc i) lt = lacks c xs (or_parts (x == c) (has_byte c xs) none).1 i (omega arith)
 
--- a text of which clap makes the flag `help` with no value
+-- a text in which clap sees the flag `help` with no value
 whole_name : (text : Text) (has : Bool) → has_byte 61 text ≡ has → is_long_help (Some (name_and_value text)) ≡ true → text ≡ codes "help"
 whole_name text true has asks =
     let bad : false ≡ true = rw has at asks in
@@ -108,7 +108,7 @@ long_help_is (x ∷ []) asks = go (x == 45) refl
         absurd (true≢false (sym bad))
 long_help_is (x ∷ y ∷ rest) asks = long_help_behind (x == 45) (y == 45) x y rest refl refl asks
 
--- `--help` is the one word that clap takes for the flag `help` with no value
+-- `--help` is the only word in which clap sees the flag `help` with no value
 long_help : (word : Text) → bytes_eq word (codes "--help") ≡ is_long_help (long_of word)
 long_help word = go (bytes_eq word (codes "--help")) (is_long_help (long_of word)) refl refl
   where
@@ -187,7 +187,7 @@ module _ (name : Text) (is_leaf required : Bool) (word : Text) where
   long_asks false long None e = rw e refl
   long_asks false long (Some v) e = rw e refl
 
-  -- a bundle whose first flag is read: it is the flag for help, or none that is known
+  -- a bundle whose first flag is read: it is the flag for help, or an unknown one
   first_flag_asks : (flag : ℕ) (is_h : Bool) (f : ℕ) (fs : List ℕ) → (104 == flag) ≡ is_h → slice_get (chars (f ∷ fs)) 0 ≡ Some flag
       → FaultsAs (help_or_nothing is_h) (short_turn here (Some (f ∷ fs)) word)
   unfolding flags_fault
@@ -205,7 +205,7 @@ module _ (name : Text) (is_leaf required : Bool) (word : Text) where
       by_first [] (Some flag) e = absurd (no_first flag e)
       by_first (f ∷ fs) (Some flag) e = rw e (first_flag_asks flag (104 == flag) f fs refl e)
 
-  -- a word that is no command and does not end the flags
+  -- a word that is not a command and does not end the flags
   abbrev turn : Option Text → Kinds
   turn subcommand = let met = subcommand_or_other rules subcommand idle 1 word nothing_held in
       or_else (other_fault here subcommand word nothing_held) (step_fault here 1 met.0 met.1)
@@ -252,7 +252,7 @@ behind_sim (word ∷ rest) = go (bytes_eq word (codes "--")) refl
 
 -- ---- all the words
 
--- what a level comes to behind its walk
+-- the result of a level after its walk
 abbrev behind_walk : Walk → Kinds → Kinds
 behind_walk w walked_kinds = let a = built app in
     or_else walked_kinds (or_else (entered_fault a w.stopped) (or_else (settle_fault rules false w.held)
@@ -417,7 +417,7 @@ simple = refl
 is_simple_too : is_simple app ≡ true
 is_simple_too = (and_parts (is_simple app) _ simple).0
 
--- what a parse that met this command tells of what was asked for
+-- what a parse that found this command says of what was asked for
 abbrev pub ParsedAs : Asked → Met → Type 0
 ParsedAs script met = option_map (λ m. m.0) met ≡ Some (codes "sim")
 ParsedAs (site kinds rows) met = (kinds ≡ []) × (met ≡ Some (codes "run", rows))
@@ -431,7 +431,7 @@ parsed_as version met kinds h none m = absurd h
 parsed_as nothing met [] h none m = h
 parsed_as nothing met (k ∷ ks) h none m = cc
 
--- a command that was parsed answers what was asked for
+-- the result for a parsed command is what was asked for
 pub parsed_answers : (a : Asked) (met : Met) (r : Result Command WordsFault) → ParsedAs a met → AnswersMet met r → MayAnswer a r
 parsed_answers script met r parsed h = subst (MayAnswer script) (sym (h.0 parsed)) refl
 parsed_answers (site kinds rows) met r parsed h = go r (h.1 rows parsed.1)

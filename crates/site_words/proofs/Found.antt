@@ -1,4 +1,4 @@
--- What clap's getters tell of the values that it found.
+-- What clap's getters say of the values that it found.
 use Rattle.std.proofs.Common.{◌≡◌, ◌≢◌, ◌∙◌, ◌<◌, ◌^◌, ℕ, Bool, true, false, List, Option, Some, None, Result, Ok, Err, refl, sym, subst, ap}
 use Rattle.std.specs.Prelude.{IfSome, MatchOption, MatchResult}
 use Rattle.std.specs.Option.{ok_or}
@@ -32,7 +32,7 @@ module _ {E : Type 0} (G : List ℕ → Result ℕ E → Type 0) (reads : (u : L
       some_same : {x y : Text} → Some x ≡ Some y → x ≡ y
       some_same e = cc
 
-  -- what `get_one` answers is the number that clap found, if it found one
+  -- the result of `get_one` is the number that clap found, if it found one
   number_found : (r : Option ℕ) → (one_text f option ≡ None → r ≡ None)
       → ((t : Text) → one_text f option ≡ Some t → ReadsOne G t r) → Finds r
   number_found r none value = go (one_text f option) refl
@@ -44,7 +44,7 @@ module _ {E : Type 0} (G : List ℕ → Result ℕ E → Type 0) (reads : (u : L
       go None is = subst Finds (sym (none is)) (λ n small has. differ (sym has.1 ∙ sym (one_text-rows f option) ∙ is))
       go (Some t) is = read_of t r is (value t is)
 
-  -- the same, where want of one refuses the words
+  -- the same, if lack of one refuses the words
   pub number_or_refused : (r : Option ℕ) → (one_text f option ≡ None → r ≡ None) → ((t : Text) → one_text f option ≡ Some t → ReadsOne G t r)
       → MatchResult (ok_or r Refused) (HasNumber (rows_of f) option)
       (λ fault. (fault ≡ Refused) × ((n : ℕ) → n < 2 ^ 64 → HasNumber (rows_of f) option n → ⊥))
@@ -55,7 +55,7 @@ module _ {E : Type 0} (G : List ℕ → Result ℕ E → Type 0) (reads : (u : L
       go (Some n) h = h
       go None h = (refl, h)
 
-  -- what `try_get_one` answers is the number that clap found, or that it found none
+  -- the result of `try_get_one` is the number that clap found, or none if it found none
   tried_text : (t : Text) (r : Result (Option ℕ) E) → one_text f option ≡ Some t → TriesOne G t r → MayFind f option r
   tried_text t (Ok (Some n)) is tries = read_of t (Some n) is tries
   tried_text t (Ok None) is tries = absurd tries
@@ -76,7 +76,7 @@ module _ {E : Type 0} (G : List ℕ → Result ℕ E → Type 0) (reads : (u : L
       go None is = subst (MayFind f option) (sym (none is)) (sym (one_text-rows f option) ∙ is)
       go (Some t) is = tried_text t r is (value t is)
 
--- the same of a flag
+-- the same for a flag
 abbrev FindsFlag : Found → Text → Option Bool → Type 0
 FindsFlag f flag r = MatchOption r ((set : Bool) → HasFlag (rows_of f) flag set → ⊥) (HasFlag (rows_of f) flag)
 

@@ -1,4 +1,4 @@
--- What clap's builders make of an argument.
+-- The arguments that clap's builders make.
 use Rattle.std.proofs.Common.{◌≡◌, ℕ, ℤ, Bool, subst, refl, Option, Some, None}
 use Rattle.std.specs.Prelude.{pos}
 use Rattle.std.specs.Option.{IsSomeAnd}

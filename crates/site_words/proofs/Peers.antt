@@ -10,7 +10,7 @@ use Rattle.std.proofs.lemmas.List.Elements.{All-push, Contains-push}
 use Rattle.clap.specs.Walk.{Text, texts}
 use Rattle.site_words.specs.Settings.{HasValues, IsNamed, IsSettings, Lacks, Options, Peer, Settings, others, peer_word}
 
--- `=` is no digit
+-- `=` is not a digit
 no_break : (n : ℕ) → n < 2 ^ 64 → (i : ℕ) → i < length (decimal n) → get_or (decimal n) i 0 ≢ 61
 no_break n fits i lt e =
     let lacks = decimal_lacks 61 n (inr (omega arith, omega arith)) fits i 0 lt in
@@ -81,7 +81,7 @@ up_to i k lt = go (k == i) refl
     go true e = inr (eqb-true k i e)
     go false e = let apart = eqb-false k i e in inl (omega (arith, lt, apart))
 
--- one word more names no peer of this site
+-- one more word names no peer of this site
 pub one_more : (words : List (Bor Text)) (i site : ℕ) (d : Bor Text) → i < length words
     → ((p : Peer) (k : ℕ) → p.site ≡ site → k < i → slice_index_or (texts words) k (peer_word p) ≢ peer_word p)
     → ((address : Text) → (slice_index_or words i d).now ≢ peer_word (record { site = site; address = address }))
@@ -96,7 +96,7 @@ one_more words i site d within before here p k same lt named = elim (up_to i k l
 no_peer : Peer
 no_peer = record { site = 0; address = [] }
 
--- where no word names one of the others, no settings have these values
+-- if no word names one of the others, no settings have these values
 pub lacking : (id sites : ℕ) (listen : Text) (words : List Text) (options : Options) → Lacks id sites words
     → (s : Settings) → IsSettings s → HasValues id sites listen words options s → ⊥
 lacking id sites listen words options lacks s valid has =

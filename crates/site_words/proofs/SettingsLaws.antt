@@ -8,7 +8,7 @@ use Rattle.site_words.specs.Words.{IsSetBy}
 use Rattle.site_words.specs.declared.words.WordsFault.{WordsFault}
 use Rattle.site_words.specs.declared.words.WordsFault.TheVariants.{OutOfMemory, Refused}
 
--- a refusal is right where no settings fit
+-- a refusal is right if no settings fit
 pub refused_by : (Fits : Settings → Type 0) (fault : WordsFault) → (fault ≡ Refused → (s : Settings) → IsSettings s → Fits s → ⊥)
     → IsSetBy Fits (Err fault)
 refused_by Fits Refused none = none refl

@@ -1,4 +1,4 @@
--- The text of the status object, which has whole numbers and truth values alone.
+-- The text of the status object, which has only whole numbers and truth values.
 use Rattle.std.proofs.Common.{◌≡◌, ◌∙◌, ℕ, List, [], ◌∷◌, map, false, refl, ap}
 use Rattle.serde_json.specs.Data.{Data}
 use Rattle.serde_json.specs.View.{items_of}

@@ -10,8 +10,8 @@ use Rattle.site_words.specs.CommandLine.{app}
 
 pub data Asked : Type 0 where
   script : Asked
-  -- the words begin with `run`: the kinds of error that clap gives for them, and else the values that
-  -- it finds
+  -- the words begin with `run`: the kinds of error that clap reports for them; if there is none, the values that it
+  -- finds
   site : Kinds → List Row → Asked
   help : Asked
   version : Asked
@@ -21,12 +21,12 @@ pub data Asked : Type 0 where
 abbrev pub first_flag : Text → Option ℕ
 first_flag word = option_and_then (λ flags. slice_get (chars flags) 0) (short_of word)
 
--- `--help`, or `-h` (104) with any flags behind it
+-- `--help`, or `-h` (104) with any flags after it
 abbrev pub asks_for_help : Text → Bool
 asks_for_help word =
     bytes_eq word (codes "--help") || option_map_or (λ flag. 104 == flag) (first_flag word) false
 
--- what the words behind `sim` ask for: they are none, or the one word `--`
+-- what the words after `sim` ask for: there are none, or only the word `--`
 abbrev pub asked_behind_dashes : List Text → Asked
 asked_behind_dashes [] = script
 asked_behind_dashes (word ∷ rest) = nothing

@@ -1,4 +1,4 @@
--- The commands of the program, as clap's definitions see them.
+-- The commands of the program, by the definitions of clap's contracts.
 use Rattle.std.specs.Prelude.{ℕ, true, false, Some, [], ◌∷◌, codes}
 use Rattle.clap.specs.Lexer.{usize_max}
 use Rattle.clap.specs.Simple.{App, Shape, new_rule, new_shape}
@@ -8,19 +8,19 @@ use Rattle.clap.specs.declared.builder.value_parser.ValueParser.TheVariants.{Uns
 use Rattle.rights_types.specs.declared.limits.TheConstants.{MAX_SITES, MIN_SITES}
 use Rattle.site_words.specs.declared.config.TheConstants.{MAX_TICK, MIN_TICK}
 
--- an option that takes one value, and may be left out
+-- an optional option with one value
 abbrev pub value_rule : Text → Rule
 value_rule name = record (new_rule name) { long = Some name; value_names = 1 }
 
--- one that is required
+-- a required option with one value
 abbrev pub option_rule : Text → Rule
 option_rule name = record (value_rule name) { required = true }
 
--- one that takes a whole number in a range
+-- a required option with a whole number in a range
 abbrev pub number_rule : Text → ℕ → ℕ → Rule
 number_rule name least most = record (option_rule name) { parser = Some (Unsigned least most) }
 
--- how often the site ticks itself: a whole number of milliseconds
+-- the interval at which the site ticks itself: a whole number of milliseconds
 abbrev pub tick_rule : Rule
 tick_rule = record (value_rule (codes "tick")) { parser = Some (Unsigned MIN_TICK MAX_TICK) }
 
@@ -28,7 +28,7 @@ tick_rule = record (value_rule (codes "tick")) { parser = Some (Unsigned MIN_TIC
 abbrev pub flag_rule : Text → Rule
 flag_rule name = record (new_rule name) { long = Some name; action = Some SetTrue }
 
--- the peers: one at least
+-- the peers: at least one
 abbrev pub peer_rule : Rule
 peer_rule = record (new_rule (codes "peer")) {
   range = Some (record { start_inclusive = 1; end_inclusive = usize_max });
@@ -36,13 +36,13 @@ peer_rule = record (new_rule (codes "peer")) {
   required = true;
 }
 
--- `run` with its two numbers alone
+-- `run` with only its two numbers
 abbrev pub run_numbers_shape : Shape
 run_numbers_shape = record (new_shape (codes "run")) {
   rules = number_rule (codes "id") 1 MAX_SITES ∷ number_rule (codes "sites") MIN_SITES MAX_SITES ∷ [];
 }
 
--- .. and with all that it requires
+-- .. and with everything that it requires
 abbrev pub required_shape : Shape
 required_shape = record (new_shape (codes "run")) {
   rules = number_rule (codes "id") 1 MAX_SITES ∷ number_rule (codes "sites") MIN_SITES MAX_SITES
@@ -56,8 +56,7 @@ run_shape = record (new_shape (codes "run")) {
       ∷ value_rule (codes "http") ∷ tick_rule ∷ value_rule (codes "once") ∷ flag_rule (codes "log") ∷ [];
 }
 
--- the program's name is not among the words, one of its commands is required, and `help` is no
--- command
+-- the program's name is not among the words, one of its commands is required, and `help` is not a command
 abbrev pub app : App
 app = record {
   top = record (new_shape (codes "rights-site")) {

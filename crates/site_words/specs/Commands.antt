@@ -1,4 +1,4 @@
--- The command of a site that a line spells, by the line's words.
+-- The command of a site that a line spells, by the words of the line.
 use Rattle.std.specs.Prelude.{ℕ, List, [], ◌∷◌, Option, Some, None, codes}
 use Rattle.entry_codec.specs.Moves.{◌>>=◌}
 use Rattle.line_streams.specs.Words.{words_of, named, alone, first_number, only_number, optional_site, site_and_number}
@@ -8,7 +8,7 @@ use Rattle.site_words.specs.declared.commands.DeskCommand.TheVariants.{Issue, Gi
 use Rattle.site_words.specs.declared.commands.SiteCommand.{SiteCommand}
 use Rattle.site_words.specs.declared.commands.SiteCommand.TheVariants.{AtDesk, Tick, Status, Quit}
 
--- a command by the words behind its name
+-- a command by the words after its name
 
 -- the amount
 abbrev pub issue_in : List (List ℕ) → Option SiteCommand
@@ -33,7 +33,7 @@ outcome_in words = only_number words >>= (λ ticket. Some (AtDesk (Outcome ticke
 abbrev pub close_in : List (List ℕ) → Option SiteCommand
 close_in words = optional_site words >>= (λ heir. Some (AtDesk (Close heir)))
 
--- a command by its name, and the words behind that
+-- a command by its name, and the words after the name
 abbrev pub command_by : Name → List (List ℕ) → Option SiteCommand
 command_by AnIssue words = issue_in words
 command_by AGive words = give_in words

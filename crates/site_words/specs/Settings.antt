@@ -1,4 +1,4 @@
--- What one site is told when it starts, and which words tell it.
+-- The configuration of one site, and the words that give it.
 use Rattle.std.specs.Prelude.{◌≡◌, ◌≤◌, ◌+◌, ◌==◌, ◌++◌, ℕ, zero, suc, Bool, true, false, List, [], ◌∷◌, Option, Some, None, IfSome, Contains, codes, length, map, decimal, if◌then◌else◌}
 use Rattle.std.specs.List.{All}
 use Rattle.std.specs.Str.Parse.{IsNumeral, digits_value, without_leading_plus}
@@ -7,13 +7,13 @@ use Rattle.rights_types.specs.Ranges.{IsSite}
 use Rattle.rights_types.specs.declared.limits.TheConstants.{MAX_SITES, MIN_SITES}
 use Rattle.site_words.specs.declared.config.TheConstants.{MAX_TICK, MIN_TICK}
 
--- where a peer listens
+-- the address at which a peer listens
 pub record Peer : Type 0 where
   pub site : ℕ
   pub address : Text
 
--- what may be left out: where the site serves HTTP, every how many milliseconds it ticks itself, the file that it
--- creates at its start, and whether it writes lines on links and clients
+-- the optional settings: the address for HTTP, the interval in milliseconds at which the site ticks itself, the file
+-- that it creates at its start, and whether it logs events on links and clients
 pub record Options : Type 0 where
   pub http : Option Text
   pub tick : Option ℕ
@@ -27,16 +27,16 @@ pub record Settings : Type 0 where
   pub peers : List Peer
   pub options : Options
 
--- a site ticks itself no oftener than every millisecond, and no more seldom than every minute
+-- the range of the interval at which a site ticks itself: from a millisecond to a minute
 abbrev pub IsTick : ℕ → Type 0
 IsTick milliseconds = (MIN_TICK ≤ milliseconds) × (milliseconds ≤ MAX_TICK)
 
--- the sites from 1 to n but this one, in order
+-- the sites from 1 to n except this one, in order
 abbrev pub others : ℕ → ℕ → List ℕ
 others id zero = []
 others id (suc n) = if suc n == id then others id n else others id n ++ suc n ∷ []
 
--- the peers are the other sites, each once, and a site that ticks itself does so in the limits
+-- the peers are the other sites, each once, and the site's own ticks are within the limits
 pub record IsSettings (s : Settings) : Type 0 where
   pub least : MIN_SITES ≤ s.sites
   pub most : s.sites ≤ MAX_SITES
@@ -53,12 +53,12 @@ peer_word p = decimal p.site ++ 61 ∷ p.address
 abbrev pub IsNamed : List Text → Peer → Type 0
 IsNamed words p = Contains words (peer_word p)
 
--- each peer is named by a word, and there are no more words than peers
+-- each peer is named by a word, and there are as many words as peers
 pub record Names (words : List Text) (s : Settings) : Type 0 where
   pub each : All (IsNamed words) s.peers
   pub count : length words + 1 ≡ s.sites
 
--- the settings have these values, and the peers that the words name
+-- the settings have these values, and the peers are those that the words name
 pub record HasValues (id sites : ℕ) (listen : Text) (words : List Text) (options : Options) (s : Settings) : Type 0 where
   pub same_id : s.id ≡ id
   pub same_sites : s.sites ≡ sites
@@ -66,7 +66,7 @@ pub record HasValues (id sites : ℕ) (listen : Text) (words : List Text) (optio
   pub same_options : s.options ≡ options
   pub names : Names words s
 
--- no word names one of the other sites
+-- one of the other sites is not named by any word
 abbrev pub Lacks : ℕ → ℕ → List Text → Type 0
 Lacks id sites words = (site : ℕ) × Contains (others id sites) site
     × ((address : Text) → IsNamed words (record { site = site; address = address }) → ⊥)
@@ -76,7 +76,7 @@ abbrev pub HasNumber : List Row → Text → ℕ → Type 0
 HasNumber rows option n = (text : Text) × (one_of option rows ≡ Some text)
     × IsNumeral 10 (without_leading_plus text) × (n ≡ digits_value 10 (without_leading_plus text))
 
--- .. or that it found none
+-- .. or found that it is missing
 abbrev pub MayHaveNumber : List Row → Text → Option ℕ → Type 0
 MayHaveNumber rows option None = one_of option rows ≡ None
 MayHaveNumber rows option (Some n) = HasNumber rows option n
@@ -85,11 +85,11 @@ abbrev pub flag_text : Bool → Text
 flag_text true = codes "true"
 flag_text false = codes "false"
 
--- whether clap found a flag to be set: it tells that by a word
+-- whether clap found a flag: its contract gives that as a word
 abbrev pub HasFlag : List Row → Text → Bool → Type 0
 HasFlag rows flag set = one_of flag rows ≡ Some (flag_text set)
 
--- each option that may be left out is as clap found it
+-- each optional setting is as clap found it
 pub record AreFound (rows : List Row) (o : Options) : Type 0 where
   pub http : first_of (codes "http") rows ≡ o.http
   pub tick : MayHaveNumber rows (codes "tick") o.tick

@@ -1,4 +1,4 @@
--- What `read_words` answers.
+-- The results of `read_words`.
 use Rattle.std.specs.Prelude.{◌≡◌, ◌⊎◌, ⊤, Bool, true, false, List, [], Option, Some, Result, Ok, Err, codes, option_map}
 use Rattle.clap.specs.Kinds.{IsAmong}
 use Rattle.clap.specs.Walk.{Row, Text}
@@ -11,13 +11,13 @@ use Rattle.site_words.specs.declared.words.Command.TheVariants.{Sim, Run, Help, 
 use Rattle.site_words.specs.declared.words.WordsFault.{WordsFault}
 use Rattle.site_words.specs.declared.words.WordsFault.TheVariants.{OutOfMemory, Refused}
 
--- settings that are asked for, or none where none fit; memory may run out
+-- settings that satisfy this, or a refusal if there are none; or memory ran out
 abbrev pub IsSetBy : (Settings → Type 0) → Result Settings WordsFault → Type 0
 IsSetBy Fits (Ok s) = IsSettings s × Fits s
 IsSetBy Fits (Err Refused) = (s : Settings) → IsSettings s → Fits s → ⊥
 IsSetBy Fits (Err OutOfMemory) = ⊤
 
--- neither a call for help nor want of memory
+-- neither a request for help nor lack of memory
 abbrev pub is_refusal : ErrorKind → Bool
 is_refusal kind.DisplayHelp = false
 is_refusal kind.OutOfMemory = false
@@ -32,25 +32,25 @@ WantsHelp help = ⊤
 WantsHelp (site kinds rows) = IsAmong kind.DisplayHelp kinds
 WantsHelp asked = ⊥
 
--- clap refuses the words, or what it finds is no site's
+-- clap refuses the words, or the values that it finds are not a configuration
 abbrev pub MayRefuse : Asked → Type 0
 MayRefuse nothing = ⊤
 MayRefuse (site kinds rows) = ((k : ErrorKind) × IsAmong k kinds × (is_refusal k ≡ true))
     ⊎ ((kinds ≡ []) × IsSetBy (IsFound rows) (Err Refused))
 MayRefuse asked = ⊥
 
--- what is answered where clap found these values behind `run`
+-- the result if clap found these values after `run`
 abbrev pub RunsBy : List Row → Result Command WordsFault → Type 0
 RunsBy rows (Ok (Run config)) = IsSetBy (IsFound rows) (Ok config)
 RunsBy rows (Ok command) = ⊥
 RunsBy rows (Err fault) = IsSetBy (IsFound rows) (Err fault)
 
--- what is answered where clap met a command: its name, and the values behind it
+-- the result if clap found a command: its name, and the values after it
 abbrev pub AnswersMet : Option (Text × List Row) → Result Command WordsFault → Type 0
 AnswersMet met r = (option_map (λ m. m.0) met ≡ Some (codes "sim") → r ≡ Ok Sim)
     × ((rows : List Row) → met ≡ Some (codes "run", rows) → RunsBy rows r)
 
--- the answer is what was asked for, and memory may run out at any words
+-- the result is what was asked for, and for any words memory may run out
 abbrev pub MayAnswer : Asked → Result Command WordsFault → Type 0
 MayAnswer asked (Ok Sim) = asked ≡ script
 MayAnswer asked (Ok (Run config)) = RunsSite asked config

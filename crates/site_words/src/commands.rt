@@ -1,4 +1,4 @@
-//! The commands of a site that runs.
+//! The commands of a running site.
 ghost use Rattle.std.specs.Prelude.{◌≡◌};
 ghost use Rattle.line_streams.specs.Words.{words_left};
 ghost use Rattle.site_words.specs.Commands.{issue_in, give_in, spend_in, outcome_in, close_in, command_by, name_of, command_of};
@@ -8,31 +8,31 @@ use line_streams::{
 };
 use rights_types::SiteId;
 
-/// A command that the desk carries out alone, in one call.
+/// A command that is one call of the desk.
 #[derive(Clone, Copy)]
 pub enum DeskCommand {
-    /// To create rights.
+    /// Create this many rights.
     Issue(u64),
-    /// To give rights to a peer.
+    /// Give a peer this many rights.
     Give(SiteId, u64),
-    /// To spend rights, at once or before a deadline.
+    /// Spend this many rights, at once or by this deadline.
     Spend(u64, u64),
-    /// To tell what became of a spend that waits.
+    /// Report the outcome of the spend with this ticket.
     Outcome(u64),
-    /// To close the site, and to leave what it holds to an heir.
+    /// Close the site, and leave what it holds to an heir, if one is named.
     Close(Option<SiteId>),
 }
 
-/// What a line asks of a site.
+/// The command of a line.
 #[derive(Clone, Copy)]
 pub enum SiteCommand {
-    /// What the desk carries out alone.
+    /// A command that is one call of the desk.
     AtDesk(DeskCommand),
-    /// To do at this time all that is due: expire, serve, plan, and send to the peers.
+    /// Do everything that is due at this time: expire, serve, plan, and send to the peers.
     Tick(u64),
-    /// To tell how the site and its links are.
+    /// Report the state of the site and of its links.
     Status,
-    /// To end the program.
+    /// End the program.
     Quit,
 }
 
@@ -97,7 +97,7 @@ fn read_close(words: Option<&[u8]>) -> Option<SiteCommand>
     Some(SiteCommand::AtDesk(DeskCommand::Close(heir)))
 }
 
-/// The command of this name, by the words behind it.
+/// The command with this name, given the words after it.
 fn command_by(name: Name, words: Option<&[u8]>) -> Option<SiteCommand>
     ensures { result ≡ command_by name (words_left words.entry) }
 {
@@ -120,8 +120,8 @@ fn name_of(text: &[u8]) -> Option<Name>
     named(&NAMES, text)
 }
 
-/// The command that a line spells, given without its line feed. Words are parted by one space each, and
-/// numbers are decimals with no sign and no leading zero.
+/// The command that a line spells, given without its line feed; None if it spells none. Words are separated by single
+/// spaces, and numbers are decimals with no sign and no leading zero.
 pub fn read_command(line: &[u8]) -> Option<SiteCommand>
     ensures { result ≡ command_of line.now }
 {

@@ -1,4 +1,4 @@
-//! What a site is told when it starts: its number, how many sites there are, and where they listen.
+//! The configuration of a site: its number, the number of sites, the addresses, and the options.
 ghost use Rattle.std.specs.Prelude.{◌≡◌, ◌≤◌, ℕ, List, IfOk, IfSome, MatchOption, MatchResult, map, option_map, false, true};
 ghost use Rattle.std.specs.List.{All};
 ghost use Rattle.std.specs.String.{string_bytes};
@@ -15,13 +15,13 @@ use rights_types::{MAX_SITES, MIN_SITES, SiteId};
 use std::alloc::{AllocError, Global};
 use std::marker::Model;
 
-/// A site ticks itself at most every so many milliseconds.
+/// The shortest interval at which a site ticks itself, in milliseconds.
 pub const MIN_TICK: u64 = 1;
 
-/// A site that ticks itself does so at least every so many milliseconds.
+/// The longest interval at which a site ticks itself, in milliseconds.
 pub const MAX_TICK: u64 = 60_000;
 
-/// Where a peer listens.
+/// The address at which a peer listens.
 #[derive(Drop)]
 pub struct PeerAddress {
     site: SiteId,
@@ -45,7 +45,7 @@ impl PeerAddress {
         self.site
     }
 
-    /// The address as the words gave it. It may be empty, or none that can be connected to.
+    /// The address, as the words have it. It may be empty or unusable.
     pub fn address(&self) -> &str
         ensures { result.now ≡ self.now.address }
     {
@@ -53,7 +53,7 @@ impl PeerAddress {
     }
 }
 
-/// The values of the options that may be left out.
+/// The values of the optional settings.
 #[derive(Drop)]
 pub(crate) struct OptionValues<'a> {
     pub(crate) http: Option<&'a str>,
@@ -76,7 +76,7 @@ impl<'a> Model for OptionValues<'a> {
     } };
 }
 
-/// What one site is told when it starts.
+/// The configuration of one site.
 #[derive(Drop)]
 pub struct Config {
     id: SiteId,
@@ -132,7 +132,7 @@ impl Config {
         self.id
     }
 
-    /// How many sites there are.
+    /// How many sites the system has, from 2 to 16.
     pub fn sites(&self) -> u64
         ensures value { result ≡ self.now.sites }
         ensures valid { IsSettings self.now }
@@ -140,7 +140,7 @@ impl Config {
         self.sites
     }
 
-    /// The address that it listens on, as the words gave it.
+    /// The address that it listens on, as the words have it.
     pub fn listen(&self) -> &str
         ensures value { result.now ≡ self.now.listen }
         ensures valid { IsSettings self.now }
@@ -148,7 +148,7 @@ impl Config {
         self.listen.as_str()
     }
 
-    /// The other sites by number, each once.
+    /// The other sites, by number, each once.
     pub fn peers(&self) -> &[PeerAddress]
         ensures value { result.now ≡ self.now.peers }
         ensures valid { IsSettings self.now }
@@ -156,7 +156,7 @@ impl Config {
         self.peers.as_slice()
     }
 
-    /// The address at which it also serves HTTP, as the words gave it.
+    /// The address at which it also serves HTTP, as the words have it; None if it does not.
     pub fn http(&self) -> Option<&str>
         ensures value { option_map (λ s. s.now) result ≡ self.now.options.http }
         ensures valid { IsSettings self.now }
@@ -164,7 +164,7 @@ impl Config {
         self.http.as_deref()
     }
 
-    /// Every how many milliseconds it ticks itself, from `MIN_TICK` to `MAX_TICK`, if it does.
+    /// The interval at which it ticks itself, in milliseconds, from `MIN_TICK` to `MAX_TICK`; None if it does not.
     pub fn tick(&self) -> Option<u64>
         ensures value { result ≡ self.now.options.tick }
         ensures valid { IsSettings self.now }
@@ -172,7 +172,8 @@ impl Config {
         self.tick
     }
 
-    /// The path of the file that it creates at its start, as the words gave it. A site does not start where that exists.
+    /// The path of the file that it creates at its start, as the words have it. A site does not start if that file
+    /// exists.
     pub fn once(&self) -> Option<&str>
         ensures value { option_map (λ s. s.now) result ≡ self.now.options.once }
         ensures valid { IsSettings self.now }
@@ -180,7 +181,7 @@ impl Config {
         self.once.as_deref()
     }
 
-    /// Whether it writes what happens to links and clients to standard error.
+    /// Whether it logs events on links and clients to standard error.
     pub fn log(&self) -> bool
         ensures value { result ≡ self.now.options.log }
         ensures valid { IsSettings self.now }
@@ -188,8 +189,8 @@ impl Config {
         self.log
     }
 
-    /// The configuration of these values, where each of the `words` names a peer. `Refused` where they
-    /// leave the limits, or the peers are not exactly the other sites.
+    /// The configuration with these values, where each of the `words` names a peer. `Refused` if a value is out of
+    /// range, or if the peers are not exactly the other sites.
     pub(crate) fn of_words(
         alloc: Global,
         id: u64,
@@ -222,7 +223,7 @@ impl Config {
     }
 }
 
-/// Whether a site may tick itself so often. It need not tick itself.
+/// Whether a site may tick itself at this interval, or not at all.
 fn is_tick(tick: Option<u64>) -> bool
     ensures yes { result ≡ true → IfSome tick IsTick }
     ensures no { result ≡ false → IfSome tick IsTick → ⊥ }
@@ -243,7 +244,7 @@ fn owned(alloc: Global, text: Option<&str>) -> Result<Option<String>, AllocError
     }
 }
 
-/// The sites but this one, each as the first word that names it says.
+/// The other sites, each with the address in the first word that names it.
 fn other_peers(
     alloc: Global,
     id: u64,
@@ -270,7 +271,7 @@ fn other_peers(
     Ok(peers)
 }
 
-/// The address of the first word that names this site.
+/// The address in the first word that names this site.
 fn address_among<'a>(words: &[&'a str], site: u64) -> Option<&'a str>
     requires { IsSite site }
     ensures { MatchOption result
@@ -285,7 +286,7 @@ fn address_among<'a>(words: &[&'a str], site: u64) -> Option<&'a str>
     None
 }
 
-/// The address of a word `J=ADDRESS`, if J is this site.
+/// The address in a word `J=ADDRESS`, if J is this site.
 fn address_of(word: &str, site: u64) -> Option<&str>
     ensures { MatchOption result
         ((address : Text) → word.now ≡ peer_word (record { site = site; address = address }) → ⊥)

@@ -1,4 +1,4 @@
-//! Why a site that runs stops.
+//! Why a running site stops.
 ghost use Rattle.std.specs.Prelude.{◌≡◌};
 
 use line_streams::{LineFault, WriteFault};
@@ -6,7 +6,7 @@ use rights_types::OutOfMemory as NoMemory;
 use std::alloc::{AllocError, AllocFailed};
 use thiserror::Error;
 
-/// Why a site that runs stops.
+/// Why a running site stops.
 #[derive(Clone, Copy, Debug, PartialEq, Eq, Error)]
 pub enum SiteFault {
     /// The file that a site creates at its start exists: a site of this number was started before.
@@ -15,7 +15,7 @@ pub enum SiteFault {
     /// The file that a site creates at its start cannot be created.
     #[error("cannot create the start file")]
     CannotCreateStartFile,
-    /// An address, that of the site or that for HTTP, is none that can be listened on.
+    /// An address, of the site or for HTTP, cannot be listened on.
     #[error("cannot listen")]
     CannotListen,
     /// Reading the commands failed.
@@ -24,10 +24,10 @@ pub enum SiteFault {
     /// Writing the replies failed.
     #[error("write failed")]
     WriteFailed,
-    /// A request for memory was refused.
+    /// A memory request was refused.
     #[error("out of memory")]
     OutOfMemory,
-    /// The commands are more lines than may be read.
+    /// The commands have more lines than the limit.
     #[error("too many lines")]
     TooManyLines,
 }

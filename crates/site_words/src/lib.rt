@@ -1,5 +1,5 @@
-//! The command line of a site as a process, the commands that its input lines spell, its status object, and the reasons
-//! for which it stops.
+//! The command line of a site as a process, the commands that its input lines spell, its status object, and the
+//! reasons for which it stops.
 #![tactic(auto)]
 
 mod commands;

@@ -1,4 +1,4 @@
-//! The status of a site as an object of JSON.
+//! The status of a site as a JSON object.
 ghost use Rattle.std.specs.Prelude.{◌≡◌, IfOk, OnOk, map};
 ghost use Rattle.serde_json.specs.Data.{array, put as with_member};
 ghost use Rattle.serde_json.specs.View.{items_of, members_view, view};
@@ -10,15 +10,15 @@ use serde_json::{Map, Value, json, put};
 use std::alloc::Global;
 use thread_parts::DeskView;
 
-/// What a site knows of one peer.
+/// What a site reports about one peer.
 #[derive(Clone, Copy, Debug, PartialEq, Eq)]
 pub struct PeerView {
     pub site: SiteId,
-    /// The number up to which the peer's log is applied here.
+    /// The own number of the last entry of the peer's log that was applied here; 0 if there is none.
     pub applied: u64,
-    /// Whether the peer's buffer waits for an entry that is missing.
+    /// Whether entries of the peer are known to be missing.
     pub buffering: bool,
-    /// The entries that wait in the peer's buffer.
+    /// How many entries of the peer are held until those arrive, at most 64.
     pub held: usize,
 }
 
@@ -45,7 +45,7 @@ fn peer_list(alloc: Global, peers: &[PeerView]) -> Result<Value, OutOfMemory>
     Ok(Value::Array(list))
 }
 
-/// Adds a number to an object.
+/// Adds a member with a number to an object.
 fn put_number(
     members: &mut Map<String, Value>,
     alloc: Global,
@@ -57,7 +57,7 @@ fn put_number(
     Ok(put(members, alloc, key, Value::from(number))?)
 }
 
-/// The members that tell the rights of a site.
+/// The members with the rights of a site.
 fn rights(alloc: Global, desk: &DeskView) -> Result<Map<String, Value>, OutOfMemory>
     ensures { IfOk result (λ members. members_view members.entries ≡ rights_data desk.now) }
 {
@@ -70,7 +70,8 @@ fn rights(alloc: Global, desk: &DeskView) -> Result<Map<String, Value>, OutOfMem
     Ok(members)
 }
 
-/// The status of a site, with its peers in the order given. Its text has the keys in the order of the alphabet.
+/// The status object of a site, with its peers in the given order. Its keys are in alphabetical order. `OutOfMemory`
+/// if memory for it is refused.
 pub fn status(alloc: Global, desk: &DeskView, peers: &[PeerView]) -> Result<Value, OutOfMemory>
     ensures { IfOk result (λ value. view value ≡ status_data desk.now peers.now) }
 {
@@ -82,7 +83,7 @@ pub fn status(alloc: Global, desk: &DeskView, peers: &[PeerView]) -> Result<Valu
     Ok(Value::Object(members))
 }
 
-/// The text of the status object, on one line and with no space in it.
+/// The text of the status object: one line, with no space in it. `OutOfMemory` if memory for it is refused.
 pub fn status_text(
     alloc: Global,
     desk: &DeskView,

@@ -1,4 +1,4 @@
-//! The command line, which the crate `clap` reads.
+//! The command line, parsed by the crate `clap`.
 ghost use Rattle.std.specs.Prelude.{◌≡◌, ◌<◌, ◌^◌, ℕ, Option, Bool, [], ◌∷◌, codes, false, true, IfOk, IfSome, MatchResult};
 ghost use Rattle.clap.specs.Matches.{found_of};
 ghost use Rattle.clap.specs.Simple.{app_of, new_shape, shape_of, subcommand_rows_of};
@@ -18,16 +18,16 @@ use clap::{Arg, ArgAction, ArgMatches, Command as Parser, value_parser};
 use std::alloc::{AllocError, AllocFailed, Global};
 use std::marker::Model;
 
-/// What the program is asked to do.
+/// What the words ask the program to do.
 #[derive(Drop)]
 pub enum Command {
-    /// To run the script on its standard input.
+    /// Run the script on its standard input.
     Sim,
-    /// To run one site.
+    /// Run one site with this configuration.
     Run(Config),
-    /// To print this text.
+    /// Print this help text.
     Help(HelpText),
-    /// To print the version.
+    /// Print the version.
     Version,
 }
 
@@ -53,12 +53,12 @@ impl HelpText {
     }
 }
 
-/// Why words are no command.
+/// Why words are refused.
 #[derive(Clone, Copy, Debug, PartialEq, Eq)]
 pub enum WordsFault {
-    /// The words name no command, or leave something over.
+    /// The words are not a command, or do not give a configuration.
     Refused,
-    /// A request for memory was refused.
+    /// A memory request was refused.
     OutOfMemory,
 }
 
@@ -82,11 +82,11 @@ impl<T: Drop> From<AllocFailed<T>> for WordsFault {
     }
 }
 
-/// What stands below the options in the help text of the program.
+/// The text below the options in the help text of the program.
 const USE: &str = "\
 `rights-site --version` prints the version. `rights-site run --help` has an example.";
 
-/// What stands below the options in the help text of `run`.
+/// The text below the options in the help text of `run`.
 const RUN_USE: &str = "\
 Commands, one a line on standard input, and their replies:
   issue N      creates N rights             number E   (E: its entry in the log)
@@ -102,7 +102,7 @@ Example, one site of two, which ticks by itself and also serves HTTP:
   rights-site run --id 1 --sites 2 --listen 127.0.0.1:7001 --http 127.0.0.1:8001 \\
       --tick 100 --once site-1.started 2=127.0.0.1:7002";
 
-/// An option that takes one value, and may be left out.
+/// An optional option with one value.
 fn optional<'a>(alloc: Global, name: &'a str, value: &'a str, help: &'a str) -> Arg<'a>
     ensures rule { rule_of result ≡ value_rule name.entry.now }
     ensures local { result.global ≡ false }
@@ -113,7 +113,7 @@ fn optional<'a>(alloc: Global, name: &'a str, value: &'a str, help: &'a str) -> 
         .help(help)
 }
 
-/// An option that is required and takes one value.
+/// A required option with one value.
 fn option<'a>(alloc: Global, name: &'a str, value: &'a str, help: &'a str) -> Arg<'a>
     ensures rule { rule_of result ≡ option_rule name.entry.now }
     ensures local { result.global ≡ false }
@@ -121,7 +121,7 @@ fn option<'a>(alloc: Global, name: &'a str, value: &'a str, help: &'a str) -> Ar
     optional(alloc, name, value, help).required(true)
 }
 
-/// The option that tells the site's number.
+/// The option with the site's number.
 fn id_option<'a>(alloc: Global) -> Arg<'a>
     ensures rule { rule_of result ≡ number_rule (codes "id") 1 MAX_SITES }
     ensures local { result.global ≡ false }
@@ -131,7 +131,7 @@ fn id_option<'a>(alloc: Global) -> Arg<'a>
     ).range(1..=16))
 }
 
-/// The option that tells how many sites there are.
+/// The option with the number of sites.
 fn sites_option<'a>(alloc: Global) -> Arg<'a>
     ensures rule { rule_of result ≡ number_rule (codes "sites") MIN_SITES MAX_SITES }
     ensures local { result.global ≡ false }
@@ -141,7 +141,7 @@ fn sites_option<'a>(alloc: Global) -> Arg<'a>
     ).range(2..=16))
 }
 
-/// The option that tells how often the site ticks itself.
+/// The option with the interval at which the site ticks itself.
 fn tick_option<'a>(alloc: Global) -> Arg<'a>
     ensures rule { rule_of result ≡ tick_rule }
     ensures local { result.global ≡ false }
@@ -156,7 +156,7 @@ fn tick_option<'a>(alloc: Global) -> Arg<'a>
     .value_parser(milliseconds)
 }
 
-/// The option that asks for lines on links and clients.
+/// The flag that turns on the log.
 fn log_flag<'a>(alloc: Global) -> Arg<'a>
     ensures rule { rule_of result ≡ flag_rule (codes "log") }
     ensures local { result.global ≡ false }
@@ -167,7 +167,7 @@ fn log_flag<'a>(alloc: Global) -> Arg<'a>
         .help("Reports links and clients on standard error")
 }
 
-/// The argument that tells the peers.
+/// The argument that lists the peers.
 fn peers_argument<'a>(alloc: Global) -> Arg<'a>
     ensures rule { rule_of result ≡ peer_rule }
     ensures local { result.global ≡ false }
@@ -179,7 +179,7 @@ fn peers_argument<'a>(alloc: Global) -> Arg<'a>
         .help("Each other site, as J=ADDRESS: its number, and where it listens")
 }
 
-/// The command that runs one site, so far without its addresses.
+/// The command that runs one site: only its numbers so far, not yet its addresses.
 fn run_numbers_parser<'a>(alloc: Global) -> Result<Parser<'a>, AllocError>
     ensures { IfOk result (λ parser. (app_of parser ≡ record { top = run_numbers_shape; subs = [] })
         × ((out-Command parser).has_globals ≡ false)) }
@@ -191,7 +191,7 @@ fn run_numbers_parser<'a>(alloc: Global) -> Result<Parser<'a>, AllocError>
         .arg(sites_option(alloc))
 }
 
-/// The command that runs one site, so far with what it requires alone.
+/// The command that runs one site: only its required options so far.
 fn required_parser<'a>(alloc: Global) -> Result<Parser<'a>, AllocError>
     ensures { IfOk result (λ parser. (app_of parser ≡ record { top = required_shape; subs = [] })
         × ((out-Command parser).has_globals ≡ false)) }
@@ -246,14 +246,14 @@ fn bare_parser<'a>(alloc: Global) -> Result<Parser<'a>, AllocError>
     )
 }
 
-/// The program with its command for scripts alone.
+/// The program with only the command for scripts.
 fn script_parser<'a>(alloc: Global) -> Result<Parser<'a>, AllocError>
     ensures { IfOk result (λ parser. app_of parser ≡ record app { subs = new_shape (codes "sim") ∷ [] }) }
 {
     bare_parser(alloc)?.subcommand(sim_parser(alloc))
 }
 
-/// The commands of the program, as `clap` is told of them.
+/// The program with all its commands, as `clap` sees them.
 fn parser<'a>(alloc: Global) -> Result<Parser<'a>, AllocError>
     ensures { IfOk result (λ parser. app_of parser ≡ app) }
 {
@@ -261,7 +261,7 @@ fn parser<'a>(alloc: Global) -> Result<Parser<'a>, AllocError>
     script_parser(alloc)?.subcommand(run)
 }
 
-/// The number that `clap` found for an option. No clause of `clap` says that there is one.
+/// The number that `clap` found for an option. No clause of `clap` says that it found one.
 fn number_of(matches: &ArgMatches<'_>, option: &str) -> Result<u64, WordsFault>
     ensures { MatchResult result (HasNumber (rows_of (found_of matches.now)) option.now)
         (λ fault. (fault ≡ WordsFault.Refused)
@@ -270,7 +270,7 @@ fn number_of(matches: &ArgMatches<'_>, option: &str) -> Result<u64, WordsFault>
     matches.get_one(option).ok_or(WordsFault::Refused)
 }
 
-/// The number that `clap` found for an option that may be left out.
+/// The number that `clap` found for an optional option.
 fn optional_number_of(matches: &ArgMatches<'_>, option: &str) -> Result<Option<u64>, WordsFault>
     ensures { MatchResult result (MayHaveNumber (rows_of (found_of matches.now)) option.now)
         (λ fault. (fault ≡ WordsFault.Refused)
@@ -282,7 +282,7 @@ fn optional_number_of(matches: &ArgMatches<'_>, option: &str) -> Result<Option<u
     }
 }
 
-/// What `clap` found for a flag. No clause of `clap` says that it is one of the two words.
+/// The value that `clap` found for a flag. No clause of `clap` says that it is one of the two words.
 fn flag_of(matches: &ArgMatches<'_>, flag: &str) -> Result<bool, WordsFault>
     ensures { MatchResult result (HasFlag (rows_of (found_of matches.now)) flag.now)
         (λ fault. (fault ≡ WordsFault.Refused)
@@ -291,7 +291,7 @@ fn flag_of(matches: &ArgMatches<'_>, flag: &str) -> Result<bool, WordsFault>
     matches.get_one(flag).ok_or(WordsFault::Refused)
 }
 
-/// The values of the options of `run` that may be left out.
+/// The values of the optional settings of `run`.
 fn options_of<'a>(matches: &ArgMatches<'a>) -> Result<OptionValues<'a>, WordsFault>
     ensures { MatchResult result (AreFound (rows_of (found_of matches.now)))
         (λ fault. (fault ≡ WordsFault.Refused)
@@ -319,7 +319,7 @@ fn config_of(alloc: Global, matches: &ArgMatches<'_>) -> Result<Config, WordsFau
     Config::of_words(alloc, id, sites, listen, peers, options)
 }
 
-/// The command that `clap` met.
+/// The command that `clap` found.
 fn command_of(alloc: Global, matches: &ArgMatches<'_>) -> Result<Command, WordsFault>
     ensures { AnswersMet (subcommand_rows_of matches.now) result }
 {
@@ -339,7 +339,7 @@ fn asks_for_version(words: &[&str]) -> bool
     }
 }
 
-/// What `clap` reads the words as.
+/// The result of parsing the words with `clap`.
 fn read_by_clap(alloc: Global, words: &[&str]) -> Result<Command, WordsFault>
     ensures { MayAnswer (asked_of_clap (texts words.now)) result }
 {
@@ -359,10 +359,10 @@ fn read_by_clap(alloc: Global, words: &[&str]) -> Result<Command, WordsFault>
     }
 }
 
-/// Reads the program's words, without its name. `sim` takes no further word, but as everywhere in
-/// `clap` one `--` may end its flags. `run` is refused where `clap` refuses its words, and where what
-/// it finds in them is no site's configuration. Which answer comes is decided by the words, and `OutOfMemory`
-/// may come in place of each but the version. Of the help text, which `clap` makes, no contract speaks.
+/// Parses the program's words, without its name. `sim` takes no further word, except that one `--` may end its flags,
+/// as everywhere in `clap`. `run` is refused if `clap` refuses its words, or if the values that it finds are not a
+/// configuration. The words determine the result, but `OutOfMemory` may come instead of any result except the version.
+/// The help text is made by `clap`, and no contract says what it is.
 pub fn read_words(alloc: Global, words: &[&str]) -> Result<Command, WordsFault>
     ensures { MayAnswer (asked_by (texts words.now)) result }
 {

@@ -1,4 +1,4 @@
--- What an arrival leaves.
+-- The effect of an arrival.
 use Rattle.std.proofs.Common.{◌≡◌, ◌+◌, ◌≤◌, List, [], ◌∷◌, ◌++◌, ◌*◌, ◌<◌, ◌⊎◌, inl, inr, length, Some, None, refl, sym, ap, ◌∙◌, subst, arith, ℕ}
 use Rattle.std.proofs.lemmas.List.{append-nil, append_assoc, length-append}
 use Rattle.std.proofs.lemmas.Bool.{cases_lt}
@@ -94,7 +94,7 @@ arrives old mid new e v freed ok is of settled table may h = record {
 
 -- ---- entries of an answer
 
--- room for the verdicts on n more entries, where so many are held, behind len verdicts
+-- space for the verdicts on n more entries, if this many are held, after len verdicts
 abbrev pub IsRoomFor : ℕ → ℕ → ℕ → ℕ → Type 0
 IsRoomFor n held len places = (n ≡ 0) ⊎ (len + held + 2 * n ≤ places + 1) ⊎ ((2 ≤ n) × (len + 62 + 2 * n ≤ places))
 

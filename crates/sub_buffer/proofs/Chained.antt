@@ -1,4 +1,4 @@
--- Laws of a log and the front of it that was delivered.
+-- Laws of a log and the prefix of it that was delivered.
 use Rattle.std.proofs.Common.{◌≡◌, ℕ, ◌<◌, ◌≤◌, Bool, true, false, List, [], ◌∷◌, ◌++◌, inl, inr, arith, refl, sym, ap, ◌∙◌, subst}
 use Rattle.std.specs.List.{All, Contains}
 use Rattle.std.proofs.lemmas.Bool.{cases_lt}
@@ -8,7 +8,7 @@ use Rattle.rights_types.specs.Entries.{EntryValue, own, closes}
 use Rattle.rights_types.specs.Chains.{end, is_closed, ChainFrom, IsChain, IsPrefix, IsLongest, HeadNotIn}
 use Rattle.rights_types.proofs.Chains.{not_in_nil, contains_cases, prefix_chain, chain_right, prev_above, before_end, not_before, next_entry}
 
--- two entries of a chain that begin alike are one
+-- two entries of a chain that begin at the same number are equal
 pub same_entry : (o : ℕ) (b : Bool) (n : ℕ) (es : List EntryValue) (e f : EntryValue) → ChainFrom o b n es → Contains es e → Contains es f → e.prev ≡ f.prev → e ≡ f
 same_entry o b n [] e f c h k q = absurd (not_in_nil e h)
 same_entry o b n (x ∷ xs) e f c h k q =
@@ -24,7 +24,7 @@ same_entry o b n (x ∷ xs) e f c h k q =
       ]
     ]
 
--- an entry of the log that begins before the end of a front is in it, and else it is not
+-- an entry of the log that begins before the end of a prefix is in it; any other is not
 pub in_front : (o : ℕ) (es put : List EntryValue) (e : EntryValue) → IsChain o es → IsPrefix put es → Contains es e → e.prev < end put → Contains put e
 in_front o es put e c (rest, whole) h lt =
     before_end o put rest e (subst (IsChain o) (sym whole) c) (subst (λ ys. Contains ys e) (sym whole) h) lt
@@ -36,11 +36,11 @@ pub beyond_front : (o : ℕ) (es put : List EntryValue) (e : EntryValue) → IsC
 beyond_front o es put e c p h out =
     elim (cases_lt e.prev (end put)) [ inl lt ↦ absurd (out (in_front o es put e c p h lt)) | inr le ↦ le ]
 
--- the rest of the log behind a front
+-- the rest of the log after a prefix
 rest_chain : (o : ℕ) (es put rest : List EntryValue) → IsChain o es → put ++ rest ≡ es → ChainFrom o (is_closed put) (end put) rest
 rest_chain o es put rest c whole = chain_right o false 0 put rest (subst (IsChain o) (sym whole) c)
 
--- an entry of the log that begins at the end of a front is the next one
+-- an entry of the log that begins at the end of a prefix is the next one
 next_is : (o : ℕ) (es put rest : List EntryValue) (e : EntryValue) → IsChain o es → put ++ rest ≡ es → Contains es e → e.prev ≡ end put → (more : List EntryValue) × (e ∷ more ≡ rest)
 next_is o es put rest e c whole h at =
     let among : Contains (put ++ rest) e = subst (λ ys. Contains ys e) (sym whole) h in
@@ -54,7 +54,7 @@ longer o es put e c (rest, whole) h at =
     let next : (more : List EntryValue) × (e ∷ more ≡ rest) = next_is o es put rest e c whole h at in
     (next.0, append_assoc put (e ∷ []) next.0 ∙ ap (λ ys. put ++ ys) next.1 ∙ whole)
 
--- nothing comes after a closed front
+-- nothing comes after a closed prefix
 pub closed_whole : (o : ℕ) (es put : List EntryValue) (e : EntryValue) → IsChain o es → IsPrefix put es → is_closed put ≡ true → Contains es e → end put ≤ e.prev → ⊥
 closed_whole o es put e c (rest, whole) closed h le =
     let among : Contains (put ++ rest) e = subst (λ ys. Contains ys e) (sym whole) h in
@@ -77,7 +77,7 @@ longest_stops o es set put e c long h came at = stops long.rest long.no_longer (
     stops [] none (more, is) = absurd cc
     stops (x ∷ xs) none (more, is) = let same : e ≡ x = cc in none (subst (Contains set) same came)
 
--- a prefix of entries of the set is the longest one where no entry of the set is the next one
+-- a prefix of entries in the set is the longest one if no entry of the set is next
 pub is_longest : (o : ℕ) (es set put : List EntryValue) → IsChain o es → IsPrefix put es → All (Contains set) put
     → ((x : EntryValue) → Contains es x → Contains set x → x.prev ≡ end put → ⊥) → IsLongest set es put
 is_longest o es set put c (rest, whole) came none = record { rest = rest; whole = whole; inside = came; no_longer = stops rest whole }

@@ -45,7 +45,7 @@ keeps_pop b hs ok rest =
       of_origin = All-drop (λ x. x.origin ≡ b.origin) 1 b.held ok.of_origin;
     })
 
--- where the first held entry is not the next one, none is
+-- if the first held entry is not the next one, none is
 pub not_first : (n : ℕ) (es : List EntryValue) (e : EntryValue) → InOrder es → All (λ x. n ≤ x.prev) es → e ≡ get_or es 0 e → e.prev ≢ n → HasPrev n es → ⊥
 not_first n es e order later is other (x, i, at) =
     let some : 0 < length es = omega (arith, i.1) in
@@ -57,7 +57,7 @@ not_first n es e order later is other (x, i, at) =
 pub is_ahead : (b : BufferValue) (e : EntryValue) (k : ℕ) → b.last < e.prev → b.closed ≡ false → IsPlace e.prev b.held k → IsAhead b e
 is_ahead b e k later unclosed place = record { later = later; unclosed = unclosed; new = place_none e.prev b.held k place }
 
--- where nothing is at the front, nothing is held
+-- if there is no first held entry, none is held
 pub none_held : (es : List EntryValue) (len : ℕ) → len ≡ length es → (0 < len → false ≡ true) → length es ≡ 0
 none_held es len is none = elim (cases_lt 0 (length es)) [
   | inl some ↦ absurd (let wrong : false ≡ true = none (omega (arith, is, some)) in cc)
@@ -76,7 +76,7 @@ can_ask b n ok more within = record {
   differ = ok.differ;
 }
 
--- the first held entry begins at a number that was told of
+-- the first held entry begins at a number that was seen
 pub first_told : (b : BufferValue) (e : EntryValue) → IsBuffer b → 0 < length b.held → e ≡ get_or b.held 0 e → e.prev ≤ b.told
 first_told b e ok some is = let heard : own e ≤ b.told = subst (λ (y : EntryValue). own y ≤ b.told) (sym is) (ok.heard 0 e some) in omega arith
 

@@ -94,14 +94,14 @@ follows_beat b n es set put f = beat b.closed
     beat true = f
     beat false = follows_told es set put b n f
 
--- an entry that reached the buffer and was not put is held
+-- an entry that reached the buffer and was not delivered is held
 must_hold : (es set put : List EntryValue) (b : BufferValue) (e : EntryValue) → Follows es set put b → Contains set e → end put ≤ e.prev → Contains b.held e
 must_hold es set put b e f i le = (f.held e).1 (i, not_in_front b.origin es put e f.log f.begins le)
 
 of_log : (es set put : List EntryValue) (b : BufferValue) (e : EntryValue) → Follows es set put b → Contains set e → Contains es e
 of_log es set put b e f i = All-contains (Contains es) set e f.of_log i
 
--- entries of the log behind a front that ends in e
+-- entries of the log after a prefix that ends in e
 past : (o : ℕ) (es put : List EntryValue) (e g : EntryValue) → IsChain o es → IsPrefix (put ++ e ∷ []) es → Contains es g → (Contains (put ++ e ∷ []) g → ⊥) → own e ≤ g.prev
 past o es put e g c begins i out =
     let le : end (put ++ e ∷ []) ≤ g.prev = beyond_front o es (put ++ e ∷ []) g c begins i out in
@@ -151,7 +151,7 @@ goes_on es set put b e order later f waits at unclosed =
       told = f.told;
     }
 
--- an entry that is next and had not come is delivered
+-- an entry that is next and had not arrived is delivered
 pub goes_on_new : (es set put : List EntryValue) (b : BufferValue) (e : EntryValue) → Follows es set put b → Contains es e → (Contains set e → ⊥) → e.prev ≡ b.last → b.closed ≡ false
     → Follows es (set ++ e ∷ []) (put ++ e ∷ []) (delivered (told_of b (own e)) e)
 goes_on_new es set put b e f of new at unclosed =
@@ -188,7 +188,7 @@ goes_on_new es set put b e f of new at unclosed =
       told = All-push (λ x. own x ≤ max b.told (own e)) set e (λ k d lt. omega (arith, f.told k d lt)) (omega arith);
     }
 
--- an entry ahead that had not come is held
+-- an entry ahead that had not arrived is held
 pub holds_too : (es set put : List EntryValue) (b : BufferValue) (e : EntryValue) → Follows es set put b → Contains es e → end put ≤ e.prev
     → Follows es (set ++ e ∷ []) put (with_held (told_of b (own e)) e)
 holds_too es set put b e f of le = record {
@@ -213,7 +213,7 @@ holds_too es set put b e f of le = record {
 
 -- ---- offers
 
--- an entry that is answered Repeat had come
+-- an entry that is answered Repeat had arrived before
 repeat_came : (es set put : List EntryValue) (b : BufferValue) (e : EntryValue) → Follows es set put b → Contains es e
     → (e.prev < b.last) ⊎ ((b.last < e.prev) × (b.closed ≡ false) × HasPrev e.prev b.held) → Contains set e
 repeat_came es set put b e f of h =
@@ -225,7 +225,7 @@ repeat_came es set put b e f of h =
           subst (Contains set) same was.0
     ]
 
--- an entry ahead had not come
+-- an entry ahead had not arrived before
 ahead_new : (es set put : List EntryValue) (b : BufferValue) (e : EntryValue) → Follows es set put b → IsAhead b e → Contains set e → ⊥
 ahead_new es set put b e f ahead i = ahead.new (e, must_hold es set put b e f i (omega (arith, ahead.later, f.has_put.last)), refl)
 

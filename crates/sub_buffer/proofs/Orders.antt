@@ -185,14 +185,14 @@ held_itself n es e = Contains-append_right (before n es) (e ∷ onward n es) e (
 
 -- ---- the first entry
 
--- where the first of entries in order begins at n or later, all do
+-- if the first of entries in order begins at n or later, all do
 pub onward_settled : (n : ℕ) (es : List EntryValue) (e : EntryValue) → InOrder es → e ≡ get_or es 0 e → n ≤ e.prev → onward n es ≡ es
 onward_settled n [] e order is le = refl
 onward_settled n (x ∷ xs) e order is le =
     let at : e.prev ≡ x.prev = ap (λ (y : EntryValue). y.prev) is in
     onward_all n (x ∷ xs) (All-cons (λ y. n ≤ y.prev) x xs (omega arith) (λ k d lt. omega (arith, order_head x xs order k d lt)))
 
--- where the first begins before n, it is not among those from n onward
+-- if the first begins before n, it is not among those from n onward
 pub onward_dropped : (n : ℕ) (es : List EntryValue) (e : EntryValue) → e ≡ get_or es 0 e → e.prev < n → onward n (drop 1 es) ≡ onward n es
 onward_dropped n [] e is lt = refl
 onward_dropped n (x ∷ xs) e is lt =
@@ -218,7 +218,7 @@ onward_fewer n es e h lt =
     let among : Contains (before n es) e = into_before n es e h lt in
     omega (arith, length_onward n es, among.1)
 
--- where only the first of them begins before n, one less is left
+-- if only the first of them begins before n, one less is left
 pub onward_first : (n : ℕ) (es : List EntryValue) (e : EntryValue) → InOrder es → All (λ f. e.prev ≤ f.prev) es → Contains es e → e.prev < n
     → ((f : EntryValue) → Contains es f → e.prev < f.prev → n ≤ f.prev) → length es ≡ length (onward n es) + 1
 onward_first n [] e order least h lt past = absurd (not_in_nil e h)

@@ -1,4 +1,4 @@
--- The search for a place among entries in order.
+-- The search for a position among entries in order.
 use Rattle.std.proofs.Common.{◌≡◌, ◌≢◌, ℕ, ◌+◌, ◌<◌, ◌≤◌, List, inl, inr, length, get_or, take, arith, sym, subst}
 use Rattle.std.specs.List.{All}
 use Rattle.std.proofs.lemmas.Bool.{cases_eq, cases_lt}
@@ -7,7 +7,7 @@ use Rattle.rights_types.specs.Entries.{EntryValue}
 use Rattle.sub_buffer.specs.Buffers.{HasPrev, InOrder}
 use Rattle.sub_buffer.specs.Places.{IsPlace}
 
--- the place of n is from low to high
+-- the position of n is between low and high
 pub record IsWindow (n : ℕ) (es : List EntryValue) (low high : ℕ) : Type 0 where
   pub order : low ≤ high
   pub within : high ≤ length es
@@ -57,7 +57,7 @@ earlier_of n es low high window = λ k d lt.
     let small : k < low = omega (arith, length-take low es) in
     subst (λ (y : EntryValue). y.prev < n) (sym (get_or-take low es k d small)) (window.earlier k d small)
 
--- the window has closed behind the last entry
+-- the window has closed after the last entry
 pub place_at_end : (n : ℕ) (es : List EntryValue) (low high : ℕ) → IsWindow n es low high → high ≤ low → length es ≤ low → IsPlace n es low
 place_at_end n es low high window closed past = record {
   within = omega (arith, window.within, window.order);

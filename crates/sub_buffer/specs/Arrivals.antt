@@ -29,7 +29,7 @@ abbrev pub MayFree : {A : Type 0} → Verdict A → List EntryValue → Type 0
 MayFree (Ready x) freed = Unit {0}
 MayFree v freed = freed ≡ []
 
--- of an entry e of the log: its verdict v; what it freed makes put the longest prefix of what reached the buffer
+-- of an entry e of the log: its verdict v; with what it freed, put is the longest prefix of what reached the buffer
 abbrev pub SettledArrival : {A : Type 0} → List EntryValue → List EntryValue → List EntryValue → EntryValue → Verdict A → List EntryValue → ℕ → BufferValue → Type 0
 SettledArrival es set put e v freed told new =
     let later : List EntryValue = reached_after set e v in
@@ -46,11 +46,11 @@ pub record Arrives {A : Type 0} (old : BufferValue) (e : EntryValue) (v : Verdic
   pub few : length new.held ≤ MAX_HELD
   pub frees : MayFree v freed
   pub chain : (put : List EntryValue) → HasPut put old → HasPut (put_after put v ++ freed) new
-  -- where e is an entry of the log es, of which put was delivered
+  -- if e is an entry of the log es, of which put was delivered
   pub log : (es set put : List EntryValue) → Contains es e → Follows es set put old → SettledArrival es set put e v freed old.told new
 
--- entries arrived one after another: behind the verdicts before, each got its own, and Ready for each held entry
--- that it freed
+-- entries arrived one after another: to the verdicts before are added the verdict on each, and Ready for each held
+-- entry that it freed
 abbrev pub ArriveAll : {A : Type 0} → BufferValue → List (Verdict A) → List EntryValue → BufferValue → List (Verdict A) → Type 0
 ArriveAll old before [] new after = (new ≡ old) × (after ≡ before)
 ArriveAll {A} old before (e ∷ es) new after =

@@ -1,4 +1,4 @@
--- A subscriber's buffer of one origin's entries, as plain data.
+-- The buffer of a subscriber for the entries of one origin, as plain data.
 use Rattle.std.specs.Prelude.{◌≡◌, ◌≢◌, ℕ, ◌<◌, ◌≤◌, ◌⊎◌, Bool, true, false, not, nat_lt, List, [], ◌∷◌, ◌++◌, length, Option, None, max}
 use Rattle.std.specs.List.{All, AllPairs, Contains, filter}
 use Rattle.rights_types.specs.Ranges.{IsSite, IsNumber}
@@ -6,9 +6,8 @@ use Rattle.rights_types.specs.Entries.{EntryValue, own, closes}
 use Rattle.rights_types.specs.Messages.{QueryValue}
 use Rattle.rights_types.specs.declared.limits.TheConstants.{MAX_HELD}
 
--- whose buffer it is, and of whose log; the last number delivered, the greatest number told of, and
--- whether the closing entry was delivered; the entries held, in the order of their previous numbers; and
--- the gap that was asked for last
+-- whose buffer it is, and of whose log; the last number delivered, the highest seen number, and whether the closing
+-- entry was delivered; the held entries, in the order of their previous numbers; and the gap that was asked for last
 pub record BufferValue : Type 0 where
   pub me : ℕ
   pub origin : ℕ
@@ -18,15 +17,15 @@ pub record BufferValue : Type 0 where
   pub held : List EntryValue
   pub asked : Option QueryValue
 
--- a buffer to which nothing came
+-- a buffer to which nothing has come
 abbrev pub new_buffer : ℕ → ℕ → BufferValue
 new_buffer me origin = record { me = me; origin = origin; last = 0; told = 0; closed = false; held = []; asked = None }
 
--- one of these entries begins after the number n
+-- one of these entries has the previous number n
 abbrev pub HasPrev : ℕ → List EntryValue → Type 0
 HasPrev n es = (e : EntryValue) × Contains es e × (e.prev ≡ n)
 
--- the entries that begin before the number n, and those that begin at it or later
+-- the entries that begin before the number n, and those that begin at n or later
 abbrev pub before : ℕ → List EntryValue → List EntryValue
 before n es = filter (λ e. nat_lt e.prev n) es
 
@@ -37,8 +36,8 @@ onward n es = filter (λ e. not (nat_lt e.prev n)) es
 abbrev pub InOrder : List EntryValue → Type 0
 InOrder es = AllPairs (λ e f. e.prev < f.prev) es
 
--- of every buffer: no two held entries begin alike, none begins before the last number delivered, and what
--- was delivered or is held was told of
+-- of every buffer: no two held entries begin at the same number, none begins before the last number delivered, and no
+-- number of a delivered or held entry exceeds the highest seen one
 pub record IsBuffer (b : BufferValue) : Type 0 where
   pub me : IsSite b.me
   pub origin : IsSite b.origin
@@ -51,7 +50,7 @@ pub record IsBuffer (b : BufferValue) : Type 0 where
   pub heard : All (λ e. own e ≤ b.told) b.held
   pub of_origin : All (λ e. e.origin ≡ b.origin) b.held
 
--- nothing that is held is next, or the closing entry was delivered
+-- no held entry is next, or the closing entry was delivered
 abbrev pub IsSettled : BufferValue → Type 0
 IsSettled b = (b.closed ≡ true) ⊎ ¬ HasPrev b.last b.held
 
@@ -60,7 +59,7 @@ pub record SamePair (old new : BufferValue) : Type 0 where
   pub me : new.me ≡ old.me
   pub origin : new.origin ≡ old.origin
 
--- the number n was told of
+-- the number n was seen
 abbrev pub told_of : BufferValue → ℕ → BufferValue
 told_of b n = record b { told = max b.told n }
 

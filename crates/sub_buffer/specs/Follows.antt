@@ -1,6 +1,5 @@
--- A buffer against its origin's log. Here es is that log, set has the entries of it that reached the
--- buffer, which are those that were offered and not answered Full, each listed once; and put has the entries
--- that the buffer delivered.
+-- A buffer compared with its origin's log. Here es is that log; set has the entries of it that reached the buffer,
+-- that is, were offered and not answered Full, each listed once; and put has the entries that the buffer delivered.
 use Rattle.std.specs.Prelude.{◌≡◌, ◌≢◌, ◌+◌, ◌≤◌, ◌⊎◌, ◌↔◌, List, [], ◌∷◌, ◌++◌, length, Option, Some, None, Result, Ok, Err}
 use Rattle.std.specs.List.{All, Contains}
 use Rattle.rights_types.specs.Entries.{EntryValue, own}
@@ -15,7 +14,8 @@ pub record HasPut (put : List EntryValue) (b : BufferValue) : Type 0 where
   pub last : b.last ≡ end put
   pub closed : b.closed ≡ is_closed put
 
--- the buffer follows the log: put begins the log and reached the buffer, and what is held is what is beyond
+-- the buffer follows the log: put is a prefix of the log and within what reached the buffer, and the held entries are
+-- those beyond it
 pub record Follows (es set put : List EntryValue) (b : BufferValue) : Type 0 where
   pub log : IsChain b.origin es
   pub of_log : All (Contains es) set
@@ -26,12 +26,12 @@ pub record Follows (es set put : List EntryValue) (b : BufferValue) : Type 0 whe
   pub count : length set ≡ length put + length b.held
   pub told : All (λ e. own e ≤ b.told) set
 
--- what was delivered after a verdict
+-- the delivered entries after a verdict
 abbrev pub put_after : {A : Type 0} → List EntryValue → Verdict A → List EntryValue
 put_after put (Ready x) = put ++ x ∷ []
 put_after put v = put
 
--- ---- where put is the longest prefix, as in each buffer that is settled
+-- ---- if put is the longest prefix, as in each buffer that is settled
 
 -- the verdict on an entry e of the log
 abbrev pub SettledVerdict : {A : Type 0} → List EntryValue → List EntryValue → EntryValue → Verdict A → Type 0
@@ -41,13 +41,13 @@ SettledVerdict set put e Full = (¬ Contains set e) × (e.prev ≢ end put) × I
 SettledVerdict set put e Held = (¬ Contains set e) × (e.prev ≢ end put) × ¬ IsFull set put
 SettledVerdict set put e AfterClose = ⊥
 
--- what has reached the buffer after that verdict
+-- the entries that have reached the buffer after that verdict
 abbrev pub reached_after : {A : Type 0} → List EntryValue → EntryValue → Verdict A → List EntryValue
 reached_after set e (Ready x) = set ++ e ∷ []
 reached_after set e Held = set ++ e ∷ []
 reached_after set e v = set
 
--- after a verdict other than Ready put is the longest prefix still
+-- after a verdict other than Ready, put is still the longest prefix
 abbrev pub StaysLongest : {A : Type 0} → List EntryValue → List EntryValue → List EntryValue → Verdict A → Type 0
 StaysLongest es set put (Ready x) = Unit {0}
 StaysLongest es set put v = IsLongest set es put
@@ -60,11 +60,11 @@ SettledOffer es set put e (Ok v) new =
 
 -- ---- whether or not put is the longest prefix
 
--- later has what set has, and e
+-- later contains exactly what set contains, and e
 abbrev pub Adds : List EntryValue → EntryValue → List EntryValue → Type 0
 Adds set e later = (Contains set e × (later ≡ set)) ⊎ ((¬ Contains set e) × (later ≡ set ++ e ∷ []))
 
--- later has what reached the buffer after a verdict on an entry e of the log
+-- later contains what reached the buffer after a verdict on an entry e of the log
 abbrev pub VerdictAdds : {A : Type 0} → List EntryValue → EntryValue → Verdict A → List EntryValue → Type 0
 VerdictAdds set e Repeat later = Contains set e × (later ≡ set)
 VerdictAdds set e (Ready x) later = (x ≡ e) × Adds set e later
@@ -77,7 +77,7 @@ abbrev pub OfferFollows : {A E : Type 0} → List EntryValue → List EntryValue
 OfferFollows es set put e (Err fault) new = ⊥
 OfferFollows es set put e (Ok v) new = (later : List EntryValue) × VerdictAdds set e v later × Follows es later (put_after put v) new
 
--- the held entry that is given is the next one of the log, and there is none exactly where put is the longest prefix
+-- the held entry that is returned is the next one of the log; none is returned exactly if put is the longest prefix
 abbrev pub PopFollows : List EntryValue → List EntryValue → List EntryValue → Option EntryValue → BufferValue → Type 0
 PopFollows es set put None new = IsLongest set es put × Follows es set put new
 PopFollows es set put (Some e) new = (¬ IsLongest set es put) × IsBeyond set put e × (e.prev ≡ end put) × Follows es set (put ++ e ∷ []) new

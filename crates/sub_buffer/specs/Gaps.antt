@@ -1,4 +1,4 @@
--- Gaps: which numbers of a log are asked for.
+-- Gaps: the numbers of a log that are asked for.
 use Rattle.std.specs.Prelude.{◌≡◌, ◌≢◌, ℕ, ◌+◌, ◌<◌, ◌≤◌, ◌⊎◌, true, false, List, Option, Some, None}
 use Rattle.std.specs.List.{Contains}
 use Rattle.rights_types.specs.Entries.{EntryValue}
@@ -8,7 +8,7 @@ use Rattle.sub_buffer.specs.Buffers.{BufferValue, HasPrev}
 use Rattle.sub_buffer.specs.declared.buffer.State.{State}
 use Rattle.sub_buffer.specs.declared.buffer.State.TheVariants.{Normal, Buffering}
 
--- n is the least previous number of the entries that wait, or told where none waits
+-- n is the least previous number of the waiting entries, or the highest seen number if none waits
 abbrev pub EndsGap : (EntryValue → Type 0) → ℕ → ℕ → Type 0
 EndsGap Waits told n =
     (((e : EntryValue) → ¬ Waits e) × (n ≡ told))
@@ -21,17 +21,17 @@ pub record AsksGap (s o n told : ℕ) (Waits : EntryValue → Type 0) (q : Query
   pub first : q.first ≡ n + 1
   pub last : EndsGap Waits told q.last
 
--- the gap by what a buffer has
+-- the gap according to what a buffer has
 abbrev pub GapOf : BufferValue → Option QueryValue → Type 0
 GapOf b None = (b.told ≤ b.last) ⊎ (b.closed ≡ true) ⊎ HasPrev b.last b.held
 GapOf b (Some q) =
     (b.last < b.told) × (b.closed ≡ false) × (¬ HasPrev b.last b.held) × AsksGap b.me b.origin b.last b.told (Contains b.held) q
 
--- there is a gap after put: something later was told of, and put does not end in a closing move
+-- there is a gap after put: a later number was seen, and put does not end in a closing move
 abbrev pub HasGap : List EntryValue → ℕ → Type 0
 HasGap put told = (end put < told) × (is_closed put ≡ false)
 
--- the gap after put, by what reached the buffer and what was told
+-- the gap after put, according to what reached the buffer and the highest seen number
 abbrev pub GapIs : ℕ → ℕ → List EntryValue → List EntryValue → ℕ → Option QueryValue → Type 0
 GapIs me origin set put told None = ¬ HasGap put told
 GapIs me origin set put told (Some q) = HasGap put told × AsksGap me origin (end put) told (IsBeyond set put) q
@@ -41,7 +41,7 @@ abbrev pub StateOf : Option QueryValue → State → Type 0
 StateOf None s = s ≡ Normal
 StateOf (Some q) s = s ≡ Buffering
 
--- what is asked for, of this gap: nothing where it is the one that was asked for last
+-- the query for this gap: none if it is the one that was asked for last
 abbrev pub Wants : Option QueryValue → Option QueryValue → Option QueryValue → Type 0
 Wants gap asked None = (gap ≡ None) ⊎ (gap ≡ asked)
 Wants gap asked (Some q) = (gap ≡ Some q) × (asked ≢ Some q)

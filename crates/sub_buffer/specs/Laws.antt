@@ -6,14 +6,14 @@ use Rattle.rights_types.specs.Chains.{IsChain, IsLongest}
 use Rattle.sub_buffer.specs.Buffers.{BufferValue, IsSettled}
 use Rattle.sub_buffer.specs.Follows.{Follows}
 
--- a log grows: a buffer that follows it goes on following
+-- a buffer that follows a log continues to follow it as the log grows
 abbrev pub FollowsLonger : Type 0
 FollowsLonger = (b : BufferValue) (es more set put : List EntryValue) → IsChain b.origin (es ++ more) → Follows es set put b → Follows (es ++ more) set put b
 
--- a log of o grows: what was the longest prefix of the set, which has entries of the log alone, is still the longest
+-- what is the longest prefix of the set, which contains only entries of the log, stays the longest as the log grows
 abbrev pub LongestStays : Type 0
 LongestStays = (o : ℕ) (es more set put : List EntryValue) → IsChain o (es ++ more) → All (Contains es) set → IsLongest set es put → IsLongest set (es ++ more) put
 
--- a buffer that follows a log is settled exactly where put is the longest prefix
+-- a buffer that follows a log is settled exactly if put is the longest prefix
 abbrev pub SettledIsLongest : Type 0
 SettledIsLongest = (b : BufferValue) (es set put : List EntryValue) → Follows es set put b → IsSettled b ↔ IsLongest set es put

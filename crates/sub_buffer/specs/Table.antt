@@ -1,4 +1,4 @@
--- What each call of a buffer answers and leaves, whatever entries come, of one chain or not.
+-- The result and effect of each call of a buffer, for any entries, whether of one chain or not.
 use Rattle.std.specs.Prelude.{◌≡◌, ℕ, ◌<◌, ◌≤◌, ◌⊎◌, true, false, if◌then◌else◌, List, [], ◌∷◌, length, Option, Some, None}
 use Rattle.std.specs.List.{Contains}
 use Rattle.rights_types.specs.Entries.{EntryValue, own}
@@ -7,7 +7,7 @@ use Rattle.rights_types.specs.declared.limits.TheConstants.{MAX_HELD}
 use Rattle.sub_buffer.specs.declared.verdict.Verdict.{Verdict}
 use Rattle.sub_buffer.specs.declared.verdict.Verdict.TheVariants.{Ready, Held, Repeat, AfterClose, Full}
 
--- an entry that is later than the next one, and no held one begins like it
+-- an entry that is later than the next one, and no held entry begins at the same number
 pub record IsAhead (b : BufferValue) (e : EntryValue) : Type 0 where
   pub later : b.last < e.prev
   pub unclosed : b.closed ≡ false
@@ -22,12 +22,12 @@ OfferLeaves old e (Ready x) new = (x ≡ e) × (e.prev ≡ old.last) × (old.clo
 OfferLeaves old e Full new = IsAhead old e × (length old.held ≡ MAX_HELD) × (new ≡ told_of old (own e))
 OfferLeaves old e Held new = IsAhead old e × (length old.held < MAX_HELD) × (new ≡ with_held (told_of old (own e)) e)
 
--- the held entry that has become next, if there is one, and what is left
+-- the held entry that has become next, if there is one, and the buffer without it
 abbrev pub PopLeaves : BufferValue → Option EntryValue → BufferValue → Type 0
 PopLeaves old None new = IsSettled old × (new ≡ old)
 PopLeaves old (Some e) new = Contains old.held e × (e.prev ≡ old.last) × (old.closed ≡ false) × (new ≡ delivered old e)
 
--- what a beat leaves: after the closing entry it is ignored
+-- the buffer after a beat, which is ignored after the closing entry
 abbrev pub after_beat : BufferValue → ℕ → BufferValue
 after_beat b n = if b.closed then b else told_of b n
 
@@ -36,7 +36,7 @@ abbrev pub more_held : {A : Type 0} → Verdict A → ℕ
 more_held Held = 1
 more_held v = 0
 
--- the held entries that became next, one after another, until none did
+-- the held entries that became next, one after another, until none was left
 abbrev pub PopsLeave : BufferValue → List EntryValue → BufferValue → Type 0
 PopsLeave old [] new = PopLeaves old None new
 PopsLeave old (e ∷ es) new = (mid : BufferValue) × PopLeaves old (Some e) mid × PopsLeave mid es new

@@ -1,4 +1,4 @@
-//! Entries that arrive at a buffer, each with all that it frees.
+//! Entries that arrive at a buffer, each with the held entries that it frees.
 ghost use Rattle.std.specs.Prelude.{◌≡◌, ◌+◌, ◌<◌, ◌≤◌, ◌++◌, ◌∷◌, List, length, vec_capacity};
 ghost use Rattle.std.specs.List.{All};
 ghost use Rattle.rights_types.specs.Entries.{EntryValue};
@@ -8,17 +8,17 @@ use crate::verdict::Verdict;
 use rights_types::{Entry, MAX_ANSWER, MAX_HELD};
 use std::alloc::Allocator;
 
-/// The most verdicts on the entries of one answer: one for each, and one more for each that is freed. All
-/// held before can be freed by one of them, and then all others but one by the last.
+/// The most verdicts on the entries of one answer: one for each entry, and one for each entry that is freed. One entry
+/// can free all that were held before, and then the last one can free all the others but one.
 pub const MAX_VERDICTS: usize = MAX_ANSWER + MAX_HELD + MAX_ANSWER - 2;
 
 impl<A: Allocator> SubBuffer<A> {
     ghost use Rattle.sub_buffer.specs.Buffers.{IsSettled};
     ghost use Rattle.sub_buffer.specs.Arrivals.{all_ready, Frees, Arrives, ArriveAll};
 
-    /// Offers an entry of the origin, and delivers all that it frees: its verdict goes to the end of
-    /// `verdicts`, and after it `Ready` for each held entry that has become next. The buffer is to be settled
-    /// before, as a new one is and one after `arrive`: `pop_ready` would answer `None`.
+    /// Offers an entry of the origin, and delivers everything that it frees: its verdict is appended to `verdicts`,
+    /// and after it `Ready` for each held entry that has become next. The buffer must be settled, as a new one is and
+    /// one after `arrive`: `pop_ready` would return `None`.
     #[inline(always)]
     pub fn arrive(&mut self, entry: Entry<A>, verdicts: &mut Vec<Verdict<A>, A>)
         requires of_origin { entry.origin ≡ self.old.origin }
@@ -36,7 +36,7 @@ impl<A: Allocator> SubBuffer<A> {
         }
     }
 
-    /// The entries of one answer arrive, in order.
+    /// Lets the entries of one answer arrive, in order.
     pub fn arrive_all(&mut self, entries: Vec<Entry<A>, A>, verdicts: &mut Vec<Verdict<A>, A>)
         requires of_origin { All (λ (e : EntryValue). e.origin ≡ self.old.origin) entries.items }
         requires settled { IsSettled self.old }

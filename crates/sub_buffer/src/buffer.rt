@@ -15,16 +15,16 @@ use std::alloc::{Allocator, Global};
 use std::collections::VecDeque;
 use std::marker::Model;
 
-/// Whether numbers are missing.
+/// Whether numbers are known to be missing.
 #[derive(Clone, Copy, Debug, PartialEq, Eq)]
 pub enum State {
-    /// Nothing is missing, as far as the buffer was told.
+    /// Nothing is missing, as far as the buffer knows.
     Normal,
     /// There is a gap.
     Buffering,
 }
 
-/// The buffer of one site for the entries of one other, the origin. Only `new` takes memory.
+/// The buffer of one site for the entries of one other site, the origin. Only `new` allocates.
 #[derive(Drop)]
 pub struct SubBuffer<A: Allocator = Global> {
     held: VecDeque<Entry<A>, A>,
@@ -56,7 +56,7 @@ impl<A: Allocator> SubBuffer<A> {
     ghost use Rattle.sub_buffer.specs.Gaps.{GapOf, GapIs, StateOf, Wants, asked_for};
     ghost use Rattle.sub_buffer.specs.declared.verdict.BufferError.TheVariants.{WrongOrigin};
 
-    /// A buffer of site `me` for the log of `origin`, to which nothing came.
+    /// The buffer of site `me` for the log of `origin`, before anything came. `OutOfMemory` if its memory is refused.
     pub fn new(alloc: A, me: SiteId, origin: SiteId) -> Result<SubBuffer<A>, OutOfMemory>
         requires { origin ≢ me }
         ensures buffer { IfOk result (λ b. b ≡ new_buffer me origin) }
@@ -75,8 +75,8 @@ impl<A: Allocator> SubBuffer<A> {
         })
     }
 
-    /// Offers an entry. After `Ready`, and before the next offer, call `pop_ready` until it answers `None`:
-    /// only then the verdicts are those of the log. `arrive` does both.
+    /// Offers an entry. `WrongOrigin` if it is of another origin. After `Ready`, and before the next offer, call
+    /// `pop_ready` until it returns `None`: only then are the verdicts those of the log. `arrive` does both.
     pub fn offer(&mut self, entry: Entry<A>) -> Result<Verdict<A>, BufferError>
         ensures refused { MatchResult result (λ v. entry.origin ≡ self.old.origin) (λ fault. (fault ≡ WrongOrigin) × (entry.origin ≢ self.old.origin) × (self.new ≡ self.old)) }
         ensures table { IfOk result (λ v. OfferLeaves self.old entry v self.new) }
@@ -84,7 +84,8 @@ impl<A: Allocator> SubBuffer<A> {
         ensures chain { IfOk result (λ v. (put : List EntryValue) → HasPut put self.old → HasPut (put_after put v) self.new) }
         ensures count { IfOk result (λ v. length self.new.held ≤ length self.old.held + more_held v) }
 
-        // For an entry of the log es. The second is for where put is the longest prefix of what reached the buffer.
+        // For an entry of the log es. The second part is for a put that is the longest prefix of what reached the
+        // buffer.
         ensures follows { (es set put : List EntryValue) → Contains es entry → Follows es set put self.old → OfferFollows es set put entry result self.new × (self.new.told ≡ max self.old.told (own entry)) }
         ensures settled { (es set put : List EntryValue) → Contains es entry → Follows es set put self.old → IsLongest set es put → SettledOffer es set put entry result self.new }
     {
@@ -134,7 +135,7 @@ impl<A: Allocator> SubBuffer<A> {
         self.told = self.told.max(number);
     }
 
-    // Goes on behind the entry, which was told of.
+    // Continues after the entry, whose number was seen before.
     fn deliver(&mut self, entry: &Entry<A>)
         requires { own entry.now ≤ self.old.told }
         ensures { self.new ≡ delivered self.old entry.now }
@@ -144,7 +145,7 @@ impl<A: Allocator> SubBuffer<A> {
         drop_before(&mut self.held, self.last);
     }
 
-    // Keeps the entry at its place.
+    // Holds the entry at this position.
     fn hold(&mut self, place: usize, entry: Entry<A>)
         requires place { IsPlace entry.prev self.old.held place }
         requires later { self.old.last ≤ entry.prev }
@@ -159,7 +160,7 @@ impl<A: Allocator> SubBuffer<A> {
         }
     }
 
-    /// The held entry that has become next, which is then delivered. There is none after the closing entry.
+    /// Delivers the held entry that has become next, if there is one. There is none after the closing entry.
     pub fn pop_ready(&mut self) -> Option<Entry<A>>
         ensures table { PopLeaves self.old result self.new }
         ensures pair { SamePair self.old self.new }
@@ -187,8 +188,7 @@ impl<A: Allocator> SubBuffer<A> {
         Some(entry)
     }
 
-    /// The origin says that its log ends at the number, which is at most 10^9. After the closing entry was
-    /// delivered that is ignored.
+    /// The origin says that its log ends at this number, at most 10^9. Ignored once the closing entry was delivered.
     pub fn beat(&mut self, number: u64)
         requires { IsNumber number }
         ensures table { self.new ≡ after_beat self.old number }
@@ -202,7 +202,7 @@ impl<A: Allocator> SubBuffer<A> {
         }
     }
 
-    /// `Buffering` where there is a gap.
+    /// `Buffering` if there is a gap.
     pub fn state(&self) -> State
         ensures table { (gap : Option QueryValue) × GapOf self.now gap × StateOf gap result }
         ensures gap { (es set put : List EntryValue) → Follows es set put self.now → IsLongest set es put → (gap : Option QueryValue) × GapIs self.now.me self.now.origin set put self.now.told gap × StateOf gap result }
@@ -214,7 +214,7 @@ impl<A: Allocator> SubBuffer<A> {
         }
     }
 
-    /// The first numbers that are missing, as a query to the origin.
+    /// The first gap, as a query to the origin; None if no number is known to be missing.
     pub fn gap(&self) -> Option<Query>
         ensures table { GapOf self.now result }
         ensures gap { (es set put : List EntryValue) → Follows es set put self.now → IsLongest set es put → GapIs self.now.me self.now.origin set put self.now.told result }
@@ -238,7 +238,7 @@ impl<A: Allocator> SubBuffer<A> {
         Some(Query::known(self.me, self.origin, self.last + 1, end))
     }
 
-    /// The gap, where it differs from the one that was asked for last. Now it counts as asked for.
+    /// The gap, if it differs from the one that was asked for last. From then on it counts as asked for.
     pub fn want(&mut self) -> Option<Query>
         ensures table { (gap : Option QueryValue) × GapOf self.old gap × Wants gap self.old.asked result × (self.new ≡ asked_for self.old result) }
         ensures gap { (es set put : List EntryValue) → Follows es set put self.old → IsLongest set es put → (gap : Option QueryValue) × GapIs self.old.me self.old.origin set put self.old.told gap × Wants gap self.old.asked result }
@@ -270,7 +270,7 @@ impl<A: Allocator> SubBuffer<A> {
         }
     }
 
-    // Answers the gap, which now counts as asked for.
+    // Returns the gap, which from then on counts as asked for.
     fn note_asked(&mut self, gap: Option<Query>) -> Option<Query>
         ensures value { result ≡ gap }
         ensures asked { self.new ≡ asked_for self.old gap }
@@ -281,7 +281,7 @@ impl<A: Allocator> SubBuffer<A> {
         gap
     }
 
-    /// The gap, asked for or not. Now it counts as asked for.
+    /// The gap, even if it was asked for last. From then on it counts as asked for.
     pub fn want_again(&mut self) -> Option<Query>
         ensures table { GapOf self.old result × (self.new ≡ asked_for self.old result) }
         ensures gap { (es set put : List EntryValue) → Follows es set put self.old → IsLongest set es put → GapIs self.old.me self.old.origin set put self.old.told result }
@@ -308,7 +308,7 @@ impl<A: Allocator> SubBuffer<A> {
         self.origin
     }
 
-    /// The own number of the last entry that was delivered, 0 at first. It is never above `told`.
+    /// The own number of the last entry that was delivered, 0 at first. At most `told`.
     pub fn last(&self) -> u64
         ensures value { result ≡ self.now.last }
         ensures valid { IsBuffer self.now }
@@ -316,8 +316,8 @@ impl<A: Allocator> SubBuffer<A> {
         self.last
     }
 
-    /// The greatest number that the origin's log is known to have, by entries and beats; 0 at first. Repeats,
-    /// and what comes after the closing entry was delivered, don't count.
+    /// The highest seen number: the greatest number that the origin's log is known to have, by entries and beats; 0 at
+    /// first. Repeats, and what comes after the closing entry was delivered, don't count.
     pub fn told(&self) -> u64
         ensures value { result ≡ self.now.told }
         ensures valid { IsBuffer self.now }

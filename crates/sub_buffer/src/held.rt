@@ -8,7 +8,8 @@ use rights_types::Entry;
 use std::alloc::Allocator;
 use std::collections::VecDeque;
 
-/// Where an entry after the number `prev` belongs among the held ones, or `None` where one is held.
+/// The position of an entry after the number `prev` among the held ones, or `None` if one that begins there is already
+/// held.
 pub(crate) fn place_for<A: Allocator>(held: &VecDeque<Entry<A>, A>, prev: u64) -> Option<usize>
     requires { InOrder held.now.items }
     ensures { MatchOption result (HasPrev prev held.now.items) (IsPlace prev held.now.items) }

@@ -1,6 +1,5 @@
-//! The subscriber buffer: it takes the entries of one origin's log in any order, any number of times, and
-//! delivers each once and in order. It holds up to 64 entries that came too early, and says which numbers
-//! are missing.
+//! The subscriber buffer: it takes the entries of one origin's log in any order, any number of times, and delivers
+//! each once and in order. It holds up to 64 entries that came too early, and reports which numbers are missing.
 #![tactic(auto)]
 
 mod arrivals;

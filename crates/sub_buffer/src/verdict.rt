@@ -1,21 +1,21 @@
-//! What a buffer says of an entry that is offered to it.
+//! The verdicts of a buffer on the entries that are offered to it.
 
 use rights_types::Entry;
 use std::alloc::{Allocator, Global};
 
-/// What a buffer says of an entry of its origin. With one writer `AfterClose` never comes, since all entries
-/// of a closed log are repeats.
+/// The verdict of a buffer on an entry of its origin. With one writer `AfterClose` never comes, since all entries of a
+/// closed log are repeats.
 #[derive(Drop)]
 pub enum Verdict<A: Allocator = Global> {
-    /// It is the next entry, and this is it. Held entries may have become next: see `pop_ready`.
+    /// It is the next entry, and is delivered here. Held entries may have become next: see `pop_ready`.
     Ready(Entry<A>),
     /// It is kept until the entries before it have come.
     Held,
-    /// It begins before the last number that was delivered, or where a held one begins.
+    /// It begins before the last number that was delivered, or at the number where a held one begins.
     Repeat,
-    /// The log was closed before it.
+    /// The log was closed before this entry.
     AfterClose,
-    /// It is later than the next entry, and 64 entries are held: it is dropped.
+    /// It is later than the next entry, and 64 entries are already held: it is dropped.
     Full,
 }
 

@@ -1,4 +1,4 @@
--- What every manager keeps.
+-- What holds of every manager.
 use Rattle.std.proofs.Common.{◌≡◌, ℕ, ◌+◌, ◌<◌, ◌≤◌, Bool, true, false, cond, eqb, List, length, take, get_or, set, inl, inr, refl, sym, ap, ◌∙◌, subst, arith}
 use Rattle.std.specs.Prelude.{replicate, None}
 use Rattle.std.proofs.Math.Seq.{take-set-lt}
@@ -15,7 +15,7 @@ no_asks_is = record { numbers = omega arith; asked = tt }
 pub new_asks : (n j : ℕ) → at_site (replicate n no_asks) j no_asks ≡ no_asks
 new_asks n j = at_site-replicate (λ p. p ≡ no_asks) n j no_asks no_asks (λ low high. refl) refl
 
--- as many of sixteen equal items as there are sites
+-- as many equal items as there are sites, of sixteen
 pub of_sixteen : (n : ℕ) (p : PeerAsks) → n ≤ 16 → p ≡ no_asks → take n (replicate 16 p) ≡ replicate n no_asks
 of_sixteen n p few is = take-replicate n 16 p few ∙ ap (replicate n) is
 
@@ -70,7 +70,7 @@ front me n ps = record { me = me; peers = take n ps }
 index_inside : (n i j : ℕ) (ps : List PeerAsks) → i + 1 ≡ j → j ≤ length (take n ps) → i < n
 index_inside n i j ps at high = omega (arith, at, high, length-take n ps)
 
--- the asks that stand at the index of site j
+-- the asks at the index of site j
 asks_read : (me n i j : ℕ) (ps : List PeerAsks) (d : PeerAsks) → i + 1 ≡ j → j ≤ length (take n ps) → get_or ps i d ≡ asks (front me n ps) j
 asks_read me n i j ps d at high =
     sym (get_or-take n ps i d (index_inside n i j ps at high)) ∙ get_or_default (take n ps) i d no_asks (omega arith)

@@ -39,7 +39,7 @@ rights_left me k j p h =
     let left = first_and (not (eqb j me) && is_none p.outstanding && not (k.closed j) && ltb p.last_ask 1000000000) (ltb 0 (above_zero (k.known j))) eligible in
     ltb-true p.last_ask 1000000000 (last_and (not (eqb j me) && is_none p.outstanding && not (k.closed j)) (ltb p.last_ask 1000000000) left)
 
--- a site is no peer of its own
+-- a site is not its own peer
 own_rights : (me : ℕ) (k : Knowledge) (p : PeerAsks) → eligible_rights me k me p ≡ 0
 own_rights me k p =
     ap (λ (t : Bool). cond (not t && is_none p.outstanding && not (k.closed me) && ltb p.last_ask 1000000000 && ltb 0 (above_zero (k.known me))) (above_zero (k.known me)) 0)
@@ -144,7 +144,7 @@ planned_few m k queued count new is p = omega (arith, p.counted, asks_few (sites
 
 -- ---- a manager after its plan
 
--- the items in front, once they were written
+-- the items of the prefix, once they were written
 pub front_written : (n : ℕ) (ps new : List PeerAsks) → n ≤ length ps → length new ≡ length (take n ps) → take n (new ++ drop n ps) ≡ new
 front_written n ps new fit same = take_at new (drop n ps) n (same ∙ length-take-le n ps fit)
 
@@ -192,7 +192,7 @@ planned_is m new k queued count is p =
 
 -- ---- the same plan by the logs
 
--- of the sites 1 to n the same is known
+-- the same is known of the sites 1 to n
 pub record SameKnowledge (n : ℕ) (x y : Knowledge) : Type 0 where
   pub known : (j : ℕ) → 1 ≤ j → j ≤ n → x.known j ≡ y.known j
   pub closed : (j : ℕ) → 1 ≤ j → j ≤ n → x.closed j ≡ y.closed j
@@ -230,7 +230,7 @@ plans_same m new x y queued count same p =
       counted = p.counted ∙ count_same (sites m) (planned m x queued) (planned m y queued) amounts;
     }
 
--- a book knows what the logs say that it stands for
+-- a book knows what the logs that it represents say
 pub by_logs : (b : BookValue) (log : List EntryValue) (applied : ℕ → List EntryValue) (n : ℕ) → IsBook b → StandsFor log applied b → book_sites b ≡ n
     → SameKnowledge n (of_book b) (of_logs n b.me log applied)
 by_logs b log applied n is s count = rw (← count) (record {

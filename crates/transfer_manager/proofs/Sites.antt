@@ -1,4 +1,4 @@
--- Lists with an item for each site that are written from site 1 on, and sums over the sites so far.
+-- Lists with an item for each site, written from site 1 on, and sums over the first sites.
 use Rattle.std.proofs.Common.{◌≡◌, ℕ, suc, ◌+◌, ◌<◌, ◌≤◌, Bool, true, false, cond, eqb, zero, take, inl, inr, List, length, set, refl, sym, ap, ◌∙◌, subst, arith}
 use Rattle.std.proofs.lemmas.Bool.{cases_eq, ne_eqb}
 use Rattle.std.proofs.lemmas.List.{get_or-take}
@@ -28,12 +28,12 @@ asks_same n amounts h =
     let none : one_unless (eqb (amounts (n + 1)) 0) ≡ 0 = rw h refl in
     omega (arith, sum_next n (λ j. cond (eqb (amounts j) 0) 0 1), none)
 
--- an item in the front of a list
+-- an item in the prefix of a list
 pub at_site-take : {X : Type 0} (n : ℕ) (xs : List X) (j : ℕ) (d : X) → j ≤ n → at_site (take n xs) j d ≡ at_site xs j d
 at_site-take n xs zero d h = refl
 at_site-take n xs (suc i) d h = get_or-take n xs i d (omega arith)
 
--- the items of the first n sites were made new by f, and those behind are the old ones
+-- the items of the first n sites were made new by f, and the others are the old ones
 pub record IsWritten {X : Type 0} (d : X) (f : ℕ → X → X) (old new : List X) (n : ℕ) : Type 0 where
   pub made : (j : ℕ) → 1 ≤ j → j ≤ n → at_site new j d ≡ f j (at_site old j d)
   pub rest : (j : ℕ) → n < j → at_site new j d ≡ at_site old j d

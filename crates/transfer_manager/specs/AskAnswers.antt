@@ -5,11 +5,11 @@ use Rattle.transfer_manager.specs.declared.answer.AskAnswer.{AskAnswer}
 use Rattle.transfer_manager.specs.declared.answer.AskAnswer.TheVariants.{Grant, Deny, RepeatedDeny, Repeated, OldAsk}
 use Rattle.transfer_manager.specs.Managers.{ManagerValue, asks, with_asks}
 
--- so many rights are granted, or none
+-- grants this many rights; denies if they are 0
 abbrev pub grant_of : ℕ → AskAnswer
 grant_of n = if n == 0 then Deny else Grant n
 
--- what to answer to an ask, where so many rights are available
+-- the answer to an ask, given how many rights are available
 abbrev pub answer_to : ManagerValue → AskValue → ℕ → AskAnswer
 answer_to m ask available =
     let p = asks m ask.asker in
@@ -17,19 +17,19 @@ answer_to m ask available =
     else (if ask.ask == p.last_answered then (if p.granted then Repeated else RepeatedDeny)
     else grant_of (min ask.amount available))
 
--- the asks after this answer was noted
+-- the asks after this answer was recorded
 abbrev pub noted : ManagerValue → AskValue → AskAnswer → ManagerValue
 noted m ask (Grant n) = with_asks m ask.asker (record (asks m ask.asker) { last_answered = ask.ask; granted = true })
 noted m ask Deny = with_asks m ask.asker (record (asks m ask.asker) { last_answered = ask.ask; granted = false })
 noted m ask _ = m
 
--- the fact holds where the answer is a grant or a first denial
+-- the fact holds if the answer is a grant or a first denial
 abbrev pub IfNew : AskAnswer → Type 0 → Type 0
 IfNew (Grant n) P = P
 IfNew Deny P = P
 IfNew _ P = Unit {0}
 
--- a grant is of what was asked for and is available
+-- a grant is within what was asked for and what is available
 abbrev pub IsWithin : AskAnswer → AskValue → ℕ → Type 0
 IsWithin (Grant n) ask available = (1 ≤ n) × (n ≤ ask.amount) × (n ≤ available)
 IsWithin _ ask available = Unit {0}
@@ -40,6 +40,6 @@ IsLate (Grant n) = ⊥
 IsLate Deny = ⊥
 IsLate _ = Unit {0}
 
--- whatever is available, no ask of this asker with this number or a smaller one is granted any more
+-- whatever is available, no ask of this asker with this number or a smaller one is ever granted again
 abbrev pub IsAnswered : ManagerValue → AskValue → Type 0
 IsAnswered m ask = (again : AskValue) (available : ℕ) → again.asker ≡ ask.asker → again.ask ≤ ask.ask → IsLate (answer_to m again available)

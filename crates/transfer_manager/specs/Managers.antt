@@ -6,7 +6,7 @@ use Rattle.rights_types.specs.Messages.{AskValue}
 use Rattle.rights_types.specs.Places.{at_site, set_site}
 use Rattle.transfer_manager.specs.declared.peer_asks.PeerAsks.{PeerAsks}
 
--- whose asks they are, and those to and from each site, from site 1 on
+-- whose asks they are, and the asks to and from each site, from site 1 on
 pub record ManagerValue : Type 0 where
   pub me : ℕ
   pub peers : List PeerAsks
@@ -14,15 +14,15 @@ pub record ManagerValue : Type 0 where
 abbrev pub sites : ManagerValue → ℕ
 sites m = length m.peers
 
--- nothing was asked
+-- no ask yet
 abbrev pub no_asks : PeerAsks
 no_asks = record { last_ask = 0; outstanding = None; last_answered = 0; granted = false }
 
--- the asks to and from a site; none with one that the system does not have
+-- the asks to and from a site; none for a site that the system does not have
 abbrev pub asks : ManagerValue → ℕ → PeerAsks
 asks m j = at_site m.peers j no_asks
 
--- with other asks to and from site j
+-- the manager with other asks to and from site j
 abbrev pub with_asks : ManagerValue → ℕ → PeerAsks → ManagerValue
 with_asks m j p = record { me = m.me; peers = set_site m.peers j p }
 
@@ -35,21 +35,21 @@ pub record SameSystem (old new : ManagerValue) : Type 0 where
 abbrev pub new_manager : ℕ → ℕ → ManagerValue
 new_manager me n = record { me = me; peers = replicate n no_asks }
 
--- the rights of an ask, 0 where there is none
+-- the rights of an ask, 0 if there is none
 abbrev pub amount_of : Option ℕ → ℕ
 amount_of None = 0
 amount_of (Some n) = n
 
--- the ask to site j that is outstanding; it is the last one to it
+-- the outstanding ask to site j, which is the last one to it
 abbrev pub outstanding_ask : ManagerValue → ℕ → Option AskValue
 outstanding_ask m j =
     let p = asks m j in option_map (λ n. record { asker = m.me; asked = j; ask = p.last_ask; amount = n }) p.outstanding
 
--- one ask more, under the next number
+-- one more ask, under the next number
 abbrev pub with_ask : PeerAsks → ℕ → PeerAsks
 with_ask p n = record p { last_ask = p.last_ask + 1; outstanding = Some n }
 
--- one ask more, unless it is for nothing
+-- one more ask, unless it is for nothing
 abbrev pub with_asked : PeerAsks → ℕ → PeerAsks
 with_asked p n = if n == 0 then p else with_ask p n
 
@@ -61,12 +61,12 @@ with_ended p ask = if p.last_ask == ask then record p { outstanding = None } els
 abbrev pub ended : ManagerValue → ℕ → ℕ → ManagerValue
 ended m j ask = with_asks m j (with_ended (asks m j) ask)
 
--- what is outstanding is an amount under a number in its range
+-- an outstanding ask has an amount and a number within their ranges
 pub record IsPeerAsks (p : PeerAsks) : Type 0 where
   pub numbers : p.last_ask ≤ MAX_ASK
   pub asked : IfSome p.outstanding (λ n. IsAmount n × (1 ≤ p.last_ask))
 
--- what is true of every manager: a site asks nothing of itself
+-- what is true of every manager: a site never asks itself
 pub record IsManager (m : ManagerValue) : Type 0 where
   pub some : MIN_SITES ≤ sites m
   pub few : sites m ≤ MAX_SITES

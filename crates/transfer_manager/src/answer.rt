@@ -1,20 +1,19 @@
-//! What an asked site answers.
+//! The answers of an asked site.
 
 use rights_types::Amount;
 
-/// What a site answers to an ask.
+/// The answer of a site to an ask.
 #[derive(Clone, Copy, Debug, PartialEq, Eq)]
 pub enum AskAnswer {
-    /// So many rights are granted, at most as many as were asked for.
+    /// This amount is granted, at most the amount asked for.
     Grant(Amount),
     /// There is nothing to grant.
     Deny,
-    /// An ask of this number was denied, and none of a greater one was answered since. The denial
-    /// is to be sent again.
+    /// An ask of this number was denied, and no ask of a greater number was answered since. The denial is to be sent
+    /// again.
     RepeatedDeny,
-    /// An ask of this number was granted, and none of a greater one was answered since. The grant
-    /// stands in the log.
+    /// An ask of this number was granted, and no ask of a greater number was answered since. The grant is in the log.
     Repeated,
-    /// An ask of a greater number was answered. This one is ignored.
+    /// An ask of a greater number was answered before. This one is ignored.
     OldAsk,
 }

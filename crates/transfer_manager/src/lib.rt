@@ -1,5 +1,5 @@
-//! Asks for rights between sites: what a site that lacks rights asks each other one for, and how it answers the asks of
-//! others.
+//! Asks for rights between sites: how many rights a site that lacks some asks of each other site, and how it answers
+//! the asks of others.
 #![tactic(auto)]
 
 mod answer;

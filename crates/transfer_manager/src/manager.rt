@@ -12,13 +12,13 @@ use rights_types::{Amount, Ask, AskNumber, MAX_SITES, MIN_SITES, SiteId};
 use std::alloc::Allocator;
 use std::marker::Model;
 
-/// The asks of one site: which are outstanding, and which of the others' were answered. It writes no
-/// entry and sends no line itself, and it takes no memory.
+/// The asks of one site: those of its own that are outstanding, and those of others that were answered. It writes no
+/// entry, sends no line, and allocates nothing.
 #[derive(Drop)]
 pub struct Manager {
     me: SiteId,
     sites: usize,
-    // A place for each site that a system can have; those past its last one stay unused.
+    // One slot for each site that a system can have; those above the last site stay unused.
     peers: [PeerAsks; 16],
 }
 
@@ -42,7 +42,7 @@ impl Manager {
     ghost use Rattle.transfer_manager.specs.Plans.{of_book, of_logs, Plans};
     ghost use Rattle.transfer_manager.specs.AskAnswers.{answer_to, noted, IfNew, IsWithin, IsAnswered};
 
-    /// The manager of site `me` among so many sites, 2 to 16, where nothing was asked.
+    /// The manager of site `me` in a system of `sites` sites, 2 to 16, before any ask.
     pub fn new(me: SiteId, sites: u64) -> Manager
         requires sites { (MIN_SITES ≤ sites) × (sites ≤ MAX_SITES) }
         requires me { me ≤ sites }
@@ -58,9 +58,9 @@ impl Manager {
         }
     }
 
-    /// Ends the asks to peers that are known to have closed. Then, where the waiting requests lack
-    /// rights, asks peers for them: those known to have more first, each once and for no more than
-    /// it is known to have. Answers how many were asked.
+    /// Ends the asks to peers that are known to have closed. Then, if the waiting requests lack rights, asks peers for
+    /// them: peers that are known to have more come first, and each is asked once, for no more than it is known to
+    /// have. Returns how many were asked.
     pub fn plan<A: Allocator, B: Allocator>(
         &mut self,
         book: &Book<A>,
@@ -81,7 +81,7 @@ impl Manager {
         ask_each(peers, &rights[..sites], need)
     }
 
-    /// The ask to that peer that is outstanding.
+    /// The outstanding ask to that peer, if there is one.
     pub fn outstanding(&self, peer: SiteId) -> Option<Ask>
         ensures value { result ≡ outstanding_ask self.now peer }
         ensures valid { IfSome result IsAsk }
@@ -91,7 +91,7 @@ impl Manager {
         Some(Ask::known(self.me, peer, AskNumber::known(asks.last_ask), amount))
     }
 
-    /// What to answer to an ask of a peer, where so many rights are available. Nothing is noted.
+    /// The answer to an ask of a peer, given how many rights are available. Records nothing.
     pub fn on_ask(&self, ask: &Ask, available: u64) -> AskAnswer
         ensures value { result ≡ answer_to self.now ask.now available }
         ensures new { IfNew result ((asks self.now ask.now.asker).last_answered < ask.now.ask) }
@@ -115,8 +115,7 @@ impl Manager {
         }
     }
 
-    /// Notes the answer that `on_ask` gave to this ask. A repeated answer was noted before, and
-    /// changes nothing.
+    /// Records the answer that `on_ask` gave to this ask. A repeated answer was recorded before, and changes nothing.
     pub fn note_answer(&mut self, ask: &Ask, answer: AskAnswer)
         requires site { ask.now.asker ≤ sites self.old }
         requires new { IfNew answer ((asks self.old ask.now.asker).last_answered < ask.now.ask) }
@@ -135,8 +134,7 @@ impl Manager {
         asks.granted = granted;
     }
 
-    /// A grant of that peer, with this ask number, was applied. The ask ends where it is the
-    /// outstanding one.
+    /// A grant of that peer for this ask was applied. The ask ends if it is the outstanding one.
     pub fn on_grant(&mut self, peer: SiteId, ask: AskNumber)
         requires { peer ≤ sites self.old }
         ensures ended { self.new ≡ ended self.old peer ask }
@@ -147,7 +145,7 @@ impl Manager {
         granter.end(ask);
     }
 
-    /// That peer denied the ask of this number. The ask ends where it is the outstanding one.
+    /// That peer denied the ask of this number. The ask ends if it is the outstanding one.
     pub fn on_deny(&mut self, peer: SiteId, ask: AskNumber)
         requires { peer ≤ sites self.old }
         ensures ended { self.new ≡ ended self.old peer ask }

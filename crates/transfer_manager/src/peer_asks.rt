@@ -4,21 +4,21 @@ ghost use Rattle.transfer_manager.specs.Managers.{no_asks, amount_of, with_ask, 
 
 use rights_types::{Amount, AskNumber, MAX_ASK};
 
-/// What a manager keeps of the asks to one peer and of those from it.
+/// What a manager keeps of the asks to one peer, and from it.
 #[derive(Clone, Copy)]
 pub(crate) struct PeerAsks {
-    /// The number of the last ask to the peer; 0 before the first.
+    /// The number of the last ask to the peer; 0 before the first ask.
     pub(crate) last_ask: u64,
-    /// The amount of that ask, as long as it is outstanding.
+    /// The amount of the last ask, as long as it is outstanding.
     pub(crate) outstanding: Option<Amount>,
-    /// The number of the peer's last ask that was answered; 0 before the first.
+    /// The number of the peer's last ask that was answered; 0 before the first ask.
     pub(crate) last_answered: u64,
-    /// Whether that one was granted.
+    /// Whether that ask was granted.
     pub(crate) granted: bool,
 }
 
 impl PeerAsks {
-    /// Nothing was asked.
+    /// No ask yet.
     pub(crate) fn new() -> PeerAsks
         ensures { result ≡ no_asks }
     {
@@ -30,7 +30,7 @@ impl PeerAsks {
         }
     }
 
-    /// The rights that the peer is asked for and did not answer yet.
+    /// The rights that the peer was asked for and has not answered yet.
     pub(crate) fn outstanding_amount(&self) -> u64
         ensures { result ≡ amount_of self.now.outstanding }
     {
@@ -40,7 +40,7 @@ impl PeerAsks {
         }
     }
 
-    /// The peer is asked for this amount, under the next number.
+    /// Asks the peer for this amount, under the next number.
     pub(crate) fn ask(&mut self, amount: Amount)
         requires { self.old.last_ask < MAX_ASK }
         ensures { self.new ≡ with_ask self.old amount }
@@ -49,7 +49,7 @@ impl PeerAsks {
         self.outstanding = Some(amount);
     }
 
-    /// The outstanding ask ends, if it has this number.
+    /// Ends the outstanding ask, if it has this number.
     pub(crate) fn end(&mut self, ask: AskNumber)
         ensures { self.new ≡ with_ended self.old ask }
     {

@@ -1,4 +1,4 @@
-//! Whom to ask for how much.
+//! Which peers are asked, and for how much.
 ghost use Rattle.std.specs.Prelude.{◌≡◌, ℕ, ◌+◌, ◌-◌, ◌<◌, ◌≤◌, length};
 ghost use Rattle.rights_types.specs.Places.{at_site};
 ghost use Rattle.rights_types.specs.Rights.{sum_sites};
@@ -26,7 +26,7 @@ pub(crate) fn end_closed<A: Allocator>(peers: &mut [PeerAsks], book: &Book<A>)
     }
 }
 
-/// The rights that the site's waiting requests lack, beyond those that it holds and asked for.
+/// The rights that the site's waiting requests need beyond those that it holds and has asked for.
 pub(crate) fn need<A: Allocator, B: Allocator>(
     peers: &[PeerAsks],
     book: &Book<A>,
@@ -48,7 +48,7 @@ pub(crate) fn need<A: Allocator, B: Allocator>(
         .saturating_sub(outstanding)
 }
 
-/// Of each site, from site 1 on, the rights that it is known to have where it is eligible, else 0.
+/// For each site, from site 1 on, the rights that it is known to have if it is eligible, else 0.
 pub(crate) fn eligible_rights<A: Allocator>(
     me: SiteId,
     peers: &[PeerAsks],
@@ -67,7 +67,7 @@ pub(crate) fn eligible_rights<A: Allocator>(
     rights
 }
 
-/// Asks each peer for its amount, and answers how many were asked.
+/// Asks each peer for its amount, and returns how many were asked.
 pub(crate) fn ask_each(peers: &mut [PeerAsks], rights: &[u128], need: u64) -> u64
     requires few { length peers.old ≤ MAX_SITES }
     requires same { length rights.now ≡ length peers.old }
@@ -87,7 +87,7 @@ pub(crate) fn ask_each(peers: &mut [PeerAsks], rights: &[u128], need: u64) -> u6
     count
 }
 
-// What the site at this place is asked for, 0 where it is not asked.
+// The amount that the site at this index is asked for; 0 if it is not asked.
 fn amount_asked(rights: &[u128], place: usize, need: u64) -> u64
     requires few { length rights.now ≤ MAX_SITES }
     requires place { place < length rights.now }
@@ -99,8 +99,8 @@ fn amount_asked(rights: &[u128], place: usize, need: u64) -> u64
     rights[place].min(left).min(MAX_AMOUNT as u128) as u64
 }
 
-// The rights of the sites before the one at this place: of those that have more, and of those that
-// have as many and a smaller number.
+// The rights of the sites that come before the one at this index: those that have more, and those that have the same
+// and a smaller number.
 fn rights_before(rights: &[u128], place: usize) -> u128
     requires few { length rights.now ≤ MAX_SITES }
     requires place { place < length rights.now }
@@ -118,9 +118,8 @@ fn rights_before(rights: &[u128], place: usize) -> u128
     before
 }
 
-// The rights that the site is known to have where it is eligible: a peer that has no ask
-// outstanding, is not known to have closed, has an ask number left and is known to have rights. 0 of
-// any other site.
+// The rights that the site is known to have if it is eligible, else 0. A peer is eligible if it has no ask
+// outstanding, is not known to have closed, has an ask number left and is known to have rights.
 fn rights_if_eligible<A: Allocator>(
     me: SiteId,
     asks: &PeerAsks,
@@ -136,7 +135,7 @@ fn rights_if_eligible<A: Allocator>(
     book.known(site).max(0) as u128
 }
 
-// The site at a place of a list that begins with site 1.
+// The site at an index of a list that begins with site 1.
 fn site_at(place: usize) -> SiteId
     requires { place < MAX_SITES }
     ensures { result ≡ place + 1 }

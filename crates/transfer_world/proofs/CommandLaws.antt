@@ -24,13 +24,13 @@ one_more : (done : List Move) (m : Move) (more : Option (List Move)) → after_m
 one_more done m None = refl
 one_more done m (Some ms) = ap Some (sym (append_assoc done (m ∷ []) ms))
 
--- one word more was read
+-- one more word was read
 pub moves_more : (all : Option (List Move)) (done : List Move) (left : Option (Bor (List ℕ))) (text : Bor (List ℕ)) (word : List ℕ) (rest : Option (Bor (List ℕ))) (m : Move)
     → all ≡ after_moves done (moves_in (words_left left)) → left ≡ Some text → words_of text.now ≡ word ∷ words_left rest → Some m ≡ move_of word
     → all ≡ after_moves (done ++ m ∷ []) (moves_in (words_left rest))
 moves_more all done left text word rest m h e w r = h ∙ rw (e, w, ← r) (one_more done m (moves_in (words_left rest)))
 
--- a word is no move
+-- a word that is not a move
 pub moves_none : (all : Option (List Move)) (done : List Move) (left : Option (Bor (List ℕ))) (text : Bor (List ℕ)) (word : List ℕ) (rest : Option (Bor (List ℕ)))
     → all ≡ after_moves done (moves_in (words_left left)) → left ≡ Some text → words_of text.now ≡ word ∷ words_left rest → None ≡ move_of word
     → None ≡ all
@@ -43,7 +43,7 @@ pub fewer_words : (left : Option (Bor (List ℕ))) (text : Bor (List ℕ)) (word
     → length (words_left rest) < length (words_left left)
 fewer_words left text word rest e w = rw (e, w) (omega arith)
 
--- a text has one word at least: what is read of any words is read of it
+-- a text has at least one word: what is read of any words is read of it
 pub text_whole : (text : Bor (List ℕ)) → text_of (words_of text.now) ≡ Some text.now
 text_whole text =
     let words = split_some (λ (b : ℕ). b == 32) text.now in

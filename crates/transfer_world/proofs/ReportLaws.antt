@@ -12,7 +12,7 @@ range_more k = let m = map-range_with_len_more (λ (x : ℕ). x) 1 k (k + 1) (om
 abbrev pub lines_below : (ℕ → List ℕ) → ℕ → List ℕ
 lines_below f n = flat_map f (range_with_len 1 (n - 1))
 
--- one site more
+-- one more site
 pub lines_next : (f : ℕ → List ℕ) (n : ℕ) (old now next : List ℕ) → 1 ≤ n → now ≡ old ++ lines_below f n → next ≡ now ++ f n → next ≡ old ++ lines_below f (n + 1)
 lines_next f n old now next some h e =
     let more : (n + 1) - 1 ≡ (n - 1) + 1 = omega arith in

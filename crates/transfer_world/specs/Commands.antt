@@ -1,4 +1,4 @@
--- The command of a line: its words, parted at each single space, and what they spell.
+-- The command of a line: its words, separated by single spaces, and what they spell.
 use Rattle.std.specs.Prelude.{◌≡◌, ℕ, ◌-◌, true, false, nat_le, List, [], ◌∷◌, ◌++◌, length, take, Option, Some, None, if◌then◌else◌, codes}
 use Rattle.std.specs.List.{join_with_byte}
 use Rattle.std.specs.Option.{option_map}
@@ -63,18 +63,18 @@ word_of text =
     first_some (option_map (λ word. AtSite word) (site_word text))
     (first_some (option_map (λ word. OnLink word) (link_word text)) (plain_word text))
 
--- the word that the first of words says, and the words after it
+-- the meaning of the first word, and the words after it
 abbrev pub word_in : List (List ℕ) → Option (Word × List (List ℕ))
 word_in [] = None
 word_in (first ∷ words) = do
   word ← word_of first
   Some (word, words)
 
--- every line that begins so says the word, and what is behind that has its values
+-- every line that begins with this text has this word, and its values come after that
 abbrev pub Spells : List ℕ → Word → Type 0
 Spells begins word = (rest : List ℕ) → word_in (words_of (begins ++ rest)) ≡ Some (word, words_of rest)
 
--- a line says a word, and a text has its values
+-- a line has a word, and this text has its values
 abbrev pub IsWordIn : List ℕ → (Word × Bor (List ℕ)) → Type 0
 IsWordIn line found = word_in (words_of line) ≡ Some (found.0, words_of found.1.now)
 
@@ -86,7 +86,7 @@ two_sites words = do
   o ← only_site s.1
   Some (s.0, o)
 
--- an event at one site; the heir of one that closes may be left out
+-- an event at one site; for a close, the heir may be missing
 unfoldable pub site_event : {A : Type 0} → SiteWord → List (List ℕ) → Option (Event A)
 site_event SaysIssue words = do
   v ← site_and_number words
@@ -148,12 +148,12 @@ post_of words = do
   moves ← moves_in s.1
   Some (Post s.0 moves)
 
--- the text of words, one at least
+-- the text of at least one word
 abbrev pub text_of : List (List ℕ) → Option (List ℕ)
 text_of [] = None
 text_of (word ∷ words) = Some (join_with_byte 32 (word ∷ words))
 
--- two sites, and the text behind them
+-- two sites, and the text after them
 unfoldable pub noise_parts : List (List ℕ) → Option (ℕ × ℕ × List ℕ)
 noise_parts words = do
   s ← first_site words
@@ -177,7 +177,7 @@ sites_of words = do
   n ← only_in MIN_SITES MAX_SITES words
   Some (Sites n)
 
--- the command of a first word, and its values
+-- the command with this first word and these values
 abbrev pub command_by : {A : Type 0} → Word → List (List ℕ) → Option (Command A)
 command_by SaysSites words = sites_of words
 command_by SaysPost words = act (post_of words)
@@ -195,6 +195,6 @@ command_with (first ∷ words) = word_of first >>= (λ word. command_by word wor
 unfoldable pub command_in : {A : Type 0} → List ℕ → Option (Command A)
 command_in text = command_with (words_of text)
 
--- the command of a line with its line feed, or none: no line is longer than `MAX_LINE`
+-- the command of a line with its line feed, or none; no command is longer than `MAX_LINE`
 unfoldable pub command_of : {A : Type 0} → List ℕ → Option (Command A)
 command_of line = if nat_le (length line) MAX_LINE then command_in (take (length line - 1) line) else None

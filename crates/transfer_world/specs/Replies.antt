@@ -31,7 +31,7 @@ verdict_text Repeat = codes "repeat"
 verdict_text AfterClose = codes "afterclose"
 verdict_text Full = codes "full"
 
--- the verdicts on what arrived, one space between
+-- the verdicts on what arrived, separated by single spaces
 abbrev pub verdicts_text : List Verdict → List ℕ
 verdicts_text [] = codes "empty"
 verdicts_text (v ∷ vs) = verdict_text v ++ flat_map (λ v. 32 ∷ verdict_text v) vs
@@ -74,7 +74,7 @@ outcome_text w (Err e) = codes "error " ++ error_name e
 abbrev pub bit : Bool → List ℕ
 bit b = if b then codes "1" else codes "0"
 
--- what a site's log holds
+-- the sums of a site's log
 unfoldable pub site_line : WorldValue → ℕ → List ℕ
 site_line w s =
     codes "site " ++ decimal s
@@ -84,7 +84,7 @@ site_line w s =
     ++ codes " held " ++ decimal (held_by w s)
     ++ codes " closed " ++ bit (is_closed (log w s)) ++ 10 ∷ []
 
--- how far s is with the log of o, and what is on the way from o to s
+-- how far s applied the log of o, and what is in transit from o to s
 unfoldable pub pair_line : WorldValue → ℕ → ℕ → List ℕ
 pair_line w s o =
     codes "pair " ++ decimal s ++ codes " " ++ decimal o

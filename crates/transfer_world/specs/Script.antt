@@ -1,4 +1,4 @@
--- What a line of a script is answered.
+-- The reply to a line of a script.
 use Rattle.std.specs.Prelude.{◌≡◌, ℕ, List, Option, Some, None, Result, codes}
 use Rattle.reply_texts.specs.Texts.{bad_command}
 use Rattle.world_core.specs.Values.{WorldValue}
@@ -11,7 +11,7 @@ use Rattle.transfer_world.specs.declared.script.commands.Command.TheVariants.{Si
 use Rattle.transfer_world.specs.Commands.{command_of}
 use Rattle.transfer_world.specs.Replies.{outcome_text, report_text}
 
--- the reply to a command, and the world after it; there is none before `sites`
+-- the reply to a command, and the world afterwards; there is none before `sites`
 abbrev pub CommandGets : {A : Type 0} → Option WorldValue → Option (Command A) → List ℕ → Option WorldValue → Type 0
 CommandGets old None text new = (text ≡ bad_command) × (new ≡ old)
 CommandGets None (Some (Sites n)) text new = (text ≡ codes "ok") × (new ≡ Some (start n))
@@ -22,6 +22,6 @@ CommandGets {A} (Some world) (Some (Act event)) text new =
     (outcome : Result (Reply A) WorldError) × (next : WorldValue) × Step world event outcome next × (text ≡ outcome_text next outcome) × (new ≡ Some next)
 CommandGets (Some world) (Some Report) text new = (text ≡ report_text world) × (new ≡ Some world)
 
--- the reply to a line that is given with its line feed
+-- the reply to a line with its line feed
 abbrev pub LineGets : Type 0 → Option WorldValue → List ℕ → List ℕ → Option WorldValue → Type 0
 LineGets A old line text new = CommandGets {A = A} old (command_of line) text new

@@ -1,4 +1,4 @@
--- What packets bring: the message that a packet's line spells, which nothing refuses.
+-- The content of packets: the message that a packet's line spells, which no link refuses.
 use Rattle.std.proofs.Common.{◌≡◌, ℕ, zero, suc, ◌-◌, ◌<◌, eqb, get_or, Bool, true, false, List, [], ◌∷◌, length, Option, Some, None, Result, Ok, Err, refl, sym, ap, subst, ◌∙◌, arith, inl, inr}
 use Rattle.std.specs.Prelude.{◌≢◌, if◌then◌else◌}
 use Rattle.std.specs.Result.{IsErrAnd}
@@ -33,7 +33,7 @@ use Rattle.world_core.specs.Sound.{LinkSound, IsSaid, MayCome, IsBody, IsSent, I
 
 -- ---- the message of a packet
 
--- an entry of a log, by its place
+-- an entry of a log, by its index
 entry_at : (o : ℕ) (es : List EntryValue) (place : ℕ) → IsChain o es → place < length es → (e : EntryValue) × (slice_get es place ≡ Some e) × Contains es e × IsEntry e
 entry_at o es place chain lt =
     elim (slice_get_cases es place).1 [
@@ -68,7 +68,7 @@ of_entry P (x ∷ es) e all there =
       | inr later ↦ of_entry P es e (subst (All P) (drop_at x.moves (moves_of es) (length x.moves) refl) (All-drop P (length x.moves) _ all)) later
     ]
 
--- entries of a log of this system are not of another
+-- entries of a log of this system fit this system
 none_foreign : (n : ℕ) (es some : List EntryValue) → All (λ (m : Move). is_foreign n m ≡ false) (moves_of es) → All (Contains es) some → has_foreign n some ≡ false
 none_foreign n es some native all =
     list_any_none _ some (λ k d lt. list_any_none (is_foreign n) _ (of_entry (λ m. is_foreign n m ≡ false) es _ native (all k d lt)))
@@ -76,7 +76,7 @@ none_foreign n es some native all =
 passes : (i : InboundValue) (m : MessageValue) → sender m ≡ i.buffer.origin → is_for i.buffer.me m ≡ true → has_foreign i.sites (entries_of m) ≡ false → message_fault i m ≡ None
 passes i m from here ours = rw (eq-eqb (sender m) i.buffer.origin from, here, ours) refl
 
--- what may come in is the origin's, for this site, and of this system
+-- what may arrive is the origin's, is for this site, and fits this system
 not_faulty : (w : WorldValue) (s p : ℕ) (l : LinkValue) (m : MessageValue) → IsNative w s → IsChain s (log w s) → LinkSound w p s l → MayCome w s p m → message_fault l.inbound m ≡ None
 not_faulty w s p l (AnEntry e) native chain sound h =
     let is = is_entry s false 0 (log w s) e chain h in
@@ -90,7 +90,7 @@ not_faulty w s p l (AnAsk a) native chain sound h = passes l.inbound (AnAsk a) (
 not_faulty w s p l (ADenial d) native chain sound h = passes l.inbound (ADenial d) (h.0 ∙ sym sound.origin) (eq-eqb d.asker l.inbound.buffer.me (h.1 ∙ sym sound.me)) refl
 not_faulty w s p l (AHello site) native chain sound h = absurd h
 
--- what a packet's line says
+-- the message of a packet's line
 pub record Said (w : WorldValue) (p : PacketValue) (m : MessageValue) : Type 0 where
   pub spelled : Spells m (packet_text w p)
   pub may : MayCome w p.from p.to m
@@ -101,7 +101,7 @@ said w p is sent =
     let b = body_brings w p.from p.to p.body (is.kept.sites p.from).chain sent.said in
     (b.0, record { spelled = b.1; may = b.2; read = ap reading b.1.1 ∙ reading_again b.0 b.1.0 })
 
--- what is read of it is what it says
+-- reading it gives that message
 pub is_said : (w : WorldValue) (p : PacketValue) (m : MessageValue) → IsWorld w → IsSent w p → reading (packet_text w p) ≡ Ok m → Said w p m
 is_said w p m is sent read =
     let all = said w p is sent in
@@ -109,20 +109,20 @@ is_said w p m is sent read =
     let same : all.0 ≡ m = cc in
     subst (Said w p) same all.1
 
--- and the link that it comes to does not refuse it
+-- and the link that it arrives at does not refuse it
 pub no_fault : (w : WorldValue) (p : PacketValue) (l : LinkValue) → IsWorld w → IsSent w p → link w p.to p.from ≡ Some l → line_fault l.inbound (reading (packet_text w p)) ≡ None
 no_fault w p l is sent there =
     let all = said w p is sent in
     ap (line_fault l.inbound) all.1.read ∙ not_faulty w p.from p.to l all.0 (is.native p.from) (is.kept.sites p.from).chain (is.links p.to p.from l there) all.1.may
 
--- so that only memory can be lacking
+-- so only memory can be lacking
 pub not_refused : (X : Type 0) (i : InboundValue) (read : Result MessageValue LineError) (fault : InboundError) → line_fault i read ≡ None → InboundRefuses {X = X} i read (Err fault) → fault ≢ OutOfMemory → ⊥
 not_refused X i read OutOfMemory none refused other = other refl
 not_refused X i read WrongOrigin none refused other = absurd cc
 not_refused X i read BadSite none refused other = absurd cc
 not_refused X i read (Line e) none refused other = absurd cc
 
--- ---- where a packet is to arrive
+-- ---- if a packet is to arrive
 
 delivered : (w : WorldValue) (s number : ℕ) → arrive_fault w s number ≡ None → (p : PacketValue) × (packet w number ≡ Some p) × (p.to ≡ s)
 delivered w s number h = at_site_of (is_site w s) (packet w number) h
@@ -139,7 +139,7 @@ delivered w s number h = at_site_of (is_site w s) (packet w number) h
     at_site_of true found h = for_site found h
     at_site_of false found h = absurd cc
 
--- the packet of a number, counted from 1, lies before it
+-- a packet that was sent, by its number from 1
 at_number : (w : WorldValue) (number : ℕ) (p : PacketValue) → packet w number ≡ Some p → slice_get w.packets (number - 1) ≡ Some p
 at_number w zero p h = absurd cc
 at_number w (suc k) p h = past_first (eqb (suc k) 0) (slice_get w.packets (suc k - 1)) (ne_eqb (suc k) 0 (λ z. omega (arith, z))) h

@@ -1,4 +1,4 @@
--- What a call of a desk comes to, as an event at that desk.
+-- The results of a desk's calls, as events at that desk.
 use Rattle.std.proofs.Common.{◌≡◌, ℕ, Option, None, Result, Ok, Err, refl, sym, ap, subst, ◌∙◌}
 use Rattle.std.specs.Result.{IsErrAnd}
 use Rattle.std.proofs.lemmas.Result.{err_from_is_err_and}
@@ -14,7 +14,7 @@ use Rattle.world_core.specs.declared.reply.Reply.{Reply}
 use Rattle.world_core.specs.declared.fault.WorldError.{WorldError}
 use Rattle.world_core.proofs.EventPlaces.{Lent, with_at, unchanged}
 
--- a desk's refusal, told as the world's
+-- a desk's refusal, as the world's
 refused_by : {A : Type 0} (w new : WorldValue) (s : ℕ) (fault : Option DeskError) (Wants : Type 0)
     (Leaves : Reply A → DeskValue → Type 0) (cause : DeskError)
     → DeskRefuses {X = ℕ} fault (Err cause) → (cause ≡ OutOfMemory → Wants) → new ≡ w

@@ -1,4 +1,4 @@
--- Events at a desk keep what is kept of a world.
+-- Events at a desk preserve the invariant of the world.
 use Rattle.std.proofs.Common.{◌≡◌, ◌≢◌, ℕ, ◌≤◌, true, false, inl, inr, List, [], ◌∷◌, ◌++◌, length, Option, Some, None, refl, ap, sym, subst, ◌∙◌, arith, append-nil}
 use Rattle.std.specs.List.{All, Contains}
 use Rattle.std.proofs.lemmas.Bool.{both_ways}
@@ -72,13 +72,13 @@ same_count w s d = length-set_site w.desks s d
 
 -- ---- logs that go on
 
--- of the same sites, each log goes on, and is a chain still
+-- of the same sites, each log grows, and is still a chain
 pub record LogsGoOn (old new : WorldValue) : Type 0 where
   pub same : count new ≡ count old
   pub longer : (o : ℕ) → IsPrefix (log old o) (log new o)
   pub chains : (o : ℕ) → IsChain o (log new o)
 
--- a link goes on to follow the longer log
+-- a link continues to follow the longer log
 pub link_goes_on : (old new : WorldValue) (s o : ℕ) (l : LinkValue) → LogsGoOn old new → LinkSound old s o l
     → LinkSound new s o l
 link_goes_on old new s o l logs h =
@@ -96,14 +96,14 @@ link_goes_on old new s o l logs h =
           (follows_longer l.inbound.buffer (log old o) more l.reached l.put here h.follows);
     }
 
--- what goes on ends no earlier
+-- a log that grows ends no earlier
 end_longer : (o : ℕ) (xs ys : List EntryValue) → IsChain o ys → IsPrefix xs ys → end xs ≤ end ys
 end_longer o xs ys chain (more, whole) =
     let split : IsChain o (xs ++ more) = subst (IsChain o) (sym whole) chain in
     let ends : end ys ≡ end (xs ++ more) = ap end (sym whole) in
     omega (arith, ends, end_from-append 0 xs more, end_from-le o _ (end xs) more (chain_right o false 0 xs more split))
 
--- what was said of a log may be said of the longer one
+-- a message about a log may also be sent about the longer log
 said_goes_on : (old new : WorldValue) (s p : ℕ) (m : MessageValue) → LogsGoOn old new → IsSaid old s p m
     → IsSaid new s p m
 said_goes_on old new s p (AnEntry e) logs h = h
@@ -119,14 +119,14 @@ said_goes_on old new s p (AnAsk a) logs h = h
 said_goes_on old new s p (ADenial d) logs h = h
 said_goes_on old new s p (AHello site) logs h = h
 
--- an entry is at its place still
+-- an entry is still at its index
 body_goes_on : (old new : WorldValue) (s p : ℕ) (b : BodyValue) → LogsGoOn old new → IsBody old s p b → IsBody new s p b
 body_goes_on old new s p (EntryAt place) logs h =
     let long : length (log new s) ≡ length (log old s ++ (logs.longer s).0) = ap length (sym (logs.longer s).1) in
     omega (arith, h, long, length-append (log old s) (logs.longer s).0)
 body_goes_on old new s p (Text text) logs h = (h.0, h.1, said_goes_on old new s p h.0 logs h.2)
 
--- so packets that were sent could be sent still
+-- so packets that could be sent before can still be sent
 pub sent_goes_on : (old new : WorldValue) (p : PacketValue) → LogsGoOn old new → IsSent old p → IsSent new p
 sent_goes_on old new p logs h = record {
   from = subst (λ n. IsSiteOf n p.from) (sym logs.same) h.from;
@@ -147,31 +147,31 @@ pub record IsDeskOf (n k : ℕ) (d : DeskValue) : Type 0 where
   pub manager : d.manager.me ≡ k
   pub system : sites d.ledger.book ≡ n
 
--- a desk of s with its log, which may have gone on by moves of this system
+-- a desk of s with its log, to which moves of this system may have been added
 pub record DeskGoesOn (w : WorldValue) (s : ℕ) (d : DeskValue) : Type 0 where
   pub own : IsDeskOf (count w) s d
   pub sound : DeskSound d
   pub longer : IsPrefix (log w s) d.ledger.log.entries
   pub native : NativeLog (count w) d.ledger.log.entries
 
--- a log that did not change begins itself
+-- a log that did not change is a prefix of itself
 longer_itself : (es : List EntryValue) → IsPrefix es es
 longer_itself es = ([], append-nil es)
 
--- each log begins the one that there is now
+-- each log is a prefix of the new one
 pub logs_longer : (w : WorldValue) (s : ℕ) (d : DeskValue) → IsSiteOf (count w) s → DeskGoesOn w s d → (o : ℕ)
     → IsPrefix (log w o) (log (with_desk w s d) o)
 logs_longer w s d site next =
     each_desk (λ k x. IsPrefix (log w k) x.ledger.log.entries) w s d site next.longer (λ k _. longer_itself (log w k))
 
--- no log has moves of another system
+-- no log has moves that do not fit this system
 pub native_still : (w : WorldValue) (s : ℕ) (d : DeskValue) → IsWorld w → IsSiteOf (count w) s → DeskGoesOn w s d
     → (k : ℕ) → IsNative (with_desk w s d) k
 native_still w s d is site next k =
     subst (λ n. NativeLog n (log (with_desk w s d) k)) (sym (same_count w s d))
     (each_desk (λ k x. NativeLog (count w) x.ledger.log.entries) w s d site next.native (λ k _. is.native k) k)
 
--- each site's desk is its own, and is so still
+-- each site still has its own desk
 own_desk : (w : WorldValue) (k : ℕ) → IsWorld w → IsSiteOf (count w) k → IsDeskOf (count w) k (desk w k)
 own_desk w k is among =
     let old : SiteSound w k = is.sites k among in record { me = old.me; manager = old.manager; system = old.system }
@@ -182,7 +182,7 @@ desks_still w s d is site next =
     each_desk (λ k x. IsSiteOf (count w) k → IsDeskOf (count w) k x) w s d site (λ _. next.own)
     (λ k _ among. own_desk w k is among)
 
--- each site is sound still
+-- each site is still sound
 site_still : (w : WorldValue) (s : ℕ) (d : DeskValue) → IsWorld w → IsSiteOf (count w) s → DeskGoesOn w s d
     → HasApplied (applied w s) d.ledger → (k : ℕ) → IsSiteOf (count w) k → SiteSound (with_desk w s d) k
 site_still w s d is site next stands k among =
@@ -201,7 +201,7 @@ site_still w s d is site next stands k among =
       others = λ o from differ. old.others o (subst (λ n. IsSiteOf n o) (same_count w s d) from) differ;
     }
 
--- another desk of s whose log goes on keeps the world, where the protocol's part is kept
+-- another desk of s whose log grows preserves the invariant of the world, if the protocol's part is preserved
 pub desk_grows : (w : WorldValue) (s : ℕ) (d : DeskValue) → IsWorld w → IsSiteOf (count w) s → DeskGoesOn w s d
     → HasApplied (applied w s) d.ledger → Leads w (with_desk w s d) → WorldGoesOn w (with_desk w s d)
 desk_grows w s d is site next stands by =
@@ -222,7 +222,7 @@ desk_grows w s d is site next stands by =
 
 -- ---- a desk with the same log and book
 
--- a log that is the same begins itself
+-- a log that is the same is a prefix of itself
 same_longer : (w : WorldValue) (s : ℕ) (d : DeskValue) → d.ledger.log.entries ≡ log w s
     → IsPrefix (log w s) d.ledger.log.entries
 same_longer w s d same = subst (IsPrefix (log w s)) (sym same) (longer_itself (log w s))
@@ -238,7 +238,7 @@ lists_stay w s d site same = record {
   };
 }
 
--- a desk with this log and book, which keeps no spend waiting where it has closed
+-- a desk with this log and book, at which no spend waits if it has closed
 still_sound : (old d : DeskValue) → DeskSound old → d.ledger.log.site ≡ old.ledger.log.site
     → d.ledger.log.entries ≡ old.ledger.log.entries → d.ledger.book ≡ old.ledger.book
     → (has_closed d ≡ true → d.queue.waiting ≡ []) → DeskSound d
@@ -254,7 +254,7 @@ still_sound old d is site entries book idle =
       idle = idle;
     }
 
--- nothing changed but the log's cursors, what waits, the asks and the time
+-- nothing changed but the log's cursors, the waiting spends, the asks and the time
 pub same_log : (w : WorldValue) (s : ℕ) (d : DeskValue) → IsWorld w → IsSiteOf (count w) s
     → d.ledger.log.site ≡ (desk w s).ledger.log.site → d.ledger.log.entries ≡ log w s
     → d.ledger.book ≡ (desk w s).ledger.book → d.manager.me ≡ (desk w s).manager.me
@@ -276,7 +276,7 @@ same_log w s d is site me entries book manager idle =
     desk_grows w s d is site next stands
     (leads w (with_desk w s d) Nothing is (lists_stay w s d site entries))
 
--- nothing changed but what waits, the asks and the time
+-- nothing changed but the waiting spends, the asks and the time
 pub same_ledger : (w : WorldValue) (s : ℕ) (d : DeskValue) → IsWorld w → IsSiteOf (count w) s
     → d.ledger ≡ (desk w s).ledger → d.manager.me ≡ (desk w s).manager.me
     → (has_closed (desk w s) ≡ true → d.queue.waiting ≡ []) → WorldGoesOn w (with_desk w s d)
@@ -284,7 +284,7 @@ same_ledger w s d is site same manager idle =
     same_log w s d is site (ap (λ (l : LedgerValue). l.log.site) same) (ap (λ (l : LedgerValue). l.log.entries) same)
     (ap (λ (l : LedgerValue). l.book) same) manager idle
 
--- .. nor what waits
+-- .. nor the waiting spends
 pub same_requests : (w : WorldValue) (s : ℕ) (d : DeskValue) → IsWorld w → IsSiteOf (count w) s
     → d.ledger ≡ (desk w s).ledger → d.manager.me ≡ (desk w s).manager.me → d.queue ≡ (desk w s).queue
     → WorldGoesOn w (with_desk w s d)
@@ -318,7 +318,7 @@ ask_denied w s j a is site =
 
 -- ---- a desk that wrote an entry
 
--- the desk of s wrote one entry of these moves, which are of this system
+-- the desk of s wrote one entry of these moves, which fit this system
 pub record Wrote (w : WorldValue) (s : ℕ) (ms : List Move) (d : DeskValue) : Type 0 where
   pub log : d.ledger.log ≡ with_entry (desk w s).ledger.log ms
   pub book : sites d.ledger.book ≡ sites (desk w s).ledger.book
@@ -330,7 +330,7 @@ pub record Wrote (w : WorldValue) (s : ℕ) (ms : List Move) (d : DeskValue) : T
 abbrev entry_by : WorldValue → ℕ → List Move → EntryValue
 entry_by w s ms = entry_at_end s (log w s) ms
 
--- that entry stands at the end of the desk's log, under the number of s
+-- that entry is at the end of the desk's log, under the number of s
 entry_stands : (w : WorldValue) (s : ℕ) (ms : List Move) (d : DeskValue) → IsWorld w → IsSiteOf (count w) s
     → Wrote w s ms d → d.ledger.log.entries ≡ log w s ++ entry_by w s ms ∷ []
 entry_stands w s ms d is site wrote =
@@ -354,7 +354,7 @@ others_stay w s d site = record {
   };
 }
 
--- an entry keeps the world, where the protocol's part is kept
+-- an entry preserves the invariant of the world, if the protocol's part is preserved
 entry_keeps : (w : WorldValue) (s : ℕ) (ms : List Move) (d : DeskValue) → IsWorld w → IsSiteOf (count w) s
     → Wrote w s ms d → Leads w (with_desk w s d) → WorldGoesOn w (with_desk w s d)
 entry_keeps w s ms d is site wrote by =
@@ -373,7 +373,7 @@ entry_keeps w s ms d is site wrote by =
     } in
     desk_grows w s d is site next (wrote.applied.all (applied w s) here.applied) by
 
--- an ordinary entry that neither log nor book refuses keeps the world
+-- an ordinary entry that neither log nor book refuses preserves the invariant of the world
 pub wrote : (w : WorldValue) (s : ℕ) (ms : List Move) (d : DeskValue) → IsWorld w → IsSiteOf (count w) s
     → IsWritable (desk w s).ledger ms → WritesEntry (desk w s).ledger ms d.ledger
     → d.manager.me ≡ (desk w s).manager.me → WorldGoesOn w (with_desk w s d)
@@ -412,7 +412,7 @@ record ClosesHere (w : WorldValue) (s : ℕ) (heir : Option ℕ) : Type 0 where
   may : MayClose (count w) s (log w s) (applied w s) heir
   moves : closing_by (desk w s).ledger.book heir ≡ closing_moves (count w) s (log w s) (applied w s) heir
 
--- the ledger closes as the protocol says, whatever it applied; so it does by what s applied
+-- the ledger closes as the protocol says, for any lists that it applied; so it does for those that s applied
 closes_here : (w : WorldValue) (s : ℕ) (heir : Option ℕ) → IsWorld w → IsSiteOf (count w) s
     → ClosesAs (desk w s).ledger heir (applied w s) → ClosesHere w s heir
 closes_here w s heir is site h =
@@ -426,7 +426,7 @@ closes_here w s heir is site h =
           ∙ ap (λ j. closing_moves (count w) j (log w s) (applied w s) heir) here.me;
     }
 
--- a closing entry keeps the world, where the desk may close
+-- a closing entry preserves the invariant of the world, if the desk may close
 pub closed : (w : WorldValue) (s : ℕ) (heir : Option ℕ) (d : DeskValue) → IsWorld w → IsSiteOf (count w) s
     → CanClose (desk w s) heir → WritesClosing (desk w s).ledger heir d.ledger
     → d.manager.me ≡ (desk w s).manager.me → d.queue ≡ (desk w s).queue → WorldGoesOn w (with_desk w s d)

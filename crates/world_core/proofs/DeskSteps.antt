@@ -1,4 +1,4 @@
--- Each event at a desk keeps what is kept of a world.
+-- Each event at a desk preserves the invariant of the world.
 use Rattle.std.proofs.Common.{◌≡◌, ℕ, true, List, [], ◌∷◌, Option, None, Result, Ok, Err, ap, sym, subst, ◌∙◌}
 use Rattle.std.proofs.lemmas.Bool.{both_ways}
 use Rattle.rights_types.specs.declared.moves.Move.{Move}
@@ -27,7 +27,8 @@ use Rattle.world_core.proofs.WorldGoesOn.{WorldGoesOn, unchanged}
 use Rattle.world_core.proofs.DeskKeeps.{wrote, closed, same_ledger, same_requests}
 use Rattle.world_core.proofs.SendKeeps.{site_known}
 
--- whatever a desk that refuses nothing may leave with a reply keeps the world, so whatever comes of the event does
+-- whatever a desk that refuses nothing may leave with a reply preserves the invariant, so the event does, whatever its
+-- result
 pub at_desk : {A : Type 0} (old new : WorldValue) (s : ℕ) (fault : Option DeskError) (Wants : Type 0)
     → (Leaves : Reply A → DeskValue → Type 0) (outcome : Result (Reply A) WorldError) → IsWorld old
     → (fault ≡ None → (reply : Reply A) (d : DeskValue) → Leaves reply d → WorldGoesOn old (with_desk old s d))
@@ -45,7 +46,7 @@ desk_wrote : (w : WorldValue) (s : ℕ) (ms : List Move) (d : DeskValue) → IsW
     → IsWritable (desk w s).ledger ms → DeskWrites (desk w s) ms d → WorldGoesOn w (with_desk w s d)
 desk_wrote w s ms d is site ok h = wrote w s ms d is site ok h.entry (ap (λ (x : DeskValue). x.manager.me) h.rest)
 
--- .. and told its number
+-- .. and returned its number
 writes_keep : {A : Type 0} (w : WorldValue) (s : ℕ) (ms : List Move) (reply : Reply A) (d : DeskValue) → IsWorld w
     → IsSiteOf (count w) s → IsWritable (desk w s).ledger ms → Writes (desk w s) ms reply d
     → WorldGoesOn w (with_desk w s d)
@@ -93,7 +94,7 @@ spend_keeps old new s n deadline outcome is known h =
     (Spends (desk old s) n deadline) outcome is
     (λ none reply d. spends_keep old s n deadline reply d is (site_known old s known) none) h
 
--- the front spend is served, or none
+-- the spend at the front is served, or none
 serves_keep : {A : Type 0} (w : WorldValue) (s : ℕ) (reply : Reply A) (d : DeskValue) → IsWorld w → IsSiteOf (count w) s
     → serve_fault (desk w s) ≡ None → Serves (desk w s) reply d → WorldGoesOn w (with_desk w s d)
 serves_keep w s (Served ticket number) d is site none h =
@@ -134,7 +135,7 @@ told_waiting old new ticket (SaysSpent number) h = ap (λ (q : QueueValue). q.wa
 told_waiting old new ticket SaysExpired h = ap (λ (q : QueueValue). q.waiting) h.1
 told_waiting old new ticket Unknown h = ap (λ (q : QueueValue). q.waiting) h.2
 
--- an outcome is told
+-- an outcome is reported
 tells_keep : {A : Type 0} (w : WorldValue) (s ticket : ℕ) (reply : Reply A) (d : DeskValue) → IsWorld w
     → IsSiteOf (count w) s → TellsStatus (desk w s) ticket reply d → WorldGoesOn w (with_desk w s d)
 tells_keep w s ticket (Tells status) d is site h =

@@ -1,4 +1,4 @@
--- What is known of an event's place, where the world does not refuse it, and what the code reads and writes there.
+-- What is known of an event's sites, if the world does not refuse it, and what the code reads and writes there.
 use Rattle.std.proofs.Common.{◌≡◌, ◌≢◌, ℕ, ◌+◌, Bool, true, false, cond, not, ◌&&◌, eqb, leb, List, get_or, set, Option, Some, None, arith, refl, sym, ap, ◌∙◌, subst}
 use Rattle.std.proofs.lemmas.List.{get_or_read}
 use Rattle.std.proofs.lemmas.Bool.{and_parts, leb-true, eq-eqb}
@@ -37,7 +37,7 @@ not_equal s o h e =
     let bad : false ≡ true = rw same at h in
     absurd cc
 
--- .. and so are both ends of a link, which are two
+-- .. and so are both ends of a link, which differ
 pub link_known : (w : WorldValue) (s o : ℕ) → link_fault w s o ≡ None
     → IsSiteOf (count w) s × IsSiteOf (count w) o × (s ≢ o)
 link_known w s o h =
@@ -46,7 +46,7 @@ link_known w s o h =
     let b = and_parts (is_site w s) (is_site w o) a.0 in
     (site_is w s b.0, site_is w o b.1, not_equal s o a.1)
 
--- an event that is not refused is not refused by its place
+-- an event that is not refused is not refused because of its sites
 pub place_known : {A : Type 0} (w : WorldValue) (event : Event A) → fault_of w event ≡ None → place_fault w event ≡ None
 unfolding fault_of
 place_known w event e = (no_cause w.ended Ended (place_fault w event) e).1
@@ -57,7 +57,8 @@ place_known w event e = (no_cause w.ended Ended (place_fault w event) e).1
 abbrev pub with_at : WorldValue → ℕ → DeskValue → WorldValue
 with_at w i d = record w { desks = set w.desks i d }
 
--- a desk that is lent at an index of the world is that of the site, and its change is that of the site's desk
+-- a desk that is borrowed at an index of the world is that of the site, and a change of it is a change of the site's
+-- desk
 pub record Lent (there w : WorldValue) (i s : ℕ) (was : DeskValue) : Type 0 where
   pub is : was ≡ desk w s
   pub changed : (d : DeskValue) → with_at there i d ≡ with_desk w s d

@@ -1,4 +1,4 @@
--- What becomes of an event: it is refused, happens, or ends the world.
+-- The results of an event: it is refused, happens, or ends the world.
 use Rattle.std.proofs.Common.{◌≡◌, true, false, Some, None, Result, Ok, Err, refl}
 use Rattle.world_core.specs.Values.{WorldValue}
 use Rattle.world_core.specs.Worlds.{ended}
@@ -9,7 +9,7 @@ use Rattle.world_core.specs.declared.reply.Reply.{Reply}
 use Rattle.world_core.specs.declared.fault.WorldError.{WorldError}
 use Rattle.world_core.specs.declared.fault.WorldError.TheVariants.{Ended, NoSuchSite, NoPacket, NotForSite, Forged, Desk, OutOfMemory}
 
--- an attempt that wanted no memory happened
+-- an attempt that did not run out of memory happened
 attempt_happens : {A : Type 0} (w new : WorldValue) (event : Event A) (outcome : Result (Reply A) WorldError)
     → wants_memory outcome ≡ false → Attempts w event outcome new → Happens w event outcome new
 attempt_happens w new event (Err OutOfMemory) other h = absurd cc
@@ -21,7 +21,7 @@ attempt_happens w new event (Err Forged) other h = h
 attempt_happens w new event (Err (Desk f)) other h = h
 attempt_happens w new event (Ok reply) other h = h
 
--- one that wanted memory ends the world
+-- one that ran out of memory ends the world
 attempt_ends : {A : Type 0} (w mid : WorldValue) (event : Event A) (outcome : Result (Reply A) WorldError)
     → wants_memory outcome ≡ true → Attempts w event outcome mid → Happens w event outcome (ended mid)
 attempt_ends w mid event (Err OutOfMemory) wants h = (mid, h, refl)

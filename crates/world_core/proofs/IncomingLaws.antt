@@ -1,4 +1,4 @@
--- What a link lists, and the room in its lists, as entries come.
+-- The lists of a link, and their capacity, as entries arrive.
 use Rattle.std.proofs.Common.{◌≡◌, ◌+◌, ◌≤◌, append_assoc, map, IfSome, vec_capacity, drop, get_or, ℕ, List, [], ◌∷◌, ◌++◌, length, length-append, ap, arith, refl, sym, ◌∙◌}
 use Rattle.std.specs.Prelude.{Option, Some, None, IsSome, MatchOption, unwrap_or}
 use Rattle.std.specs.Option.{option_map}
@@ -27,7 +27,7 @@ lists_nothing items (Some l) v e h = ap (λ es. Some es) (sym (h (items l)))
 pub some_is : {X : Type 0} (x y : X) → Some x ≡ Some y → x ≡ y
 some_is x y h = ap (λ o. unwrap_or o x) h
 
--- the copy of the entry e, where there is one
+-- the copy of the entry e, if there is one
 pub lists_copy : {A V : Type 0} (items : V → List EntryValue) (apart : Option V) (l : V) (new : List EntryValue) (copy e : EntryValue) (given : Option EntryValue) (v : BufferVerdict A)
     → apart ≡ Some l → given ≡ Some copy → (IsSome apart → given ≡ Some e) → new ≡ items l ++ copy ∷ [] → reached_after (items l) e v ≡ items l ++ e ∷ []
     → Some new ≡ option_map (λ x. reached_after (items x) e v) apart
@@ -41,7 +41,7 @@ ready_in-freed : (A : Type 0) (freed : List EntryValue) → ready_in (all_ready 
 ready_in-freed A [] = refl
 ready_in-freed A (e ∷ es) = ap (λ xs. e ∷ xs) (ready_in-freed A es)
 
--- the entries of these verdicts that are ready go to the end of what was put
+-- the entries of these verdicts that are ready are appended to what was delivered
 pub puts_one : {A : Type 0} (put : List EntryValue) (v : BufferVerdict A) (freed : List EntryValue) → put ++ ready_in (v ∷ all_ready freed) ≡ put_after put v ++ freed
 puts_one {A} put (Ready e) freed = ap (λ es. put ++ e ∷ es) (ready_in-freed A freed) ∙ sym (append_assoc put (e ∷ []) freed)
 puts_one {A} put Held freed = ap (λ es. put ++ es) (ready_in-freed A freed)
@@ -74,7 +74,7 @@ freed_was_held Repeat freed held later may count = omega (arith, count)
 freed_was_held AfterClose freed held later may count = omega (arith, count)
 freed_was_held Full freed held later may count = omega (arith, count)
 
--- what is put or held is one more, at most
+-- at most one more is delivered or held
 pub put_or_held : {A : Type 0} (put : List EntryValue) (v : BufferVerdict A) (freed : List EntryValue) (held later : ℕ) → length freed + later ≤ held + more_held v
     → length (put_after put v ++ freed) + later ≤ length put + held + 1
 put_or_held put (Ready e) freed held later count = omega (arith, count, length-append (put ++ e ∷ []) freed, length-append put (e ∷ []))
@@ -88,7 +88,7 @@ told_len v freed =
     let ready : EntryValue → Verdict = λ e. IsReady (own e) in
     omega (arith, length-map freed ready)
 
--- the list apart grows by one, at most
+-- the separate list grows by at most one
 longer_apart : {A : Type 0} (v : BufferVerdict A) (e : EntryValue) (es : List EntryValue) → length (reached_after es e v) ≤ length es + 1
 longer_apart (Ready x) e es = omega (arith, length-append es (e ∷ []))
 longer_apart Held e es = omega (arith, length-append es (e ∷ []))
@@ -105,7 +105,7 @@ room_apart n (Some old) (Some new) items capacity v e lists same room =
     let listed : items new ≡ reached_after (items old) e v = some_is _ _ lists in
     omega (arith, room, ap (λ es. length es) listed, longer_apart v e (items old), some_is _ _ same)
 
--- an entry came: there is room for one less
+-- an entry arrived: there is space for one less
 pub keeps_room : {A K : Type 0} (n : ℕ) (old new : Incoming A K) (list later : Scratch A) (e : EntryValue) (v : BufferVerdict A) (freed : List EntryValue)
     → HasRoom (n + 1) old list → IncomingTakes old list.told.items e v freed new later.told.items
     → vec_capacity new.put ≡ vec_capacity old.put → option_map (λ l. vec_capacity l) new.apart ≡ option_map (λ l. vec_capacity l) old.apart

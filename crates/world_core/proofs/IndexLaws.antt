@@ -24,7 +24,7 @@ at_place xs i s x d e lt is = get_or_read xs i x lt is d ∙ sym (at_site-index 
 
 -- ---- desks
 
--- what is at the place of a site: its desk, or nothing past the last one
+-- what is at the index of a site: its desk, or nothing past the last one
 pub record DeskFound (w : WorldValue) (s : ℕ) (found : Option (Bor DeskValue)) : Type 0 where
   pub some : IfSome found (λ d. d.now ≡ desk w s)
   pub site : IfSome found (λ d. IsSiteOf (count w) s)

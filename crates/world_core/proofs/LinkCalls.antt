@@ -1,4 +1,4 @@
--- What the calls of a desk and of a link come to, as an event between two sites.
+-- The results of a desk's and a link's calls, as events between two sites.
 use Rattle.std.proofs.Common.{◌≡◌, ◌≢◌, inl, inr, ℕ, ◌+◌, ◌≤◌, Bool, false, List, [], ◌∷◌, ◌++◌, length, get_or, set, Option, Some, None, Ok, arith, refl, sym, ap, ◌∙◌, subst}
 use Rattle.std.specs.List.{slice_get}
 use Rattle.std.proofs.lemmas.List.{append-nil, length-append, get_or_read}
@@ -47,7 +47,7 @@ sends_line A bytes there w s p n (Some m) line text packet before after same spe
           ∙ ap (λ x. there.packets ++ x ∷ []) made_of) ∙ ap (λ v. with_packet v sent) same;
     }
 
--- where there is no line, there is no message
+-- if there is no line, there is no message
 pub sends_none : (A : Type 0) {V : Type 0} (bytes : V → List ℕ) (w : WorldValue) (s p : ℕ) (m : Option MessageValue)
     → LineOf bytes m None → SendsIf {A = A} w s p m (Ok Nothing) w
 sends_none A bytes w s p None none = refl
@@ -55,7 +55,7 @@ sends_none A bytes w s p (Some m) none = absurd none
 
 -- ---- entries that are taken
 
--- the links that are lent at an index of the world are those of the site
+-- the links that are borrowed at an index of the world are those of the site
 pub row_is : (there w : WorldValue) (i s : ℕ) (was : List (Option LinkValue)) → there ≡ w → i + 1 ≡ s
     → IsSiteOf (count w) s → length w.links ≡ count w → was ≡ get_or there.links i was → was ≡ row w s
 row_is there w i s was same at known rows read =
@@ -87,7 +87,7 @@ asked there w j s o again links left before after q same index row_was is asks r
   left = relinked there w j s o links left after same index row_was change ∙ ap (λ l. with_link w s o l) rest;
 }
 
--- where no entry is next, all that was put was applied
+-- if no entry is next, all that was delivered was applied
 pub all_applied : (xs ys : List EntryValue) → IsPrefix xs ys → slice_get ys (length xs) ≡ None → xs ≡ ys
 all_applied xs ys ([], whole) none = sym (append-nil xs) ∙ whole
 all_applied xs ys (e ∷ rest, whole) none =
@@ -96,14 +96,14 @@ all_applied xs ys (e ∷ rest, whole) none =
       | inr p ↦ absurd (omega (arith, p.0, ap length whole, length-append xs (e ∷ rest)))
     ]
 
--- what a desk asks of the entry e of o that it is to apply
+-- what a desk requires of the entry e of o that it is to apply
 pub record CanApply (d : DeskValue) (o : ℕ) (e : EntryValue) : Type 0 where
   pub site : o ≤ sites d.ledger.book
   pub other : o ≢ d.ledger.log.site
   pub unclosed : (peer d.ledger.book o).log.closed ≡ false
   pub next : e.prev ≡ (peer d.ledger.book o).log.end
 
--- the next entry goes on with what was applied, and that is what the desk's book stands for
+-- the next entry continues what was applied, which the desk's book represents
 pub can_apply : (w : WorldValue) (s o : ℕ) (e : EntryValue) → IsWorld w → IsSiteOf (count w) s → IsSiteOf (count w) o
     → s ≢ o → slice_get (put w s o) (length (applied w s o)) ≡ Some e → CanApply (desk w s) o e
 can_apply w s o e is here there other next =

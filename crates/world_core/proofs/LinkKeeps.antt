@@ -1,4 +1,4 @@
--- Entries, beats and queries on a link keep what is kept of a world.
+-- Entries, beats and queries on a link preserve the invariant of the world.
 use Rattle.std.proofs.Common.{◌≡◌, ◌≢◌, ℕ, ◌≤◌, ◌⊎◌, inl, inr, Bool, true, false, cond, List, [], ◌∷◌, ◌++◌, length, arith, refl, sym, ap, ◌∙◌, subst, Option, Some, None}
 use Rattle.std.specs.List.{All, Contains}
 use Rattle.std.proofs.lemmas.Bool.{cases_eq}
@@ -33,7 +33,7 @@ use Rattle.world_core.proofs.DeskKeeps.{LogsGoOn, link_goes_on, all_sent_go_on}
 pub same_lists : (old new : ℕ → List EntryValue) → ((o : ℕ) → new o ≡ old o) → new ≡ old
 same_lists old new same = λ i o. same o i
 
--- where no desk changed, each log goes on
+-- if no desk changed, each log stays or grows
 pub logs_stay : (old new : WorldValue) → IsWorld old → count new ≡ count old → ((o : ℕ) → log new o ≡ log old o)
     → LogsGoOn old new
 logs_stay old new is sites same = record {
@@ -44,7 +44,7 @@ logs_stay old new is sites same = record {
 
 -- ---- a link that is written
 
--- what is read where one link was written
+-- what is read after one link was written
 pub link_cases : (w : WorldValue) (s o k j : ℕ) (l : LinkValue) → IsWorld w → IsSiteOf (count w) s
     → IsSiteOf (count w) o
     → ((k ≡ s) × (j ≡ o) × (link (with_link w s o l) k j ≡ Some l))
@@ -81,7 +81,7 @@ link_elsewhere w s o k j l is site from other = elim (link_cases w s o k j l is 
   | inr p ↦ p.1
 ]
 
--- a link that is written as it was
+-- a link that is written back unchanged
 pub link_again : (w : WorldValue) (s o : ℕ) (l : LinkValue) → link w s o ≡ Some l → with_link w s o l ≡ w
 link_again w s o l there =
     let same : set_site (row w s) o (Some l) ≡ row w s =
@@ -164,7 +164,7 @@ link_keeps w s o old new is site from there sound same by =
       refines = by.refines;
     }
 
--- a link whose lists stay
+-- a link whose lists stay the same
 link_stays : (old new : WorldValue) (s o : ℕ) → link new s o ≡ link old s o
     → LinkStays (lists_of old) (lists_of new) s o
 link_stays old new s o same = record {
@@ -262,7 +262,7 @@ between w s o old new is site from = record {
       (link_elsewhere w s o k j new is site from other ∙ sym (link_elsewhere w s o k j old is site from other));
 }
 
--- it is the next one, or there is room to hold it
+-- it is the next one, or there is space to hold it
 abbrev HasRoom : EntryValue → List EntryValue → List EntryValue → Type 0
 HasRoom e came puts = (e.prev ≡ end puts) ⊎ (¬ IsFull came puts)
 
@@ -294,7 +294,7 @@ reach_kept w s o old new e is site from differ has by fresh room more longest sa
       });
     })
 
--- an entry did not
+-- an entry did not reach the link
 stay_kept : (w : WorldValue) (s o : ℕ) (old new : LinkValue) → IsWorld w → IsSiteOf (count w) s → IsSiteOf (count w) o
     → Leads w (with_link w s o old)
     → new.reached ≡ old.reached → new.put ≡ old.put → new.applied ≡ old.applied → Leads w (with_link w s o new)

@@ -1,4 +1,4 @@
--- What entries of a log leave of a link.
+-- The effect of entries of a log on a link.
 use Rattle.std.proofs.Common.{zero-add, suc-add, ◌≡◌, ◌+◌, ◌≤◌, ℕ, max, List, [], ◌∷◌, ◌++◌, length, length-append, take, drop, ap, arith, refl, sym, subst, ◌∙◌, append-nil, append_assoc}
 use Rattle.std.specs.Prelude.{Bool, true, false, Option, Some, None}
 use Rattle.std.specs.Option.{option_map}
@@ -25,7 +25,7 @@ use Rattle.world_core.proofs.IncomingLaws.{some_is}
 
 -- ---- what is put
 
--- what was put stays, and more comes behind it
+-- what was delivered stays, and more comes after it
 more_put : {A : Type 0} (put : List EntryValue) (v : BufferVerdict A) (freed : List EntryValue) → (more : List EntryValue) × (put_after put v ++ freed ≡ put ++ more)
 more_put put (Ready e) freed = (e ∷ freed, append_assoc put (e ∷ []) freed)
 more_put put Held freed = (freed, refl)
@@ -38,7 +38,7 @@ still_applied applied put new v freed within is =
     let h = more_put put v freed in
     ap (λ es. take applied es) (is ∙ h.1) ∙ take-append-le applied put h.0 within
 
--- where all that reached the site was put, and the entry e is not ahead, this stays so
+-- if all that reached the site was delivered, and the entry e is not ahead, this remains so
 all_put : {A : Type 0} (es put : List EntryValue) (old mid new : BufferValue) (e : EntryValue) (v : BufferVerdict A) (freed : List EntryValue)
     → e.prev ≤ old.last → OfferLeaves old e v mid → MayFree v freed → SettledVerdict put put e v → Follows es (reached_after put e v) (put_after put v ++ freed) new
     → put_after put v ++ freed ≡ reached_after put e v
@@ -68,13 +68,13 @@ reached_apart items None (Some new) put later e v lists h = absurd (grind (arith
 reached_apart items (Some old) None put later e v lists h = absurd (grind (arith, lists))
 reached_apart items (Some old) (Some new) put later e v lists h = some_is (items new) (reached_after (items old) e v) lists
 
--- an entry e of the log es comes, which is not ahead where what reached the site is kept and nothing is listed apart
+-- an entry e of the log es arrives, which is not ahead if what reached the site is kept and there is no separate list
 pub record Coming {A K : Type 0} (keeps : Bool) (es : List EntryValue) (i : Incoming A K) (e : EntryValue) : Type 0 where
   pub of_log : Contains es e
   pub follows : Follows es (reached_in keeps i) (put_in keeps i) i.inbound.buffer
   pub next : keeps ≡ true → i.apart ≡ None → e.prev ≤ i.inbound.buffer.last
 
--- the arrival where nothing is listed apart
+-- the arrival if there is no separate list
 arrival_in_order : {A K : Type 0} (es : List EntryValue) (old new : Incoming A K) (before after : List Verdict) (e : EntryValue) (v : BufferVerdict A) (freed : List EntryValue)
     → Coming true es old e → IncomingTakes old before e v freed new after → old.apart ≡ None → SettledArrival es old.put.items old.put.items e v freed old.inbound.buffer.told new.inbound.buffer
 arrival_in_order es old new before after e v freed c t none =
@@ -146,7 +146,7 @@ none_ahead_of_more : (m n : ℕ) (es : List EntryValue) → m ≤ n → NoneAhea
 none_ahead_of_more m n [] le h = tt
 none_ahead_of_more m n (e ∷ es) le h = (omega (arith, le, h.0), none_ahead_of_more (max m (own e)) (max n (own e)) es (omega (arith, le)) h.1)
 
--- the last number that was put is no less than before, nor than that of the entry
+-- the last number that was delivered is no less than before, nor than that of the entry
 last_after : {A K : Type 0} (es : List EntryValue) (old new : Incoming A K) (before after : List Verdict) (e : EntryValue) (v : BufferVerdict A) (freed : List EntryValue)
     → Coming true es old e → IncomingTakes old before e v freed new after → old.apart ≡ None → max old.inbound.buffer.last (own e) ≤ new.inbound.buffer.last
 last_after es old new before after e v freed c t none =
@@ -170,15 +170,15 @@ last_after es old new before after e v freed c t none =
 
 -- ---- entries, one after another
 
--- what becomes of a link from here becomes of it from the start: `rest` is still to come of `entries`, these verdicts
--- were told, and where nothing is listed apart, none of the rest is ahead
+-- what becomes of a link from here becomes of it from the start: `rest` is what is still to come of `entries`, these
+-- verdicts were returned, and if there is no separate list, none of the rest is ahead
 pub record GoesOn {A K : Type 0} (keeps : Bool) (es : List EntryValue) (start : LinkValue) (entries : List EntryValue) (i : Incoming A K) (applied : ℕ) (rest : List EntryValue) (list : List Verdict) : Type 0 where
   pub of_log : All (Contains es) rest
   pub follows : Follows es (reached_in keeps i) (put_in keeps i) i.inbound.buffer
   pub in_order : keeps ≡ true → i.apart ≡ None → NoneAhead i.inbound.buffer.last rest
   pub takes : (new : LinkValue) (more : List Verdict) → LinkTakesAll A es (link_of keeps i applied) rest more new → LinkTakesAll A es start entries (list ++ more) new
 
--- nothing came yet
+-- nothing has arrived yet
 pub goes_on_first : {A K : Type 0} (keeps : Bool) (es entries : List EntryValue) (i : Incoming A K) (applied : ℕ) → All (Contains es) entries → Follows es (reached_in keeps i) (put_in keeps i) i.inbound.buffer
     → (keeps ≡ true → i.apart ≡ None → NoneAhead i.inbound.buffer.last entries) → GoesOn keeps es (link_of keeps i applied) entries i applied entries []
 goes_on_first keeps es entries i applied of_log follows in_order = record { of_log = of_log; follows = follows; in_order = in_order; takes = λ new more h. h }
@@ -187,7 +187,7 @@ still_none : {A V : Type 0} (items : V → List EntryValue) (old new : Option V)
 still_none items None new v e lists none = refl
 still_none items (Some l) new v e lists none = absurd (grind (arith, lists, none))
 
--- none of those that come then is ahead
+-- none of those that then arrive is ahead
 still_in_order : {A K : Type 0} (keeps : Bool) (es : List EntryValue) (old new : Incoming A K) (rest : List EntryValue) (before after : List Verdict) (e : EntryValue) (v : BufferVerdict A) (freed : List EntryValue)
     → Coming keeps es old e → IncomingTakes old before e v freed new after → (keeps ≡ true → old.apart ≡ None → NoneAhead old.inbound.buffer.last (e ∷ rest))
     → keeps ≡ true → new.apart ≡ None → NoneAhead new.inbound.buffer.last rest
@@ -196,7 +196,7 @@ still_in_order true es old new rest before after e v freed c t h is none =
     none_ahead_of_more (max old.inbound.buffer.last (own e)) new.inbound.buffer.last rest (last_after es old new before after e v freed c t was) (h is was).1
 still_in_order false es old new rest before after e v freed c t h is none = absurd cc
 
--- one more came
+-- one more arrived
 pub goes_on_next : {A K : Type 0} (keeps : Bool) (es : List EntryValue) (start : LinkValue) (entries : List EntryValue) (old new : Incoming A K) (applied : ℕ) (rest : List EntryValue) (before after : List Verdict)
     (e : EntryValue) (v : BufferVerdict A) (freed : List EntryValue) → applied ≤ length old.put.items → IncomingTakes old before e v freed new after
     → GoesOn keeps es start entries old applied (e ∷ rest) before → GoesOn keeps es start entries new applied rest after
@@ -211,13 +211,13 @@ goes_on_next {A} keeps es start entries old new applied rest before after e v fr
           (g.takes last (told_all v freed ++ more) (v, freed, link_of keeps new applied, more, takes, h, refl));
     }
 
--- all came
+-- all arrived
 pub goes_on_last : {A K : Type 0} (keeps : Bool) (es : List EntryValue) (start : LinkValue) (entries : List EntryValue) (i : Incoming A K) (applied : ℕ) (list : List Verdict)
     → GoesOn keeps es start entries i applied [] list → LinkTakesAll A es start entries list (link_of keeps i applied)
 goes_on_last {A} keeps es start entries i applied list g =
     subst (λ vs. LinkTakesAll A es start entries vs (link_of keeps i applied)) (append-nil list) (g.takes (link_of keeps i applied) [] (refl, refl))
 
--- more room changes nothing of a link
+-- more capacity does not change a link
 pub same_link : {A K : Type 0} (keeps : Bool) (old new : Incoming A K) (applied : ℕ) → SameLists old new → link_of keeps new applied ≡ link_of keeps old applied
 same_link keeps old new applied same =
     let with : InboundValue → List EntryValue → List EntryValue → List EntryValue → LinkValue =
@@ -227,7 +227,7 @@ same_link keeps old new applied same =
     ∙ ap (λ xs. with old.inbound (reached_in keeps old) xs new.put.items) (gone_is keeps old new same.gone)
     ∙ ap (λ ys. with old.inbound (reached_in keeps old) (gone_in keeps old) ys) same.put
 
--- room was made, and entries are to come
+-- memory was reserved, and entries are to arrive
 pub goes_on_start : {A K : Type 0} (keeps : Bool) (es entries : List EntryValue) (link : LinkValue) (old room : Incoming A K) (applied : ℕ) (list : List Verdict)
     → link_of keeps old applied ≡ link → SameLists old room → list ≡ [] → All (Contains es) entries → Follows es link.reached link.put link.inbound.buffer
     → (keeps ≡ true → room.apart ≡ None → NoneAhead room.inbound.buffer.last entries) → GoesOn keeps es link entries room applied entries list
@@ -257,7 +257,7 @@ slice_get-behind : (xs ys : List EntryValue) (n : ℕ) → slice_get (xs ++ ys) 
 slice_get-behind [] ys n = ap (λ k. slice_get ys k) (zero-add n)
 slice_get-behind (x ∷ xs) ys n = ap (λ k. slice_get (x ∷ (xs ++ ys)) k) (suc-add (length xs) n) ∙ slice_get-behind xs ys n
 
--- the next one is behind those that are gone and those that were applied
+-- the next one comes after those that were dropped and those that were applied
 pub next_is : {A K : Type 0} (keeps : Bool) (i : Incoming A K) (applied : ℕ) → applied ≤ length i.put.items
     → slice_get (put_in keeps i) (length (gone_in keeps i ++ take applied i.put.items)) ≡ slice_get i.put.items applied
 next_is keeps i applied within =
@@ -274,7 +274,7 @@ one_applied keeps i applied l e is within next =
     let all = ap (λ xs. gone_in keeps i ++ xs) more ∙ sym (append_assoc (gone_in keeps i) (take applied i.put.items) (e ∷ [])) in
     ap (λ (xs : List EntryValue). record (link_of keeps i applied) { applied = xs }) all ∙ ap (λ (x : LinkValue). with_applied x e) is
 
--- the entry e was applied, and with those before it that were put it is gone
+-- the entry e was applied, and is dropped with those before it
 pub some_gone : {A K : Type 0} (keeps : Bool) (old new : Incoming A K) (applied : ℕ) (l : LinkValue) (e : EntryValue) → keeps ≡ false → link_of keeps old applied ≡ l → applied ≤ length old.put.items
     → slice_get l.put (length l.applied) ≡ Some e → new ≡ record old { gone = new.gone; put = new.put }
     → new.gone.items ≡ old.gone.items ++ take (applied + 1) old.put.items → new.put.items ≡ drop (applied + 1) old.put.items → link_of keeps new 0 ≡ with_applied l e

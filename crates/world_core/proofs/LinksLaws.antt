@@ -1,4 +1,4 @@
--- The link of a site to an origin, as it lies among the site's links.
+-- The link of a site to an origin, as one of the site's links.
 use Rattle.std.proofs.Common.{◌≡◌, ◌≢◌, ℕ, ◌+◌, ◌<◌, ◌≤◌, List, length, get_or, set, Option, Some, None, IsSome, inl, inr, true, false, arith, sym, ◌∙◌, subst}
 use Rattle.std.specs.List.{slice_get}
 use Rattle.std.proofs.lemmas.List.{get_or_read, get_or_past}
@@ -8,7 +8,7 @@ use Rattle.rights_types.proofs.Places.{at_site-index, set_site-index}
 use Rattle.world_core.specs.Values.{LinkValue}
 use Rattle.world_core.specs.Worlds.{list_of}
 
--- the link that is lent at an index is the one to the origin, and its change is that link's change
+-- the link that is borrowed at an index is the one to the origin, and a change of it is a change of that link
 pub record Lends (links now : List (Option LinkValue)) (i o : ℕ) (l : LinkValue) : Type 0 where
   pub is : at_site now o None ≡ Some l
   pub changed : (x : LinkValue) → set links i (Some x) ≡ set_site now o (Some x)
@@ -30,9 +30,9 @@ lends links now i o was l same at there read some =
           (set_site-index links i o (Some x) at));
     }
 
--- ---- where there is a link
+-- ---- if there is a link
 
--- what is some is not none: as `is_some` tells it, and by what it is
+-- what is some is not none: as `is_some` says, and by its value
 pub some_there : {X : Type 0} (x : Option X) → IsSome x → x ≢ None
 some_there x h none =
     let bad : false ≡ true = subst IsSome none h in
@@ -43,7 +43,7 @@ is_there x y is none =
     let bad : Some y ≡ None = sym is ∙ none in
     absurd cc
 
--- where an entry is next, there is a link
+-- if an entry is next, there is a link
 pub next_there : (l : Option LinkValue)
     → IsSome (slice_get (list_of (λ x. x.put) l) (length (list_of (λ x. x.applied) l))) → l ≢ None
 next_there l h none =

@@ -1,4 +1,4 @@
--- What a message that comes in leaves of the world, by what the call that took it left of a desk or of a row of links.
+-- The effect of an arriving message on the world, by what the call that took it did to a desk or to a row of links.
 use Rattle.std.proofs.Common.{◌≡◌, ℕ, ◌+◌, false, List, [], ◌∷◌, ◌++◌, length, get_or, set, Option, Some, None, Result, Ok, Err, refl, sym, ap, subst, ◌∙◌}
 use Rattle.std.specs.Prelude.{◌≢◌, IsSome}
 use Rattle.std.specs.Result.{IsErrAnd}
@@ -45,7 +45,7 @@ pub desk_left : (w : WorldValue) (i s : ℕ) (d : DeskValue) (ps : List PacketVa
 desk_left w i s d ps e same =
     ap (λ qs. with_desk_at w i d qs) same ∙ ap (λ ds. record { desks = ds; links = w.links; packets = w.packets; ended = w.ended }) (sym (set_site-index w.desks i s d e))
 
--- a desk that is as it was
+-- a desk that did not change
 pub desk_same : (w : WorldValue) (i : ℕ) (was d : DeskValue) (ps : List PacketValue) → was ≡ get_or w.desks i was → d ≡ was → ps ≡ w.packets → with_desk_at w i d ps ≡ w
 desk_same w i was d ps read kept same =
     ap (λ qs. with_desk_at w i d qs) same ∙ ap (λ x. with_desk_at w i x w.packets) (kept ∙ read)
@@ -59,7 +59,7 @@ link_left w i s o was now l is among e read after =
 
 -- ---- entries
 
--- the link that the entries of o come to is there, and they are of its origin
+-- the link that the entries of o arrive at exists, and they are of its origin
 pub entries_fit : (w : WorldValue) (i s o : ℕ) (was : List (Option LinkValue)) (es : List EntryValue) → IsWorld w → IsSiteOf (count w) s → IsSiteOf (count w) o → s ≢ o
     → i + 1 ≡ s → was ≡ get_or w.links i was → All (Contains (log w o)) es → (l : LinkValue) × (at_site was o None ≡ Some l) × All (λ (e : EntryValue). e.origin ≡ l.inbound.buffer.origin) es
 entries_fit w i s o was es is a b differ e read all =
@@ -88,7 +88,7 @@ entries_arrive A w i s o was now before after es verdicts is among e read at lef
       left = link_left w i s o was now after is among e read left;
     }
 
--- a row that is as it was
+-- a row that did not change
 pub row_same : (w : WorldValue) (i : ℕ) (was now : List (Option LinkValue)) → was ≡ get_or w.links i was → now ≡ was → with_row_at w i now ≡ w
 row_same w i was now read kept =
     ap (λ x. with_row_at w i x) (kept ∙ read) ∙ ap (λ ls. record { desks = w.desks; links = ls; packets = w.packets; ended = w.ended }) (set-get_or w.links i was)

@@ -1,4 +1,4 @@
--- Moves that are written are of this system.
+-- Moves that are written fit this system.
 use Rattle.std.proofs.Common.{◌≡◌, ℕ, Bool, true, false, cond, eqb, List, [], ◌∷◌, ◌++◌, length, Option, Some, None, refl, sym, subst}
 use Rattle.std.specs.List.{All}
 use Rattle.std.proofs.lemmas.Bool.{le-ltb, eq-eqb, not_from_true}
@@ -19,13 +19,13 @@ use Rattle.site_core.specs.Inbounds.{is_foreign}
 abbrev pub NativeMove : ℕ → Move → Type 0
 NativeMove n m = is_foreign n m ≡ false
 
--- a log of such moves alone
+-- a log of such moves only
 abbrev pub NativeLog : ℕ → List EntryValue → Type 0
 NativeLog n es = All (NativeMove n) (moves_of es)
 
 -- ---- an ordinary entry
 
--- a plain move that names a site of the system is of the system
+-- a plain move that names a site of the system fits the system
 native_plain : (n : ℕ) (m : Move) → is_plain m ≡ true → NamesWithin n m → NativeMove n m
 native_plain n (Issue a) plain within = refl
 native_plain n (Spend a) plain within = refl
@@ -44,14 +44,14 @@ native_plains n (m ∷ ms) plain within =
     (native_plain n m (All-head (λ x. is_plain x ≡ true) m ms plain) (All-head (NamesWithin n) m ms within))
     (native_plains n ms (All-tail (λ x. is_plain x ≡ true) m ms plain) (All-tail (NamesWithin n) m ms within))
 
--- what a site may append is of the system
+-- what a site may append fits the system
 pub native_append : (n s : ℕ) (log : List EntryValue) (applied : ℕ → List EntryValue) (ms : List Move)
     → MayAppend n s log applied ms → All (NativeMove n) ms
 native_append n s log applied ms may = native_plains n ms may.plain may.within
 
--- ---- an entry that takes back
+-- ---- an entry that reclaims
 
--- a take back from a site of the system is
+-- a reclaim from a site of the system fits it
 pub native_taking : (n o amount : ℕ) → IsSiteOf n o → All (NativeMove n) (TakeBack o amount ∷ [])
 native_taking n o amount from =
     All-cons (NativeMove n) (TakeBack o amount) [] (rw (le-ltb n o from.1) refl) (All-nil (NativeMove n))
@@ -64,14 +64,14 @@ native_frontier n applied =
     not_from_true (eqb (length (own_frontier n applied)) n)
     (eq-eqb (length (own_frontier n applied)) n (length-map-range_with_len (λ o. end (applied o)) 1 n))
 
--- and what goes to the heir
+-- and so does what goes to the heir
 native_heritage : (n heir amount : ℕ) (none : Bool) → IsSiteOf n heir
     → All (NativeMove n) (cond none [] (Give heir amount ∷ []))
 native_heritage n heir amount true site = All-nil (NativeMove n)
 native_heritage n heir amount false site =
     All-cons (NativeMove n) (Give heir amount) [] (rw (le-ltb n heir site.1) refl) (All-nil (NativeMove n))
 
--- the moves of a closing entry are
+-- the moves of a closing entry fit
 pub native_closing : (n s : ℕ) (log : List EntryValue) (applied : ℕ → List EntryValue) (heir : Option ℕ)
     → MayClose n s log applied heir → All (NativeMove n) (closing_moves n s log applied heir)
 native_closing n s log applied None may =
@@ -82,7 +82,7 @@ native_closing n s log applied (Some heir) may =
 
 -- ---- a log with one more entry
 
--- native entries make a native log
+-- entries that fit make a log that fits
 pub native_push : (n : ℕ) (es : List EntryValue) (e : EntryValue) → NativeLog n es → All (NativeMove n) e.moves
     → NativeLog n (es ++ e ∷ [])
 native_push n es e before more =

@@ -1,4 +1,4 @@
--- Packets that arrive keep what is kept of a world.
+-- Packets that arrive preserve the invariant of the world.
 use Rattle.std.proofs.Common.{◌≡◌, ℕ, ◌-◌, ◌<◌, Bool, true, false, cond, eqb, List, [], ◌∷◌, length, refl, sym, ◌∙◌, subst, Option, Some, None, Result, Ok, Err}
 use Rattle.std.specs.Prelude.{MatchOption}
 use Rattle.std.specs.List.{All, Contains, filter, slice_get}
@@ -50,7 +50,7 @@ beat_comes w new s o number (Ok HeardBeat) is ends h =
     subst (WorldGoesOn w) (sym h.2) (beat_keeps w s o number h.0 is ends.site ends.from h.1)
 beat_comes w new s o number outcome is ends h = absurd h
 
--- an answer has entries of the log alone
+-- an answer has only entries of the log
 asked_within : (es : List EntryValue) (first last : ℕ) → All (Contains es) (entries_asked es first last)
 unfolding entries_asked
 asked_within es first last =
@@ -126,12 +126,12 @@ message_keeps w new s o (AHello site) outcome is ends may h = absurd h
 
 -- ---- packets
 
--- what was said may come
+-- what was sent may arrive
 said_comes : (w : WorldValue) (s p : ℕ) (m : MessageValue) → IsSaid w s p m → MayCome w s p m
 said_comes w s p (AnEntry e) h = absurd h
 said_comes w s p m h = h
 
--- what is found at a place of a list is in it
+-- what is found at an index of a list is in it
 found_there : {X : Type 0} (xs : List X) (place : ℕ) (x : X) → slice_get xs place ≡ Some x → Contains xs x
 found_there xs place x at = (place, slice_get_within xs place x at, get_or_from_slice_get xs place x x at)
 
@@ -149,7 +149,7 @@ entry_comes w s p place m (Some e) is lt at spells =
     let entry = is_entry s false 0 (log w s) e (is.kept.sites s).chain has in
     subst (MayCome w s p) (sym (is_once m (AnEntry e) (line_of (Some e)) spells (entry.0, refl))) has
 
--- what a packet spells may come
+-- what a packet spells may arrive
 body_comes : (w : WorldValue) (s p : ℕ) (body : BodyValue) (m : MessageValue) → IsWorld w → IsBody w s p body
     → Spells m (body_text (log w s) body) → MayCome w s p m
 body_comes w s p (EntryAt place) m is lt spells =

@@ -1,4 +1,4 @@
--- Packets as they are kept, where one is added or read.
+-- Packets as they are stored, if one is added or read.
 use Rattle.std.proofs.Common.{◌≡◌, ℕ, ◌<◌, Bool, true, false, if◌then◌else◌, get_or, length, length-append, List, [], ◌∷◌, ◌++◌, ap, arith, refl, sym, subst, ◌∙◌}
 use Rattle.std.specs.List.{All}
 use Rattle.std.proofs.Math.Seq.{get_or-append_seam}

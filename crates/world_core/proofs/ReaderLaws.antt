@@ -1,4 +1,4 @@
--- What the readers of a world say.
+-- The results of the readers of a world.
 use Rattle.std.proofs.Common.{◌≡◌, ℕ, suc, ◌+◌, ◌-◌, ◌*◌, ◌<◌, ◌≤◌, false, List, [], length, drop, get_or, Some, None, arith, refl, sym, ap, subst, ◌∙◌, add-one}
 use Rattle.std.proofs.lemmas.Bool.{ne_eqb}
 use Rattle.std.proofs.lemmas.Option.{slice_get_read}
@@ -70,9 +70,9 @@ none_held w s is past none =
     let empty : moves_of (log w s) ≡ [] = ap (λ (d : DeskValue). moves_of d.ledger.log.entries) none ∙ moves_of-nil in
     omega (arith, held_sum (lists_of w) s is.kept, none_received w s is past, ap issued empty ∙ issued-nil, ap taken_back empty ∙ taken_back-nil)
 
--- ---- rights on the way
+-- ---- rights in transit
 
--- what the desk of o gave to s has come there, is on the way, or was taken back
+-- what the desk of o gave to s was applied there, is in transit, or was reclaimed
 pub way_left : (w : WorldValue) (o s : ℕ) (d : DeskValue) → IsWorld w → IsSiteOf (count w) o → d ≡ desk w o
     → to s (moves_of d.ledger.log.entries) ≡ (to s (moves_of (applied w s o)) + on_way w o s) + back s (moves_of d.ledger.log.entries)
 way_left w o s d is among same =
@@ -112,7 +112,7 @@ pub record SumsFit (w : WorldValue) (k : ℕ) : Type 0 where
   pub held_fit : sum_sites k (held_by w) + held_by w (k + 1) ≤ 16000000000000000000
   pub way_fit : sum_sites k (λ o. sum_sites (count w) (λ s. on_way w o s)) + sum_sites (count w) (λ s. on_way w (k + 1) s) ≤ 16000000000000000000
 
--- rights held, spent and on the way are the rights issued, so that no sum over the sites wraps
+-- rights held, spent and in transit are the rights issued, so that no sum over the sites wraps
 pub sums_fit : (w : WorldValue) (k : ℕ) → IsWorld w → k < count w → SumsFit w k
 sums_fit w k is lt =
     let n : ℕ = count w in

@@ -1,4 +1,4 @@
--- A run of a world is one of the protocol, so what the protocol says of its runs holds in a world.
+-- A run of a world is a run of the protocol, so what is proved of the protocol's runs holds in a world.
 use Rattle.std.proofs.Common.{◌≡◌, ℕ, true, List}
 use Rattle.rights_types.specs.Chains.{is_closed}
 use Rattle.rights_protocol.specs.Changes.{Start}
@@ -18,7 +18,7 @@ use Rattle.world_core.proofs.WorldLaws.{run_goes_on}
 later_goes_on : (old new : WorldValue) → IsWorld old → Later old new → WorldGoesOn old new
 later_goes_on old new is h = run_goes_on old new h.events h.outcomes is h.run
 
--- a world that was reached is kept, by changes of the protocol
+-- a world that was reached satisfies the invariant, and was reached by changes of the protocol
 reached_goes_on : (n : ℕ) (w : WorldValue) → Reached n w → WorldGoesOn (start n) w
 reached_goes_on n w h = later_goes_on (start n) w (start_world n h.some h.few) h.later
 

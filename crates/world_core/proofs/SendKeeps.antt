@@ -1,4 +1,4 @@
--- Lines that are sent keep what is kept of a world.
+-- Lines that are sent preserve the invariant of the world.
 use Rattle.std.proofs.Common.{◌≡◌, ◌≢◌, ℕ, ◌<◌, inl, inr, Bool, true, false, cond, not, eqb, List, [], ◌∷◌, ◌++◌, length, arith, refl, sym, ap, ◌∙◌, subst, Option, Some, None, Result, Ok, Err}
 use Rattle.std.specs.Prelude.{IfSome}
 use Rattle.std.specs.List.{All, slice_get}
@@ -99,7 +99,7 @@ ended_world w is = parts_keep w w.packets true is is.sent
 pub sent_keeps : (w : WorldValue) (p : PacketValue) → IsWorld w → IsSent w p → WorldGoesOn w (with_packet w p)
 sent_keeps w p is h = parts_keep w (w.packets ++ p ∷ []) w.ended is (All-push (IsSent w) w.packets p is.sent h)
 
--- what was said
+-- the message that was sent
 pub sends_keep : (w new : WorldValue) (s p : ℕ) (m : MessageValue) (number : ℕ) → IsWorld w → Ends w s p
     → IsSaid w s p m → Sends w s p m number new → WorldGoesOn w new
 sends_keep w new s p m number is ends said h =
@@ -140,14 +140,14 @@ beat_event_keeps w new s p outcome is ends h =
 
 -- ---- queries
 
--- what is asked for is the gap
+-- the query asks for the gap
 asked_gap : (again : Bool) (gap asked q : Option QueryValue) → Asks again gap asked q → IfSome q (λ x. gap ≡ Some x)
 asked_gap true gap asked None h = tt
 asked_gap true gap asked (Some q) h = sym h
 asked_gap false gap asked None h = tt
 asked_gap false gap asked (Some q) h = h.0
 
--- and it names both ends
+-- and it names both sites
 query_said : (w : WorldValue) (s o : ℕ) (b : BufferValue) (gap q : Option QueryValue) → b.me ≡ s → b.origin ≡ o
     → GapOf b gap → IfSome q (λ x. gap ≡ Some x)
     → IfSome (option_map (λ x. AQuery x) q) (λ x. IsSaid w s o x)
@@ -186,7 +186,7 @@ query_keeps w new s o again outcome is ends h = query_sent w new s o again outco
 
 -- ---- entries that are published
 
--- what is published keeps the log's entries
+-- what is published preserves the log's entries
 published_entries : (l : LogValue) (p : ℕ) (m : Option MessageValue) → (published_if l p m).entries ≡ l.entries
 published_entries l p None = refl
 published_entries l p (Some m) = refl

@@ -1,4 +1,4 @@
--- The start is a world.
+-- The start satisfies the invariant of a world.
 use Rattle.std.proofs.Common.{◌≡◌, ℕ, suc, zero, ◌≤◌, ◌⊎◌, inl, inr, Bool, true, false, cond, eqb, List, [], length, map, arith, refl, sym, ap, ◌∙◌, subst, Option, Some, None}
 use Rattle.std.specs.List.{All, range_with_len}
 use Rattle.std.proofs.lemmas.Bool.{cases_lt, eq-eqb, ne_eqb}
@@ -29,7 +29,7 @@ use Rattle.world_core.proofs.LinkKeeps.{same_lists}
 
 -- ---- what is read at the start
 
--- the item of a site in a list that was made by the sites' numbers
+-- the item of a site in a list that was made from the sites' numbers
 made_at : {X : Type 0} (f : ℕ → X) (n s : ℕ) (d : X) → IsSiteOf n s → at_site (map f (range_with_len 1 n)) s d ≡ f s
 made_at f n zero d site = absurd (omega (arith, site.0))
 made_at f n (suc i) d site = get_or-map-range_with_len f 1 n i (suc i) d (omega (arith, site.1)) (omega arith)
@@ -81,7 +81,7 @@ link_cases n s o = elim (site_cases n s) [
   | inr outside ↦ inl (ap (λ r. at_site r o None) (past (new_row n) n s [] outside) ∙ none_at o None)
 ]
 
--- and nothing came of it
+-- and nothing has arrived from it
 to_list : (n s o : ℕ) (list : LinkValue → List EntryValue) (itself : Bool) → list (new_link n s o) ≡ []
     → list_of list (cond itself None (Some (new_link n s o))) ≡ []
 to_list n s o list true none = refl

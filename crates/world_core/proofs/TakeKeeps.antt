@@ -1,4 +1,5 @@
--- A take keeps what is kept of a world: the site applies one more entry, and its desk may take back by it.
+-- A take preserves the invariant of the world: the site applies one more entry, and its desk may reclaim because of
+-- it.
 use Rattle.std.proofs.Common.{◌≡◌, ◌≢◌, ℕ, Bool, true, false, cond, eqb, inl, inr, List, [], ◌∷◌, ◌++◌, length, map, Option, Some, None, Result, Ok, Err, refl, ap, sym, subst, ◌∙◌, arith, append-nil}
 use Rattle.std.specs.List.{slice_get}
 use Rattle.std.proofs.lemmas.Bool.{both_ways}
@@ -40,7 +41,7 @@ use Rattle.world_core.proofs.SendKeeps.{Ends, ends_known}
 
 -- ---- the desk that applied an entry
 
--- grants end asks, and leave whose asks they are
+-- grants end asks, and do not change whose asks they are
 same_asker : (me o : ℕ) (ms : List Move) (m : ManagerValue) → (after_grants me o ms m).me ≡ m.me
 same_asker me o [] m = refl
 same_asker me o (x ∷ xs) m = same_asker me o xs (after_grant me o x m) ∙ one x
@@ -58,13 +59,13 @@ same_asker me o (x ∷ xs) m = same_asker me o xs (after_grant me o x m) ∙ one
     one (CloseAt f) = refl
     one (TakeBack k n) = refl
 
--- a take back leaves the sites
+-- a reclaim does not change the sites
 same_system : (none : Bool) (old : BookValue) (o n : ℕ) (new : BookValue) → TakesBackIf none old o n new
     → sites new ≡ sites old
 same_system true old o n new h = ap (λ (b : BookValue). sites b) h
 same_system false old o n new h = h.same_sites
 
--- a log with what was taken back from o
+-- a log with what was reclaimed from o
 native_taken : (n s o amount : ℕ) (none : Bool) (es : List EntryValue) → IsSiteOf n o → NativeLog n es
     → NativeLog n (es ++ map (entry_at_end s es) (cond none [] ((TakeBack o amount ∷ []) ∷ [])))
 native_taken n s o amount true es from before = subst (NativeLog n) (sym (append-nil es)) before
@@ -77,7 +78,7 @@ log_after : (w : WorldValue) (s o : ℕ) (e : EntryValue) (d : DeskValue) → Is
 log_after w s o e d is site h =
     ap (λ (l : LogValue). l.entries) h.entry.log ∙ ap (λ j. log w s ++ taking_back j o (log w s) e) (is.sites s site).me
 
--- the desk that applied an entry goes on
+-- the log of a desk that applied an entry stays or grows
 desk_applies : (w : WorldValue) (s o : ℕ) (e : EntryValue) (d : DeskValue) → IsWorld w → Ends w s o
     → DeskApplies (desk w s) o e d → DeskSound d → DeskGoesOn w s d
 desk_applies w s o e d is ends h sound =
@@ -99,7 +100,7 @@ desk_applies w s o e d is ends h sound =
 
 -- ---- the world after a take
 
--- s applied the entry e of o, which its link had put next
+-- s applied the entry e of o, which was the next delivered one on its link
 record Applied (w : WorldValue) (s o : ℕ) (l : LinkValue) (e : EntryValue) (d : DeskValue) : Type 0 where
   ends : Ends w s o
   there : link w s o ≡ Some l
@@ -110,7 +111,7 @@ record Applied (w : WorldValue) (s o : ℕ) (l : LinkValue) (e : EntryValue) (d 
 abbrev after : WorldValue → ℕ → ℕ → LinkValue → EntryValue → DeskValue → WorldValue
 after w s o l e d = with_desk (with_link w s o (with_applied l e)) s d
 
--- of the log of o one entry more was applied at s, and of no other log
+-- one more entry of the log of o was applied at s, and none of any other log
 adds : (w : WorldValue) (s o : ℕ) (l : LinkValue) (e : EntryValue) (d : DeskValue) → IsWorld w → Applied w s o l e d
     → AddsEntry (applied w s) o e (applied (after w s o l e d) s)
 adds w s o l e d is h = record {
@@ -174,7 +175,7 @@ is_next w s o l e d is h kept =
       number = last.3.number;
     }
 
--- so its desk is sound still, and what it applied is one entry more
+-- so its desk is still sound, and what it applied is one entry more
 desk_after : (w : WorldValue) (s o : ℕ) (l : LinkValue) (e : EntryValue) (d : DeskValue) → IsWorld w
     → (h : Applied w s o l e d) → Kept (lists_of (after w s o l e d))
     → ApplyKept (desk w s).ledger o e h.desk.entry.between d.ledger
@@ -189,7 +190,7 @@ sound_after w s o l e d is h kept =
     let k : ApplyKept (desk w s).ledger o e h.desk.entry.between d.ledger = desk_after w s o l e d is h kept in
     record { ledger = k.ledger; book = k.book; idle = λ closed. absurd (both_ways (has_closed d) k.unclosed closed) }
 
--- each site is sound still
+-- each site is still sound
 site_after : (w : WorldValue) (s o : ℕ) (l : LinkValue) (e : EntryValue) (d : DeskValue) → IsWorld w
     → Applied w s o l e d → Kept (lists_of (after w s o l e d)) → (k : ℕ) → IsSiteOf (count w) k
     → SiteSound (after w s o l e d) k
@@ -230,7 +231,7 @@ site_after w s o l e d is h kept k among =
       ];
     }
 
--- more of a link that was applied makes it no less sound
+-- a link of which more was applied is still sound
 link_after : (w : WorldValue) (s o k j : ℕ) (l x : LinkValue) (e : EntryValue) → IsWorld w → IsSiteOf (count w) s
     → IsSiteOf (count w) o → link w s o ≡ Some l → link (with_link w s o (with_applied l e)) k j ≡ Some x
     → LinkSound w k j x
@@ -245,7 +246,7 @@ link_after w s o k j l x e is site from there at = elim (link_cases w s o k j (w
   | inr p ↦ is.links k j x (sym p.1 ∙ at)
 ]
 
--- so a world is kept
+-- so the invariant of the world holds
 take_world : (w : WorldValue) (s o : ℕ) (l : LinkValue) (e : EntryValue) (d : DeskValue) → IsWorld w
     → Applied w s o l e d → WorldGoesOn w (after w s o l e d)
 take_world w s o l e d is h =
@@ -282,7 +283,7 @@ takes_next old new s o number back is ends h =
     } in
     subst (WorldGoesOn old) (sym h.left) (take_world old s o h.before h.next h.after is how)
 
--- a take keeps the world, whatever comes of it
+-- a take preserves the invariant of the world, whatever its result
 pub take_keeps : {A : Type 0} (old new : WorldValue) (s o : ℕ) (outcome : Result (Reply A) WorldError) → IsWorld old
     → link_fault old s o ≡ None → TakeHappens old s o outcome new → WorldGoesOn old new
 take_keeps old new s o (Ok (Taken number)) is known h =

@@ -1,4 +1,4 @@
--- A world that goes on by changes of the protocol.
+-- A world that changes by changes of the protocol.
 use Rattle.std.proofs.Common.{List, [], ◌∷◌, refl}
 use Rattle.rights_protocol.specs.Lists.{Lists}
 use Rattle.rights_protocol.specs.Changes.{Change, Stays, Step, Runs}
@@ -17,7 +17,7 @@ pub stay : (w : Lists) → Stays w w
 stay w =
     record { count = refl; sites = λ k. record { log = refl; links = λ o. record { reached = refl; put = refl; applied = refl } } }
 
--- what one run leads to, another goes on from
+-- where one run leads, another continues
 joined : (old mid new : Lists) (first more : List Change) → Runs old first mid → Runs mid more new
     → (changes : List Change) × Runs old changes new
 joined old mid new [] more run later = (Nothing ∷ more, (mid, run, later))
@@ -34,7 +34,7 @@ refines_then old mid new first more =
 
 -- ---- lists that are kept
 
--- the protocol leads to the lists of the new world, and keeps them
+-- changes of the protocol lead to the lists of the new world, and preserve the invariant
 pub record Leads (old new : WorldValue) : Type 0 where
   pub kept : Kept (lists_of new)
   pub refines : Refines old new
@@ -42,7 +42,7 @@ pub record Leads (old new : WorldValue) : Type 0 where
 pub leads_nowhere : (w : WorldValue) → IsWorld w → Leads w w
 leads_nowhere w is = record { kept = is.kept; refines = ([], stay (lists_of w)) }
 
--- by one change more
+-- by one more change
 pub leads_on : (old mid new : WorldValue) (change : Change) → Leads old mid → Step (lists_of mid) change (lists_of new)
     → Leads old new
 leads_on old mid new change h step = record {
@@ -60,7 +60,7 @@ leads old new change is step = record {
 
 -- ---- worlds
 
--- the old world goes on by changes of the protocol, and the new one is kept
+-- the old world changes by changes of the protocol, and the new one satisfies the invariant
 pub record WorldGoesOn (old new : WorldValue) : Type 0 where
   pub is : IsWorld new
   pub refines : Refines old new

@@ -1,4 +1,4 @@
--- Every step keeps what is kept of a world, and so does every run.
+-- Every step preserves the invariant of the world, and so does every run.
 use Rattle.std.proofs.Common.{◌≡◌, ℕ, ◌≤◌, List, [], ◌∷◌, ◌++◌, refl, sym, subst, Option, Some, None, Result, Err}
 use Rattle.std.specs.Prelude.{MatchOption}
 use Rattle.rights_protocol.proofs.Promises.{kept_promises}
@@ -74,7 +74,7 @@ run_goes_on old new (event ∷ events) (outcome ∷ outcomes) is h =
 run_goes_on old new [] (outcome ∷ outcomes) is h = absurd h
 run_goes_on old new (event ∷ events) [] is h = absurd h
 
--- one event more
+-- one more event
 pub runs-push : {A : Type 0} (old mid new : WorldValue) (events : List (Event A)) (event : Event A)
     (outcomes : List (Result (Reply A) WorldError)) (outcome : Result (Reply A) WorldError)
     → Runs old events outcomes mid → Step mid event outcome new

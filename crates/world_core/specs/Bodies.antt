@@ -1,4 +1,4 @@
--- What is kept in one form or another, as plain data.
+-- Values that are stored in one of several forms, as plain data.
 use Rattle.std.specs.Prelude.{List}
 use Rattle.world_core.specs.Values.{BodyValue}
 use Rattle.world_core.specs.Values.BodyValue.{EntryAt, Text}
@@ -8,7 +8,7 @@ use Rattle.world_core.specs.declared.reply.Told.{Told}
 use Rattle.world_core.specs.declared.reply.Told.TheVariants.{One, Many}
 use Rattle.world_core.specs.declared.reply.Verdict.{Verdict}
 
--- what a packet carries
+-- the content of a packet
 abbrev pub body_of : Body → BodyValue
 body_of (Entry place) = EntryAt place
 body_of (Own line) = Text line.now

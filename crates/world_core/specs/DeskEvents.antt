@@ -17,22 +17,22 @@ use Rattle.world_core.specs.declared.reply.Reply.TheVariants.{Number, Spent, Que
 use Rattle.world_core.specs.declared.fault.WorldError.{WorldError}
 use Rattle.world_core.specs.declared.fault.WorldError.TheVariants.{Desk, OutOfMemory}
 
--- The desk of s refuses by this fault and nothing changes; or it has none, and the reply is such that it leaves
--- another desk. Only where `Wants` holds may it want memory instead.
+-- The desk of s refuses for this cause and nothing changes; or there is none, and the reply and the new desk are in
+-- this relation. Only if `Wants` holds may it run out of memory instead.
 abbrev pub AtDesk : {A : Type 0} → WorldValue → ℕ → Option DeskError → Type 0 → (Reply A → DeskValue → Type 0) → Result (Reply A) WorldError → WorldValue → Type 0
 AtDesk old s fault Wants Leaves (Ok reply) new = (fault ≡ None) × ((d : DeskValue) × Leaves reply d × (new ≡ with_desk old s d))
 AtDesk old s fault Wants Leaves (Err (Desk cause)) new = (fault ≡ Some cause) × (new ≡ old)
 AtDesk old s fault Wants Leaves (Err OutOfMemory) new = (fault ≡ None) × Wants × (new ≡ old)
 AtDesk old s fault Wants Leaves (Err other) new = ⊥
 
--- what wants memory wherever it is not refused, and what never does
+-- a call that may run out of memory whenever it is not refused, and one that never does
 abbrev pub Always : Type 0
 Always = Unit {0}
 
 abbrev pub Never : Type 0
 Never = ⊥
 
--- an entry of these moves was written, and its number told
+-- an entry of these moves was written, and its number returned
 abbrev pub Writes : {A : Type 0} → DeskValue → List Move → Reply A → DeskValue → Type 0
 Writes old ms (Number n) new = DeskWrites old ms new × (n ≡ end new.ledger.log.entries)
 Writes old ms reply new = ⊥
@@ -51,7 +51,7 @@ Spends old n deadline (Spent number) new = DeskSpends old n deadline (SpentAt nu
 Spends old n deadline (Queued ticket) new = DeskSpends old n deadline (QueuedAs ticket) new
 Spends old n deadline reply new = ⊥
 
--- only a spend that is served at once takes memory
+-- only a spend that is served at once allocates
 abbrev pub SpendHappens : {A : Type 0} → WorldValue → ℕ → ℕ → ℕ → Result (Reply A) WorldError → WorldValue → Type 0
 SpendHappens old s n deadline outcome new =
     AtDesk old s (spend_fault (desk old s) n) (can_spend (desk old s) n ≡ true) (Spends (desk old s) n deadline) outcome new

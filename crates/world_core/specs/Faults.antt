@@ -13,7 +13,7 @@ is_site w s = nat_le 1 s && nat_le s (count w)
 abbrev pub site_fault : WorldValue → ℕ → Option WorldError
 site_fault w s = if is_site w s then None else Some NoSuchSite
 
--- both ends of a link are sites, and not one
+-- both ends of a link are sites, and not the same
 abbrev pub link_fault : WorldValue → ℕ → ℕ → Option WorldError
 link_fault w s o = if is_site w s && is_site w o && not (s == o) then None else Some NoSuchSite
 
@@ -24,7 +24,7 @@ delivery_fault s (Some p) = if p.to == s then None else Some NotForSite
 abbrev pub arrive_fault : WorldValue → ℕ → ℕ → Option WorldError
 arrive_fault w s number = if is_site w s then delivery_fault s (packet w number) else Some NoSuchSite
 
--- where the event is to happen
+-- if the event is to happen
 abbrev pub place_fault : {A : Type 0} → WorldValue → Event A → Option WorldError
 place_fault w (Post s ms) = site_fault w s
 place_fault w (Issue s n) = site_fault w s
@@ -43,6 +43,6 @@ place_fault w (Noise s o bytes) = link_fault w s o
 place_fault w (Take s o) = link_fault w s o
 place_fault w (Close s heir) = site_fault w s
 
--- why the world refuses the event before any desk or link sees it
+-- why the world refuses the event before any desk or link is involved
 unfoldable pub fault_of : {A : Type 0} → WorldValue → Event A → Option WorldError
 fault_of w event = if w.ended then Some Ended else place_fault w event

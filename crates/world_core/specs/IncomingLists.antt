@@ -1,4 +1,4 @@
--- How a link keeps its lists, and the room in them.
+-- How a link stores its lists, and their capacity.
 use Rattle.std.specs.Prelude.{◌≡◌, Bool, true, false, ℕ, ◌+◌, ◌*◌, ◌≤◌, max, List, [], ◌∷◌, ◌++◌, length, take, Option, Some, None, IfSome, vec_capacity}
 use Rattle.std.specs.Option.{option_map}
 use Rattle.rights_types.specs.Entries.{EntryValue, own}
@@ -12,17 +12,17 @@ use Rattle.world_core.specs.declared.link.incoming.Incoming.{Incoming}
 use Rattle.world_core.specs.declared.link.incoming.Scratch.{Scratch}
 use Rattle.world_core.specs.declared.reply.Verdict.{Verdict}
 
--- what reached a site: listed apart, or what was put, where nothing came out of its order
+-- what reached a site: the separate list, or what was delivered, if nothing arrived out of order
 abbrev pub reached_by : {V : Type 0} → (V → List EntryValue) → Option V → List EntryValue → List EntryValue
 reached_by items None put = put
 reached_by items (Some apart) put = items apart
 
--- where entries are kept for readers, what reached a site lies in its lists; else it was only seen
+-- if entries are kept for readers, what reached a site is in its lists; else it is only ghost state
 abbrev pub reached_in : {A K : Type 0} → Bool → Incoming A K → List EntryValue
 reached_in true i = reached_by (λ v. v.items) i.apart i.put.items
 reached_in false i = i.seen.items
 
--- the entries that were put and are gone; there are none where entries are kept for readers
+-- the delivered entries that were dropped; none if entries are kept for readers
 abbrev pub gone_in : {A K : Type 0} → Bool → Incoming A K → List EntryValue
 gone_in true i = []
 gone_in false i = i.gone.items
@@ -30,7 +30,7 @@ gone_in false i = i.gone.items
 abbrev pub put_in : {A K : Type 0} → Bool → Incoming A K → List EntryValue
 put_in keeps i = gone_in keeps i ++ i.put.items
 
--- a link of these parts, where so many entries were applied of those that are not gone
+-- a link of these parts, given how many of the delivered entries that are still stored were applied
 abbrev pub link_of : {A K : Type 0} → Bool → Incoming A K → ℕ → LinkValue
 link_of keeps i applied = record {
   inbound = i.inbound;
@@ -39,32 +39,33 @@ link_of keeps i applied = record {
   applied = gone_in keeps i ++ take applied i.put.items;
 }
 
--- of every link: so many were applied of what was put and is not gone, and at most 64 entries are held
+-- of every link: the applied entries are among the delivered ones that are stored, and at most 64 entries are held
 pub record IsIncoming {A K : Type 0} (i : Incoming A K) (applied : ℕ) : Type 0 where
   pub within : applied ≤ length i.put.items
   pub few : length i.inbound.buffer.held ≤ MAX_HELD
 
--- none of these entries begins after both the number n and the ends of those before it
+-- no entry begins after both the number n and the ends of the entries before it
 abbrev pub NoneAhead : ℕ → List EntryValue → Type 0
 NoneAhead n [] = Unit {0}
 NoneAhead n (e ∷ es) = (e.prev ≤ n) × NoneAhead (max n (own e)) es
 
--- room for n entries that are to come, and for the verdicts on them: each that comes can be held and freed again,
--- but the last
+-- memory for n more entries, and for the verdicts on them: each that arrives can be held and later freed, except the
+-- last
 pub record HasRoom {A K : Type 0} (n : ℕ) (i : Incoming A K) (s : Scratch A) : Type 0 where
   pub put : length i.put.items + length i.inbound.buffer.held + n ≤ vec_capacity i.put
   pub apart : IfSome i.apart (λ v. length v.items + n ≤ vec_capacity v)
   pub verdicts : length i.inbound.buffer.held + n ≤ vec_capacity s.verdicts
   pub told : length s.told.items + length i.inbound.buffer.held + 2 * n ≤ vec_capacity s.told + 1
 
--- only the room changed, and where the entries that reached the site are listed
+-- only the capacity changed, and whether what reached the site is a separate list
 pub record SameLists {A K : Type 0} (old new : Incoming A K) : Type 0 where
   pub inbound : new.inbound ≡ old.inbound
   pub gone : new.gone.items ≡ old.gone.items
   pub put : new.put.items ≡ old.put.items
   pub reached : (keeps : Bool) → reached_in keeps new ≡ reached_in keeps old
 
--- an entry came: the verdict v on it, and the held entries that it freed, which are told behind what was told before
+-- an entry arrived: the verdict v on it, and Ready for the held entries that it freed, are appended to the verdicts
+-- before
 pub record IncomingTakes {A K : Type 0} (old : Incoming A K) (before : List Verdict) (e : EntryValue) (v : BufferVerdict A) (freed : List EntryValue) (new : Incoming A K) (after : List Verdict) : Type 0 where
   pub arrives : Arrives old.inbound.buffer e v freed new.inbound.buffer
   pub inbound : new.inbound ≡ record old.inbound { buffer = new.inbound.buffer }

@@ -1,6 +1,6 @@
--- What may happen among all sites, to be read in this order: a world's lists, why it refuses an event, the events at
--- a desk and between two sites, what any event may come to, what is kept of every world, what is promised of it, and
--- that a run of it is one of the protocol.
+-- The events among all sites, to be read in this order: a world's lists, why it refuses an event, the events at a desk
+-- and between two sites, the possible results of any event, the invariant of every world, the headline, and that a run
+-- of a world is a run of the protocol.
 pub mod Values
 pub mod Worlds
 pub mod Bodies

@@ -1,4 +1,4 @@
--- Events between two sites: lines that are sent, those that arrive, and entries that are taken.
+-- Events between two sites: lines that are sent, lines that arrive, and entries that are taken.
 use Rattle.std.specs.Prelude.{◌≡◌, ◌≢◌, ℕ, ◌+◌, ◌⊎◌, Bool, true, false, List, [], ◌∷◌, ◌++◌, length, map, max, Option, Some, None, Result, Ok, Err, MatchOption}
 use Rattle.std.specs.List.{slice_get}
 use Rattle.std.specs.Option.{option_map}
@@ -44,7 +44,7 @@ pub record Sends (old : WorldValue) (s p : ℕ) (m : MessageValue) (number : ℕ
   pub last : number ≡ length old.packets + 1
   pub left : new ≡ with_packet old (record { from = s; to = p; body = Text text })
 
--- a packet with this message, and `nothing` where there is none
+-- a packet with this message, or `nothing` if there is no message
 abbrev pub SendsIf : {A : Type 0} → WorldValue → ℕ → ℕ → Option MessageValue → Result (Reply A) WorldError → WorldValue → Type 0
 SendsIf old s p None (Ok Nothing) new = new ≡ old
 SendsIf old s p (Some m) (Ok (Packet number)) new = Sends old s p m number new
@@ -57,7 +57,7 @@ AskHappens old s p outcome new = SendsIf old s p (option_map (λ ask. AnAsk ask)
 abbrev pub BeatHappens : {A : Type 0} → WorldValue → ℕ → ℕ → Result (Reply A) WorldError → WorldValue → Type 0
 BeatHappens old s p outcome new = SendsIf old s p (Some (beat_of (desk old s).ledger.log)) outcome new
 
--- a packet with the entry at this place, which was published to p
+-- a packet with the entry at this index, which was published to p
 pub record Publishes (old : WorldValue) (s p place number : ℕ) (new : WorldValue) : Type 0 where
   pub next : next_place (desk old s).ledger.log p ≡ Some place
   pub last : number ≡ length old.packets + 1
@@ -69,7 +69,7 @@ PublishHappens old s p (Ok (Packet number)) new = (place : ℕ) × Publishes old
 PublishHappens old s p (Err OutOfMemory) new = new ≡ old
 PublishHappens old s p outcome new = ⊥
 
--- this was asked of the gap that s has in the log of o, and the gap counts as asked for
+-- this query was made for the gap that s has in the log of o, and the gap counts as asked for
 pub record Asked (old : WorldValue) (s o : ℕ) (again : Bool) (query : Option QueryValue) (new : WorldValue) : Type 0 where
   pub before : LinkValue
   pub there : link old s o ≡ Some before
@@ -77,7 +77,7 @@ pub record Asked (old : WorldValue) (s o : ℕ) (again : Bool) (query : Option Q
   pub asks : QueryOf before.inbound again query after
   pub left : new ≡ with_link old s o (record before { inbound = after })
 
--- want of memory leaves the gap asked for, where it came to that
+-- if memory runs out, the gap may count as asked for
 abbrev pub QueryHappens : {A : Type 0} → WorldValue → ℕ → ℕ → Bool → Result (Reply A) WorldError → WorldValue → Type 0
 QueryHappens old s o again (Err OutOfMemory) new = (new ≡ old) ⊎ ((query : Option QueryValue) × Asked old s o again query new)
 QueryHappens old s o again outcome new =
@@ -85,7 +85,7 @@ QueryHappens old s o again outcome new =
 
 -- ---- entries that arrive
 
--- a buffer's verdict, as it is told
+-- a buffer's verdict, as a reply has it
 abbrev pub told : {A : Type 0} → BufferVerdict A → Verdict
 told (IsReady e) = Ready (own e)
 told IsHeld = Held
@@ -93,11 +93,11 @@ told IsRepeat = Repeat
 told IsAfterClose = AfterClose
 told IsFull = Full
 
--- the verdict on an entry, and those on the entries that it freed
+-- the verdict on an entry, and Ready for each entry that it freed
 abbrev pub told_all : {A : Type 0} → BufferVerdict A → List EntryValue → List Verdict
 told_all v freed = told v ∷ map (λ (e : EntryValue). Ready (own e)) freed
 
--- an entry e of the log es reaches a link: the verdict v on it, and the held entries that it freed
+-- an entry e of the log es arrives at a link: the verdict v on it, and the held entries that it freed
 pub record LinkTakes {A : Type 0} (es : List EntryValue) (old : LinkValue) (e : EntryValue) (v : BufferVerdict A) (freed : List EntryValue) (new : LinkValue) : Type 0 where
   pub verdict : SettledVerdict old.reached old.put e v
   pub reached : new.reached ≡ reached_after old.reached e v
@@ -132,7 +132,7 @@ EntriesCome old s o entries outcome new = ⊥
 abbrev pub heard : LinkValue → ℕ → LinkValue
 heard l number = record l { inbound = record l.inbound { buffer = after_beat l.inbound.buffer number } }
 
--- a beat takes no memory
+-- a beat allocates nothing
 abbrev pub BeatComes : {A : Type 0} → WorldValue → ℕ → ℕ → ℕ → Result (Reply A) WorldError → WorldValue → Type 0
 BeatComes old s o number (Ok HeardBeat) new = (before : LinkValue) × (link old s o ≡ Some before) × (new ≡ with_link old s o (heard before number))
 BeatComes old s o number outcome new = ⊥
@@ -147,7 +147,7 @@ QueryComes old s q outcome new =
 abbrev pub Grants : WorldValue → ℕ → AskValue → AskAnswer → ℕ → WorldValue → Type 0
 Grants old s ask answer number new = (d : DeskValue) × DeskAnswers (desk old s) ask answer (Some number) d × (new ≡ with_desk old s d)
 
--- the desk of s denies the ask, and a packet of this number says so
+-- the desk of s denies the ask, and a packet of this number has the denial
 abbrev pub Denies : WorldValue → ℕ → AskValue → AskAnswer → ℕ → WorldValue → Type 0
 Denies old s ask answer number new = (d : DeskValue) × DeskAnswers (desk old s) ask answer None d × Sends (with_desk old s d) s ask.asker (ADenial (denial ask)) number new
 
@@ -163,12 +163,12 @@ AskComesBy answer old s ask outcome new = ⊥
 abbrev pub AskComes : {A : Type 0} → WorldValue → ℕ → AskValue → Result (Reply A) WorldError → WorldValue → Type 0
 AskComes old s ask outcome new = AskComesBy (answer_of (desk old s) ask) old s ask outcome new
 
--- the ask that is denied ends, and a denial takes no memory
+-- the ask that is denied ends; a denial allocates nothing
 abbrev pub DenialComes : {A : Type 0} → WorldValue → ℕ → DenyValue → Result (Reply A) WorldError → WorldValue → Type 0
 DenialComes old s d (Ok Noted) new = new ≡ with_desk old s (record (desk old s) { manager = ended (desk old s).manager d.denier d.ask })
 DenialComes old s d outcome new = ⊥
 
--- a message of o arrives at s; nobody sends a hello in a world
+-- a message of o arrives at s; no site sends a hello in a world
 abbrev pub MessageComes : {A : Type 0} → WorldValue → ℕ → ℕ → MessageValue → Result (Reply A) WorldError → WorldValue → Type 0
 MessageComes old s o (AnEntry e) outcome new = EntriesCome old s o (e ∷ []) outcome new
 MessageComes old s o (AnAnswer a) outcome new = EntriesCome old s o a.entries outcome new
@@ -185,7 +185,7 @@ PacketComes old s (Some p) outcome new = (m : MessageValue) × Spells m (packet_
 
 -- ---- noise
 
--- bytes that nobody sent: refused by the first fault of a line, or as forged where they read as a message
+-- bytes that no site sent: refused for the first fault of a line, or as forged if they read as a message
 abbrev pub NoiseReads : {A : Type 0} → Result MessageValue LineError → Result (Reply A) WorldError → Type 0
 NoiseReads (Ok m) outcome = outcome ≡ Err Forged
 NoiseReads (Err fault) outcome = outcome ≡ Ok (Refused (fault_number fault))
@@ -199,8 +199,8 @@ NoiseHappens old bytes outcome new = NoiseReads (reading bytes) outcome × (new 
 abbrev pub with_applied : LinkValue → EntryValue → LinkValue
 with_applied l e = record l { applied = l.applied ++ e ∷ [] }
 
--- s, not closed, applies the next entry of what it put of o, with this number; what it takes back by that is an
--- entry of its own, whose number is `back`
+-- s, not closed, applies the next delivered entry of o, with this number; what it reclaims by that is an entry of its
+-- own, whose number is `back`
 pub record TakesNext (old : WorldValue) (s o number : ℕ) (back : Option ℕ) (new : WorldValue) : Type 0 where
   pub before : LinkValue
   pub there : link old s o ≡ Some before
@@ -213,7 +213,7 @@ pub record TakesNext (old : WorldValue) (s o number : ℕ) (back : Option ℕ) (
   pub back_is : back ≡ number_of_taking (owed_by (desk old s).ledger o next) after.ledger.log
   pub left : new ≡ with_desk (with_link old s o (with_applied before next)) s after
 
--- only the take of a closing entry with a frontier takes memory, at a site that has not closed
+-- only taking a closing entry with a frontier allocates, at a site that has not closed
 abbrev pub TakesClosing : WorldValue → ℕ → ℕ → Type 0
 TakesClosing w s o = (is_closed (log w s) ≡ false) × (e : EntryValue) × (slice_get (put w s o) (length (applied w s o)) ≡ Some e) × (numbers_in e.moves ≢ None)
 

@@ -1,10 +1,10 @@
--- How packets are kept: each in a row, and the lines that are their own beside the rows.
+-- How packets are stored: one row each, and beside the rows the lines that belong to packets.
 use Rattle.std.specs.Prelude.{◌≡◌, ℕ, ◌<◌, false, if◌then◌else◌, get_or, length, map, List, []}
 use Rattle.world_core.specs.Values.{PacketValue}
 use Rattle.world_core.specs.Values.BodyValue.{EntryAt, Text}
 use Rattle.world_core.specs.declared.packets.Row.{Row}
 
--- the packets, and how many more of them, and of lines of their own, can be added without a request for memory
+-- the packets, and how many more of them, and of lines of their own, can be added without a memory request
 pub record PacketsValue : Type 0 where
   pub items : List PacketValue
   pub room : ℕ
@@ -17,6 +17,6 @@ packet_in lines row = record { from = row.from; to = row.to; body = if row.is_en
 abbrev pub packets_in : List (List ℕ) → List Row → List PacketValue
 packets_in lines rows = map (packet_in lines) rows
 
--- a row that is no entry's has a line
+-- a row of a packet that carries no entry has a line
 abbrev pub HasLine : List (List ℕ) → Row → Type 0
 HasLine lines row = row.is_entry ≡ false → row.place < length lines

@@ -13,8 +13,8 @@ use Rattle.world_core.specs.declared.fault.WorldError.{WorldError}
 abbrev pub Refines : WorldValue → WorldValue → Type 0
 Refines old new = (changes : List Change) × ChangesRun (lists_of old) changes (lists_of new)
 
--- events lead from the old world to the new one (the values of events and replies say nothing of where they lie in
--- memory, so the type that stands for that is any)
+-- events lead from the old world to the new one (the values of events and replies do not depend on where they are
+-- stored, so the type that represents this is arbitrary)
 pub record Later (old new : WorldValue) : Type 0 where
   pub events : List (Event ℕ)
   pub outcomes : List (Result (Reply ℕ) WorldError)

@@ -1,4 +1,4 @@
--- What is kept of every world.
+-- The invariant of every world.
 use Rattle.std.specs.Prelude.{◌≡◌, ◌≢◌, ℕ, ◌<◌, ◌≤◌, false, length, Some, None}
 use Rattle.std.specs.List.{All, Contains}
 use Rattle.rights_types.specs.Chains.{end, moves_of}
@@ -18,7 +18,7 @@ use Rattle.world_core.specs.Values.{LinkValue, BodyValue, PacketValue, WorldValu
 use Rattle.world_core.specs.Values.BodyValue.{EntryAt, Text}
 use Rattle.world_core.specs.Worlds.{count, desk, log, row, link, applied, lists_of}
 
--- of site s: its desk is that of s in this system, by what s applied; it has a link to each other site
+-- of site s: its desk is that of s in this system, and agrees with what s applied; it has a link to each other site
 pub record SiteSound (w : WorldValue) (s : ℕ) : Type 0 where
   pub me : (desk w s).ledger.log.site ≡ s
   pub manager : (desk w s).manager.me ≡ s
@@ -29,7 +29,7 @@ pub record SiteSound (w : WorldValue) (s : ℕ) : Type 0 where
   pub itself : link w s s ≡ None
   pub others : (o : ℕ) → IsSiteOf (count w) o → s ≢ o → (l : LinkValue) × (link w s o ≡ Some l)
 
--- of what s has of the log of o: it is of this pair in this system, and its buffer follows the log
+-- of what s has of the log of o: it belongs to this pair in this system, and its buffer follows the log
 pub record LinkSound (w : WorldValue) (s o : ℕ) (l : LinkValue) : Type 0 where
   pub me : l.inbound.buffer.me ≡ s
   pub origin : l.inbound.buffer.origin ≡ o
@@ -37,7 +37,7 @@ pub record LinkSound (w : WorldValue) (s o : ℕ) (l : LinkValue) : Type 0 where
   pub settled : IsSettled l.inbound.buffer
   pub follows : Follows (log w o) l.reached l.put l.inbound.buffer
 
--- what s may have said to p
+-- the messages that s may have sent to p
 abbrev pub IsSaid : WorldValue → ℕ → ℕ → MessageValue → Type 0
 IsSaid w s p (AnEntry e) = ⊥
 IsSaid w s p (AQuery q) = (q.asker ≡ s) × (q.origin ≡ p)
@@ -47,29 +47,29 @@ IsSaid w s p (AnAsk a) = (a.asker ≡ s) × (a.asked ≡ p)
 IsSaid w s p (ADenial d) = (d.denier ≡ s) × (d.asker ≡ p)
 IsSaid w s p (AHello site) = ⊥
 
--- what may come in from s at p: what s said, or an entry of its log
+-- the messages that may arrive from s at p: what s may have sent, or an entry of its log
 abbrev pub MayCome : WorldValue → ℕ → ℕ → MessageValue → Type 0
 MayCome w s p (AnEntry e) = Contains (log w s) e
 MayCome w s p m = IsSaid w s p m
 
--- an entry of its sender's log, or what it may have said
+-- an entry of its sender's log, or a message that the sender may have sent
 abbrev pub IsBody : WorldValue → ℕ → ℕ → BodyValue → Type 0
 IsBody w s p (EntryAt place) = place < length (log w s)
 IsBody w s p (Text text) = (m : MessageValue) × Spells m text × IsSaid w s p m
 
--- a packet from one site to another, with what was said
+-- a packet from one site to another, with content that the sender may have sent
 pub record IsSent (w : WorldValue) (p : PacketValue) : Type 0 where
   pub from : IsSiteOf (count w) p.from
   pub to : IsSiteOf (count w) p.to
   pub differ : p.to ≢ p.from
   pub said : IsBody w p.from p.to p.body
 
--- no site's moves are of another system than this one
+-- every move of every site fits this system
 abbrev pub IsNative : WorldValue → ℕ → Type 0
 IsNative w s = All (λ (m : Move). is_foreign (count w) m ≡ false) (moves_of (log w s))
 
 pub record IsWorld (w : WorldValue) : Type 0 where
-  -- what the protocol keeps: 2 to 16 sites, each site's part, and that of each link
+  -- the invariant of the protocol: 2 to 16 sites, the part of each site, and that of each link
   pub kept : Kept (lists_of w)
   pub rows : length w.links ≡ count w
   pub sites : (s : ℕ) → IsSiteOf (count w) s → SiteSound w s

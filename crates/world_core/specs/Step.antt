@@ -1,4 +1,4 @@
--- What an event may come to: a relation from an old world and an event to an outcome and a new world.
+-- The possible results of an event: a relation from an old world and an event to an outcome and a new world.
 use Rattle.std.specs.Prelude.{◌≡◌, Bool, true, false, List, [], ◌∷◌, Result, Err, MatchOption}
 use Rattle.world_core.specs.Values.{WorldValue}
 use Rattle.world_core.specs.Worlds.{ended, packet}
@@ -34,7 +34,7 @@ abbrev pub wants_memory : {A : Type 0} → Result (Reply A) WorldError → Bool
 wants_memory (Err OutOfMemory) = true
 wants_memory outcome = false
 
--- the same, but that want of memory ends the world
+-- the same, except that lack of memory ends the world
 abbrev pub Happens : {A : Type 0} → WorldValue → Event A → Result (Reply A) WorldError → WorldValue → Type 0
 Happens old event (Err OutOfMemory) new = (mid : WorldValue) × Attempts old event (Err OutOfMemory) mid × (new ≡ ended mid)
 Happens old event outcome new = Attempts old event outcome new

@@ -4,15 +4,15 @@ use Rattle.rights_types.specs.Entries.{EntryValue}
 use Rattle.site_core.specs.Desks.{DeskValue}
 use Rattle.site_core.specs.Inbounds.{InboundValue}
 
--- what a site has of the log of an origin: what comes in from it; the entries that reached the site, each listed
--- once, as it first came; those that its buffer put in order; and those that it applied
+-- what a site has of the log of an origin: its inbound; the entries that reached the site, each listed once, in the
+-- order in which they first arrived; those that its buffer delivered, in order; and those that it applied
 pub record LinkValue : Type 0 where
   pub inbound : InboundValue
   pub reached : List EntryValue
   pub put : List EntryValue
   pub applied : List EntryValue
 
--- what a packet carries: the line of the entry at a place of its sender's log, counted from 0, or a line of its own
+-- the content of a packet: the line of the entry at an index of its sender's log, or a line of its own
 pub data BodyValue : Type 0 where
   EntryAt : ℕ → BodyValue
   Text : List ℕ → BodyValue
@@ -23,7 +23,8 @@ pub record PacketValue : Type 0 where
   pub to : ℕ
   pub body : BodyValue
 
--- the desks and, in a row for each site, the links, both by the sites' numbers; a site has no link to itself
+-- the desks and, in a row for each site, the links, both in the order of the sites' numbers; a site has no link to
+-- itself
 pub record WorldValue : Type 0 where
   pub desks : List DeskValue
   pub links : List (List (Option LinkValue))

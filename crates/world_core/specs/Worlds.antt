@@ -19,7 +19,7 @@ count w = length w.desks
 abbrev pub sites_of : WorldValue → List ℕ
 sites_of w = range_with_len 1 (count w)
 
--- the desk of a site; one with nothing on it where there is no such site
+-- the desk of a site; an empty one if there is no such site
 abbrev pub desk : WorldValue → ℕ → DeskValue
 desk w s = at_site w.desks s (new_desk 0 0)
 
@@ -34,7 +34,7 @@ log w s = (desk w s).ledger.log.entries
 abbrev pub row : WorldValue → ℕ → List (Option LinkValue)
 row w s = at_site w.links s []
 
--- what s has of the log of o, where there are both, and not one
+-- what s has of the log of o, if both exist and differ
 abbrev pub link : WorldValue → ℕ → ℕ → Option LinkValue
 link w s o = at_site (row w s) o None
 
@@ -45,7 +45,7 @@ abbrev pub list_of : (LinkValue → List EntryValue) → Option LinkValue → Li
 list_of list None = []
 list_of list (Some l) = list l
 
--- of the log of o: what reached s, what the buffer of s put, what s applied
+-- of the log of o: what reached s, what the buffer of s delivered, what s applied
 abbrev pub reached : WorldValue → ℕ → ℕ → List EntryValue
 reached w s o = list_of (λ l. l.reached) (link w s o)
 
@@ -57,11 +57,11 @@ applied w s o = list_of (λ l. l.applied) (link w s o)
 
 -- ---- the whole
 
--- a world's lists, as the protocol reads them
+-- a world's lists, as the protocol models them
 abbrev pub lists_of : WorldValue → Lists
 lists_of w = record { count = count w; log = log w; reached = reached w; put = put w; applied = applied w }
 
--- the rights that s holds, and those on the way from o to s
+-- the rights that s holds, and those in transit from o to s
 abbrev pub held_by : WorldValue → ℕ → ℕ
 held_by w s = held_at (lists_of w) s
 
@@ -76,7 +76,7 @@ ended w = record w { ended = true }
 abbrev pub with_packet : WorldValue → PacketValue → WorldValue
 with_packet w p = record w { packets = w.packets ++ p ∷ [] }
 
--- the packet of a number, counted from 1
+-- the packet with a number, counted from 1
 abbrev pub packet : WorldValue → ℕ → Option PacketValue
 packet w number = if number == 0 then None else slice_get w.packets (number - 1)
 

@@ -1,10 +1,10 @@
-//! What may happen in a world.
+//! The events of a world.
 use rights_types::{Move, SiteId};
 use site_core::Line;
 use std::alloc::{Allocator, Global};
 use std::marker::Model;
 
-/// The moves of a post, in order; the desk judges how many they may be.
+/// The moves of a post, in order. Any number of them: the desk checks the count.
 #[derive(Drop)]
 pub struct Moves<A: Allocator = Global> {
     items: Vec<Move, A>,
@@ -35,40 +35,40 @@ impl<A: Allocator> Moves<A> {
     }
 }
 
-/// What happens at a site, or on the link between two. The first site is the one where it happens.
+/// An event at a site, or on the link between two. The first site is the one where it happens.
 #[derive(Drop)]
 pub enum Event<A: Allocator = Global> {
     /// The site writes an entry of these moves.
     Post(SiteId, Moves<A>),
-    /// The site creates so many rights.
+    /// The site creates this many rights.
     Issue(SiteId, u64),
-    /// The site gives the other one so many rights.
+    /// The site gives the other site this many rights.
     Give(SiteId, SiteId, u64),
-    /// The site spends so many rights, or lets the spend wait until this deadline.
+    /// The site spends this many rights, or lets the spend wait until this deadline.
     Spend(SiteId, u64, u64),
-    /// The site serves the spend that waits at the front.
+    /// The site serves the spend at the front of its queue.
     Serve(SiteId),
-    /// Spends whose deadlines are less than this time wait no longer.
+    /// The site's spends whose deadlines are less than this time expire.
     Expire(SiteId, u64),
-    /// What became of the spend of this ticket is read.
+    /// Reads the outcome of the spend with this ticket.
     Status(SiteId, u64),
-    /// The site plans whom it asks for the rights that waiting spends lack.
+    /// The site plans which peers to ask for the rights that waiting spends lack.
     Plan(SiteId),
     /// The site sends its outstanding ask to the peer.
     Ask(SiteId, SiteId),
     /// The site sends its next entry to the peer.
     Publish(SiteId, SiteId),
-    /// The site sends the number of its log's end to the peer.
+    /// The site sends the peer the number of its log's end.
     Beat(SiteId, SiteId),
-    /// The site asks the origin for the entries that it lacks: with `true` also where it asked for the same
-    /// last.
+    /// The site queries the origin for the entries that it lacks: with `true` even if that gap was the last one asked
+    /// for.
     Query(SiteId, SiteId, bool),
     /// The packet of this number, counted from 1, arrives at the site.
     Arrive(SiteId, u64),
-    /// Bytes that no site sent come in at the site, as a line of the origin.
+    /// Bytes that no site sent arrive at the site, as a line of the origin.
     Noise(SiteId, SiteId, Line<A>),
-    /// The site applies the next entry of the origin that its buffer has put.
+    /// The site applies the next entry of the origin that its buffer has delivered.
     Take(SiteId, SiteId),
-    /// The site closes; all that it holds goes to the heir, where one is named.
+    /// The site closes. All that it holds goes to the heir, if one is named.
     Close(SiteId, Option<SiteId>),
 }

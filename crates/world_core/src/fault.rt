@@ -5,13 +5,13 @@ use rights_types::OutOfMemory;
 use site_core::DeskError;
 use std::alloc::{AllocError, AllocFailed};
 
-/// Why an event is refused, in the order in which the causes are looked for. A refusal changes
-/// nothing, but after `OutOfMemory` the world is ended.
+/// Why an event is refused, in the order in which the causes are checked. A refusal changes nothing, except that after
+/// `OutOfMemory` the world has ended.
 #[derive(Clone, Copy, Debug, PartialEq, Eq)]
 pub enum WorldError {
-    /// An earlier event wanted memory.
+    /// An earlier event ran out of memory.
     Ended,
-    /// A site of the event is not in the world, or its two ends are one.
+    /// A site of the event is not in the world, or its two sites are the same.
     NoSuchSite,
     /// No packet has this number.
     NoPacket,
@@ -19,9 +19,9 @@ pub enum WorldError {
     NotForSite,
     /// The noise reads as a message: no site sent it.
     Forged,
-    /// The site's desk refuses, for another cause than memory.
+    /// The site's desk refuses, for a cause other than memory.
     Desk(DeskError),
-    /// A request for memory was refused, and the world ends here.
+    /// A memory request was refused, and the world has ended.
     OutOfMemory,
 }
 

@@ -4,8 +4,7 @@ ghost use Rattle.std.specs.Borrow.{ftrue};
 
 use std::marker::{Model, PhantomData};
 
-/// A list that only proofs read: it has no bytes, and its methods do nothing when they run. A clause reads it as
-/// `items`.
+/// A list for proofs only: it has no bytes, and its methods do nothing when they run. A clause reads it as `items`.
 #[derive(Drop)]
 pub(crate) struct History<T> {
     of: PhantomData<T>,
@@ -23,14 +22,14 @@ impl<T> History<T> {
         History { of: PhantomData }
     }
 
-    /// The list with one item more.
+    /// The list with one more item.
     pub(crate) fn and(&self, item: &T) -> History<T>
         ensures { result.items ≡ self.now.items ++ item.now ∷ [] }
     {
         History { of: PhantomData }
     }
 
-    /// The list with these items more.
+    /// The list with these items appended.
     pub(crate) fn and_all(self, items: &[T]) -> History<T>
         ensures { result.items ≡ self.items ++ items.now }
     {

@@ -1,7 +1,7 @@
-//! What a world keeps of the entries that its sites have applied.
+//! Which of the entries that its sites have applied a world keeps.
 ghost use Rattle.std.specs.Prelude.{◌≡◌, Bool, true, false};
 
-/// Whether the entries that reached a site stay once they were applied.
+/// Whether the entries that reached a site are kept after they were applied.
 pub trait Keeping {
     ghost keeps: { Bool };
 
@@ -9,7 +9,7 @@ pub trait Keeping {
         ensures { result ≡ keeps };
 }
 
-/// They stay, so that a world's readers can lend them.
+/// They are kept, so that a world's readers can lend them.
 #[derive(Drop)]
 pub struct ForReaders {}
 
@@ -21,7 +21,7 @@ impl Keeping for ForReaders {
     }
 }
 
-/// They go once they were applied: no reply tells of them again, and of all that came only proofs still speak.
+/// They are dropped: no reply mentions them again, and from then on they exist only as ghost state.
 #[derive(Drop)]
 pub struct ForReplies {}
 

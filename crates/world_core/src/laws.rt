@@ -15,21 +15,21 @@ ghost use Rattle.world_core.specs.declared.event.Event.{Event};
 ghost use Rattle.world_core.specs.declared.reply.Reply.{Reply};
 ghost use Rattle.world_core.specs.declared.fault.WorldError.{WorldError};
 
-/// The headline and what retirement promises hold of every world that a run of the step relation reaches from the
-/// start, whatever the events and their outcomes. (The values of events and replies say nothing of where they lie in
-/// memory, so the type that stands for that is any.)
+/// The headline and retirement hold of every world that a run of the step relation reaches from the start, whatever
+/// the events and their outcomes. (The values of events and replies do not depend on where they are stored, so the
+/// type that represents this is arbitrary.)
 pub fn every_run()
     ensures { (n : ℕ) (events : List (Event ℕ)) (outcomes : List (Result (Reply ℕ) WorldError)) (w : WorldValue)
         → MIN_SITES ≤ n → n ≤ MAX_SITES → Runs (start n) events outcomes w → Headline w }
 {}
 
-/// From any world that events reach, whatever events come later are changes of the protocol: one after another they
-/// lead from the old lists to the new ones. One event is such a run too.
+/// From any world that events reach, any later events are changes of the protocol: one after another they lead from
+/// the old lists to the new ones. One event is such a run too.
 pub fn later_refines()
     ensures { (n : ℕ) (old new : WorldValue) → Reached n old → Later old new → Refines old new }
 {}
 
-/// The start of a world is the protocol's, so every run of a world is one of the protocol from its start.
+/// The start of a world is the protocol's start, so every run of a world is a run of the protocol from its start.
 pub fn every_run_refines()
     ensures { (n : ℕ) (w : WorldValue) → Reached n w → Start n (lists_of (start n)) × Refines (start n) w }
 {}
@@ -46,7 +46,7 @@ pub fn closed_for_good()
         → (is_closed (log new c) ≡ true) × ((o : ℕ) → applied new c o ≡ applied old c o) }
 {}
 
-/// Whatever happens later, a closing entry that a site applied stays applied, and the last of its log.
+/// Whatever happens later, a closing entry that a site applied stays applied, and stays the last of its log.
 pub fn applied_for_good()
     ensures { (n : ℕ) (old new : WorldValue) (s c : ℕ) (numbers : List ℕ) → Reached n old → Later old new
         → AppliedClose (lists_of old) s c numbers → AppliedClose (lists_of new) s c numbers }

@@ -29,8 +29,7 @@ use site_core::{Inbound, InboundError};
 use std::alloc::Allocator;
 use std::marker::{Model, PhantomData};
 
-/// What comes in of an origin's log at a site, and how many of the entries were applied that were put in order and not
-/// let go.
+/// The input from an origin's log at a site, and how many of the delivered entries that are still stored were applied.
 #[derive(Drop)]
 pub(crate) struct Link<A: Allocator, K: Keeping> {
     incoming: Incoming<A, K>,
@@ -74,7 +73,7 @@ impl<A: Allocator + Copy, K: Keeping> Link<A, K> {
         })
     }
 
-    /// The message of a line.
+    /// Reads the message of a line.
     pub(crate) fn read(&self, line: &[u8]) -> Result<Message<A>, InboundError>
         ensures refused { InboundRefuses self.now.inbound (reading line.now) result }
         ensures ok { IfOk result (λ m. reading line.now ≡ Ok (value_of m)) }
@@ -122,7 +121,7 @@ impl<A: Allocator + Copy, K: Keeping> Link<A, K> {
         Ok(scratch.tell())
     }
 
-    /// Hears a beat of the origin.
+    /// Takes in a beat of the origin.
     pub(crate) fn hear(&mut self, number: u64)
         requires { IsNumber number }
         ensures { self.new ≡ heard self.old number }
@@ -130,7 +129,7 @@ impl<A: Allocator + Copy, K: Keeping> Link<A, K> {
         self.incoming.inbound.hear(number);
     }
 
-    /// The line of the query for the gap, as `Inbound::query_line` has it.
+    /// The line of the query for the gap, as by `Inbound::query_line`.
     pub(crate) fn query_line(&mut self, again: bool) -> Result<Option<Vec<u8, A>>, OutOfMemory>
         ensures asks { (q : Option QueryValue) × QueryOf self.old.inbound again q self.new.inbound
             × MatchResult result (λ line. LineOf (λ l. l.items) (option_map (λ x. AQuery x) q) line) (λ _. IsSome q) }
@@ -139,14 +138,14 @@ impl<A: Allocator + Copy, K: Keeping> Link<A, K> {
         self.incoming.inbound.query_line(again)
     }
 
-    /// The next entry to be applied.
+    /// The next delivered entry, which is to be applied.
     pub(crate) fn next(&self) -> Option<&Entry<A>>
         ensures { option_copied result ≡ slice_get self.now.put (length self.now.applied) }
     {
         self.incoming.put.get(self.applied)
     }
 
-    /// It was applied.
+    /// Notes that it was applied.
     pub(crate) fn apply_next(&mut self)
         requires { IsSome (slice_get self.old.put (length self.old.applied)) }
         ensures { (e : EntryValue) → slice_get self.old.put (length self.old.applied) ≡ Some e → self.new ≡ with_applied self.old e }
@@ -160,7 +159,7 @@ impl<A: Allocator + Copy, K: Keeping> Link<A, K> {
         }
     }
 
-    /// The own number of the last entry that was put.
+    /// The own number of the last entry that was delivered.
     pub(crate) fn last(&self) -> u64
         ensures { result ≡ self.now.inbound.buffer.last }
     {
@@ -169,7 +168,7 @@ impl<A: Allocator + Copy, K: Keeping> Link<A, K> {
 }
 
 impl<A: Allocator> Link<A, ForReaders> {
-    /// The entries that reached the site, each once, as they first came.
+    /// The entries that reached the site, each once, in the order in which they first arrived.
     pub(crate) fn reached(&self) -> &[Entry<A>]
         ensures { result.now ≡ self.now.reached }
     {
@@ -179,7 +178,7 @@ impl<A: Allocator> Link<A, ForReaders> {
         }
     }
 
-    /// The entries that were put in order.
+    /// The entries that were delivered, in order.
     pub(crate) fn put(&self) -> &[Entry<A>]
         ensures { result.now ≡ self.now.put }
     {

@@ -26,7 +26,7 @@ use site_core::InboundError;
 use std::alloc::Allocator;
 use std::marker::Model;
 
-/// The links of a site, by the origins' numbers; it has none to itself.
+/// The links of a site, by the numbers of the origins; it has no link to itself.
 #[derive(Drop)]
 pub(crate) struct Links<A: Allocator, K: Keeping> {
     links: Vec<Option<Link<A, K>>, A>,
@@ -42,7 +42,7 @@ impl<A: Allocator, K: Keeping> Model for Links<A, K> {
 }
 
 impl<A: Allocator + Copy, K: Keeping> Links<A, K> {
-    /// The links of site `me` among so many sites, before anything came.
+    /// The links of site `me` in a system of `sites` sites, before anything arrived.
     pub(crate) fn new(alloc: A, me: SiteId, sites: u64) -> Result<Links<A, K>, OutOfMemory>
         requires sites { (MIN_SITES ≤ sites) × (sites ≤ MAX_SITES) }
         requires me { me ≤ sites }
@@ -61,7 +61,7 @@ impl<A: Allocator + Copy, K: Keeping> Links<A, K> {
         Ok(Links { links })
     }
 
-    /// The link to the origin, where there is one.
+    /// The link to the origin, if there is one.
     pub(crate) fn get(&self, origin: SiteId) -> Option<&Link<A, K>>
         ensures { option_copied result ≡ at_site self.now origin None }
     {
@@ -105,7 +105,7 @@ impl<A: Allocator + Copy, K: Keeping> Links<A, K> {
         }
     }
 
-    /// Hears a beat of the origin.
+    /// Takes in a beat of the origin.
     pub(crate) fn hear(&mut self, origin: SiteId, number: u64)
         requires there { IsSome (at_site self.old origin None) }
         requires number { IsNumber number }
@@ -134,14 +134,14 @@ impl<A: Allocator + Copy, K: Keeping> Links<A, K> {
         }
     }
 
-    /// The origin's next entry to be applied.
+    /// The origin's next delivered entry, which is to be applied.
     pub(crate) fn next(&self, origin: SiteId) -> Option<&Entry<A>>
         ensures { option_copied result ≡ slice_get (list_of (λ l. l.put) (at_site self.now origin None)) (length (list_of (λ l. l.applied) (at_site self.now origin None))) }
     {
         self.get(origin)?.next()
     }
 
-    /// It was applied.
+    /// Notes that it was applied.
     pub(crate) fn apply_next(&mut self, origin: SiteId)
         requires { IsSome (slice_get (list_of (λ l. l.put) (at_site self.old origin None)) (length (list_of (λ l. l.applied) (at_site self.old origin None)))) }
         ensures { (before : LinkValue) × (at_site self.old origin None ≡ Some before)

@@ -9,16 +9,16 @@ use site_core::Line;
 use std::alloc::Allocator;
 use std::marker::Model;
 
-/// What a packet carries, lent. The line of an entry never changes, so its place in the log stands for it.
+/// The content of a packet, borrowed. The line of an entry never changes, so its position in the log stands for it.
 #[derive(Clone, Copy)]
 pub(crate) enum Body<'a> {
-    /// The entry at this place of its sender's log, counted from 0.
+    /// The entry at this index of its sender's log.
     Entry(usize),
     /// A line of its own.
     Own(&'a [u8]),
 }
 
-/// A line that one site sent to another, lent.
+/// A line that one site sent to another, borrowed.
 #[derive(Drop)]
 pub(crate) struct Packet<'a> {
     from: SiteId,
@@ -55,8 +55,8 @@ impl<'a> Packet<'a> {
     }
 }
 
-/// Whose a packet is, and the place of what it carries: among the entries of its sender's log, or among the lines that
-/// are packets' own.
+/// The sender and the receiver of a packet, and the index of its content: among the entries of its sender's log, or
+/// among the lines that belong to packets.
 #[derive(Clone, Copy)]
 struct Row {
     place: usize,
@@ -65,7 +65,7 @@ struct Row {
     is_entry: bool,
 }
 
-/// All packets, which are kept for good, whether they arrive or not. Most carry entries, which take a row alone.
+/// All packets, which are kept forever, whether they arrive or not. Most of them carry entries, and take only a row.
 #[derive(Drop)]
 pub(crate) struct Packets<A: Allocator> {
     rows: Vec<Row, A>,
@@ -94,7 +94,7 @@ impl<A: Allocator + Copy> Packets<A> {
         }
     }
 
-    /// Makes room for a packet that carries an entry.
+    /// Reserves memory for a packet that carries an entry.
     pub(crate) fn reserve_entry(&mut self) -> Result<(), OutOfMemory>
         ensures items { self.new.items ≡ self.old.items }
         ensures ok { OnOk result (0 < self.new.room) }
@@ -103,7 +103,7 @@ impl<A: Allocator + Copy> Packets<A> {
         Ok(())
     }
 
-    /// Makes room for a packet with a line of its own.
+    /// Reserves memory for a packet with a line of its own.
     pub(crate) fn reserve_line(&mut self) -> Result<(), OutOfMemory>
         ensures items { self.new.items ≡ self.old.items }
         ensures ok { OnOk result ((0 < self.new.room) × (0 < self.new.lines)) }
@@ -113,7 +113,8 @@ impl<A: Allocator + Copy> Packets<A> {
         Ok(())
     }
 
-    /// Adds a packet with the entry at this place of the sender's log, for which there is room, and answers its number.
+    /// Adds a packet with the entry at this index of the sender's log, for which memory was reserved, and returns its
+    /// number.
     pub(crate) fn add_entry(&mut self, from: SiteId, to: SiteId, place: usize) -> u64
         requires room { 0 < self.old.room }
         ensures number { result ≡ length self.old.items + 1 }
@@ -128,7 +129,7 @@ impl<A: Allocator + Copy> Packets<A> {
         self.rows.len() as u64
     }
 
-    /// Adds a packet with this line, for which there is room, and answers its number.
+    /// Adds a packet with this line, for which memory was reserved, and returns its number.
     pub(crate) fn add_line(&mut self, from: SiteId, to: SiteId, line: Line<A>) -> u64
         requires room { (0 < self.old.room) × (0 < self.old.lines) }
         ensures number { result ≡ length self.old.items + 1 }

@@ -1,30 +1,30 @@
-//! What an event comes to.
+//! The outcome of an event.
 use request_queue::Status;
 use std::alloc::{Allocator, Global};
 use std::marker::Model;
 
-/// What a buffer says of an entry that is offered to it.
+/// The verdict of a buffer on an entry that is offered to it.
 #[derive(Clone, Copy, Debug, PartialEq, Eq)]
 pub enum Verdict {
-    /// It has become next and was delivered; this is its own number.
+    /// It became next and was delivered; its own number.
     Ready(u64),
     /// It is kept until the entries before it come.
     Held,
-    /// It came before.
+    /// It arrived before.
     Repeat,
-    /// Its log was closed before it.
+    /// Its log was closed before this entry.
     AfterClose,
-    /// It is later than the next entry, and there is no room to keep it: it is lost.
+    /// It is later than the next entry, and as many as possible are held: it is lost.
     Full,
 }
 
-/// The verdicts on the entries of one arrival, and after each those on the entries that it freed.
+/// The verdicts on the entries of one arrival, each followed by Ready for each entry that it freed.
 #[derive(Drop)]
 pub struct Verdicts<A: Allocator = Global> {
     told: Told<A>,
 }
 
-/// Most arrivals come to one verdict, which takes no memory.
+/// Most arrivals have one verdict, which takes no memory.
 #[derive(Drop)]
 pub(crate) enum Told<A: Allocator> {
     One([Verdict; 1]),
@@ -70,7 +70,7 @@ impl<A: Allocator> Verdicts<A> {
     }
 }
 
-/// What an event came to, where it was not refused.
+/// The result of an event that was not refused.
 #[derive(Drop)]
 pub enum Reply<A: Allocator = Global> {
     /// The own number of the entry that was written.
@@ -81,34 +81,34 @@ pub enum Reply<A: Allocator = Global> {
     Queued(u64),
     /// The spend of this ticket was served, by the entry of this number.
     Served(u64, u64),
-    /// So many spends expired.
+    /// How many spends expired.
     Expired(u64),
-    /// What became of a spend.
+    /// The state of a spend.
     Tells(Status),
-    /// So many peers were asked.
+    /// How many peers were asked.
     Asks(u64),
     /// The number of the packet that was made; `World::packet` lends its line.
     Packet(u64),
     /// The verdicts on the entries that arrived.
     Verdicts(Verdicts<A>),
-    /// A beat was heard.
+    /// A beat was taken in.
     HeardBeat,
     /// The ask was granted, by the entry of this number.
     Granted(u64),
-    /// The ask was denied; this is the number of the packet that says so.
+    /// The ask was denied; the number of the packet with the denial.
     Denied(u64),
     /// The ask was granted before.
     GrantedBefore,
     /// A later ask was answered before.
     Old,
-    /// The denial was noted.
+    /// The denial was recorded.
     Noted,
-    /// The noise is no line of a message, for this cause (`LineError::number`).
+    /// The noise does not spell a message, for this cause (`LineError::number`).
     Refused(u64),
     /// The own number of the entry that was applied.
     Taken(u64),
-    /// The own number of the closing entry that was applied, and that of the entry which takes back what its
-    /// site will never apply.
+    /// The own number of the closing entry that was applied, and that of the entry which reclaims what its site will
+    /// never apply.
     TakenBack(u64, u64),
     /// There was nothing to serve, to send or to apply.
     Nothing,

@@ -1,5 +1,5 @@
-//! The desks and links of all sites, and all packets: what each event does to them. What is kept of them all along is
-//! the world's, which passes it to each event.
+//! The desks and links of all sites, and all packets: the effect of each event on them. The world has their invariant,
+//! and passes it to each event.
 ghost use Rattle.std.specs.Prelude.{◌≡◌, ◌≤◌, None, IfOk};
 ghost use Rattle.rights_types.specs.declared.limits.TheConstants.{MIN_SITES, MAX_SITES};
 ghost use Rattle.world_core.specs.Worlds.{start, ended};
@@ -23,7 +23,7 @@ use site_core::Desk;
 use std::alloc::Allocator;
 use std::marker::Model;
 
-/// All sites, and all packets ever sent. Once it is ended, nothing happens any more.
+/// All sites, and all packets ever sent. Once the system has ended, no event happens.
 #[derive(Drop)]
 pub(crate) struct System<A: Allocator, K: Keeping> {
     pub(crate) desks: Vec<Desk<A>, A>,
@@ -42,7 +42,7 @@ impl<A: Allocator, K: Keeping> Model for System<A, K> {
 }
 
 impl<A: Allocator + Copy, K: Keeping> System<A, K> {
-    /// So many sites, 2 to 16, at the start.
+    /// A system of `sites` sites, 2 to 16, at the start.
     pub(crate) fn new(alloc: A, sites: u64) -> Result<System<A, K>, OutOfMemory>
         requires { (MIN_SITES ≤ sites) × (sites ≤ MAX_SITES) }
         ensures { IfOk result (λ system. system ≡ start sites) }
@@ -63,12 +63,12 @@ impl<A: Allocator + Copy, K: Keeping> System<A, K> {
         })
     }
 
-    /// Where vectors of the system's keeping lie.
+    /// The allocator of the system's own lists.
     pub(crate) fn allocator(&self) -> A {
         *self.desks.allocator()
     }
 
-    /// Lets one event happen. Want of memory ends the system.
+    /// Lets one event happen. Lack of memory ends the system.
     pub(crate) fn happen(&mut self, event: &Event<A>) -> Result<Reply<A>, WorldError>
         requires kept { IsWorld self.old }
         ensures { Step self.old event.now result self.new }
@@ -83,14 +83,14 @@ impl<A: Allocator + Copy, K: Keeping> System<A, K> {
         outcome
     }
 
-    /// Nothing happens from now on.
+    /// Ends the system: no event happens from now on.
     pub(crate) fn end(&mut self)
         ensures { self.new ≡ ended self.old }
     {
         self.ended = true;
     }
 
-    // An event that is not refused by its place.
+    // An event that is not refused because of its sites or its packet.
     fn attempt(&mut self, event: &Event<A>) -> Result<Reply<A>, WorldError>
         requires kept { IsWorld self.old }
         requires none { fault_of self.old event.now ≡ None }
@@ -118,7 +118,7 @@ impl<A: Allocator + Copy, K: Keeping> System<A, K> {
 }
 
 impl<A: Allocator, K: Keeping> System<A, K> {
-    // Why the event is refused by its place.
+    // Why the event is refused because of its sites or its packet.
     #[tactic(auto, unfolding(crate::specs::Faults::fault_of))]
     fn fault_of(&self, event: &Event<A>) -> Option<WorldError>
         ensures { result ≡ fault_of self.now event.now }

@@ -1,4 +1,4 @@
-//! All sites, and all packets ever sent, of which the headline holds.
+//! All sites, and all packets ever sent, for which the headline holds.
 ghost use Rattle.std.specs.Prelude.{◌≡◌, ◌≤◌, IfOk, OnErr};
 ghost use Rattle.rights_types.specs.declared.limits.TheConstants.{MIN_SITES, MAX_SITES};
 ghost use Rattle.world_core.specs.Worlds.{start, ended};
@@ -18,7 +18,7 @@ use rights_types::{MAX_SITES, MIN_SITES, OutOfMemory};
 use std::alloc::{Allocator, Global};
 use std::marker::Model;
 
-/// All sites, and all packets ever sent. After want of memory it is ended.
+/// All sites, and all packets ever sent. After lack of memory the world has ended.
 #[derive(Drop)]
 pub struct World<A: Allocator = Global, K: Keeping = ForReaders> {
     system: System<A, K>,
@@ -36,7 +36,7 @@ impl<A: Allocator, K: Keeping> Model for World<A, K> {
 }
 
 impl<A: Allocator + Copy> World<A, ForReaders> {
-    /// A world of so many sites, 2 to 16, at the start.
+    /// A world of `sites` sites, 2 to 16, at the start. `OutOfMemory` if its memory is refused.
     pub fn new(alloc: A, sites: u64) -> Result<World<A, ForReaders>, OutOfMemory>
         requires { (MIN_SITES ≤ sites) × (sites ≤ MAX_SITES) }
         ensures { IfOk result (λ world. world ≡ start sites) }
@@ -46,7 +46,7 @@ impl<A: Allocator + Copy> World<A, ForReaders> {
 }
 
 impl<A: Allocator + Copy> World<A, ForReplies> {
-    /// The same for those who read replies alone, as a script does: entries that were applied take no more memory.
+    /// The same for callers that read only replies, such as a script: entries that were applied take no memory.
     pub fn for_replies(alloc: A, sites: u64) -> Result<World<A, ForReplies>, OutOfMemory>
         requires { (MIN_SITES ≤ sites) × (sites ≤ MAX_SITES) }
         ensures { IfOk result (λ world. world ≡ start sites) }
@@ -65,16 +65,16 @@ impl<A: Allocator + Copy, K: Keeping> World<A, K> {
         })
     }
 
-    /// Lets one event happen. A refusal changes nothing, but after `OutOfMemory` every later event
-    /// is answered `Ended`, and a query that met it may count as sent.
+    /// Lets one event happen. A refusal changes nothing, except that after `OutOfMemory` every later event is answered
+    /// `Ended`, and a query that met it may count as sent. Errors: see `WorldError`.
     pub fn step(&mut self, event: Event<A>) -> Result<Reply<A>, WorldError>
         ensures { Step self.old event result self.new }
     {
         self.happen(&event)
     }
 
-    /// Lets events happen one after the other, and answers their outcomes in order. Where there is
-    /// no memory for the outcomes, nothing happens but that the world is ended.
+    /// Lets events happen one after another, and returns their outcomes in order. If there is no memory for the
+    /// outcomes, nothing happens, except that the world has ended.
     pub fn run(
         &mut self,
         events: &[Event<A>],
@@ -121,7 +121,7 @@ impl<A: Allocator, K: Keeping> World<A, K> {
     pub fn headline(&self)
         ensures { Headline self.now }
     {
-        // For the proof: what is kept of the world.
+        // For the proof: the invariant of the world.
         let _ = &self.system;
     }
 }

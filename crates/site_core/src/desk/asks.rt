@@ -16,26 +16,26 @@ use rights_types::{Amount, Ask, AskNumber, Deny, Message, Move, OutOfMemory, Sit
 use std::alloc::{Allocator, Global};
 use transfer_manager::AskAnswer;
 
-/// What a desk answers to an ask.
+/// The answer of a desk to an ask.
 #[derive(Drop)]
 pub struct AskReply<A: Allocator = Global> {
     pub answer: AskAnswer,
-    /// The number of the entry that grants, where the answer is Grant.
+    /// The number of the entry that grants, if the answer is Grant.
     pub number: Option<u64>,
-    /// The line of the denial, where the answer is one, old or new.
+    /// The line of the denial, if the answer is a denial, new or repeated.
     pub line: Option<Line<A>>,
 }
 
 impl<A: Allocator + Copy> Desk<A> {
-    /// Ends asks to peers that are known to have closed, and asks peers for the rights that waiting spends
-    /// lack. Answers how many were asked; `ask_line` has what is to be sent.
+    /// Ends asks to peers that are known to have closed, and asks peers for the rights that waiting spends lack.
+    /// Returns how many were asked; `ask_line` returns the line for each.
     pub fn plan(&mut self) -> u64
         ensures { DeskPlans self.old result self.new }
     {
         self.manager.plan(self.ledger.book(), &self.queue)
     }
 
-    /// The line of the outstanding ask to that peer.
+    /// The line of the outstanding ask to that peer; None if none is outstanding.
     pub fn ask_line(&self, peer: SiteId) -> Result<Option<Vec<u8, A>>, OutOfMemory>
         ensures line { IfOk result (λ line. LineOf (λ l. l.items) (option_map (λ ask. AnAsk ask) (outstanding_ask self.now.manager peer)) line) }
         ensures memory { outstanding_ask self.now.manager peer ≡ None → IsOk result }
@@ -47,8 +47,8 @@ impl<A: Allocator + Copy> Desk<A> {
         Ok(Some(write_line(self.alloc, &message)?))
     }
 
-    /// Answers the ask of a peer. A grant is written at once, and counts as answered with its entry; the
-    /// same ask again is granted no more. A closed site denies.
+    /// Answers the ask of a peer. A grant is written at once, and its entry records that the ask was answered; the
+    /// same ask is never granted again. A closed site denies.
     pub fn on_ask(&mut self, ask: &Ask) -> Result<AskReply<A>, OutOfMemory>
         requires site { ask.now.asker ≤ sites self.old.ledger.book }
         requires mine { ask.now.asked ≡ self.old.ledger.log.site }
@@ -72,7 +72,7 @@ impl<A: Allocator + Copy> Desk<A> {
         })
     }
 
-    /// That peer denied the ask of this number. Only the outstanding one ends by it.
+    /// That peer denied the ask of this number. Only the outstanding ask ends by this.
     pub fn on_deny(&mut self, peer: SiteId, ask: AskNumber)
         requires site { peer ≤ sites self.old.ledger.book }
         ensures { self.new ≡ record self.old { manager = ended self.old.manager peer ask } }
@@ -80,7 +80,8 @@ impl<A: Allocator + Copy> Desk<A> {
         self.manager.on_deny(peer, ask);
     }
 
-    // The rights that an ask of the peer can be granted.
+    // The rights that an ask of the peer can be granted: what is held beyond the waiting spends; 0 if the log is
+    // closed or full, or the peer is known to have closed.
     fn available(&self, peer: SiteId) -> u64
         ensures value { result ≡ available self.now peer }
         ensures same_site { self.now.ledger.book.me ≡ self.now.ledger.log.site }
@@ -91,7 +92,7 @@ impl<A: Allocator + Copy> Desk<A> {
         self.ledger.book().held().saturating_sub(self.queue.total())
     }
 
-    // Writes the grant, and notes it. Answers the number of its entry.
+    // Writes the grant, and records it as answered. Returns the number of its entry.
     fn grant(&mut self, ask: &Ask, amount: Amount) -> Result<u64, OutOfMemory>
         requires site { ask.now.asker ≤ sites self.old.ledger.book }
         requires mine { ask.now.asked ≡ self.old.ledger.book.me }
@@ -111,7 +112,7 @@ impl<A: Allocator + Copy> Desk<A> {
         Ok(number)
     }
 
-    // Notes the denial, unless it is an old one. Answers its line.
+    // Records the denial, unless it is repeated. Returns its line.
     fn deny(&mut self, ask: &Ask, answer: AskAnswer) -> Result<Line<A>, OutOfMemory>
         requires site { ask.now.asker ≤ sites self.old.ledger.book }
         requires new { IfNew answer ((asks self.old.manager ask.now.asker).last_answered < ask.now.ask) }

@@ -1,4 +1,4 @@
-//! What a desk tells of its site.
+//! What a desk reports of its site.
 ghost use Rattle.std.specs.Prelude.{◌≡◌, ◌≢◌, ℕ, ◌+◌, ◌*◌, ◌≤◌, true, pos, List, [], length};
 ghost use Rattle.rights_types.specs.Entries.{EntryValue};
 ghost use Rattle.rights_types.specs.Chains.{end, is_closed, moves_of, IsChain};
@@ -52,7 +52,7 @@ impl<A: Allocator + Copy> Desk<A> {
         log
     }
 
-    /// The own number of the log's last entry, 0 where there is none.
+    /// The own number of the log's last entry, 0 if there is none.
     pub fn number(&self) -> u64
         ensures value { result ≡ end self.now.ledger.log.entries }
         ensures range { result ≤ MAX_NUMBER }
@@ -69,7 +69,7 @@ impl<A: Allocator + Copy> Desk<A> {
         ensures applied { (applied : ℕ → List EntryValue) → StandsForApplied applied self.now.ledger.book
             → result ≡ held (sites self.now.ledger.book) self.now.ledger.log.site self.now.ledger.log.entries applied }
 
-        // No cut of the log, so also none within its last entry, gives or spends what was not held.
+        // No prefix of the log, even one that ends within its last entry, gives or spends what was not held.
         ensures never_short { (applied : ℕ → List EntryValue) → StandsForApplied applied self.now.ledger.book
             → IsNeverShort (sites self.now.ledger.book) (received (sites self.now.ledger.book) self.now.ledger.log.site applied) (moves_of self.now.ledger.log.entries) }
     {
@@ -94,7 +94,7 @@ impl<A: Allocator + Copy> Desk<A> {
         self.ledger.book().spent()
     }
 
-    /// The rights that the log gave to all others, taken back or not.
+    /// The rights that the log gave to all others, reclaimed or not.
     pub fn given(&self) -> u64
         ensures value { result ≡ out (moves_of self.now.ledger.log.entries) }
         ensures booked { result ≡ self.now.ledger.book.own.given }
@@ -103,7 +103,7 @@ impl<A: Allocator + Copy> Desk<A> {
         self.ledger.book().given()
     }
 
-    /// The rights that the log took back from all others.
+    /// The rights that the log reclaimed from all others.
     pub fn taken_back(&self) -> u64
         ensures value { result ≡ taken_back (moves_of self.now.ledger.log.entries) }
         ensures booked { result ≡ self.now.ledger.book.own.back }
@@ -133,7 +133,7 @@ impl<A: Allocator + Copy> Desk<A> {
         self.ledger.book().received_from(origin)
     }
 
-    /// What this site gave to that one, taken back or not.
+    /// What this site gave to that one, reclaimed or not.
     pub fn given_to(&self, site: SiteId) -> u64
         ensures value { result ≡ to site (moves_of self.now.ledger.log.entries) }
         ensures booked { result ≡ (peer self.now.ledger.book site).given }
@@ -142,7 +142,7 @@ impl<A: Allocator + Copy> Desk<A> {
         self.ledger.book().given_to(site)
     }
 
-    /// What this site took back from that one, which has closed.
+    /// What this site reclaimed from that one, which has closed.
     pub fn back(&self, site: SiteId) -> u64
         ensures value { result ≡ back site (moves_of self.now.ledger.log.entries) }
         ensures booked { result ≡ (peer self.now.ledger.book site).back }
@@ -151,7 +151,7 @@ impl<A: Allocator + Copy> Desk<A> {
         self.ledger.book().back(site)
     }
 
-    /// The rights that all waiting spends are for. At a closed site none waits.
+    /// The sum of the amounts of all waiting spends. At a closed site none waits.
     pub fn queued(&self) -> u64
         ensures value { result ≡ total_of self.now.queue.waiting }
         ensures range { result ≤ SLOTS * MAX_AMOUNT }
@@ -169,7 +169,7 @@ impl<A: Allocator + Copy> Desk<A> {
         self.queue.waiting()
     }
 
-    /// How many outcomes were not read yet. Each takes a slot of the queue.
+    /// How many outcomes have not been read yet. Each takes a slot of the queue.
     pub fn outcomes_unread(&self) -> usize
         ensures value { result ≡ length self.now.queue.outcomes }
         ensures range { length self.now.queue.waiting + result ≤ SLOTS }
@@ -177,8 +177,8 @@ impl<A: Allocator + Copy> Desk<A> {
         self.queue.unread()
     }
 
-    /// The rights of that site, as far as this one's log and what it applied tell. It is negative where the
-    /// site used gifts that were not applied here yet.
+    /// The rights of that site as far as this site knows, by its own log and what it applied. Negative if that site
+    /// used gifts that were not applied here yet.
     pub fn known(&self, site: SiteId) -> i128
         ensures value { result ≡ known_by self.now.ledger.book site }
         ensures itself { site ≡ self.now.ledger.log.site → result ≡ pos (held_by self.now.ledger.book) }
@@ -188,7 +188,7 @@ impl<A: Allocator + Copy> Desk<A> {
         self.ledger.book().known(site)
     }
 
-    /// Whether that site has closed, as far as its log was applied; of this site, whether it has.
+    /// Whether that site has closed, as far as its log was applied; for this site, whether it has closed.
     pub fn closed(&self, site: SiteId) -> bool
         ensures value { result ≡ (account self.now.ledger.book site).closed }
         ensures itself { site ≡ self.now.ledger.log.site → result ≡ has_closed self.now }
@@ -199,8 +199,8 @@ impl<A: Allocator + Copy> Desk<A> {
         self.ledger.book().closed(site)
     }
 
-    /// The number of the last entry of that site's log that was applied. It is 0 where none was, for the site
-    /// itself, and for a site that the system does not have.
+    /// The number of the last entry of that site's log that was applied. It is 0 if none was, for the site itself, and
+    /// for a site that the system does not have.
     pub fn applied(&self, origin: SiteId) -> u64
         ensures value { result ≡ (peer self.now.ledger.book origin).log.end }
         ensures range { result ≤ MAX_NUMBER }

@@ -13,18 +13,19 @@ use request_queue::{RequestQueue, SLOTS, Status};
 use rights_types::{Amount, Move};
 use std::alloc::Allocator;
 
-/// What becomes of a spend.
+/// The result of a spend.
 #[derive(Clone, Copy, Debug, PartialEq, Eq)]
 pub enum Spending {
-    /// The entry of this number spends it.
+    /// The entry of this number spends the rights.
     Spent(u64),
     /// It waits, under this ticket.
     Queued(u64),
 }
 
 impl<A: Allocator + Copy> Desk<A> {
-    /// Spends so many rights at once, where no spend waits and as many are held; else lets the spend wait
-    /// behind the others until its deadline, which may have passed already. Only an entry takes memory.
+    /// Spends this many rights at once if no spend waits and enough are held; else the spend waits after the others
+    /// until its deadline, which may have passed already. Only an entry allocates. Errors: `Closed`, `BadAmount`; then
+    /// `LogFull` if it could be served at once, else `QueueFull`.
     #[inline(always)]
     pub fn spend(&mut self, amount: u64, deadline: u64) -> Result<Spending, DeskError>
         ensures refused { DeskRefuses (spend_fault self.old amount) result }
@@ -52,8 +53,8 @@ impl<A: Allocator + Copy> Desk<A> {
         }
     }
 
-    /// Serves the spend that waits at the front, where as many rights are held, and answers its ticket and
-    /// the number of the entry that spends it. Only that entry takes memory.
+    /// Serves the spend at the front of the queue, if enough rights are held, and returns its ticket and the number of
+    /// the entry that spends them. Only that entry allocates.
     pub fn serve(&mut self) -> Result<Option<(u64, u64)>, DeskError>
         ensures refused { DeskRefuses (serve_fault self.old) result }
         ensures ok { IfOk result (λ served. DeskServes self.old served self.new) }
@@ -77,8 +78,8 @@ impl<A: Allocator + Copy> Desk<A> {
         Ok(Some((ticket, number)))
     }
 
-    /// Ends all waiting spends whose deadlines are less than this time, and answers how many they were. A
-    /// closed site has none.
+    /// Ends all waiting spends whose deadlines are less than this time, and returns how many there were. A closed site
+    /// has none. `TimeWentBack` if an earlier expiry had a later time.
     pub fn expire(&mut self, time: u64) -> Result<u64, DeskError>
         ensures refused { DeskRefuses (expire_fault self.old time) result }
         ensures memory { IfErr result (λ fault. ¬ (fault ≡ NoMemory)) }
@@ -93,7 +94,7 @@ impl<A: Allocator + Copy> Desk<A> {
         Ok(count)
     }
 
-    /// What became of the spend of this ticket. Its outcome is told once, which frees its slot.
+    /// The state of the spend with this ticket. A final outcome is reported once, which frees its slot.
     pub fn status(&mut self, ticket: u64) -> Status
         ensures outcome { TellsOutcome self.old.queue ticket result self.new.queue }
         ensures rest { self.new ≡ record self.old { queue = self.new.queue } }
@@ -105,7 +106,7 @@ impl<A: Allocator + Copy> Desk<A> {
 fn expire_late<A: Allocator>(queue: &mut RequestQueue<A>, time: u64) -> u64
     ensures { ExpiresLate queue.old time result queue.new }
 {
-    // For the proof: how many may wait.
+    // For the proof: the limit on waiting spends.
     let _ = queue.waiting();
     let mut count = 0;
     while let Some(_ticket) = queue.expire_one(time) {

@@ -1,4 +1,4 @@
-//! Entries of other sites, what is taken back by them, and closing.
+//! Entries of other sites, what is reclaimed by them, and closing.
 ghost use Rattle.std.specs.Prelude.{◌≡◌, ◌≢◌, ◌≤◌, false, None, IfOk, IfSome, IsOk, OnOk, OnErr};
 ghost use Rattle.rights_types.specs.Chains.{end};
 ghost use Rattle.rights_types.specs.Messages.{AskValue};
@@ -18,9 +18,9 @@ use std::alloc::Allocator;
 use transfer_manager::Manager;
 
 impl<A: Allocator + Copy> Desk<A> {
-    /// Applies the origin's next entry, and ends the asks that it grants. Where it ends in a K, what this
-    /// site gave to the origin beyond its number in K is taken back, by one entry whose number is answered.
-    /// Only a K takes memory.
+    /// Applies the origin's next entry, and ends the asks that it grants. If it is a closing entry with a frontier,
+    /// what this site gave to the origin beyond its own number in the frontier is reclaimed, by one entry whose number
+    /// is returned. Only such an entry allocates.
     pub fn apply<B: Allocator>(
         &mut self,
         origin: SiteId,
@@ -44,9 +44,8 @@ impl<A: Allocator + Copy> Desk<A> {
         Ok(number)
     }
 
-    /// Writes the closing entry, and answers its number. All that is held goes to the heir; with none it
-    /// stays with the closed site. From then on the site denies asks and answers queries, and applies
-    /// nothing.
+    /// Writes the closing entry, and returns its number. All held rights go to the heir; without one they stay with
+    /// the closed site. From then on the site denies asks and answers queries, and applies nothing.
     pub fn close(&mut self, heir: Option<SiteId>) -> Result<u64, DeskError>
         ensures refused { DeskRefuses (close_fault self.old heir) result }
         ensures ok { OnOk result (DeskCloses self.old heir self.new) }
@@ -64,7 +63,7 @@ impl<A: Allocator + Copy> Desk<A> {
         Ok(self.ledger.close(heir)?)
     }
 
-    // The refusals of an heir.
+    // The errors of an heir.
     fn check_heir(&self, heir: Option<SiteId>) -> Result<(), DeskError>
         ensures refused { DeskRefuses (heir_fault self.now heir) result }
         ensures ok { IfOk result (λ _. IfSome heir (CanInherit self.now.ledger.book)) }

@@ -1,4 +1,4 @@
-//! What a command comes to, and its reply.
+//! The effect of a command, and its reply.
 ghost use Rattle.std.specs.Prelude.{◌≡◌, ◌<◌, ℕ, List, [], ◌∷◌, ◌++◌, Some, None, length, OnOk, OnErr};
 ghost use Rattle.std.specs.Option.{option_copied};
 ghost use Rattle.line_streams.specs.Waiting.{AddsReply};
@@ -145,7 +145,7 @@ fn put_outcome<A: Allocator + Copy, B: Allocator>(
     }
 }
 
-/// Answers a command where there is no world yet, but for the end of its reply.
+/// Answers a command before there is a world, without the end of the reply.
 fn answer_first<A: Allocator + Copy, B: Allocator>(
     alloc: A,
     world: &mut Option<World<A, ForReplies>>,
@@ -164,7 +164,7 @@ fn answer_first<A: Allocator + Copy, B: Allocator>(
     replies.put(b"ok")
 }
 
-/// Answers a command in a world, but for the end of its reply.
+/// Answers a command in a world, without the end of the reply.
 #[inline(always)]
 fn answer_in<A: Allocator + Copy, B: Allocator>(
     world: &mut World<A, ForReplies>,
@@ -185,7 +185,7 @@ fn answer_in<A: Allocator + Copy, B: Allocator>(
     }
 }
 
-/// Answers a command, but for the end of its reply.
+/// Answers a command, without the end of the reply.
 #[inline(always)]
 fn answer<A: Allocator + Copy, B: Allocator>(
     alloc: A,

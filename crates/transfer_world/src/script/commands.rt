@@ -1,4 +1,4 @@
-//! What the lines of a script ask for.
+//! The commands of a script's lines.
 ghost use Rattle.std.specs.Prelude.{◌≡◌, ℕ, List, [], ◌≤◌, length, vec_capacity, IfOk};
 ghost use Rattle.entry_codec.specs.Parts.{Finds};
 ghost use Rattle.line_streams.specs.Words.{words_of, words_left};
@@ -17,14 +17,14 @@ use std::alloc::Allocator;
 use std::marker::Model;
 use world_core::{Event, Moves};
 
-/// What a line asks for.
+/// The command of a line.
 #[derive(Drop)]
 pub(crate) enum Command<A: Allocator> {
-    /// Makes a world of so many sites.
+    /// Makes a world of this many sites.
     Sites(SiteCount),
-    /// Something happens in the world.
+    /// Lets this event happen in the world.
     Act(Event<A>),
-    /// Prints what the sites and pairs hold.
+    /// Prints the state of all sites and pairs.
     Report,
 }
 
@@ -80,7 +80,7 @@ fn read_moves<A: Allocator>(alloc: A, words: Option<&[u8]>) -> Result<Option<Mov
     Ok(Some(Moves::new(moves)))
 }
 
-/// Room for a move of each word, and for no more: a post keeps it.
+/// Memory for one move for each word, and no more: a post keeps it.
 fn move_room<A: Allocator>(alloc: A, words: Option<&[u8]>) -> Result<Vec<Move, A>, OutOfMemory>
     ensures empty { IfOk result (λ room. room.items ≡ []) }
     ensures exact { IfOk result (λ room. vec_capacity room ≡ length (words_left words.entry)) }
@@ -117,7 +117,7 @@ fn read_post<A: Allocator>(alloc: A, values: Option<&[u8]>) -> Result<Option<Eve
     }
 }
 
-/// The two sites of noise, and its text: all that is behind the space after them.
+/// The two sites of noise, and its text: everything after the space that follows them.
 #[tactic(auto, unfolding(crate::specs::Commands::noise_parts))]
 fn noise_parts(values: Option<&[u8]>) -> Option<(SiteId, SiteId, &[u8])>
     ensures { Finds (λ x. (x.0, x.1, x.2.now)) result (noise_parts (words_left values.entry)) }
@@ -243,7 +243,7 @@ fn act<A: Allocator>(event: Option<Event<A>>) -> Option<Command<A>>
     Some(Command::Act(event?))
 }
 
-/// The command of a word, and its values.
+/// The command of a first word, with its values.
 #[tactic(auto, unfolding(crate::specs::Commands::command_by))]
 fn read_values<A: Allocator>(
     alloc: A,
@@ -273,7 +273,7 @@ fn read_words<A: Allocator>(alloc: A, text: &[u8]) -> Result<Option<Command<A>>,
     }
 }
 
-/// The command of a line, given without its line feed. A line that is too long is no command.
+/// The command of a line, given without its line feed; None if it spells none. A line that is too long spells none.
 pub(crate) fn read_command<A: Allocator>(
     alloc: A,
     text: Option<&[u8]>,

@@ -52,7 +52,7 @@ fn put_pair<A: Allocator + Copy, B: Allocator>(
     replies.put(b"\n")
 }
 
-/// The line of a pair, and none for a site and itself.
+/// The line of a pair; nothing for a site and itself.
 fn put_other<A: Allocator + Copy, B: Allocator>(
     replies: &mut Replies<B>,
     world: &World<A, ForReplies>,
@@ -98,7 +98,7 @@ fn put_total<A: Allocator + Copy, B: Allocator>(
     replies.put_field(b" way ", totals.way)
 }
 
-/// The report, but for its last line feed.
+/// The report, without its last line feed.
 pub(crate) fn put_report<A: Allocator + Copy, B: Allocator>(
     replies: &mut Replies<B>,
     world: &World<A, ForReplies>,

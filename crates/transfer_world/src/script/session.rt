@@ -13,11 +13,11 @@ use std::marker::Model;
 use std::mem;
 use world_core::{ForReplies, World};
 
-/// A script at work.
+/// A script in progress.
 #[derive(Drop)]
 struct Session<A: Allocator> {
     alloc: A,
-    /// There is none before `sites`.
+    /// None before `sites`.
     world: Option<World<A, ForReplies>>,
 }
 
@@ -59,7 +59,7 @@ impl<A: Allocator + Copy> Session<A> {
         Session { alloc, world: None }
     }
 
-    /// Answers all that the reader gives.
+    /// Answers all lines that the reader gives.
     fn run<R: Read, W: Write>(&mut self, reader: &mut R, writer: &mut W) -> Result<(), ScriptFault>
         requires { self.old ≡ None }
         ensures ends { (talk : Talk A (R.remaining reader.old) (R.remaining reader.new) (W.contents writer.old) (W.contents writer.new))
@@ -71,8 +71,8 @@ impl<A: Allocator + Copy> Session<A> {
     }
 }
 
-/// Reads commands to the end of the input, and writes the reply to each before the next read. What
-/// was answered before a fault is still written.
+/// Answers the commands of a reader to the end of the input, and writes all replies before the next read. After a
+/// fault, replies to earlier commands are still written.
 pub fn run_script<A: Allocator + Copy, R: Read, W: Write>(
     alloc: A,
     reader: &mut R,
@@ -85,8 +85,8 @@ pub fn run_script<A: Allocator + Copy, R: Read, W: Write>(
     Session::new(alloc).run(reader, writer)
 }
 
-/// Runs a script as `run_script` does, and leaves the memory of its world to the end of the process. To give
-/// it back block by block takes up to a third of the time of a script that loses many lines.
+/// Runs a script as `run_script` does, and leaves the memory of its world to the end of the process. Freeing it block
+/// by block takes up to a third of the time of a script that loses many lines.
 pub fn run_last_script<A: Allocator + Copy, R: Read, W: Write>(
     alloc: A,
     reader: &mut R,

@@ -6,7 +6,7 @@ ghost use Rattle.transfer_world.specs.Commands.{site_word, link_word, plain_word
 
 use line_streams::{named, split_word};
 
-/// What the first word of a line asks for.
+/// The meaning of the first word of a line.
 #[derive(Clone, Copy)]
 pub(crate) enum Word {
     Sites,
@@ -17,7 +17,7 @@ pub(crate) enum Word {
     Report,
 }
 
-/// An event at one site, whose values are few.
+/// An event at one site, which has few values.
 #[derive(Clone, Copy)]
 pub(crate) enum SiteWord {
     Issue,
@@ -31,7 +31,7 @@ pub(crate) enum SiteWord {
     Close,
 }
 
-/// An event between two sites, which are its values.
+/// An event between two sites, which are its only values.
 #[derive(Clone, Copy)]
 pub(crate) enum LinkWord {
     Ask,
@@ -94,7 +94,7 @@ fn plain_word(text: &[u8]) -> Option<Word>
     named(&PLAIN_WORDS, text)
 }
 
-/// What a text says as the first word of a line.
+/// The meaning of a text as the first word of a line.
 #[tactic(auto, unfolding(crate::specs::Commands::word_of))]
 fn word_of(text: &[u8]) -> Option<Word>
     ensures { result ≡ word_of text.now }
@@ -108,8 +108,8 @@ fn word_of(text: &[u8]) -> Option<Word>
     plain_word(text)
 }
 
-/// The word of a line that begins so, and what is behind it. A length that the compiler knows makes it a comparison or
-/// two, where they are inlined: hence a function for each letter that several words share.
+/// The word of a line that begins with this text, and what comes after it. The length is known to the compiler, so an
+/// inlined call is a comparison or two: hence a function for each letter that several words share.
 #[inline(always)]
 fn behind<'a, const N: usize>(
     text: &'a [u8],
@@ -160,7 +160,7 @@ fn spend_serve_or_status(text: &[u8]) -> Option<(Word, &[u8])>
     behind(text, b"status ", Word::AtSite(SiteWord::Status))
 }
 
-/// The word of a line that begins with one of those that long scripts are made of.
+/// The word of a line that begins with one of the words that are frequent in long scripts.
 #[tactic(auto, unfolding(crate::specs::Commands::word_of, crate::specs::Commands::site_word, crate::specs::Commands::link_word))]
 fn frequent_word(text: &[u8]) -> Option<(Word, &[u8])>
     ensures { IfSome result (IsWordIn text.now) }
@@ -176,7 +176,7 @@ fn frequent_word(text: &[u8]) -> Option<(Word, &[u8])>
     }
 }
 
-/// The word that a line begins with, and the text of the words after it.
+/// The word at the beginning of a line, and the text of the words after it.
 pub(crate) fn first_word(text: &[u8]) -> Option<(Word, Option<&[u8]>)>
     ensures { Finds (λ x. (x.0, words_left x.1)) result (word_in (words_of text.now)) }
 {

@@ -1,4 +1,4 @@
-//! What came in of an origin's log, and where it was put.
+//! The input from an origin's log, and the list in which it was delivered.
 ghost use Rattle.std.specs.Prelude.{◌≡◌, ◌+◌, ◌<◌, ◌≤◌, if◌then◌else◌, [], ◌∷◌, ◌++◌, ◌↔◌, ℕ, None, Some, true, IfOk, IfSome, OnOk, IsSome, IsTrue, List, length, map, take, drop, vec_capacity};
 ghost use Rattle.std.specs.Option.{option_map, is_some};
 ghost use Rattle.rights_types.specs.Entries.{EntryValue};
@@ -19,14 +19,14 @@ use std::marker::PhantomData;
 use std::mem;
 use sub_buffer::Verdict as BufferVerdict;
 
-// So many applied entries are let go at a time, or all that there are.
+// Applied entries are dropped this many at a time, or all at once.
 const MANY: usize = 32;
 
-/// Entries lie in `put` once they are in order. Where entries are kept for readers, all that were put stay there, and
-/// what reached the site is listed apart only once something came that was not next: until then it is what was put.
-/// Where they are kept for replies alone, those that were applied go, and nothing is listed apart: what was put before
-/// and what reached the site are then told to proofs alone. It has no Model, so that the room in its lists can be
-/// spoken of.
+/// Entries are in `put` once they were delivered. If entries are kept for readers, all of them stay there, and what
+/// reached the site becomes a separate list only once an entry arrived out of order: until then the two are equal. If
+/// they are kept for replies alone, applied entries are dropped, and there is no separate list: what was delivered
+/// before, and what reached the site, then exist only as ghost state. This type has no Model, so that clauses can
+/// mention the capacity of its lists.
 #[derive(Drop)]
 pub(super) struct Incoming<A: Allocator, K: Keeping> {
     pub(super) of: PhantomData<K>,
@@ -37,11 +37,11 @@ pub(super) struct Incoming<A: Allocator, K: Keeping> {
     pub(super) apart: Option<Vec<Entry<A>, A>>,
 }
 
-/// Lists that each arrival fills anew. They are kept for their room, and all links share them.
+/// Lists that each arrival fills anew. They are kept for their memory, and all links share them.
 #[derive(Drop)]
 pub(crate) struct Scratch<A: Allocator> {
     pub(super) verdicts: Vec<BufferVerdict<A>, A>,
-    // The verdicts as they are told.
+    // The verdicts of a reply.
     pub(super) told: Vec<Verdict, A>,
 }
 
@@ -53,7 +53,7 @@ impl<A: Allocator + Copy> Scratch<A> {
         }
     }
 
-    /// The verdicts that were told. One of them takes no memory of its own.
+    /// Returns these verdicts. A single one takes no memory of its own.
     pub(super) fn tell(&mut self) -> Verdicts<A>
         ensures { result ≡ self.old.told.items }
     {
@@ -66,8 +66,8 @@ impl<A: Allocator + Copy> Scratch<A> {
 }
 
 impl<A: Allocator + Copy, K: Keeping> Incoming<A, K> {
-    /// Makes room for so many entries that are to come, and for their verdicts: on each, and again where it was held
-    /// and is freed. Unless all come in order, what reached the site is listed apart.
+    /// Reserves memory for this many entries that are about to arrive, and for their verdicts: one each, and one more
+    /// if it was held and is freed. Unless all arrive in order, what reached the site becomes a separate list.
     #[inline(always)]
     pub(super) fn make_room(
         &mut self,
@@ -96,7 +96,7 @@ impl<A: Allocator + Copy, K: Keeping> Incoming<A, K> {
         Ok(())
     }
 
-    // Lists what reached the site apart.
+    // Makes a separate list of what reached the site.
     fn list_apart(&mut self) -> Result<(), OutOfMemory>
         ensures rest { self.new ≡ record self.old { apart = self.new.apart } }
         ensures reached { reached_in true self.new ≡ reached_in true self.old }
@@ -108,7 +108,7 @@ impl<A: Allocator + Copy, K: Keeping> Incoming<A, K> {
         Ok(())
     }
 
-    /// The copy of an entry that is to come, where entries are listed apart.
+    /// A copy of an entry that is about to arrive, if there is a separate list of what reached the site.
     pub(super) fn copy_of(&self, entry: &Entry<A>) -> Result<Option<Entry<A>>, OutOfMemory>
         ensures { IfOk result (λ copy. copy ≡ option_map (λ _. entry.now) self.now.apart) }
     {
@@ -118,7 +118,7 @@ impl<A: Allocator + Copy, K: Keeping> Incoming<A, K> {
         }
     }
 
-    /// The copies of entries that are to come, where entries are listed apart.
+    /// Copies of entries that are about to arrive, if there is a separate list of what reached the site.
     pub(super) fn copies_of(&self, entries: &[Entry<A>]) -> Result<Vec<Entry<A>, A>, OutOfMemory>
         ensures { IfOk result (λ copies. copies.items ≡ (if is_some self.now.apart then entries.now else [])) }
     {
@@ -128,8 +128,8 @@ impl<A: Allocator + Copy, K: Keeping> Incoming<A, K> {
         }
     }
 
-    /// Takes in an entry for which room was made. Its copy, which there is where entries are listed apart, is listed
-    /// where it reaches the site.
+    /// Takes in an entry for which memory was reserved. If there is a separate list, there is a copy, which is added
+    /// to it if the entry reaches the site.
     #[inline(always)]
     pub(super) fn take(&mut self, entry: Entry<A>, copy: Option<Entry<A>>, scratch: &mut Scratch<A>)
         requires origin { entry.origin ≡ self.old.inbound.buffer.origin }
@@ -147,7 +147,7 @@ impl<A: Allocator + Copy, K: Keeping> Incoming<A, K> {
         self.settle(scratch);
     }
 
-    // What was seen with the entry that came, where it reaches the site by the first verdict.
+    // What was seen, with the entry that arrived, if it reaches the site by the first verdict.
     fn see(&mut self, seen: History<Entry<A>>, verdicts: &[BufferVerdict<A>])
         ensures seen { (v : AVerdict A) (rest : List (AVerdict A)) (e : EntryValue) → verdicts.now ≡ v ∷ rest → seen.items ≡ self.old.seen.items ++ e ∷ []
             → self.new.seen.items ≡ reached_after self.old.seen.items e v }
@@ -158,7 +158,7 @@ impl<A: Allocator + Copy, K: Keeping> Incoming<A, K> {
         }
     }
 
-    // Lists the copy of an entry apart, where it reaches the site by the first verdict.
+    // Adds the copy of an entry to the separate list, if the entry reaches the site by the first verdict.
     fn list(&mut self, copy: Option<Entry<A>>, verdicts: &[BufferVerdict<A>])
         requires room { IfSome self.old.apart (λ l. length l.items < vec_capacity l) }
         ensures lists { (v : AVerdict A) (rest : List (AVerdict A)) (e : EntryValue) → verdicts.now ≡ v ∷ rest → (IsSome self.old.apart → copy ≡ Some e)
@@ -174,7 +174,7 @@ impl<A: Allocator + Copy, K: Keeping> Incoming<A, K> {
         }
     }
 
-    // Tells the verdicts; the entries that are ready go to the end of what was put.
+    // Moves the verdicts to the reply; the entries that are ready are appended to what was delivered.
     fn settle(&mut self, scratch: &mut Scratch<A>)
         requires put { length self.old.put.items + length scratch.old.verdicts.items ≤ vec_capacity self.old.put }
         requires told { length scratch.old.told.items + length scratch.old.verdicts.items ≤ vec_capacity scratch.old.told }
@@ -186,14 +186,14 @@ impl<A: Allocator + Copy, K: Keeping> Incoming<A, K> {
         ensures verdicts_room { vec_capacity scratch.new.verdicts ≡ vec_capacity scratch.old.verdicts }
         ensures told_room { vec_capacity scratch.new.told ≡ vec_capacity scratch.old.told }
     {
-        // The first is to leave first, from the end.
+        // The first verdict is to be taken first, from the end of the list.
         scratch.verdicts.reverse();
         while let Some(verdict) = scratch.verdicts.pop() {
             scratch.told.push_reserved(self.put_ready(verdict));
         }
     }
 
-    // The verdict as it is told; where it is on an entry that is ready, the entry goes to the end of what was put.
+    // The verdict for the reply. If the entry is ready, it is appended to what was delivered.
     fn put_ready(&mut self, verdict: BufferVerdict<A>) -> Verdict
         requires { length self.old.put.items < vec_capacity self.old.put }
         ensures told { result ≡ as_told verdict }
@@ -214,14 +214,14 @@ impl<A: Allocator + Copy, K: Keeping> Incoming<A, K> {
         }
     }
 
-    /// Whether the first entries that were put, which were applied, stay for now. All of them go, or many and half, so
-    /// that each of the others moves up a few times at most.
+    /// Whether the delivered entries that were applied stay for now. They are dropped once they are all of the list,
+    /// or at least `MANY` and half of it, so that each remaining entry is moved only a few times.
     pub(super) fn stays(&self, count: usize) -> bool {
         let put = self.put.len();
         count < put && (count < MANY || count < put / 2)
     }
 
-    /// Lets the first entries that were put go, which were applied.
+    /// Drops the first delivered entries, which were applied.
     pub(super) fn let_go(&mut self, count: usize)
         requires within { count ≤ length self.old.put.items }
         ensures gone { self.new.gone.items ≡ self.old.gone.items ++ take count self.old.put.items }
@@ -240,7 +240,7 @@ impl<A: Allocator + Copy, K: Keeping> Incoming<A, K> {
     }
 }
 
-// Whether the entry of the first verdict reaches the site by it.
+// Whether the entry of the first verdict reaches the site.
 fn reaches<A: Allocator>(verdicts: &[BufferVerdict<A>]) -> bool
     ensures { (v : AVerdict A) (rest : List (AVerdict A)) (set : List EntryValue) (e : EntryValue) → verdicts.now ≡ v ∷ rest → reached_after set e v ≡ (if result then set ++ e ∷ [] else set) }
 {
@@ -263,7 +263,8 @@ fn copy_all<A: Allocator + Copy>(
     Ok(copies)
 }
 
-/// Whether none of these entries is ahead of the ones before it, where all before this number came.
+/// Whether each of these entries begins no later than the ones before it end, given that everything up to this number
+/// arrived.
 pub(super) fn none_ahead<A: Allocator>(entries: &[Entry<A>], number: u64) -> bool
     ensures { IsTrue result ↔ NoneAhead number entries.now }
 {

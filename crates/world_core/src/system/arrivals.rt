@@ -34,13 +34,13 @@ impl<A: Allocator + Copy, K: Keeping> System<A, K> {
         self.message_comes(site, from, message)
     }
 
-    // The message of a packet.
+    // Reads the message of a packet.
     fn read(&self, packet: &Packet<'_>) -> Result<Message<A>, OutOfMemory>
         requires kept { IsWorld self.now }
         requires sent { IsSent self.now packet.now }
         ensures spelled { IfOk result (λ m. Spells (value_of m) (packet_text self.now packet.now)) }
         ensures may { IfOk result (λ m. MayCome self.now packet.now.from packet.now.to (value_of m)) }
-        // Only entries take memory.
+        // Only entries allocate.
         ensures memory { OnErr result ((m : MessageValue) × Spells m (packet_text self.now packet.now) × (has_entries m ≡ true)) }
     {
         let Some(link) = self.links[packet.to().index()].get(packet.from()) else {
@@ -50,7 +50,7 @@ impl<A: Allocator + Copy, K: Keeping> System<A, K> {
             Ok(message) => Ok(message),
             Err(fault) => match fault {
                 InboundError::OutOfMemory => Err(OutOfMemory),
-                // What a site sent is not refused for another cause.
+                // What a site sent is not refused for any other cause.
                 _ => unreachable!(),
             },
         }
@@ -70,7 +70,7 @@ impl<A: Allocator + Copy, K: Keeping> System<A, K> {
         }
     }
 
-    // A message of another site, which may have said it.
+    // A message of another site, of a kind that this site may have sent.
     fn message_comes(
         &mut self,
         site: SiteId,
@@ -119,7 +119,7 @@ impl<A: Allocator + Copy, K: Keeping> System<A, K> {
         Ok(Reply::Verdicts(verdicts))
     }
 
-    // Entries of another site's log, as it answered.
+    // Entries of another site's log, in its answer.
     fn entries_come(
         &mut self,
         site: SiteId,

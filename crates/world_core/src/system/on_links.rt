@@ -72,7 +72,7 @@ impl<A: Allocator + Copy, K: Keeping> System<A, K> {
         }
     }
 
-    // Noise whose reading wants memory reads as a message.
+    // Noise whose reading runs out of memory counts as a message.
     pub(super) fn noise(&self, bytes: &[u8]) -> Result<Reply<A>, WorldError>
         ensures { NoiseHappens self.now bytes.now result self.now }
     {

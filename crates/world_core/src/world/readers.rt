@@ -1,4 +1,4 @@
-//! What a world's lists say, and the rights over them.
+//! The lists of a world, and the rights over them.
 ghost use Rattle.std.specs.Prelude.{◌≡◌, ℕ, ◌+◌, ◌<◌, ◌≤◌, None, length, IfOk, IfSome, IfNone};
 ghost use Rattle.std.specs.Option.{option_copied, option_map};
 ghost use Rattle.rights_types.specs.Chains.{end, moves_of, is_closed};
@@ -16,7 +16,7 @@ use rights_types::{Entry, MAX_SITES, MIN_SITES, OutOfMemory, SiteId};
 use site_core::Desk;
 use std::alloc::Allocator;
 
-/// The sums over all sites, and over all pairs of two.
+/// The sums over all sites, and over all pairs of sites.
 #[derive(Clone, Copy, Debug, PartialEq, Eq)]
 pub struct Totals {
     pub issued: u64,
@@ -25,7 +25,7 @@ pub struct Totals {
     pub way: u64,
 }
 
-/// A site or a link that is not in the world has empty lists, and numbers 0.
+/// For a site or a link that is not in the world, lists are empty and numbers are 0.
 impl<A: Allocator + Copy, K: Keeping> World<A, K> {
     /// How many sites there are, 2 to 16.
     pub fn sites(&self) -> u64
@@ -35,7 +35,7 @@ impl<A: Allocator + Copy, K: Keeping> World<A, K> {
         self.system.desks.len() as u64
     }
 
-    // The desk of this site.
+    // The desk of a site.
     fn desk(&self, site: SiteId) -> Option<&Desk<A>>
         ensures some { IfSome result (λ d. d.now ≡ desk self.now site) }
         ensures none { IfNone result (desk self.now site ≡ new_desk 0 0) }
@@ -65,7 +65,7 @@ impl<A: Allocator + Copy, K: Keeping> World<A, K> {
         Some(self.system.line_of(&packet))
     }
 
-    /// A copy of a site's log.
+    /// A copy of a site's log. `OutOfMemory` if memory for it is refused.
     pub fn log(&self, site: SiteId) -> Result<Vec<Entry<A>, A>, OutOfMemory>
         ensures { IfOk result (λ copy. copy.items ≡ log self.now site) }
     {
@@ -76,7 +76,7 @@ impl<A: Allocator + Copy, K: Keeping> World<A, K> {
         }
     }
 
-    /// The number of a log's end.
+    /// The own number of the last entry of a site's log.
     pub fn number(&self, site: SiteId) -> u64
         ensures { result ≡ end (log self.now site) }
     {
@@ -146,8 +146,8 @@ impl<A: Allocator + Copy, K: Keeping> World<A, K> {
         }
     }
 
-    /// The rights on the way from the origin to a site: given in entries that the site has not
-    /// applied, and not taken back.
+    /// The rights in transit from the origin to a site: given in entries that the site has not applied, and not
+    /// reclaimed.
     pub fn way(&self, origin: SiteId, site: SiteId) -> u64
         ensures { result ≡ on_way self.now origin site }
     {
@@ -174,7 +174,7 @@ impl<A: Allocator + Copy, K: Keeping> World<A, K> {
         ensures held { result.held ≡ sum_sites (count self.now) (held_by self.now) }
         ensures way { result.way ≡ sum_sites (count self.now) (λ o. sum_sites (count self.now) (λ s. on_way self.now o s)) }
     {
-        // For the proof: what is kept of the world.
+        // For the proof: the invariant of the world.
         let _ = &self.system;
         let mut totals = Totals {
             issued: 0,
@@ -192,12 +192,12 @@ impl<A: Allocator + Copy, K: Keeping> World<A, K> {
         totals
     }
 
-    // The rights on the way from the origin to all sites.
+    // The rights in transit from the origin to all sites.
     fn way_from(&self, origin: SiteId) -> u64
         requires { origin ≤ count self.now }
         ensures { result ≡ sum_sites (count self.now) (λ s. on_way self.now origin s) }
     {
-        // For the proof: what is kept of the world, and the range of the origin.
+        // For the proof: the invariant of the world, and the range of the origin.
         let _ = &self.system;
         let _ = origin.number();
         let mut way = 0;
@@ -209,8 +209,7 @@ impl<A: Allocator + Copy, K: Keeping> World<A, K> {
 }
 
 impl<A: Allocator + Copy> World<A, ForReaders> {
-    /// The entries of the origin that reached a site's buffer, each once, in the order in which
-    /// they first came.
+    /// The entries of the origin that reached a site's buffer, each once, in the order in which they first arrived.
     pub fn reached(&self, site: SiteId, origin: SiteId) -> &[Entry<A>]
         ensures { result.now ≡ reached self.now site origin }
     {
@@ -241,7 +240,7 @@ impl<A: Allocator + Copy> World<A, ForReaders> {
     }
 }
 
-// The entries of a log.
+// A copy of the entries of a log.
 fn copy_of<A: Allocator + Copy>(
     alloc: A,
     log: &OriginLog<A>,

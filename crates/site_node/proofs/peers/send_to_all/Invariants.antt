@@ -3,7 +3,7 @@ use Rattle.rights_types.specs.declared.limits.TheConstants.{MAX_NUMBER}
 use Rattle.site_node.specs.ToPeers.{SendsToFirst}
 use Rattle.site_node.proofs.peers.send_to_all.Given as goal
 
--- so many peers were sent to
+-- this many peers were sent what is due
 abbrev pub invariant-loop-place : goal.invariant-loop-place
 invariant-loop-place g l = record {
   first : SendsToFirst g.P.Peers.sends l.place l.initial.peers l.sent l.peers;

@@ -3,7 +3,7 @@ use Rattle.site_node.specs.Sending.{SendsMany}
 use Rattle.site_node.proofs.Publishing.{Published, cursor}
 use Rattle.site_node.proofs.sending.send_entries.Given as goal
 
--- so many entries were published, and each of their lines found room
+-- this many entries were published, and each of their lines found space
 abbrev pub invariant-entries : goal.invariant-entries
 invariant-entries g l = record {
   many : SendsMany g.S.Sink.takes l.initial.kept l.peer l.initial.sink l.sent l.kept l.sink;

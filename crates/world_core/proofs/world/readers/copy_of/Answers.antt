@@ -8,7 +8,7 @@ use Rattle.world_core.proofs.world.readers.copy_of.Goals as goal
 one_more : (es : List EntryValue) (i : ℕ) (e : EntryValue) → slice_get es i ≡ Some e → take (i + 1) es ≡ take i es ++ e ∷ []
 one_more es i e at = take_more es i e (slice_get_within es i e at) ∙ ap (λ (x : EntryValue). take i es ++ x ∷ []) (get_or_from_slice_get es i e e at)
 
--- an entry that is there is found
+-- an entry that exists is found
 is_found : (es : List EntryValue) (i : ℕ) → i < length es → slice_get es i ≡ None → ⊥
 is_found es i within none =
     elim (slice_get_cases es i).1 [
