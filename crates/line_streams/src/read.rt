@@ -8,11 +8,11 @@ use std::io::{ErrorKind, Read};
 
 /// A read failed.
 #[derive(Clone, Copy, Debug, PartialEq, Eq)]
-pub struct ReadFault;
+pub struct InputError;
 
 /// Reads once, and again if it was interrupted. Returns how many bytes were read; 0 means the end, if the buffer is
 /// not empty.
-pub fn read_some<R: Read>(reader: &mut R, room: &mut [u8]) -> Result<usize, ReadFault>
+pub fn read_some<R: Read>(reader: &mut R, room: &mut [u8]) -> Result<usize, InputError>
     ensures same { length room.new ≡ length room.old }
     ensures bound { ReadsAtMost result room.new }
     ensures bytes { ReadConsumes (R.remaining reader.old) (R.remaining reader.new) result room.new }
@@ -22,12 +22,12 @@ pub fn read_some<R: Read>(reader: &mut R, room: &mut [u8]) -> Result<usize, Read
             Ok(length) => return Ok(length),
             Err(error) => {
                 if !is_interrupted(&error) {
-                    return Err(ReadFault);
+                    return Err(InputError);
                 }
             }
         }
     }
-    Err(ReadFault)
+    Err(InputError)
 }
 
 /// Whether a read or a write was interrupted and should be retried.
