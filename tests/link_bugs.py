@@ -15,7 +15,7 @@ BUGS["a_first_line_has_4_seconds"] = limit("hello_seconds", 4)
 BUGS["a_first_line_has_9_seconds"] = limit("hello_seconds", 9)
 
 
-@replaces(Process, "greet")
+@replaces(Process, "handshake")
 def each_byte_of_a_first_line_has_5_seconds(right, process, stream):
     unread = b""
     stream.settimeout(5)
@@ -31,12 +31,12 @@ def each_byte_of_a_first_line_has_5_seconds(right, process, stream):
     return (int(words[1]) if is_known and unread == b"H %d\n" % int(words[1]) else None), b""
 
 
-@replaces(Process, "greet")
+@replaces(Process, "handshake")
 def what_comes_with_the_first_line_is_lost(right, process, stream):
     return right(stream)[0], b""
 
 
-@replaces(Process, "greet")
+@replaces(Process, "handshake")
 def a_new_connection_begins_a_new_buffer(right, process, stream):
     peer, rest = right(stream)
     if peer is not None and peer in process.heard:
@@ -45,7 +45,7 @@ def a_new_connection_begins_a_new_buffer(right, process, stream):
     return peer, rest
 
 
-@replaces(Process, "greet")
+@replaces(Process, "handshake")
 def a_new_connection_forgets_what_was_asked_for(right, process, stream):
     peer, rest = right(stream)
     if peer is not None and peer in process.heard:
@@ -53,7 +53,7 @@ def a_new_connection_forgets_what_was_asked_for(right, process, stream):
     return peer, rest
 
 
-@replaces(Process, "greet")
+@replaces(Process, "handshake")
 def strangers_are_answered(right, process, stream):
     peer, rest = right(stream)
     if peer is None:
@@ -62,7 +62,7 @@ def strangers_are_answered(right, process, stream):
     return peer, rest
 
 
-@replaces(Process, "greet")
+@replaces(Process, "handshake")
 def a_hello_is_answered(right, process, stream):
     peer, rest = right(stream)
     if peer is not None:

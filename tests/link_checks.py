@@ -24,8 +24,8 @@ def a_site_says_hello_first(trial):
 
 def no_connection_is_made_before_there_is_a_line(trial):
     trial.say("issue 9", "give 2 1")
-    doors = [peer.door for peer in trial.node.peers.values()]
-    expect(select.select(doors, [], [], 0.3)[0], [], "connections before the first tick")
+    listeners = [peer.listener for peer in trial.node.peers.values()]
+    expect(select.select(listeners, [], [], 0.3)[0], [], "connections before the first tick")
     trial.tick()
 
 

@@ -40,7 +40,7 @@ class Process:
         self.is_ending = False
         self.waiting = 0
         self.heard = {}
-        self.door = socket.create_server(address_of(listen), backlog=128)
+        self.listener = socket.create_server(address_of(listen), backlog=128)
         self.senders = [threading.Thread(target=self.send_all, args=(peer,), daemon=True) for peer in peers]
 
     def run(self):
@@ -77,7 +77,7 @@ class Process:
 
     def accept_all(self):
         while True:
-            stream, _ = self.door.accept()
+            stream, _ = self.listener.accept()
             with self.lock:
                 is_let_in = self.waiting < self.limits.most_waiting
                 self.waiting += is_let_in
@@ -88,11 +88,11 @@ class Process:
 
     def hear_all(self, stream):
         with stream, suppress(OSError):
-            peer, rest = self.greet(stream)
+            peer, rest = self.handshake(stream)
             if peer is not None:
                 self.hear(peer, stream, rest)
 
-    def greet(self, stream):
+    def handshake(self, stream):
         """The peer that a first line names, and what came behind it."""
         try:
             until = time.monotonic() + self.limits.hello_seconds

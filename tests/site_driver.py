@@ -56,10 +56,10 @@ class Peer:
 
     def __init__(self, number, is_late=False):
         self.number = number
-        self.door = socket.socket()
-        self.door.bind(("127.0.0.1", 0))
+        self.listener = socket.socket()
+        self.listener.bind(("127.0.0.1", 0))
         if not is_late:
-            self.door.listen(8)
+            self.listener.listen(8)
         self.address = at(self.port())
         # The connection that the site made, whether its first line was read, and what is not read.
         self.heard = None
@@ -74,26 +74,26 @@ class Peer:
         self.filler = None
 
     def port(self):
-        return self.door.getsockname()[1]
+        return self.listener.getsockname()[1]
 
     def grow_deaf(self):
         """From now on no attempt to connect is answered: the only place is taken."""
-        self.door.listen(0)
-        self.filler = socket.create_connection(self.door.getsockname())
+        self.listener.listen(0)
+        self.filler = socket.create_connection(self.listener.getsockname())
 
     def listen(self):
         """Attempts to connect are answered, if they were not."""
-        self.door.listen(8)
+        self.listener.listen(8)
         if self.filler:
-            self.door.accept()[0].close()
+            self.listener.accept()[0].close()
             self.filler.close()
             self.filler = None
 
     def accept(self, seconds):
         """Waits for a connection of the site, and reads its first line. Whether one came."""
-        self.door.settimeout(seconds)
+        self.listener.settimeout(seconds)
         try:
-            self.heard, _ = self.door.accept()
+            self.heard, _ = self.listener.accept()
         except TimeoutError:
             return False
         self.heard.settimeout(PATIENCE)
@@ -114,7 +114,7 @@ class Peer:
         return line
 
     def close(self):
-        for stream in (self.door, self.heard, self.spoken):
+        for stream in (self.listener, self.heard, self.spoken):
             if stream is not None:
                 stream.close()
 

@@ -211,8 +211,8 @@ class Ear:
     """The test as peer 2 of site 1, whose other peers are not there."""
 
     def __init__(self, stack, **options):
-        self.door = stack.enter_context(socket.create_server(("127.0.0.1", 0)))
-        self.sites = stack.enter_context(WebCluster(3, started=[1], routes={(1, 2): at(self.door.getsockname()[1])}, **options))
+        self.listener = stack.enter_context(socket.create_server(("127.0.0.1", 0)))
+        self.sites = stack.enter_context(WebCluster(3, started=[1], routes={(1, 2): at(self.listener.getsockname()[1])}, **options))
         self.site = self.sites[1]
 
     def speak(self, text):
@@ -249,7 +249,7 @@ def lines_of_a_peer_are_counted():
         stream.close()
         ear.waits_for(receiving=0)
         ear.site.ask("tick 1")
-        heard = stack.enter_context(ear.door.accept()[0])
+        heard = stack.enter_context(ear.listener.accept()[0])
         ear.waits_for(sending=1)
         expect(ear.metric("lines_dropped_total"), 0)
         # Each tick has more lines than an outbox holds.
@@ -289,8 +289,8 @@ def what_is_said_of_a_peer():
         expect(len([line for line in ear.said() if line.startswith("its log went back")]), 1, "said once")
         # It connected to ask for what was missing.
         expect(ear.said(is_sending=True), ["sends to it"])
-        ear.door.accept()[0].close()
-        ear.door.close()
+        ear.listener.accept()[0].close()
+        ear.listener.close()
 
         def notices():
             ear.site.ask("tick 1")

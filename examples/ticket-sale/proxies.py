@@ -81,7 +81,7 @@ class Proxy:
         return True
 
     def accept(self):
-        # Once its door is closed, it takes no connection more.
+        # Once its listener is closed, it takes no connection more.
         with suppress(OSError):
             while True:
                 stream, _ = self.server.accept()

@@ -22,7 +22,7 @@ use Rattle.apply_lanes.specs.declared.applier.StepError.{StepError}
 use Rattle.apply_lanes.specs.declared.applier.StepError.TheVariants.{LaneClosed, OutOfStep, OutOfMemory}
 use Rattle.apply_lanes.specs.Admissions.{site_fault, GivesSeat, GivesClockSeat}
 use Rattle.apply_lanes.specs.declared.seat.SeatsFull.{SeatsFull}
-use Rattle.apply_lanes.specs.declared.kept.AdmitFault.TheVariants.{NoSuchSite, SameSite}
+use Rattle.apply_lanes.specs.declared.kept.AdmitCause.TheVariants.{NoSuchSite, SameSite}
 use Rattle.thread_parts.proofs.Items.{items_of-push, same_entries, empty_chain}
 use Rattle.apply_lanes.proofs.KeptLaws.{tallied_taking}
 
@@ -254,7 +254,7 @@ other_site id o h =
 nothing_given : (j o n : ℕ) → to j (TakeBack o n ∷ []) ≡ 0
 nothing_given j o n = omega (arith, to-cons j (TakeBack o n) [], to-nil j)
 
--- what was given and received is as before what a K takes back
+-- what was given and received is as before the take-back of a closing entry
 same_between : (b : Bool) (old mid : BookValue) (o n : ℕ) → TakingLeaves b old o n mid
     → ((j : ℕ) → (peer mid j).given ≡ (peer old j).given) × ((j : ℕ) → (peer mid j).received ≡ (peer old j).received)
 same_between true old mid o n same = (λ j. ap (λ (x : BookValue). (peer x j).given) same, λ j. ap (λ (x : BookValue). (peer x j).received) same)
@@ -268,7 +268,7 @@ moves_on id k d o e is applies keeps next =
     let a = applies.entry in
     let l = keeps.leaves in
     let owed = owed_by k.desk.ledger o e in
-    let t = tallied_taking (owed == 0) k.desk.ledger.book a.between o owed k.issued.sum k.spent.sum k.number.sum k.received.sum keeps.taken is.tallied in
+    let t = tallied_taking (owed == 0) k.desk.ledger.book a.between o owed k.issued.sum k.spent.sum k.number.sum k.received.sum keeps.taken is.matches_book in
     let s = same_between (owed == 0) k.desk.ledger.book a.between o owed keeps.taken in
     record {
       applies = applies;

@@ -27,30 +27,30 @@ use Rattle.site_core.specs.Calls.{DeskAnswers, AnswerKeeps, next_push, published
 use Rattle.site_core.specs.Ledgers.{LedgerValue, HasApplied, SameApplied, MoreApplied, owed_by, frontier_of, TakingLeaves, AppliesEntry, ApplyKeeps, closing_by}
 use Rattle.site_core.proofs.Protocol.{none_applied}
 use Rattle.site_core.specs.Desks.{DeskValue}
-use Rattle.thread_parts.specs.Tallies.{TallyValue}
+use Rattle.thread_parts.specs.ShardedCounters.{ShardedCounterValue}
 use Rattle.apply_lanes.specs.Names.{DeskId, IsUnused}
-use Rattle.apply_lanes.specs.Kepts.{KeptValue, IsKept, KeepsProtocol, IsTallied, IsPortioned, admitted_count, raised}
+use Rattle.apply_lanes.specs.Kepts.{KeptValue, IsKept, KeepsProtocol, MatchesBook, HasShards, admitted_count, raised}
 
--- ---- tallies
+-- ---- counters
 
--- a tally to which nothing was added
-pub raised_none : (t : TallyValue) → t ≡ raised t 0
+-- a counter to which nothing was added
+pub raised_none : (t : ShardedCounterValue) → t ≡ raised t 0
 raised_none t = let e : t.sum ≡ t.sum + 0 = omega arith in ap (λ n. record { sum = n; left = t.left; returned = t.returned }) e
 
--- both have given out the same portions
-record SamePortions (t u : TallyValue) : Type 0 where
+-- both have given out the same shards
+record SameShards (t u : ShardedCounterValue) : Type 0 where
   left : u.left ≡ t.left
   returned : u.returned ≡ t.returned
 
-raised_portions : (t u : TallyValue) (n : ℕ) → u ≡ raised t n → SamePortions t u
-raised_portions t u n h = record { left = ap (λ (x : TallyValue). x.left) h; returned = ap (λ (x : TallyValue). x.returned) h }
+raised_shards : (t u : ShardedCounterValue) (n : ℕ) → u ≡ raised t n → SameShards t u
+raised_shards t u n h = record { left = ap (λ (x : ShardedCounterValue). x.left) h; returned = ap (λ (x : ShardedCounterValue). x.returned) h }
 
-raised_sum : (t u : TallyValue) (n : ℕ) → u ≡ raised t n → u.sum ≡ t.sum + n
-raised_sum t u n h = ap (λ (x : TallyValue). x.sum) h
+raised_sum : (t u : ShardedCounterValue) (n : ℕ) → u ≡ raised t n → u.sum ≡ t.sum + n
+raised_sum t u n h = ap (λ (x : ShardedCounterValue). x.sum) h
 
-portioned : (k : KeptValue) (d : DeskValue) (i s n r : TallyValue) → IsPortioned k → SamePortions k.issued i → SamePortions k.spent s
-    → SamePortions k.number n → SamePortions k.received r → IsPortioned (record k { desk = d; issued = i; spent = s; number = n; received = r })
-portioned k d i s n r p a b c e = record {
+has_shards : (k : KeptValue) (d : DeskValue) (i s n r : ShardedCounterValue) → HasShards k → SameShards k.issued i → SameShards k.spent s
+    → SameShards k.number n → SameShards k.received r → HasShards (record k { desk = d; issued = i; spent = s; number = n; received = r })
+has_shards k d i s n r p a b c e = record {
   seats = omega (arith, p.seats, a.left);
   clock = omega (arith, p.clock, a.left);
   both = b.left ∙ p.both ∙ sym a.left;
@@ -71,8 +71,8 @@ same_numbers b c same logs =
     ∙ sum_same (sites b) (λ o. (peer c o).log.end) (λ o. (peer b o).log.end) (λ o _ _. ap (λ (a : Account). a.end) (logs o))
 
 -- the site wrote an entry that issues and spends so much
-tallied_write : (b c : BookValue) (ms : List Move) (i s n r j t : ℕ) → IsTallied b i s n r → OwnLeaves b ms c → j ≡ i + issued ms → t ≡ s + spent ms
-    → IsTallied c j t n r
+tallied_write : (b c : BookValue) (ms : List Move) (i s n r j t : ℕ) → MatchesBook b i s n r → OwnLeaves b ms c → j ≡ i + issued ms → t ≡ s + spent ms
+    → MatchesBook c j t n r
 tallied_write b c ms i s n r j t is l a e = record {
   issued_is = omega (arith, is.issued_is, l.issues);
   spent_is = omega (arith, is.spent_is, l.spends);
@@ -82,8 +82,8 @@ tallied_write b c ms i s n r j t is l a e = record {
 }
 
 -- the site applied the next entry of site o
-tallied_apply : (b c : BookValue) (o : ℕ) (e : EntryValue) (i s n r m g : ℕ) → IsTallied b i s n r → ApplyLeaves b o e c → 1 ≤ o → o ≤ sites b
-    → e.prev ≡ (peer b o).log.end → own e ≤ MAX_NUMBER → m ≡ n + length e.moves → g ≡ r + to b.me e.moves → IsTallied c i s m g
+tallied_apply : (b c : BookValue) (o : ℕ) (e : EntryValue) (i s n r m g : ℕ) → MatchesBook b i s n r → ApplyLeaves b o e c → 1 ≤ o → o ≤ sites b
+    → e.prev ≡ (peer b o).log.end → own e ≤ MAX_NUMBER → m ≡ n + length e.moves → g ≡ r + to b.me e.moves → MatchesBook c i s m g
 tallied_apply b c o e i s n r m g is l low high next small more gift =
     let risen : (peer c o).log.end ≡ (peer b o).log.end + length e.moves = omega (arith, l.applied, next) in
     let sum : sum_sites (sites b) (λ k. (peer c k).log.end) ≡ applied_by b + length e.moves =
@@ -102,7 +102,7 @@ tallied_apply b c o e i s n r m g is l low high next small more gift =
     }
 
 -- the numbers that were applied of all logs are small
-pub numbers_bound : (b : BookValue) (i s n r : ℕ) → IsTallied b i s n r → sites b ≤ 16 → n ≤ 16000000000
+pub numbers_bound : (b : BookValue) (i s n r : ℕ) → MatchesBook b i s n r → sites b ≤ 16 → n ≤ 16000000000
 numbers_bound b i s n r is few =
     let each = sum_bound (sites b) 1000000000 (λ o. (peer b o).log.end) is.numbers in
     omega (arith, is.number_is, each)
@@ -158,18 +158,18 @@ nothing_closing b (Some j) = closes_without (held_by b == 0) j (held_by b) (fron
 
 -- ---- the lock's value
 
--- whatever the desk wrote and applied, as long as the tallies follow its book
-kept_by : (id : DeskId) (k : KeptValue) (d : DeskValue) (i s n r : TallyValue) → IsKept id k → d.ledger.log.site ≡ k.desk.ledger.log.site
-    → d.ledger.book.me ≡ k.desk.ledger.book.me → sites d.ledger.book ≡ sites k.desk.ledger.book → IsTallied d.ledger.book i.sum s.sum n.sum r.sum
-    → SamePortions k.issued i → SamePortions k.spent s → SamePortions k.number n → SamePortions k.received r → KeepsProtocol d.ledger
+-- whatever the desk wrote and applied, as long as the counters follow its book
+kept_by : (id : DeskId) (k : KeptValue) (d : DeskValue) (i s n r : ShardedCounterValue) → IsKept id k → d.ledger.log.site ≡ k.desk.ledger.log.site
+    → d.ledger.book.me ≡ k.desk.ledger.book.me → sites d.ledger.book ≡ sites k.desk.ledger.book → MatchesBook d.ledger.book i.sum s.sum n.sum r.sum
+    → SameShards k.issued i → SameShards k.spent s → SameShards k.number n → SameShards k.received r → KeepsProtocol d.ledger
     → IsKept id (record k { desk = d; issued = i; spent = s; number = n; received = r })
-kept_by id k d i s n r is site me count tallied a b c e protocol = record {
+kept_by id k d i s n r is site me count matches_book a b c e protocol = record {
   site = site ∙ is.site;
   same_me = me ∙ is.same_me;
   same_sites = count ∙ is.same_sites;
   few = is.few;
-  tallied = tallied;
-  portioned = portioned k d i s n r is.portioned a b c e;
+  matches_book = matches_book;
+  has_shards = has_shards k d i s n r is.has_shards a b c e;
   protocol = protocol;
 }
 
@@ -177,7 +177,7 @@ kept_by id k d i s n r is site me count tallied a b c e protocol = record {
 still_applied : (l m : LedgerValue) → KeepsProtocol l → SameApplied l m → KeepsProtocol m
 still_applied l m h same = (h.0, same.all h.0 h.1)
 
-all_same : (t : TallyValue) → SamePortions t t
+all_same : (t : ShardedCounterValue) → SameShards t t
 all_same t = record { left = refl; returned = refl }
 
 -- log and book are as before
@@ -185,7 +185,7 @@ same_ledger : (id : DeskId) (k : KeptValue) (d : DeskValue) → IsKept id k → 
 same_ledger id k d is same =
     kept_by id k d k.issued k.spent k.number k.received is (ap (λ (l : LedgerValue). l.log.site) same) (ap (λ (l : LedgerValue). l.book.me) same)
     (ap (λ (l : LedgerValue). sites l.book) same)
-    (subst (λ (l : LedgerValue). IsTallied l.book k.issued.sum k.spent.sum k.number.sum k.received.sum) (sym same) is.tallied) (all_same k.issued)
+    (subst (λ (l : LedgerValue). MatchesBook l.book k.issued.sum k.spent.sum k.number.sum k.received.sum) (sym same) is.matches_book) (all_same k.issued)
     (all_same k.spent) (all_same k.number) (all_same k.received) (subst KeepsProtocol (sym same) is.protocol)
 
 -- the log has other cursors, and the same entries
@@ -194,7 +194,7 @@ same_entries : (id : DeskId) (k : KeptValue) (log : LogValue) → IsKept id k �
 same_entries id k log is site entries =
     let h : HasApplied is.protocol.0 k.desk.ledger = is.protocol.1 in
     let kept = subst (λ (x : ℕ × List EntryValue). SiteKept (sites k.desk.ledger.book) x.0 x.1 is.protocol.0) (λ i. (sym site i, sym entries i)) h.kept in
-    kept_by id k (record k.desk { ledger = record k.desk.ledger { log = log } }) k.issued k.spent k.number k.received is site refl refl is.tallied
+    kept_by id k (record k.desk { ledger = record k.desk.ledger { log = log } }) k.issued k.spent k.number k.received is site refl refl is.matches_book
     (all_same k.issued) (all_same k.spent) (all_same k.number) (all_same k.received) (is.protocol.0, record { in_book = h.in_book; kept = kept })
 
 -- entries were published to a peer
@@ -214,21 +214,21 @@ kept_skip id k d peer is same =
     subst (λ (y : DeskValue). IsKept id (record k { desk = y })) (sym same) (same_entries id k (all_published k.desk.ledger.log peer) is refl refl)
 
 -- the desk wrote an entry, by which so much was issued and spent
-pub kept_write : (id : DeskId) (k : KeptValue) (d : DeskValue) (ms : List Move) (a b : ℕ) (i s : TallyValue) → IsKept id k
+pub kept_write : (id : DeskId) (k : KeptValue) (d : DeskValue) (ms : List Move) (a b : ℕ) (i s : ShardedCounterValue) → IsKept id k
     → d.ledger.log ≡ with_entry k.desk.ledger.log ms → OwnLeaves k.desk.ledger.book ms d.ledger.book → SameApplied k.desk.ledger d.ledger
     → issued ms ≡ a → spent ms ≡ b → i ≡ raised k.issued a → s ≡ raised k.spent b → IsKept id (record k { desk = d; issued = i; spent = s })
 kept_write id k d ms a b i s is log l same ia sb more used =
     kept_by id k d i s k.number k.received is (ap (λ (x : LogValue). x.site) log) l.same_me l.same_sites
-    (tallied_write k.desk.ledger.book d.ledger.book ms k.issued.sum k.spent.sum k.number.sum k.received.sum i.sum s.sum is.tallied l
+    (tallied_write k.desk.ledger.book d.ledger.book ms k.issued.sum k.spent.sum k.number.sum k.received.sum i.sum s.sum is.matches_book l
     (omega (arith, raised_sum k.issued i a more, ia)) (omega (arith, raised_sum k.spent s b used, sb)))
-    (raised_portions k.issued i a more) (raised_portions k.spent s b used) (all_same k.number) (all_same k.received)
+    (raised_shards k.issued i a more) (raised_shards k.spent s b used) (all_same k.number) (all_same k.received)
     (still_applied k.desk.ledger d.ledger is.protocol same)
 
--- the book between what a K takes back and the K itself
-pub tallied_taking : (c : Bool) (b m : BookValue) (o x i s n r : ℕ) → TakingLeaves c b o x m → IsTallied b i s n r
-    → IsTallied m i s n r × (m.me ≡ b.me) × (sites m ≡ sites b) × ((k : ℕ) → (peer m k).log ≡ (peer b k).log)
+-- the book between the take-back of a closing entry and that entry itself
+pub tallied_taking : (c : Bool) (b m : BookValue) (o x i s n r : ℕ) → TakingLeaves c b o x m → MatchesBook b i s n r
+    → MatchesBook m i s n r × (m.me ≡ b.me) × (sites m ≡ sites b) × ((k : ℕ) → (peer m k).log ≡ (peer b k).log)
 tallied_taking true b m o x i s n r same is =
-    (subst (λ (y : BookValue). IsTallied y i s n r) (sym same) is, ap (λ (y : BookValue). y.me) same, ap (λ (y : BookValue). sites y) same, λ k. ap (λ (y : BookValue). (peer y k).log) same)
+    (subst (λ (y : BookValue). MatchesBook y i s n r) (sym same) is, ap (λ (y : BookValue). y.me) same, ap (λ (y : BookValue). sites y) same, λ k. ap (λ (y : BookValue). (peer y k).log) same)
 tallied_taking false b m o x i s n r l is =
     (tallied_write b m (TakeBack o x ∷ []) i s n r i s is l (omega (arith, issued-take_back o x)) (omega (arith, spent-take_back o x)), l.same_me, l.same_sites, l.same_applied)
 
@@ -259,7 +259,7 @@ has_one l m applied o e h live next of is more =
     more.all applied (with_one applied o e) h adds (subst (IsChain o) (sym adds.there) (next_applied l applied o e h live next of is))
 
 -- the desk applied the next entry of site o
-pub kept_apply : (id : DeskId) (k : KeptValue) (d : DeskValue) (o : ℕ) (e : EntryValue) (n r : TallyValue) → IsKept id k
+pub kept_apply : (id : DeskId) (k : KeptValue) (d : DeskValue) (o : ℕ) (e : EntryValue) (n r : ShardedCounterValue) → IsKept id k
     → (a : AppliesEntry k.desk.ledger o e d.ledger) → ApplyKeeps k.desk.ledger o e a.between d.ledger → 1 ≤ o → o ≤ id.sites
     → e.prev ≡ (peer k.desk.ledger.book o).log.end → (peer k.desk.ledger.book o).log.closed ≡ false → e.origin ≡ o → IsEntry e
     → n ≡ raised k.number (length e.moves) → r ≡ raised k.received (to id.site e.moves) → IsKept id (record k { desk = d; number = n; received = r })
@@ -268,12 +268,12 @@ kept_apply id k d o e n r is applies keeps low high next live of entry more gift
     let mid = applies.between in
     let new = d.ledger.book in
     let l = keeps.leaves in
-    let t = tallied_taking (owed_by k.desk.ledger o e == 0) old mid o (owed_by k.desk.ledger o e) k.issued.sum k.spent.sum k.number.sum k.received.sum keeps.taken is.tallied in
+    let t = tallied_taking (owed_by k.desk.ledger o e == 0) old mid o (owed_by k.desk.ledger o e) k.issued.sum k.spent.sum k.number.sum k.received.sum keeps.taken is.matches_book in
     kept_by id k d k.issued k.spent n r is (ap (λ (log : LogValue). log.site) applies.log) (l.same_me ∙ t.1) (l.same_sites ∙ t.2)
     (tallied_apply mid new o e k.issued.sum k.spent.sum k.number.sum k.received.sum n.sum r.sum t.0 l low
     (omega (arith, high, t.2, is.same_sites)) (next ∙ ap (λ (x : Account). x.end) (sym (t.3 o))) entry.number (raised_sum k.number n (length e.moves) more)
     (raised_sum k.received r (to id.site e.moves) gift ∙ ap (λ s. k.received.sum + to s e.moves) (sym (t.1 ∙ is.same_me))))
-    (all_same k.issued) (all_same k.spent) (raised_portions k.number n (length e.moves) more) (raised_portions k.received r (to id.site e.moves) gift)
+    (all_same k.issued) (all_same k.spent) (raised_shards k.number n (length e.moves) more) (raised_shards k.received r (to id.site e.moves) gift)
     (with_one is.protocol.0 o e, has_one k.desk.ledger d.ledger is.protocol.0 o e is.protocol.1 live next of entry keeps.applied)
 
 -- what the desk received by that entry
@@ -281,8 +281,8 @@ pub gift_is : (id : DeskId) (k : KeptValue) (d : DeskValue) (o : ℕ) (e : Entry
     → ApplyKeeps k.desk.ledger o e a.between d.ledger → received_by d.ledger.book ≡ received_by k.desk.ledger.book + to id.site e.moves
 gift_is id k d o e is applies keeps =
     let mid = applies.between in
-    let t = tallied_taking (owed_by k.desk.ledger o e == 0) k.desk.ledger.book mid o (owed_by k.desk.ledger o e) k.issued.sum k.spent.sum k.number.sum k.received.sum keeps.taken is.tallied in
-    keeps.leaves.receives ∙ ap (λ n. n + to mid.me e.moves) (sym t.0.received_is ∙ is.tallied.received_is)
+    let t = tallied_taking (owed_by k.desk.ledger o e == 0) k.desk.ledger.book mid o (owed_by k.desk.ledger o e) k.issued.sum k.spent.sum k.number.sum k.received.sum keeps.taken is.matches_book in
+    keeps.leaves.receives ∙ ap (λ n. n + to mid.me e.moves) (sym t.0.received_is ∙ is.matches_book.received_is)
     ∙ ap (λ s. received_by k.desk.ledger.book + to s e.moves) (t.1 ∙ is.same_me)
 
 -- ---- admitting
@@ -300,26 +300,26 @@ admit_left bs i d within free =
     omega (arith, admit_more bs i d within free, h, length-set bs i true)
 
 -- the site of that place was admitted
-pub kept_admit : (id : DeskId) (k : KeptValue) (i : ℕ) (n r : TallyValue) → IsKept id k → i < 16 → get_or k.admitted i false ≡ false
+pub kept_admit : (id : DeskId) (k : KeptValue) (i : ℕ) (n r : ShardedCounterValue) → IsKept id k → i < 16 → get_or k.admitted i false ≡ false
     → n ≡ record k.number { left = n.left } → n.left + 1 ≡ k.number.left → r ≡ record k.received { left = r.left } → r.left + 1 ≡ k.received.left
     → IsKept id (record k { number = n; received = r; admitted = set k.admitted i true })
 kept_admit id k i n r is within free of_number less of_received fewer =
-    let p = is.portioned in
-    let t = is.tallied in
+    let p = is.has_shards in
+    let t = is.matches_book in
     let more = admit_more k.admitted i false (omega (arith, p.places)) free in
     record {
       site = is.site;
       same_me = is.same_me;
       same_sites = is.same_sites;
       few = is.few;
-      tallied = record {
+      matches_book = record {
         issued_is = t.issued_is;
         spent_is = t.spent_is;
-        number_is = ap (λ (x : TallyValue). x.sum) of_number ∙ t.number_is;
-        received_is = ap (λ (x : TallyValue). x.sum) of_received ∙ t.received_is;
+        number_is = ap (λ (x : ShardedCounterValue). x.sum) of_number ∙ t.number_is;
+        received_is = ap (λ (x : ShardedCounterValue). x.sum) of_received ∙ t.received_is;
         numbers = t.numbers;
       };
-      portioned = record {
+      has_shards = record {
         seats = p.seats;
         clock = p.clock;
         both = p.both;
@@ -328,15 +328,15 @@ kept_admit id k i n r is within free of_number less of_received fewer =
         both_more = omega (arith, p.both_more, less, fewer);
         no_issued_back = p.no_issued_back;
         no_spent_back = p.no_spent_back;
-        no_number_back = ap (λ (x : TallyValue). x.returned) of_number ∙ p.no_number_back;
-        no_received_back = ap (λ (x : TallyValue). x.returned) of_received ∙ p.no_received_back;
+        no_number_back = ap (λ (x : ShardedCounterValue). x.returned) of_number ∙ p.no_number_back;
+        no_received_back = ap (λ (x : ShardedCounterValue). x.returned) of_received ∙ p.no_received_back;
       };
       protocol = is.protocol;
     }
 
--- a portion is left for each site that was not admitted
-pub portion_left : (k : KeptValue) (i : ℕ) (d : Bool) → IsPortioned k → i < 16 → get_or k.admitted i d ≡ false → 1 ≤ k.number.left
-portion_left k i d p within free = omega (arith, admit_left k.admitted i d (omega (arith, p.places)) free, p.appliers, p.places)
+-- a shard is left for each site that was not admitted
+pub shard_left : (k : KeptValue) (i : ℕ) (d : Bool) → HasShards k → i < 16 → get_or k.admitted i d ≡ false → 1 ≤ k.number.left
+shard_left k i d p within free = omega (arith, admit_left k.admitted i d (omega (arith, p.places)) free, p.appliers, p.places)
 
 -- the same, by the site
 pub free_site : (bs : List Bool) (o : ℕ) → 1 ≤ o → o ≤ length bs → get_or bs (o - 1) false ≡ false → at_site bs o true ≡ false
@@ -356,7 +356,7 @@ nothing_received b h =
 -- a desk that wrote and applied nothing adds up to nothing
 pub nothing_tallied : (d : DeskValue) → IsUnused d → d.ledger.book.own.issued ≡ issued (moves_of d.ledger.log.entries)
     → d.ledger.book.own.spent ≡ spent (moves_of d.ledger.log.entries)
-    → received_by d.ledger.book ≡ sum_sites (sites d.ledger.book) (λ o. (peer d.ledger.book o).received) → IsTallied d.ledger.book 0 0 0 0
+    → received_by d.ledger.book ≡ sum_sites (sites d.ledger.book) (λ o. (peer d.ledger.book o).received) → MatchesBook d.ledger.book 0 0 0 0
 nothing_tallied d is i s r =
     let none : moves_of d.ledger.log.entries ≡ [] = ap moves_of is.nothing_written ∙ moves_of-nil in
     record {
@@ -367,33 +367,33 @@ nothing_tallied d is i s r =
       numbers = λ o. omega (arith, ap (λ (a : Account). a.end) (is.nothing_applied.sums o));
     }
 
-pub opens : (id : DeskId) (d : DeskValue) (i s n r : TallyValue) (bs : List Bool) → id.site ≡ d.ledger.log.site → id.sites ≡ sites d.ledger.book
-    → d.ledger.book.me ≡ d.ledger.log.site → sites d.ledger.book ≤ 16 → IsTallied d.ledger.book 0 0 0 0 → i ≡ record { sum = 0; left = 65; returned = 0 }
+pub opens : (id : DeskId) (d : DeskValue) (i s n r : ShardedCounterValue) (bs : List Bool) → id.site ≡ d.ledger.log.site → id.sites ≡ sites d.ledger.book
+    → d.ledger.book.me ≡ d.ledger.log.site → sites d.ledger.book ≤ 16 → MatchesBook d.ledger.book 0 0 0 0 → i ≡ record { sum = 0; left = 65; returned = 0 }
     → s ≡ record { sum = 0; left = 65; returned = 0 } → n ≡ record { sum = 0; left = 16; returned = 0 } → r ≡ record { sum = 0; left = 16; returned = 0 }
     → length bs ≡ 16 → admitted_count bs ≡ 0 → IsUnused d → IsKept id (record { desk = d; issued = i; spent = s; number = n; received = r; admitted = bs; clock_given = false })
-opens id d i s n r bs site count me few tallied hi hs hn hr places none unused = record {
+opens id d i s n r bs site count me few matches_book hi hs hn hr places none unused = record {
   site = sym site;
   same_me = me ∙ sym site;
   same_sites = sym count;
   few = omega (arith, count);
-  tallied = record {
-    issued_is = ap (λ (t : TallyValue). t.sum) hi ∙ tallied.issued_is;
-    spent_is = ap (λ (t : TallyValue). t.sum) hs ∙ tallied.spent_is;
-    number_is = ap (λ (t : TallyValue). t.sum) hn ∙ tallied.number_is;
-    received_is = ap (λ (t : TallyValue). t.sum) hr ∙ tallied.received_is;
-    numbers = tallied.numbers;
+  matches_book = record {
+    issued_is = ap (λ (t : ShardedCounterValue). t.sum) hi ∙ matches_book.issued_is;
+    spent_is = ap (λ (t : ShardedCounterValue). t.sum) hs ∙ matches_book.spent_is;
+    number_is = ap (λ (t : ShardedCounterValue). t.sum) hn ∙ matches_book.number_is;
+    received_is = ap (λ (t : ShardedCounterValue). t.sum) hr ∙ matches_book.received_is;
+    numbers = matches_book.numbers;
   };
-  portioned = record {
-    seats = omega (arith, ap (λ (t : TallyValue). t.left) hi);
-    clock = omega (arith, ap (λ (t : TallyValue). t.left) hi);
-    both = ap (λ (t : TallyValue). t.left) hs ∙ sym (ap (λ (t : TallyValue). t.left) hi);
+  has_shards = record {
+    seats = omega (arith, ap (λ (t : ShardedCounterValue). t.left) hi);
+    clock = omega (arith, ap (λ (t : ShardedCounterValue). t.left) hi);
+    both = ap (λ (t : ShardedCounterValue). t.left) hs ∙ sym (ap (λ (t : ShardedCounterValue). t.left) hi);
     places = places;
-    appliers = omega (arith, ap (λ (t : TallyValue). t.left) hn, none);
-    both_more = ap (λ (t : TallyValue). t.left) hr ∙ sym (ap (λ (t : TallyValue). t.left) hn);
-    no_issued_back = ap (λ (t : TallyValue). t.returned) hi;
-    no_spent_back = ap (λ (t : TallyValue). t.returned) hs;
-    no_number_back = ap (λ (t : TallyValue). t.returned) hn;
-    no_received_back = ap (λ (t : TallyValue). t.returned) hr;
+    appliers = omega (arith, ap (λ (t : ShardedCounterValue). t.left) hn, none);
+    both_more = ap (λ (t : ShardedCounterValue). t.left) hr ∙ sym (ap (λ (t : ShardedCounterValue). t.left) hn);
+    no_issued_back = ap (λ (t : ShardedCounterValue). t.returned) hi;
+    no_spent_back = ap (λ (t : ShardedCounterValue). t.returned) hs;
+    no_number_back = ap (λ (t : ShardedCounterValue). t.returned) hn;
+    no_received_back = ap (λ (t : ShardedCounterValue). t.returned) hr;
   };
   protocol = (λ o. [], none_applied d.ledger unused.nothing_written unused.nothing_applied);
 }

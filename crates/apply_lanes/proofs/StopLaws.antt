@@ -1,7 +1,7 @@
 -- What is back where a desk stops.
 use Rattle.std.proofs.Common.{◌≡◌, ℕ, ◌-◌, ◌≤◌, ◌==◌, Bool, true, false, not, cond, Some, None, refl, arith}
 use Rattle.std.proofs.lemmas.Bool.{eqb-true}
-use Rattle.apply_lanes.specs.Kepts.{KeptValue, IsPortioned}
+use Rattle.apply_lanes.specs.Kepts.{KeptValue, HasShards}
 use Rattle.apply_lanes.specs.Stops.{missing_of}
 use Rattle.apply_lanes.specs.declared.kept.Missing.TheVariants.{Seat, Applier}
 
@@ -21,5 +21,5 @@ one_at_most true = omega arith
 one_at_most false = omega arith
 
 -- no more seats are left than there are, with the clock's
-pub left_bound : (k : KeptValue) → IsPortioned k → k.issued.left ≤ 65
+pub left_bound : (k : KeptValue) → HasShards k → k.issued.left ≤ 65
 left_bound k p = omega (arith, p.seats, one_at_most k.clock_given)

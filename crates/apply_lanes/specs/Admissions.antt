@@ -5,8 +5,8 @@ use Rattle.thread_parts.specs.Ends.{OutletValue}
 use Rattle.apply_lanes.specs.Kepts.{KeptValue, SeatValue, told_nothing, one_less, seats_left}
 use Rattle.apply_lanes.specs.Appliers.{ApplierValue, new_applier}
 use Rattle.apply_lanes.specs.declared.seat.SeatsFull.{SeatsFull}
-use Rattle.apply_lanes.specs.declared.kept.AdmitFault.{AdmitFault}
-use Rattle.apply_lanes.specs.declared.kept.AdmitFault.TheVariants.{NoSuchSite, SameSite, Taken}
+use Rattle.apply_lanes.specs.declared.kept.AdmitCause.{AdmitCause}
+use Rattle.apply_lanes.specs.declared.kept.AdmitCause.TheVariants.{NoSuchSite, SameSite, Taken}
 use Rattle.apply_lanes.specs.Names.{DeskId}
 
 -- a seat was asked for, and this is the answer: there was one more, or none was left beside the clock's
@@ -25,11 +25,11 @@ GivesClockSeat old (Ok s) new =
 GivesClockSeat old (Err full) new = (old.clock_given ≡ true) × (new ≡ old)
 
 -- why a site gets none at the desk, apart from one that it has already
-abbrev pub site_fault : DeskId → ℕ → Option AdmitFault
+abbrev pub site_fault : DeskId → ℕ → Option AdmitCause
 site_fault id o = if nat_lt id.sites o then Some NoSuchSite else (if o == id.site then Some SameSite else None)
 
 -- whether the site has one is what these say, from site 1 on
-abbrev pub Admits : DeskId → List Bool → ℕ → Option AdmitFault → Type 0
+abbrev pub Admits : DeskId → List Bool → ℕ → Option AdmitCause → Type 0
 Admits id admitted o None = (site_fault id o ≡ None) × (at_site admitted o true ≡ false)
 Admits id admitted o (Some Taken) = (site_fault id o ≡ None) × (at_site admitted o true ≡ true)
 Admits id admitted o (Some fault) = site_fault id o ≡ Some fault

@@ -19,7 +19,7 @@ use Rattle.apply_lanes.specs.Kepts.{KeptValue, IsKept, raised}
 use Rattle.apply_lanes.specs.Names.{DeskId}
 
 -- whose log it applies; the end of its lane; its gate; the entry that it took and has not applied; whether it took End;
--- whether it has come to drop entries; and what it told the desk's tallies
+-- whether it has come to drop entries; and what it told the desk's counters
 pub record ApplierValue (G A : Type 0) : Type 0 where
   pub origin : ℕ
   pub outlet : OutletValue A
@@ -94,7 +94,7 @@ StepRefuses fault (Err OutOfMemory) = fault ≡ None
 StepRefuses fault (Err e) = fault ≡ Some e
 
 -- under the lock: the book's number of the origin o and what it received from there moved on by the entry e, and all
--- else stayed, but for one entry that takes back what a K leaves behind, and asks that e grants
+-- else stayed, but for one entry that takes back what a closing entry leaves behind, and asks that e grants
 pub record MovesOn (site : ℕ) (old : DeskValue) (o : ℕ) (e : EntryValue) (new : DeskValue) : Type 0 where
   pub applies : DeskApplies old o e new
   pub keeps : ApplyKeeps old.ledger o e applies.entry.between new.ledger

@@ -13,22 +13,22 @@ use Rattle.site_core.specs.declared.desk.requests.Spending.{Spending}
 use Rattle.site_core.specs.declared.desk.requests.Spending.TheVariants.{Spent, Queued}
 use Rattle.apply_lanes.specs.declared.names.TheConstants.{SEATS, APPLIERS}
 use Rattle.apply_lanes.specs.Names.{DeskId}
-use Rattle.thread_parts.specs.Tallies.{TallyValue}
+use Rattle.thread_parts.specs.ShardedCounters.{ShardedCounterValue}
 
--- the desk, its four tallies, which sites have an applier of their logs, and whether the clock's seat was given out
+-- the desk, its four counters, which sites have an applier of their logs, and whether the clock's seat was given out
 pub record KeptValue : Type 0 where
   pub desk : DeskValue
-  pub issued : TallyValue
-  pub spent : TallyValue
-  pub number : TallyValue
-  pub received : TallyValue
+  pub issued : ShardedCounterValue
+  pub spent : ShardedCounterValue
+  pub number : ShardedCounterValue
+  pub received : ShardedCounterValue
   pub admitted : List Bool
   pub clock_given : Bool
 
 -- ---- what the lock keeps
 
 -- the four sums are the book's, of which each number is in its range
-pub record IsTallied (b : BookValue) (issued spent number received : ℕ) : Type 0 where
+pub record MatchesBook (b : BookValue) (issued spent number received : ℕ) : Type 0 where
   pub issued_is : issued ≡ b.own.issued
   pub spent_is : spent ≡ b.own.spent
   pub number_is : number ≡ applied_by b
@@ -39,7 +39,7 @@ pub record IsTallied (b : BookValue) (issued spent number received : ℕ) : Type
 abbrev pub admitted_count : List Bool → ℕ
 admitted_count bs = count_by (λ b. b) bs
 
--- portions that are kept for the clock's seat: one, until it is given out
+-- shards that are kept for the clock's seat: one, until it is given out
 abbrev pub for_clock : KeptValue → ℕ
 for_clock k = if k.clock_given then 0 else 1
 
@@ -51,9 +51,9 @@ seats_left k = k.issued.left - for_clock k
 abbrev pub seats_given : KeptValue → ℕ
 seats_given k = SEATS + 1 - k.issued.left
 
--- each seat has a portion of two tallies, each applier one of the two others, none has come back, and that of the
+-- each seat has a shard of two counters, each applier one of the two others, none has come back, and that of the
 -- clock is there until it is given out
-pub record IsPortioned (k : KeptValue) : Type 0 where
+pub record HasShards (k : KeptValue) : Type 0 where
   pub seats : k.issued.left ≤ SEATS + for_clock k
   pub clock : for_clock k ≤ k.issued.left
   pub both : k.spent.left ≡ k.issued.left
@@ -76,8 +76,8 @@ pub record IsKept (id : DeskId) (k : KeptValue) : Type 0 where
   pub same_me : k.desk.ledger.book.me ≡ id.site
   pub same_sites : sites k.desk.ledger.book ≡ id.sites
   pub few : id.sites ≤ MAX_SITES
-  pub tallied : IsTallied k.desk.ledger.book k.issued.sum k.spent.sum k.number.sum k.received.sum
-  pub portioned : IsPortioned k
+  pub matches_book : MatchesBook k.desk.ledger.book k.issued.sum k.spent.sum k.number.sum k.received.sum
+  pub has_shards : HasShards k
   pub protocol : KeepsProtocol k.desk.ledger
 
 -- the log is a chain; the sums are those of the log and of what was applied; and what is held is issued, received
@@ -92,12 +92,12 @@ pub record IsInBalance (k : KeptValue) : Type 0 where
       ≡ issued (moves_of k.desk.ledger.log.entries) + sum_sites (sites k.desk.ledger.book) (λ o. (peer k.desk.ledger.book o).received)
       + taken_back (moves_of k.desk.ledger.log.entries)
 
--- a tally to which so much was added
-abbrev pub raised : TallyValue → ℕ → TallyValue
+-- a counter to which so much was added
+abbrev pub raised : ShardedCounterValue → ℕ → ShardedCounterValue
 raised t n = record t { sum = t.sum + n }
 
--- .. of which one portion more was given out
-abbrev pub one_less : TallyValue → TallyValue → Type 0
+-- .. of which one shard more was given out
+abbrev pub one_less : ShardedCounterValue → ShardedCounterValue → Type 0
 one_less old new = (new ≡ record old { left = new.left }) × (new.left + 1 ≡ old.left)
 
 -- ---- seats

@@ -14,7 +14,7 @@ use std::alloc::{Allocator, Global};
 use std::marker::Model;
 use std::sync::Wait;
 use std::time::Clock;
-use thread_parts::{Item, Outlet, Portion};
+use thread_parts::{Item, Outlet, Shard};
 
 /// Why a step of an applier failed, in the order in which the causes are looked for.
 #[derive(Clone, Copy, Debug, PartialEq, Eq)]
@@ -38,8 +38,8 @@ pub struct Applier<D: DeskNames, G: Gate, A: Allocator = Global> {
     pub(crate) hand: Option<Entry<A>>,
     pub(crate) ended: bool,
     pub(crate) dropping: bool,
-    pub(crate) number: Portion<NumberOf<D>>,
-    pub(crate) received: Portion<ReceivedBy<D>>,
+    pub(crate) number: Shard<NumberOf<D>>,
+    pub(crate) received: Shard<ReceivedBy<D>>,
 }
 
 impl<D: DeskNames, G: Gate, A: Allocator> Model for Applier<D, G, A> {
@@ -192,8 +192,8 @@ impl<D: DeskNames, G: Gate, A: Allocator> Applier<D, G, A> {
 #[derive(Drop)]
 pub struct Applied<D: DeskNames> {
     origin: SiteId,
-    number: Portion<NumberOf<D>>,
-    received: Portion<ReceivedBy<D>>,
+    number: Shard<NumberOf<D>>,
+    received: Shard<ReceivedBy<D>>,
 }
 
 impl<D: DeskNames> Model for Applied<D> {
@@ -216,17 +216,17 @@ impl<D: DeskNames> Applied<D> {
     pub fn number(&self) -> u64
         ensures { result ≡ self.now.number }
     {
-        self.number.told()
+        self.number.added()
     }
 
     /// What the entries that it applied gave to the site.
     pub fn received(&self) -> u64
         ensures { result ≡ self.now.received }
     {
-        self.received.told()
+        self.received.added()
     }
 
-    pub(crate) fn into_portions(self) -> (Portion<NumberOf<D>>, Portion<ReceivedBy<D>>)
+    pub(crate) fn into_shards(self) -> (Shard<NumberOf<D>>, Shard<ReceivedBy<D>>)
         ensures { (result.0 ≡ self.number) × (result.1 ≡ self.received) }
     {
         let Applied {

@@ -1,4 +1,4 @@
-//! The value under the lock of a shared desk: a desk, with the four tallies of what it did.
+//! The value under the lock of a shared desk: a desk, with the four counters of what it did.
 ghost use Rattle.std.specs.Prelude.{◌≡◌, ◌≢◌, ℕ, ◌+◌, ◌≤◌, ◌<◌, true, false, [], List, Option, Some, None, IfOk, IfErr, IfSome, IsOk, OnOk, OnErr, MatchResult, length};
 ghost use Rattle.rights_types.specs.Entries.{EntryValue};
 ghost use Rattle.rights_types.specs.Places.{at_site, set_site};
@@ -27,7 +27,7 @@ use rights_types::{Entry, OutOfMemory, SiteId};
 use site_core::Desk;
 use std::alloc::{Allocator, Global};
 use std::marker::Model;
-use thread_parts::{DeskView, Outlet, Portion, Tally};
+use thread_parts::{DeskView, Outlet, Shard, ShardedCounter};
 
 mod lines;
 mod requests;
@@ -37,13 +37,13 @@ mod requests;
 #[derive(Drop)]
 pub struct Kept<D: DeskNames, A: Allocator = Global> {
     pub(crate) desk: Desk<A>,
-    pub(crate) issued: Tally<IssuedBy<D>>,
-    pub(crate) spent: Tally<SpentBy<D>>,
-    pub(crate) number: Tally<NumberOf<D>>,
-    pub(crate) received: Tally<ReceivedBy<D>>,
+    pub(crate) issued: ShardedCounter<IssuedBy<D>>,
+    pub(crate) spent: ShardedCounter<SpentBy<D>>,
+    pub(crate) number: ShardedCounter<NumberOf<D>>,
+    pub(crate) received: ShardedCounter<ReceivedBy<D>>,
     // Whether an applier was given out, of each site's log.
     pub(crate) admitted: [bool; 16],
-    // Whether the clock's seat was given out. Until then a portion of `issued` and of `spent` is kept for it.
+    // Whether the clock's seat was given out. Until then a shard of `issued` and of `spent` is kept for it.
     pub(crate) clock_given: bool,
 }
 
@@ -59,7 +59,7 @@ impl<D: DeskNames, A: Allocator> Model for Kept<D, A> {
 
 /// Why an origin gets no applier, in the order in which the causes are looked for.
 #[derive(Clone, Copy, Debug, PartialEq, Eq)]
-pub enum AdmitFault {
+pub enum AdmitCause {
     /// The system does not have that site.
     NoSuchSite,
     /// It is the desk's own site.
@@ -71,7 +71,7 @@ pub enum AdmitFault {
 /// An origin got no applier. What was handed over comes back.
 #[derive(Drop)]
 pub struct AdmitError<G: Gate, A: Allocator = Global> {
-    pub fault: AdmitFault,
+    pub cause: AdmitCause,
     pub outlet: Outlet<A>,
     pub gate: G,
 }
@@ -83,8 +83,8 @@ pub(crate) enum Missing {
     Applier,
 }
 
-/// The two portions of an applier: of the numbers applied, and of what was received.
-pub(crate) type Admission<D> = (Portion<NumberOf<D>>, Portion<ReceivedBy<D>>);
+/// The two shards of an applier: of the numbers applied, and of what was received.
+pub(crate) type Admission<D> = (Shard<NumberOf<D>>, Shard<ReceivedBy<D>>);
 
 impl<D: DeskNames, A: Allocator + Copy> Kept<D, A> {
     ghost use Rattle.apply_lanes.specs.Kepts.{KeptValue, IsKept, IsInBalance, raised};
@@ -108,10 +108,10 @@ impl<D: DeskNames, A: Allocator + Copy> Kept<D, A> {
         } = blanks;
         Kept {
             desk,
-            issued: Tally::open(issued, SEATS + 1),
-            spent: Tally::open(spent, SEATS + 1),
-            number: Tally::open(number, APPLIERS),
-            received: Tally::open(received, APPLIERS),
+            issued: ShardedCounter::open(issued, SEATS + 1),
+            spent: ShardedCounter::open(spent, SEATS + 1),
+            number: ShardedCounter::open(number, APPLIERS),
+            received: ShardedCounter::open(received, APPLIERS),
             admitted: [false; 16],
             clock_given: false,
         }
@@ -179,25 +179,25 @@ impl<D: DeskNames, A: Allocator + Copy> Kept<D, A> {
         Ok(new_seat(&mut self.issued, &mut self.spent))
     }
 
-    // The portions of the applier of that origin.
-    fn admit(&mut self, origin: SiteId) -> Result<Admission<D>, AdmitFault>
+    // The shards of the applier of that origin.
+    fn admit(&mut self, origin: SiteId) -> Result<Admission<D>, AdmitCause>
         ensures refused { MatchResult result (λ _. Admits D.id self.old.admitted origin None) (λ fault. Admits D.id self.old.admitted origin (Some fault)) }
         ensures ok { IfOk result (λ p. (p.0 ≡ 0) × (p.1 ≡ 0) × (self.new.admitted ≡ set_site self.old.admitted origin true)) }
         ensures before { IsKept D.id self.old }
         ensures after { IsKept D.id self.new }
-        ensures portions { OnOk result (one_less self.old.number self.new.number × one_less self.old.received self.new.received) }
+        ensures shards { OnOk result (one_less self.old.number self.new.number × one_less self.old.received self.new.received) }
         ensures err { OnErr result (self.new ≡ self.old) }
         ensures rest { self.new ≡ record self.old { number = self.new.number; received = self.new.received; admitted = self.new.admitted } }
     {
         if origin.number() > self.desk.sites() {
-            return Err(AdmitFault::NoSuchSite);
+            return Err(AdmitCause::NoSuchSite);
         }
         if origin == self.desk.site() {
-            return Err(AdmitFault::SameSite);
+            return Err(AdmitCause::SameSite);
         }
         let place = origin.number() as usize - 1;
         if self.admitted[place] {
-            return Err(AdmitFault::Taken);
+            return Err(AdmitCause::Taken);
         }
         let Some(number) = self.number.split() else {
             unreachable!()
@@ -218,7 +218,7 @@ impl<D: DeskNames, A: Allocator + Copy> Kept<D, A> {
     ) -> Result<Applier<D, G, B>, AdmitError<G, B>>
         requires { outlet.taken ≡ [] }
         ensures ok { IfOk result (λ a. GivesApplier D.id self.old origin outlet gate a self.new) }
-        ensures err { IfErr result (λ e. Admits D.id self.old.admitted origin (Some e.fault) × (self.new ≡ self.old)) }
+        ensures err { IfErr result (λ e. Admits D.id self.old.admitted origin (Some e.cause) × (self.new ≡ self.old)) }
         ensures back { IfErr result (λ e. (e.outlet ≡ outlet) × (e.gate ≡ gate)) }
         ensures before { IsKept D.id self.old }
         ensures after { IsKept D.id self.new }
@@ -234,8 +234,8 @@ impl<D: DeskNames, A: Allocator + Copy> Kept<D, A> {
                 number,
                 received,
             }),
-            Err(fault) => Err(AdmitError {
-                fault,
+            Err(cause) => Err(AdmitError {
+                cause,
                 outlet,
                 gate,
             }),
@@ -261,8 +261,8 @@ impl<D: DeskNames, A: Allocator + Copy> Kept<D, A> {
         &mut self,
         origin: SiteId,
         entry: &Entry<B>,
-        number: &mut Portion<NumberOf<D>>,
-        received: &mut Portion<ReceivedBy<D>>,
+        number: &mut Shard<NumberOf<D>>,
+        received: &mut Shard<ReceivedBy<D>>,
     ) -> Result<(), OutOfMemory>
         requires site { origin ≤ D.id.sites }
         requires other { origin ≢ D.id.site }
@@ -274,8 +274,8 @@ impl<D: DeskNames, A: Allocator + Copy> Kept<D, A> {
         ensures keeps { OnOk result ((h : DeskApplies self.old.desk origin entry.now self.new.desk)
             → ApplyKeeps self.old.desk.ledger origin entry.now h.entry.between self.new.desk.ledger) }
         ensures step { OnOk result (StepsBy D.id self.old.desk (Applies origin entry.now) self.new.desk) }
-        ensures tallies { OnOk result (self.new ≡ record self.old { desk = self.new.desk; number = raised self.old.number (length entry.now.moves); received = raised self.old.received (to D.id.site entry.now.moves) }) }
-        ensures told { OnOk result ((number.new ≡ number.old + length entry.now.moves) × (received.new ≡ received.old + to D.id.site entry.now.moves)) }
+        ensures counters { OnOk result (self.new ≡ record self.old { desk = self.new.desk; number = raised self.old.number (length entry.now.moves); received = raised self.old.received (to D.id.site entry.now.moves) }) }
+        ensures added { OnOk result ((number.new ≡ number.old + length entry.now.moves) × (received.new ≡ received.old + to D.id.site entry.now.moves)) }
         ensures err { OnErr result ((self.new ≡ self.old) × (number.new ≡ number.old) × (received.new ≡ received.old)) }
         ensures memory { numbers_in entry.now.moves ≡ None → IsOk result }
     {
@@ -290,8 +290,11 @@ impl<D: DeskNames, A: Allocator + Copy> Kept<D, A> {
     }
 }
 
-// A new seat, by one portion of each tally.
-fn new_seat<D: DeskNames>(issued: &mut Tally<IssuedBy<D>>, spent: &mut Tally<SpentBy<D>>) -> Seat<D>
+// A new seat, by one shard of each counter.
+fn new_seat<D: DeskNames>(
+    issued: &mut ShardedCounter<IssuedBy<D>>,
+    spent: &mut ShardedCounter<SpentBy<D>>,
+) -> Seat<D>
     requires left { 1 ≤ issued.old.left }
     requires both { spent.old.left ≡ issued.old.left }
     ensures told { result ≡ told_nothing }

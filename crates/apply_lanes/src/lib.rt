@@ -1,6 +1,6 @@
 //! One site shared by threads. An `Intake` takes in what another site sends, a lane passes the entries on in order, and
 //! an `Applier` applies them under the lock of a `SharedDesk`, where seats spend. Re-exports intakes from link_intake,
-//! and lanes, tallies and views from thread_parts.
+//! and lanes, counters and views from thread_parts.
 #![tactic(auto)]
 
 mod applier;
@@ -14,10 +14,12 @@ mod stopping;
 
 pub use applier::{Applied, Applier, StepError};
 pub use gate::{Free, Gate};
-pub use kept::{AdmitError, AdmitFault, Kept};
+pub use kept::{AdmitCause, AdmitError, Kept};
 pub use link_intake::{Arrived, Intake, IntakeError, VerdictCounts};
 pub use names::{APPLIERS, Blanks, DeskNames, IssuedBy, NumberOf, ReceivedBy, SEATS, SpentBy};
 pub use seat::{Seat, SeatsFull};
 pub use shared_desk::SharedDesk;
 pub use stopping::{Parts, Report, StopError, stop};
-pub use thread_parts::{DeskView, Inlet, Item, LaneClosed, MAX_LANE, Outlet, Portion, Tally, lane};
+pub use thread_parts::{
+    DeskView, Inlet, Item, LaneClosed, MAX_LANE, Outlet, Shard, ShardedCounter, lane,
+};

@@ -2,14 +2,14 @@
 
 use crate::names::{DeskNames, IssuedBy, SpentBy};
 use std::marker::Model;
-use thread_parts::Portion;
+use thread_parts::Shard;
 
 /// One caller's place at a shared desk: what it issued and spent there is counted, and all seats together
 /// make the desk's sums.
 #[derive(Drop)]
 pub struct Seat<D: DeskNames> {
-    pub(crate) issued: Portion<IssuedBy<D>>,
-    pub(crate) used: Portion<SpentBy<D>>,
+    pub(crate) issued: Shard<IssuedBy<D>>,
+    pub(crate) used: Shard<SpentBy<D>>,
     pub(crate) spent: u64,
     pub(crate) served: u64,
 }
@@ -36,7 +36,7 @@ impl<D: DeskNames> Seat<D> {
     pub fn told_issued(&self) -> u64
         ensures { result ≡ self.now.issued }
     {
-        self.issued.told()
+        self.issued.added()
     }
 
     /// The rights that its calls of `spend` were told to be spent.

@@ -69,7 +69,7 @@ impl<D: DeskNames, A: Allocator + Copy> SharedDesk<D, A> {
         requires { outlet.taken ≡ [] }
         ensures fresh { IfOk result (λ a. a ≡ new_applier origin outlet gate) }
         ensures ok { IfOk result (λ a. (old : KeptValue) × (new : KeptValue) × IsKept D.id old × IsKept D.id new × GivesApplier D.id old origin outlet gate a new) }
-        ensures err { IfErr result (λ e. (kept : KeptValue) × IsKept D.id kept × Admits D.id kept.admitted origin (Some e.fault)) }
+        ensures err { IfErr result (λ e. (kept : KeptValue) × IsKept D.id kept × Admits D.id kept.admitted origin (Some e.cause)) }
         ensures back { IfErr result (λ e. (e.outlet ≡ outlet) × (e.gate ≡ gate)) }
     {
         // The desk decides, under its lock.

@@ -2,7 +2,7 @@
 ghost use Rattle.std.specs.Prelude.{◌≡◌, ◌+◌, ◌<◌, ◌≤◌, ◌^◌, Some, None, IfOk, IfErr, MatchResult, length};
 ghost use Rattle.apply_lanes.specs.Kepts.{KeptValue, IsKept};
 ghost use Rattle.apply_lanes.specs.Stops.{all_issued, all_spent, all_served, all_numbers, all_received, Reports, ReportsDesk, missing_of, missing_by, parts_of};
-ghost use Rattle.thread_parts.specs.Tallies.{TallyValue};
+ghost use Rattle.thread_parts.specs.ShardedCounters.{ShardedCounterValue};
 ghost use Rattle.apply_lanes.specs.declared.names.TheConstants.{SEATS, APPLIERS};
 
 use crate::applier::Applied;
@@ -13,7 +13,7 @@ use crate::shared_desk::SharedDesk;
 use site_core::Desk;
 use std::alloc::{Allocator, Global};
 use std::sync::Mutex;
-use thread_parts::Tally;
+use thread_parts::ShardedCounter;
 
 /// A shared desk, with all that was given out of it.
 #[derive(Drop)]
@@ -168,8 +168,8 @@ fn settle<D: DeskNames, A: Allocator + Copy>(
 
 // Where all seats are there, the sums are what they were told: issued, spent and served.
 fn settle_seats<D: DeskNames, A: Allocator>(
-    mut issued: Tally<IssuedBy<D>>,
-    mut spent: Tally<SpentBy<D>>,
+    mut issued: ShardedCounter<IssuedBy<D>>,
+    mut spent: ShardedCounter<SpentBy<D>>,
     seats: Vec<Seat<D>, A>,
 ) -> (u64, u64, u64)
     requires room { (issued.left + length seats.items ≡ SEATS + 1) × (spent.left + length seats.items ≡ SEATS + 1) }
@@ -186,8 +186,8 @@ fn settle_seats<D: DeskNames, A: Allocator>(
 
 // Where all appliers are there, the sums are what they told. Answers that of the numbers.
 fn settle_applied<D: DeskNames, A: Allocator>(
-    mut number: Tally<NumberOf<D>>,
-    mut received: Tally<ReceivedBy<D>>,
+    mut number: ShardedCounter<NumberOf<D>>,
+    mut received: ShardedCounter<ReceivedBy<D>>,
     applied: Vec<Applied<D>, A>,
 ) -> u64
     requires room { (number.left + length applied.items ≡ APPLIERS) × (received.left + length applied.items ≡ APPLIERS) }
@@ -201,10 +201,10 @@ fn settle_applied<D: DeskNames, A: Allocator>(
     number.sum()
 }
 
-// Takes in the portions of all seats, and answers what they were told: issued, spent and served.
+// Takes in the shards of all seats, and answers what they were told: issued, spent and served.
 fn collect_seats<D: DeskNames, A: Allocator>(
-    issued: &mut Tally<IssuedBy<D>>,
-    spent: &mut Tally<SpentBy<D>>,
+    issued: &mut ShardedCounter<IssuedBy<D>>,
+    spent: &mut ShardedCounter<SpentBy<D>>,
     seats: Vec<Seat<D>, A>,
 ) -> (u64, u64, u64)
     requires room { (issued.old.left + length seats.items ≡ SEATS + 1) × (spent.old.left + length seats.items ≡ SEATS + 1) }
@@ -230,10 +230,10 @@ fn collect_seats<D: DeskNames, A: Allocator>(
     (told_issued, told_spent, told_served)
 }
 
-// Takes in the portions of all appliers.
+// Takes in the shards of all appliers.
 fn collect_applied<D: DeskNames, A: Allocator>(
-    number: &mut Tally<NumberOf<D>>,
-    received: &mut Tally<ReceivedBy<D>>,
+    number: &mut ShardedCounter<NumberOf<D>>,
+    received: &mut ShardedCounter<ReceivedBy<D>>,
     applied: Vec<Applied<D>, A>,
 )
     requires room { (number.old.left + length applied.items ≡ APPLIERS) × (received.old.left + length applied.items ≡ APPLIERS) }
@@ -242,7 +242,7 @@ fn collect_applied<D: DeskNames, A: Allocator>(
     ensures received { received.new ≡ record received.old { left = APPLIERS; returned = all_received applied.items } }
 {
     for one in applied {
-        let (of_number, of_received) = one.into_portions();
+        let (of_number, of_received) = one.into_shards();
         number.collect(of_number);
         received.collect(of_received);
     }

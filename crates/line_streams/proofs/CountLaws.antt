@@ -62,13 +62,13 @@ pub none_parted : Parted [] []
 none_parted = record { whole = refl; some = All-nil (λ (bytes : List ℕ). 0 < length bytes) }
 
 -- one read more
-pub parted_more : (portions : List (List ℕ)) (input bytes : List ℕ) → Parted portions input → 0 < length bytes → Parted (portions ++ bytes ∷ []) (input ++ bytes)
-parted_more portions input bytes h some = record {
-  whole = flat_map-append (λ (l : List ℕ). l) portions (bytes ∷ []) ∙ ap (λ (l : List ℕ). l ++ (bytes ++ [])) h.whole ∙ ap (λ (l : List ℕ). input ++ l) (append-nil bytes);
-  some = All-push (λ (l : List ℕ). 0 < length l) portions bytes h.some some;
+pub parted_more : (chunks : List (List ℕ)) (input bytes : List ℕ) → Parted chunks input → 0 < length bytes → Parted (chunks ++ bytes ∷ []) (input ++ bytes)
+parted_more chunks input bytes h some = record {
+  whole = flat_map-append (λ (l : List ℕ). l) chunks (bytes ∷ []) ∙ ap (λ (l : List ℕ). l ++ (bytes ++ [])) h.whole ∙ ap (λ (l : List ℕ). input ++ l) (append-nil bytes);
+  some = All-push (λ (l : List ℕ). 0 < length l) chunks bytes h.some some;
 }
 
-pub counted_more : (portions : List (List ℕ)) (input bytes : List ℕ)
-    → length (pieces (input ++ bytes)) + still (portions ++ bytes ∷ []) ≡ (length (pieces input) + still portions) + counts_for bytes
-counted_more portions input bytes =
-    omega (arith, lines_both input bytes, sum_by-append (λ l. cond (ends_none l) 1 0) portions (bytes ∷ []))
+pub counted_more : (chunks : List (List ℕ)) (input bytes : List ℕ)
+    → length (pieces (input ++ bytes)) + still (chunks ++ bytes ∷ []) ≡ (length (pieces input) + still chunks) + counts_for bytes
+counted_more chunks input bytes =
+    omega (arith, lines_both input bytes, sum_by-append (λ l. cond (ends_none l) 1 0) chunks (bytes ∷ []))

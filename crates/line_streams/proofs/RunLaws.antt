@@ -10,8 +10,8 @@ use Rattle.line_streams.specs.Waiting.{Waiting, IsEmpty}
 use Rattle.line_streams.specs.Handling.{Answering}
 use Rattle.line_streams.specs.Talk.{last_line, lines_of, Talk, EndsBy, Leaves, BeginsWith, IsEnded}
 use Rattle.line_streams.specs.Going.{Talked, Going, IsNew, Stopped, Closed, Fails, Fed, Ran}
-use Rattle.line_streams.specs.declared.fault.LineFault.{LineFault}
-use Rattle.line_streams.specs.declared.fault.LineFault.TheVariants.{ReadFailed, WriteFailed, OutOfMemory, TooManyLines}
+use Rattle.line_streams.specs.declared.fault.ConversationError.{ConversationError}
+use Rattle.line_streams.specs.declared.fault.ConversationError.TheVariants.{ReadFailed, WriteFailed, OutOfMemory, TooManyLines}
 use Rattle.line_streams.specs.declared.handler.Goes.TheVariants.{On, Ends}
 use Rattle.line_streams.specs.declared.handler.EndedBy.{EndedBy}
 use Rattle.line_streams.specs.declared.handler.EndedBy.TheVariants.{Input, Handler}
@@ -72,9 +72,9 @@ module _ {S : Type 0} (answers : Answering S) (fails : S → S → Type 0) (star
       (sym (append-nil waits.whole) ∙ ap (λ (l : List ℕ). waits.whole ++ l) (sym none.whole)) none.part
 
   -- some of it was, where a write failed
-  pub ran_written : (portions : List (List ℕ)) (input : List ℕ) (state : S) (held now after : Option (List ℕ)) (waits : Waiting) (carry rest : List ℕ) → Going answers start input state held now waits carry
-      → AppendsFront now after waits.whole → Ran answers fails start portions input held after (Err WriteFailed) state rest
-  ran_written portions input state held now after waits carry rest h part = (
+  pub ran_written : (chunks : List (List ℕ)) (input : List ℕ) (state : S) (held now after : Option (List ℕ)) (waits : Waiting) (carry rest : List ℕ) → Going answers start input state held now waits carry
+      → AppendsFront now after waits.whole → Ran answers fails start chunks input held after (Err WriteFailed) state rest
+  ran_written chunks input state held now after waits carry rest h part = (
     drop part.0 waits.whole,
     record {
       lines = pieces input;
@@ -86,9 +86,9 @@ module _ {S : Type 0} (answers : Answering S) (fails : S → S → Type 0) (star
   )
 
   -- a handler that cannot go on
-  pub ran_stopped : (portions : List (List ℕ)) (input : List ℕ) (state : S) (held now : Option (List ℕ)) (waits : Waiting) (carry : List ℕ) → Going answers start input state held now waits carry
-      → Ran answers fails start portions input held now (Err OutOfMemory) state waits.whole
-  ran_stopped portions input state held now waits carry h = record {
+  pub ran_stopped : (chunks : List (List ℕ)) (input : List ℕ) (state : S) (held now : Option (List ℕ)) (waits : Waiting) (carry : List ℕ) → Going answers start input state held now waits carry
+      → Ran answers fails start chunks input held now (Err OutOfMemory) state waits.whole
+  ran_stopped chunks input state held now waits carry h = record {
     lines = pieces input;
     state = state;
     front = (last_line (unfinished input), refl);
@@ -118,37 +118,37 @@ module _ {S : Type 0} (answers : Answering S) (fails : S → S → Type 0) (star
     };
   }
 
-  module _ (portions : List (List ℕ)) (input : List ℕ) (after : S) (held now : Option (List ℕ)) (waits : Waiting) (carry : List ℕ) where
+  module _ (chunks : List (List ℕ)) (input : List ℕ) (after : S) (held now : Option (List ℕ)) (waits : Waiting) (carry : List ℕ) where
     -- a fault while bytes were taken
-    pub ran_err : (fault : LineFault) → Fed answers fails start input held now (Err fault) after waits carry → (fault ≡ TooManyLines → 1000000000 ≤ length (pieces input) + still portions)
-        → Ran answers fails start portions input held now (Err fault) after waits.whole
+    pub ran_err : (fault : ConversationError) → Fed answers fails start input held now (Err fault) after waits carry → (fault ≡ TooManyLines → 1000000000 ≤ length (pieces input) + still chunks)
+        → Ran answers fails start chunks input held now (Err fault) after waits.whole
     ran_err ReadFailed fed many = absurd fed
     ran_err WriteFailed fed many = (fed.0, stopped_more (pieces input) (last_line (unfinished input)) (λ state. after ≡ state) held now fed.0 fed.1)
     ran_err OutOfMemory fed many = stopped_more (pieces input) (last_line (unfinished input)) (Fails fails after) held now waits.whole fed
     ran_err TooManyLines fed many = (stopped_more (pieces input) (last_line (unfinished input)) (λ state. after ≡ state) held now waits.whole fed, omega (arith, many refl, some_counted input))
 
     -- a line ended the conversation
-    pub ran_closed : Fed answers fails start input held now (Ok Ends) after waits carry → Ran answers fails start portions input held now (Ok Handler) after waits.whole
+    pub ran_closed : Fed answers fails start input held now (Ok Ends) after waits carry → Ran answers fails start chunks input held now (Ok Handler) after waits.whole
     ran_closed fed = closed_more (pieces input) (last_line (unfinished input)) after held now waits.whole fed
 
-    pub ran_end : Going answers start input after held now waits carry → unfinished input ≡ [] → length (pieces input) + still portions < 1000000000
-        → Ran answers fails start portions input held now (Ok Input) after waits.whole
+    pub ran_end : Going answers start input after held now waits carry → unfinished input ≡ [] → length (pieces input) + still chunks < 1000000000
+        → Ran answers fails start chunks input held now (Ok Input) after waits.whole
     ran_end h none few =
         (subst (λ (l : List (List ℕ)). Talked answers start l after held now waits.whole) (sym (all_ended input none)) h.talked, omega (arith, few, ap length (all_ended input none)))
 
     -- the line feed that an unfinished line gets
-    pub last_on : 0 < length (unfinished input) → Fed answers fails start (input ++ 10 ∷ []) held now (Ok On) after waits carry → (length (pieces input) + still portions) + 1 < 1000000000
-        → Ran answers fails start portions input held now (Ok Input) after waits.whole
+    pub last_on : 0 < length (unfinished input) → Fed answers fails start (input ++ 10 ∷ []) held now (Ok On) after waits carry → (length (pieces input) + still chunks) + 1 < 1000000000
+        → Ran answers fails start chunks input held now (Ok Input) after waits.whole
     last_on some fed few =
         (subst (λ (l : List (List ℕ)). Talked answers start l after held now waits.whole) (sym (all_lines input some)) fed.talked, omega (arith, few, last_counted input some))
 
     pub last_closed : 0 < length (unfinished input) → Fed answers fails start (input ++ 10 ∷ []) held now (Ok Ends) after waits carry
-        → Ran answers fails start portions input held now (Ok Handler) after waits.whole
+        → Ran answers fails start chunks input held now (Ok Handler) after waits.whole
     last_closed some fed = subst (λ (l : List (List ℕ)). Closed answers start l after held now waits.whole) (sym (all_lines input some)) fed
 
-    pub last_err : (fault : LineFault) → 0 < length (unfinished input) → Fed answers fails start (input ++ 10 ∷ []) held now (Err fault) after waits carry
-        → (fault ≡ TooManyLines → 1000000000 ≤ (length (pieces input) + still portions) + 1)
-        → Ran answers fails start portions input held now (Err fault) after waits.whole
+    pub last_err : (fault : ConversationError) → 0 < length (unfinished input) → Fed answers fails start (input ++ 10 ∷ []) held now (Err fault) after waits carry
+        → (fault ≡ TooManyLines → 1000000000 ≤ (length (pieces input) + still chunks) + 1)
+        → Ran answers fails start chunks input held now (Err fault) after waits.whole
     last_err ReadFailed some fed many = absurd fed
     last_err WriteFailed some fed many = (fed.0, subst (λ (l : List (List ℕ)). Stopped answers start l (λ state. after ≡ state) held now fed.0) (sym (all_lines input some)) fed.1)
     last_err OutOfMemory some fed many = subst (λ (l : List (List ℕ)). Stopped answers start l (Fails fails after) held now waits.whole) (sym (all_lines input some)) fed
@@ -156,21 +156,21 @@ module _ {S : Type 0} (answers : Answering S) (fails : S → S → Type 0) (star
         (subst (λ (l : List (List ℕ)). Stopped answers start l (λ state. after ≡ state) held now waits.whole) (sym (all_lines input some)) fed, omega (arith, many refl, last_counted input some))
 
   -- how a conversation ended
-  abbrev pub EndedAs : (given left held holds : Option (List ℕ)) → Result EndedBy LineFault → S → Type 0
+  abbrev pub EndedAs : (given left held holds : Option (List ℕ)) → Result EndedBy ConversationError → S → Type 0
   EndedAs given left held holds result after = (talk : Talk answers start given left held holds) × EndsBy result talk × Leaves fails result talk after
 
   pub nothing_ran : (given held : Option (List ℕ)) → EndedAs given given held held (Err OutOfMemory) start
   nothing_ran given held = (
-    record { portions = []; input = []; lines = []; replies = []; text = []; state = start; reads = Consumes-nil given; parted = none_parted; answered = (refl, refl); writes = Appends-nil held },
+    record { chunks = []; input = []; lines = []; replies = []; text = []; state = start; reads = Consumes-nil given; parted = none_parted; answered = (refl, refl); writes = Appends-nil held },
     (([], refl), refl),
     inl refl,
   )
 
-  module _ (portions : List (List ℕ)) (input : List ℕ) (given left held now after : Option (List ℕ)) (reads : Consumes given left input) (parted : Parted portions input) (lines : List (List ℕ)) (state : S) (waits : List ℕ) (t : Talked answers start lines state held now waits) where
+  module _ (chunks : List (List ℕ)) (input : List ℕ) (given left held now after : Option (List ℕ)) (reads : Consumes given left input) (parted : Parted chunks input) (lines : List (List ℕ)) (state : S) (waits : List ℕ) (t : Talked answers start lines state held now waits) where
     -- what waited was written
     pub talk_whole : Appends now after waits → Talk answers start given left held after
     talk_whole writes = record {
-      portions = portions;
+      chunks = chunks;
       input = input;
       lines = lines;
       replies = t.replies;
@@ -185,7 +185,7 @@ module _ {S : Type 0} (answers : Answering S) (fails : S → S → Type 0) (star
     -- some of it was
     pub talk_part : (n : ℕ) → Appends now after (take n waits) → Talk answers start given left held after
     talk_part n writes = record {
-      portions = portions;
+      chunks = chunks;
       input = input;
       lines = lines;
       replies = t.replies;
@@ -205,36 +205,36 @@ module _ {S : Type 0} (answers : Answering S) (fails : S → S → Type 0) (star
     unfolding talk_part
     cut_short n writes front end leaves = (talk_part n writes, (front, part_begins n), leaves)
 
-  module _ (portions : List (List ℕ)) (input : List ℕ) (given left held now after : Option (List ℕ)) (reads : Consumes given left input) (parted : Parted portions input) (waits : List ℕ) (end : S) where
+  module _ (chunks : List (List ℕ)) (input : List ℕ) (given left held now after : Option (List ℕ)) (reads : Consumes given left input) (parted : Parted chunks input) (waits : List ℕ) (end : S) where
     -- the last write took all
-    pub ends_whole : (result : Result EndedBy LineFault) → Ran answers fails start portions input held now result end waits → (result ≡ Err WriteFailed → ⊥) → Appends now after waits → EndedAs given left held after result end
+    pub ends_whole : (result : Result EndedBy ConversationError) → Ran answers fails start chunks input held now result end waits → (result ≡ Err WriteFailed → ⊥) → Appends now after waits → EndedAs given left held after result end
     unfolding talk_whole
-    ends_whole (Ok Input) ran other writes = (talk_whole portions input given left held now after reads parted (lines_of input) end waits ran.0 writes, (refl, sym ran.0.rest, ran.1), refl)
-    ends_whole (Ok Handler) ran other writes = (talk_whole portions input given left held now after reads parted ran.lines ran.state waits ran.talked writes, (begins_before (lines_of input) ran.lines ran.ended.line ran.ended.next, sym ran.talked.rest), ran.ended)
-    ends_whole (Err ReadFailed) ran other writes = (talk_whole portions input given left held now after reads parted (pieces input) end waits ran.0 writes, (refl, sym ran.0.rest, ran.1), refl)
+    ends_whole (Ok Input) ran other writes = (talk_whole chunks input given left held now after reads parted (lines_of input) end waits ran.0 writes, (refl, sym ran.0.rest, ran.1), refl)
+    ends_whole (Ok Handler) ran other writes = (talk_whole chunks input given left held now after reads parted ran.lines ran.state waits ran.talked writes, (begins_before (lines_of input) ran.lines ran.ended.line ran.ended.next, sym ran.talked.rest), ran.ended)
+    ends_whole (Err ReadFailed) ran other writes = (talk_whole chunks input given left held now after reads parted (pieces input) end waits ran.0 writes, (refl, sym ran.0.rest, ran.1), refl)
     ends_whole (Err WriteFailed) ran other writes = absurd (other refl)
-    ends_whole (Err OutOfMemory) ran other writes = (talk_whole portions input given left held now after reads parted ran.lines ran.state waits ran.talked writes, (ran.front, sym ran.talked.rest), ran.left)
-    ends_whole (Err TooManyLines) ran other writes = (talk_whole portions input given left held now after reads parted ran.0.lines ran.0.state waits ran.0.talked writes, (ran.0.front, sym ran.0.talked.rest, ran.1), ran.0.left)
+    ends_whole (Err OutOfMemory) ran other writes = (talk_whole chunks input given left held now after reads parted ran.lines ran.state waits ran.talked writes, (ran.front, sym ran.talked.rest), ran.left)
+    ends_whole (Err TooManyLines) ran other writes = (talk_whole chunks input given left held now after reads parted ran.0.lines ran.0.state waits ran.0.talked writes, (ran.0.front, sym ran.0.talked.rest, ran.1), ran.0.left)
 
     -- the last write failed
-    pub ends_cut : (result : Result EndedBy LineFault) (n : ℕ) → Ran answers fails start portions input held now result end waits → (result ≡ Err WriteFailed → ⊥) → Appends now after (take n waits)
+    pub ends_cut : (result : Result EndedBy ConversationError) (n : ℕ) → Ran answers fails start chunks input held now result end waits → (result ≡ Err WriteFailed → ⊥) → Appends now after (take n waits)
         → EndedAs given left held after (Err WriteFailed) end
-    ends_cut (Ok Input) n ran other writes = cut_short portions input given left held now after reads parted (lines_of input) end waits ran.0 n writes ([], sym (append-nil (lines_of input))) end (inl refl)
+    ends_cut (Ok Input) n ran other writes = cut_short chunks input given left held now after reads parted (lines_of input) end waits ran.0 n writes ([], sym (append-nil (lines_of input))) end (inl refl)
     ends_cut (Ok Handler) n ran other writes =
-        cut_short portions input given left held now after reads parted ran.lines ran.state waits ran.talked n writes (begins_before (lines_of input) ran.lines ran.ended.line ran.ended.next) end (inr (inr ran.ended))
-    ends_cut (Err ReadFailed) n ran other writes = cut_short portions input given left held now after reads parted (pieces input) end waits ran.0 n writes (last_line (unfinished input), refl) end (inl refl)
+        cut_short chunks input given left held now after reads parted ran.lines ran.state waits ran.talked n writes (begins_before (lines_of input) ran.lines ran.ended.line ran.ended.next) end (inr (inr ran.ended))
+    ends_cut (Err ReadFailed) n ran other writes = cut_short chunks input given left held now after reads parted (pieces input) end waits ran.0 n writes (last_line (unfinished input), refl) end (inl refl)
     ends_cut (Err WriteFailed) n ran other writes = absurd (other refl)
     ends_cut (Err OutOfMemory) n ran other writes =
-        cut_short portions input given left held now after reads parted ran.lines ran.state waits ran.talked n writes ran.front end (elim ran.left [ inl same ↦ inl same | inr failed ↦ inr (inl failed) ])
-    ends_cut (Err TooManyLines) n ran other writes = cut_short portions input given left held now after reads parted ran.0.lines ran.0.state waits ran.0.talked n writes ran.0.front end (inl ran.0.left)
+        cut_short chunks input given left held now after reads parted ran.lines ran.state waits ran.talked n writes ran.front end (elim ran.left [ inl same ↦ inl same | inr failed ↦ inr (inl failed) ])
+    ends_cut (Err TooManyLines) n ran other writes = cut_short chunks input given left held now after reads parted ran.0.lines ran.0.state waits ran.0.talked n writes ran.0.front end (inl ran.0.left)
 
   -- an earlier write failed
-  pub ends_failed : (portions : List (List ℕ)) (input : List ℕ) (given left held now : Option (List ℕ)) → Consumes given left input → Parted portions input → (waits : List ℕ) (end : S) (result : Result EndedBy LineFault)
-      → result ≡ Err WriteFailed → Ran answers fails start portions input held now result end waits → EndedAs given left held now result end
-  ends_failed portions input given left held now reads parted waits end (Ok Input) e ran = absurd cc
-  ends_failed portions input given left held now reads parted waits end (Ok Handler) e ran = absurd cc
-  ends_failed portions input given left held now reads parted waits end (Err ReadFailed) e ran = absurd cc
-  ends_failed portions input given left held now reads parted waits end (Err WriteFailed) e ran =
-      cut_short portions input given left held now now reads parted ran.1.lines ran.1.state ran.0 ran.1.talked 0 (Appends-nil now) ran.1.front end (inl ran.1.left)
-  ends_failed portions input given left held now reads parted waits end (Err OutOfMemory) e ran = absurd cc
-  ends_failed portions input given left held now reads parted waits end (Err TooManyLines) e ran = absurd cc
+  pub ends_failed : (chunks : List (List ℕ)) (input : List ℕ) (given left held now : Option (List ℕ)) → Consumes given left input → Parted chunks input → (waits : List ℕ) (end : S) (result : Result EndedBy ConversationError)
+      → result ≡ Err WriteFailed → Ran answers fails start chunks input held now result end waits → EndedAs given left held now result end
+  ends_failed chunks input given left held now reads parted waits end (Ok Input) e ran = absurd cc
+  ends_failed chunks input given left held now reads parted waits end (Ok Handler) e ran = absurd cc
+  ends_failed chunks input given left held now reads parted waits end (Err ReadFailed) e ran = absurd cc
+  ends_failed chunks input given left held now reads parted waits end (Err WriteFailed) e ran =
+      cut_short chunks input given left held now now reads parted ran.1.lines ran.1.state ran.0 ran.1.talked 0 (Appends-nil now) ran.1.front end (inl ran.1.left)
+  ends_failed chunks input given left held now reads parted waits end (Err OutOfMemory) e ran = absurd cc
+  ends_failed chunks input given left held now reads parted waits end (Err TooManyLines) e ran = absurd cc

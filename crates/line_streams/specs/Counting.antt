@@ -8,12 +8,12 @@ ends_none bytes = length (pieces bytes) == 0
 
 -- how many of these reads end no line
 abbrev pub still : List (List ℕ) → ℕ
-still portions = count_by ends_none portions
+still chunks = count_by ends_none chunks
 
 -- so much each read gave, and each gave something
-pub record Parted (portions : List (List ℕ)) (input : List ℕ) : Type 0 where
-  pub whole : flat_map (λ bytes. bytes) portions ≡ input
-  pub some : All (λ bytes. 0 < length bytes) portions
+pub record Parted (chunks : List (List ℕ)) (input : List ℕ) : Type 0 where
+  pub whole : flat_map (λ bytes. bytes) chunks ≡ input
+  pub some : All (λ bytes. 0 < length bytes) chunks
 
 -- what a read counts for: each line that ends in it, and 1 where none does
 abbrev pub counts_for : List ℕ → ℕ

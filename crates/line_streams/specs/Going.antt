@@ -8,8 +8,8 @@ use Rattle.line_streams.specs.Counting.{still}
 use Rattle.line_streams.specs.Waiting.{Waiting, IsEmpty}
 use Rattle.line_streams.specs.Handling.{Answering, LinesGet}
 use Rattle.line_streams.specs.Talk.{BeginsWith, IsEnded, lines_of}
-use Rattle.line_streams.specs.declared.fault.LineFault.{LineFault}
-use Rattle.line_streams.specs.declared.fault.LineFault.TheVariants.{ReadFailed, WriteFailed, OutOfMemory, TooManyLines}
+use Rattle.line_streams.specs.declared.fault.ConversationError.{ConversationError}
+use Rattle.line_streams.specs.declared.fault.ConversationError.TheVariants.{ReadFailed, WriteFailed, OutOfMemory, TooManyLines}
 use Rattle.line_streams.specs.declared.handler.Goes.{Goes}
 use Rattle.line_streams.specs.declared.handler.Goes.TheVariants.{On, Ends}
 use Rattle.line_streams.specs.declared.handler.EndedBy.{EndedBy}
@@ -53,7 +53,7 @@ pub record Closed {S : Type 0} (answers : Answering S) (start : S) (all : List (
   pub ended : IsEnded answers all lines state after
 
 -- what taking the last bytes of this input came to; after a failed write nothing is said of what waits
-abbrev pub Fed : {S : Type 0} → Answering S → (S → S → Type 0) → S → List ℕ → Option (List ℕ) → Option (List ℕ) → Result Goes LineFault → S → Waiting → List ℕ → Type 0
+abbrev pub Fed : {S : Type 0} → Answering S → (S → S → Type 0) → S → List ℕ → Option (List ℕ) → Option (List ℕ) → Result Goes ConversationError → S → Waiting → List ℕ → Type 0
 Fed answers fails start input held now (Ok On) after waits carry = Going answers start input after held now waits carry
 Fed answers fails start input held now (Ok Ends) after waits carry = Closed answers start (pieces input) after held now waits.whole
 Fed answers fails start input held now (Err ReadFailed) after waits carry = ⊥
@@ -62,14 +62,14 @@ Fed answers fails start input held now (Err OutOfMemory) after waits carry = Sto
 Fed answers fails start input held now (Err TooManyLines) after waits carry = Stopped answers start (pieces input) (λ state. after ≡ state) held now waits.whole
 
 -- what these reads, which gave this input, came to, but for the last write
-abbrev pub Ran : {S : Type 0} → Answering S → (S → S → Type 0) → S → List (List ℕ) → List ℕ → Option (List ℕ) → Option (List ℕ) → Result EndedBy LineFault → S → List ℕ → Type 0
-Ran answers fails start portions input held now (Ok Input) after waits =
-    Talked answers start (lines_of input) after held now waits × (length (lines_of input) + still portions < LINE_LIMIT)
-Ran answers fails start portions input held now (Ok Handler) after waits = Closed answers start (lines_of input) after held now waits
-Ran answers fails start portions input held now (Err ReadFailed) after waits =
-    Talked answers start (pieces input) after held now waits × (length (pieces input) + still portions < LINE_LIMIT)
-Ran answers fails start portions input held now (Err WriteFailed) after waits =
+abbrev pub Ran : {S : Type 0} → Answering S → (S → S → Type 0) → S → List (List ℕ) → List ℕ → Option (List ℕ) → Option (List ℕ) → Result EndedBy ConversationError → S → List ℕ → Type 0
+Ran answers fails start chunks input held now (Ok Input) after waits =
+    Talked answers start (lines_of input) after held now waits × (length (lines_of input) + still chunks < LINE_LIMIT)
+Ran answers fails start chunks input held now (Ok Handler) after waits = Closed answers start (lines_of input) after held now waits
+Ran answers fails start chunks input held now (Err ReadFailed) after waits =
+    Talked answers start (pieces input) after held now waits × (length (pieces input) + still chunks < LINE_LIMIT)
+Ran answers fails start chunks input held now (Err WriteFailed) after waits =
     (rest : List ℕ) × Stopped answers start (lines_of input) (λ state. after ≡ state) held now rest
-Ran answers fails start portions input held now (Err OutOfMemory) after waits = Stopped answers start (lines_of input) (Fails fails after) held now waits
-Ran answers fails start portions input held now (Err TooManyLines) after waits =
-    Stopped answers start (lines_of input) (λ state. after ≡ state) held now waits × (LINE_LIMIT ≤ length (lines_of input) + still portions)
+Ran answers fails start chunks input held now (Err OutOfMemory) after waits = Stopped answers start (lines_of input) (Fails fails after) held now waits
+Ran answers fails start chunks input held now (Err TooManyLines) after waits =
+    Stopped answers start (lines_of input) (λ state. after ≡ state) held now waits × (LINE_LIMIT ≤ length (lines_of input) + still chunks)

@@ -5,8 +5,8 @@ use Rattle.entry_codec.specs.Pieces.{pieces, unfinished}
 use Rattle.line_streams.specs.declared.limit.TheConstants.{LINE_LIMIT}
 use Rattle.line_streams.specs.Counting.{Parted, still}
 use Rattle.line_streams.specs.Handling.{Answering, LinesGet}
-use Rattle.line_streams.specs.declared.fault.LineFault.{LineFault}
-use Rattle.line_streams.specs.declared.fault.LineFault.TheVariants.{ReadFailed, WriteFailed, OutOfMemory, TooManyLines}
+use Rattle.line_streams.specs.declared.fault.ConversationError.{ConversationError}
+use Rattle.line_streams.specs.declared.fault.ConversationError.TheVariants.{ReadFailed, WriteFailed, OutOfMemory, TooManyLines}
 use Rattle.line_streams.specs.declared.handler.EndedBy.{EndedBy}
 use Rattle.line_streams.specs.declared.handler.EndedBy.TheVariants.{Input, Handler}
 
@@ -25,30 +25,30 @@ BeginsWith {X} xs front = (rest : List X) × (xs ≡ front ++ rest)
 
 -- the reader gave some input, some lines were replied to from the start on, and the writer took some text
 pub record Talk {S : Type 0} (answers : Answering S) (start : S) (given left held holds : Option (List ℕ)) : Type 0 where
-  pub portions : List (List ℕ)
+  pub chunks : List (List ℕ)
   pub input : List ℕ
   pub lines : List (List ℕ)
   pub replies : List ℕ
   pub text : List ℕ
   pub state : S
   pub reads : Consumes given left input
-  pub parted : Parted portions input
+  pub parted : Parted chunks input
   pub answered : LinesGet answers start lines replies state
   pub writes : Appends held holds text
 
 -- which lines were replied to, and how much of their replies was written. Lines, and reads that end none, are counted,
 -- and at `LINE_LIMIT` the conversation is given up
 abbrev pub EndsBy : {S : Type 0} → {answers : Answering S} → {start : S} → {given left held holds : Option (List ℕ)}
-    → Result EndedBy LineFault → Talk answers start given left held holds → Type 0
+    → Result EndedBy ConversationError → Talk answers start given left held holds → Type 0
 EndsBy (Ok Input) talk =
-    (talk.lines ≡ lines_of talk.input) × (talk.text ≡ talk.replies) × (length talk.lines + still talk.portions < LINE_LIMIT)
+    (talk.lines ≡ lines_of talk.input) × (talk.text ≡ talk.replies) × (length talk.lines + still talk.chunks < LINE_LIMIT)
 EndsBy (Ok Handler) talk = BeginsWith (lines_of talk.input) talk.lines × (talk.text ≡ talk.replies)
 EndsBy (Err ReadFailed) talk =
-    (talk.lines ≡ pieces talk.input) × (talk.text ≡ talk.replies) × (length talk.lines + still talk.portions < LINE_LIMIT)
+    (talk.lines ≡ pieces talk.input) × (talk.text ≡ talk.replies) × (length talk.lines + still talk.chunks < LINE_LIMIT)
 EndsBy (Err WriteFailed) talk = BeginsWith (lines_of talk.input) talk.lines × BeginsWith talk.replies talk.text
 EndsBy (Err OutOfMemory) talk = BeginsWith (lines_of talk.input) talk.lines × (talk.text ≡ talk.replies)
 EndsBy (Err TooManyLines) talk =
-    BeginsWith (lines_of talk.input) talk.lines × (talk.text ≡ talk.replies) × (LINE_LIMIT ≤ length (lines_of talk.input) + still talk.portions)
+    BeginsWith (lines_of talk.input) talk.lines × (talk.text ≡ talk.replies) × (LINE_LIMIT ≤ length (lines_of talk.input) + still talk.chunks)
 
 -- the line behind those that were replied to ended the conversation
 pub record IsEnded {S : Type 0} (answers : Answering S) (all lines : List (List ℕ)) (state after : S) : Type 0 where
@@ -58,7 +58,7 @@ pub record IsEnded {S : Type 0} (answers : Answering S) (all lines : List (List 
 
 -- how the handler is left: as after the last reply, unless a line ended the conversation, or it found no memory
 abbrev pub Leaves : {S : Type 0} → {answers : Answering S} → {start : S} → {given left held holds : Option (List ℕ)}
-    → (S → S → Type 0) → Result EndedBy LineFault → Talk answers start given left held holds → S → Type 0
+    → (S → S → Type 0) → Result EndedBy ConversationError → Talk answers start given left held holds → S → Type 0
 Leaves fails (Ok Input) talk after = after ≡ talk.state
 Leaves {answers = answers} fails (Ok Handler) talk after = IsEnded answers (lines_of talk.input) talk.lines talk.state after
 Leaves fails (Err ReadFailed) talk after = after ≡ talk.state

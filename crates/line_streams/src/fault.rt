@@ -1,14 +1,14 @@
 //! Why a conversation is given up.
 ghost use Rattle.std.specs.Prelude.{◌≡◌};
-ghost use Rattle.line_streams.specs.declared.fault.LineFault.TheVariants.{ReadFailed, WriteFailed, OutOfMemory as NoMemory};
+ghost use Rattle.line_streams.specs.declared.fault.ConversationError.TheVariants.{ReadFailed, WriteFailed, OutOfMemory as NoMemory};
 
-use crate::read::ReadFault;
-use crate::write::WriteFault;
+use crate::read::InputError;
+use crate::write::OutputError;
 use rights_types::OutOfMemory;
 
 /// Why a conversation ended before its input.
 #[derive(Clone, Copy, Debug, PartialEq, Eq)]
-pub enum LineFault {
+pub enum ConversationError {
     /// A read failed.
     ReadFailed,
     /// A write failed, or took no byte.
@@ -19,26 +19,26 @@ pub enum LineFault {
     TooManyLines,
 }
 
-impl From<OutOfMemory> for LineFault {
+impl From<OutOfMemory> for ConversationError {
     ghost from_gives = { λ _ e. e ≡ NoMemory };
 
-    fn from(_error: OutOfMemory) -> LineFault {
-        LineFault::OutOfMemory
+    fn from(_error: OutOfMemory) -> ConversationError {
+        ConversationError::OutOfMemory
     }
 }
 
-impl From<ReadFault> for LineFault {
+impl From<InputError> for ConversationError {
     ghost from_gives = { λ _ e. e ≡ ReadFailed };
 
-    fn from(_error: ReadFault) -> LineFault {
-        LineFault::ReadFailed
+    fn from(_error: InputError) -> ConversationError {
+        ConversationError::ReadFailed
     }
 }
 
-impl From<WriteFault> for LineFault {
+impl From<OutputError> for ConversationError {
     ghost from_gives = { λ _ e. e ≡ WriteFailed };
 
-    fn from(_error: WriteFault) -> LineFault {
-        LineFault::WriteFailed
+    fn from(_error: OutputError) -> ConversationError {
+        ConversationError::WriteFailed
     }
 }

@@ -12,15 +12,15 @@ mod replies;
 mod words;
 mod write;
 
-pub use fault::LineFault;
+pub use fault::ConversationError;
 pub use handler::{EndedBy, Goes, LineHandler};
 pub use limit::LINE_LIMIT;
 pub use lines::answer_lines;
 pub use put::MAX_DIGITS;
-pub use read::{ReadFault, read_some};
+pub use read::{InputError, read_some};
 pub use replies::{BLOCK, Replies};
 pub use words::{
     alone, first_number, first_site, named, only_in, only_number, only_site, optional_site,
     site_and_number, split_word,
 };
-pub use write::{WriteFault, write_some, write_whole};
+pub use write::{OutputError, write_some, write_whole};

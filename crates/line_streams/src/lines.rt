@@ -10,7 +10,7 @@ ghost use Rattle.line_streams.specs.Going.{IsNew, Going, Fails, Fed, Ran};
 ghost use Rattle.std.specs.Io.{ReadsAtMost};
 ghost use Rattle.std.specs.Io.KnownBytes.{ReadConsumes};
 
-use crate::fault::LineFault;
+use crate::fault::ConversationError;
 use crate::handler::{EndedBy, Goes, LineHandler};
 use crate::limit::LINE_LIMIT;
 use crate::read::read_some;
@@ -92,14 +92,14 @@ impl<A: Allocator> Conversation<A> {
         handler: &mut H,
         writer: &mut W,
         bytes: &[u8],
-    ) -> Result<Goes, LineFault>
+    ) -> Result<Goes, ConversationError>
         requires written { IsEmpty self.old.replies }
         requires short { length self.old.carry.items ≤ MAX_LINE }
         requires few { self.old.count < LINE_LIMIT }
         ensures short { OnOk result (length self.new.carry.items ≤ MAX_LINE) }
         ensures few { OnOk result (self.new.count < LINE_LIMIT) }
         ensures counts { result ≡ Ok Goes.On → 0 < length bytes.now → self.new.count ≡ self.old.count + counts_for bytes.now }
-        ensures many { IsErrOf result LineFault.TooManyLines → LINE_LIMIT ≤ self.old.count + counts_for bytes.now }
+        ensures many { IsErrOf result ConversationError.TooManyLines → LINE_LIMIT ≤ self.old.count + counts_for bytes.now }
         ensures fed { (start : H) (input : List ℕ) (held : Option (List ℕ))
             → Going H.answers start input handler.old held (W.contents writer.old) self.old.replies self.old.carry.items
             → Fed H.answers H.fails start (input ++ bytes.now) held (W.contents writer.new) result handler.new self.new.replies self.new.carry.items }
@@ -112,7 +112,7 @@ impl<A: Allocator> Conversation<A> {
             at += length + 1;
             self.count += 1;
             if self.count == LINE_LIMIT {
-                return Err(LineFault::TooManyLines);
+                return Err(ConversationError::TooManyLines);
             }
             self.replies.pass_on(writer)?;
         }
@@ -120,18 +120,18 @@ impl<A: Allocator> Conversation<A> {
         if at == 0 && !bytes.is_empty() {
             self.count += 1;
             if self.count == LINE_LIMIT {
-                return Err(LineFault::TooManyLines);
+                return Err(ConversationError::TooManyLines);
             }
         }
         Ok(Goes::On)
     }
 
     /// Reads once. The read may wait, so no reply does.
-    fn read<R: Read>(&self, reader: &mut R, buffer: &mut [u8]) -> Result<usize, LineFault>
+    fn read<R: Read>(&self, reader: &mut R, buffer: &mut [u8]) -> Result<usize, ConversationError>
         requires written { IsEmpty self.now.replies }
         ensures bound { ReadsAtMost result buffer.new }
         ensures bytes { ReadConsumes (R.remaining reader.old) (R.remaining reader.new) result buffer.new }
-        ensures failed { IfErr result (λ fault. fault ≡ LineFault.ReadFailed) }
+        ensures failed { IfErr result (λ fault. fault ≡ ConversationError.ReadFailed) }
     {
         Ok(read_some(reader, buffer)?)
     }
@@ -143,16 +143,16 @@ impl<A: Allocator> Conversation<A> {
         reader: &mut R,
         writer: &mut W,
         buffer: &mut [u8],
-    ) -> Result<EndedBy, LineFault>
+    ) -> Result<EndedBy, ConversationError>
         requires room { 0 < length buffer.old }
         requires fresh { IsNew self.old.replies self.old.carry.items self.old.count }
-        ensures ran { (portions : List (List ℕ)) × (input : List ℕ) × Consumes (R.remaining reader.old) (R.remaining reader.new) input
-            × Parted portions input × Ran H.answers H.fails handler.old portions input (W.contents writer.old) (W.contents writer.new) result handler.new self.new.replies.whole }
+        ensures ran { (chunks : List (List ℕ)) × (input : List ℕ) × Consumes (R.remaining reader.old) (R.remaining reader.new) input
+            × Parted chunks input × Ran H.answers H.fails handler.old chunks input (W.contents writer.old) (W.contents writer.new) result handler.new self.new.replies.whole }
         ensures all { result ≡ Ok EndedBy.Input → IsAtEnd (R.remaining reader.new) }
     {
         'reads: loop {
             if !handler.can_go_on() {
-                return Err(LineFault::OutOfMemory);
+                return Err(ConversationError::OutOfMemory);
             }
             let length = self.read(reader, buffer)?;
             if length == 0 {
@@ -171,14 +171,14 @@ impl<A: Allocator> Conversation<A> {
         &mut self,
         handler: &mut H,
         writer: &mut W,
-    ) -> Result<EndedBy, LineFault>
+    ) -> Result<EndedBy, ConversationError>
         requires written { IsEmpty self.old.replies }
         requires short { length self.old.carry.items ≤ MAX_LINE }
         requires few { self.old.count < LINE_LIMIT }
-        ensures { (start : H) (portions : List (List ℕ)) (input : List ℕ) (held : Option (List ℕ))
-            → self.old.count ≡ length (pieces input) + still portions
+        ensures { (start : H) (chunks : List (List ℕ)) (input : List ℕ) (held : Option (List ℕ))
+            → self.old.count ≡ length (pieces input) + still chunks
             → Going H.answers start input handler.old held (W.contents writer.old) self.old.replies self.old.carry.items
-            → Ran H.answers H.fails start portions input held (W.contents writer.new) result handler.new self.new.replies.whole }
+            → Ran H.answers H.fails start chunks input held (W.contents writer.new) result handler.new self.new.replies.whole }
     {
         if self.carry.is_empty() {
             return Ok(EndedBy::Input);
@@ -196,7 +196,7 @@ impl<A: Allocator> Conversation<A> {
         reader: &mut R,
         writer: &mut W,
         buffer: &mut [u8],
-    ) -> Result<EndedBy, LineFault>
+    ) -> Result<EndedBy, ConversationError>
         requires fresh { IsNew self.old.replies self.old.carry.items self.old.count }
         requires room { 0 < length buffer.old }
         ensures ends { (talk : Talk H.answers handler.old (R.remaining reader.old) (R.remaining reader.new) (W.contents writer.old) (W.contents writer.new))
@@ -219,11 +219,11 @@ fn read_room<A: Allocator>(alloc: A) -> Result<Vec<u8, A>, OutOfMemory>
     Ok(vec![in alloc; 0; READ_SIZE]?)
 }
 
-fn is_write_failure(ended: Result<EndedBy, LineFault>) -> bool
-    ensures { IsTrue result ↔ IsErrOf ended LineFault.WriteFailed }
+fn is_write_failure(ended: Result<EndedBy, ConversationError>) -> bool
+    ensures { IsTrue result ↔ IsErrOf ended ConversationError.WriteFailed }
 {
     match ended {
-        Err(LineFault::WriteFailed) => true,
+        Err(ConversationError::WriteFailed) => true,
         _ => false,
     }
 }
@@ -245,7 +245,7 @@ pub fn answer_lines<A: Allocator + Copy, H: LineHandler, R: Read, W: Write>(
     handler: &mut H,
     reader: &mut R,
     writer: &mut W,
-) -> Result<EndedBy, LineFault>
+) -> Result<EndedBy, ConversationError>
     ensures ends { (talk : Talk H.answers handler.old (R.remaining reader.old) (R.remaining reader.new) (W.contents writer.old) (W.contents writer.new))
         × EndsBy result talk × Leaves H.fails result talk handler.new }
     ensures all { result ≡ Ok EndedBy.Input → IsAtEnd (R.remaining reader.new) }

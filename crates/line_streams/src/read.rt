@@ -8,10 +8,10 @@ use std::io::{ErrorKind, Read};
 
 /// A read failed.
 #[derive(Clone, Copy, Debug, PartialEq, Eq)]
-pub struct ReadFault;
+pub struct InputError;
 
 /// Reads once, again where it was interrupted. 0 bytes are the end, where there is room for any.
-pub fn read_some<R: Read>(reader: &mut R, room: &mut [u8]) -> Result<usize, ReadFault>
+pub fn read_some<R: Read>(reader: &mut R, room: &mut [u8]) -> Result<usize, InputError>
     ensures same { length room.new ≡ length room.old }
     ensures bound { ReadsAtMost result room.new }
     ensures bytes { ReadConsumes (R.remaining reader.old) (R.remaining reader.new) result room.new }
@@ -21,12 +21,12 @@ pub fn read_some<R: Read>(reader: &mut R, room: &mut [u8]) -> Result<usize, Read
             Ok(length) => return Ok(length),
             Err(error) => {
                 if !is_interrupted(&error) {
-                    return Err(ReadFault);
+                    return Err(InputError);
                 }
             }
         }
     }
-    Err(ReadFault)
+    Err(InputError)
 }
 
 /// Whether a read or a write was interrupted, and is to be tried again.

@@ -5,7 +5,7 @@ ghost use Rattle.line_streams.specs.Fronts.{AppendsFront};
 ghost use Rattle.line_streams.specs.Waiting.{IsEmpty, AddsReply};
 
 use crate::put::{MAX_DIGITS, make_room, put_field, put_text};
-use crate::write::{WriteFault, write_whole};
+use crate::write::{OutputError, write_whole};
 use rights_types::OutOfMemory;
 use std::alloc::Allocator;
 use std::io::Write;
@@ -117,7 +117,7 @@ impl<A: Allocator> Replies<A> {
 
     /// Writes the whole replies, and drops all. After an `Err` the writer has taken a front of
     /// them.
-    pub fn write_to<W: Write>(&mut self, writer: &mut W) -> Result<(), WriteFault>
+    pub fn write_to<W: Write>(&mut self, writer: &mut W) -> Result<(), OutputError>
         ensures whole { OnOk result (Appends (W.contents writer.old) (W.contents writer.new) self.old.whole) }
         ensures empty { OnOk result (IsEmpty self.new) }
         ensures front { OnErr result (AppendsFront (W.contents writer.old) (W.contents writer.new) self.old.whole) }
@@ -130,7 +130,7 @@ impl<A: Allocator> Replies<A> {
 
     /// Writes the whole replies once they are a block. After an `Err` the writer has taken a front
     /// of them.
-    pub fn pass_on<W: Write>(&mut self, writer: &mut W) -> Result<(), WriteFault>
+    pub fn pass_on<W: Write>(&mut self, writer: &mut W) -> Result<(), OutputError>
         requires { self.old.part ≡ [] }
         ensures whole { OnOk result ((text : List ℕ) × Appends (W.contents writer.old) (W.contents writer.new) text
             × (self.old.whole ≡ text ++ self.new.whole)) }

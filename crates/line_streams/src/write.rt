@@ -8,7 +8,7 @@ use std::io::Write;
 
 /// A write failed, or took no byte.
 #[derive(Clone, Copy, Debug, PartialEq, Eq)]
-pub struct WriteFault;
+pub struct OutputError;
 
 /// Writes once, again where it was interrupted, and answers how many bytes were taken: 0 where it failed.
 pub fn write_some<W: Write>(writer: &mut W, text: &[u8]) -> usize
@@ -29,7 +29,7 @@ pub fn write_some<W: Write>(writer: &mut W, text: &[u8]) -> usize
 }
 
 /// Writes the text, in as many writes as it takes. Where that fails, a front of it is written.
-pub fn write_whole<W: Write>(writer: &mut W, text: &[u8]) -> Result<(), WriteFault>
+pub fn write_whole<W: Write>(writer: &mut W, text: &[u8]) -> Result<(), OutputError>
     ensures whole { OnOk result (Appends (W.contents writer.old) (W.contents writer.new) text.now) }
     ensures front { AppendsFront (W.contents writer.old) (W.contents writer.new) text.now }
 {
@@ -37,7 +37,7 @@ pub fn write_whole<W: Write>(writer: &mut W, text: &[u8]) -> Result<(), WriteFau
     while done < text.len() {
         let count = write_some(writer, &text[done..]);
         if count == 0 {
-            return Err(WriteFault);
+            return Err(OutputError);
         }
         done += count;
     }

@@ -20,7 +20,7 @@ use Rattle.entry_codec.specs.declared.fault.LineError.{LineError}
 use Rattle.entry_codec.specs.declared.fault.LineError.TheVariants.{TooLong, NoEnd, BadKind, BadField, BadMove, CountWrong, TrailingBytes, OutOfMemory}
 use Rattle.entry_codec.proofs.Lines.{is_line, reading_again}
 use Rattle.entry_codec.proofs.Pieces.{no_piece, one_piece}
-use Rattle.peer_links.specs.Links.{IsFedAll, IsOpen, Greets}
+use Rattle.peer_links.specs.Links.{IsFedAll, IsOpen, ReadsHello}
 use Rattle.peer_links.specs.declared.link.LinkFault.{LinkFault}
 use Rattle.peer_links.specs.declared.link.LinkFault.TheVariants.{ReadFailed, WriteFailed, TooManyLines, NoHello, LaneClosed, OutOfMemory as NoMemory}
 use Rattle.peer_links.proofs.LineLaws.{not_finished, fed_kept, one_waits}
@@ -80,13 +80,13 @@ pub line_waits : (mid : CutterView) (text : List ℕ) → IsLine text → IsFed 
 line_waits mid text line fed unended = one_waits mid [] line.0 text (λ k low. line.2 k 0 low) line.1 fed unended
 
 -- what is answered where the line was not read to its end
-pub greets_err : (text : List ℕ) (fault : LinkFault) → IsOpen text → (fault ≡ NoHello) ⊎ (fault ≡ ReadFailed) → Greets text (Err fault)
-greets_err text NoHello all why = open_no_hello text all
-greets_err text ReadFailed all why = all
-greets_err text NoMemory all why = elim why [ inl e ↦ absurd cc | inr e ↦ absurd cc ]
-greets_err text WriteFailed all why = elim why [ inl e ↦ absurd cc | inr e ↦ absurd cc ]
-greets_err text TooManyLines all why = elim why [ inl e ↦ absurd cc | inr e ↦ absurd cc ]
-greets_err text LaneClosed all why = elim why [ inl e ↦ absurd cc | inr e ↦ absurd cc ]
+pub reads_hello_err : (text : List ℕ) (fault : LinkFault) → IsOpen text → (fault ≡ NoHello) ⊎ (fault ≡ ReadFailed) → ReadsHello text (Err fault)
+reads_hello_err text NoHello all why = open_no_hello text all
+reads_hello_err text ReadFailed all why = all
+reads_hello_err text NoMemory all why = elim why [ inl e ↦ absurd cc | inr e ↦ absurd cc ]
+reads_hello_err text WriteFailed all why = elim why [ inl e ↦ absurd cc | inr e ↦ absurd cc ]
+reads_hello_err text TooManyLines all why = elim why [ inl e ↦ absurd cc | inr e ↦ absurd cc ]
+reads_hello_err text LaneClosed all why = elim why [ inl e ↦ absurd cc | inr e ↦ absurd cc ]
 
 abbrev has_entries_in : Result MessageValue LineError → Bool
 has_entries_in (Ok m) = has_entries m

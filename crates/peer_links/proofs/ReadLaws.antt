@@ -21,28 +21,28 @@ use Rattle.peer_links.specs.declared.link.LinkFault.TheVariants.{ReadFailed, Wri
 use Rattle.line_streams.specs.declared.limit.TheConstants.{LINE_LIMIT}
 
 pub gave_none : (a : Option (List ℕ)) → (gave : LinkGave a a) × (0 ≡ counted gave) × (gave.input ≡ [])
-gave_none a = (record { portions = []; input = []; reads = Consumes-nil a; parted = none_parted }, refl, refl)
+gave_none a = (record { chunks = []; input = []; reads = Consumes-nil a; parted = none_parted }, refl, refl)
 
 -- one read more
 pub gave_more : (a b c : Option (List ℕ)) (gave : LinkGave a b) (old : ℕ) → old ≡ counted gave → (bytes : List ℕ) → 0 < length bytes → Consumes b c bytes
-    → (new : LinkGave a c) × (counted new ≡ old + counts_for bytes) × (new.input ≡ gave.input ++ bytes) × (still new.portions ≡ still gave.portions + still (bytes ∷ []))
+    → (new : LinkGave a c) × (counted new ≡ old + counts_for bytes) × (new.input ≡ gave.input ++ bytes) × (still new.chunks ≡ still gave.chunks + still (bytes ∷ []))
 gave_more a b c gave old count bytes some read = (
   record {
-    portions = gave.portions ++ bytes ∷ [];
+    chunks = gave.chunks ++ bytes ∷ [];
     input = gave.input ++ bytes;
     reads = Consumes-trans a b c gave.input bytes gave.reads read;
-    parted = parted_more gave.portions gave.input bytes gave.parted some;
+    parted = parted_more gave.chunks gave.input bytes gave.parted some;
   },
-  omega (arith, count, counted_more gave.portions gave.input bytes),
+  omega (arith, count, counted_more gave.chunks gave.input bytes),
   refl,
-  omega (arith, counted_more gave.portions gave.input bytes, lines_both gave.input bytes),
+  omega (arith, counted_more gave.chunks gave.input bytes, lines_both gave.input bytes),
 )
 
 -- nothing more
 pub gave_same : (a b c : Option (List ℕ)) (gave : LinkGave a b) → Consumes b c [] → (new : LinkGave a c) × (counted new ≡ counted gave) × (new.input ≡ gave.input)
 gave_same a b c gave read = (
   record {
-    portions = gave.portions;
+    chunks = gave.chunks;
     input = gave.input;
     reads = subst (Consumes a c) (append-nil gave.input) (Consumes-trans a b c gave.input [] gave.reads read);
     parted = gave.parted;

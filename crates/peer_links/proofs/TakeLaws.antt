@@ -24,7 +24,7 @@ use Rattle.sub_buffer.specs.Gaps.{GapOf, StateOf}
 use Rattle.sub_buffer.specs.declared.buffer.State.{State}
 use Rattle.peer_links.specs.Lines.{IsPiece, IsGivenFor}
 use Rattle.peer_links.specs.declared.lines.Piece.{Piece}
-use Rattle.peer_links.specs.declared.lines.Piece.TheVariants.{Lent, Kept, Long}
+use Rattle.peer_links.specs.declared.lines.Piece.TheVariants.{Borrowed, Owned, Long}
 use Rattle.peer_links.specs.Ports.Heard.{AMessage, ALine, AState}
 use Rattle.peer_links.specs.Takes.{HearsMessage, HearsQuery, as_fault, AsksGap, HandsOver, TakesLine, TakesOrSkips, pieces_behind, TakesPiece, Takes, Breaks, Stops, TakesTo}
 use Rattle.peer_links.specs.declared.link.LinkFault.{LinkFault}
@@ -109,11 +109,11 @@ module _ {A S : Type 0} (hears : S → Heard → S → Type 0) (old : S) where
         turns_both hears old mid new h.0 (last ∷ []) h.2 (turn_one hears mid last new k),
       )
 
-pub is_lent : {X : Type 0} (piece : Piece X) (line : Bor (List ℕ)) (text : List ℕ) → piece ≡ Lent line → IsPiece piece text → (line.now ≡ text) × (length text ≤ MAX_LINE)
-is_lent {X} piece line text is h = subst (λ (p : Piece X). IsPiece p text) is h
+pub is_borrowed : {X : Type 0} (piece : Piece X) (line : Bor (List ℕ)) (text : List ℕ) → piece ≡ Borrowed line → IsPiece piece text → (line.now ≡ text) × (length text ≤ MAX_LINE)
+is_borrowed {X} piece line text is h = subst (λ (p : Piece X). IsPiece p text) is h
 
-pub is_kept : {X : Type 0} (piece : Piece X) (line : Vec ℕ X) (text : List ℕ) → piece ≡ Kept line → IsPiece piece text → (line.items ≡ text) × (length text ≤ MAX_LINE)
-is_kept {X} piece line text is h = subst (λ (p : Piece X). IsPiece p text) is h
+pub is_owned : {X : Type 0} (piece : Piece X) (line : Vec ℕ X) (text : List ℕ) → piece ≡ Owned line → IsPiece piece text → (line.items ≡ text) × (length text ≤ MAX_LINE)
+is_owned {X} piece line text is h = subst (λ (p : Piece X). IsPiece p text) is h
 
 -- ---- what an intake takes
 

@@ -2,12 +2,12 @@
 use Rattle.std.specs.Prelude.{◌≡◌, ℕ, ◌<◌, ◌≤◌, List, [], ◌∷◌, length, Option, None, Some}
 use Rattle.rights_types.specs.declared.limits.TheConstants.{MAX_LINE}
 use Rattle.peer_links.specs.declared.lines.Piece.{Piece}
-use Rattle.peer_links.specs.declared.lines.Piece.TheVariants.{Lent, Kept, Long}
+use Rattle.peer_links.specs.declared.lines.Piece.TheVariants.{Borrowed, Owned, Long}
 
 -- what is said of a piece
 abbrev pub IsPiece : {A : Type 0} → Piece A → List ℕ → Type 0
-IsPiece (Lent line) piece = (line.now ≡ piece) × (length piece ≤ MAX_LINE)
-IsPiece (Kept line) piece = (line.items ≡ piece) × (length piece ≤ MAX_LINE)
+IsPiece (Borrowed line) piece = (line.now ≡ piece) × (length piece ≤ MAX_LINE)
+IsPiece (Owned line) piece = (line.items ≡ piece) × (length piece ≤ MAX_LINE)
 IsPiece Long piece = MAX_LINE < length piece
 
 -- it is given for the pieces that ended, none or one

@@ -28,12 +28,12 @@ abbrev pub HasEnded : List ℕ → Option (List ℕ) → Type 0
 HasEnded text left = IsLine text ⊎ (length text ≡ LONGEST) ⊎ IsAtEnd left
 
 -- what the first line of a connection comes to, of which this text was read
-abbrev pub Greets : List ℕ → Result ℕ LinkFault → Type 0
-Greets text (Ok site) = Spells (AHello site) text
-Greets text (Err NoHello) = (site : ℕ) → Spells (AHello site) text → ⊥
-Greets text (Err ReadFailed) = IsOpen text
-Greets text (Err OutOfMemory) = IsLine text
-Greets text (Err fault) = ⊥
+abbrev pub ReadsHello : List ℕ → Result ℕ LinkFault → Type 0
+ReadsHello text (Ok site) = Spells (AHello site) text
+ReadsHello text (Err NoHello) = (site : ℕ) → Spells (AHello site) text → ⊥
+ReadsHello text (Err ReadFailed) = IsOpen text
+ReadsHello text (Err OutOfMemory) = IsLine text
+ReadsHello text (Err fault) = ⊥
 
 -- reading it came to its end, or stopped before
 abbrev pub HasRead : List ℕ → Result (Unit {0}) LinkFault → CutterView → Type 0
@@ -48,14 +48,14 @@ IsFedAll cutter stream = IsFed cutter stream (pieces stream)
 
 -- so much a connection gave
 pub record LinkGave (given left : Option (List ℕ)) : Type 0 where
-  pub portions : List (List ℕ)
+  pub chunks : List (List ℕ)
   pub input : List ℕ
   pub reads : Consumes given left input
-  pub parted : Parted portions input
+  pub parted : Parted chunks input
 
 -- lines, and reads that end none
 abbrev pub counted : {given left : Option (List ℕ)} → LinkGave given left → ℕ
-counted gave = length (pieces gave.input) + still gave.portions
+counted gave = length (pieces gave.input) + still gave.chunks
 
 -- why a connection that gave so much was given up
 abbrev pub LinkEnds : {given left : Option (List ℕ)} → LinkGave given left → Result (Unit {0}) LinkFault → Type 0

@@ -17,9 +17,9 @@ pub(crate) const LINE_END: u8 = b'\n';
 #[derive(Drop)]
 pub enum Piece<'a, A: Allocator> {
     /// A whole line, with its line feed, in the block that was read.
-    Lent(&'a [u8]),
+    Borrowed(&'a [u8]),
     /// A whole line, with its line feed, whose beginning was read before.
-    Kept(Vec<u8, A>),
+    Owned(Vec<u8, A>),
     /// A line with too many bytes.
     Long,
 }
@@ -47,7 +47,7 @@ pub fn next_piece<'a, A: Allocator + Copy>(
     if cutter.unfinished() {
         cutter.push(bytes);
         return match cutter.next_line()? {
-            Some(Cut::Line(line)) => Ok((Some(Piece::Kept(line)), count)),
+            Some(Cut::Line(line)) => Ok((Some(Piece::Owned(line)), count)),
             Some(Cut::Long) => Ok((Some(Piece::Long), count)),
             // The line feed ended a piece, so this is not reached.
             None => Ok((None, bytes.len())),
@@ -56,5 +56,5 @@ pub fn next_piece<'a, A: Allocator + Copy>(
     if count > MAX_LINE {
         return Ok((Some(Piece::Long), count));
     }
-    Ok((Some(Piece::Lent(&bytes[..count])), count))
+    Ok((Some(Piece::Borrowed(&bytes[..count])), count))
 }

@@ -11,7 +11,7 @@ mod reading;
 mod writing;
 
 pub use hello::read_hello;
-use line_streams::ReadFault;
+use line_streams::InputError;
 pub use reading::read_link;
 use rights_types::{Ask, Deny, OutOfMemory, Query};
 use site_core::InboundError;
@@ -44,10 +44,10 @@ impl From<OutOfMemory> for LinkFault {
     }
 }
 
-impl From<ReadFault> for LinkFault {
+impl From<InputError> for LinkFault {
     ghost from_gives = { λ _ fault. fault ≡ ReadFailed };
 
-    fn from(_fault: ReadFault) -> LinkFault {
+    fn from(_fault: InputError) -> LinkFault {
         LinkFault::ReadFailed
     }
 }

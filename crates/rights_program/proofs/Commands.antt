@@ -1,6 +1,6 @@
 -- How the program may end, by the command that it carried out.
 use Rattle.std.proofs.Common.{◌≡◌, ◌≢◌, false, sym, subst, ℕ, List, Option, Result, Ok, Err}
-use Rattle.line_streams.specs.declared.fault.LineFault.{LineFault}
+use Rattle.line_streams.specs.declared.fault.ConversationError.{ConversationError}
 use Rattle.site_words.specs.Asked.{Asked, nothing, script}
 use Rattle.site_words.specs.Words.{MayAnswer}
 use Rattle.site_words.specs.declared.fault.SiteFault.{SiteFault}
@@ -9,10 +9,10 @@ use Rattle.site_words.specs.declared.words.Command.TheVariants.{Sim, Run, Help, 
 use Rattle.rights_program.specs.Commands.{Does, IsText}
 use Rattle.rights_program.specs.Endings.{Ending, MayEnd, reads}
 use Rattle.rights_program.specs.Scripts.{Answered, ending_of_script}
-use Rattle.rights_program.specs.declared.fault.Fault.TheVariants.{BadCommandLine}
+use Rattle.rights_program.specs.declared.fault.ProgramError.TheVariants.{BadCommandLine}
 use Rattle.rights_program.proofs.Endings.{script_may_stop, script_may_be_done, script_reads, script_not_bad, site_may_stop, site_may_be_done, site_reads, site_no_script, site_no_nothing, site_not_bad, help_may_stop, help_may_be_done, help_no_script, help_no_nothing, version_may_stop, version_may_be_done}
 
-pub script_ends : (a : Asked) (ended : Result (Unit {0}) LineFault) → a ≡ script → MayEnd a (ending_of_script ended)
+pub script_ends : (a : Asked) (ended : Result (Unit {0}) ConversationError) → a ≡ script → MayEnd a (ending_of_script ended)
 script_ends a (Ok done) same = script_may_be_done a same
 script_ends a (Err cause) same = script_may_stop a cause same
 

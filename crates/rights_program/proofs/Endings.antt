@@ -1,14 +1,14 @@
 -- How the program may end, by what was asked for.
 use Rattle.std.proofs.Common.{◌≡◌, ◌≢◌, ◌∙◌, false, refl, sym, ap, subst, Err, arith, inl, inr, true≢false}
-use Rattle.line_streams.specs.declared.fault.LineFault.{LineFault}
-use Rattle.line_streams.specs.declared.fault.LineFault.TheVariants as script_fault
+use Rattle.line_streams.specs.declared.fault.ConversationError.{ConversationError}
+use Rattle.line_streams.specs.declared.fault.ConversationError.TheVariants as script_fault
 use Rattle.site_words.specs.Asked.{Asked, help, nothing, script, site, version}
 use Rattle.rights_program.specs.Endings.{MayBeDone, MayStop, reads}
 use Rattle.rights_program.specs.Faults.{fault_of_script, fault_of_site, fault_of_words, status_of}
 use Rattle.site_words.specs.Settings.{Settings}
 use Rattle.site_words.specs.Words.{MayAnswer, MayRefuse, RunsSite, WantsHelp}
-use Rattle.rights_program.specs.declared.fault.Fault.TheVariants.{BadCommandLine, CannotCreateStartFile, CannotListen, OutOfMemory, ReadFailed, StartedBefore, TooManyLines, WriteFailed}
-use Rattle.rights_program.specs.declared.fault.Fault.{Fault}
+use Rattle.rights_program.specs.declared.fault.ProgramError.TheVariants.{BadCommandLine, CannotCreateStartFile, CannotListen, OutOfMemory, ReadFailed, StartedBefore, TooManyLines, WriteFailed}
+use Rattle.rights_program.specs.declared.fault.ProgramError.{ProgramError}
 use Rattle.site_words.specs.declared.fault.SiteFault.{SiteFault}
 use Rattle.site_words.specs.declared.fault.SiteFault.TheVariants as site_fault
 use Rattle.site_words.specs.declared.words.WordsFault.{WordsFault}
@@ -41,7 +41,7 @@ stopped_refuses version h = h
 stopped_refuses nothing h = h
 
 -- the status 2 tells of a refusal
-pub two_is_bad : (fault : Fault) → status_of fault ≡ 2 → fault ≡ BadCommandLine
+pub two_is_bad : (fault : ProgramError) → status_of fault ≡ 2 → fault ≡ BadCommandLine
 two_is_bad BadCommandLine is = refl
 two_is_bad StartedBefore is = absurd (omega (arith, is))
 two_is_bad CannotCreateStartFile is = absurd (omega (arith, is))
@@ -55,10 +55,10 @@ two_is_bad TooManyLines is = absurd (omega (arith, is))
 pub script_may_be_done : (a : Asked) → a ≡ script → MayBeDone a
 script_may_be_done a same = subst MayBeDone (sym same) tt
 
-pub script_may_stop : (a : Asked) (cause : LineFault) → a ≡ script → MayStop a (fault_of_script cause)
+pub script_may_stop : (a : Asked) (cause : ConversationError) → a ≡ script → MayStop a (fault_of_script cause)
 script_may_stop a cause same = subst (λ a. MayStop a (fault_of_script cause)) (sym same) (stops cause)
   where
-    stops : (cause : LineFault) → MayStop script (fault_of_script cause)
+    stops : (cause : ConversationError) → MayStop script (fault_of_script cause)
     stops script_fault.ReadFailed = tt
     stops script_fault.WriteFailed = tt
     stops script_fault.OutOfMemory = tt
@@ -67,7 +67,7 @@ script_may_stop a cause same = subst (λ a. MayStop a (fault_of_script cause)) (
 pub script_reads : (a : Asked) → a ≡ script → reads a ≡ false → ⊥
 script_reads a same none = true≢false (sym (ap reads same) ∙ none)
 
-pub script_not_bad : (cause : LineFault) → fault_of_script cause ≢ BadCommandLine
+pub script_not_bad : (cause : ConversationError) → fault_of_script cause ≢ BadCommandLine
 script_not_bad script_fault.ReadFailed same = cc
 script_not_bad script_fault.WriteFailed same = cc
 script_not_bad script_fault.OutOfMemory same = cc

@@ -1,7 +1,7 @@
 -- A program that never came to its script.
 use Rattle.std.proofs.Common.{◌≡◌, subst, refl, ℕ, List, Option, Err}
 use Rattle.transfer_world.proofs.RunLaws.{nothing_ran}
-use Rattle.line_streams.specs.declared.fault.LineFault.TheVariants as script_fault
+use Rattle.line_streams.specs.declared.fault.ConversationError.TheVariants as script_fault
 use Rattle.site_words.specs.Asked.{Asked, script}
 use Rattle.site_words.specs.Words.{MayAnswer, MayRefuse}
 use Rattle.rights_program.specs.Faults.{fault_of_words}

@@ -8,7 +8,7 @@ use Rattle.site_words.specs.declared.words.Command.TheVariants.{Sim, Run, Help, 
 use Rattle.rights_program.specs.Endings.{Ending}
 use Rattle.rights_program.specs.Faults.{fault_of_site}
 use Rattle.rights_program.specs.Scripts.{Answered}
-use Rattle.rights_program.specs.declared.fault.Fault.TheVariants.{WriteFailed}
+use Rattle.rights_program.specs.declared.fault.ProgramError.TheVariants.{WriteFailed}
 use Rattle.rights_program.specs.declared.version.TheConstants.{VERSION}
 
 abbrev pub ending_of_site : Result (Unit {0}) SiteFault → Ending

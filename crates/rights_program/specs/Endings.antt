@@ -2,18 +2,18 @@
 use Rattle.std.specs.Prelude.{◌≡◌, ◌==◌, ◌⊎◌, ℕ, Bool, true, false, List, [], length, ⊤, Option, Result, Ok, Err, OnOk}
 use Rattle.std.specs.Io.KnownBytes.{Appends}
 use Rattle.line_streams.specs.Fronts.{AppendsFront}
-use Rattle.line_streams.specs.declared.write.WriteFault.{WriteFault}
+use Rattle.line_streams.specs.declared.write.OutputError.{OutputError}
 use Rattle.site_words.specs.Asked.{Asked, help, nothing, script, site, version}
 use Rattle.rights_program.specs.Faults.{line_of, status_of}
 use Rattle.site_words.specs.Settings.{Settings}
 use Rattle.site_words.specs.Words.{MayRefuse, RunsSite, WantsHelp}
-use Rattle.rights_program.specs.declared.fault.Fault.{Fault}
+use Rattle.rights_program.specs.declared.fault.ProgramError.{ProgramError}
 use Rattle.rights_program.specs.declared.run.Ended.{Ended}
-use Rattle.rights_program.specs.declared.fault.Fault.TheVariants.{BadCommandLine, CannotCreateStartFile, CannotListen, OutOfMemory, StartedBefore, WriteFailed}
+use Rattle.rights_program.specs.declared.fault.ProgramError.TheVariants.{BadCommandLine, CannotCreateStartFile, CannotListen, OutOfMemory, StartedBefore, WriteFailed}
 
 -- done, or stopped by a fault
 abbrev pub Ending : Type 0
-Ending = Result (Unit {0}) Fault
+Ending = Result (Unit {0}) ProgramError
 
 abbrev pub status_of_ending : Ending → ℕ
 status_of_ending (Ok done) = 0
@@ -41,7 +41,7 @@ MayBeDone (site kinds rows) = IsRun (site kinds rows) ⊎ WantsHelp (site kinds 
 MayBeDone asked = ⊤
 
 -- the faults that may stop the program, by what was asked for
-abbrev pub MayStop : Asked → Fault → Type 0
+abbrev pub MayStop : Asked → ProgramError → Type 0
 MayStop script BadCommandLine = ⊥
 MayStop script StartedBefore = ⊥
 MayStop script CannotCreateStartFile = ⊥
@@ -66,7 +66,7 @@ MayEnd asked (Ok done) = MayBeDone asked
 MayEnd asked (Err fault) = MayStop asked fault
 
 -- what was written of a text: all of it unless a write failed, and then a front of it
-abbrev pub Says : Option (List ℕ) → Option (List ℕ) → List ℕ → Result (Unit {0}) WriteFault → Type 0
+abbrev pub Says : Option (List ℕ) → Option (List ℕ) → List ℕ → Result (Unit {0}) OutputError → Type 0
 Says old new text said = AppendsFront old new text × OnOk said (Appends old new text)
 
 -- the status, and what was printed on standard error, are those of this ending

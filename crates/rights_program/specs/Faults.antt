@@ -2,17 +2,17 @@
 use Rattle.std.specs.Prelude.{ℕ, List, [], ◌∷◌, ◌++◌, codes}
 use Rattle.std.specs.declared.io.ErrorKind.{ErrorKind}
 use Rattle.std.specs.declared.io.ErrorKind.TheVariants.{InvalidData}
-use Rattle.rights_program.specs.declared.fault.Fault.{Fault}
-use Rattle.rights_program.specs.declared.fault.Fault.TheVariants.{BadCommandLine, CannotCreateStartFile, CannotListen, OutOfMemory, ReadFailed, StartedBefore, TooManyLines, WriteFailed}
+use Rattle.rights_program.specs.declared.fault.ProgramError.{ProgramError}
+use Rattle.rights_program.specs.declared.fault.ProgramError.TheVariants.{BadCommandLine, CannotCreateStartFile, CannotListen, OutOfMemory, ReadFailed, StartedBefore, TooManyLines, WriteFailed}
 use Rattle.site_words.specs.declared.words.WordsFault.{WordsFault}
 use Rattle.site_words.specs.declared.words.WordsFault.TheVariants as words
 use Rattle.site_words.specs.declared.fault.SiteFault.{SiteFault}
 use Rattle.site_words.specs.declared.fault.SiteFault.TheVariants as site
-use Rattle.line_streams.specs.declared.fault.LineFault.{LineFault}
-use Rattle.line_streams.specs.declared.fault.LineFault.TheVariants as script
+use Rattle.line_streams.specs.declared.fault.ConversationError.{ConversationError}
+use Rattle.line_streams.specs.declared.fault.ConversationError.TheVariants as script
 
 -- the exit status
-abbrev pub status_of : Fault → ℕ
+abbrev pub status_of : ProgramError → ℕ
 status_of BadCommandLine = 2
 status_of StartedBefore = 1
 status_of CannotCreateStartFile = 1
@@ -22,7 +22,7 @@ status_of WriteFailed = 1
 status_of OutOfMemory = 1
 status_of TooManyLines = 1
 
-abbrev pub fault_text : Fault → List ℕ
+abbrev pub fault_text : ProgramError → List ℕ
 fault_text BadCommandLine = codes "rights-site: bad command line"
 fault_text StartedBefore = codes "rights-site: was started before"
 fault_text CannotCreateStartFile = codes "rights-site: cannot create the start file"
@@ -33,25 +33,25 @@ fault_text OutOfMemory = codes "rights-site: out of memory"
 fault_text TooManyLines = codes "rights-site: too many lines"
 
 -- what is printed: the text and a line feed
-abbrev pub line_of : Fault → List ℕ
+abbrev pub line_of : ProgramError → List ℕ
 line_of fault = fault_text fault ++ 10 ∷ []
 
 -- why the words of the process cannot be told, by the kind of the error
-abbrev pub fault_of_given : ErrorKind → Fault
+abbrev pub fault_of_given : ErrorKind → ProgramError
 fault_of_given InvalidData = BadCommandLine
 fault_of_given kind = OutOfMemory
 
-abbrev pub fault_of_words : WordsFault → Fault
+abbrev pub fault_of_words : WordsFault → ProgramError
 fault_of_words words.Refused = BadCommandLine
 fault_of_words words.OutOfMemory = OutOfMemory
 
-abbrev pub fault_of_script : LineFault → Fault
+abbrev pub fault_of_script : ConversationError → ProgramError
 fault_of_script script.ReadFailed = ReadFailed
 fault_of_script script.WriteFailed = WriteFailed
 fault_of_script script.OutOfMemory = OutOfMemory
 fault_of_script script.TooManyLines = TooManyLines
 
-abbrev pub fault_of_site : SiteFault → Fault
+abbrev pub fault_of_site : SiteFault → ProgramError
 fault_of_site site.StartedBefore = StartedBefore
 fault_of_site site.CannotCreateStartFile = CannotCreateStartFile
 fault_of_site site.CannotListen = CannotListen

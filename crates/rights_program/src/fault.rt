@@ -1,16 +1,16 @@
 //! Why the program ends with another status than 0, and what it says then.
 ghost use Rattle.std.specs.Prelude.{◌≡◌};
 ghost use Rattle.rights_program.specs.Faults.{line_of, status_of};
-ghost use Rattle.rights_program.specs.declared.fault.Fault.TheVariants.{OutOfMemory, WriteFailed};
+ghost use Rattle.rights_program.specs.declared.fault.ProgramError.TheVariants.{OutOfMemory, WriteFailed};
 
-use line_streams::WriteFault;
+use line_streams::OutputError;
 use site_words::{SiteFault, WordsFault};
 use std::alloc::AllocError;
 use transfer_world::ScriptFault;
 
 /// Why the program ends with another status than 0.
 #[derive(Clone, Copy, Debug, PartialEq, Eq)]
-pub enum Fault {
+pub enum ProgramError {
     /// The command line is refused.
     BadCommandLine,
     /// The file that a site creates at its start exists: a site of this number was started before.
@@ -29,13 +29,13 @@ pub enum Fault {
     TooManyLines,
 }
 
-impl Fault {
+impl ProgramError {
     /// The exit status that tells of this.
     pub fn status(self) -> u8
         ensures { result ≡ status_of self }
     {
         match self {
-            Fault::BadCommandLine => 2,
+            ProgramError::BadCommandLine => 2,
             _ => 1,
         }
     }
@@ -45,76 +45,76 @@ impl Fault {
         ensures { result.now ≡ line_of self }
     {
         match self {
-            Fault::BadCommandLine => b"rights-site: bad command line\n",
-            Fault::StartedBefore => b"rights-site: was started before\n",
-            Fault::CannotCreateStartFile => b"rights-site: cannot create the start file\n",
-            Fault::CannotListen => b"rights-site: cannot listen\n",
-            Fault::ReadFailed => b"rights-site: read failed\n",
-            Fault::WriteFailed => b"rights-site: write failed\n",
-            Fault::OutOfMemory => b"rights-site: out of memory\n",
-            Fault::TooManyLines => b"rights-site: too many lines\n",
+            ProgramError::BadCommandLine => b"rights-site: bad command line\n",
+            ProgramError::StartedBefore => b"rights-site: was started before\n",
+            ProgramError::CannotCreateStartFile => b"rights-site: cannot create the start file\n",
+            ProgramError::CannotListen => b"rights-site: cannot listen\n",
+            ProgramError::ReadFailed => b"rights-site: read failed\n",
+            ProgramError::WriteFailed => b"rights-site: write failed\n",
+            ProgramError::OutOfMemory => b"rights-site: out of memory\n",
+            ProgramError::TooManyLines => b"rights-site: too many lines\n",
         }
     }
 }
 
-impl From<AllocError> for Fault {
+impl From<AllocError> for ProgramError {
     ghost from_gives = { λ _ fault. fault ≡ OutOfMemory };
 
-    fn from(_error: AllocError) -> Fault {
-        Fault::OutOfMemory
+    fn from(_error: AllocError) -> ProgramError {
+        ProgramError::OutOfMemory
     }
 }
 
-impl From<WriteFault> for Fault {
+impl From<OutputError> for ProgramError {
     ghost from_gives = { λ _ fault. fault ≡ WriteFailed };
 
-    fn from(_error: WriteFault) -> Fault {
-        Fault::WriteFailed
+    fn from(_error: OutputError) -> ProgramError {
+        ProgramError::WriteFailed
     }
 }
 
-impl From<WordsFault> for Fault {
+impl From<WordsFault> for ProgramError {
     ghost use Rattle.rights_program.specs.Faults.{fault_of_words};
 
     ghost from_gives = { λ cause fault. fault ≡ fault_of_words cause };
 
-    fn from(cause: WordsFault) -> Fault {
+    fn from(cause: WordsFault) -> ProgramError {
         match cause {
-            WordsFault::Refused => Fault::BadCommandLine,
-            WordsFault::OutOfMemory => Fault::OutOfMemory,
+            WordsFault::Refused => ProgramError::BadCommandLine,
+            WordsFault::OutOfMemory => ProgramError::OutOfMemory,
         }
     }
 }
 
-impl From<ScriptFault> for Fault {
+impl From<ScriptFault> for ProgramError {
     ghost use Rattle.rights_program.specs.Faults.{fault_of_script};
 
     ghost from_gives = { λ cause fault. fault ≡ fault_of_script cause };
 
-    fn from(cause: ScriptFault) -> Fault {
+    fn from(cause: ScriptFault) -> ProgramError {
         match cause {
-            ScriptFault::ReadFailed => Fault::ReadFailed,
-            ScriptFault::WriteFailed => Fault::WriteFailed,
-            ScriptFault::OutOfMemory => Fault::OutOfMemory,
-            ScriptFault::TooManyLines => Fault::TooManyLines,
+            ScriptFault::ReadFailed => ProgramError::ReadFailed,
+            ScriptFault::WriteFailed => ProgramError::WriteFailed,
+            ScriptFault::OutOfMemory => ProgramError::OutOfMemory,
+            ScriptFault::TooManyLines => ProgramError::TooManyLines,
         }
     }
 }
 
-impl From<SiteFault> for Fault {
+impl From<SiteFault> for ProgramError {
     ghost use Rattle.rights_program.specs.Faults.{fault_of_site};
 
     ghost from_gives = { λ cause fault. fault ≡ fault_of_site cause };
 
-    fn from(cause: SiteFault) -> Fault {
+    fn from(cause: SiteFault) -> ProgramError {
         match cause {
-            SiteFault::StartedBefore => Fault::StartedBefore,
-            SiteFault::CannotCreateStartFile => Fault::CannotCreateStartFile,
-            SiteFault::CannotListen => Fault::CannotListen,
-            SiteFault::ReadFailed => Fault::ReadFailed,
-            SiteFault::WriteFailed => Fault::WriteFailed,
-            SiteFault::OutOfMemory => Fault::OutOfMemory,
-            SiteFault::TooManyLines => Fault::TooManyLines,
+            SiteFault::StartedBefore => ProgramError::StartedBefore,
+            SiteFault::CannotCreateStartFile => ProgramError::CannotCreateStartFile,
+            SiteFault::CannotListen => ProgramError::CannotListen,
+            SiteFault::ReadFailed => ProgramError::ReadFailed,
+            SiteFault::WriteFailed => ProgramError::WriteFailed,
+            SiteFault::OutOfMemory => ProgramError::OutOfMemory,
+            SiteFault::TooManyLines => ProgramError::TooManyLines,
         }
     }
 }

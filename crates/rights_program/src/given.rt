@@ -10,9 +10,9 @@ ghost use Rattle.rights_program.specs.Arguments.{arguments};
 ghost use Rattle.rights_program.specs.Endings.{EndsWith, MayEnd, MayStop, reads};
 ghost use Rattle.rights_program.specs.Faults.{fault_of_given};
 ghost use Rattle.rights_program.specs.Scripts.{Answered};
-ghost use Rattle.rights_program.specs.declared.fault.Fault.{Fault};
+ghost use Rattle.rights_program.specs.declared.fault.ProgramError.{ProgramError};
 
-use crate::fault::Fault;
+use crate::fault::ProgramError;
 use crate::run::{Ended, report, run_words};
 use site_words::{Config, SiteFault};
 use std::alloc::{AllocError, Allocator, Global};
@@ -21,17 +21,17 @@ use std::io::{ErrorKind, Read, Write};
 use std::{env, io};
 
 /// What it means that the words cannot be told: one is no text, or there is no memory for them.
-fn fault_of_given(error: io::Error) -> Fault
+fn fault_of_given(error: io::Error) -> ProgramError
     ensures { result ≡ fault_of_given (error_kind error) }
 {
     match error.kind() {
-        ErrorKind::InvalidData => Fault::BadCommandLine,
-        _ => Fault::OutOfMemory,
+        ErrorKind::InvalidData => ProgramError::BadCommandLine,
+        _ => ProgramError::OutOfMemory,
     }
 }
 
 /// The words that the process was given, its name among them.
-fn given_words<V: Env + Alloc>(env: &V) -> Result<Vec<String<V::A>, V::A>, Fault>
+fn given_words<V: Env + Alloc>(env: &V) -> Result<Vec<String<V::A>, V::A>, ProgramError>
     ensures { IfErr result (λ fault. MayStop nothing fault) }
 {
     match env::args(env) {
@@ -76,7 +76,7 @@ pub fn run_arguments<
     errors: &mut E,
 ) -> Ended
     requires { F.IsAlwaysCallable run }
-    ensures ends { (ending : Result (Unit {0}) Fault) × MayEnd (asked_by (arguments words.now)) ending
+    ensures ends { (ending : Result (Unit {0}) ProgramError) × MayEnd (asked_by (arguments words.now)) ending
         × (asked_by (arguments words.now) ≡ script
         → Answered Global (R.remaining reader.old) (R.remaining reader.new) (W.contents writer.old) (W.contents writer.new) ending)
         × EndsWith result (E.contents errors.old) (E.contents errors.new) ending }
@@ -87,7 +87,7 @@ pub fn run_arguments<
 {
     let texts = match texts_of(alloc, words) {
         Ok(texts) => texts,
-        Err(AllocError) => return report(errors, Fault::OutOfMemory),
+        Err(AllocError) => return report(errors, ProgramError::OutOfMemory),
     };
     run_words(alloc, run, behind_name(&texts), reader, writer, errors)
 }
@@ -102,7 +102,7 @@ pub fn run_given<
     E: Write,
 >(alloc: Global, run: F, env: &V, reader: &mut R, writer: &mut W, errors: &mut E) -> Ended
     requires { F.IsAlwaysCallable run }
-    ensures { (ending : Result (Unit {0}) Fault) × EndsWith result (E.contents errors.old) (E.contents errors.new) ending }
+    ensures { (ending : Result (Unit {0}) ProgramError) × EndsWith result (E.contents errors.old) (E.contents errors.new) ending }
 {
     match given_words(env) {
         Ok(words) => run_arguments(alloc, run, &words, reader, writer, errors),

@@ -7,7 +7,7 @@ mod given;
 mod run;
 mod version;
 
-pub use fault::Fault;
+pub use fault::ProgramError;
 pub use given::{run_arguments, run_given};
 pub use run::{Ended, run_words};
 pub use version::VERSION;

@@ -8,11 +8,11 @@ ghost use Rattle.rights_program.specs.Endings.{EndsWith, MayEnd, Says, reads};
 ghost use Rattle.rights_program.specs.Faults.{line_of, status_of};
 ghost use Rattle.rights_program.specs.Scripts.{Answered};
 ghost use Rattle.site_words.specs.Words.{MayRefuse};
-ghost use Rattle.rights_program.specs.declared.fault.Fault.{Fault};
+ghost use Rattle.rights_program.specs.declared.fault.ProgramError.{ProgramError};
 
-use crate::fault::Fault;
+use crate::fault::ProgramError;
 use crate::version::VERSION;
-use line_streams::{WriteFault, write_whole};
+use line_streams::{OutputError, write_whole};
 use site_words::{Command, Config, SiteFault, read_words};
 use std::alloc::Global;
 use std::io::{Read, Write};
@@ -24,11 +24,11 @@ pub struct Ended {
     /// The exit status: 0 to 2.
     pub status: u8,
     /// Whether the line that says why it stopped was written whole. Where it did not stop there is no such line.
-    pub said: Result<(), WriteFault>,
+    pub said: Result<(), OutputError>,
 }
 
 /// Says why the program stops. Where a write fails, the rest of that is left out.
-pub(crate) fn report<E: Write>(errors: &mut E, fault: Fault) -> Ended
+pub(crate) fn report<E: Write>(errors: &mut E, fault: ProgramError) -> Ended
     ensures status { result.status ≡ status_of fault }
     ensures says { Says (E.contents errors.old) (E.contents errors.new) (line_of fault) result.said }
 {
@@ -46,7 +46,7 @@ fn carry_out<F: FnOnce(Config, &mut R, &mut W) -> Result<(), SiteFault>, R: Read
     command: Command,
     reader: &mut R,
     writer: &mut W,
-) -> Result<(), Fault>
+) -> Result<(), ProgramError>
     requires { F.IsAlwaysCallable run }
     ensures does { Does Global command (R.remaining reader.old) (R.remaining reader.new) (W.contents writer.old) (W.contents writer.new) result }
     ensures unread { IsText command → reader.new ≡ reader.old }
@@ -67,14 +67,14 @@ fn run_command<F: FnOnce(Config, &mut R, &mut W) -> Result<(), SiteFault>, R: Re
     words: &[&str],
     reader: &mut R,
     writer: &mut W,
-) -> Result<(), Fault>
+) -> Result<(), ProgramError>
     requires { F.IsAlwaysCallable run }
     ensures may { MayEnd (asked_by (texts words.now)) result }
     ensures answered { asked_by (texts words.now) ≡ script
         → Answered Global (R.remaining reader.old) (R.remaining reader.new) (W.contents writer.old) (W.contents writer.new) result }
     ensures unread { reads (asked_by (texts words.now)) ≡ false → reader.new ≡ reader.old }
     ensures unwritten { asked_by (texts words.now) ≡ nothing → writer.new ≡ writer.old }
-    ensures refused { result ≡ Err Fault.BadCommandLine → (reader.new ≡ reader.old) × (writer.new ≡ writer.old) }
+    ensures refused { result ≡ Err ProgramError.BadCommandLine → (reader.new ≡ reader.old) × (writer.new ≡ writer.old) }
 {
     let command = read_words(alloc, words)?;
     carry_out(alloc, run, command, reader, writer)
@@ -91,7 +91,7 @@ pub fn run_words<
     requires { F.IsAlwaysCallable run }
     // The status and the line on `errors` are those of one ending, which the words allow. Where they
     // ask for it, the script was answered, and ended so.
-    ensures ends { (ending : Result (Unit {0}) Fault) × MayEnd (asked_by (texts words.now)) ending
+    ensures ends { (ending : Result (Unit {0}) ProgramError) × MayEnd (asked_by (texts words.now)) ending
         × (asked_by (texts words.now) ≡ script
         → Answered Global (R.remaining reader.old) (R.remaining reader.new) (W.contents writer.old) (W.contents writer.new) ending)
         × EndsWith result (E.contents errors.old) (E.contents errors.new) ending }

@@ -1,4 +1,4 @@
-//! Shared desks, lanes and tallies by their public calls alone.
+//! Shared desks, lanes and counters by their public calls alone.
 mod appliers;
 mod desks;
 mod failing;

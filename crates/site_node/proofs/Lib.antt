@@ -1,4 +1,4 @@
 pub mod Lines
 pub mod Serving
 pub mod Publishing
-pub mod ToldLaws
+pub mod ConfirmedLaws

@@ -1,5 +1,5 @@
 -- What a command does at the desk: from the desk and a seat to a reply, and to the desk and the seat behind it. The desk
--- is `old` and then `new`; the seat was `was` and then is `told` more.
+-- is `old` and then `new`; the seat is `was` before and `now` after.
 use Rattle.std.specs.Prelude.{◌≡◌, ℕ, true, [], ◌∷◌, Option, None}
 use Rattle.rights_types.specs.Chains.{end}
 use Rattle.rights_types.specs.declared.moves.Move.TheVariants.{Issue as Issues, Give as Gives}
@@ -19,84 +19,84 @@ use Rattle.site_node.specs.declared.reply.Reply.TheVariants.{Number, Spending as
 
 -- ---- what a command leaves that is not refused
 
--- an entry issued so many rights, and its number is told; the tally and the seat count them
-pub record HasIssued (old : KeptValue) (was : SeatValue) (amount number : ℕ) (new : KeptValue) (told : SeatValue) : Type 0 where
+-- an entry issued so many rights, and its number is told; the counter and the seat count them
+pub record HasIssued (old : KeptValue) (was : SeatValue) (amount number : ℕ) (new : KeptValue) (now : SeatValue) : Type 0 where
   pub entry : DeskWrites old.desk (Issues amount ∷ []) new.desk
   pub keeps : EntryKeeps old.desk.ledger (Issues amount ∷ []) new.desk.ledger
   pub at_end : number ≡ end new.desk.ledger.log.entries
-  pub tally : new ≡ record old { desk = new.desk; issued = raised old.issued amount }
-  pub counted : told ≡ told_issued was amount
+  pub counter : new ≡ record old { desk = new.desk; issued = raised old.issued amount }
+  pub counted : now ≡ told_issued was amount
 
 -- an entry gave so many rights to the peer, and its number is told
-pub record HasGiven (old : KeptValue) (was : SeatValue) (peer amount number : ℕ) (new : KeptValue) (told : SeatValue) : Type 0 where
+pub record HasGiven (old : KeptValue) (was : SeatValue) (peer amount number : ℕ) (new : KeptValue) (now : SeatValue) : Type 0 where
   pub entry : DeskWrites old.desk (Gives peer amount ∷ []) new.desk
   pub keeps : EntryKeeps old.desk.ledger (Gives peer amount ∷ []) new.desk.ledger
   pub at_end : number ≡ end new.desk.ledger.log.entries
   pub rest : new ≡ record old { desk = new.desk }
-  pub same_seat : told ≡ was
+  pub same_seat : now ≡ was
 
--- the spend was served or waits, as is told; the tally and the seat count what was spent
-pub record HasSpent (old : KeptValue) (was : SeatValue) (amount deadline : ℕ) (spending : Spending) (new : KeptValue) (told : SeatValue) : Type 0 where
+-- the spend was served or waits, as is told; the counter and the seat count what was spent
+pub record HasSpent (old : KeptValue) (was : SeatValue) (amount deadline : ℕ) (spending : Spending) (new : KeptValue) (now : SeatValue) : Type 0 where
   pub desk : DeskSpends old.desk amount deadline spending new.desk
   pub keeps : SpendKeeps old.desk amount spending new.desk
-  pub tally : new ≡ record old { desk = new.desk; spent = raised old.spent (spent_by amount spending) }
-  pub counted : told ≡ told_spent was amount spending
+  pub counter : new ≡ record old { desk = new.desk; spent = raised old.spent (spent_by amount spending) }
+  pub counted : now ≡ told_spent was amount spending
 
 -- what became of a spend is told, which frees its slot
-pub record HasTold (old : KeptValue) (was : SeatValue) (ticket : ℕ) (status : Status) (new : KeptValue) (told : SeatValue) : Type 0 where
+pub record HasReported (old : KeptValue) (was : SeatValue) (ticket : ℕ) (status : Status) (new : KeptValue) (now : SeatValue) : Type 0 where
   pub outcome : TellsOutcome old.desk.queue ticket status new.desk.queue
   pub rest : new ≡ record old { desk = record old.desk { queue = new.desk.queue } }
-  pub same_seat : told ≡ was
+  pub same_seat : now ≡ was
 
 -- the closing entry was written, and its number is told
-pub record HasClosed (old : KeptValue) (was : SeatValue) (heir : Option ℕ) (number : ℕ) (new : KeptValue) (told : SeatValue) : Type 0 where
+pub record HasClosed (old : KeptValue) (was : SeatValue) (heir : Option ℕ) (number : ℕ) (new : KeptValue) (now : SeatValue) : Type 0 where
   pub entry : DeskCloses old.desk heir new.desk
   pub keeps : ClosingKeeps old.desk.ledger heir new.desk.ledger
   pub at_end : number ≡ end new.desk.ledger.log.entries
   pub rest : new ≡ record old { desk = new.desk }
-  pub same_seat : told ≡ was
+  pub same_seat : now ≡ was
 
 -- ---- a command
 
 -- a refusal, by this fault or for want of memory, and nothing changed
-pub record IsRefused (old : KeptValue) (was : SeatValue) (fault : Option DeskError) (Wants : Type 0) (cause : DeskError) (new : KeptValue) (told : SeatValue) : Type 0 where
+pub record IsRefused (old : KeptValue) (was : SeatValue) (fault : Option DeskError) (Wants : Type 0) (cause : DeskError) (new : KeptValue) (now : SeatValue) : Type 0 where
   pub refuses : Refuses fault Wants cause
   pub same_desk : new ≡ old
-  pub same_seat : told ≡ was
+  pub same_seat : now ≡ was
 
 -- each command has replies of its own, and each of these says what it leaves; there are no others
 abbrev pub ActsIssue : KeptValue → SeatValue → ℕ → Reply → KeptValue → SeatValue → Type 0
-ActsIssue old was amount (Number n) new told = (issue_fault old.desk amount ≡ None) × HasIssued old was amount n new told
-ActsIssue old was amount (Refused cause) new told = IsRefused old was (issue_fault old.desk amount) Always cause new told
-ActsIssue old was amount reply new told = ⊥
+ActsIssue old was amount (Number n) new now = (issue_fault old.desk amount ≡ None) × HasIssued old was amount n new now
+ActsIssue old was amount (Refused cause) new now = IsRefused old was (issue_fault old.desk amount) Always cause new now
+ActsIssue old was amount reply new now = ⊥
 
 abbrev pub ActsGive : KeptValue → SeatValue → ℕ → ℕ → Reply → KeptValue → SeatValue → Type 0
-ActsGive old was peer amount (Number n) new told = (give_fault old.desk peer amount ≡ None) × HasGiven old was peer amount n new told
-ActsGive old was peer amount (Refused cause) new told = IsRefused old was (give_fault old.desk peer amount) Always cause new told
-ActsGive old was peer amount reply new told = ⊥
+ActsGive old was peer amount (Number n) new now = (give_fault old.desk peer amount ≡ None) × HasGiven old was peer amount n new now
+ActsGive old was peer amount (Refused cause) new now = IsRefused old was (give_fault old.desk peer amount) Always cause new now
+ActsGive old was peer amount reply new now = ⊥
 
 -- a spend wants memory only where it is served at once
 abbrev pub ActsSpend : KeptValue → SeatValue → ℕ → ℕ → Reply → KeptValue → SeatValue → Type 0
-ActsSpend old was amount deadline (Spends spending) new told =
-    (spend_fault old.desk amount ≡ None) × HasSpent old was amount deadline spending new told
-ActsSpend old was amount deadline (Refused cause) new told =
-    IsRefused old was (spend_fault old.desk amount) (can_spend old.desk amount ≡ true) cause new told
-ActsSpend old was amount deadline reply new told = ⊥
+ActsSpend old was amount deadline (Spends spending) new now =
+    (spend_fault old.desk amount ≡ None) × HasSpent old was amount deadline spending new now
+ActsSpend old was amount deadline (Refused cause) new now =
+    IsRefused old was (spend_fault old.desk amount) (can_spend old.desk amount ≡ true) cause new now
+ActsSpend old was amount deadline reply new now = ⊥
 
 -- an outcome is never refused
 abbrev pub ActsOutcome : KeptValue → SeatValue → ℕ → Reply → KeptValue → SeatValue → Type 0
-ActsOutcome old was ticket (Tells status) new told = HasTold old was ticket status new told
-ActsOutcome old was ticket reply new told = ⊥
+ActsOutcome old was ticket (Tells status) new now = HasReported old was ticket status new now
+ActsOutcome old was ticket reply new now = ⊥
 
 abbrev pub ActsClose : KeptValue → SeatValue → Option ℕ → Reply → KeptValue → SeatValue → Type 0
-ActsClose old was heir (Number n) new told = (close_fault old.desk heir ≡ None) × HasClosed old was heir n new told
-ActsClose old was heir (Refused cause) new told = IsRefused old was (close_fault old.desk heir) Always cause new told
-ActsClose old was heir reply new told = ⊥
+ActsClose old was heir (Number n) new now = (close_fault old.desk heir ≡ None) × HasClosed old was heir n new now
+ActsClose old was heir (Refused cause) new now = IsRefused old was (close_fault old.desk heir) Always cause new now
+ActsClose old was heir reply new now = ⊥
 
--- from old and was, the command may have this reply and lead to new and told
+-- from old and was, the command may have this reply and lead to new and now
 abbrev pub Acts : KeptValue → SeatValue → DeskCommand → Reply → KeptValue → SeatValue → Type 0
-Acts old was (Issue amount) reply new told = ActsIssue old was amount reply new told
-Acts old was (Give peer amount) reply new told = ActsGive old was peer amount reply new told
-Acts old was (Spend amount deadline) reply new told = ActsSpend old was amount deadline reply new told
-Acts old was (Outcome ticket) reply new told = ActsOutcome old was ticket reply new told
-Acts old was (Close heir) reply new told = ActsClose old was heir reply new told
+Acts old was (Issue amount) reply new now = ActsIssue old was amount reply new now
+Acts old was (Give peer amount) reply new now = ActsGive old was peer amount reply new now
+Acts old was (Spend amount deadline) reply new now = ActsSpend old was amount deadline reply new now
+Acts old was (Outcome ticket) reply new now = ActsOutcome old was ticket reply new now
+Acts old was (Close heir) reply new now = ActsClose old was heir reply new now

@@ -5,4 +5,4 @@ pub mod Sending
 pub mod ToPeers
 pub mod Hearing
 pub mod Texts
-pub mod Told
+pub mod Confirmed

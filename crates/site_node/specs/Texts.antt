@@ -22,5 +22,5 @@ ticked_text ticked sent =
 
 -- .. or why a part of it was refused
 abbrev pub tick_text : Result (Ticked × ℕ) DeskError → List ℕ
-tick_text (Ok told) = ticked_text told.0 told.1
+tick_text (Ok now) = ticked_text now.0 now.1
 tick_text (Err cause) = error_text cause

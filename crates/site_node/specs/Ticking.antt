@@ -11,20 +11,20 @@ use Rattle.site_node.specs.declared.tick.Ticked.{Ticked}
 
 -- ---- serving
 
--- this request was at the front and was served; the tally and the seat count its amount
-pub record ServesNext (old : KeptValue) (was : SeatValue) (request : Request) (new : KeptValue) (told : SeatValue) : Type 0 where
+-- this request was at the front and was served; the counter and the seat count its amount
+pub record ServesNext (old : KeptValue) (was : SeatValue) (request : Request) (new : KeptValue) (now : SeatValue) : Type 0 where
   pub first : old.desk.queue.waiting ≡ request ∷ new.desk.queue.waiting
   pub number : ℕ
   pub desk : ServesFront old.desk request.ticket number new.desk
   pub keeps : ServeKeeps old.desk (Some (request.ticket, number)) new.desk
-  pub tally : new ≡ record old { desk = new.desk; spent = raised old.spent request.amount }
-  pub counted : told ≡ told_served was request.amount
+  pub counter : new ≡ record old { desk = new.desk; spent = raised old.spent request.amount }
+  pub counted : now ≡ told_served was request.amount
 
 -- these requests were served, one after another
 abbrev pub ServesEach : KeptValue → SeatValue → List Request → KeptValue → SeatValue → Type 0
-ServesEach old was [] new told = (new ≡ old) × (told ≡ was)
-ServesEach old was (request ∷ others) new told =
-    (mid : KeptValue) × (half : SeatValue) × ServesNext old was request mid half × ServesEach mid half others new told
+ServesEach old was [] new now = (new ≡ old) × (now ≡ was)
+ServesEach old was (request ∷ others) new now =
+    (mid : KeptValue) × (half : SeatValue) × ServesNext old was request mid half × ServesEach mid half others new now
 
 -- the request at the front could not be served, or none waits
 abbrev pub HasServedAll : KeptValue → Type 0
@@ -32,17 +32,17 @@ HasServedAll k = CannotServe k.desk (front_of k.desk.queue.waiting)
 
 -- a serve answers whether one more was served; if not, nothing changed
 abbrev pub ServesNextIf : Bool → KeptValue → SeatValue → KeptValue → SeatValue → Type 0
-ServesNextIf true old was new told = (request : Request) × ServesNext old was request new told
-ServesNextIf false old was new told = HasServedAll old × (new ≡ old) × (told ≡ was)
+ServesNextIf true old was new now = (request : Request) × ServesNext old was request new now
+ServesNextIf false old was new now = HasServedAll old × (new ≡ old) × (now ≡ was)
 
 -- these were served, and then no other could be
-pub record ServesAll (old : KeptValue) (was : SeatValue) (served : List Request) (new : KeptValue) (told : SeatValue) : Type 0 where
-  pub each : ServesEach old was served new told
+pub record ServesAll (old : KeptValue) (was : SeatValue) (served : List Request) (new : KeptValue) (now : SeatValue) : Type 0 where
+  pub each : ServesEach old was served new now
   pub all : HasServedAll new
 
 -- these were served, and then the next one, which could be, was refused
-pub record ServingFails (old : KeptValue) (was : SeatValue) (served : List Request) (fault : DeskError) (new : KeptValue) (told : SeatValue) : Type 0 where
-  pub each : ServesEach old was served new told
+pub record ServingFails (old : KeptValue) (was : SeatValue) (served : List Request) (fault : DeskError) (new : KeptValue) (now : SeatValue) : Type 0 where
+  pub each : ServesEach old was served new now
   pub refuses : Refuses (serve_fault new.desk) (can_serve new.desk (front_of new.desk.queue.waiting) ≡ true) fault
 
 -- ---- a tick
@@ -58,30 +58,30 @@ pub record PlansAsks (old : KeptValue) (count : ℕ) (new : KeptValue) : Type 0 
   pub rest : new ≡ record old { desk = new.desk }
 
 -- all that was late expired, then all that could be was served, and then asks were planned for what still waits
-pub record HasTicked (old : KeptValue) (was : SeatValue) (time : ℕ) (served : List Request) (ticked : Ticked) (new : KeptValue) (told : SeatValue) : Type 0 where
+pub record HasTicked (old : KeptValue) (was : SeatValue) (time : ℕ) (served : List Request) (ticked : Ticked) (new : KeptValue) (now : SeatValue) : Type 0 where
   pub in_time : KeptValue
   pub left : KeptValue
   pub expires : ExpiresAll old time ticked.expired in_time
-  pub serves : ServesAll in_time was served left told
+  pub serves : ServesAll in_time was served left now
   pub counted : ticked.served ≡ length served
   pub plans : PlansAsks left ticked.asks new
 
 -- the time was refused, and nothing was done
-pub record TimeRefused (old : KeptValue) (was : SeatValue) (time : ℕ) (served : List Request) (fault : DeskError) (new : KeptValue) (told : SeatValue) : Type 0 where
+pub record TimeRefused (old : KeptValue) (was : SeatValue) (time : ℕ) (served : List Request) (fault : DeskError) (new : KeptValue) (now : SeatValue) : Type 0 where
   pub refuses : expire_fault old.desk time ≡ Some fault
   pub none : served ≡ []
   pub same_desk : new ≡ old
-  pub same_seat : told ≡ was
+  pub same_seat : now ≡ was
 
 -- all that was late expired, and some were served before one was refused; nothing was planned
-pub record StopsServing (old : KeptValue) (was : SeatValue) (time : ℕ) (served : List Request) (fault : DeskError) (new : KeptValue) (told : SeatValue) : Type 0 where
+pub record StopsServing (old : KeptValue) (was : SeatValue) (time : ℕ) (served : List Request) (fault : DeskError) (new : KeptValue) (now : SeatValue) : Type 0 where
   pub expired : ℕ
   pub in_time : KeptValue
   pub expires : ExpiresAll old time expired in_time
-  pub fails : ServingFails in_time was served fault new told
+  pub fails : ServingFails in_time was served fault new now
 
--- from old and was, the tick at this time may serve these requests, answer this, and lead to new and told
+-- from old and was, the tick at this time may serve these requests, answer this, and lead to new and now
 abbrev pub Ticks : KeptValue → SeatValue → ℕ → List Request → Result Ticked DeskError → KeptValue → SeatValue → Type 0
-Ticks old was time served (Ok ticked) new told = HasTicked old was time served ticked new told
-Ticks old was time served (Err fault) new told =
-    TimeRefused old was time served fault new told ⊎ StopsServing old was time served fault new told
+Ticks old was time served (Ok ticked) new now = HasTicked old was time served ticked new now
+Ticks old was time served (Err fault) new now =
+    TimeRefused old was time served fault new now ⊎ StopsServing old was time served fault new now

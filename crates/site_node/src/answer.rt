@@ -25,14 +25,17 @@ pub fn answer_reply<A: Allocator>(replies: &mut Replies<A>, reply: Reply)
 
 /// Adds the reply to a tick, for which room was reserved before the tick: what it did and how many lines found room, or
 /// why a part of it was refused.
-pub fn answer_tick<A: Allocator>(replies: &mut Replies<A>, told: Result<(Ticked, u64), DeskError>)
+pub fn answer_tick<A: Allocator>(
+    replies: &mut Replies<A>,
+    outcome: Result<(Ticked, u64), DeskError>,
+)
     requires room { TICK_ROOM ≤ replies.old.room }
     requires fresh { replies.old.part ≡ [] }
-    ensures added { AddsReply replies.old replies.new (tick_text told) }
+    ensures added { AddsReply replies.old replies.new (tick_text outcome) }
     ensures short { length replies.new.whole ≤ length replies.old.whole + TICK_ROOM }
 {
-    tick_fits(told);
-    match told {
+    tick_fits(outcome);
+    match outcome {
         Ok((ticked, sent)) => put_ticked(replies, ticked, sent).unwrap(),
         Err(cause) => put_error(replies, cause).unwrap(),
     }

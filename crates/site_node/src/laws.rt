@@ -1,9 +1,9 @@
 //! What clients were told is what seats count: a law of the definitions, with no program in it. The function does nothing.
 ghost use Rattle.std.specs.Prelude.{List};
 ghost use Rattle.apply_lanes.specs.Kepts.{SeatValue};
-ghost use Rattle.site_node.specs.Told.{Turn, HasTurns, CountsTold};
+ghost use Rattle.site_node.specs.Confirmed.{Turn, HasTurns, CountsConfirmed};
 
 /// Whatever turns a client had, its seat counts as issued and as spent exactly what it was told in them.
-pub fn told_is_counted()
-    ensures { (was : SeatValue) (turns : List Turn) (told : SeatValue) → HasTurns was turns told → CountsTold was turns told }
+pub fn confirmed_is_counted()
+    ensures { (was : SeatValue) (turns : List Turn) (now : SeatValue) → HasTurns was turns now → CountsConfirmed was turns now }
 {}

@@ -4,7 +4,7 @@
 //!
 //! **A client is told exactly what the desk did for it.** Each function has one relation in `specs/` for all its
 //! possible effects: the reply belongs to what happened at the desk, or nothing happened. What a client was told as
-//! issued and as spent equals, to the last right, what its seat counts (`laws::told_is_counted`).
+//! issued and as spent equals, to the last right, what its seat counts (`laws::confirmed_is_counted`).
 #![tactic(auto)]
 
 mod answer;

@@ -69,10 +69,10 @@ pub(crate) fn reply_fits(reply: Reply)
 }
 
 /// For the proof: so has the reply to a tick.
-pub(crate) fn tick_fits(told: Result<(Ticked, u64), DeskError>)
-    ensures { length (tick_text told) < TICK_ROOM }
+pub(crate) fn tick_fits(outcome: Result<(Ticked, u64), DeskError>)
+    ensures { length (tick_text outcome) < TICK_ROOM }
 {
-    match told {
+    match outcome {
         Ok((ticked, sent)) => {
             digits_fit(ticked.expired);
             digits_fit(ticked.served);

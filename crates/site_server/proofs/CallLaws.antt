@@ -13,11 +13,11 @@ use Rattle.apply_lanes.specs.Kepts.{SeatValue}
 use Rattle.site_words.specs.declared.commands.SiteCommand.{SiteCommand}
 use Rattle.site_words.specs.declared.commands.SiteCommand.TheVariants.{AtDesk, Tick, Status, Quit}
 use Rattle.site_node.specs.Texts.{reply_text}
-use Rattle.site_node.specs.Told.{Turn, ACommand, HasTurns}
+use Rattle.site_node.specs.Confirmed.{Turn, ACommand, HasTurns}
 use Rattle.site_node.specs.declared.reply.Reply.{Reply}
 use Rattle.site_node.specs.declared.reply.Reply.TheVariants.{Number, Spending, Outcome, Refused}
 use Rattle.site_core.specs.declared.desk.requests.Spending.TheVariants.{Spent, Queued}
-use Rattle.site_node.proofs.ToldLaws.{turns_count}
+use Rattle.site_node.proofs.ConfirmedLaws.{turns_count}
 use Rattle.site_http.specs.Replying.{Answering, AnswersEach, RepliesTo, RepliesToOne, text_of}
 use Rattle.site_http.specs.Responding.{RespondsBy}
 use Rattle.site_http.specs.declared.route.Route.{Route}
@@ -28,7 +28,7 @@ use Rattle.site_server.specs.Settling.{Settles, SettlesCommand}
 use Rattle.site_server.specs.Connections.{ClientValue, Tells, TellsSettled, Answers, Settled, Responded}
 use Rattle.site_server.specs.Conversations.{IsTurn}
 use Rattle.site_server.specs.Requests.{IsSettledTurn, IsQueued, AreTurnsOf, AreBodyTurns, AreRouteTurns, AreCallTurns, AreCallsTurns, Conversed, CountsCalls}
-use Rattle.site_server.proofs.ToldLaws.{turns_of_line, both}
+use Rattle.site_server.proofs.ConfirmedLaws.{turns_of_line, both}
 
 -- a line has turns that lead from one value of the seat to another
 module _ {S : Type 0} (seat : S → SeatValue) (is_turn : Option SiteCommand → List ℕ → List Turn → Type 0) (answers : Answering S)
@@ -52,7 +52,7 @@ module _ {S : Type 0} (seat : S → SeatValue) (is_turn : Option SiteCommand →
   turns_of_body old lines replies code r new (inl all) body =
       let found = turns_of_each old lines replies new all.each in (
         found.0,
-        record { carried = lines; left = []; parted = sym (append-nil lines); replies = replies; are_turns = found.1; told = inl body },
+        record { carried = lines; left = []; parted = sym (append-nil lines); replies = replies; are_turns = found.1; replied = inl body },
         found.2,
       )
   turns_of_body old lines replies code r new (inr stop) body =
@@ -65,7 +65,7 @@ module _ {S : Type 0} (seat : S → SeatValue) (is_turn : Option SiteCommand →
           parted = some.parted;
           replies = stop.given;
           are_turns = found.1;
-          told = inr (body ∙ ap text_of stop.told);
+          replied = inr (body ∙ ap text_of stop.replied);
         },
         found.2,
       )
@@ -88,28 +88,28 @@ settled_text HasEnded id seat (Outcome status) settled text h says = inl (says �
 settled_text HasEnded id seat (Refused cause) settled text h says = inl (says ∙ ap reply_text h)
 
 module _ {P : Type 0} (size : P → ℕ) (sends : P → ℕ → ℕ → P → Type 0) (id : DeskId) where
-  tells_turns : (command : Option SiteCommand) (was : SeatValue) (before : P) (text : List ℕ) (told : SeatValue) (after : P)
-      → Tells size sends id command was before text told after
-      → (turns : List Turn) × IsTurn command text turns × HasTurns was turns told
-  tells_turns None was before text told after h = turns_of_line size sends id None was before text told after h
-  tells_turns (Some (AtDesk command)) was before text told after h = turns_of_line size sends id (Some (AtDesk command)) was before text told after h
-  tells_turns (Some (Tick time)) was before text told after h = turns_of_line size sends id (Some (Tick time)) was before text told after h
-  tells_turns (Some Status) was before text told after h = turns_of_line size sends id (Some Status) was before text told after h
-  tells_turns (Some Quit) was before text told after h = ([], refl, h.1)
+  tells_turns : (command : Option SiteCommand) (was : SeatValue) (before : P) (text : List ℕ) (now : SeatValue) (after : P)
+      → Tells size sends id command was before text now after
+      → (turns : List Turn) × IsTurn command text turns × HasTurns was turns now
+  tells_turns None was before text now after h = turns_of_line size sends id None was before text now after h
+  tells_turns (Some (AtDesk command)) was before text now after h = turns_of_line size sends id (Some (AtDesk command)) was before text now after h
+  tells_turns (Some (Tick time)) was before text now after h = turns_of_line size sends id (Some (Tick time)) was before text now after h
+  tells_turns (Some Status) was before text now after h = turns_of_line size sends id (Some Status) was before text now after h
+  tells_turns (Some Quit) was before text now after h = ([], refl, h.1)
 
-  settled_turns : (HasEnded : Type 0) (command : Option SiteCommand) (was : SeatValue) (before : P) (text : List ℕ) (told : SeatValue) (after : P)
-      → TellsSettled size sends HasEnded id command was before text told after
-      → (turns : List Turn) × IsSettledTurn command text turns × HasTurns was turns told
-  settled_turns HasEnded None was before text told after h = tells_turns None was before text told after h
-  settled_turns HasEnded (Some (AtDesk command)) was before text told after h =
+  settled_turns : (HasEnded : Type 0) (command : Option SiteCommand) (was : SeatValue) (before : P) (text : List ℕ) (now : SeatValue) (after : P)
+      → TellsSettled size sends HasEnded id command was before text now after
+      → (turns : List Turn) × IsSettledTurn command text turns × HasTurns was turns now
+  settled_turns HasEnded None was before text now after h = tells_turns None was before text now after h
+  settled_turns HasEnded (Some (AtDesk command)) was before text now after h =
       let c = h.0 in (
         ACommand command c.reply ∷ [],
-        (c.reply, refl, settled_text HasEnded id told c.reply c.settled text c.settles c.says),
-        (told, (c.at_desk.old, c.at_desk.new, c.at_desk.acts), refl),
+        (c.reply, refl, settled_text HasEnded id now c.reply c.settled text c.settles c.says),
+        (now, (c.at_desk.old, c.at_desk.new, c.at_desk.acts), refl),
       )
-  settled_turns HasEnded (Some (Tick time)) was before text told after h = tells_turns (Some (Tick time)) was before text told after h
-  settled_turns HasEnded (Some Status) was before text told after h = tells_turns (Some Status) was before text told after h
-  settled_turns HasEnded (Some Quit) was before text told after h = tells_turns (Some Quit) was before text told after h
+  settled_turns HasEnded (Some (Tick time)) was before text now after h = tells_turns (Some (Tick time)) was before text now after h
+  settled_turns HasEnded (Some Status) was before text now after h = tells_turns (Some Status) was before text now after h
+  settled_turns HasEnded (Some Quit) was before text now after h = tells_turns (Some Quit) was before text now after h
 
   module _ {B : Type 0} (has_ended : B → Type 0) where
     one : (old : ClientValue P B) (line reply : List ℕ) (new : ClientValue P B) → Answers size sends has_ended id old line reply new
@@ -119,7 +119,7 @@ module _ {P : Type 0} (size : P → ℕ) (sends : P → ℕ → ℕ → P → Ty
     one_settled : (old : ClientValue P B) (line reply : List ℕ) (new : ClientValue P B) → Settled size sends has_ended id old line reply new
         → (turns : List Turn) × IsSettledTurn (asked line) reply turns × HasTurns old.seat turns new.seat
     one_settled old line reply new h =
-        settled_turns (has_ended old.bell) (asked line) old.seat old.peers reply new.seat new.peers h
+        settled_turns (has_ended old.signal) (asked line) old.seat old.peers reply new.seat new.peers h
 
     turns_of_route : (old : ClientValue P B) (route : Route) (body : List ℕ) (r : Response) (new : ClientValue P B)
         → RespondsBy (Answers size sends has_ended id) (Settled size sends has_ended id) (λ client text. TellsStatus id text) (λ client text. TellsMetrics id text) (λ client is_closed. TellsClosed id is_closed) old route body r new

@@ -3,5 +3,5 @@ mod HearLaws
 mod LineLaws
 mod SendLaws
 mod SettleLaws
-mod ToldLaws
+mod ConfirmedLaws
 mod EndingLaws

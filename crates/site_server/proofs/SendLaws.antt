@@ -6,7 +6,7 @@ use Rattle.rights_types.specs.declared.fault.OutOfMemory.{OutOfMemory}
 use Rattle.thread_parts.specs.declared.view.DeskView.{DeskView}
 use Rattle.line_streams.specs.Waiting.{Waiting, AddsReply}
 use Rattle.apply_lanes.specs.Names.{DeskId}
-use Rattle.site_sockets.specs.declared.peer.Peer.{Peer}
+use Rattle.site_sockets.specs.declared.peer.PeerState.{PeerState}
 use Rattle.site_words.specs.Status.{status_text}
 use Rattle.site_words.specs.declared.status_object.PeerView.{PeerView}
 use Rattle.site_metrics.specs.Table.{metrics_text}
@@ -16,7 +16,7 @@ use Rattle.site_server.specs.Measuring.{AreMetrics, TellsMetrics}
 use Rattle.site_server.specs.Outboxes.{SendsDue, SendsToPeer, TakesAny}
 use Rattle.site_server.specs.Replying.{AreViews, TellsStatus}
 
-pub sends_to_peer : (Outbox : Type 0) (id : DeskId) (peers : List Peer) (place : ℕ) (other : Peer) (before after : Outbox) (result : Result ℕ OutOfMemory)
+pub sends_to_peer : (Outbox : Type 0) (id : DeskId) (peers : List PeerState) (place : ℕ) (other : PeerState) (before after : Outbox) (result : Result ℕ OutOfMemory)
     → place < length peers → IfOk result (λ sent. SendsDue {S = Outbox} TakesAny id (get_or peers place other).site before sent after)
     → IfOk result (λ sent. SendsToPeer Outbox id peers place sent)
 sends_to_peer Outbox id peers place other before after (Ok sent) within sends =

@@ -9,22 +9,22 @@ use Rattle.site_node.specs.declared.reply.Reply.TheVariants.{Number, Spending, O
 use Rattle.site_server.specs.Replying.{ActsAtDesk}
 use Rattle.site_server.specs.Settling.{TellsOutcome, still_waits}
 
-same_seat : (old : KeptValue) (was : SeatValue) (ticket : ℕ) (reply : Reply) (new : KeptValue) (told : SeatValue)
-    → ActsOutcome old was ticket reply new told → told ≡ was
-same_seat old was ticket (Number n) new told h = absurd h
-same_seat old was ticket (Spending spending) new told h = absurd h
-same_seat old was ticket (Outcome status) new told h = h.same_seat
-same_seat old was ticket (Refused cause) new told h = absurd h
+same_seat : (old : KeptValue) (was : SeatValue) (ticket : ℕ) (reply : Reply) (new : KeptValue) (now : SeatValue)
+    → ActsOutcome old was ticket reply new now → now ≡ was
+same_seat old was ticket (Number n) new now h = absurd h
+same_seat old was ticket (Spending spending) new now h = absurd h
+same_seat old was ticket (Outcome status) new now h = h.same_seat
+same_seat old was ticket (Refused cause) new now h = absurd h
 
 -- to ask for an outcome leaves the seat as it was
-pub keeps_seat : (id : DeskId) (was : SeatValue) (ticket : ℕ) (reply : Reply) (told : SeatValue)
-    → ActsAtDesk id was (AsksOutcome ticket) reply told → told ≡ was
-keeps_seat id was ticket reply told h = same_seat h.old was ticket reply h.new told h.acts
+pub keeps_seat : (id : DeskId) (was : SeatValue) (ticket : ℕ) (reply : Reply) (now : SeatValue)
+    → ActsAtDesk id was (AsksOutcome ticket) reply now → now ≡ was
+keeps_seat id was ticket reply now h = same_seat h.old was ticket reply h.new now h.acts
 
-pub tells_outcome : (id : DeskId) (was : SeatValue) (ticket : ℕ) (reply : Reply) (told : SeatValue)
-    → ActsAtDesk id was (AsksOutcome ticket) reply told → still_waits reply ≡ false → TellsOutcome id was ticket reply
-tells_outcome id was ticket reply told h decided =
+pub tells_outcome : (id : DeskId) (was : SeatValue) (ticket : ℕ) (reply : Reply) (now : SeatValue)
+    → ActsAtDesk id was (AsksOutcome ticket) reply now → still_waits reply ≡ false → TellsOutcome id was ticket reply
+tells_outcome id was ticket reply now h decided =
     record {
-      at_desk = subst (λ (s : SeatValue). ActsAtDesk id was (AsksOutcome ticket) reply s) (keeps_seat id was ticket reply told h) h;
+      at_desk = subst (λ (s : SeatValue). ActsAtDesk id was (AsksOutcome ticket) reply s) (keeps_seat id was ticket reply now h) h;
       decided = decided;
     }

@@ -16,19 +16,19 @@ use Rattle.site_server.specs.Settling.{SettlesCommand}
 pub record ClientValue (P B : Type 0) : Type 0 where
   pub seat : SeatValue
   pub peers : P
-  pub bell : B
+  pub signal : B
 
 module _ {P : Type 0} (size : P → ℕ) (sends : P → ℕ → ℕ → P → Type 0) where
   -- over a connection nothing ends the site: `quit` is no command
   abbrev pub Tells : DeskId → Option SiteCommand → SeatValue → P → List ℕ → SeatValue → P → Type 0
-  Tells id (Some Quit) was before text told after = Says size sends id None was before text told after
-  Tells id command was before text told after = Says size sends id command was before text told after
+  Tells id (Some Quit) was before text now after = Says size sends id None was before text now after
+  Tells id command was before text now after = Says size sends id command was before text now after
 
   -- .. to a client that waits for what becomes of its spend
   abbrev pub TellsSettled : Type 0 → DeskId → Option SiteCommand → SeatValue → P → List ℕ → SeatValue → P → Type 0
-  TellsSettled HasEnded id (Some (AtDesk command)) was before text told after =
-      SettlesCommand HasEnded id was command text told × (after ≡ before)
-  TellsSettled HasEnded id command was before text told after = Tells id command was before text told after
+  TellsSettled HasEnded id (Some (AtDesk command)) was before text now after =
+      SettlesCommand HasEnded id was command text now × (after ≡ before)
+  TellsSettled HasEnded id command was before text now after = Tells id command was before text now after
 
   -- what a request of a client gets over a connection
   module _ {B : Type 0} (has_ended : B → Type 0) (id : DeskId) where
@@ -36,7 +36,7 @@ module _ {P : Type 0} (size : P → ℕ) (sends : P → ℕ → ℕ → P → Ty
     Answers before line text after = Tells id (asked line) before.seat before.peers text after.seat after.peers
 
     abbrev pub Settled : Answering (ClientValue P B)
-    Settled before line text after = TellsSettled (has_ended before.bell) id (asked line) before.seat before.peers text after.seat after.peers
+    Settled before line text after = TellsSettled (has_ended before.signal) id (asked line) before.seat before.peers text after.seat after.peers
 
     abbrev pub Responded : ClientValue P B → Request (List ℕ) → Response → ClientValue P B → Type 0
     Responded = Responds Answers Settled (λ client text. TellsStatus id text) (λ client text. TellsMetrics id text) (λ client is_closed. TellsClosed id is_closed)

@@ -6,8 +6,8 @@ use Rattle.apply_lanes.specs.Kepts.{SeatValue}
 use Rattle.site_words.specs.declared.commands.SiteCommand.{SiteCommand}
 use Rattle.site_words.specs.declared.commands.SiteCommand.TheVariants.{AtDesk, Tick}
 use Rattle.site_node.specs.Texts.{reply_text}
-use Rattle.site_node.specs.Told.{Turn, HasTurns, CountsTold}
-use Rattle.site_node.specs.Told.{ACommand, ATick}
+use Rattle.site_node.specs.Confirmed.{Turn, HasTurns, CountsConfirmed}
+use Rattle.site_node.specs.Confirmed.{ACommand, ATick}
 use Rattle.site_node.specs.declared.reply.Reply.{Reply}
 use Rattle.site_node.specs.declared.tick.Ticked.{Ticked}
 use Rattle.site_server.specs.Replying.{asked}
@@ -27,8 +27,8 @@ AreTurns (line ∷ lines) text turns =
     × IsTurn (asked line) reply first × AreTurns lines more rest × (text ≡ (reply ++ 10 ∷ []) ++ more) × (turns ≡ first ++ rest)
 
 -- what the client was told as issued and as spent in the replies to these lines is what its seat counts more
-pub record CountsReplies (was : SeatValue) (lines : List (List ℕ)) (text : List ℕ) (told : SeatValue) : Type 0 where
+pub record CountsReplies (was : SeatValue) (lines : List (List ℕ)) (text : List ℕ) (now : SeatValue) : Type 0 where
   pub turns : List Turn
   pub are_turns : AreTurns lines text turns
-  pub has_turns : HasTurns was turns told
-  pub counted : CountsTold was turns told
+  pub has_turns : HasTurns was turns now
+  pub counted : CountsConfirmed was turns now

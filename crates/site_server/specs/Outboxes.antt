@@ -4,7 +4,7 @@ use Rattle.std.specs.List.{slice_get}
 use Rattle.apply_lanes.specs.Names.{DeskId}
 use Rattle.apply_lanes.specs.Kepts.{KeptValue, IsKept}
 use Rattle.site_node.specs.Sending.{OffersDue}
-use Rattle.site_sockets.specs.declared.peer.Peer.{Peer}
+use Rattle.site_sockets.specs.declared.peer.PeerState.{PeerState}
 
 -- an outbox whose lock hides its lines takes any line, or finds no room for it
 abbrev pub TakesAny : {S : Type 0} → S → List ℕ → Bool → S → Type 0
@@ -18,8 +18,8 @@ pub record SendsDue {S : Type 0} (takes : S → List ℕ → Bool → S → Type
   pub offers : OffersDue takes old site before sent new after
 
 -- .. to the outbox of the peer at this place
-pub record SendsToPeer (Outbox : Type 0) (id : DeskId) (peers : List Peer) (place sent : ℕ) : Type 0 where
-  pub peer : Peer
+pub record SendsToPeer (Outbox : Type 0) (id : DeskId) (peers : List PeerState) (place sent : ℕ) : Type 0 where
+  pub peer : PeerState
   pub listed : slice_get peers place ≡ Some peer
   pub before : Outbox
   pub after : Outbox

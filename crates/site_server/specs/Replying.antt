@@ -35,25 +35,25 @@ asked line = if nat_le (length line) MAX_LINE then command_of (take (length line
 -- ---- replies
 
 -- the desk carried the command out, under its lock, and this is the reply
-pub record ActsAtDesk (id : DeskId) (was : SeatValue) (command : DeskCommand) (reply : Reply) (told : SeatValue) : Type 0 where
+pub record ActsAtDesk (id : DeskId) (was : SeatValue) (command : DeskCommand) (reply : Reply) (now : SeatValue) : Type 0 where
   pub old : KeptValue
   pub new : KeptValue
   pub valid : IsKept id old
-  pub acts : Acts old was command reply new told
+  pub acts : Acts old was command reply new now
 
 -- .. and this is its text
-pub record CarriesOut (id : DeskId) (was : SeatValue) (command : DeskCommand) (text : List ℕ) (told : SeatValue) : Type 0 where
+pub record CarriesOut (id : DeskId) (was : SeatValue) (command : DeskCommand) (text : List ℕ) (now : SeatValue) : Type 0 where
   pub reply : Reply
-  pub at_desk : ActsAtDesk id was command reply told
+  pub at_desk : ActsAtDesk id was command reply now
   pub says : text ≡ reply_text reply
 
 -- all that is due at this time was done at the desk, under its lock
-pub record TicksAtDesk (id : DeskId) (was : SeatValue) (time : ℕ) (ticked : Result Ticked DeskError) (told : SeatValue) : Type 0 where
+pub record TicksAtDesk (id : DeskId) (was : SeatValue) (time : ℕ) (ticked : Result Ticked DeskError) (now : SeatValue) : Type 0 where
   pub old : KeptValue
   pub new : KeptValue
   pub served : List Request
   pub valid : IsKept id old
-  pub ticks : Ticks old was time served ticked new told
+  pub ticks : Ticks old was time served ticked new now
 
 -- so much of that log was applied at the desk
 abbrev pub IsApplied : DeskValue → PeerView → Type 0
@@ -76,39 +76,39 @@ pub record TellsStatus (id : DeskId) (text : List ℕ) : Type 0 where
 module _ {P : Type 0} (size : P → ℕ) (sends : P → ℕ → ℕ → P → Type 0) where
   -- after a tick at the desk all peers are sent what is due to them, unless memory is wanted; after a refusal none is
   abbrev pub ThenSends : Result Ticked DeskError → P → Result (Ticked × ℕ) DeskError → P → Type 0
-  ThenSends (Ok ticked) before (Ok (told, sent)) after = (told ≡ ticked) × SendsToFirst sends (size before) before sent after
+  ThenSends (Ok ticked) before (Ok (done, sent)) after = (done ≡ ticked) × SendsToFirst sends (size before) before sent after
   ThenSends (Ok ticked) before (Err fault) after = fault ≡ OutOfMemory
   ThenSends (Err fault) before result after = (result ≡ Err fault) × (after ≡ before)
 
-  pub record TicksAndSends (id : DeskId) (was : SeatValue) (before : P) (time : ℕ) (result : Result (Ticked × ℕ) DeskError) (told : SeatValue) (after : P) : Type 0 where
+  pub record TicksAndSends (id : DeskId) (was : SeatValue) (before : P) (time : ℕ) (result : Result (Ticked × ℕ) DeskError) (now : SeatValue) (after : P) : Type 0 where
     pub ticked : Result Ticked DeskError
-    pub at_desk : TicksAtDesk id was time ticked told
+    pub at_desk : TicksAtDesk id was time ticked now
     pub then_sends : ThenSends ticked before result after
 
   -- .. and this is the reply
-  pub record DoesDue (id : DeskId) (was : SeatValue) (before : P) (time : ℕ) (text : List ℕ) (told : SeatValue) (after : P) : Type 0 where
+  pub record DoesDue (id : DeskId) (was : SeatValue) (before : P) (time : ℕ) (text : List ℕ) (now : SeatValue) (after : P) : Type 0 where
     pub result : Result (Ticked × ℕ) DeskError
-    pub does : TicksAndSends id was before time result told after
+    pub does : TicksAndSends id was before time result now after
     pub says : text ≡ tick_text result
 
   -- ---- lines
 
   -- the reply to what a line asks for, and what is left of the seat and the peers; `quit` gets none
   abbrev pub Says : DeskId → Option SiteCommand → SeatValue → P → List ℕ → SeatValue → P → Type 0
-  Says id None was before text told after = (text ≡ bad_command) × (told ≡ was) × (after ≡ before)
-  Says id (Some (AtDesk command)) was before text told after = CarriesOut id was command text told × (after ≡ before)
-  Says id (Some (Tick time)) was before text told after = DoesDue id was before time text told after
-  Says id (Some Status) was before text told after = TellsStatus id text × (told ≡ was) × (after ≡ before)
-  Says id (Some Quit) was before text told after = ⊥
+  Says id None was before text now after = (text ≡ bad_command) × (now ≡ was) × (after ≡ before)
+  Says id (Some (AtDesk command)) was before text now after = CarriesOut id was command text now × (after ≡ before)
+  Says id (Some (Tick time)) was before text now after = DoesDue id was before time text now after
+  Says id (Some Status) was before text now after = TellsStatus id text × (now ≡ was) × (after ≡ before)
+  Says id (Some Quit) was before text now after = ⊥
 
   -- `quit` ends the conversation, and nothing else does
   abbrev pub Gets : DeskId → Option SiteCommand → SeatValue → P → Option (List ℕ) → SeatValue → P → Type 0
-  Gets id command was before (Some text) told after = Says id command was before text told after
-  Gets id command was before None told after = (command ≡ Some Quit) × (told ≡ was) × (after ≡ before)
+  Gets id command was before (Some text) now after = Says id command was before text now after
+  Gets id command was before None now after = (command ≡ Some Quit) × (now ≡ was) × (after ≡ before)
 
   -- .. as replies that wait to be written
   abbrev pub GetsBy : Goes → DeskId → Option SiteCommand → SeatValue → P → Waiting → SeatValue → P → Waiting → Type 0
-  GetsBy On id command was before waits told after waits' =
-      (text : List ℕ) × Gets id command was before (Some text) told after × AddsReply waits waits' text
-  GetsBy Ends id command was before waits told after waits' =
-      Gets id command was before None told after × (waits'.whole ≡ waits.whole) × (waits'.part ≡ [])
+  GetsBy On id command was before waits now after waits' =
+      (text : List ℕ) × Gets id command was before (Some text) now after × AddsReply waits waits' text
+  GetsBy Ends id command was before waits now after waits' =
+      Gets id command was before None now after × (waits'.whole ≡ waits.whole) × (waits'.part ≡ [])

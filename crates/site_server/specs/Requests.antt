@@ -13,7 +13,7 @@ use Rattle.apply_lanes.specs.Kepts.{SeatValue}
 use Rattle.site_words.specs.declared.commands.SiteCommand.{SiteCommand}
 use Rattle.site_words.specs.declared.commands.SiteCommand.TheVariants.{AtDesk}
 use Rattle.site_node.specs.Texts.{reply_text}
-use Rattle.site_node.specs.Told.{Turn, ACommand, HasTurns, CountsTold}
+use Rattle.site_node.specs.Confirmed.{Turn, ACommand, HasTurns, CountsConfirmed}
 use Rattle.site_node.specs.declared.reply.Reply.{Reply}
 use Rattle.site_node.specs.declared.reply.Reply.TheVariants.{Spending}
 use Rattle.site_http.specs.Replying.{text_of, no_memory}
@@ -59,7 +59,7 @@ module _ (is_turn : Option SiteCommand → List ℕ → List Turn → Type 0) wh
     pub parted : lines ≡ carried ++ left
     pub replies : List (List ℕ)
     pub are_turns : AreTurnsOf carried replies turns
-    pub told : (r.body.items ≡ text_of replies) ⊎ (r.body.items ≡ text_of (replies ++ no_memory ∷ []))
+    pub replied : (r.body.items ≡ text_of replies) ⊎ (r.body.items ≡ text_of (replies ++ no_memory ∷ []))
 
 -- the turns of a request and its response, by its route
 abbrev pub AreRouteTurns : Route → List ℕ → Response → List Turn → Type 0
@@ -77,8 +77,8 @@ AreCallsTurns (call ∷ calls) turns =
     (first : List Turn) × (rest : List Turn) × AreCallTurns call.0 call.1 first × AreCallsTurns calls rest × (turns ≡ first ++ rest)
 
 -- what the client was told as issued and as spent in the responses to these requests is what its seat counts more
-pub record CountsCalls (was : SeatValue) (calls : List Call) (told : SeatValue) : Type 0 where
+pub record CountsCalls (was : SeatValue) (calls : List Call) (now : SeatValue) : Type 0 where
   pub turns : List Turn
   pub are_turns : AreCallsTurns calls turns
-  pub has_turns : HasTurns was turns told
-  pub counted : CountsTold was turns told
+  pub has_turns : HasTurns was turns now
+  pub counted : CountsConfirmed was turns now

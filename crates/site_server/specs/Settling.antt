@@ -29,9 +29,9 @@ Settles HasEnded id seat (Spending (Queued ticket)) settled =
 Settles HasEnded id seat reply settled = settled ≡ reply
 
 -- the desk carried the command out, under its lock, and this is the text of what the client is told in the end
-pub record SettlesCommand (HasEnded : Type 0) (id : DeskId) (was : SeatValue) (command : DeskCommand) (text : List ℕ) (told : SeatValue) : Type 0 where
+pub record SettlesCommand (HasEnded : Type 0) (id : DeskId) (was : SeatValue) (command : DeskCommand) (text : List ℕ) (now : SeatValue) : Type 0 where
   pub reply : Reply
   pub settled : Reply
-  pub at_desk : ActsAtDesk id was command reply told
-  pub settles : Settles HasEnded id told reply settled
+  pub at_desk : ActsAtDesk id was command reply now
+  pub settles : Settles HasEnded id now reply settled
   pub says : text ≡ reply_text settled

@@ -4,7 +4,6 @@
 ghost use Rattle.std.specs.Prelude.{◌≡◌};
 ghost use Rattle.apply_lanes.specs.Names.{id_of, AreBlank, IsUnused};
 
-mod bell;
 mod client;
 mod connection;
 mod ending;
@@ -16,19 +15,20 @@ mod settling;
 mod shared;
 mod slots;
 mod starting;
+mod tick_signal;
 mod ticking;
 
 use crate::site::client::client_at;
 use crate::site::ending::{say_no_report, say_report, stop_desk};
-use crate::site::receiving::{Link, links_of};
+use crate::site::receiving::{PeerLink, links_of};
 use crate::site::serving::begin_clients;
 use crate::site::shared::{COMMANDS, Shared};
 use crate::site::starting::start_once;
 use crate::site::ticking::begin_ticks;
 use apply_lanes::{Blanks, DeskNames};
-use line_streams::LineFault;
+use line_streams::ConversationError;
 use site_core::Desk;
-use site_sockets::{Peer, Site, begin_door, begin_sender};
+use site_sockets::{PeerState, Site, begin_acceptor, begin_sender};
 use site_words::{Config, SiteFault};
 use std::fs::Files;
 use std::io::{Eprint, Read, Write};
@@ -128,15 +128,15 @@ fn run_threads<
     site: &Site,
     every: Option<u64>,
     shared: &Arc<Shared<D>>,
-    links: Vec<Link<D>>,
+    links: Vec<PeerLink<D>>,
     mut reader: I,
     mut writer: W,
-) -> Result<(), LineFault> {
+) -> Result<(), ConversationError> {
     thread::scope(thread::scope_env(), rt, |scope| {
         let ended = if begin_all(scope, rt, site, every, shared, links) {
             answer_commands(rt, site, shared, &mut reader, &mut writer)
         } else {
-            Err(LineFault::OutOfMemory)
+            Err(ConversationError::OutOfMemory)
         };
         site.shut_down(rt);
         ended
@@ -150,9 +150,9 @@ fn answer_commands<D: DeskNames, R: Wait + AllocGlobal, I: Read, W: Write>(
     shared: &Arc<Shared<D>>,
     reader: &mut I,
     writer: &mut W,
-) -> Result<(), LineFault> {
+) -> Result<(), ConversationError> {
     let Some(mut client) = client_at(rt, site, shared, COMMANDS) else {
-        return Err(LineFault::OutOfMemory);
+        return Err(ConversationError::OutOfMemory);
     };
     let ended = client.answer_all(reader, writer);
     shared.seats.put(rt, COMMANDS, client.into_seat());
@@ -179,9 +179,9 @@ fn begin_all<
     site: &'s Site,
     every: Option<u64>,
     shared: &Arc<Shared<D>>,
-    links: Vec<Link<D>>,
+    links: Vec<PeerLink<D>>,
 ) -> bool {
-    let mut has_all = begin_door(scope, rt, site);
+    let mut has_all = begin_acceptor(scope, rt, site);
     has_all &= begin_clients(scope, rt, site, shared);
     has_all &= begin_ticks(scope, rt, site, every, shared);
     for link in links {
@@ -203,7 +203,7 @@ fn begin_peer<
         + Eprint
         + AllocGlobal
         + Sync,
->(scope: &Scope<'s, E>, rt: &'s R, site: &'s Site, link: Link<D>) -> bool {
+>(scope: &Scope<'s, E>, rt: &'s R, site: &'s Site, link: PeerLink<D>) -> bool {
     match site.peer(link.origin) {
         Some(peer) => {
             begin_link(scope, rt, site, peer, link) && begin_sender(scope, rt, site, peer)
@@ -218,8 +218,8 @@ fn begin_link<
     E,
     D: DeskNames + Send + Sync + 's,
     R: Wait + Clock + Eprint + AllocGlobal + Sync,
->(scope: &Scope<'s, E>, rt: &'s R, site: &'s Site, peer: &'s Peer, link: Link<D>) -> bool {
-    let Link {
+>(scope: &Scope<'s, E>, rt: &'s R, site: &'s Site, peer: &'s PeerState, link: PeerLink<D>) -> bool {
+    let PeerLink {
         receiver,
         applier,
         ..

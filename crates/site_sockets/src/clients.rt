@@ -1,7 +1,7 @@
 //! Clients that connect: where they are let in, and what ends them.
 
-use crate::hall::Hall;
-use crate::patient::Patient;
+use crate::connection_pool::ConnectionPool;
+use crate::deadline_reader::DeadlineReader;
 use line_streams::{read_some, write_some};
 use rights_types::OutOfMemory;
 use std::alloc::Global;
@@ -29,7 +29,7 @@ const REST_MILLISECONDS: u64 = 10;
 
 /// A connection, and the place that it has.
 #[derive(Drop)]
-pub enum Caller {
+pub enum Accepted {
     Client(TcpStream, usize),
     /// All places of clients are taken. This one it has till it was told so.
     TurnedAway(TcpStream, usize),
@@ -41,8 +41,8 @@ pub struct Clients {
     listener: TcpListener,
     /// Whether it is written to standard error that clients are turned away.
     log: bool,
-    hall: Hall,
-    porch: Hall,
+    pool: ConnectionPool,
+    turned_away: ConnectionPool,
     /// Whether the last one that came was turned away.
     is_full: AtomicBool,
 }
@@ -56,43 +56,43 @@ impl Clients {
         Ok(Clients {
             listener,
             log,
-            hall: Hall::new(alloc, CLIENTS)?,
-            porch: Hall::new(alloc, TURNED_AWAY)?,
+            pool: ConnectionPool::new(alloc, CLIENTS)?,
+            turned_away: ConnectionPool::new(alloc, TURNED_AWAY)?,
             is_full: AtomicBool::new(false),
         })
     }
 
     /// How many are connected.
     pub fn count<R: Wait>(&self, rt: &R) -> usize {
-        self.hall.count(rt)
+        self.pool.count(rt)
     }
 
     /// The next connection that finds a place. None once the site ends.
-    pub fn next<R: Wait + Clock + Eprint>(&self, rt: &R) -> Option<Caller> {
+    pub fn next<R: Wait + Clock + Eprint>(&self, rt: &R) -> Option<Accepted> {
         for stream in self.listener.incoming() {
-            if self.hall.is_closed(rt) {
+            if self.pool.is_closed(rt) {
                 return None;
             }
             let Ok(stream) = stream else {
                 thread::sleep(rt, Duration::from_millis(REST_MILLISECONDS));
                 continue;
             };
-            if let Some(caller) = self.admit(rt, stream) {
-                return Some(caller);
+            if let Some(accepted) = self.admit(rt, stream) {
+                return Some(accepted);
             }
         }
         None
     }
 
-    fn admit<R: Wait + Eprint>(&self, rt: &R, stream: TcpStream) -> Option<Caller> {
+    fn admit<R: Wait + Eprint>(&self, rt: &R, stream: TcpStream) -> Option<Accepted> {
         prepare(&stream).ok()?;
-        if let Some(place) = self.hall.enter(rt, &stream) {
+        if let Some(place) = self.pool.enter(rt, &stream) {
             self.is_full.store(false, Ordering::Relaxed);
-            return Some(Caller::Client(stream, place));
+            return Some(Accepted::Client(stream, place));
         }
         self.note_full(rt, &stream);
-        let place = self.porch.enter(rt, &stream)?;
-        Some(Caller::TurnedAway(stream, place))
+        let place = self.turned_away.enter(rt, &stream)?;
+        Some(Accepted::TurnedAway(stream, place))
     }
 
     fn note_full<R: Eprint>(&self, rt: &R, stream: &TcpStream) {
@@ -110,7 +110,7 @@ impl Clients {
     /// The stream of the client at this place, to be read and written.
     pub fn stream<'a>(&'a self, stream: &'a TcpStream, place: usize) -> ClientStream<'a> {
         ClientStream {
-            hall: &self.hall,
+            pool: &self.pool,
             stream,
             place,
         }
@@ -118,26 +118,26 @@ impl Clients {
 
     /// The client at this place has gone.
     pub fn leave<R: Wait>(&self, rt: &R, place: usize) {
-        self.hall.leave(rt, place);
+        self.pool.leave(rt, place);
     }
 
     /// The one at this place was told that it is turned away.
-    pub fn leave_porch<R: Wait>(&self, rt: &R, place: usize) {
-        self.porch.leave(rt, place);
+    pub fn leave_turned_away<R: Wait>(&self, rt: &R, place: usize) {
+        self.turned_away.leave(rt, place);
     }
 
     /// Lets no client in any more, and no request begin. Waits until those that have begun are answered, or the time is over.
     pub(crate) fn end<R: Net<Stream = TcpStream> + Wait + Clock>(&self, rt: &R, time: Duration) {
-        self.hall.end(rt);
-        self.porch.end(rt);
+        self.pool.end(rt);
+        self.turned_away.end(rt);
         wake(rt, &self.listener);
-        self.hall.wait_until_empty(rt, time);
+        self.pool.wait_until_empty(rt, time);
     }
 
     /// Leaves no client connected.
     pub(crate) fn close<R: Wait>(&self, rt: &R) {
-        self.hall.close(rt);
-        self.porch.close(rt);
+        self.pool.close(rt);
+        self.turned_away.close(rt);
     }
 }
 
@@ -145,14 +145,14 @@ impl Clients {
 /// at once, the rest of them counts as one only once more of it is read.
 #[derive(Drop)]
 pub struct ClientStream<'a> {
-    hall: &'a Hall,
+    pool: &'a ConnectionPool,
     stream: &'a TcpStream,
     place: usize,
 }
 
 impl Read for ClientStream<'_> {
     fn read(&mut self, buf: &mut [u8]) -> io::Result<usize> {
-        if self.hall.is_done(self.place) {
+        if self.pool.is_done(self.place) {
             return Ok(0);
         }
         let mut stream = self.stream;
@@ -161,7 +161,7 @@ impl Read for ClientStream<'_> {
             return Err(io::Error::from(ErrorKind::Other));
         };
         if count > 0 {
-            self.hall.set_idle(self.place, false);
+            self.pool.set_idle(self.place, false);
         }
         Ok(count)
     }
@@ -171,7 +171,7 @@ impl Write for ClientStream<'_> {
     fn write(&mut self, buf: &[u8]) -> io::Result<usize> {
         let mut stream = self.stream;
         let count = write_some(&mut stream, buf);
-        self.hall.set_idle(self.place, true);
+        self.pool.set_idle(self.place, true);
         Ok(count)
     }
 
@@ -195,17 +195,21 @@ fn prepare(stream: &TcpStream) -> io::Result<()> {
 }
 
 /// A stream of which no more is read than comes in a second, however slowly: that of who is turned away.
-pub fn hurried<'a, R: Clock>(rt: &'a R, stream: &'a TcpStream) -> io::Result<Patient<'a, R>> {
-    Patient::new(rt, stream, Duration::from_secs(LAST_READ_SECONDS))
+pub fn bounded_reader<'a, R: Clock>(
+    rt: &'a R,
+    stream: &'a TcpStream,
+) -> io::Result<DeadlineReader<'a, R>> {
+    DeadlineReader::new(rt, stream, Duration::from_secs(LAST_READ_SECONDS))
 }
 
 /// Says that nothing more is written, and drops what still comes for a second at most: a stream that is closed with
 /// bytes unread takes back what was written to it last.
-pub fn part<R: Clock>(rt: &R, stream: &TcpStream) {
+pub fn close_gracefully<R: Clock>(rt: &R, stream: &TcpStream) {
     if stream.shutdown(Shutdown::Write).is_err() {
         return;
     }
-    let Ok(mut reader) = Patient::new(rt, stream, Duration::from_secs(LAST_READ_SECONDS)) else {
+    let Ok(mut reader) = DeadlineReader::new(rt, stream, Duration::from_secs(LAST_READ_SECONDS))
+    else {
         return;
     };
     let mut room = [0; 4096];

@@ -2,24 +2,24 @@
 //! This crate does not know what the desk does with them.
 #![tactic(auto)]
 
-mod breaker;
+mod acceptor;
 mod clients;
-mod door;
+mod connection_pool;
+mod connection_slot;
+mod deadline_reader;
 mod events;
-mod hall;
-mod mailbox;
-mod moments;
-mod patient;
 mod peer;
 mod sending;
+mod shutdown_handle;
 mod site;
+mod tick_notifier;
 
-pub use clients::{CLIENTS, Caller, ClientStream, Clients, hurried, part};
-pub use door::begin_door;
+pub use acceptor::begin_acceptor;
+pub use clients::{Accepted, CLIENTS, ClientStream, Clients, bounded_reader, close_gracefully};
+pub use connection_slot::{Connection, ConnectionSlot};
+pub use deadline_reader::DeadlineReader;
 pub use events::{LinkEvents, SkipCause};
-pub use mailbox::{Connection, Mailbox};
-pub use moments::Moments;
-pub use patient::Patient;
-pub use peer::Peer;
+pub use peer::PeerState;
 pub use sending::begin_sender;
 pub use site::Site;
+pub use tick_notifier::TickNotifier;

@@ -2,9 +2,9 @@
 ghost use Rattle.std.specs.Prelude.{◌≡◌};
 ghost use Rattle.entry_codec.specs.Pieces.{IsLine};
 
-use crate::breaker::Breaker;
+use crate::connection_slot::ConnectionSlot;
 use crate::events::LinkEvents;
-use crate::mailbox::Mailbox;
+use crate::shutdown_handle::ShutdownHandle;
 use peer_links::Outbox;
 use rights_types::{OutOfMemory, SiteId};
 use site_words::{Config, PeerView};
@@ -21,28 +21,33 @@ struct Seen {
 
 /// Another site, as the threads that deal with it share it.
 #[derive(Drop)]
-pub struct Peer {
+pub struct PeerState {
     pub site: SiteId,
     /// Where it listens.
     pub(crate) address: String,
     pub(crate) outbox: Outbox,
     /// The connection that lines are sent by.
-    pub(crate) sending: Breaker,
+    pub(crate) sending: ShutdownHandle,
     /// The connections that it made.
-    pub mailbox: Mailbox,
+    pub connection_slot: ConnectionSlot,
     /// What happened on the links with it.
     pub events: LinkEvents,
     seen: Mutex<Seen>,
 }
 
-impl Peer {
-    fn new(alloc: Global, site: SiteId, address: &str, log: bool) -> Result<Peer, OutOfMemory> {
-        Ok(Peer {
+impl PeerState {
+    fn new(
+        alloc: Global,
+        site: SiteId,
+        address: &str,
+        log: bool,
+    ) -> Result<PeerState, OutOfMemory> {
+        Ok(PeerState {
             site,
             address: String::from_str(alloc, address)?,
             outbox: Outbox::new(alloc)?,
-            sending: Breaker::new(),
-            mailbox: Mailbox::new(),
+            sending: ShutdownHandle::new(),
+            connection_slot: ConnectionSlot::new(),
             events: LinkEvents::new(site, log),
             seen: Mutex::new(Seen {
                 buffering: false,
@@ -80,7 +85,7 @@ impl Peer {
     pub(crate) fn close<R: Wait>(&self, rt: &R) {
         self.outbox.abandon(rt);
         self.sending.close(rt);
-        self.mailbox.close(rt);
+        self.connection_slot.close(rt);
     }
 
     /// What the status says of this peer, of which so much was applied.
@@ -99,10 +104,10 @@ impl Peer {
 }
 
 /// All peers, in the order of the sites.
-pub(crate) fn peers_of(alloc: Global, config: &Config) -> Result<Vec<Peer>, OutOfMemory> {
+pub(crate) fn peers_of(alloc: Global, config: &Config) -> Result<Vec<PeerState>, OutOfMemory> {
     let mut peers = Vec::new(alloc);
     for peer in config.peers() {
-        peers.push(Peer::new(alloc, peer.site(), peer.address(), config.log())?)?;
+        peers.push(PeerState::new(alloc, peer.site(), peer.address(), config.log())?)?;
     }
     Ok(peers)
 }

@@ -1,6 +1,6 @@
 //! Sending to the peers what waits in their outboxes.
 
-use crate::peer::Peer;
+use crate::peer::PeerState;
 use crate::site::{CONNECT_SECONDS, Site};
 use entry_codec::write_line;
 use line_streams::write_whole;
@@ -52,7 +52,7 @@ impl Senders {
 fn send_to<R: Net<Stream = TcpStream> + Wait + Clock + AllocGlobal + Eprint>(
     rt: &R,
     site: &Site,
-    peer: &Peer,
+    peer: &PeerState,
 ) {
     for _ in rt.forever() {
         let Some(line) = peer.outbox.take(rt) else {
@@ -73,7 +73,7 @@ fn send_to<R: Net<Stream = TcpStream> + Wait + Clock + AllocGlobal + Eprint>(
 fn send_by<R: Wait + AllocGlobal + Eprint>(
     rt: &R,
     site: &Site,
-    peer: &Peer,
+    peer: &PeerState,
     mut stream: TcpStream,
     line: Vec<u8>,
 ) -> bool {
@@ -81,7 +81,7 @@ fn send_by<R: Wait + AllocGlobal + Eprint>(
         return false;
     }
     peer.events.sends(rt);
-    let is_sent = introduce(rt.alloc(), site.id, &mut stream, line.as_slice())
+    let is_sent = send_hello(rt.alloc(), site.id, &mut stream, line.as_slice())
         && write_link(rt, &mut stream, &mut &peer.outbox).is_ok();
     peer.sending.release(rt);
     if !is_sent {
@@ -91,7 +91,7 @@ fn send_by<R: Wait + AllocGlobal + Eprint>(
 }
 
 /// Writes the first line of a connection, and the line that it was made for. False where that fails.
-fn introduce(alloc: Global, site: SiteId, stream: &mut TcpStream, line: &[u8]) -> bool {
+fn send_hello(alloc: Global, site: SiteId, stream: &mut TcpStream, line: &[u8]) -> bool {
     let Ok(mut text) = write_line(alloc, &Message::<Global>::Hello(site)) else {
         return false;
     };
@@ -124,7 +124,7 @@ pub fn begin_sender<
         + AllocGlobal
         + Eprint
         + Sync,
->(scope: &Scope<'s, E>, rt: &'s R, site: &'s Site, peer: &'s Peer) -> bool {
+>(scope: &Scope<'s, E>, rt: &'s R, site: &'s Site, peer: &'s PeerState) -> bool {
     site.senders.begin(rt);
     let is_begun = scope.spawn(move || send_to(rt, site, peer)).is_ok();
     if !is_begun {

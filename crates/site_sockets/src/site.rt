@@ -1,11 +1,11 @@
 //! What the threads of a site share, beside its desk.
 
+use crate::acceptor::WAITING;
 use crate::clients::{Clients, wake};
-use crate::door::WAITING;
-use crate::hall::Hall;
-use crate::moments::Moments;
-use crate::peer::{Peer, peers_of};
+use crate::connection_pool::ConnectionPool;
+use crate::peer::{PeerState, peers_of};
 use crate::sending::Senders;
+use crate::tick_notifier::TickNotifier;
 use rights_types::{OutOfMemory, SiteId};
 use site_metrics::Counters;
 use site_words::{Config, SiteFault};
@@ -35,13 +35,13 @@ pub struct Site {
     pub(crate) id: SiteId,
     listener: TcpListener,
     /// The other sites, in order.
-    peers: Vec<Peer>,
+    peers: Vec<PeerState>,
     /// The connections that wait for their first line.
-    pub(crate) door: Hall,
+    pub(crate) handshakes: ConnectionPool,
     pub(crate) senders: Senders,
     /// Where clients connect, if they may.
     pub clients: Option<Clients>,
-    pub moments: Moments,
+    pub tick_notifier: TickNotifier,
     /// The commands that were answered.
     pub commands: Counters,
     /// An applier met a refused request for memory.
@@ -71,10 +71,10 @@ impl Site {
             id: config.id(),
             listener,
             peers: peers_of(alloc, config)?,
-            door: Hall::new(alloc, WAITING)?,
+            handshakes: ConnectionPool::new(alloc, WAITING)?,
             senders: Senders::new(),
             clients,
-            moments: Moments::new(),
+            tick_notifier: TickNotifier::new(),
             commands: Counters::new(),
             out_of_memory: AtomicBool::new(false),
             is_over: AtomicBool::new(false),
@@ -102,12 +102,12 @@ impl Site {
     }
 
     /// The other sites, in order.
-    pub fn peers(&self) -> &[Peer] {
+    pub fn peers(&self) -> &[PeerState] {
         self.peers.as_slice()
     }
 
     /// The peer of that number, if the system has it.
-    pub fn peer(&self, site: SiteId) -> Option<&Peer> {
+    pub fn peer(&self, site: SiteId) -> Option<&PeerState> {
         self.peers.iter().find(|peer| peer.site == site)
     }
 
@@ -135,16 +135,16 @@ impl Site {
     }
 
     /// The next connection that finds a place to wait for its first line at. None once the site ends.
-    pub(crate) fn next_caller<R: Wait + Clock>(&self, rt: &R) -> Option<(TcpStream, usize)> {
+    pub(crate) fn accept<R: Wait + Clock>(&self, rt: &R) -> Option<(TcpStream, usize)> {
         for stream in self.listener.incoming() {
-            if self.door.is_closed(rt) {
+            if self.handshakes.is_closed(rt) {
                 return None;
             }
             let Ok(stream) = stream else {
                 thread::sleep(rt, Duration::from_millis(REST_MILLISECONDS));
                 continue;
             };
-            if let Some(place) = self.door.enter(rt, &stream) {
+            if let Some(place) = self.handshakes.enter(rt, &stream) {
                 return Some((stream, place));
             }
         }
@@ -154,7 +154,7 @@ impl Site {
     /// Ends all threads: requests that have begun are still answered and lines that wait still sent for a while, and then
     /// no stream is left open.
     pub fn shut_down<R: Net<Stream = TcpStream> + Wait + Clock>(&self, rt: &R) {
-        self.moments.end(rt);
+        self.tick_notifier.end(rt);
         if let Some(clients) = &self.clients {
             clients.end(rt, Duration::from_secs(LAST_REPLIES_SECONDS));
         }
@@ -172,7 +172,7 @@ impl Site {
         if let Some(clients) = &self.clients {
             clients.close(rt);
         }
-        self.door.close(rt);
+        self.handshakes.close(rt);
         for peer in &self.peers {
             peer.close(rt);
         }

@@ -1,10 +1,10 @@
 -- Why a site stops, by what ended the conversation with its client.
-use Rattle.line_streams.specs.declared.fault.LineFault.{LineFault}
-use Rattle.line_streams.specs.declared.fault.LineFault.TheVariants.{ReadFailed as NotRead, WriteFailed as NotWritten, OutOfMemory as NoMemory, TooManyLines as TooMany}
+use Rattle.line_streams.specs.declared.fault.ConversationError.{ConversationError}
+use Rattle.line_streams.specs.declared.fault.ConversationError.TheVariants.{ReadFailed as NotRead, WriteFailed as NotWritten, OutOfMemory as NoMemory, TooManyLines as TooMany}
 use Rattle.site_words.specs.declared.fault.SiteFault.{SiteFault}
 use Rattle.site_words.specs.declared.fault.SiteFault.TheVariants.{ReadFailed, WriteFailed, OutOfMemory, TooManyLines}
 
-abbrev pub fault_of_lines : LineFault → SiteFault
+abbrev pub fault_of_lines : ConversationError → SiteFault
 fault_of_lines NotRead = ReadFailed
 fault_of_lines NotWritten = WriteFailed
 fault_of_lines NoMemory = OutOfMemory

@@ -1,7 +1,7 @@
 //! Why a site that runs stops.
 ghost use Rattle.std.specs.Prelude.{◌≡◌};
 
-use line_streams::{LineFault, WriteFault};
+use line_streams::{ConversationError, OutputError};
 use rights_types::OutOfMemory as NoMemory;
 use std::alloc::{AllocError, AllocFailed};
 use thiserror::Error;
@@ -62,27 +62,27 @@ impl From<NoMemory> for SiteFault {
     }
 }
 
-impl From<WriteFault> for SiteFault {
+impl From<OutputError> for SiteFault {
     ghost use Rattle.site_words.specs.declared.fault.SiteFault.TheVariants.{WriteFailed};
 
     ghost from_gives = { λ _ fault. fault ≡ WriteFailed };
 
-    fn from(_error: WriteFault) -> SiteFault {
+    fn from(_error: OutputError) -> SiteFault {
         SiteFault::WriteFailed
     }
 }
 
-impl From<LineFault> for SiteFault {
+impl From<ConversationError> for SiteFault {
     ghost use Rattle.site_words.specs.Faults.{fault_of_lines};
 
     ghost from_gives = { λ cause fault. fault ≡ fault_of_lines cause };
 
-    fn from(cause: LineFault) -> SiteFault {
+    fn from(cause: ConversationError) -> SiteFault {
         match cause {
-            LineFault::ReadFailed => SiteFault::ReadFailed,
-            LineFault::WriteFailed => SiteFault::WriteFailed,
-            LineFault::OutOfMemory => SiteFault::OutOfMemory,
-            LineFault::TooManyLines => SiteFault::TooManyLines,
+            ConversationError::ReadFailed => SiteFault::ReadFailed,
+            ConversationError::WriteFailed => SiteFault::WriteFailed,
+            ConversationError::OutOfMemory => SiteFault::OutOfMemory,
+            ConversationError::TooManyLines => SiteFault::TooManyLines,
         }
     }
 }

@@ -12,7 +12,7 @@ module _ (A : Type 0) where
   pub record LaneId : Type 0 where
     pub table : TableId
     pub messages : Badge (Key (Item A))
-    pub room : ℕ
+    pub capacity : ℕ
 
   -- the end that puts: its lane, what was put, and whether LaneClosed was answered
   pub record InletValue : Type 0 where
@@ -31,4 +31,4 @@ module _ {A : Type 0} where
   hand_of pass = view pass
 
   abbrev pub lane_of : ℕ → Pass (Item A) (Hand A) → LaneId A
-  lane_of room pass = record { table = pass.table_id; messages = pass.me.0.of; room = room }
+  lane_of capacity pass = record { table = pass.table_id; messages = pass.me.0.of; capacity = capacity }

@@ -1,4 +1,4 @@
 pub mod Items
 pub mod Rule
 pub mod Ends
-pub mod Tallies
+pub mod ShardedCounters

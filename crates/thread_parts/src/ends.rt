@@ -77,7 +77,7 @@ pub fn lane<A: Allocator + Copy>(
 ) -> Result<(Inlet<A>, Outlet<A>), OutOfMemory>
     requires { (1 ≤ capacity) × (capacity ≤ MAX_LANE) }
     ensures lane { IfOk result (λ r. r.1.lane ≡ r.0.lane) }
-    ensures room { IfOk result (λ r. r.0.lane.room ≡ capacity) }
+    ensures capacity { IfOk result (λ r. r.0.lane.capacity ≡ capacity) }
     ensures inlet { IfOk result (λ r. (r.0.put ≡ []) × (r.0.dead ≡ false)) }
     ensures first { IfOk result (λ r. (e : EntryValue) → MayBeFirst e → Continues r.0.put e) }
     ensures outlet { IfOk result (λ r. (r.1.taken ≡ []) × (r.1.dead ≡ false)) }

@@ -1,4 +1,4 @@
-//! What the threads of a site share besides its desk: a lane, over which the entries of one log go in order; a tally, a
+//! What the threads of a site share besides its desk: a lane, over which the entries of one log go in order; a counter, a
 //! sum that each of them adds to; and a view, a snapshot of a desk.
 #![tactic(auto)]
 
@@ -6,11 +6,11 @@ mod ends;
 mod item;
 mod laws;
 mod rule;
-mod tally;
+mod sharded_counter;
 mod view;
 
 pub use ends::{Inlet, LaneClosed, MAX_LANE, Outlet, lane};
 pub use item::Item;
 pub use laws::ends_taken_in;
-pub use tally::{Portion, Tally};
+pub use sharded_counter::{Shard, ShardedCounter};
 pub use view::DeskView;

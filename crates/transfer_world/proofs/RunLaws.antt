@@ -1,8 +1,8 @@
 -- How a script ends.
 use Rattle.std.proofs.Common.{◌≡◌, refl, subst, ℕ, List, Option, None, Result, Ok, Err}
 use Rattle.std.specs.Io.KnownBytes.{IsAtEnd}
-use Rattle.line_streams.specs.declared.fault.LineFault.{LineFault}
-use Rattle.line_streams.specs.declared.fault.LineFault.TheVariants.{OutOfMemory}
+use Rattle.line_streams.specs.declared.fault.ConversationError.{ConversationError}
+use Rattle.line_streams.specs.declared.fault.ConversationError.TheVariants.{OutOfMemory}
 use Rattle.line_streams.specs.declared.handler.EndedBy.{EndedBy}
 use Rattle.line_streams.specs.declared.handler.EndedBy.TheVariants.{Input, Handler}
 use Rattle.line_streams.proofs.RunLaws.{EndedAs, nothing_ran as no_line_ran}
@@ -10,15 +10,15 @@ use Rattle.world_core.specs.Values.{WorldValue}
 use Rattle.transfer_world.specs.Talk.{ScriptAnswers, Talk, EndsBy}
 
 -- no fault ended it
-abbrev pub ended_by : EndedBy → Result EndedBy LineFault
+abbrev pub ended_by : EndedBy → Result EndedBy ConversationError
 ended_by by = Ok by
 
 module _ (A : Type 0) (fails : Option WorldValue → Option WorldValue → Type 0) (given left held holds : Option (List ℕ)) (after start : Option WorldValue) where
   -- how a conversation of a script ended
-  abbrev pub Ended : Result EndedBy LineFault → Type 0
+  abbrev pub Ended : Result EndedBy ConversationError → Type 0
   Ended result = EndedAs (ScriptAnswers A) fails start given left held holds result after
 
-  from_no_world : start ≡ None → (result : Result EndedBy LineFault) → Ended result → EndedAs (ScriptAnswers A) fails None given left held holds result after
+  from_no_world : start ≡ None → (result : Result EndedBy ConversationError) → Ended result → EndedAs (ScriptAnswers A) fails None given left held holds result after
   from_no_world fresh result ended = subst (λ (world : Option WorldValue). EndedAs (ScriptAnswers A) fails world given left held holds result after) fresh ended
 
   -- no line ends a script, so its input does
@@ -26,7 +26,7 @@ module _ (A : Type 0) (fails : Option WorldValue → Option WorldValue → Type 
   script_done fresh Input ended = let whole = from_no_world fresh (Ok Input) ended in (whole.0, whole.1)
   script_done fresh Handler ended = absurd ended.2.ends
 
-  pub script_failed : start ≡ None → (fault : LineFault) → Ended (Err fault) → (talk : Talk A given left held holds) × EndsBy (Err fault) talk
+  pub script_failed : start ≡ None → (fault : ConversationError) → Ended (Err fault) → (talk : Talk A given left held holds) × EndsBy (Err fault) talk
   script_failed fresh fault ended = let whole = from_no_world fresh (Err fault) ended in (whole.0, whole.1)
 
   pub script_read : (by : EndedBy) → Ended (Ok by) → (ended_by by ≡ ended_by Input → IsAtEnd left) → IsAtEnd left

@@ -15,8 +15,8 @@ use Rattle.transfer_world.specs.declared.script.word.LinkWord.{LinkWord}
 use Rattle.transfer_world.specs.declared.script.word.LinkWord.TheVariants.{Ask as SaysAsk, Publish as SaysPublish, Beat as SaysBeat, Query as SaysQuery, Requery as SaysRequery, Take as SaysTake}
 use Rattle.transfer_world.specs.declared.script.word.Word.{Word}
 use Rattle.transfer_world.specs.declared.script.word.Word.TheVariants.{Sites as SaysSites, Post as SaysPost, AtSite, OnLink, Noise as SaysNoise, Report as SaysReport}
-use Rattle.transfer_world.specs.declared.script.commands.Command.{Command}
-use Rattle.transfer_world.specs.declared.script.commands.Command.TheVariants.{Sites, Act, Report}
+use Rattle.transfer_world.specs.declared.script.commands.ScriptCommand.{ScriptCommand}
+use Rattle.transfer_world.specs.declared.script.commands.ScriptCommand.TheVariants.{Sites, Act, Report}
 
 -- ---- words
 
@@ -169,16 +169,16 @@ noise_of words = do
 
 -- ---- commands
 
-abbrev pub act : {A : Type 0} → Option (Event A) → Option (Command A)
+abbrev pub act : {A : Type 0} → Option (Event A) → Option (ScriptCommand A)
 act event = event >>= (λ e. Some (Act e))
 
-unfoldable pub sites_of : {A : Type 0} → List (List ℕ) → Option (Command A)
+unfoldable pub sites_of : {A : Type 0} → List (List ℕ) → Option (ScriptCommand A)
 sites_of words = do
   n ← only_in MIN_SITES MAX_SITES words
   Some (Sites n)
 
 -- the command of a first word, and its values
-abbrev pub command_by : {A : Type 0} → Word → List (List ℕ) → Option (Command A)
+abbrev pub command_by : {A : Type 0} → Word → List (List ℕ) → Option (ScriptCommand A)
 command_by SaysSites words = sites_of words
 command_by SaysPost words = act (post_of words)
 command_by (AtSite word) words = act (site_event word words)
@@ -187,14 +187,14 @@ command_by SaysNoise words = act (noise_of words)
 command_by SaysReport words = alone Report words
 
 -- the command of these words
-abbrev pub command_with : {A : Type 0} → List (List ℕ) → Option (Command A)
+abbrev pub command_with : {A : Type 0} → List (List ℕ) → Option (ScriptCommand A)
 command_with [] = None
 command_with (first ∷ words) = word_of first >>= (λ word. command_by word words)
 
 -- the command of a line without its line feed
-unfoldable pub command_in : {A : Type 0} → List ℕ → Option (Command A)
+unfoldable pub command_in : {A : Type 0} → List ℕ → Option (ScriptCommand A)
 command_in text = command_with (words_of text)
 
 -- the command of a line with its line feed, or none: no line is longer than `MAX_LINE`
-unfoldable pub command_of : {A : Type 0} → List ℕ → Option (Command A)
+unfoldable pub command_of : {A : Type 0} → List ℕ → Option (ScriptCommand A)
 command_of line = if nat_le (length line) MAX_LINE then command_in (take (length line - 1) line) else None

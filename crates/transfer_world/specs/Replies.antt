@@ -8,8 +8,8 @@ use Rattle.site_core.specs.declared.desk.requests.Spending.TheVariants.{Spent as
 use Rattle.reply_texts.specs.Texts.{number_text, spending_text, status_text, desk_error_name}
 use Rattle.world_core.specs.Values.{WorldValue}
 use Rattle.world_core.specs.Worlds.{log, put, applied, count, sites_of, packet, packet_text, held_by, on_way}
-use Rattle.world_core.specs.declared.reply.Verdict.{Verdict}
-use Rattle.world_core.specs.declared.reply.Verdict.TheVariants.{Ready, Held, Repeat, AfterClose, Full}
+use Rattle.world_core.specs.declared.reply.EntryVerdict.{EntryVerdict}
+use Rattle.world_core.specs.declared.reply.EntryVerdict.TheVariants.{Ready, Held, Repeat, AfterClose, Full}
 use Rattle.world_core.specs.declared.reply.Reply.{Reply}
 use Rattle.world_core.specs.declared.reply.Reply.TheVariants.{Number, Spent, Queued, Served, Expired, Tells, Asks, Packet, Verdicts, HeardBeat, Granted, Denied, GrantedBefore, Old, Noted, Refused, Taken, TakenBack, Nothing}
 use Rattle.world_core.specs.declared.fault.WorldError.{WorldError}
@@ -24,7 +24,7 @@ error_name Forged = codes "Forged"
 error_name (Desk e) = desk_error_name e
 error_name OutOfMemory = codes "OutOfMemory"
 
-abbrev pub verdict_text : Verdict → List ℕ
+abbrev pub verdict_text : EntryVerdict → List ℕ
 verdict_text (Ready n) = codes "ready " ++ decimal n
 verdict_text Held = codes "held"
 verdict_text Repeat = codes "repeat"
@@ -32,7 +32,7 @@ verdict_text AfterClose = codes "afterclose"
 verdict_text Full = codes "full"
 
 -- the verdicts on what arrived, one space between
-abbrev pub verdicts_text : List Verdict → List ℕ
+abbrev pub verdicts_text : List EntryVerdict → List ℕ
 verdicts_text [] = codes "empty"
 verdicts_text (v ∷ vs) = verdict_text v ++ flat_map (λ v. 32 ∷ verdict_text v) vs
 

@@ -6,13 +6,13 @@ use Rattle.world_core.specs.Worlds.{start}
 use Rattle.world_core.specs.Step.{Step}
 use Rattle.world_core.specs.declared.reply.Reply.{Reply}
 use Rattle.world_core.specs.declared.fault.WorldError.{WorldError}
-use Rattle.transfer_world.specs.declared.script.commands.Command.{Command}
-use Rattle.transfer_world.specs.declared.script.commands.Command.TheVariants.{Sites, Act, Report}
+use Rattle.transfer_world.specs.declared.script.commands.ScriptCommand.{ScriptCommand}
+use Rattle.transfer_world.specs.declared.script.commands.ScriptCommand.TheVariants.{Sites, Act, Report}
 use Rattle.transfer_world.specs.Commands.{command_of}
 use Rattle.transfer_world.specs.Replies.{outcome_text, report_text}
 
 -- the reply to a command, and the world after it; there is none before `sites`
-abbrev pub CommandGets : {A : Type 0} → Option WorldValue → Option (Command A) → List ℕ → Option WorldValue → Type 0
+abbrev pub CommandGets : {A : Type 0} → Option WorldValue → Option (ScriptCommand A) → List ℕ → Option WorldValue → Type 0
 CommandGets old None text new = (text ≡ bad_command) × (new ≡ old)
 CommandGets None (Some (Sites n)) text new = (text ≡ codes "ok") × (new ≡ Some (start n))
 CommandGets None (Some (Act event)) text new = (text ≡ codes "error NoWorld") × (new ≡ None)

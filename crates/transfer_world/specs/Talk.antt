@@ -2,7 +2,7 @@
 use Rattle.std.specs.Prelude.{ℕ, List, Option, Some, None, Result, Ok, Err}
 use Rattle.line_streams.specs.Handling.{Answering}
 use Rattle.line_streams.specs.Talk.{Talk as LineTalk, EndsBy as LinesEndBy}
-use Rattle.line_streams.specs.declared.fault.LineFault.{LineFault}
+use Rattle.line_streams.specs.declared.fault.ConversationError.{ConversationError}
 use Rattle.line_streams.specs.declared.handler.EndedBy.TheVariants.{Input}
 use Rattle.world_core.specs.Values.{WorldValue}
 use Rattle.transfer_world.specs.Script.{LineGets}
@@ -18,6 +18,6 @@ Talk A given left held holds = LineTalk (ScriptAnswers A) None given left held h
 
 -- a script ends with its input, or by a fault
 abbrev pub EndsBy : {answers : Answering (Option WorldValue)} → {start : Option WorldValue} → {given left held holds : Option (List ℕ)}
-    → Result (Unit {0}) LineFault → LineTalk answers start given left held holds → Type 0
+    → Result (Unit {0}) ConversationError → LineTalk answers start given left held holds → Type 0
 EndsBy (Ok _) talk = LinesEndBy (Ok Input) talk
 EndsBy (Err fault) talk = LinesEndBy (Err fault) talk

@@ -5,6 +5,6 @@ mod script;
 
 pub use script::{ScriptFault, run_last_script, run_script};
 pub use world_core::{
-    Event, ForReaders, ForReplies, Keeping, Moves, Reply, Totals, Verdict, Verdicts, World,
-    WorldError, every_run,
+    EntryVerdict, EntryVerdicts, Event, ForReaders, ForReplies, Keeping, Moves, Reply, Totals,
+    World, WorldError, every_run,
 };

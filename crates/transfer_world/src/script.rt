@@ -6,5 +6,5 @@ mod report;
 mod session;
 mod word;
 
-pub use line_streams::LineFault as ScriptFault;
+pub use line_streams::ConversationError as ScriptFault;
 pub use session::{run_last_script, run_script};

@@ -10,12 +10,12 @@ use Rattle.sub_buffer.specs.Table.{more_held}
 use Rattle.sub_buffer.specs.declared.verdict.Verdict.{Verdict as BufferVerdict}
 use Rattle.sub_buffer.specs.declared.verdict.Verdict.TheVariants.{Ready, Held, Repeat, AfterClose, Full}
 use Rattle.site_core.specs.Inbounds.{ready_in}
-use Rattle.world_core.specs.LinkEvents.{told, told_all}
+use Rattle.world_core.specs.LinkEvents.{reported, reported_all}
 use Rattle.world_core.specs.IncomingLists.{HasRoom, IncomingTakes}
 use Rattle.world_core.specs.declared.link.incoming.Incoming.{Incoming}
 use Rattle.world_core.specs.declared.link.incoming.Scratch.{Scratch}
-use Rattle.world_core.specs.declared.reply.Verdict.{Verdict}
-use Rattle.world_core.specs.declared.reply.Verdict.TheVariants.{Ready as IsReady}
+use Rattle.world_core.specs.declared.reply.EntryVerdict.{EntryVerdict}
+use Rattle.world_core.specs.declared.reply.EntryVerdict.TheVariants.{Ready as IsReady}
 
 -- ---- what is listed apart
 
@@ -35,7 +35,7 @@ lists_copy items apart l new copy e given v there is copied pushed reaches =
     let same : copy ≡ e = some_is copy e (sym is ∙ copied (rw there refl)) in
     rw there (ap (λ es. Some es) (pushed ∙ ap (λ x. items l ++ x ∷ []) same ∙ sym reaches))
 
--- ---- what is put and told
+-- ---- what is put and reported
 
 ready_in-freed : (A : Type 0) (freed : List EntryValue) → ready_in (all_ready {A = A} freed) ≡ freed
 ready_in-freed A [] = refl
@@ -49,12 +49,12 @@ puts_one {A} put Repeat freed = ap (λ es. put ++ es) (ready_in-freed A freed)
 puts_one {A} put AfterClose freed = ap (λ es. put ++ es) (ready_in-freed A freed)
 puts_one {A} put Full freed = ap (λ es. put ++ es) (ready_in-freed A freed)
 
-tells_freed : (A : Type 0) (freed : List EntryValue) → map (λ v. told v) (all_ready {A = A} freed) ≡ map (λ (e : EntryValue). IsReady (own e)) freed
+tells_freed : (A : Type 0) (freed : List EntryValue) → map (λ v. reported v) (all_ready {A = A} freed) ≡ map (λ (e : EntryValue). IsReady (own e)) freed
 tells_freed A [] = refl
 tells_freed A (e ∷ es) = ap (λ ts. IsReady (own e) ∷ ts) (tells_freed A es)
 
-pub tells_one : {A : Type 0} (v : BufferVerdict A) (freed : List EntryValue) → map (λ x. told x) (v ∷ all_ready freed) ≡ told_all v freed
-tells_one {A} v freed = ap (λ ts. told v ∷ ts) (tells_freed A freed)
+pub tells_one : {A : Type 0} (v : BufferVerdict A) (freed : List EntryValue) → map (λ x. reported x) (v ∷ all_ready freed) ≡ reported_all v freed
+tells_one {A} v freed = ap (λ ts. reported v ∷ ts) (tells_freed A freed)
 
 -- ---- room
 
@@ -83,9 +83,9 @@ put_or_held put Repeat freed held later count = omega (arith, count, length-appe
 put_or_held put AfterClose freed held later count = omega (arith, count, length-append put freed)
 put_or_held put Full freed held later count = omega (arith, count, length-append put freed)
 
-pub told_len : {A : Type 0} (v : BufferVerdict A) (freed : List EntryValue) → length (told_all v freed) ≡ length freed + 1
-told_len v freed =
-    let ready : EntryValue → Verdict = λ e. IsReady (own e) in
+pub reported_len : {A : Type 0} (v : BufferVerdict A) (freed : List EntryValue) → length (reported_all v freed) ≡ length freed + 1
+reported_len v freed =
+    let ready : EntryValue → EntryVerdict = λ e. IsReady (own e) in
     omega (arith, length-map freed ready)
 
 -- the list apart grows by one, at most
@@ -107,14 +107,14 @@ room_apart n (Some old) (Some new) items capacity v e lists same room =
 
 -- an entry came: there is room for one less
 pub keeps_room : {A K : Type 0} (n : ℕ) (old new : Incoming A K) (list later : Scratch A) (e : EntryValue) (v : BufferVerdict A) (freed : List EntryValue)
-    → HasRoom (n + 1) old list → IncomingTakes old list.told.items e v freed new later.told.items
+    → HasRoom (n + 1) old list → IncomingTakes old list.reported.items e v freed new later.reported.items
     → vec_capacity new.put ≡ vec_capacity old.put → option_map (λ l. vec_capacity l) new.apart ≡ option_map (λ l. vec_capacity l) old.apart
-    → vec_capacity later.verdicts ≡ vec_capacity list.verdicts → vec_capacity later.told ≡ vec_capacity list.told → HasRoom n new later
-keeps_room n old new list later e v freed room t put apart verdicts told_room = record {
+    → vec_capacity later.verdicts ≡ vec_capacity list.verdicts → vec_capacity later.reported ≡ vec_capacity list.reported → HasRoom n new later
+keeps_room n old new list later e v freed room t put apart verdicts reported_room = record {
   put = omega (arith, room.put, put_or_held old.put.items v freed _ _ t.arrives.count, ap (λ es. length es) t.put, put);
   apart = room_apart n old.apart new.apart (λ l. l.items) (λ l. vec_capacity l) v e t.apart apart room.apart;
   verdicts = omega (arith, room.verdicts, t.arrives.count, one_held v, verdicts);
-  told = omega (arith, room.told, t.arrives.count, one_held v, told_len v freed, ap (λ ts. length ts) t.told, length-append list.told.items (told_all v freed), told_room);
+  reported = omega (arith, room.reported, t.arrives.count, one_held v, reported_len v freed, ap (λ ts. length ts) t.reported, length-append list.reported.items (reported_all v freed), reported_room);
 }
 
 -- ---- copies

@@ -25,7 +25,7 @@ use Rattle.world_core.specs.Values.{LinkValue, WorldValue}
 use Rattle.world_core.specs.Worlds.{count, desk, log, row, link, with_link, list_of, reached, put, applied, lists_of}
 use Rattle.world_core.specs.LinkEvents.{heard, Asked, LinkTakes, LinkTakesAll, EntriesArrive}
 use Rattle.world_core.specs.Sound.{SiteSound, LinkSound, IsWorld}
-use Rattle.world_core.specs.declared.reply.Verdict.{Verdict}
+use Rattle.world_core.specs.declared.reply.EntryVerdict.{EntryVerdict}
 use Rattle.world_core.proofs.WorldGoesOn.{Leads, leads_nowhere, leads_on, leads, WorldGoesOn}
 use Rattle.world_core.proofs.DeskKeeps.{LogsGoOn, link_goes_on, all_sent_go_on}
 
@@ -360,7 +360,7 @@ entry_sound w s o old new e v freed has sound h =
 
 -- entries of the log of o, one after another
 all_taken : (A : Type 0) (w : WorldValue) (s o : ℕ) (old new : LinkValue) (entries : List EntryValue)
-    (verdicts : List Verdict) → IsWorld w → IsSiteOf (count w) s → IsSiteOf (count w) o
+    (verdicts : List EntryVerdict) → IsWorld w → IsSiteOf (count w) s → IsSiteOf (count w) o
     → s ≢ o → All (Contains (log w o)) entries → LinkTakesAll A (log w o) old entries verdicts new → Takes w s o old
     → Takes w s o new × (new.applied ≡ old.applied)
 all_taken A w s o old new [] verdicts is site from differ has h t =
@@ -375,7 +375,7 @@ all_taken A w s o old new (e ∷ rest) verdicts is site from differ has (v, free
     all_taken A w s o mid new rest more is site from differ (All-tail (Contains (log w o)) e rest has) later now in
     (all.0, all.1 ∙ ap (λ (l : LinkValue). l.applied) takes.rest)
 
-pub entries_keep : (A : Type 0) (w new : WorldValue) (s o : ℕ) (entries : List EntryValue) (verdicts : List Verdict)
+pub entries_keep : (A : Type 0) (w new : WorldValue) (s o : ℕ) (entries : List EntryValue) (verdicts : List EntryVerdict)
     → IsWorld w → IsSiteOf (count w) s → IsSiteOf (count w) o
     → All (Contains (log w o)) entries → EntriesArrive A w s o entries verdicts new → WorldGoesOn w new
 entries_keep A w new s o entries verdicts is site from has h =

@@ -17,10 +17,10 @@ use Rattle.sub_buffer.specs.declared.verdict.Verdict.{Verdict as BufferVerdict}
 use Rattle.sub_buffer.specs.declared.verdict.Verdict.TheVariants.{Ready, Held, Repeat, AfterClose, Full}
 use Rattle.site_core.specs.Inbounds.{InboundValue}
 use Rattle.world_core.specs.Values.{LinkValue}
-use Rattle.world_core.specs.LinkEvents.{told_all, LinkTakes, LinkTakesAll, with_applied}
+use Rattle.world_core.specs.LinkEvents.{reported_all, LinkTakes, LinkTakesAll, with_applied}
 use Rattle.world_core.specs.IncomingLists.{reached_by, reached_in, gone_in, put_in, link_of, NoneAhead, SameLists, IncomingTakes, IsIncoming}
 use Rattle.world_core.specs.declared.link.incoming.Incoming.{Incoming}
-use Rattle.world_core.specs.declared.reply.Verdict.{Verdict}
+use Rattle.world_core.specs.declared.reply.EntryVerdict.{EntryVerdict}
 use Rattle.world_core.proofs.IncomingLaws.{some_is}
 
 -- ---- what is put
@@ -75,20 +75,20 @@ pub record Coming {A K : Type 0} (keeps : Bool) (es : List EntryValue) (i : Inco
   pub next : keeps ≡ true → i.apart ≡ None → e.prev ≤ i.inbound.buffer.last
 
 -- the arrival where nothing is listed apart
-arrival_in_order : {A K : Type 0} (es : List EntryValue) (old new : Incoming A K) (before after : List Verdict) (e : EntryValue) (v : BufferVerdict A) (freed : List EntryValue)
+arrival_in_order : {A K : Type 0} (es : List EntryValue) (old new : Incoming A K) (before after : List EntryVerdict) (e : EntryValue) (v : BufferVerdict A) (freed : List EntryValue)
     → Coming true es old e → IncomingTakes old before e v freed new after → old.apart ≡ None → SettledArrival es old.put.items old.put.items e v freed old.inbound.buffer.told new.inbound.buffer
 arrival_in_order es old new before after e v freed c t none =
     let put_all : reached_in true old ≡ old.put.items = ap (λ o. reached_by (λ l. l.items) o old.put.items) none in
     t.arrives.log es old.put.items old.put.items c.of_log (subst (λ set. Follows es set old.put.items old.inbound.buffer) put_all c.follows)
 
-put_in_order : {A K : Type 0} (es : List EntryValue) (old new : Incoming A K) (before after : List Verdict) (e : EntryValue) (v : BufferVerdict A) (freed : List EntryValue)
+put_in_order : {A K : Type 0} (es : List EntryValue) (old new : Incoming A K) (before after : List EntryVerdict) (e : EntryValue) (v : BufferVerdict A) (freed : List EntryValue)
     → Coming true es old e → IncomingTakes old before e v freed new after → old.apart ≡ None → new.put.items ≡ reached_after old.put.items e v
 put_in_order es old new before after e v freed c t none =
     let s = arrival_in_order es old new before after e v freed c t none in
     let table = t.arrives.table in
     t.put ∙ all_put es old.put.items old.inbound.buffer table.0 new.inbound.buffer e v freed (c.next refl none) table.1 t.arrives.frees s.0 s.1
 
-pub reached_is : {A K : Type 0} (keeps : Bool) (es : List EntryValue) (old new : Incoming A K) (before after : List Verdict) (e : EntryValue) (v : BufferVerdict A) (freed : List EntryValue)
+pub reached_is : {A K : Type 0} (keeps : Bool) (es : List EntryValue) (old new : Incoming A K) (before after : List EntryVerdict) (e : EntryValue) (v : BufferVerdict A) (freed : List EntryValue)
     → Coming keeps es old e → IncomingTakes old before e v freed new after → reached_in keeps new ≡ reached_after (reached_in keeps old) e v
 reached_is true es old new before after e v freed c t =
     reached_apart (λ l. l.items) old.apart new.apart old.put.items new.put.items e v t.apart (put_in_order es old new before after e v freed c t)
@@ -107,20 +107,20 @@ put_behind gone put Repeat freed = sym (append_assoc gone put freed)
 put_behind gone put AfterClose freed = sym (append_assoc gone put freed)
 put_behind gone put Full freed = sym (append_assoc gone put freed)
 
-put_is : {A K : Type 0} (keeps : Bool) (old new : Incoming A K) (before after : List Verdict) (e : EntryValue) (v : BufferVerdict A) (freed : List EntryValue)
+put_is : {A K : Type 0} (keeps : Bool) (old new : Incoming A K) (before after : List EntryVerdict) (e : EntryValue) (v : BufferVerdict A) (freed : List EntryValue)
     → IncomingTakes old before e v freed new after → put_in keeps new ≡ put_after (put_in keeps old) v ++ freed
 put_is keeps old new before after e v freed t =
     ap (λ es. es ++ new.put.items) (gone_is keeps old new t.gone) ∙ ap (λ es. gone_in keeps old ++ es) t.put ∙ put_behind (gone_in keeps old) old.put.items v freed
 
 -- ---- one entry
 
-still_follows : {A K : Type 0} (keeps : Bool) (es : List EntryValue) (old new : Incoming A K) (before after : List Verdict) (e : EntryValue) (v : BufferVerdict A) (freed : List EntryValue)
+still_follows : {A K : Type 0} (keeps : Bool) (es : List EntryValue) (old new : Incoming A K) (before after : List EntryVerdict) (e : EntryValue) (v : BufferVerdict A) (freed : List EntryValue)
     → Coming keeps es old e → IncomingTakes old before e v freed new after → Follows es (reached_in keeps new) (put_in keeps new) new.inbound.buffer
 still_follows keeps es old new before after e v freed c t =
     let s = t.arrives.log es (reached_in keeps old) (put_in keeps old) c.of_log c.follows in
     rw (reached_is keeps es old new before after e v freed c t) (rw (put_is keeps old new before after e v freed t) s.1)
 
-link_takes : {A K : Type 0} (keeps : Bool) (es : List EntryValue) (applied : ℕ) (old new : Incoming A K) (before after : List Verdict) (e : EntryValue) (v : BufferVerdict A) (freed : List EntryValue)
+link_takes : {A K : Type 0} (keeps : Bool) (es : List EntryValue) (applied : ℕ) (old new : Incoming A K) (before after : List EntryVerdict) (e : EntryValue) (v : BufferVerdict A) (freed : List EntryValue)
     → applied ≤ length old.put.items → Coming keeps es old e → IncomingTakes old before e v freed new after → LinkTakes es (link_of keeps old applied) e v freed (link_of keeps new applied)
 link_takes keeps es applied old new before after e v freed within c t =
     let s = t.arrives.log es (reached_in keeps old) (put_in keeps old) c.of_log c.follows in
@@ -147,7 +147,7 @@ none_ahead_of_more m n [] le h = tt
 none_ahead_of_more m n (e ∷ es) le h = (omega (arith, le, h.0), none_ahead_of_more (max m (own e)) (max n (own e)) es (omega (arith, le)) h.1)
 
 -- the last number that was put is no less than before, nor than that of the entry
-last_after : {A K : Type 0} (es : List EntryValue) (old new : Incoming A K) (before after : List Verdict) (e : EntryValue) (v : BufferVerdict A) (freed : List EntryValue)
+last_after : {A K : Type 0} (es : List EntryValue) (old new : Incoming A K) (before after : List EntryVerdict) (e : EntryValue) (v : BufferVerdict A) (freed : List EntryValue)
     → Coming true es old e → IncomingTakes old before e v freed new after → old.apart ≡ None → max old.inbound.buffer.last (own e) ≤ new.inbound.buffer.last
 last_after es old new before after e v freed c t none =
     let f = still_follows true es old new before after e v freed c t in
@@ -172,11 +172,11 @@ last_after es old new before after e v freed c t none =
 
 -- what becomes of a link from here becomes of it from the start: `rest` is still to come of `entries`, these verdicts
 -- were told, and where nothing is listed apart, none of the rest is ahead
-pub record GoesOn {A K : Type 0} (keeps : Bool) (es : List EntryValue) (start : LinkValue) (entries : List EntryValue) (i : Incoming A K) (applied : ℕ) (rest : List EntryValue) (list : List Verdict) : Type 0 where
+pub record GoesOn {A K : Type 0} (keeps : Bool) (es : List EntryValue) (start : LinkValue) (entries : List EntryValue) (i : Incoming A K) (applied : ℕ) (rest : List EntryValue) (list : List EntryVerdict) : Type 0 where
   pub of_log : All (Contains es) rest
   pub follows : Follows es (reached_in keeps i) (put_in keeps i) i.inbound.buffer
   pub in_order : keeps ≡ true → i.apart ≡ None → NoneAhead i.inbound.buffer.last rest
-  pub takes : (new : LinkValue) (more : List Verdict) → LinkTakesAll A es (link_of keeps i applied) rest more new → LinkTakesAll A es start entries (list ++ more) new
+  pub takes : (new : LinkValue) (more : List EntryVerdict) → LinkTakesAll A es (link_of keeps i applied) rest more new → LinkTakesAll A es start entries (list ++ more) new
 
 -- nothing came yet
 pub goes_on_first : {A K : Type 0} (keeps : Bool) (es entries : List EntryValue) (i : Incoming A K) (applied : ℕ) → All (Contains es) entries → Follows es (reached_in keeps i) (put_in keeps i) i.inbound.buffer
@@ -188,7 +188,7 @@ still_none items None new v e lists none = refl
 still_none items (Some l) new v e lists none = absurd (grind (arith, lists, none))
 
 -- none of those that come then is ahead
-still_in_order : {A K : Type 0} (keeps : Bool) (es : List EntryValue) (old new : Incoming A K) (rest : List EntryValue) (before after : List Verdict) (e : EntryValue) (v : BufferVerdict A) (freed : List EntryValue)
+still_in_order : {A K : Type 0} (keeps : Bool) (es : List EntryValue) (old new : Incoming A K) (rest : List EntryValue) (before after : List EntryVerdict) (e : EntryValue) (v : BufferVerdict A) (freed : List EntryValue)
     → Coming keeps es old e → IncomingTakes old before e v freed new after → (keeps ≡ true → old.apart ≡ None → NoneAhead old.inbound.buffer.last (e ∷ rest))
     → keeps ≡ true → new.apart ≡ None → NoneAhead new.inbound.buffer.last rest
 still_in_order true es old new rest before after e v freed c t h is none =
@@ -197,7 +197,7 @@ still_in_order true es old new rest before after e v freed c t h is none =
 still_in_order false es old new rest before after e v freed c t h is none = absurd cc
 
 -- one more came
-pub goes_on_next : {A K : Type 0} (keeps : Bool) (es : List EntryValue) (start : LinkValue) (entries : List EntryValue) (old new : Incoming A K) (applied : ℕ) (rest : List EntryValue) (before after : List Verdict)
+pub goes_on_next : {A K : Type 0} (keeps : Bool) (es : List EntryValue) (start : LinkValue) (entries : List EntryValue) (old new : Incoming A K) (applied : ℕ) (rest : List EntryValue) (before after : List EntryVerdict)
     (e : EntryValue) (v : BufferVerdict A) (freed : List EntryValue) → applied ≤ length old.put.items → IncomingTakes old before e v freed new after
     → GoesOn keeps es start entries old applied (e ∷ rest) before → GoesOn keeps es start entries new applied rest after
 goes_on_next {A} keeps es start entries old new applied rest before after e v freed within t g =
@@ -207,12 +207,12 @@ goes_on_next {A} keeps es start entries old new applied rest before after e v fr
       in_order = still_in_order keeps es old new rest before after e v freed c t g.in_order;
       takes = λ last more h.
           let takes = link_takes keeps es applied old new before after e v freed within c t in
-          subst (λ vs. LinkTakesAll A es start entries vs last) (sym (ap (λ vs. vs ++ more) t.told ∙ append_assoc before (told_all v freed) more))
-          (g.takes last (told_all v freed ++ more) (v, freed, link_of keeps new applied, more, takes, h, refl));
+          subst (λ vs. LinkTakesAll A es start entries vs last) (sym (ap (λ vs. vs ++ more) t.reported ∙ append_assoc before (reported_all v freed) more))
+          (g.takes last (reported_all v freed ++ more) (v, freed, link_of keeps new applied, more, takes, h, refl));
     }
 
 -- all came
-pub goes_on_last : {A K : Type 0} (keeps : Bool) (es : List EntryValue) (start : LinkValue) (entries : List EntryValue) (i : Incoming A K) (applied : ℕ) (list : List Verdict)
+pub goes_on_last : {A K : Type 0} (keeps : Bool) (es : List EntryValue) (start : LinkValue) (entries : List EntryValue) (i : Incoming A K) (applied : ℕ) (list : List EntryVerdict)
     → GoesOn keeps es start entries i applied [] list → LinkTakesAll A es start entries list (link_of keeps i applied)
 goes_on_last {A} keeps es start entries i applied list g =
     subst (λ vs. LinkTakesAll A es start entries vs (link_of keeps i applied)) (append-nil list) (g.takes (link_of keeps i applied) [] (refl, refl))
@@ -228,7 +228,7 @@ same_link keeps old new applied same =
     ∙ ap (λ ys. with old.inbound (reached_in keeps old) (gone_in keeps old) ys) same.put
 
 -- room was made, and entries are to come
-pub goes_on_start : {A K : Type 0} (keeps : Bool) (es entries : List EntryValue) (link : LinkValue) (old room : Incoming A K) (applied : ℕ) (list : List Verdict)
+pub goes_on_start : {A K : Type 0} (keeps : Bool) (es entries : List EntryValue) (link : LinkValue) (old room : Incoming A K) (applied : ℕ) (list : List EntryVerdict)
     → link_of keeps old applied ≡ link → SameLists old room → list ≡ [] → All (Contains es) entries → Follows es link.reached link.put link.inbound.buffer
     → (keeps ≡ true → room.apart ≡ None → NoneAhead room.inbound.buffer.last entries) → GoesOn keeps es link entries room applied entries list
 goes_on_start keeps es entries link old room applied list is same none of_log follows in_order =
@@ -238,7 +238,7 @@ goes_on_start keeps es entries link old room applied list is same none of_log fo
     (subst (GoesOn keeps es (link_of keeps room applied) entries room applied entries) (sym none) (goes_on_first keeps es entries room applied of_log f in_order))
 
 -- a link's parts stay in order
-pub still_incoming : {A K : Type 0} (applied : ℕ) (old new : Incoming A K) (before after : List Verdict) (e : EntryValue) (v : BufferVerdict A) (freed : List EntryValue)
+pub still_incoming : {A K : Type 0} (applied : ℕ) (old new : Incoming A K) (before after : List EntryVerdict) (e : EntryValue) (v : BufferVerdict A) (freed : List EntryValue)
     → IsIncoming old applied → IncomingTakes old before e v freed new after → IsIncoming new applied
 still_incoming applied old new before after e v freed ok t =
     let more = more_put old.put.items v freed in

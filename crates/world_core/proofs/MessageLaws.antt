@@ -25,7 +25,7 @@ use Rattle.world_core.specs.Values.BodyValue.{Text}
 use Rattle.world_core.specs.Worlds.{count, desk, with_desk, log, row, link, with_link, with_packet}
 use Rattle.world_core.specs.LinkEvents.{Sends, LinkTakesAll, EntriesArrive, EntriesCome, heard, BeatComes, DenialComes, QueryComes, AskComesBy, AskComes}
 use Rattle.world_core.specs.Sound.{LinkSound, IsWorld}
-use Rattle.world_core.specs.declared.reply.Verdict.{Verdict}
+use Rattle.world_core.specs.declared.reply.EntryVerdict.{EntryVerdict}
 use Rattle.world_core.specs.declared.reply.Reply.{Reply}
 use Rattle.world_core.specs.declared.fault.WorldError.{WorldError}
 use Rattle.world_core.specs.declared.fault.WorldError.TheVariants.{OutOfMemory}
@@ -74,7 +74,7 @@ link_there w i s o was is a b differ e read =
     let l = (is.sites s a).others o b differ in
     subst (λ x. IsSome x) (sym (link_at w i s o o was (at_site was o None) is a e read refl refl ∙ l.1)) refl
 
-pub entries_arrive : (A : Type 0) (w : WorldValue) (i s o : ℕ) (was now : List (Option LinkValue)) (before after : LinkValue) (es : List EntryValue) (verdicts : List Verdict) → IsWorld w
+pub entries_arrive : (A : Type 0) (w : WorldValue) (i s o : ℕ) (was now : List (Option LinkValue)) (before after : LinkValue) (es : List EntryValue) (verdicts : List EntryVerdict) → IsWorld w
     → IsSiteOf (count w) s → i + 1 ≡ s → was ≡ get_or w.links i was → at_site was o None ≡ Some before → now ≡ set_site was o (Some after)
     → (Follows (log w o) before.reached before.put before.inbound.buffer → LinkTakesAll A (log w o) before es verdicts after)
     → EntriesArrive A w s o es verdicts (with_row_at w i now)

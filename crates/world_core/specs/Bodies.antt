@@ -4,9 +4,9 @@ use Rattle.world_core.specs.Values.{BodyValue}
 use Rattle.world_core.specs.Values.BodyValue.{EntryAt, Text}
 use Rattle.world_core.specs.declared.packets.Body.{Body}
 use Rattle.world_core.specs.declared.packets.Body.TheVariants.{Entry, Own}
-use Rattle.world_core.specs.declared.reply.Told.{Told}
-use Rattle.world_core.specs.declared.reply.Told.TheVariants.{One, Many}
-use Rattle.world_core.specs.declared.reply.Verdict.{Verdict}
+use Rattle.world_core.specs.declared.reply.VerdictList.{VerdictList}
+use Rattle.world_core.specs.declared.reply.VerdictList.TheVariants.{One, Many}
+use Rattle.world_core.specs.declared.reply.EntryVerdict.{EntryVerdict}
 
 -- what a packet carries
 abbrev pub body_of : Body → BodyValue
@@ -14,6 +14,6 @@ body_of (Entry place) = EntryAt place
 body_of (Own line) = Text line.now
 
 -- the verdicts of one arrival
-abbrev pub told_of : {A : Type 0} → Told A → List Verdict
-told_of (One verdict) = verdict
-told_of (Many verdicts) = verdicts.items
+abbrev pub verdicts_in : {A : Type 0} → VerdictList A → List EntryVerdict
+verdicts_in (One verdict) = verdict
+verdicts_in (Many verdicts) = verdicts.items

@@ -7,10 +7,10 @@ use Rattle.sub_buffer.specs.Arrivals.{Arrives}
 use Rattle.sub_buffer.specs.Follows.{put_after, reached_after}
 use Rattle.sub_buffer.specs.declared.verdict.Verdict.{Verdict as BufferVerdict}
 use Rattle.world_core.specs.Values.{LinkValue}
-use Rattle.world_core.specs.LinkEvents.{told_all}
+use Rattle.world_core.specs.LinkEvents.{reported_all}
 use Rattle.world_core.specs.declared.link.incoming.Incoming.{Incoming}
 use Rattle.world_core.specs.declared.link.incoming.Scratch.{Scratch}
-use Rattle.world_core.specs.declared.reply.Verdict.{Verdict}
+use Rattle.world_core.specs.declared.reply.EntryVerdict.{EntryVerdict}
 
 -- what reached a site: listed apart, or what was put, where nothing came out of its order
 abbrev pub reached_by : {V : Type 0} → (V → List EntryValue) → Option V → List EntryValue → List EntryValue
@@ -55,7 +55,7 @@ pub record HasRoom {A K : Type 0} (n : ℕ) (i : Incoming A K) (s : Scratch A) :
   pub put : length i.put.items + length i.inbound.buffer.held + n ≤ vec_capacity i.put
   pub apart : IfSome i.apart (λ v. length v.items + n ≤ vec_capacity v)
   pub verdicts : length i.inbound.buffer.held + n ≤ vec_capacity s.verdicts
-  pub told : length s.told.items + length i.inbound.buffer.held + 2 * n ≤ vec_capacity s.told + 1
+  pub reported : length s.reported.items + length i.inbound.buffer.held + 2 * n ≤ vec_capacity s.reported + 1
 
 -- only the room changed, and where the entries that reached the site are listed
 pub record SameLists {A K : Type 0} (old new : Incoming A K) : Type 0 where
@@ -64,12 +64,12 @@ pub record SameLists {A K : Type 0} (old new : Incoming A K) : Type 0 where
   pub put : new.put.items ≡ old.put.items
   pub reached : (keeps : Bool) → reached_in keeps new ≡ reached_in keeps old
 
--- an entry came: the verdict v on it, and the held entries that it freed, which are told behind what was told before
-pub record IncomingTakes {A K : Type 0} (old : Incoming A K) (before : List Verdict) (e : EntryValue) (v : BufferVerdict A) (freed : List EntryValue) (new : Incoming A K) (after : List Verdict) : Type 0 where
+-- an entry came: the verdict v on it, and the held entries that it freed, which are reported behind what was reported before
+pub record IncomingTakes {A K : Type 0} (old : Incoming A K) (before : List EntryVerdict) (e : EntryValue) (v : BufferVerdict A) (freed : List EntryValue) (new : Incoming A K) (after : List EntryVerdict) : Type 0 where
   pub arrives : Arrives old.inbound.buffer e v freed new.inbound.buffer
   pub inbound : new.inbound ≡ record old.inbound { buffer = new.inbound.buffer }
   pub gone : new.gone.items ≡ old.gone.items
   pub put : new.put.items ≡ put_after old.put.items v ++ freed
   pub seen : new.seen.items ≡ reached_after old.seen.items e v
   pub apart : option_map (λ l. l.items) new.apart ≡ option_map (λ l. reached_after l.items e v) old.apart
-  pub told : after ≡ before ++ told_all v freed
+  pub reported : after ≡ before ++ reported_all v freed

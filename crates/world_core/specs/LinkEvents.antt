@@ -28,8 +28,8 @@ use Rattle.site_core.specs.Inbounds.{InboundValue, QueryOf}
 use Rattle.world_core.specs.Values.{LinkValue, PacketValue, WorldValue}
 use Rattle.world_core.specs.Values.BodyValue.{EntryAt, Text}
 use Rattle.world_core.specs.Worlds.{desk, with_desk, log, link, with_link, put, applied, with_packet, packet_text}
-use Rattle.world_core.specs.declared.reply.Verdict.{Verdict}
-use Rattle.world_core.specs.declared.reply.Verdict.TheVariants.{Ready, Held, Repeat, AfterClose, Full}
+use Rattle.world_core.specs.declared.reply.EntryVerdict.{EntryVerdict}
+use Rattle.world_core.specs.declared.reply.EntryVerdict.TheVariants.{Ready, Held, Repeat, AfterClose, Full}
 use Rattle.world_core.specs.declared.reply.Reply.{Reply}
 use Rattle.world_core.specs.declared.reply.Reply.TheVariants.{Packet, Verdicts, HeardBeat, Granted, Denied, GrantedBefore, Old, Noted, Refused, Taken, TakenBack, Nothing}
 use Rattle.world_core.specs.declared.fault.WorldError.{WorldError}
@@ -85,17 +85,17 @@ QueryHappens old s o again outcome new =
 
 -- ---- entries that arrive
 
--- a buffer's verdict, as it is told
-abbrev pub told : {A : Type 0} → BufferVerdict A → Verdict
-told (IsReady e) = Ready (own e)
-told IsHeld = Held
-told IsRepeat = Repeat
-told IsAfterClose = AfterClose
-told IsFull = Full
+-- a buffer's verdict, as it is reported
+abbrev pub reported : {A : Type 0} → BufferVerdict A → EntryVerdict
+reported (IsReady e) = Ready (own e)
+reported IsHeld = Held
+reported IsRepeat = Repeat
+reported IsAfterClose = AfterClose
+reported IsFull = Full
 
 -- the verdict on an entry, and those on the entries that it freed
-abbrev pub told_all : {A : Type 0} → BufferVerdict A → List EntryValue → List Verdict
-told_all v freed = told v ∷ map (λ (e : EntryValue). Ready (own e)) freed
+abbrev pub reported_all : {A : Type 0} → BufferVerdict A → List EntryValue → List EntryVerdict
+reported_all v freed = reported v ∷ map (λ (e : EntryValue). Ready (own e)) freed
 
 -- an entry e of the log es reaches a link: the verdict v on it, and the held entries that it freed
 pub record LinkTakes {A : Type 0} (es : List EntryValue) (old : LinkValue) (e : EntryValue) (v : BufferVerdict A) (freed : List EntryValue) (new : LinkValue) : Type 0 where
@@ -108,14 +108,14 @@ pub record LinkTakes {A : Type 0} (es : List EntryValue) (old : LinkValue) (e : 
   pub rest : new ≡ record old { inbound = record old.inbound { buffer = new.inbound.buffer }; reached = new.reached; put = new.put }
 
 -- entries of the log es, one after another
-abbrev pub LinkTakesAll : Type 0 → List EntryValue → LinkValue → List EntryValue → List Verdict → LinkValue → Type 0
+abbrev pub LinkTakesAll : Type 0 → List EntryValue → LinkValue → List EntryValue → List EntryVerdict → LinkValue → Type 0
 LinkTakesAll A es old [] verdicts new = (verdicts ≡ []) × (new ≡ old)
 LinkTakesAll A es old (e ∷ rest) verdicts new =
-    (v : BufferVerdict A) × (freed : List EntryValue) × (mid : LinkValue) × (more : List Verdict)
-    × LinkTakes es old e v freed mid × LinkTakesAll A es mid rest more new × (verdicts ≡ told_all v freed ++ more)
+    (v : BufferVerdict A) × (freed : List EntryValue) × (mid : LinkValue) × (more : List EntryVerdict)
+    × LinkTakes es old e v freed mid × LinkTakesAll A es mid rest more new × (verdicts ≡ reported_all v freed ++ more)
 
 -- entries of the log of o arrive at s
-pub record EntriesArrive (A : Type 0) (old : WorldValue) (s o : ℕ) (entries : List EntryValue) (verdicts : List Verdict) (new : WorldValue) : Type 0 where
+pub record EntriesArrive (A : Type 0) (old : WorldValue) (s o : ℕ) (entries : List EntryValue) (verdicts : List EntryVerdict) (new : WorldValue) : Type 0 where
   pub before : LinkValue
   pub there : link old s o ≡ Some before
   pub after : LinkValue

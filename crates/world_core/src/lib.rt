@@ -20,5 +20,5 @@ pub use laws::{
     applied_for_good, closed_for_good, every_run, every_run_operates, every_run_refines,
     later_refines,
 };
-pub use reply::{Reply, Verdict, Verdicts};
+pub use reply::{EntryVerdict, EntryVerdicts, Reply};
 pub use world::{Totals, World};

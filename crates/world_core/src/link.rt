@@ -21,7 +21,7 @@ mod incoming;
 
 use crate::history::History;
 use crate::keeping::{ForReaders, Keeping};
-use crate::reply::Verdicts;
+use crate::reply::EntryVerdicts;
 pub(crate) use incoming::Scratch;
 use incoming::{Incoming, none_ahead};
 use rights_types::{Entry, Message, OutOfMemory, SiteId};
@@ -88,7 +88,7 @@ impl<A: Allocator + Copy, K: Keeping> Link<A, K> {
         &mut self,
         entry: Entry<A>,
         scratch: &mut Scratch<A>,
-    ) -> Result<Verdicts<A>, OutOfMemory>
+    ) -> Result<EntryVerdicts<A>, OutOfMemory>
         requires origin { entry.origin ≡ self.old.inbound.buffer.origin }
         ensures ok { IfOk result (λ verdicts. (es : List EntryValue) → Contains es entry
             → Follows es self.old.reached self.old.put self.old.inbound.buffer → LinkTakesAll A es self.old (entry ∷ []) verdicts self.new) }
@@ -98,7 +98,7 @@ impl<A: Allocator + Copy, K: Keeping> Link<A, K> {
         self.incoming.make_room(1, in_order, scratch)?;
         let copy = self.incoming.copy_of(&entry)?;
         self.incoming.take(entry, copy, scratch);
-        Ok(scratch.tell())
+        Ok(scratch.report())
     }
 
     /// Takes in the entries of an answer, in order.
@@ -106,7 +106,7 @@ impl<A: Allocator + Copy, K: Keeping> Link<A, K> {
         &mut self,
         entries: Vec<Entry<A>, A>,
         scratch: &mut Scratch<A>,
-    ) -> Result<Verdicts<A>, OutOfMemory>
+    ) -> Result<EntryVerdicts<A>, OutOfMemory>
         requires origin { All (λ (e : EntryValue). e.origin ≡ self.old.inbound.buffer.origin) entries.items }
         requires few { length entries.items ≤ MAX_ANSWER }
         ensures ok { IfOk result (λ verdicts. (es : List EntryValue) → All (Contains es) entries.items
@@ -119,7 +119,7 @@ impl<A: Allocator + Copy, K: Keeping> Link<A, K> {
         for entry in entries {
             self.incoming.take(entry, copies.next(), scratch);
         }
-        Ok(scratch.tell())
+        Ok(scratch.report())
     }
 
     /// Hears a beat of the origin.

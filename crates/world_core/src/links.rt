@@ -20,7 +20,7 @@ ghost use Rattle.world_core.specs.LinkEvents.{LinkTakesAll, heard, with_applied}
 
 use crate::keeping::Keeping;
 use crate::link::{Link, Scratch};
-use crate::reply::Verdicts;
+use crate::reply::EntryVerdicts;
 use rights_types::{Entry, Message, OutOfMemory, SiteId};
 use site_core::InboundError;
 use std::alloc::Allocator;
@@ -74,7 +74,7 @@ impl<A: Allocator + Copy, K: Keeping> Links<A, K> {
         origin: SiteId,
         entry: Entry<A>,
         scratch: &mut Scratch<A>,
-    ) -> Result<Verdicts<A>, OutOfMemory>
+    ) -> Result<EntryVerdicts<A>, OutOfMemory>
         requires there { (l : LinkValue) × (at_site self.old origin None ≡ Some l) × (entry.origin ≡ l.inbound.buffer.origin) }
         ensures ok { IfOk result (λ verdicts. (before : LinkValue) × (after : LinkValue) × (at_site self.old origin None ≡ Some before) × (self.new ≡ set_site self.old origin (Some after))
             × ((es : List EntryValue) → Contains es entry → Follows es before.reached before.put before.inbound.buffer → LinkTakesAll A es before (entry ∷ []) verdicts after)) }
@@ -92,7 +92,7 @@ impl<A: Allocator + Copy, K: Keeping> Links<A, K> {
         origin: SiteId,
         entries: Vec<Entry<A>, A>,
         scratch: &mut Scratch<A>,
-    ) -> Result<Verdicts<A>, OutOfMemory>
+    ) -> Result<EntryVerdicts<A>, OutOfMemory>
         requires there { (l : LinkValue) × (at_site self.old origin None ≡ Some l) × All (λ (e : EntryValue). e.origin ≡ l.inbound.buffer.origin) entries.items }
         requires few { length entries.items ≤ MAX_ANSWER }
         ensures ok { IfOk result (λ verdicts. (before : LinkValue) × (after : LinkValue) × (at_site self.old origin None ≡ Some before) × (self.new ≡ set_site self.old origin (Some after))

@@ -5,7 +5,7 @@ use std::marker::Model;
 
 /// What a buffer says of an entry that is offered to it.
 #[derive(Clone, Copy, Debug, PartialEq, Eq)]
-pub enum Verdict {
+pub enum EntryVerdict {
     /// It has become next and was delivered; this is its own number.
     Ready(u64),
     /// It is kept until the entries before it come.
@@ -20,52 +20,52 @@ pub enum Verdict {
 
 /// The verdicts on the entries of one arrival, and after each those on the entries that it freed.
 #[derive(Drop)]
-pub struct Verdicts<A: Allocator = Global> {
-    told: Told<A>,
+pub struct EntryVerdicts<A: Allocator = Global> {
+    list: VerdictList<A>,
 }
 
 /// Most arrivals come to one verdict, which takes no memory.
 #[derive(Drop)]
-pub(crate) enum Told<A: Allocator> {
-    One([Verdict; 1]),
-    Many(Vec<Verdict, A>),
+pub(crate) enum VerdictList<A: Allocator> {
+    One([EntryVerdict; 1]),
+    Many(Vec<EntryVerdict, A>),
 }
 
-impl<A: Allocator> Model for Verdicts<A> {
+impl<A: Allocator> Model for EntryVerdicts<A> {
     ghost use Rattle.std.specs.Prelude.{List};
-    ghost use Rattle.world_core.specs.declared.reply.Verdict.{Verdict};
-    ghost use Rattle.world_core.specs.Bodies.{told_of};
+    ghost use Rattle.world_core.specs.declared.reply.EntryVerdict.{EntryVerdict};
+    ghost use Rattle.world_core.specs.Bodies.{verdicts_in};
 
-    ghost Value = { List Verdict };
+    ghost Value = { List EntryVerdict };
 
-    ghost view = { λ v. told_of v.told };
+    ghost view = { λ v. verdicts_in v.list };
 }
 
-impl<A: Allocator> Verdicts<A> {
+impl<A: Allocator> EntryVerdicts<A> {
     ghost use Rattle.std.specs.Prelude.{◌≡◌, ◌∷◌, []};
 
-    pub(crate) fn one(verdict: Verdict) -> Verdicts<A>
+    pub(crate) fn one(verdict: EntryVerdict) -> EntryVerdicts<A>
         ensures { result ≡ verdict ∷ [] }
     {
-        Verdicts {
-            told: Told::One([verdict]),
+        EntryVerdicts {
+            list: VerdictList::One([verdict]),
         }
     }
 
-    pub(crate) fn many(verdicts: Vec<Verdict, A>) -> Verdicts<A>
+    pub(crate) fn many(verdicts: Vec<EntryVerdict, A>) -> EntryVerdicts<A>
         ensures { result ≡ verdicts.items }
     {
-        Verdicts {
-            told: Told::Many(verdicts),
+        EntryVerdicts {
+            list: VerdictList::Many(verdicts),
         }
     }
 
-    pub fn as_slice(&self) -> &[Verdict]
+    pub fn as_slice(&self) -> &[EntryVerdict]
         ensures { result.now ≡ self.now }
     {
-        match &self.told {
-            Told::One(verdict) => verdict,
-            Told::Many(verdicts) => verdicts,
+        match &self.list {
+            VerdictList::One(verdict) => verdict,
+            VerdictList::Many(verdicts) => verdicts,
         }
     }
 }
@@ -90,7 +90,7 @@ pub enum Reply<A: Allocator = Global> {
     /// The number of the packet that was made; `World::packet` lends its line.
     Packet(u64),
     /// The verdicts on the entries that arrived.
-    Verdicts(Verdicts<A>),
+    Verdicts(EntryVerdicts<A>),
     /// A beat was heard.
     HeardBeat,
     /// The ask was granted, by the entry of this number.

@@ -32,7 +32,7 @@ impl<D: DeskNames, A: Allocator + Copy> Kept<D, A> {
         ensures keeps { OnOk result (EntryKeeps self.old.desk.ledger (Issues amount ∷ []) self.new.desk.ledger) }
         ensures step { OnOk result (StepsBy D.id self.old.desk (Write (Issues amount ∷ [])) self.new.desk) }
         ensures number { IfOk result (λ n. n ≡ end self.new.desk.ledger.log.entries) }
-        ensures tallies { OnOk result (self.new ≡ record self.old { desk = self.new.desk; issued = raised self.old.issued amount }) }
+        ensures counters { OnOk result (self.new ≡ record self.old { desk = self.new.desk; issued = raised self.old.issued amount }) }
         ensures told { OnOk result (seat.new ≡ told_issued seat.old amount) }
         ensures err { OnErr result ((self.new ≡ self.old) × (seat.new ≡ seat.old)) }
     {
@@ -54,7 +54,7 @@ impl<D: DeskNames, A: Allocator + Copy> Kept<D, A> {
         ensures ok { OnOk result (IfOk result (λ spending. DeskSpends self.old.desk amount deadline spending self.new.desk)) }
         ensures keeps { IfOk result (λ spending. SpendKeeps self.old.desk amount spending self.new.desk) }
         ensures step { IfOk result (λ spending. StepsBy D.id self.old.desk (spend_change amount spending) self.new.desk) }
-        ensures tallies { IfOk result (λ spending. self.new ≡ record self.old { desk = self.new.desk; spent = raised self.old.spent (spent_by amount spending) }) }
+        ensures counters { IfOk result (λ spending. self.new ≡ record self.old { desk = self.new.desk; spent = raised self.old.spent (spent_by amount spending) }) }
         ensures told { IfOk result (λ spending. seat.new ≡ told_spent seat.old amount spending) }
         ensures err { OnErr result ((self.new ≡ self.old) × (seat.new ≡ seat.old)) }
         ensures memory { IfErr result (λ fault. fault ≡ NoMemory → can_spend self.old.desk amount ≡ true) }
@@ -79,7 +79,7 @@ impl<D: DeskNames, A: Allocator + Copy> Kept<D, A> {
         ensures front { IfOk result (λ served. IfSome served (IsFront self.old.desk.queue.waiting)) }
         ensures fewer { IfOk result (λ served. IfSome served (λ _. length self.new.desk.queue.waiting < length self.old.desk.queue.waiting)) }
         ensures few { length self.old.desk.queue.waiting ≤ SLOTS }
-        ensures tallies { IfOk result (λ served. self.new ≡ record self.old { desk = self.new.desk; spent = raised self.old.spent (amount_of served) }) }
+        ensures counters { IfOk result (λ served. self.new ≡ record self.old { desk = self.new.desk; spent = raised self.old.spent (amount_of served) }) }
         ensures told { IfOk result (λ served. seat.new ≡ told_served seat.old (amount_of served)) }
         ensures err { OnErr result ((self.new ≡ self.old) × (seat.new ≡ seat.old)) }
         ensures memory { IfErr result (λ fault. fault ≡ NoMemory → can_serve self.old.desk (front_of self.old.desk.queue.waiting) ≡ true) }

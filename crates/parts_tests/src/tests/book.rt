@@ -4,5 +4,5 @@ mod calls;
 mod checks;
 mod examples;
 mod memory;
+mod reported;
 mod sites;
-mod told;

@@ -6,7 +6,7 @@ ghost use Rattle.rights_types.specs.Values.{value_of};
 ghost use Rattle.rights_types.specs.declared.limits.TheConstants.{MAX_LINE as LONGEST};
 ghost use Rattle.entry_codec.specs.Cutter.{IsFed, view_of};
 ghost use Rattle.entry_codec.specs.Pieces.{IsLine};
-ghost use Rattle.peer_links.specs.Links.{Greets, HasEnded, HasRead, IsOneLine};
+ghost use Rattle.peer_links.specs.Links.{ReadsHello, HasEnded, HasRead, IsOneLine};
 ghost use Rattle.peer_links.specs.declared.link.LinkFault.{LinkFault};
 
 use crate::lines::LINE_END;
@@ -25,7 +25,7 @@ pub fn read_hello<I: Read, A: Allocator + Copy>(
 ) -> Result<SiteId, LinkFault>
     requires { IsFed cutter.old [] [] }
     ensures read { (text : List ℕ) × Consumes (I.remaining reader.old) (I.remaining reader.new) text
-        × IsOneLine text × (length text ≤ LONGEST) × Greets text result
+        × IsOneLine text × (length text ≤ LONGEST) × ReadsHello text result
         × (IsErrOf result LinkFault.NoHello → HasEnded text (I.remaining reader.new)) }
     // Nothing of the line is left in the cutter.
     ensures empty { OnOk result (cutter.new ≡ view_of []) }
@@ -81,7 +81,7 @@ fn read_byte<I: Read>(reader: &mut I) -> Result<Option<u8>, LinkFault>
 /// Who speaks, if the line says it.
 fn speaker<A: Allocator + Copy>(line: &Vec<u8, A>) -> Result<SiteId, LinkFault>
     requires { IsLine line.now.items }
-    ensures { Greets line.now.items result }
+    ensures { ReadsHello line.now.items result }
 {
     let Ok(message) = read_line(*line.allocator(), line) else {
         return Err(LinkFault::NoHello);

@@ -38,7 +38,7 @@ pub fn read_link<R: Wait, I: Read, P: Port>(
     requires unfinished { intake.old.finished ≡ false }
     requires accepts { AcceptsPeer P.accepts intake.old.inbound.buffer }
     ensures gave { (gave : LinkGave (I.remaining reader.old) (I.remaining reader.new)) × LinkEnds gave result
-        × TakesInput P.hears (still gave.portions) cutter.old gave.input
+        × TakesInput P.hears (still gave.chunks) cutter.old gave.input
         intake.old port.old result intake.new port.new }
     ensures all { OnOk result (IsAtEnd (I.remaining reader.new)) }
     ensures unfinished { intake.new.finished ≡ false }
@@ -127,8 +127,8 @@ fn take_piece<R: Wait, P: Port>(
     ensures pair { SamePair intake.old.inbound.buffer intake.new.inbound.buffer }
 {
     let taken = match piece {
-        Piece::Lent(line) => take_line(rt, line, intake, port),
-        Piece::Kept(line) => take_line(rt, &line, intake, port),
+        Piece::Borrowed(line) => take_line(rt, line, intake, port),
+        Piece::Owned(line) => take_line(rt, &line, intake, port),
         Piece::Long => {
             port.skipped(rt, Skipped::Long);
             Ok(())

@@ -2,7 +2,7 @@
 use rights_types::{Amount, Entry, Move, OutOfMemory, SiteId};
 use std::alloc::Global;
 use test_kit::{give, issue};
-use transfer_world::{Event, Moves, Reply, Verdict, World, WorldError};
+use transfer_world::{EntryVerdict, Event, Moves, Reply, World, WorldError};
 
 /// The greatest amount.
 const MOST: u64 = 1_000_000_000;
@@ -26,7 +26,7 @@ fn is_ready(outcome: &Result<Reply, WorldError>, number: u64) -> bool {
     let Ok(Reply::Verdicts(verdicts)) = outcome else {
         return false;
     };
-    matches!(verdicts.as_slice(), [Verdict::Ready(own)] if *own == number)
+    matches!(verdicts.as_slice(), [EntryVerdict::Ready(own)] if *own == number)
 }
 
 /// Whether these are the replies to a post, a publish, an arrival and two takes.

@@ -3,7 +3,7 @@ use crate::tests::is_replied;
 use rights_types::{Entry, Move, OutOfMemory};
 use std::alloc::{AllocError, Global};
 use test_kit::{give, is_entry, issue, site, spend};
-use transfer_world::{Event, Moves, Reply, Verdict, World, WorldError};
+use transfer_world::{EntryVerdict, Event, Moves, Reply, World, WorldError};
 
 /// The move at a place of an entry, and its text.
 fn move_at(place: usize) -> (Move, &'static [u8]) {
@@ -48,7 +48,7 @@ fn are_replies(outcomes: &[Result<Reply, WorldError>], end: u64, number: u64) ->
         return false;
     };
     (*posted, *packet, *taken) == (end, number, end)
-        && verdicts.as_slice() == [Verdict::Ready(end)].as_slice()
+        && verdicts.as_slice() == [EntryVerdict::Ready(end)].as_slice()
 }
 
 /// Whether these are the entries of 1, 2 and so on to 16 moves.

@@ -6,7 +6,7 @@ use crate::tests::desks::{applier_at, desk_among, pushed, report_of};
 use crate::tests::links::{feed, link};
 use crate::tests::parts::refusal;
 use apply_lanes::laws::taken_in;
-use apply_lanes::{AdmitFault, Applied, Blanks, DeskNames, Free, Parts, Report, SharedDesk};
+use apply_lanes::{AdmitCause, Applied, Blanks, DeskNames, Free, Parts, Report, SharedDesk};
 use site_core::Desk;
 use std::alloc::Global;
 use std::marker::Brand;
@@ -81,7 +81,7 @@ fn sixteen_sites<D: DeskNames, R: Wait + Clock + Abort>(
     let desk = SharedDesk::<D>::new(desk, blanks);
     let applied = all_gifts(rt, alloc, &desk);
     for origin in 2..17 {
-        assert!(rt; refusal(rt, alloc, &desk, origin) == AdmitFault::Taken);
+        assert!(rt; refusal(rt, alloc, &desk, origin) == AdmitCause::Taken);
     }
     let parts = Parts {
         desk,

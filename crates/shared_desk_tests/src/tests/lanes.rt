@@ -1,10 +1,10 @@
-//! Lanes and tallies, by one thread and by two.
+//! Lanes and counters, by one thread and by two.
 ghost use Rattle.std.specs.Prelude.{◌≡◌, ◌+◌, ◌≤◌, [], false, true, IfSome};
 ghost use Rattle.rights_types.specs.Entries.{EntryValue, IsEntry, own, closes};
 ghost use Rattle.thread_parts.specs.Items.{Continues, IsOpen, MayBeFirst, Precedes};
 
 use apply_lanes::laws::ends_taken_in;
-use apply_lanes::{Inlet, Item, LaneClosed, Outlet, Portion, Tally, lane};
+use apply_lanes::{Inlet, Item, LaneClosed, Outlet, Shard, ShardedCounter, lane};
 use rights_types::{Amount, Entry, Frontier, Move, SiteId};
 use std::alloc::Global;
 use std::marker::Brand;
@@ -265,47 +265,47 @@ fn each_growth_of_a_lane_refused(rt: HostRuntime) {
     assert!(rt; requests.is_some_and(|count| count > 0));
 }
 
-/// Adds one so many times, and answers the portion.
+/// Adds one so many times, and answers the shard.
 fn add_ones<L: Ledger, R: Wait>(
     rt: &R,
-    tally: &Mutex<Tally<L>>,
-    mut portion: Portion<L>,
+    counter: &Mutex<ShardedCounter<L>>,
+    mut shard: Shard<L>,
     times: u64,
-) -> Portion<L> {
+) -> Shard<L> {
     for _ in 0..times {
-        let mut sum = tally.lock(rt);
+        let mut sum = counter.lock(rt);
         if sum.sum() < 1000 {
-            sum.add(&mut portion, 1);
+            sum.add(&mut shard, 1);
         }
     }
-    portion
+    shard
 }
 
-/// Two threads add to one sum, each with its portion: when both are back, the sum is what they told.
-fn two_portions<L: Ledger + Send + Sync, R: Threads + Wait + Abort + Sync>(rt: &R, blank: Blank)
+/// Two threads add to one sum, each with its shard: when both are back, the sum is what they told.
+fn two_shards<L: Ledger + Send + Sync, R: Threads + Wait + Abort + Sync>(rt: &R, blank: Blank)
     requires name { blank.name ≡ L.name }
     requires parts { (blank.parts ≡ L.parts) × (L.parts ≡ 3) }
 {
-    let mut tally = Tally::<L>::open(blank, 2);
-    let first = tally.split().expect(rt, "a portion");
-    let second = tally.split().expect(rt, "another");
-    assert!(rt; tally.split().is_none(), "a third portion");
-    let tally = Mutex::new(tally);
-    let shared = &tally;
+    let mut counter = ShardedCounter::<L>::open(blank, 2);
+    let first = counter.split().expect(rt, "a shard");
+    let second = counter.split().expect(rt, "another");
+    assert!(rt; counter.split().is_none(), "a third shard");
+    let counter = Mutex::new(counter);
+    let shared = &counter;
     let (first, second) = thread::join(
         rt,
         move || add_ones(rt, shared, first, 10),
         move || add_ones(rt, shared, second, 20),
     );
-    let mut tally = tally.into_inner();
-    assert!(rt; tally.left() == 0, "both portions are out");
-    let told = (tally.collect(first), tally.collect(second));
-    assert!(rt; tally.left() == 2, "both portions are back");
-    tally.settle();
-    assert!(rt; told == (10, 20) && tally.sum() == 30, "the sum");
+    let mut counter = counter.into_inner();
+    assert!(rt; counter.left() == 0, "both shards are out");
+    let told = (counter.collect(first), counter.collect(second));
+    assert!(rt; counter.left() == 2, "both shards are back");
+    counter.settle();
+    assert!(rt; told == (10, 20) && counter.sum() == 30, "the sum");
 }
 
 #[test]
-fn two_threads_add_to_a_tally(rt: HostRuntime) {
-    two_portions::<Brand, HostRuntime>(&rt, Blank::new(3));
+fn two_threads_add_to_a_counter(rt: HostRuntime) {
+    two_shards::<Brand, HostRuntime>(&rt, Blank::new(3));
 }

@@ -27,14 +27,14 @@ const ENTRIES: u64 = 1_000;
 
 /// The rights that a holder of a seat was told.
 #[derive(Clone, Copy)]
-struct Told {
+struct Confirmed {
     issued: u64,
     spent: u64,
     served: u64,
     given: u64,
 }
 
-const NOTHING: Told = Told {
+const NOTHING: Confirmed = Confirmed {
     issued: 0,
     spent: 0,
     served: 0,
@@ -46,7 +46,7 @@ const NOTHING: Told = Told {
 struct Player<D: DeskNames> {
     seat: Seat<D>,
     seed: u64,
-    told: Told,
+    confirmed: Confirmed,
 }
 
 // Calls under the lock, and what they told: in functions of their own, as a check of many together takes long.
@@ -93,14 +93,16 @@ impl<D: DeskNames> Player<D> {
         let kind = dice.roll(10);
         let mut kept = desk.lock(rt);
         let kept = &mut *kept;
-        let told = &mut self.told;
+        let confirmed = &mut self.confirmed;
         match kind {
-            0..=2 => told.issued = told
+            0..=2 => confirmed.issued = confirmed
                 .issued
                 .wrapping_add(issued(kept, &mut self.seat, amount)),
-            3..=5 => told.spent = told.spent.wrapping_add(spent(kept, &mut self.seat, amount)),
-            6..=8 => told.served = told.served.wrapping_add(served(kept, &mut self.seat)),
-            _ => told.given = told.given.wrapping_add(given(kept, amount)),
+            3..=5 => confirmed.spent = confirmed
+                .spent
+                .wrapping_add(spent(kept, &mut self.seat, amount)),
+            6..=8 => confirmed.served = confirmed.served.wrapping_add(served(kept, &mut self.seat)),
+            _ => confirmed.given = confirmed.given.wrapping_add(given(kept, amount)),
         }
     }
 
@@ -171,7 +173,7 @@ fn players_at<D: DeskNames, R: Wait + Abort>(
         let player = Player {
             seat: seat_at(rt, desk),
             seed,
-            told: NOTHING,
+            confirmed: NOTHING,
         };
         players.push(player).ok().expect(rt, "memory");
     }
@@ -215,20 +217,20 @@ fn seats_of<D: DeskNames, R: Abort>(
     rt: &R,
     alloc: Global,
     players: Vec<Player<D>>,
-) -> (Vec<Seat<D>>, Told) {
+) -> (Vec<Seat<D>>, Confirmed) {
     let mut seats = Vec::new(alloc);
     let mut sum = NOTHING;
     for player in players {
         let Player {
             seat,
             seed: _,
-            told,
+            confirmed,
         } = player;
         seats.push(seat).ok().expect(rt, "memory");
-        sum.issued = sum.issued.wrapping_add(told.issued);
-        sum.spent = sum.spent.wrapping_add(told.spent);
-        sum.served = sum.served.wrapping_add(told.served);
-        sum.given = sum.given.wrapping_add(told.given);
+        sum.issued = sum.issued.wrapping_add(confirmed.issued);
+        sum.spent = sum.spent.wrapping_add(confirmed.spent);
+        sum.served = sum.served.wrapping_add(confirmed.served);
+        sum.given = sum.given.wrapping_add(confirmed.given);
     }
     (seats, sum)
 }
@@ -291,7 +293,7 @@ fn a_game<D: DeskNames + Send + Sync, R: Threads + Wait + Clock + Abort + Sync>(
     alloc: Global,
     desk: Desk,
     blanks: Blanks,
-) -> (Report, Told)
+) -> (Report, Confirmed)
     requires id { D.id ≡ id_of desk blanks }
     requires blanks { AreBlank blanks }
     requires unused { IsUnused desk }
@@ -300,23 +302,23 @@ fn a_game<D: DeskNames + Send + Sync, R: Threads + Wait + Clock + Abort + Sync>(
     let players = players_at(rt, alloc, &desk);
     let links = links_of(rt, alloc, &desk);
     let (players, applied) = play_all(rt, alloc, &desk, players, links);
-    let (seats, told) = seats_of(rt, alloc, players);
+    let (seats, confirmed) = seats_of(rt, alloc, players);
     let parts = Parts {
         desk,
         seats,
         applied,
     };
-    (report_of(rt, parts), told)
+    (report_of(rt, parts), confirmed)
 }
 
 // Whether the report is what the holders of the seats were told.
-fn is_told(report: &Report, told: &Told) -> bool {
-    report.told_issued == told.issued
-        && report.told_spent == told.spent
-        && report.told_served == told.served
-        && report.issued == told.issued
-        && report.given == told.given
-        && report.spent == told.spent.wrapping_add(told.served)
+fn is_confirmed(report: &Report, confirmed: &Confirmed) -> bool {
+    report.told_issued == confirmed.issued
+        && report.told_spent == confirmed.spent
+        && report.told_served == confirmed.served
+        && report.issued == confirmed.issued
+        && report.given == confirmed.given
+        && report.spent == confirmed.spent.wrapping_add(confirmed.served)
 }
 
 // Whether all entries were applied, and what came in went out or is held.
@@ -334,8 +336,10 @@ fn is_even(report: &Report) -> bool {
 #[test]
 fn a_hundred_thousand_calls(rt: HostRuntime) {
     let desk = desk_among(&rt, rt.alloc(), 4);
-    let (report, told) = a_game::<Brand, HostRuntime>(&rt, rt.alloc(), desk, Blanks::new());
-    assert!(rt; is_told(&report, &told));
+    let (report, confirmed) = a_game::<Brand, HostRuntime>(&rt, rt.alloc(), desk, Blanks::new());
+    assert!(rt; is_confirmed(&report, &confirmed));
     assert!(rt; is_even(&report));
-    assert!(rt; told.issued > 0 && told.spent > 0 && told.served > 0 && told.given > 0);
+    assert!(rt;
+        confirmed.issued > 0 && confirmed.spent > 0 && confirmed.served > 0 && confirmed.given > 0
+    );
 }

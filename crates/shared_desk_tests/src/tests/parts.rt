@@ -5,7 +5,7 @@ ghost use Rattle.apply_lanes.specs.Names.{id_of, AreBlank, IsUnused};
 use crate::tests::desks::{applier_at, desk_among, issue, pushed, report_of, seat_at};
 use crate::tests::links::link;
 use apply_lanes::{
-    AdmitFault, Applier, Blanks, DeskNames, Free, Parts, Report, Seat, SharedDesk, StopError, stop,
+    AdmitCause, Applier, Blanks, DeskNames, Free, Parts, Report, Seat, SharedDesk, StopError, stop,
 };
 use rights_types::SiteId;
 use site_core::Desk;
@@ -95,13 +95,13 @@ pub(crate) fn refusal<D: DeskNames, R: Wait + Abort>(
     alloc: Global,
     desk: &SharedDesk<D>,
     origin: u64,
-) -> AdmitFault
+) -> AdmitCause
     requires { (1 ≤ origin) × (origin ≤ 16) }
 {
     let (_, outlet) = link(rt, alloc, 2, 3);
     match desk.applier(rt, SiteId::known(origin), outlet, Free) {
         Ok(_) => panic!(rt; "an applier"),
-        Err(error) => error.fault,
+        Err(error) => error.cause,
     }
 }
 
@@ -113,9 +113,9 @@ fn an_applier<D: DeskNames, R: Wait + Abort>(
 ) -> Applier<D, Free> {
     let (_intake, outlet) = link(rt, alloc, 2, 3);
     let applier = applier_at(rt, desk, 2, outlet, Free);
-    assert!(rt; refusal(rt, alloc, desk, 4) == AdmitFault::NoSuchSite);
-    assert!(rt; refusal(rt, alloc, desk, 1) == AdmitFault::SameSite);
-    assert!(rt; refusal(rt, alloc, desk, 2) == AdmitFault::Taken);
+    assert!(rt; refusal(rt, alloc, desk, 4) == AdmitCause::NoSuchSite);
+    assert!(rt; refusal(rt, alloc, desk, 1) == AdmitCause::SameSite);
+    assert!(rt; refusal(rt, alloc, desk, 2) == AdmitCause::Taken);
     applier
 }
 

@@ -11,11 +11,11 @@ ghost use Rattle.site_words.specs.Status.{status_text};
 ghost use Rattle.site_server.specs.Replying.{asked, ActsAtDesk, CarriesOut, TicksAtDesk, AreViews, IsApplied, TellsStatus, TicksAndSends, DoesDue, Gets, GetsBy};
 ghost use Rattle.site_server.specs.Conversations.{CountsReplies};
 
-use crate::site::bell::{Bell, SiteBell};
 use crate::site::outboxes::Outboxes;
 use crate::site::shared::Shared;
+use crate::site::tick_signal::{SiteTickSignal, TickSignal};
 use apply_lanes::{DeskNames, DeskView, Seat};
-use line_streams::{EndedBy, Goes, LineFault, LineHandler, Replies, answer_lines};
+use line_streams::{ConversationError, EndedBy, Goes, LineHandler, Replies, answer_lines};
 use reply_texts::{REPLY_ROOM, put_bad_command};
 use rights_types::OutOfMemory;
 use site_core::{Desk, DeskError};
@@ -31,27 +31,33 @@ use std::sync::{Arc, Wait};
 
 /// A client of a site: a seat at its desk, its peers, and what tells of its ticks.
 #[derive(Drop)]
-pub(crate) struct SiteClient<'a, D: DeskNames, R: Wait, P: Peers + Drop, B: Bell + Drop> {
+pub(crate) struct SiteClient<'a, D: DeskNames, R: Wait, P: Peers + Drop, B: TickSignal + Drop> {
     pub(crate) rt: &'a R,
     pub(crate) alloc: Global,
     pub(crate) site: &'a Site,
     pub(crate) shared: Arc<Shared<D>>,
     pub(crate) seat: Seat<D>,
     pub(crate) peers: P,
-    pub(crate) bell: B,
+    pub(crate) signal: B,
 }
 
-impl<'a, D: DeskNames, R: Wait, P: Peers + Drop, B: Bell + Drop> Model
+impl<'a, D: DeskNames, R: Wait, P: Peers + Drop, B: TickSignal + Drop> Model
     for SiteClient<'a, D, R, P, B> {
     ghost use Rattle.site_server.specs.Connections.{ClientValue};
 
     ghost Value = { ClientValue P B };
 
-    ghost view = { λ c. record { seat = c.seat; peers = c.peers; bell = c.bell } };
+    ghost view = { λ c. record { seat = c.seat; peers = c.peers; signal = c.signal } };
 }
 
 /// A client of a site that runs.
-pub(crate) type ClientOf<'a, D, R> = SiteClient<'a, D, R, Outboxes<'a, D, R>, SiteBell<'a, R>>;
+pub(crate) type ClientOf<'a, D, R> = SiteClient<
+    'a,
+    D,
+    R,
+    Outboxes<'a, D, R>,
+    SiteTickSignal<'a, R>,
+>;
 
 /// A client with the seat of this place. None where that seat is taken, or there is no memory; then no seat is taken.
 pub(crate) fn client_at<'a, D: DeskNames, R: Wait + AllocGlobal>(
@@ -61,10 +67,10 @@ pub(crate) fn client_at<'a, D: DeskNames, R: Wait + AllocGlobal>(
     place: usize,
 ) -> Option<ClientOf<'a, D, R>> {
     let peers = Outboxes::new(rt, shared.clone().ok()?, site.peers())?;
-    let bell = SiteBell::new(rt, &site.moments);
+    let signal = SiteTickSignal::new(rt, &site.tick_notifier);
     let desk = shared.clone().ok()?;
     let seat = shared.seats.take(rt, place)?;
-    Some(SiteClient::new(rt, rt.alloc(), site, desk, seat, peers, bell))
+    Some(SiteClient::new(rt, rt.alloc(), site, desk, seat, peers, signal))
 }
 
 /// The command that a line spells, given without its line feed; `None` stands for a line that is too long.
@@ -100,7 +106,7 @@ pub(crate) fn add_status<A: Allocator>(
     replies.finish()
 }
 
-impl<'a, D: DeskNames, R: Wait, P: Peers + Drop, B: Bell + Drop> SiteClient<'a, D, R, P, B> {
+impl<'a, D: DeskNames, R: Wait, P: Peers + Drop, B: TickSignal + Drop> SiteClient<'a, D, R, P, B> {
     /// A client with this seat.
     pub(crate) fn new(
         rt: &'a R,
@@ -109,9 +115,9 @@ impl<'a, D: DeskNames, R: Wait, P: Peers + Drop, B: Bell + Drop> SiteClient<'a, 
         shared: Arc<Shared<D>>,
         seat: Seat<D>,
         peers: P,
-        bell: B,
+        signal: B,
     ) -> SiteClient<'a, D, R, P, B>
-        ensures { result ≡ record { seat = seat; peers = peers; bell = bell } }
+        ensures { result ≡ record { seat = seat; peers = peers; signal = signal } }
     {
         SiteClient {
             rt,
@@ -120,7 +126,7 @@ impl<'a, D: DeskNames, R: Wait, P: Peers + Drop, B: Bell + Drop> SiteClient<'a, 
             shared,
             seat,
             peers,
-            bell,
+            signal,
         }
     }
 
@@ -138,7 +144,7 @@ impl<'a, D: DeskNames, R: Wait, P: Peers + Drop, B: Bell + Drop> SiteClient<'a, 
         &mut self,
         reader: &mut I,
         writer: &mut W,
-    ) -> Result<EndedBy, LineFault>
+    ) -> Result<EndedBy, ConversationError>
         ensures ends { (talk : Talk (λ before line text after. Gets P.size P.sends D.id (asked line) before.seat before.peers text after.seat after.peers)
             self.old (I.remaining reader.old) (I.remaining reader.new) (W.contents writer.old) (W.contents writer.new))
             × EndsBy result talk × CountsReplies self.old.seat talk.lines talk.replies self.new.seat }
@@ -187,14 +193,14 @@ impl<'a, D: DeskNames, R: Wait, P: Peers + Drop, B: Bell + Drop> SiteClient<'a, 
     {
         // First, so that no tick is done whose reply finds no room.
         replies.reserve(TICK_ROOM)?;
-        let told = self.tick_and_send(time);
-        answer_tick(replies, told);
+        let outcome = self.tick_and_send(time);
+        answer_tick(replies, outcome);
         Ok(())
     }
 
     /// Does what is due at this time, which is the wall clock's, and tells nobody.
     pub(crate) fn tick_alone(&mut self, time: u64)
-        ensures { (told : Result (Ticked × ℕ) DeskError) × TicksAndSends P.size P.sends D.id self.old.seat self.old.peers time told self.new.seat self.new.peers }
+        ensures { (outcome : Result (Ticked × ℕ) DeskError) × TicksAndSends P.size P.sends D.id self.old.seat self.old.peers time outcome self.new.seat self.new.peers }
     {
         let _ = self.tick_and_send(time);
     }
@@ -205,7 +211,7 @@ impl<'a, D: DeskNames, R: Wait, P: Peers + Drop, B: Bell + Drop> SiteClient<'a, 
         ensures { TicksAndSends P.size P.sends D.id self.old.seat self.old.peers time result self.new.seat self.new.peers }
     {
         let ticked = self.tick_at_desk(time);
-        self.bell.ring();
+        self.signal.notify();
         let ticked = ticked?;
         let sent = send_to_all(&mut self.peers)?;
         Ok((ticked, sent))
@@ -283,7 +289,7 @@ impl<'a, D: DeskNames, R: Wait, P: Peers + Drop, B: Bell + Drop> SiteClient<'a, 
     }
 }
 
-impl<D: DeskNames, R: Wait, P: Peers + Drop, B: Bell + Drop> LineHandler
+impl<D: DeskNames, R: Wait, P: Peers + Drop, B: TickSignal + Drop> LineHandler
     for SiteClient<'_, D, R, P, B> {
     ghost use Rattle.site_server.specs.Replying.{asked, Gets};
 

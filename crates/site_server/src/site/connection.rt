@@ -3,8 +3,8 @@ ghost use Rattle.std.specs.Prelude.{◌≡◌, ◌+◌, ◌≤◌, ◌⊎◌, []
 ghost use Rattle.line_streams.specs.Waiting.{AddsReply};
 ghost use Rattle.site_server.specs.Connections.{Tells, TellsSettled};
 
-use crate::site::bell::Bell;
 use crate::site::client::{SiteClient, command_in, refuse};
+use crate::site::tick_signal::TickSignal;
 use apply_lanes::DeskNames;
 use line_streams::Replies;
 use rights_types::OutOfMemory;
@@ -14,7 +14,7 @@ use site_words::SiteCommand;
 use std::alloc::Global;
 use std::sync::Wait;
 
-impl<D: DeskNames, R: Wait, P: Peers + Drop, B: Bell + Drop> SiteClient<'_, D, R, P, B> {
+impl<D: DeskNames, R: Wait, P: Peers + Drop, B: TickSignal + Drop> SiteClient<'_, D, R, P, B> {
     /// Answers what a line asks for. Nothing ends the site: `quit` is no command here. Once nobody gets a reply any more,
     /// the rest of a request is not carried out, as for want of memory.
     fn tell(
@@ -46,7 +46,7 @@ impl<D: DeskNames, R: Wait, P: Peers + Drop, B: Bell + Drop> SiteClient<'_, D, R
         replies: &mut Replies<Global>,
     ) -> Result<(), OutOfMemory>
         requires { replies.old.part ≡ [] }
-        ensures ok { OnOk result ((text : List ℕ) × TellsSettled P.size P.sends (B.has_ended self.old.bell) D.id command self.old.seat self.old.peers text self.new.seat self.new.peers × AddsReply replies.old replies.new text) }
+        ensures ok { OnOk result ((text : List ℕ) × TellsSettled P.size P.sends (B.has_ended self.old.signal) D.id command self.old.seat self.old.peers text self.new.seat self.new.peers × AddsReply replies.old replies.new text) }
         ensures short { OnOk result ((length replies.new.whole ≤ length replies.old.whole + TICK_ROOM) ⊎ (self.new ≡ self.old)) }
         ensures err { OnErr result (self.new ≡ self.old) }
     {
@@ -57,7 +57,8 @@ impl<D: DeskNames, R: Wait, P: Peers + Drop, B: Bell + Drop> SiteClient<'_, D, R
     }
 }
 
-impl<D: DeskNames, R: Wait, P: Peers + Drop, B: Bell + Drop> Client for SiteClient<'_, D, R, P, B> {
+impl<D: DeskNames, R: Wait, P: Peers + Drop, B: TickSignal + Drop> Client
+    for SiteClient<'_, D, R, P, B> {
     ghost use Rattle.site_server.specs.Replying.{TellsStatus};
     ghost use Rattle.site_server.specs.Connections.{Answers, Settled};
     ghost use Rattle.site_server.specs.Measuring.{TellsMetrics, TellsClosed};

@@ -4,15 +4,15 @@ ghost use Rattle.std.specs.List.{All};
 ghost use Rattle.rights_book.specs.Books.{peer as peer_in};
 ghost use Rattle.site_server.specs.Measuring.{AreMetrics, AreValues, HasApplied, HasValues, TellsClosed, TellsMetrics};
 
-use crate::site::bell::Bell;
 use crate::site::client::SiteClient;
+use crate::site::tick_signal::TickSignal;
 use apply_lanes::{DeskNames, DeskView};
 use line_streams::Replies;
 use rights_types::OutOfMemory;
 use site_core::Desk;
 use site_metrics::{Metrics, PeerMetrics, put_metrics};
 use site_node::Peers;
-use site_sockets::{Peer, Site};
+use site_sockets::{PeerState, Site};
 use std::alloc::Allocator;
 use std::sync::Wait;
 
@@ -49,7 +49,7 @@ fn metrics_of<R: Wait>(rt: &R, site: &Site, values: DeskValues) -> Metrics
 }
 
 /// The values of a peer of whose log so much was applied.
-fn peer_metrics_of<R: Wait>(rt: &R, peer: &Peer, applied: u64) -> PeerMetrics
+fn peer_metrics_of<R: Wait>(rt: &R, peer: &PeerState, applied: u64) -> PeerMetrics
     ensures site { result.site ≡ peer.now.site }
     ensures applied { result.applied ≡ applied }
 {
@@ -70,7 +70,7 @@ fn peer_metrics_of<R: Wait>(rt: &R, peer: &Peer, applied: u64) -> PeerMetrics
     }
 }
 
-impl<D: DeskNames, R: Wait, P: Peers + Drop, B: Bell + Drop> SiteClient<'_, D, R, P, B> {
+impl<D: DeskNames, R: Wait, P: Peers + Drop, B: TickSignal + Drop> SiteClient<'_, D, R, P, B> {
     /// Adds the metrics.
     pub(crate) fn tell_metrics<A: Allocator>(
         &self,

@@ -8,18 +8,18 @@ use crate::site::shared::Shared;
 use apply_lanes::DeskNames;
 use rights_types::{MAX_SITES, OutOfMemory, SiteId};
 use site_node::{Peers, Sink, send_due};
-use site_sockets::Peer;
+use site_sockets::PeerState;
 use std::sync::{Arc, Wait};
 
 /// The outbox of one peer. Its lock hides the lines in it.
 #[derive(Drop)]
 pub(crate) struct PeerOutbox<'a, R: Wait> {
     rt: &'a R,
-    peer: &'a Peer,
+    peer: &'a PeerState,
 }
 
 impl<'a, R: Wait> PeerOutbox<'a, R> {
-    pub(crate) fn new(rt: &'a R, peer: &'a Peer) -> PeerOutbox<'a, R> {
+    pub(crate) fn new(rt: &'a R, peer: &'a PeerState) -> PeerOutbox<'a, R> {
         PeerOutbox { rt, peer }
     }
 }
@@ -39,7 +39,7 @@ impl<R: Wait> Sink for PeerOutbox<'_, R> {
 pub(crate) struct Outboxes<'a, D: DeskNames, R: Wait> {
     rt: &'a R,
     shared: Arc<Shared<D>>,
-    peers: &'a [Peer],
+    peers: &'a [PeerState],
     ghost few: { length peers.now ≤ MAX_SITES },
 }
 
@@ -48,7 +48,7 @@ impl<'a, D: DeskNames, R: Wait> Outboxes<'a, D, R> {
     pub(crate) fn new(
         rt: &'a R,
         shared: Arc<Shared<D>>,
-        peers: &'a [Peer],
+        peers: &'a [PeerState],
     ) -> Option<Outboxes<'a, D, R>> {
         if peers.len() > MAX_SITES as usize {
             return None;

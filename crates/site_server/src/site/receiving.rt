@@ -10,7 +10,7 @@ use peer_links::{DeskMessage, Port, Skipped, read_link};
 use rights_types::{OutOfMemory, SiteId};
 use site_core::{Inbound, InboundError};
 use site_node::{Sink, answer_ask, answer_query, note_denial};
-use site_sockets::{Connection, Peer, Site, SkipCause};
+use site_sockets::{Connection, PeerState, Site, SkipCause};
 use site_words::Config;
 use std::alloc::Global;
 use std::io::Eprint;
@@ -21,7 +21,7 @@ use sub_buffer::State;
 
 /// What comes in from one peer, and what applies it.
 #[derive(Drop)]
-pub(crate) struct Link<D: DeskNames> {
+pub(crate) struct PeerLink<D: DeskNames> {
     pub(crate) origin: SiteId,
     pub(crate) receiver: Receiver<D>,
     pub(crate) applier: LaneEnd<D>,
@@ -61,7 +61,7 @@ pub(crate) fn links_of<D: DeskNames, R: Wait>(
     alloc: Global,
     config: &Config,
     shared: &Arc<Shared<D>>,
-) -> Result<Vec<Link<D>>, OutOfMemory>
+) -> Result<Vec<PeerLink<D>>, OutOfMemory>
     requires { (D.id.site ≡ config.now.id) × (D.id.sites ≡ config.now.sites) }
 {
     let mut links = Vec::new(alloc);
@@ -80,14 +80,14 @@ fn link_of<D: DeskNames, R: Wait>(
     config: &Config,
     shared: &Arc<Shared<D>>,
     origin: SiteId,
-) -> Result<Option<Link<D>>, OutOfMemory>
+) -> Result<Option<PeerLink<D>>, OutOfMemory>
     requires { (D.id.site ≡ config.now.id) × (D.id.sites ≡ config.now.sites) }
 {
     if origin == config.id() || origin.number() > config.sites() {
         return Ok(None);
     }
     let (intake, outlet) = intake_of(alloc, config, origin)?;
-    Ok(Some(Link {
+    Ok(Some(PeerLink {
         origin,
         receiver: Receiver::new(shared, intake)?,
         applier: LaneEnd::new(rt, shared, origin, outlet)?,
@@ -156,15 +156,15 @@ impl<D: DeskNames> Receiver<D> {
         })
     }
 
-    /// Reads the connections of this peer, one after another, till the mailbox is closed.
-    pub(crate) fn receive_all<R: Wait + Eprint>(mut self, rt: &R, peer: &Peer) {
+    /// Reads the connections of this peer, one after another, till the connection slot is closed.
+    pub(crate) fn receive_all<R: Wait + Eprint>(mut self, rt: &R, peer: &PeerState) {
         for _ in rt.forever() {
-            let Some(connection) = peer.mailbox.take(rt) else {
+            let Some(connection) = peer.connection_slot.take(rt) else {
                 break;
             };
             peer.events.receives(rt);
             self.receive(rt, peer, connection);
-            peer.mailbox.finish(rt);
+            peer.connection_slot.finish(rt);
             peer.events.receives_no_more(rt);
         }
         let Receiver {
@@ -175,7 +175,7 @@ impl<D: DeskNames> Receiver<D> {
     }
 
     /// Reads one connection to its end, or to a fault, which ends it just as well.
-    fn receive<R: Wait + Eprint>(&mut self, rt: &R, peer: &Peer, connection: Connection) {
+    fn receive<R: Wait + Eprint>(&mut self, rt: &R, peer: &PeerState, connection: Connection) {
         let Connection {
             mut stream,
             mut cutter,
@@ -196,7 +196,7 @@ impl<D: DeskNames> Receiver<D> {
 struct SitePort<'a, D: DeskNames, E, S: Sink + Drop> {
     rt: &'a E,
     shared: &'a Shared<D>,
-    peer: &'a Peer,
+    peer: &'a PeerState,
     outbox: S,
 }
 

@@ -4,14 +4,14 @@ ghost use Rattle.site_http.specs.Responding.{Responds};
 ghost use Rattle.site_server.specs.Requests.{Conversed, CountsCalls};
 ghost use Rattle.site_server.specs.Connections.{Responded};
 
-use crate::site::bell::Bell;
 use crate::site::client::{SiteClient, client_at};
 use crate::site::shared::Shared;
+use crate::site::tick_signal::TickSignal;
 use apply_lanes::DeskNames;
 use http_server::{Connection, serve};
 use site_http::{Busy, Client, ClientService, service_config};
 use site_node::Peers;
-use site_sockets::{Caller, Clients, Site, hurried, part};
+use site_sockets::{Accepted, Clients, Site, bounded_reader, close_gracefully};
 use std::alloc::Global;
 use std::hash::RandomState;
 use std::io::{Eprint, Read, Write};
@@ -41,7 +41,15 @@ fn converse<C: Client + Drop, I: Read, W: Write>(
 
 /// The same for a client with a seat. Whatever ends the connection, what the client was told as issued and as spent is what
 /// the seat counts more.
-fn answer_requests<'a, D: DeskNames, R: Wait, P: Peers + Drop, B: Bell + Drop, I: Read, W: Write>(
+fn answer_requests<
+    'a,
+    D: DeskNames,
+    R: Wait,
+    P: Peers + Drop,
+    B: TickSignal + Drop,
+    I: Read,
+    W: Write,
+>(
     alloc: Global,
     keys: RandomState,
     client: SiteClient<'a, D, R, P, B>,
@@ -78,7 +86,7 @@ fn seat_client<D: DeskNames, R: Wait + Clock + RandomSource + AllocGlobal>(
 }
 
 /// Deals with the client that has this place, till it goes.
-fn attend<D: DeskNames, R: Wait + Clock + RandomSource + AllocGlobal>(
+fn serve_client<D: DeskNames, R: Wait + Clock + RandomSource + AllocGlobal>(
     rt: &R,
     site: &Site,
     clients: &Clients,
@@ -87,7 +95,7 @@ fn attend<D: DeskNames, R: Wait + Clock + RandomSource + AllocGlobal>(
     place: usize,
 ) {
     seat_client(rt, site, clients, &shared, &stream, place);
-    part(rt, &stream);
+    close_gracefully(rt, &stream);
     clients.leave(rt, place);
 }
 
@@ -99,8 +107,8 @@ fn turn_away<R: Wait + Clock + RandomSource + AllocGlobal>(
     place: usize,
 ) {
     let _ = answer_busy(rt, &stream);
-    part(rt, &stream);
-    clients.leave_porch(rt, place);
+    close_gracefully(rt, &stream);
+    clients.leave_turned_away(rt, place);
 }
 
 fn answer_busy<R: Wait + Clock + RandomSource + AllocGlobal>(
@@ -109,7 +117,7 @@ fn answer_busy<R: Wait + Clock + RandomSource + AllocGlobal>(
 ) -> Option<()> {
     let keys = RandomState::new(rt).ok()?;
     let mut connection = Connection::new(rt.alloc(), keys, service_config());
-    let mut reader = hurried(rt, stream).ok()?;
+    let mut reader = bounded_reader(rt, stream).ok()?;
     let mut writer = stream;
     serve(&mut connection, &mut Busy, &mut reader, &mut writer).ok()
 }
@@ -131,7 +139,7 @@ fn begin_client<
 ) {
     let is_begun = match shared.clone() {
         Ok(shared) => scope
-            .spawn(move || attend(rt, site, clients, shared, stream, place))
+            .spawn(move || serve_client(rt, site, clients, shared, stream, place))
             .is_ok(),
         Err(_) => false,
     };
@@ -152,12 +160,12 @@ fn begin_turning_away<'s, E, R: Wait + Clock + RandomSource + AllocGlobal + Sync
         .spawn(move || turn_away(rt, clients, stream, place))
         .is_err()
     {
-        clients.leave_porch(rt, place);
+        clients.leave_turned_away(rt, place);
     }
 }
 
 /// Starts the thread that deals with who connected.
-fn begin_caller<
+fn begin_accepted<
     's,
     E,
     D: DeskNames + Send + Sync + 's,
@@ -168,40 +176,40 @@ fn begin_caller<
     site: &'s Site,
     clients: &'s Clients,
     shared: &Arc<Shared<D>>,
-    caller: Caller,
+    accepted: Accepted,
 ) {
-    match caller {
-        Caller::Client(stream, place) => {
+    match accepted {
+        Accepted::Client(stream, place) => {
             begin_client(scope, rt, site, clients, shared, stream, place);
         }
-        Caller::TurnedAway(stream, place) => {
+        Accepted::TurnedAway(stream, place) => {
             begin_turning_away(scope, rt, clients, stream, place);
         }
     }
 }
 
 /// Lets in who connects, each with a thread of its own, till the site ends.
-fn let_in<
+fn accept_clients<
     's,
     E,
     D: DeskNames + Send + Sync + 's,
     R: Threads + Wait + Clock + RandomSource + AllocGlobal + Eprint + Sync,
 >(scope: &Scope<'s, E>, rt: &'s R, site: &'s Site, clients: &'s Clients, shared: &Arc<Shared<D>>) {
     for _ in rt.forever() {
-        let Some(caller) = clients.next(rt) else {
+        let Some(accepted) = clients.next(rt) else {
             return;
         };
-        begin_caller(scope, rt, site, clients, shared, caller);
+        begin_accepted(scope, rt, site, clients, shared, accepted);
     }
 }
 
 /// The same, and waits for all of them.
-fn keep_clients<
+fn run_client_acceptor<
     D: DeskNames + Send + Sync,
     R: Threads + Wait + Clock + RandomSource + AllocGlobal + Eprint + Sync,
 >(rt: &R, site: &Site, clients: &Clients, shared: Arc<Shared<D>>) {
     thread::scope(thread::scope_env(), rt, |scope| {
-        let_in(scope, rt, site, clients, &shared);
+        accept_clients(scope, rt, site, clients, &shared);
     })
 }
 
@@ -217,7 +225,7 @@ pub(crate) fn begin_clients<
     };
     match shared.clone() {
         Ok(shared) => scope
-            .spawn(move || keep_clients(rt, site, clients, shared))
+            .spawn(move || run_client_acceptor(rt, site, clients, shared))
             .is_ok(),
         Err(_) => false,
     }

@@ -5,8 +5,8 @@ ghost use Rattle.site_node.specs.declared.reply.Reply.TheVariants.{Spending as S
 ghost use Rattle.site_core.specs.declared.desk.requests.Spending.TheVariants.{Queued as IsQueued};
 ghost use Rattle.site_server.specs.Settling.{Settles, SettlesCommand, still_waits};
 
-use crate::site::bell::Bell;
 use crate::site::client::SiteClient;
+use crate::site::tick_signal::TickSignal;
 use apply_lanes::DeskNames;
 use line_streams::Replies;
 use reply_texts::REPLY_ROOM;
@@ -18,7 +18,7 @@ use site_words::DeskCommand;
 use std::alloc::Allocator;
 use std::sync::Wait;
 
-impl<D: DeskNames, R: Wait, P: Peers + Drop, B: Bell + Drop> SiteClient<'_, D, R, P, B> {
+impl<D: DeskNames, R: Wait, P: Peers + Drop, B: TickSignal + Drop> SiteClient<'_, D, R, P, B> {
     /// Carries out a command, waits for what becomes of a spend that is queued, and adds the reply.
     pub(crate) fn settle_command<A: Allocator>(
         &mut self,
@@ -26,7 +26,7 @@ impl<D: DeskNames, R: Wait, P: Peers + Drop, B: Bell + Drop> SiteClient<'_, D, R
         replies: &mut Replies<A>,
     ) -> Result<(), OutOfMemory>
         requires { replies.old.part ≡ [] }
-        ensures ok { OnOk result ((text : List ℕ) × SettlesCommand (B.has_ended self.old.bell) D.id self.old.seat command text self.new.seat × AddsReply replies.old replies.new text) }
+        ensures ok { OnOk result ((text : List ℕ) × SettlesCommand (B.has_ended self.old.signal) D.id self.old.seat command text self.new.seat × AddsReply replies.old replies.new text) }
         ensures short { OnOk result (length replies.new.whole ≤ length replies.old.whole + REPLY_ROOM) }
         ensures err { OnErr result (self.new ≡ self.old) }
         ensures rest { self.new ≡ record self.old { seat = self.new.seat } }
@@ -34,7 +34,7 @@ impl<D: DeskNames, R: Wait, P: Peers + Drop, B: Bell + Drop> SiteClient<'_, D, R
         // First, so that no command is carried out whose reply finds no room.
         replies.reserve(REPLY_ROOM)?;
         // Before the command, so that no tick behind it is missed.
-        let seen = self.bell.count();
+        let seen = self.signal.count();
         let reply = self.act(command);
         let settled = self.settled(reply, seen);
         answer_reply(replies, settled);
@@ -43,7 +43,7 @@ impl<D: DeskNames, R: Wait, P: Peers + Drop, B: Bell + Drop> SiteClient<'_, D, R
 
     /// What becomes of a spend that was queued when so many ticks were seen; else the reply itself.
     fn settled(&mut self, reply: Reply, seen: u64) -> Reply
-        ensures settles { Settles (B.has_ended self.old.bell) D.id self.old.seat reply result }
+        ensures settles { Settles (B.has_ended self.old.signal) D.id self.old.seat reply result }
         ensures same { self.new ≡ self.old }
     {
         match reply {
@@ -56,11 +56,11 @@ impl<D: DeskNames, R: Wait, P: Peers + Drop, B: Bell + Drop> SiteClient<'_, D, R
     /// of the site it is told as queued.
     #[tactic(auto, using(crate::proofs::SettleLaws::tells_outcome, crate::proofs::SettleLaws::keeps_seat))]
     fn outcome(&mut self, ticket: u64, mut seen: u64) -> Reply
-        ensures settles { Settles (B.has_ended self.old.bell) D.id self.old.seat (Spends (IsQueued ticket)) result }
+        ensures settles { Settles (B.has_ended self.old.signal) D.id self.old.seat (Spends (IsQueued ticket)) result }
         ensures same { self.new ≡ self.old }
     {
         'ticks: for _ in self.rt.forever() {
-            let Some(count) = self.bell.next(seen) else {
+            let Some(count) = self.signal.next(seen) else {
                 return Reply::Spending(Spending::Queued(ticket));
             };
             seen = count;

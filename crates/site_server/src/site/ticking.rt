@@ -1,8 +1,8 @@
 //! The ticks that a site does by itself.
 
-use crate::site::bell::Bell;
 use crate::site::client::{SiteClient, client_at};
 use crate::site::shared::{Shared, TICKS};
+use crate::site::tick_signal::TickSignal;
 use apply_lanes::DeskNames;
 use site_node::Peers;
 use site_sockets::Site;
@@ -17,13 +17,19 @@ fn milliseconds<R: Clock>(rt: &R) -> Option<u64> {
     u64::try_from(since.as_millis()).ok()
 }
 
-impl<D: DeskNames, R: Wait + Clock, P: Peers + Drop, B: Bell + Drop> SiteClient<'_, D, R, P, B> {
+impl<D: DeskNames, R: Wait + Clock, P: Peers + Drop, B: TickSignal + Drop> SiteClient<
+    '_,
+    D,
+    R,
+    P,
+    B,
+> {
     /// Does every so many milliseconds what a `tick` with the time since 1970 does, till the site ends. A time that the
     /// desk refuses, as one that went back, does nothing.
     pub(crate) fn tick_all(&mut self, rt: &R, site: &Site, every: u64) {
         let time = Duration::from_millis(every);
         for _ in rt.forever() {
-            if !site.moments.rest(rt, time) {
+            if !site.tick_notifier.rest(rt, time) {
                 return;
             }
             if let Some(now) = milliseconds(rt) {

@@ -6,14 +6,14 @@ ghost use Rattle.line_streams.specs.Handling.{IsGiven};
 ghost use Rattle.transfer_world.specs.Replies.{error_name, verdict_text, verdicts_text, unended, packet_reply, reply_text, outcome_text};
 ghost use Rattle.transfer_world.specs.Script.{CommandGets, LineGets};
 
-use crate::script::commands::{Command, read_command};
+use crate::script::commands::{ScriptCommand, read_command};
 use crate::script::report::put_report;
 use line_streams::Replies;
 use reply_texts::{desk_error_name, put_bad_command, put_number, put_spending, put_status};
 use rights_types::OutOfMemory;
 use site_core::Spending;
 use std::alloc::Allocator;
-use world_core::{Event, ForReplies, Reply, Verdict, World, WorldError};
+use world_core::{EntryVerdict, Event, ForReplies, Reply, World, WorldError};
 
 fn error_name(error: WorldError) -> &'static [u8]
     ensures { result.now ≡ error_name error }
@@ -30,22 +30,25 @@ fn error_name(error: WorldError) -> &'static [u8]
 }
 
 #[inline(always)]
-fn put_verdict<A: Allocator>(replies: &mut Replies<A>, verdict: Verdict) -> Result<(), OutOfMemory>
+fn put_verdict<A: Allocator>(
+    replies: &mut Replies<A>,
+    verdict: EntryVerdict,
+) -> Result<(), OutOfMemory>
     ensures ok { OnOk result (replies.new.part ≡ replies.old.part ++ verdict_text verdict) }
     ensures kept { replies.new.whole ≡ replies.old.whole }
 {
     match verdict {
-        Verdict::Ready(number) => replies.put_field(b"ready ", number),
-        Verdict::Held => replies.put(b"held"),
-        Verdict::Repeat => replies.put(b"repeat"),
-        Verdict::AfterClose => replies.put(b"afterclose"),
-        Verdict::Full => replies.put(b"full"),
+        EntryVerdict::Ready(number) => replies.put_field(b"ready ", number),
+        EntryVerdict::Held => replies.put(b"held"),
+        EntryVerdict::Repeat => replies.put(b"repeat"),
+        EntryVerdict::AfterClose => replies.put(b"afterclose"),
+        EntryVerdict::Full => replies.put(b"full"),
     }
 }
 
 fn put_verdicts<A: Allocator>(
     replies: &mut Replies<A>,
-    verdicts: &[Verdict],
+    verdicts: &[EntryVerdict],
 ) -> Result<(), OutOfMemory>
     ensures ok { OnOk result (replies.new.part ≡ replies.old.part ++ verdicts_text verdicts.now) }
     ensures kept { replies.new.whole ≡ replies.old.whole }
@@ -150,14 +153,14 @@ fn answer_first<A: Allocator + Copy, B: Allocator>(
     alloc: A,
     world: &mut Option<World<A, ForReplies>>,
     replies: &mut Replies<B>,
-    command: Command<A>,
+    command: ScriptCommand<A>,
 ) -> Result<(), OutOfMemory>
     requires { world.old ≡ None }
     ensures ok { OnOk result ((text : List ℕ) × CommandGets None (Some command) text world.new
         × (replies.new.part ≡ replies.old.part ++ text)) }
     ensures kept { replies.new.whole ≡ replies.old.whole }
 {
-    let Command::Sites(count) = command else {
+    let ScriptCommand::Sites(count) = command else {
         return replies.put(b"error NoWorld");
     };
     *world = Some(World::for_replies(alloc, count.number())?);
@@ -169,19 +172,19 @@ fn answer_first<A: Allocator + Copy, B: Allocator>(
 fn answer_in<A: Allocator + Copy, B: Allocator>(
     world: &mut World<A, ForReplies>,
     replies: &mut Replies<B>,
-    command: Command<A>,
+    command: ScriptCommand<A>,
 ) -> Result<(), OutOfMemory>
     ensures ok { OnOk result ((text : List ℕ) × CommandGets (Some world.old) (Some command) text (Some world.new)
         × (replies.new.part ≡ replies.old.part ++ text)) }
     ensures kept { replies.new.whole ≡ replies.old.whole }
 {
     match command {
-        Command::Sites(_) => put_bad_command(replies),
-        Command::Act(event) => {
+        ScriptCommand::Sites(_) => put_bad_command(replies),
+        ScriptCommand::Act(event) => {
             let outcome = world.step(event);
             put_outcome(replies, world, outcome)
         }
-        Command::Report => put_report(replies, world),
+        ScriptCommand::Report => put_report(replies, world),
     }
 }
 
@@ -191,7 +194,7 @@ fn answer<A: Allocator + Copy, B: Allocator>(
     alloc: A,
     world: &mut Option<World<A, ForReplies>>,
     replies: &mut Replies<B>,
-    command: Option<Command<A>>,
+    command: Option<ScriptCommand<A>>,
 ) -> Result<(), OutOfMemory>
     ensures ok { OnOk result ((text : List ℕ) × CommandGets world.old command text world.new
         × (replies.new.part ≡ replies.old.part ++ text)) }

@@ -19,7 +19,7 @@ use world_core::{Event, Moves};
 
 /// What a line asks for.
 #[derive(Drop)]
-pub(crate) enum Command<A: Allocator> {
+pub(crate) enum ScriptCommand<A: Allocator> {
     /// Makes a world of so many sites.
     Sites(SiteCount),
     /// Something happens in the world.
@@ -230,17 +230,17 @@ fn event_on_link<A: Allocator>(word: LinkWord, values: Option<&[u8]>) -> Option<
 }
 
 #[tactic(auto, unfolding(crate::specs::Commands::sites_of))]
-fn read_sites<A: Allocator>(values: Option<&[u8]>) -> Option<Command<A>>
+fn read_sites<A: Allocator>(values: Option<&[u8]>) -> Option<ScriptCommand<A>>
     ensures { result ≡ sites_of (words_left values.entry) }
 {
     let count = only_in(values, MIN_SITES, MAX_SITES)?;
-    Some(Command::Sites(SiteCount::known(count)))
+    Some(ScriptCommand::Sites(SiteCount::known(count)))
 }
 
-fn act<A: Allocator>(event: Option<Event<A>>) -> Option<Command<A>>
+fn act<A: Allocator>(event: Option<Event<A>>) -> Option<ScriptCommand<A>>
     ensures { result ≡ act event }
 {
-    Some(Command::Act(event?))
+    Some(ScriptCommand::Act(event?))
 }
 
 /// The command of a word, and its values.
@@ -249,7 +249,7 @@ fn read_values<A: Allocator>(
     alloc: A,
     word: Word,
     values: Option<&[u8]>,
-) -> Result<Option<Command<A>>, OutOfMemory>
+) -> Result<Option<ScriptCommand<A>>, OutOfMemory>
     ensures { IfOk result (λ command. command ≡ command_by word (words_left values.entry)) }
 {
     Ok(match word {
@@ -258,13 +258,13 @@ fn read_values<A: Allocator>(
         Word::AtSite(word) => act(site_event(word, values)),
         Word::OnLink(word) => act(event_on_link(word, values)),
         Word::Noise => act(read_noise(alloc, values)?),
-        Word::Report => alone(Command::Report, values),
+        Word::Report => alone(ScriptCommand::Report, values),
     })
 }
 
 /// The command of a line that is not too long.
 #[tactic(auto, unfolding(crate::specs::Commands::command_in))]
-fn read_words<A: Allocator>(alloc: A, text: &[u8]) -> Result<Option<Command<A>>, OutOfMemory>
+fn parse_line<A: Allocator>(alloc: A, text: &[u8]) -> Result<Option<ScriptCommand<A>>, OutOfMemory>
     ensures { IfOk result (λ command. command ≡ command_in text.now) }
 {
     match first_word(text) {
@@ -277,11 +277,11 @@ fn read_words<A: Allocator>(alloc: A, text: &[u8]) -> Result<Option<Command<A>>,
 pub(crate) fn read_command<A: Allocator>(
     alloc: A,
     text: Option<&[u8]>,
-) -> Result<Option<Command<A>>, OutOfMemory>
+) -> Result<Option<ScriptCommand<A>>, OutOfMemory>
     ensures { (line : List ℕ) → IsGiven line text.entry → IfOk result (λ command. command ≡ command_of line) }
 {
     match text {
-        Some(text) => read_words(alloc, text),
+        Some(text) => parse_line(alloc, text),
         None => Ok(None),
     }
 }

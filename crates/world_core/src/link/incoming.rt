@@ -6,12 +6,12 @@ ghost use Rattle.rights_types.specs.declared.limits.TheConstants.{MAX_ANSWER, MA
 ghost use Rattle.sub_buffer.specs.Follows.{reached_after};
 ghost use Rattle.sub_buffer.specs.declared.verdict.Verdict.{Verdict as AVerdict};
 ghost use Rattle.site_core.specs.Inbounds.{ready_in};
-ghost use Rattle.world_core.specs.LinkEvents.{told as as_told};
+ghost use Rattle.world_core.specs.LinkEvents.{reported as as_reported};
 ghost use Rattle.world_core.specs.IncomingLists.{reached_in, NoneAhead, HasRoom, SameLists, IncomingTakes};
 
 use crate::history::History;
 use crate::keeping::Keeping;
-use crate::reply::{Verdict, Verdicts};
+use crate::reply::{EntryVerdict, EntryVerdicts};
 use rights_types::{Entry, OutOfMemory};
 use site_core::Inbound;
 use std::alloc::Allocator;
@@ -41,27 +41,27 @@ pub(super) struct Incoming<A: Allocator, K: Keeping> {
 #[derive(Drop)]
 pub(crate) struct Scratch<A: Allocator> {
     pub(super) verdicts: Vec<BufferVerdict<A>, A>,
-    // The verdicts as they are told.
-    pub(super) told: Vec<Verdict, A>,
+    // The verdicts as they are reported.
+    pub(super) reported: Vec<EntryVerdict, A>,
 }
 
 impl<A: Allocator + Copy> Scratch<A> {
     pub(crate) fn new(alloc: A) -> Scratch<A> {
         Scratch {
             verdicts: Vec::new(alloc),
-            told: Vec::new(alloc),
+            reported: Vec::new(alloc),
         }
     }
 
-    /// The verdicts that were told. One of them takes no memory of its own.
-    pub(super) fn tell(&mut self) -> Verdicts<A>
-        ensures { result ≡ self.old.told.items }
+    /// The verdicts that were reported. One of them takes no memory of its own.
+    pub(super) fn report(&mut self) -> EntryVerdicts<A>
+        ensures { result ≡ self.old.reported.items }
     {
-        if self.told.len() == 1 {
-            return Verdicts::one(self.told[0]);
+        if self.reported.len() == 1 {
+            return EntryVerdicts::one(self.reported[0]);
         }
-        let alloc = *self.told.allocator();
-        Verdicts::many(mem::replace(&mut self.told, Vec::new(alloc)))
+        let alloc = *self.reported.allocator();
+        EntryVerdicts::many(mem::replace(&mut self.reported, Vec::new(alloc)))
     }
 }
 
@@ -78,7 +78,7 @@ impl<A: Allocator + Copy, K: Keeping> Incoming<A, K> {
         requires few { entries ≤ MAX_ANSWER }
         requires held { length self.old.inbound.buffer.held ≤ MAX_HELD }
         ensures same { SameLists self.old self.new }
-        ensures ok { OnOk result ((scratch.new.verdicts.items ≡ []) × (scratch.new.told.items ≡ []) × HasRoom entries self.new scratch.new) }
+        ensures ok { OnOk result ((scratch.new.verdicts.items ≡ []) × (scratch.new.reported.items ≡ []) × HasRoom entries self.new scratch.new) }
         ensures apart { OnOk result (K.keeps ≡ true → self.new.apart ≡ None → in_order ≡ true) }
     {
         if K::keeps() && !in_order {
@@ -91,8 +91,8 @@ impl<A: Allocator + Copy, K: Keeping> Incoming<A, K> {
         self.put.reserve(room)?;
         scratch.verdicts.clear();
         scratch.verdicts.reserve(room)?;
-        scratch.told.clear();
-        scratch.told.reserve(entries + room)?;
+        scratch.reported.clear();
+        scratch.reported.reserve(entries + room)?;
         Ok(())
     }
 
@@ -136,7 +136,7 @@ impl<A: Allocator + Copy, K: Keeping> Incoming<A, K> {
         requires empty { scratch.old.verdicts.items ≡ [] }
         requires room { HasRoom 1 self.old scratch.old }
         requires copy { IsSome self.old.apart → copy ≡ Some entry }
-        ensures takes { (v : AVerdict A) × (freed : List EntryValue) × IncomingTakes self.old scratch.old.told.items entry v freed self.new scratch.new.told.items }
+        ensures takes { (v : AVerdict A) × (freed : List EntryValue) × IncomingTakes self.old scratch.old.reported.items entry v freed self.new scratch.new.reported.items }
         ensures empty { scratch.new.verdicts.items ≡ [] }
         ensures room { (n : ℕ) → HasRoom (n + 1) self.old scratch.old → HasRoom n self.new scratch.new }
     {
@@ -177,26 +177,26 @@ impl<A: Allocator + Copy, K: Keeping> Incoming<A, K> {
     // Tells the verdicts; the entries that are ready go to the end of what was put.
     fn settle(&mut self, scratch: &mut Scratch<A>)
         requires put { length self.old.put.items + length scratch.old.verdicts.items ≤ vec_capacity self.old.put }
-        requires told { length scratch.old.told.items + length scratch.old.verdicts.items ≤ vec_capacity scratch.old.told }
+        requires reported { length scratch.old.reported.items + length scratch.old.verdicts.items ≤ vec_capacity scratch.old.reported }
         ensures put { self.new.put.items ≡ self.old.put.items ++ ready_in scratch.old.verdicts.items }
-        ensures told { scratch.new.told.items ≡ scratch.old.told.items ++ map as_told scratch.old.verdicts.items }
+        ensures reported { scratch.new.reported.items ≡ scratch.old.reported.items ++ map as_reported scratch.old.verdicts.items }
         ensures verdicts { scratch.new.verdicts.items ≡ [] }
         ensures rest { self.new ≡ record self.old { put = self.new.put } }
         ensures put_room { vec_capacity self.new.put ≡ vec_capacity self.old.put }
         ensures verdicts_room { vec_capacity scratch.new.verdicts ≡ vec_capacity scratch.old.verdicts }
-        ensures told_room { vec_capacity scratch.new.told ≡ vec_capacity scratch.old.told }
+        ensures reported_room { vec_capacity scratch.new.reported ≡ vec_capacity scratch.old.reported }
     {
         // The first is to leave first, from the end.
         scratch.verdicts.reverse();
         while let Some(verdict) = scratch.verdicts.pop() {
-            scratch.told.push_reserved(self.put_ready(verdict));
+            scratch.reported.push_reserved(self.put_ready(verdict));
         }
     }
 
-    // The verdict as it is told; where it is on an entry that is ready, the entry goes to the end of what was put.
-    fn put_ready(&mut self, verdict: BufferVerdict<A>) -> Verdict
+    // The verdict as it is reported; where it is on an entry that is ready, the entry goes to the end of what was put.
+    fn put_ready(&mut self, verdict: BufferVerdict<A>) -> EntryVerdict
         requires { length self.old.put.items < vec_capacity self.old.put }
-        ensures told { result ≡ as_told verdict }
+        ensures reported { result ≡ as_reported verdict }
         ensures put { self.new.put.items ≡ self.old.put.items ++ ready_in (verdict ∷ []) }
         ensures rest { self.new ≡ record self.old { put = self.new.put } }
         ensures room { vec_capacity self.new.put ≡ vec_capacity self.old.put }
@@ -205,12 +205,12 @@ impl<A: Allocator + Copy, K: Keeping> Incoming<A, K> {
             BufferVerdict::Ready(entry) => {
                 let number = entry.own();
                 self.put.push_reserved(entry);
-                Verdict::Ready(number)
+                EntryVerdict::Ready(number)
             }
-            BufferVerdict::Held => Verdict::Held,
-            BufferVerdict::Repeat => Verdict::Repeat,
-            BufferVerdict::AfterClose => Verdict::AfterClose,
-            BufferVerdict::Full => Verdict::Full,
+            BufferVerdict::Held => EntryVerdict::Held,
+            BufferVerdict::Repeat => EntryVerdict::Repeat,
+            BufferVerdict::AfterClose => EntryVerdict::AfterClose,
+            BufferVerdict::Full => EntryVerdict::Full,
         }
     }
 

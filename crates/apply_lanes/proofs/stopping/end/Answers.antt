@@ -5,9 +5,9 @@ use Rattle.apply_lanes.proofs.stopping.end.Goals as goal
 pub settle-requires-clause-seats : goal.settle-requires-clause-seats
 settle-requires-clause-seats g c =
     let back = none_missing c.args.kept _ _ (sym c.missing.ensures.missing ∙ c.in-None.is) in
-    omega (arith, back.0, left_bound c.args.kept c.missing.ensures.valid.portioned)
+    omega (arith, back.0, left_bound c.args.kept c.missing.ensures.valid.has_shards)
 
 pub settle-requires-clause-applied : goal.settle-requires-clause-applied
 settle-requires-clause-applied g c =
     let back = none_missing c.args.kept _ _ (sym c.missing.ensures.missing ∙ c.in-None.is) in
-    omega (arith, back.1, c.missing.ensures.valid.portioned.appliers)
+    omega (arith, back.1, c.missing.ensures.valid.has_shards.appliers)

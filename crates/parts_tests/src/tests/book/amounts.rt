@@ -1,7 +1,7 @@
 //! The greatest amounts, and many of them.
 use crate::tests::book::calls::{applies, refusal, write};
-use crate::tests::book::told::{
-    NO_TOTALS, Told, Totals, UNTOLD, held, known, new_book, told_of, totals_of,
+use crate::tests::book::reported::{
+    NO_TOTALS, Reported, Totals, UNREPORTED, held, known, new_book, reported_of, totals_of,
 };
 use rights_book::{Book, BookError};
 use rights_types::{MAX_AMOUNT, MAX_MOVES, MAX_TOTAL};
@@ -36,13 +36,13 @@ fn greatest_moves(rt: HostRuntime) {
         ..NO_TOTALS
     };
     assert!(rt; totals_of(&book) == totals);
-    let told = Told {
+    let reported = Reported {
         known: ALL as i128,
         given: ALL,
         back: ALL,
-        ..UNTOLD
+        ..UNREPORTED
     };
-    assert!(rt; told_of(&book, 2) == told);
+    assert!(rt; reported_of(&book, 2) == reported);
 }
 
 /// The greatest gifts of another site, in one entry, are received whole.
@@ -56,13 +56,13 @@ fn greatest_gifts(rt: HostRuntime) {
         ..NO_TOTALS
     };
     assert!(rt; totals_of(&book) == totals);
-    let told = Told {
+    let reported = Reported {
         known: -16_000_000_000,
         applied: 16,
         received: ALL,
-        ..UNTOLD
+        ..UNREPORTED
     };
-    assert!(rt; known(&book, 1) == 16_000_000_000 && told_of(&book, 2) == told);
+    assert!(rt; known(&book, 1) == 16_000_000_000 && reported_of(&book, 2) == reported);
 }
 
 /// A test of many moves counts past 64 bits.
@@ -112,11 +112,11 @@ fn many_entries(rt: HostRuntime) {
         ..NO_TOTALS
     };
     assert!(rt; totals_of(&book) == totals);
-    let told = Told {
+    let reported = Reported {
         applied: 1000,
         received: all,
         given: all,
-        ..UNTOLD
+        ..UNREPORTED
     };
-    assert!(rt; told_of(&book, 2) == told);
+    assert!(rt; reported_of(&book, 2) == reported);
 }

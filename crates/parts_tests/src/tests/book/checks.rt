@@ -1,6 +1,6 @@
 //! What `check` refuses, and in which order.
 use crate::tests::book::calls::{applies, refusal, write};
-use crate::tests::book::told::{Told, UNTOLD, held, new_book, told_of};
+use crate::tests::book::reported::{Reported, UNREPORTED, held, new_book, reported_of};
 use rights_book::{Book, BookError};
 use rights_types::Move;
 use std::alloc::Global;
@@ -57,11 +57,11 @@ fn knows_nothing_of_other_systems(rt: HostRuntime) {
     assert!(rt; applies(&rt, &mut book, 2, 0, &[issue(5), give(9, 3)]));
     assert!(rt; book.me().number() == 1);
     assert!(rt; book.sites() == 2);
-    let told = Told {
+    let reported = Reported {
         known: 2,
         applied: 2,
-        ..UNTOLD
+        ..UNREPORTED
     };
-    assert!(rt; told_of(&book, 2) == told);
-    assert!(rt; told_of(&book, 9) == UNTOLD);
+    assert!(rt; reported_of(&book, 2) == reported);
+    assert!(rt; reported_of(&book, 9) == UNREPORTED);
 }

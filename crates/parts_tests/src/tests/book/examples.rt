@@ -1,7 +1,7 @@
 //! Books of sites that issue, spend, give, close and take back.
 use crate::tests::book::calls::{applies, refusal, write};
-use crate::tests::book::told::{
-    NO_TOTALS, Told, Totals, UNTOLD, held, known, new_book, told_of, totals_of,
+use crate::tests::book::reported::{
+    NO_TOTALS, Reported, Totals, UNREPORTED, held, known, new_book, reported_of, totals_of,
 };
 use rights_book::{Book, BookError};
 use rights_types::TypeError;
@@ -36,13 +36,19 @@ fn gives_what_is_held(rt: HostRuntime) {
         ..NO_TOTALS
     };
     assert!(rt; totals_of(&first) == totals);
-    assert!(rt; told_of(&first, 1) == Told { known: 3, ..UNTOLD });
     assert!(rt;
-        told_of(&first, 2)
-            == Told {
+        reported_of(&first, 1)
+            == Reported {
+                known: 3,
+                ..UNREPORTED
+            }
+    );
+    assert!(rt;
+        reported_of(&first, 2)
+            == Reported {
                 known: 3,
                 given: 3,
-                ..UNTOLD
+                ..UNREPORTED
             }
     );
     let mut second = new_book(&rt, 2, 2);
@@ -55,13 +61,13 @@ fn gives_what_is_held(rt: HostRuntime) {
                 ..NO_TOTALS
             }
     );
-    let told = Told {
+    let reported = Reported {
         known: 3,
         applied: 3,
         received: 3,
-        ..UNTOLD
+        ..UNREPORTED
     };
-    assert!(rt; told_of(&second, 1) == told);
+    assert!(rt; reported_of(&second, 1) == reported);
 }
 
 /// A site asks, is granted, and spends.
@@ -83,14 +89,14 @@ fn spends_what_was_granted(rt: HostRuntime) {
         ..NO_TOTALS
     };
     assert!(rt; totals_of(&second) == totals);
-    let told = Told {
+    let reported = Reported {
         known: 4,
         applied: 2,
         received: 6,
-        ..UNTOLD
+        ..UNREPORTED
     };
-    assert!(rt; told_of(&second, 1) == told);
-    assert!(rt; told_of(&second, 2) == UNTOLD);
+    assert!(rt; reported_of(&second, 1) == reported);
+    assert!(rt; reported_of(&second, 2) == UNREPORTED);
 }
 
 /// The site that grants keeps the rest.
@@ -131,10 +137,10 @@ fn closes_with_an_heir(rt: HostRuntime) -> Result<(), TypeError> {
     };
     assert!(rt; totals_of(&first) == totals);
     assert!(rt;
-        told_of(&first, 1)
-            == Told {
+        reported_of(&first, 1)
+            == Reported {
                 closed: true,
-                ..UNTOLD
+                ..UNREPORTED
             }
     );
     assert!(rt; !write(&mut first, &[issue(1)]));
@@ -153,16 +159,16 @@ fn nothing_is_given_to_a_closed_site(rt: HostRuntime) -> Result<(), TypeError> {
     let last = [give(2, 3), close_at(&[0, 0])?];
     let mut second = new_book(&rt, 2, 2);
     assert!(rt; applies(&rt, &mut second, 1, 0, &[issue(10), spend(4), give(2, 3)]));
-    assert!(rt; !told_of(&second, 1).closed);
+    assert!(rt; !reported_of(&second, 1).closed);
     assert!(rt; applies(&rt, &mut second, 1, 3, &last));
     assert!(rt; !applies(&rt, &mut second, 1, 5, &[issue(1)]));
-    let told = Told {
+    let reported = Reported {
         applied: 5,
         received: 6,
         closed: true,
-        ..UNTOLD
+        ..UNREPORTED
     };
-    assert!(rt; told_of(&second, 1) == told);
+    assert!(rt; reported_of(&second, 1) == reported);
     assert!(rt; held(&second) == 6);
     assert!(rt; gets_nothing(&second));
     Ok(())
@@ -189,15 +195,15 @@ fn takes_back_from_a_closed_site(rt: HostRuntime) -> Result<(), TypeError> {
     assert!(rt; totals_of(&first) == totals);
     assert!(rt; known(&first, 1) == 10);
     // What was given to it counts still, though it was taken back.
-    let told = Told {
+    let reported = Reported {
         known: 4,
         applied: 1,
         given: 4,
         back: 4,
         closed: true,
-        ..UNTOLD
+        ..UNREPORTED
     };
-    assert!(rt; told_of(&first, 2) == told);
+    assert!(rt; reported_of(&first, 2) == reported);
     Ok(())
 }
 
@@ -214,6 +220,6 @@ fn closes_with_no_heir(rt: HostRuntime) -> Result<(), TypeError> {
                 ..NO_TOTALS
             }
     );
-    assert!(rt; told_of(&second, 2).closed);
+    assert!(rt; reported_of(&second, 2).closed);
     Ok(())
 }

@@ -2,7 +2,7 @@
 ghost use Rattle.std.specs.Prelude.{◌≤◌};
 
 use crate::tests::book::calls::{applies, write};
-use crate::tests::book::told::{NO_TOTALS, UNTOLD, held, known, told_of, totals_of};
+use crate::tests::book::reported::{NO_TOTALS, UNREPORTED, held, known, reported_of, totals_of};
 use linked_list_allocator::LocalHeap;
 use refusing_allocator::Refusing;
 use rights_book::Book;
@@ -36,7 +36,7 @@ fn is_made_by_one_request(rt: &impl AllocGlobal, me: SiteId, sites: u64) -> bool
 // All that the book tells of its own log and of each site's is 0, and no site has closed.
 fn nothing_booked<A: Allocator>(book: &Book<A>) -> bool {
     for index in 0..MAX_SITES {
-        if told_of(book, index + 1) != UNTOLD {
+        if reported_of(book, index + 1) != UNREPORTED {
             return false;
         }
     }

@@ -1,6 +1,8 @@
 //! A system of sixteen sites.
 use crate::tests::book::calls::{applies, write};
-use crate::tests::book::told::{NO_TOTALS, Told, Totals, UNTOLD, new_book, told_of, totals_of};
+use crate::tests::book::reported::{
+    NO_TOTALS, Reported, Totals, UNREPORTED, new_book, reported_of, totals_of,
+};
 use rights_book::Book;
 use rights_types::{MAX_SITES, Move, SiteId};
 use std::alloc::{AllocError, Allocator};
@@ -23,14 +25,14 @@ fn gifts<A: Allocator>(alloc: A, from: SiteId) -> Result<Vec<Move, A>, AllocErro
 fn knows_all<A: Allocator>(book: &Book<A>, me: SiteId) -> bool {
     for index in 0..MAX_SITES {
         let gift = if index + 1 == me.number() { 0 } else { 1 };
-        let told = Told {
+        let reported = Reported {
             known: 20,
             applied: 16 * gift,
             received: gift,
             given: gift,
-            ..UNTOLD
+            ..UNREPORTED
         };
-        if told_of(book, index + 1) != told {
+        if reported_of(book, index + 1) != reported {
             return false;
         }
     }

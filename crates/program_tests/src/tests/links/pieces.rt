@@ -15,8 +15,8 @@ const LENGTHS: usize = MAX_LINE + 1;
 /// Whether a whole line was given, and it is this one.
 fn is_line<A: Allocator>(piece: &Piece<'_, A>, line: &[u8]) -> bool {
     match piece {
-        Piece::Lent(text) => *text == line,
-        Piece::Kept(text) => text.as_slice() == line,
+        Piece::Borrowed(text) => *text == line,
+        Piece::Owned(text) => text.as_slice() == line,
         Piece::Long => false,
     }
 }

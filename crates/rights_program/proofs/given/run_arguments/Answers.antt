@@ -2,7 +2,7 @@ use Rattle.std.proofs.Common.{Err, Global}
 use Rattle.site_words.specs.Asked.{asked_by}
 use Rattle.site_words.specs.declared.words.WordsFault.TheVariants as words
 use Rattle.rights_program.specs.Arguments.{arguments}
-use Rattle.rights_program.specs.declared.fault.Fault.TheVariants.{OutOfMemory}
+use Rattle.rights_program.specs.declared.fault.ProgramError.TheVariants.{OutOfMemory}
 use Rattle.rights_program.proofs.Endings.{memory_may_stop}
 use Rattle.rights_program.proofs.ScriptLaws.{none_answered}
 use Rattle.rights_program.proofs.given.run_arguments.Goals as goal

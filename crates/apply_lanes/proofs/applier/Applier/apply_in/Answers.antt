@@ -27,9 +27,9 @@ invariant_of-self-in-Ok g c =
     let late : is_late c.args.self.now c.args.kept.now.desk ≡ false = sym c.is_late-is_late.ensures ∙ c.if-is_late.false in
     let now : c.args.self.now.dropping ≡ false = (or_parts c.args.self.now.dropping (has_closed c.args.kept.now.desk) late).0 in
     let free = subst (λ (a : ApplierValue _ _). a.dropping ≡ false) (sym c.self.view_is) now in
-    let number : c.apply.new.number ≡ own c.in-Some.entry = omega (arith, c.in-Ok.ensures.told.0, hand_follows _ _ _ i.counted c.in-Some.is free) in
+    let number : c.apply.new.number ≡ own c.in-Some.entry = omega (arith, c.in-Ok.ensures.added.0, hand_follows _ _ _ i.counted c.in-Some.is free) in
     let of_origin : c.in-Some.entry.origin ≡ c.self.inside.origin = search rules in
-    record { site = i.site; other = i.other; counted = counted_apply _ _ _ _ _ i.counted c.in-Some.is free of_origin number c.in-Ok.ensures.told.1 }
+    record { site = i.site; other = i.other; counted = counted_apply _ _ _ _ _ i.counted c.in-Some.is free of_origin number c.in-Ok.ensures.added.1 }
 
 pub returns-in-Ok-clause-applied : goal.returns-in-Ok-clause-applied
 returns-in-Ok-clause-applied g c late =
@@ -38,7 +38,7 @@ returns-in-Ok-clause-applied g c late =
     let id = g.D.DeskNames.id in
     let now : c.args.self.now.dropping ≡ false = (or_parts c.args.self.now.dropping (has_closed c.args.kept.now.desk) late).0 in
     let free = subst (λ (a : ApplierValue _ _). a.dropping ≡ false) (sym c.self.view_is) now in
-    let number : c.apply.new.number ≡ own entry = omega (arith, c.in-Ok.ensures.told.0, hand_follows _ _ _ i.counted c.in-Some.is free) in
+    let number : c.apply.new.number ≡ own entry = omega (arith, c.in-Ok.ensures.added.0, hand_follows _ _ _ i.counted c.in-Some.is free) in
     let new : ApplierValue g.row.G.Denot g.row.A.Denot = record {
       origin = c.self.inside.origin;
       outlet = c.self.inside.outlet;
@@ -59,7 +59,7 @@ returns-in-Ok-clause-applied g c late =
       number = c.self.inside.number;
       received = c.self.inside.received;
     } in
-    let of_entry : new ≡ applied id old entry = λ i. record old { hand = None; number = number i; received = c.in-Ok.ensures.told.1 i } in
+    let of_entry : new ≡ applied id old entry = λ i. record old { hand = None; number = number i; received = c.in-Ok.ensures.added.1 i } in
     subst (λ (a : ApplierValue g.row.G.Denot g.row.A.Denot). (e : EntryValue) → a.hand ≡ Some e → new ≡ applied id a e) c.self.view_is
     (λ e held. of_entry ∙ ap (applied id old) (same_some entry e (sym c.in-Some.is ∙ held)))
 
@@ -74,10 +74,10 @@ returns-in-Ok-clause-desk g c late e held =
     let applies = subst (λ (k : KeptValue). DeskApplies k.desk c.self.inside.origin entry new.desk) (sym c.kept.view_is) c.in-Ok.ensures.ok in
     let keeps = subst (λ (k : KeptValue). (h : DeskApplies k.desk c.self.inside.origin entry new.desk) → ApplyKeeps k.desk.ledger c.self.inside.origin entry h.entry.between new.desk.ledger)
     (sym c.kept.view_is) c.in-Ok.ensures.keeps in
-    let tallies = subst (λ (k : KeptValue). new ≡ counted_on id k entry new.desk) (sym c.kept.view_is) c.in-Ok.ensures.tallies in
+    let counters = subst (λ (k : KeptValue). new ≡ counted_on id k entry new.desk) (sym c.kept.view_is) c.in-Ok.ensures.counters in
     let moves = moves_on _ _ new.desk c.self.inside.origin entry c.kept.invariant applies (keeps applies) at in
     subst (λ (x : KeptValue × ApplierValue g.row.G.Denot g.row.A.Denot × EntryValue). MovesOn id.site x.0.desk x.1.origin x.2 new.desk × (new ≡ counted_on id x.0 x.2 new.desk))
-    (λ i. (c.kept.view_is i, c.self.view_is i, same i)) (moves, tallies)
+    (λ i. (c.kept.view_is i, c.self.view_is i, same i)) (moves, counters)
 
 pub returns-in-Ok-clause-after : goal.returns-in-Ok-clause-after
 returns-in-Ok-clause-after g c = (invariant_of-self-in-Ok g c).counted

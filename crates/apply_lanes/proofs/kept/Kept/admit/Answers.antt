@@ -1,19 +1,19 @@
 use Rattle.std.proofs.Common.{◌≡◌, ◌-◌, ◌≤◌, true, false, length, get_or, arith, rules, subst}
 use Rattle.rights_types.specs.Places.{at_site}
 use Rattle.apply_lanes.specs.Kepts.{KeptValue}
-use Rattle.apply_lanes.proofs.KeptLaws.{portion_left, free_site, kept_admit}
+use Rattle.apply_lanes.proofs.KeptLaws.{shard_left, free_site, kept_admit}
 use Rattle.apply_lanes.proofs.kept.Kept.admit.Goals as goal
 
 pub unreachable-requires : goal.unreachable-requires
 unreachable-requires g c =
-    let left = portion_left _ _ _ c.self.invariant.portioned (omega (arith, c.number-2.ensures.range)) c.if-self-place.false in
+    let left = shard_left _ _ _ c.self.invariant.has_shards (omega (arith, c.number-2.ensures.range)) c.if-self-place.false in
     omega (arith, left, c.in_default.ensures.none.0)
 
 pub returns-clause-refused : goal.returns-clause-refused
 returns-clause-refused g c =
     let free : get_or c.self.inside.admitted (c.args.origin - 1) false ≡ false =
     subst (λ n. get_or c.self.inside.admitted (n - 1) false ≡ false) c.number-2.ensures.value c.if-self-place.false in
-    let high : c.args.origin ≤ length c.self.inside.admitted = omega (arith, c.self.invariant.portioned.places, c.number.ensures.range) in
+    let high : c.args.origin ≤ length c.self.inside.admitted = omega (arith, c.self.invariant.has_shards.places, c.number.ensures.range) in
     let at = free_site c.self.inside.admitted c.args.origin c.number.ensures.range.0 high free in
     (search rules, subst (λ (k : KeptValue). at_site k.admitted c.args.origin true ≡ false) c.self.view_is at)
 

@@ -13,7 +13,7 @@ use Rattle.apply_lanes.proofs.kept.Kept.apply.Goals as goal
 pub add-requires : goal.add-requires
 add-requires g c =
     let i = c.self.invariant in
-    let bound = numbers_bound c.self.inside.desk.ledger.book _ _ _ _ i.tallied (omega (arith, i.same_sites, i.few)) in
+    let bound = numbers_bound c.self.inside.desk.ledger.book _ _ _ _ i.matches_book (omega (arith, i.same_sites, i.few)) in
     omega (arith, bound, c.own.ensures.value, c.prev.ensures.value, c.own.ensures.valid.few)
 
 pub invariant_of-self-2 : goal.invariant_of-self-2
@@ -34,11 +34,11 @@ invariant_of-self-2 g c =
 pub returns-clause-ok : goal.returns-clause-ok
 returns-clause-ok g c = search rules
 
-pub returns-clause-tallies : goal.returns-clause-tallies
-returns-clause-tallies g c = search rules
+pub returns-clause-counters : goal.returns-clause-counters
+returns-clause-counters g c = search rules
 
-pub returns-clause-told : goal.returns-clause-told
-returns-clause-told g c = search rules
+pub returns-clause-added : goal.returns-clause-added
+returns-clause-added g c = search rules
 
 pub returns-clause-keeps : goal.returns-clause-keeps
 returns-clause-keeps g c =

@@ -8,7 +8,7 @@ use Rattle.apply_lanes.proofs.kept.Kept.desk.Goals as goal
 
 pub returns-clause-balance : goal.returns-clause-balance
 returns-clause-balance g c =
-    let t = c.self.invariant.tallied in
+    let t = c.self.invariant.matches_book in
     let inside : KeptValue = record {
       desk = c.self.inside.desk;
       issued = c.self.inside.issued;

@@ -14,8 +14,8 @@ invariant_of-self-2 g c =
     kept_write _ _ _ _ _ _ _ _ c.self.invariant wrote.log keeps.leaves keeps.applied (issued-issue _) (spent-issue _) c.add.ensures.sum
     (raised_none _)
 
-pub returns-clause-tallies : goal.returns-clause-tallies
-returns-clause-tallies g c = search rules
+pub returns-clause-counters : goal.returns-clause-counters
+returns-clause-counters g c = search rules
 
 pub returns-clause-told : goal.returns-clause-told
 returns-clause-told g c = search rules

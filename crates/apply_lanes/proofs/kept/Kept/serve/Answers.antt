@@ -34,8 +34,8 @@ returns-clause-front g c =
     subst (λ (k : KeptValue). IsFront k.desk.queue.waiting (c.in-Some.ticket, c.in-Some.number, c.spent.result - c.spent-before.result)) c.self.view_is
     (serves.deadline, rw (← amount) serves.front)
 
-pub returns-clause-tallies : goal.returns-clause-tallies
-returns-clause-tallies g c = search rules
+pub returns-clause-counters : goal.returns-clause-counters
+returns-clause-counters g c = search rules
 
 pub returns-clause-told : goal.returns-clause-told
 returns-clause-told g c = search rules

@@ -18,8 +18,8 @@ invariant_of-seat g c = search rules
 pub returns-in-Spent-clause-ok : goal.returns-in-Spent-clause-ok
 returns-in-Spent-clause-ok g c = search rules
 
-pub returns-in-Spent-clause-tallies : goal.returns-in-Spent-clause-tallies
-returns-in-Spent-clause-tallies g c = search rules
+pub returns-in-Spent-clause-counters : goal.returns-in-Spent-clause-counters
+returns-in-Spent-clause-counters g c = search rules
 
 pub returns-in-Spent-clause-told : goal.returns-in-Spent-clause-told
 returns-in-Spent-clause-told g c = search rules
@@ -30,8 +30,8 @@ invariant_of-self-in_default g c = search rules
 pub returns-in_default-clause-ok : goal.returns-in_default-clause-ok
 returns-in_default-clause-ok g c = search rules
 
-pub returns-in_default-clause-tallies : goal.returns-in_default-clause-tallies
-returns-in_default-clause-tallies g c = search rules
+pub returns-in_default-clause-counters : goal.returns-in_default-clause-counters
+returns-in_default-clause-counters g c = search rules
 
 pub returns-in_default-clause-told : goal.returns-in_default-clause-told
 returns-in_default-clause-told g c = search rules

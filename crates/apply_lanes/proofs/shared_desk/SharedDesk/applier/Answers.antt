@@ -27,6 +27,6 @@ returns-clause-err g c =
     let id = g.D.DeskNames.id in
     let old : KeptValue = c.deref_mut.result.now in
     let new : KeptValue = c.applier.new.self in
-    IfErr-weaker c.applier.result (λ e. Admits id old.admitted c.args.origin (Some e.fault) × (new ≡ old))
-    (λ e. (k : KeptValue) × IsKept id k × Admits id k.admitted c.args.origin (Some e.fault)) (λ e h. (old, c.applier.ensures.before, h.0))
+    IfErr-weaker c.applier.result (λ e. Admits id old.admitted c.args.origin (Some e.cause) × (new ≡ old))
+    (λ e. (k : KeptValue) × IsKept id k × Admits id k.admitted c.args.origin (Some e.cause)) (λ e h. (old, c.applier.ensures.before, h.0))
     c.applier.ensures.err

@@ -54,7 +54,7 @@ reads-preserved g c =
             let t = inv.5.2 stream h in
             rw more.2 (
               subst (IsFedAll c.take_block.new.cutter) (append_assoc stream inv.5.0.input bytes) (block.fed (stream ++ inv.5.0.input) t.0),
-              block_taken g.P.Port.hears _ _ _ _ _ _ (pieces_behind stream inv.5.0.input) t.1 (still inv.5.0.portions + still (bytes ∷ [])) (c.reads.count + still (bytes ∷ []))
+              block_taken g.P.Port.hears _ _ _ _ _ _ (pieces_behind stream inv.5.0.input) t.1 (still inv.5.0.chunks + still (bytes ∷ [])) (c.reads.count + still (bytes ∷ []))
                   (pieces_behind (stream ++ inv.5.0.input) bytes) _ (Ok tt)
                   (omega (arith, inv.5.1, behind_count stream inv.5.0.input)) (behind_both stream inv.5.0.input bytes) (block.takes (stream ++ inv.5.0.input) t.0),
             ),
@@ -75,7 +75,7 @@ returns-in_err-take_block-clause-gave g c =
       ends_block more.0 _ block.may (λ e. omega (arith, more.1, block.many (ap Err e))),
       λ stream h.
           let t = inv.5.2 stream h in
-          block_taken g.P.Port.hears _ c.reads.intake c.take_block.new.intake _ _ _ (pieces_behind stream inv.5.0.input) t.1 (still more.0.portions) (c.reads.count + still (bytes ∷ []))
+          block_taken g.P.Port.hears _ c.reads.intake c.take_block.new.intake _ _ _ (pieces_behind stream inv.5.0.input) t.1 (still more.0.chunks) (c.reads.count + still (bytes ∷ []))
           (pieces_behind (stream ++ inv.5.0.input) bytes) _ (Err c.in_err-take_block.field-0.0)
           (omega (arith, inv.5.1, more.3, behind_count stream inv.5.0.input))
           (ap (pieces_behind stream) more.2 ∙ behind_both stream inv.5.0.input bytes) (block.takes (stream ++ inv.5.0.input) t.0),

@@ -5,7 +5,7 @@ use Rattle.transfer_world.proofs.script.commands.read_command.Goals as goal
 pub returns-in-Some : goal.returns-in-Some
 returns-in-Some g c = λ line given.
     let parts = rw (c.in-Some.is) at given in
-    rw (short_line line c.in-Some.text.now parts.0 parts.1) c.read_words.ensures
+    rw (short_line line c.in-Some.text.now parts.0 parts.1) c.parse_line.ensures
 
 pub returns-in-None : goal.returns-in-None
 returns-in-None g c = λ line given. sym (long_line line (rw (c.in-None.is) at given))

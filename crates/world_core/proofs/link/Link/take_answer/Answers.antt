@@ -20,7 +20,7 @@ loop-entry-init g c =
     record {
       incoming = roomy_incoming c.self.inside.applied c.self.inside.incoming c.make_room.new.self c.self.invariant same;
       goes_on = λ es of_log f.
-          rw entries (goes_on_start g.K.Keeping.keeps es c.args.entries.items c.args.self.now c.self.inside.incoming c.make_room.new.self c.self.inside.applied c.make_room.new.scratch.told.items c.self.view_is same c.in_ok-make_room.ensures.ok.1 of_log f
+          rw entries (goes_on_start g.K.Keeping.keeps es c.args.entries.items c.args.self.now c.self.inside.incoming c.make_room.new.self c.self.inside.applied c.make_room.new.scratch.reported.items c.self.view_is same c.in_ok-make_room.ensures.ok.1 of_log f
           (λ is none. subst (λ n. NoneAhead n c.args.entries.items) last (subst (NoneAhead c.last.result) c.deref.ensures.value (c.none_ahead-in_order.ensures.0 (c.in_ok-make_room.ensures.apart is none)))));
       origin = rw entries (subst (λ o. All (λ (e : EntryValue). e.origin ≡ o) c.args.entries.items) (sym origin) c.requires.origin);
       copies = λ some. c.into_iter-copies.ensures.rest ∙ (rw some at c.in_ok-copies_of.ensures) ∙ c.deref-2.ensures.value ∙ sym entries;
@@ -51,9 +51,9 @@ loop-entry-preserved g c =
     let t = c.take.ensures.takes in
     let all : All (λ (x : EntryValue). x.origin ≡ old.inbound.buffer.origin) (e ∷ rest) = rw next at c.loop-entry.invariant.origin in
     record {
-      incoming = still_incoming applied old c.take.new.self c.loop-entry.scratch.told.items c.take.new.scratch.told.items e t.0 t.1 c.loop-entry.invariant.incoming t.2;
+      incoming = still_incoming applied old c.take.new.self c.loop-entry.scratch.reported.items c.take.new.scratch.reported.items e t.0 t.1 c.loop-entry.invariant.incoming t.2;
       goes_on = λ es of_log f.
-          goes_on_next g.K.Keeping.keeps es c.args.self.now c.args.entries.items old c.take.new.self applied rest c.loop-entry.scratch.told.items c.take.new.scratch.told.items e t.0 t.1 c.loop-entry.invariant.incoming.within t.2
+          goes_on_next g.K.Keeping.keeps es c.args.self.now c.args.entries.items old c.take.new.self applied rest c.loop-entry.scratch.reported.items c.take.new.scratch.reported.items e t.0 t.1 c.loop-entry.invariant.incoming.within t.2
           (rw next at (c.loop-entry.invariant.goes_on es of_log f));
       origin = rw t.2.arrives.pair.origin (All-tail (λ (x : EntryValue). x.origin ≡ old.inbound.buffer.origin) e rest all);
       copies = λ some.
@@ -68,5 +68,5 @@ returns-clause-ok g c es of_log f =
     let none : c.loop-entry.entry-iterator.rest.items ≡ [] = nil_from_length _ (omega (arith, c.in-None.ensures.steps.0)) in
     let incoming = c.loop-entry.self-inside.incoming in
     let applied = c.loop-entry.self-inside.applied in
-    let all = goes_on_last g.K.Keeping.keeps es c.args.self.now c.args.entries.items incoming applied c.loop-entry.scratch.told.items (rw none at (c.loop-entry.invariant.goes_on es of_log f)) in
-    rw c.tell.ensures all
+    let all = goes_on_last g.K.Keeping.keeps es c.args.self.now c.args.entries.items incoming applied c.loop-entry.scratch.reported.items (rw none at (c.loop-entry.invariant.goes_on es of_log f)) in
+    rw c.report.ensures all

@@ -1,4 +1,4 @@
-use Rattle.site_server.proofs.ToldLaws.{counts_replies}
+use Rattle.site_server.proofs.ConfirmedLaws.{counts_replies}
 use Rattle.site_server.proofs.site.client.SiteClient.answer_all.Goals as goal
 
 pub returns-clause-ends : goal.returns-clause-ends

@@ -4,7 +4,7 @@ use Rattle.std.specs.Option.{option_map}
 use Rattle.sub_buffer.specs.Arrivals.{Arrives, all_ready}
 use Rattle.sub_buffer.specs.Follows.{reached_after}
 use Rattle.site_core.specs.Inbounds.{ready_in}
-use Rattle.world_core.specs.LinkEvents.{told as as_told}
+use Rattle.world_core.specs.LinkEvents.{reported as as_reported}
 use Rattle.world_core.proofs.IncomingLaws.{puts_one, tells_one, keeps_room}
 use Rattle.world_core.proofs.link.incoming.Incoming.take.Goals as goal
 
@@ -29,7 +29,7 @@ returns-clause-takes g c =
             ∙ c.list.ensures.lists v (all_ready freed) c.args.entry (c.deref-2.ensures.value ∙ came)
             (λ some. c.requires.copy (subst (λ i. IsSome i.apart) c.see.ensures.rest some))
             ∙ ap (λ i. option_map (λ l. reached_after l.items c.args.entry v) i.apart) c.see.ensures.rest;
-        told = c.settle.ensures.told ∙ ap (λ vs. c.args.scratch.now.told.items ++ map as_told vs) came ∙ ap (λ ts. c.args.scratch.now.told.items ++ ts) (tells_one v freed);
+        reported = c.settle.ensures.reported ∙ ap (λ vs. c.args.scratch.now.reported.items ++ map as_reported vs) came ∙ ap (λ ts. c.args.scratch.now.reported.items ++ ts) (tells_one v freed);
       },
     )
 
@@ -40,4 +40,4 @@ returns-clause-room g c n room =
     (c.settle.ensures.put_room ∙ ap (λ i. vec_capacity i.put) c.list.ensures.rest ∙ ap (λ i. vec_capacity i.put) c.see.ensures.rest)
     (ap (λ i. option_map (λ l. vec_capacity l) i.apart) c.settle.ensures.rest ∙ c.list.ensures.capacity ∙ ap (λ i. option_map (λ l. vec_capacity l) i.apart) c.see.ensures.rest)
     (c.settle.ensures.verdicts_room ∙ c.arrive.ensures.capacity)
-    c.settle.ensures.told_room
+    c.settle.ensures.reported_room

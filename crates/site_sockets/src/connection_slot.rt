@@ -2,7 +2,7 @@
 ghost use Rattle.std.specs.Prelude.{◌≡◌, []};
 ghost use Rattle.entry_codec.specs.Cutter.{view_of};
 
-use crate::breaker::Breaker;
+use crate::shutdown_handle::ShutdownHandle;
 use entry_codec::LineCutter;
 use std::net::TcpStream;
 use std::sync::{Condvar, Mutex, Wait};
@@ -18,10 +18,10 @@ pub struct Connection {
 /// The newest connection of a peer. It waits till the reading thread comes for it, and the one that this
 /// thread reads is shut down by it: a peer that went away without a word and came back is heard.
 #[derive(Drop)]
-pub struct Mailbox {
+pub struct ConnectionSlot {
     waiting: Mutex<Waiting>,
     came: Condvar,
-    reading: Breaker,
+    reading: ShutdownHandle,
 }
 
 #[derive(Drop)]
@@ -30,15 +30,15 @@ struct Waiting {
     next: Option<Connection>,
 }
 
-impl Mailbox {
-    pub(crate) fn new() -> Mailbox {
-        Mailbox {
+impl ConnectionSlot {
+    pub(crate) fn new() -> ConnectionSlot {
+        ConnectionSlot {
             waiting: Mutex::new(Waiting {
                 is_closed: false,
                 next: None,
             }),
             came: Condvar::new(),
-            reading: Breaker::new(),
+            reading: ShutdownHandle::new(),
         }
     }
 
@@ -50,11 +50,11 @@ impl Mailbox {
             return;
         }
         waiting.next = Some(connection);
-        self.reading.break_off(rt);
+        self.reading.shut_down(rt);
         self.came.notify_one();
     }
 
-    /// Waits for the next connection to read. None once the mailbox is closed.
+    /// Waits for the next connection to read. None once the connection slot is closed.
     pub fn take<R: Wait>(&self, rt: &R) -> Option<Connection> {
         for _ in rt.forever() {
             let mut waiting = self.came.wait_while(

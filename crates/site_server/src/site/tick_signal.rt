@@ -1,11 +1,11 @@
 //! What tells threads that a tick was done.
 ghost use Rattle.std.specs.Prelude.{◌≡◌, IfNone};
 
-use site_sockets::Moments;
+use site_sockets::TickNotifier;
 use std::sync::Wait;
 
 /// Tells who waits that a tick was done, at which spends that wait are decided.
-pub(crate) trait Bell {
+pub(crate) trait TickSignal {
     /// The site has ended: no tick is waited for any more.
     ghost has_ended: { Self → Type 0 };
 
@@ -13,7 +13,7 @@ pub(crate) trait Bell {
     fn count(&self) -> u64;
 
     /// A tick was done.
-    fn ring(&self);
+    fn notify(&self);
 
     /// Waits until there were other than so many ticks, and answers how many. None at the end of the site.
     fn next(&self, seen: u64) -> Option<u64>
@@ -22,29 +22,29 @@ pub(crate) trait Bell {
 
 /// The ticks of a site. Its lock hides whether the site has ended.
 #[derive(Drop)]
-pub(crate) struct SiteBell<'a, R: Wait> {
+pub(crate) struct SiteTickSignal<'a, R: Wait> {
     rt: &'a R,
-    moments: &'a Moments,
+    tick_notifier: &'a TickNotifier,
 }
 
-impl<'a, R: Wait> SiteBell<'a, R> {
-    pub(crate) fn new(rt: &'a R, moments: &'a Moments) -> SiteBell<'a, R> {
-        SiteBell { rt, moments }
+impl<'a, R: Wait> SiteTickSignal<'a, R> {
+    pub(crate) fn new(rt: &'a R, tick_notifier: &'a TickNotifier) -> SiteTickSignal<'a, R> {
+        SiteTickSignal { rt, tick_notifier }
     }
 }
 
-impl<R: Wait> Bell for SiteBell<'_, R> {
+impl<R: Wait> TickSignal for SiteTickSignal<'_, R> {
     ghost has_ended = { λ _. Unit {0} };
 
     fn count(&self) -> u64 {
-        self.moments.count(self.rt)
+        self.tick_notifier.count(self.rt)
     }
 
-    fn ring(&self) {
-        self.moments.tick(self.rt);
+    fn notify(&self) {
+        self.tick_notifier.tick(self.rt);
     }
 
     fn next(&self, seen: u64) -> Option<u64> {
-        self.moments.next(self.rt, seen)
+        self.tick_notifier.next(self.rt, seen)
     }
 }

@@ -5,7 +5,7 @@ use std::sync::{Mutex, Wait};
 
 /// Lets a thread be woken that reads or writes a stream.
 #[derive(Drop)]
-pub(crate) struct Breaker {
+pub(crate) struct ShutdownHandle {
     state: Mutex<State>,
 }
 
@@ -16,7 +16,7 @@ struct State {
 }
 
 impl State {
-    fn break_off(&mut self) {
+    fn shut_down(&mut self) {
         if let Some(stream) = &self.stream {
             let _ = stream.shutdown(Shutdown::Both);
         }
@@ -24,9 +24,9 @@ impl State {
     }
 }
 
-impl Breaker {
-    pub(crate) fn new() -> Breaker {
-        Breaker {
+impl ShutdownHandle {
+    pub(crate) fn new() -> ShutdownHandle {
+        ShutdownHandle {
             state: Mutex::new(State {
                 is_closed: false,
                 stream: None,
@@ -56,8 +56,8 @@ impl Breaker {
     }
 
     /// Shuts the stream down, if there is one.
-    pub(crate) fn break_off<R: Wait>(&self, rt: &R) {
-        self.state.lock(rt).break_off();
+    pub(crate) fn shut_down<R: Wait>(&self, rt: &R) {
+        self.state.lock(rt).shut_down();
     }
 
     /// Shuts the stream down, and lets the thread go to no other.
@@ -65,6 +65,6 @@ impl Breaker {
         let mut state = self.state.lock(rt);
         let state = &mut *state;
         state.is_closed = true;
-        state.break_off();
+        state.shut_down();
     }
 }

@@ -1,7 +1,7 @@
 //! Connections that have not yet said whose they are.
 
-use crate::mailbox::Connection;
-use crate::patient::Patient;
+use crate::connection_slot::Connection;
+use crate::deadline_reader::DeadlineReader;
 use crate::site::Site;
 use entry_codec::LineCutter;
 use peer_links::read_hello;
@@ -19,13 +19,13 @@ pub(crate) const WAITING: usize = 64;
 const HELLO_SECONDS: u64 = 5;
 
 /// The site that a connection says to be of, and the connection behind its first line.
-fn introduced<R: Wait + Clock + AllocGlobal>(
+fn identified<R: Wait + Clock + AllocGlobal>(
     rt: &R,
     stream: TcpStream,
 ) -> Option<(SiteId, Connection)> {
     let mut cutter = LineCutter::new(rt.alloc()).ok()?;
     let time = Duration::from_secs(HELLO_SECONDS);
-    let mut reader = Patient::new(rt, &stream, time).ok()?;
+    let mut reader = DeadlineReader::new(rt, &stream, time).ok()?;
     let from = read_hello(&mut reader, &mut cutter).ok()?;
     stream.set_read_timeout(None).ok()?;
     Some((from, Connection { stream, cutter }))
@@ -33,36 +33,39 @@ fn introduced<R: Wait + Clock + AllocGlobal>(
 
 /// Reads the first line of a connection, which waits at this place, and hands the connection to the
 /// thread that reads this peer. Any other first line, or none in time, closes it.
-fn greet<R: Wait + Clock + AllocGlobal>(rt: &R, site: &Site, stream: TcpStream, place: usize) {
-    let introduced = introduced(rt, stream);
-    site.door.leave(rt, place);
-    let Some((from, connection)) = introduced else {
+fn handshake<R: Wait + Clock + AllocGlobal>(rt: &R, site: &Site, stream: TcpStream, place: usize) {
+    let identified = identified(rt, stream);
+    site.handshakes.leave(rt, place);
+    let Some((from, connection)) = identified else {
         return;
     };
     if let Some(peer) = site.peer(from) {
-        peer.mailbox.put(rt, connection);
+        peer.connection_slot.put(rt, connection);
     }
 }
 
 /// Lets in who connects, each with a thread of its own till its first line is read, till the site ends.
-fn keep_door<R: Threads + Wait + Clock + AllocGlobal + Sync>(rt: &R, site: &Site) {
+fn run_acceptor<R: Threads + Wait + Clock + AllocGlobal + Sync>(rt: &R, site: &Site) {
     thread::scope(thread::scope_env(), rt, |scope| {
         for _ in rt.forever() {
-            let Some((stream, place)) = site.next_caller(rt) else {
+            let Some((stream, place)) = site.accept(rt) else {
                 return;
             };
-            if scope.spawn(move || greet(rt, site, stream, place)).is_err() {
-                site.door.leave(rt, place);
+            if scope
+                .spawn(move || handshake(rt, site, stream, place))
+                .is_err()
+            {
+                site.handshakes.leave(rt, place);
             }
         }
     })
 }
 
 /// Starts the thread that lets in who connects. False where it could not be started.
-pub fn begin_door<'s, E, R: Threads + Wait + Clock + AllocGlobal + Sync>(
+pub fn begin_acceptor<'s, E, R: Threads + Wait + Clock + AllocGlobal + Sync>(
     scope: &Scope<'s, E>,
     rt: &'s R,
     site: &'s Site,
 ) -> bool {
-    scope.spawn(move || keep_door(rt, site)).is_ok()
+    scope.spawn(move || run_acceptor(rt, site)).is_ok()
 }

@@ -9,7 +9,7 @@ use std::time::{Clock, Duration};
 
 /// Places for connections. Each connection that a thread deals with has one.
 #[derive(Drop)]
-pub(crate) struct Hall {
+pub(crate) struct ConnectionPool {
     state: Mutex<State>,
     /// Told whenever a place is free again.
     freed: Condvar,
@@ -63,16 +63,16 @@ impl State {
     }
 }
 
-impl Hall {
+impl ConnectionPool {
     /// So many free places.
-    pub(crate) fn new(alloc: Global, size: usize) -> Result<Hall, OutOfMemory> {
+    pub(crate) fn new(alloc: Global, size: usize) -> Result<ConnectionPool, OutOfMemory> {
         let mut places = Vec::with_capacity(alloc, size)?;
         let mut idle = Vec::with_capacity(alloc, size)?;
         for _ in 0..size {
             places.push(None)?;
             idle.push(AtomicBool::new(true))?;
         }
-        Ok(Hall {
+        Ok(ConnectionPool {
             state: Mutex::new(State {
                 is_closed: false,
                 places,
@@ -83,7 +83,7 @@ impl Hall {
         })
     }
 
-    /// A place for the connection, counted from 0. None where all are taken, or the hall is closed.
+    /// A place for the connection, counted from 0. None where all are taken, or the pool is closed.
     pub(crate) fn enter<R: Wait>(&self, rt: &R, stream: &TcpStream) -> Option<usize> {
         let place = self.state.lock(rt).enter(stream)?;
         self.set_idle(place, true);

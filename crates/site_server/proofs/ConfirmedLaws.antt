@@ -3,8 +3,8 @@ use Rattle.std.proofs.Common.{◌≡◌, ℕ, List, [], ◌∷◌, ◌++◌, Opt
 use Rattle.line_streams.specs.Handling.{Answering, LineGets, LinesGet}
 use Rattle.line_streams.specs.Talk.{Talk, Leaves}
 use Rattle.line_streams.specs.Waiting.{Waiting}
-use Rattle.line_streams.specs.declared.fault.LineFault.{LineFault}
-use Rattle.line_streams.specs.declared.fault.LineFault.TheVariants.{ReadFailed, WriteFailed, OutOfMemory, TooManyLines}
+use Rattle.line_streams.specs.declared.fault.ConversationError.{ConversationError}
+use Rattle.line_streams.specs.declared.fault.ConversationError.TheVariants.{ReadFailed, WriteFailed, OutOfMemory, TooManyLines}
 use Rattle.line_streams.specs.declared.handler.EndedBy.{EndedBy}
 use Rattle.line_streams.specs.declared.handler.EndedBy.TheVariants.{Input, Handler}
 use Rattle.line_streams.specs.declared.handler.Goes.{Goes}
@@ -13,28 +13,28 @@ use Rattle.apply_lanes.specs.Names.{DeskId}
 use Rattle.apply_lanes.specs.Kepts.{SeatValue}
 use Rattle.site_words.specs.declared.commands.SiteCommand.{SiteCommand}
 use Rattle.site_words.specs.declared.commands.SiteCommand.TheVariants.{AtDesk, Tick, Status, Quit}
-use Rattle.site_node.specs.Told.{Turn, ACommand, ATick, HasTurns}
-use Rattle.site_node.proofs.ToldLaws.{turns_count}
+use Rattle.site_node.specs.Confirmed.{Turn, ACommand, ATick, HasTurns}
+use Rattle.site_node.proofs.ConfirmedLaws.{turns_count}
 use Rattle.site_server.specs.Replying.{asked, Says, Gets, GetsBy}
 use Rattle.site_server.specs.Conversations.{IsTurn, AreTurns, CountsReplies}
 
-pub both : (was half told : SeatValue) (first rest : List Turn) → HasTurns was first half → HasTurns half rest told → HasTurns was (first ++ rest) told
-both was half told [] rest h k = subst (λ (s : SeatValue). HasTurns s rest told) h k
-both was half told (turn ∷ first) rest h k = (h.0, h.1, both h.0 half told first rest h.2 k)
+pub both : (was half now : SeatValue) (first rest : List Turn) → HasTurns was first half → HasTurns half rest now → HasTurns was (first ++ rest) now
+both was half now [] rest h k = subst (λ (s : SeatValue). HasTurns s rest now) h k
+both was half now (turn ∷ first) rest h k = (h.0, h.1, both h.0 half now first rest h.2 k)
 
 module _ {P : Type 0} (size : P → ℕ) (sends : P → ℕ → ℕ → P → Type 0) (id : DeskId) where
   -- one line
-  pub turns_of_line : (command : Option SiteCommand) (was : SeatValue) (before : P) (text : List ℕ) (told : SeatValue) (after : P)
-      → Says size sends id command was before text told after
-      → (turns : List Turn) × IsTurn command text turns × HasTurns was turns told
-  turns_of_line None was before text told after h = ([], refl, h.1)
-  turns_of_line (Some (AtDesk command)) was before text told after h =
-      let c = h.0 in (ACommand command c.reply ∷ [], (c.reply, refl, c.says), (told, (c.at_desk.old, c.at_desk.new, c.at_desk.acts), refl))
-  turns_of_line (Some (Tick time)) was before text told after h =
+  pub turns_of_line : (command : Option SiteCommand) (was : SeatValue) (before : P) (text : List ℕ) (now : SeatValue) (after : P)
+      → Says size sends id command was before text now after
+      → (turns : List Turn) × IsTurn command text turns × HasTurns was turns now
+  turns_of_line None was before text now after h = ([], refl, h.1)
+  turns_of_line (Some (AtDesk command)) was before text now after h =
+      let c = h.0 in (ACommand command c.reply ∷ [], (c.reply, refl, c.says), (now, (c.at_desk.old, c.at_desk.new, c.at_desk.acts), refl))
+  turns_of_line (Some (Tick time)) was before text now after h =
       let t = h.does.at_desk in
-      (ATick time t.served h.does.ticked ∷ [], (t.served, h.does.ticked, refl), (told, (t.old, t.new, t.ticks), refl))
-  turns_of_line (Some Status) was before text told after h = ([], refl, h.1)
-  turns_of_line (Some Quit) was before text told after h = absurd h
+      (ATick time t.served h.does.ticked ∷ [], (t.served, h.does.ticked, refl), (now, (t.old, t.new, t.ticks), refl))
+  turns_of_line (Some Status) was before text now after h = ([], refl, h.1)
+  turns_of_line (Some Quit) was before text now after h = absurd h
 
   module _ {S : Type 0} (seat : S → SeatValue) (peers : S → P) where
     -- what a handler with such a seat and such peers answers, and as what it is left without memory
@@ -64,7 +64,7 @@ module _ {P : Type 0} (size : P → ℕ) (sends : P → ℕ → ℕ → P → Ty
         )
 
     -- whatever ended a conversation, the seat is as after the last reply
-    seat_left : {given left held holds : Option (List ℕ)} (start after : S) (result : Result EndedBy LineFault) (talk : Talk Answers start given left held holds)
+    seat_left : {given left held holds : Option (List ℕ)} (start after : S) (result : Result EndedBy ConversationError) (talk : Talk Answers start given left held holds)
         → Leaves Fails result talk after → seat after ≡ seat talk.state
     seat_left start after (Ok Input) talk h = ap seat h
     seat_left start after (Ok Handler) talk h = h.ends.1
@@ -76,7 +76,7 @@ module _ {P : Type 0} (size : P → ℕ) (sends : P → ℕ → ℕ → P → Ty
     seat_left start after (Err OutOfMemory) talk (inr h) = h.0
     seat_left start after (Err TooManyLines) talk h = ap seat h
 
-    pub counts_replies : {given left held holds : Option (List ℕ)} (start after : S) (result : Result EndedBy LineFault) (talk : Talk Answers start given left held holds)
+    pub counts_replies : {given left held holds : Option (List ℕ)} (start after : S) (result : Result EndedBy ConversationError) (talk : Talk Answers start given left held holds)
         → Leaves Fails result talk after → CountsReplies (seat start) talk.lines talk.replies (seat after)
     counts_replies start after result talk left =
         let found = turns_of start talk.lines talk.replies talk.state talk.answered in

@@ -33,7 +33,7 @@ pub(crate) const NO_TOTALS: Totals = Totals {
 
 /// What a book tells of a site.
 #[derive(Clone, Copy, PartialEq)]
-pub(crate) struct Told {
+pub(crate) struct Reported {
     pub(crate) known: i128,
     pub(crate) applied: u64,
     pub(crate) received: u64,
@@ -43,7 +43,7 @@ pub(crate) struct Told {
 }
 
 /// Nothing is known of the site.
-pub(crate) const UNTOLD: Told = Told {
+pub(crate) const UNREPORTED: Reported = Reported {
     known: 0,
     applied: 0,
     received: 0,
@@ -76,11 +76,11 @@ pub(crate) fn totals_of<A: Allocator>(book: &Book<A>) -> Totals {
     }
 }
 
-pub(crate) fn told_of<A: Allocator>(book: &Book<A>, number: u64) -> Told
+pub(crate) fn reported_of<A: Allocator>(book: &Book<A>, number: u64) -> Reported
     requires { IsSite number }
 {
     let site = site(number);
-    Told {
+    Reported {
         known: book.known(site),
         applied: book.applied(site),
         received: book.received_from(site),

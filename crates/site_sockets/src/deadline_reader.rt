@@ -7,21 +7,21 @@ use std::time::{Clock, Duration, Instant};
 
 /// A stream that is read till a moment. A read behind it fails.
 #[derive(Drop)]
-pub struct Patient<'a, R> {
+pub struct DeadlineReader<'a, R> {
     rt: &'a R,
     stream: &'a TcpStream,
     since: Instant,
     time: Duration,
 }
 
-impl<'a, R: Clock> Patient<'a, R> {
+impl<'a, R: Clock> DeadlineReader<'a, R> {
     /// Reads for so long from now on.
     pub(crate) fn new(
         rt: &'a R,
         stream: &'a TcpStream,
         time: Duration,
-    ) -> io::Result<Patient<'a, R>> {
-        Ok(Patient {
+    ) -> io::Result<DeadlineReader<'a, R>> {
+        Ok(DeadlineReader {
             rt,
             stream,
             since: Instant::now(rt)?,
@@ -30,7 +30,7 @@ impl<'a, R: Clock> Patient<'a, R> {
     }
 }
 
-impl<R: Clock> Read for Patient<'_, R> {
+impl<R: Clock> Read for DeadlineReader<'_, R> {
     fn read(&mut self, buf: &mut [u8]) -> io::Result<usize> {
         let waited = self.since.elapsed(self.rt)?;
         let Some(left) = self.time.checked_sub(waited) else {

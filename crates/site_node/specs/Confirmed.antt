@@ -19,36 +19,36 @@ pub data Turn : Type 0 where
   ATick : ℕ → List Request → Result Ticked DeskError → Turn
 
 -- the rights that were told as issued: those of an `issue` that was answered by a number
-abbrev pub told_as_issued : DeskCommand → Reply → ℕ
-told_as_issued (Issue amount) (Number number) = amount
-told_as_issued command reply = 0
+abbrev pub confirmed_as_issued : DeskCommand → Reply → ℕ
+confirmed_as_issued (Issue amount) (Number number) = amount
+confirmed_as_issued command reply = 0
 
 abbrev pub issued_in : Turn → ℕ
-issued_in (ACommand command reply) = told_as_issued command reply
+issued_in (ACommand command reply) = confirmed_as_issued command reply
 issued_in (ATick time served ticked) = 0
 
 -- the rights that were told as spent: those of a `spend` that was answered by `spent`, and of the requests that a tick served
-abbrev pub told_as_spent : DeskCommand → Reply → ℕ
-told_as_spent (Spend amount deadline) (Spending (Spent number)) = amount
-told_as_spent command reply = 0
+abbrev pub confirmed_as_spent : DeskCommand → Reply → ℕ
+confirmed_as_spent (Spend amount deadline) (Spending (Spent number)) = amount
+confirmed_as_spent command reply = 0
 
 abbrev pub spent_in : Turn → ℕ
-spent_in (ACommand command reply) = told_as_spent command reply
+spent_in (ACommand command reply) = confirmed_as_spent command reply
 spent_in (ATick time served ticked) = total_of served
 
 -- the turn leads from one value of the seat to another, whatever the desk is: other clients and peers change it between
 -- any two turns
 abbrev pub HasTurn : SeatValue → Turn → SeatValue → Type 0
-HasTurn was (ACommand command reply) told = (old : KeptValue) × (new : KeptValue) × Acts old was command reply new told
-HasTurn was (ATick time served ticked) told =
-    (old : KeptValue) × (new : KeptValue) × Ticks old was time served ticked new told
+HasTurn was (ACommand command reply) now = (old : KeptValue) × (new : KeptValue) × Acts old was command reply new now
+HasTurn was (ATick time served ticked) now =
+    (old : KeptValue) × (new : KeptValue) × Ticks old was time served ticked new now
 
 -- all turns of a client, one after another
 abbrev pub HasTurns : SeatValue → List Turn → SeatValue → Type 0
-HasTurns was [] told = told ≡ was
-HasTurns was (turn ∷ turns) told = (half : SeatValue) × HasTurn was turn half × HasTurns half turns told
+HasTurns was [] now = now ≡ was
+HasTurns was (turn ∷ turns) now = (half : SeatValue) × HasTurn was turn half × HasTurns half turns now
 
 -- what the seat counts more is what the client was told
-pub record CountsTold (was : SeatValue) (turns : List Turn) (told : SeatValue) : Type 0 where
-  pub issued : told.issued ≡ was.issued + sum_by issued_in turns
-  pub spent : told.spent + told.served ≡ was.spent + was.served + sum_by spent_in turns
+pub record CountsConfirmed (was : SeatValue) (turns : List Turn) (now : SeatValue) : Type 0 where
+  pub issued : now.issued ≡ was.issued + sum_by issued_in turns
+  pub spent : now.spent + now.served ≡ was.spent + was.served + sum_by spent_in turns

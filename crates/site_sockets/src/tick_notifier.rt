@@ -5,7 +5,7 @@ use std::time::{Clock, Duration};
 
 /// Counts the ticks of a site, and tells those that wait for one, or for the site's end.
 #[derive(Drop)]
-pub struct Moments {
+pub struct TickNotifier {
     state: Mutex<State>,
     /// Told of each tick, and of the end.
     ticked: Condvar,
@@ -19,9 +19,9 @@ struct State {
     has_ended: bool,
 }
 
-impl Moments {
-    pub(crate) fn new() -> Moments {
-        Moments {
+impl TickNotifier {
+    pub(crate) fn new() -> TickNotifier {
+        TickNotifier {
             state: Mutex::new(State {
                 ticks: 0,
                 has_ended: false,
