@@ -20,6 +20,6 @@ pub use events::{LinkEvents, SkipCause};
 pub use mailbox::{Connection, Mailbox};
 pub use moments::Moments;
 pub use patient::Patient;
-pub use peer::Peer;
+pub use peer::{Peer, PeerLines};
 pub use sending::begin_sender;
 pub use site::Site;
