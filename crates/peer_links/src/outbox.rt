@@ -184,8 +184,41 @@ fn copy_at(room: &mut [u8], at: usize, text: &[u8])
 #[derive(Drop)]
 pub struct Outbox<A: Allocator = Global> {
     queue: Mutex<Queue<A>>,
-    /// Told of each line that was put, and of the end.
+    /// Told when lines were put, and of the end.
     changed: Condvar,
+}
+
+/// The lines that wait in an outbox, under its lock: who has it may put lines. The thread that takes lines is
+/// woken when it is dropped.
+pub struct OutboxLines<'a, A: Allocator = Global> {
+    queue: MutexGuard<'a, Queue<A>>,
+    changed: &'a Condvar,
+}
+
+impl<'a, A: Allocator> Model for OutboxLines<'a, A> {
+    ghost use Rattle.peer_links.specs.Outboxes.{Waiting};
+
+    ghost Value = { Waiting };
+
+    ghost view = { λ lines. lines.queue.value };
+}
+
+impl<A: Allocator> OutboxLines<'_, A> {
+    /// Puts a line behind the others. A line that is refused is lost.
+    pub fn put(&mut self, line: Vec<u8, A>) -> Result<(), PutError>
+        requires { IsLine line.items }
+        ensures { Puts self.old line.items result self.new }
+    {
+        self.queue.put(line)
+    }
+}
+
+impl<A: Allocator> Drop for OutboxLines<'_, A> {
+    fn drop(self) {
+        let Self { queue, changed } = self;
+        drop(queue);
+        changed.notify_one();
+    }
 }
 
 impl<A: Allocator> Outbox<A> {
@@ -197,13 +230,19 @@ impl<A: Allocator> Outbox<A> {
         })
     }
 
-    /// Puts a line behind the others. A line that is refused is lost.
+    /// The lines that wait, for who puts more of them. It waits until no other thread has them.
+    pub fn lock<'a, R: Wait>(&'a self, rt: &R) -> OutboxLines<'a, A> {
+        OutboxLines {
+            queue: self.queue.lock(rt),
+            changed: &self.changed,
+        }
+    }
+
+    /// Puts one line, as `OutboxLines::put`. The lock hides what waited before.
     pub fn put<R: Wait>(&self, rt: &R, line: Vec<u8, A>) -> Result<(), PutError>
         requires { IsLine line.items }
     {
-        self.queue.lock(rt).put(line)?;
-        self.changed.notify_one();
-        Ok(())
+        self.lock(rt).put(line)
     }
 
     /// The oldest line, and `None` once the outbox has ended and none waits. It waits for a line.
