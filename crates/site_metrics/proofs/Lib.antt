@@ -1,3 +1,2 @@
 pub mod RefusalLaws
-pub mod LineLaws
 pub mod TextLaws

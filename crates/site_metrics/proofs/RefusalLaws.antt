@@ -1,17 +1,12 @@
 -- Each refusal has a name of its own.
-use Rattle.std.proofs.Common.{◌≡◌, ◌≢◌, ℕ, zero, suc, ◌+◌, ◌<◌, ◌≤◌, leb, Bool, true, false, true≢false, ◌&&◌, ◌==◌, List, [], ◌++◌, length, take, drop, get_or, set, Option, Some, None, IfNone, codes, refl, ap, sym, ◌∙◌, arith, inl, inr, add-zero}
-use Rattle.std.proofs.lemmas.Bool.{cases_lt, cases_Bool, false_from_ne_true, eqb-true, eqb-false, leb-true}
-use Rattle.std.proofs.lemmas.List.{get_or-set_same, get_or-set_other}
+use Rattle.std.proofs.Common.{◌≡◌, ◌≢◌, ℕ, zero, suc, ◌+◌, ◌<◌, ◌≤◌, leb, Bool, true, false, true≢false, ◌&&◌, List, [], ◌++◌, length, take, get_or, Option, Some, None, IfNone, refl, ap, sym, ◌∙◌, arith, inl, inr}
+use Rattle.std.proofs.lemmas.Bool.{cases_lt, leb-true}
 use Rattle.std.proofs.lemmas.Slice.Eq.{bytes_eq-Decides}
-use Rattle.std.specs.List.{position_or_len, flat_map, zip}
+use Rattle.std.specs.List.{flat_map, zip}
 use Rattle.std.proofs.lemmas.List.{flat_map_more, take_more}
 use Rattle.std.proofs.lemmas.Slice.Zip.{length-zip, get_or-zip}
 use Rattle.std.specs.Str.{bytes_eq}
-use Rattle.site_metrics.specs.Refusals.{refusal_names, refusal_text, one_where_refused}
-
--- the first index of a name
-abbrev place_in : List ℕ → ℕ
-place_in name = position_or_len (λ other. bytes_eq other name) refusal_names
+use Rattle.site_metrics.specs.Refusals.{refusal_names}
 
 abbrev all_below : (ℕ → Bool) → ℕ → Bool
 all_below test zero = true
@@ -30,43 +25,6 @@ below test (suc n) h k lt =
       | inl less ↦ below test n parts.1 k less
       | inr past ↦ let same : k ≡ n = omega (arith, lt, past) in rw same parts.0
     ]
-
-own_place : (k : ℕ) → k < 15 → place_in (get_or refusal_names k []) ≡ k
-own_place k lt = eqb-true (place_in (get_or refusal_names k [])) k (below (λ i. place_in (get_or refusal_names i []) == i) 15 refl k lt)
-
--- what follows `error ` is a name
-pub same_name : (xs ys : List ℕ) → codes "error " ++ xs ≡ codes "error " ++ ys → xs ≡ ys
-same_name xs ys h = ap (drop 6) h
-
-pub same_place : (i j : ℕ) → i < 15 → j < 15 → refusal_text i ≡ refusal_text j → i ≡ j
-same_place i j low high h =
-    sym (own_place i low) ∙ ap place_in (same_name (get_or refusal_names i []) (get_or refusal_names j []) h) ∙ own_place j high
-
-module _ (reply : List ℕ) where
-  pub counts_as : (place : ℕ) → reply ≡ refusal_text place → one_where_refused place reply ≡ 1
-  counts_as place h = let told = (bytes_eq-Decides reply (refusal_text place)).1 h in rw told refl
-
-  pub counts_not : (place : ℕ) → reply ≢ refusal_text place → one_where_refused place reply ≡ 0
-  counts_not place h =
-      let other = false_from_ne_true (bytes_eq reply (refusal_text place)) (λ e. h ((bytes_eq-Decides reply (refusal_text place)).0 e)) in
-      rw other refl
-
-  -- one more count at the index of the refusal
-  pub counted : (counts : List ℕ) (place more : ℕ) → place < length counts → place < 15 → reply ≡ refusal_text place → more ≡ get_or counts place 0 + 1
-      → (k : ℕ) → k < 15 → get_or (set counts place more) k 0 ≡ get_or counts k 0 + one_where_refused k reply
-  counted counts place more within low told one k lt =
-      elim (cases_Bool (k == place)) [
-        | inl here ↦
-            let same : k ≡ place = eqb-true k place here in
-            rw same (get_or-set_same counts place more 0 within ∙ one ∙ ap {B = ℕ} (λ n. get_or counts place 0 + n) (sym (counts_as place told)))
-        | inr apart ↦
-            let other : k ≢ place = eqb-false k place apart in
-            get_or-set_other counts place k more 0 other
-            ∙ sym (ap {B = ℕ} (λ n. get_or counts k 0 + n) (counts_not k (λ e. other (same_place k place lt low (sym e ∙ told)))) ∙ add-zero (get_or counts k 0))
-      ]
-
-  pub not_counted : (counts : List ℕ) → ((k : ℕ) → k < 15 → reply ≢ refusal_text k) → (k : ℕ) → k < 15 → get_or counts k 0 ≡ get_or counts k 0 + one_where_refused k reply
-  not_counted counts none k lt = sym (ap {B = ℕ} (λ n. get_or counts k 0 + n) (counts_not k (none k lt)) ∙ add-zero (get_or counts k 0))
 
 -- what a comparison of two texts says
 pub agree : (xs ys zs : List ℕ) → true ≡ bytes_eq xs ys → ys ≡ zs → xs ≡ zs

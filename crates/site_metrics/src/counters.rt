@@ -1,7 +1,6 @@
 //! The counters that threads share. Each is added to and read atomically, without a lock, so the values of several
 //! counters need not belong to one moment.
-use crate::refusals::REFUSAL_COUNT;
-use crate::replies::count_replies;
+use crate::refusals::{REFUSAL_COUNT, refusal_place};
 use std::sync::atomic::{AtomicBool, AtomicU64, Ordering};
 
 /// The commands that were answered, of all clients and of standard input, and how many of them were refused.
@@ -19,12 +18,14 @@ impl Counters {
         }
     }
 
-    /// Counts the replies in a text of whole reply lines.
-    pub fn note_replies(&self, text: &[u8]) {
-        let counts = count_replies(text);
-        add(&self.commands, counts.lines);
-        for place in 0..REFUSAL_COUNT {
-            add(&self.refused[place], counts.refused[place]);
+    /// Counts a reply, given with its line feed. Any other text is not counted.
+    pub fn note_reply(&self, line: &[u8]) {
+        let [reply @ .., b'\n'] = line else {
+            return;
+        };
+        add(&self.commands, 1);
+        if let Some(place) = refusal_place(reply) {
+            add(&self.refused[place], 1);
         }
     }
 

@@ -2,7 +2,7 @@
 //! the counters behind them.
 //!
 //! The text is exact for the values that were read. What counters hold at a given moment is not proved: other threads
-//! may add to them at any time. What is proved is how much one text of replies adds to them, by `count_replies`.
+//! may add to them at any time. What is proved is which refusal a reply reports, by `refusal_place`.
 #![tactic(auto)]
 
 mod counters;
@@ -10,12 +10,10 @@ mod kind;
 mod metrics;
 mod peer_value;
 mod refusals;
-mod replies;
 mod samples;
 mod text;
 
 pub use counters::{Counters, PeerCounters};
 pub use metrics::{Metrics, PeerMetrics};
 pub use refusals::{REFUSAL_COUNT, REFUSALS, refusal_place};
-pub use replies::{ReplyCounts, count_replies};
 pub use text::{PEER_ROOM, SITE_ROOM, put_metrics};

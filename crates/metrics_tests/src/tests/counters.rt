@@ -1,25 +1,33 @@
 //! What counters count.
-use site_metrics::{Counters, PeerCounters, count_replies};
+use site_metrics::{Counters, PeerCounters};
 
-const TEXT: &[u8] =
-    b"number 1\nerror Short\nspent 2\nerror BadCommand\nerror Short\n\nerror Shorter\nerror Short";
+const REPLIES: [&[u8]; 11] = [
+    b"number 1\n",
+    b"error Short\n",
+    b"spent 2\n",
+    b"error BadCommand\n",
+    b"error Short\n",
+    b"\n",
+    b"error Shorter\n",
+    b"error Closed\n",
+    b"",
+    b"error Short",
+    b"spent 3",
+];
 
-/// The last bytes have no line feed, and are no line.
+/// Replies add up, each with its line feed. Nothing else is counted.
 #[test]
-fn whole_lines_are_counted(rt: HostRuntime) {
-    let counts = count_replies(TEXT);
-    assert!(rt; counts.lines == 7);
-    assert!(rt; counts.refused == [0, 0, 0, 0, 0, 0, 0, 0, 2, 0, 0, 0, 0, 0, 1]);
-}
-
-/// Each text adds to what was counted before.
-#[test]
-fn texts_add_up(rt: HostRuntime) {
+fn replies_add_up(rt: HostRuntime) {
     let counters = Counters::new();
-    counters.note_replies(TEXT);
-    counters.note_replies(b"error Closed\n");
+    note_all(&counters);
     assert!(rt; counters.commands() == 8);
     assert!(rt; counters.refused() == [1, 0, 0, 0, 0, 0, 0, 0, 2, 0, 0, 0, 0, 0, 1]);
+}
+
+fn note_all(counters: &Counters) {
+    for reply in REPLIES {
+        counters.note_reply(reply);
+    }
 }
 
 /// Each note goes to its counter.

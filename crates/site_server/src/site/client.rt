@@ -262,9 +262,9 @@ impl<'a, D: DeskNames, R: Wait, P: Peers + Drop, B: TickSignal + Drop> SiteClien
         Ok(peers)
     }
 
-    /// Counts a reply.
+    /// Counts a reply, given with its line feed.
     pub(crate) fn count_reply(&self, reply: &[u8]) {
-        self.site.commands.note_replies(reply);
+        self.site.commands.note_reply(reply);
     }
 
     /// Answers what a line asks for; `None` is no command.
