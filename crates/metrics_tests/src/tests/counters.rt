@@ -4,7 +4,7 @@ use site_metrics::{Counters, PeerCounters, count_replies};
 const TEXT: &[u8] =
     b"number 1\nerror Short\nspent 2\nerror BadCommand\nerror Short\n\nerror Shorter\nerror Short";
 
-/// The last bytes have no line feed, and are no line.
+/// The last bytes have no line feed, and are not a line.
 #[test]
 fn whole_lines_are_counted(rt: HostRuntime) {
     let counts = count_replies(TEXT);
