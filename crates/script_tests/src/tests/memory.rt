@@ -39,7 +39,7 @@ fn noise<A: Allocator>(alloc: A) -> Result<Event<A>, OutOfMemory> {
     Ok(Event::Noise(one(), two(), Line::new(text)))
 }
 
-/// A story of two sites, in which each kind of event happens: the second one misses an entry and queries it, gets
+/// A scenario of two sites, in which each kind of event happens: the second one misses an entry and queries it, gets
 /// rights granted and others denied, and closes; the first reclaims what was in transit.
 fn event<A: Allocator>(alloc: A, step: usize) -> Result<Event<A>, OutOfMemory> {
     match step {
@@ -231,7 +231,7 @@ fn growths_of<A: Allocator + Copy>(alloc: A, step: usize) -> Option<u64> {
 fn each_growth_of_an_event_refused(rt: HostRuntime) {
     for step in 0..EVENTS {
         let growths = growths_of(rt.alloc(), step).expect(&rt, "an event that went well");
-        // A request may also find capacity that an earlier event has made.
+        // An event that requests memory may also find capacity that an earlier event has made.
         assert!(rt; growths == 0 || !takes_none(step), "at {step}: {growths}");
     }
 }
@@ -266,7 +266,7 @@ fn all_events<A: Allocator + Copy>(alloc: A) -> Result<Vec<Event<A>, A>, OutOfMe
     Ok(events)
 }
 
-/// The result of a run of all events in which a memory request was refused: how many events were done before, or none
+/// The result of a run of all events in which a memory request was refused: how many events were done before, or 0
 /// if there was no room for the outcomes. `None` if the run had another result.
 fn done_by<A: Allocator + Copy>(world: &mut World<A>, events: &[Event<A>]) -> Option<usize> {
     let Ok(outcomes) = world.run(events) else {
