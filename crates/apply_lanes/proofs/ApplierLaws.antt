@@ -106,7 +106,7 @@ module _ {G A : Type 0} where
     empty_hand = λ _. refl;
   }
 
-  -- all entries that were taken, where none is in hand
+  -- all entries that were taken, if none is in hand
   empty_taken : (id : DeskId) (a : ApplierValue G A) → (c : IsCounted id a) → a.hand ≡ None → a.ended ≡ false
       → a.outlet.taken ≡ items_of (c.applied ++ c.dropped)
   empty_taken id a c none free =

@@ -1,4 +1,4 @@
-//! Measures the parts of a site. With no word it says which.
+//! Measures the parts of a site. Without an argument it lists them.
 #![tactic(auto)]
 
 mod buffer;
