@@ -1,7 +1,8 @@
 //! Reading once, and again after an interruption.
-ghost use Rattle.std.specs.Prelude.{◌≡◌, length};
+ghost use Rattle.std.specs.Prelude.{◌≡◌, ◌↔◌, length, IsTrue};
 ghost use Rattle.std.specs.Io.{ReadsAtMost};
 ghost use Rattle.std.specs.Io.KnownBytes.{ReadConsumes};
+ghost use Rattle.std.specs.IoError.{error_kind};
 
 use std::io;
 use std::io::{ErrorKind, Read};
@@ -31,6 +32,8 @@ pub fn read_some<R: Read>(reader: &mut R, room: &mut [u8]) -> Result<usize, Inpu
 }
 
 /// Whether a read or a write was interrupted and should be retried.
-pub(crate) fn is_interrupted(error: &io::Error) -> bool {
+pub(crate) fn is_interrupted(error: &io::Error) -> bool
+    ensures { IsTrue result ↔ (error_kind error.now ≡ ErrorKind.Interrupted) }
+{
     error.kind() == ErrorKind::Interrupted
 }

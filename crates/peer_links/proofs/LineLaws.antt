@@ -1,5 +1,5 @@
 -- The pieces of a stream, returned as they end.
-use Rattle.std.proofs.Common.{◌≡◌, ℕ, ◌+◌, ◌-◌, ◌<◌, ◌≤◌, Bool, true, false, cond, List, [], ◌∷◌, ◌++◌, length, take, get_or, Option, Some, None, IfSome, IfNone, IsTrue, ◌↔◌, refl, sym, ap, subst, ◌∙◌, arith, append-nil, length-append, length-take, get_or-take}
+use Rattle.std.proofs.Common.{◌≡◌, ℕ, ◌+◌, ◌-◌, ◌<◌, ◌≤◌, Bool, true, false, cond, List, [], ◌∷◌, ◌++◌, length, take, get_or, Option, Some, None, Result, Ok, Err, OnErr, IfSome, IfNone, IsTrue, ◌↔◌, refl, sym, ap, subst, ◌∙◌, arith, append-nil, length-append, length-take, get_or-take}
 use Rattle.std.specs.Io.BufRead.{take_through}
 use Rattle.std.proofs.lemmas.Bool.{eqb-true, eq-eqb}
 use Rattle.std.proofs.lemmas.List.{take_all, take_more}
@@ -85,6 +85,10 @@ pub none_is : {X P : Type 0} (o : Option X) → o ≡ None → IfNone o P → P
 none_is (Some x) e h = absurd cc
 none_is None e h = h
 
+pub on_err : {X E P : Type 0} (r : Result X E) → P → OnErr r P
+on_err (Ok x) p = tt
+on_err (Err e) p = p
+
 -- the bytes up to the line feed that was found
 pub found_end : (s : List ℕ) (n : ℕ) → IsFirstByte (is_byte 10) s (Some n) → (n < length s) × HasNoEnd (take n s) × (take (n + 1) s ≡ take n s ++ 10 ∷ [])
 found_end s n here =
@@ -101,6 +105,11 @@ pub no_rest : (b : Bool) (xs : List ℕ) → (IsTrue b ↔ (0 < length xs)) → 
 no_rest true xs h e = absurd cc
 no_rest false [] h e = refl
 no_rest false (x ∷ xs) h e = let t : IsTrue false = h.1 (omega arith) in absurd cc
+
+-- the list is not empty
+pub some_rest : (b : Bool) (xs : List ℕ) → (IsTrue b ↔ (0 < length xs)) → b ≡ true → 0 < length xs
+some_rest true xs h e = h.0 refl
+some_rest false xs h e = absurd cc
 
 module _ (c mid : CutterView) (stream bytes : List ℕ) (taken : ℕ) (h : IsFedAll c stream)
     (count : taken ≡ cond c.is_finished 0 (length (take_through 10 bytes))) (fed : IsFed mid (stream ++ take taken bytes) (pieces stream)) where

@@ -1,12 +1,13 @@
 -- The effect of the lines of a connection, one after another.
-use Rattle.std.proofs.Common.{◌≡◌, ℕ, ◌+◌, ◌≤◌, Bool, List, [], ◌∷◌, ◌++◌, length, take, drop, Vec, Option, Some, None, Result, Ok, Err, IfErr, refl, sym, ap, subst, ◌∙◌, arith, inl, inr, append-nil, append_assoc, length-append, length-drop}
+use Rattle.std.proofs.Common.{◌≡◌, ◌≢◌, ℕ, ◌+◌, ◌≤◌, Bool, List, [], ◌∷◌, ◌++◌, length, take, drop, Vec, Option, Some, None, Result, Ok, Err, IfErr, refl, sym, ap, subst, ◌∙◌, arith, inl, inr, append-nil, append_assoc, length-append, length-drop}
 use Rattle.std.specs.Prelude.{option_map, IsSome}
 use Rattle.std.proofs.lemmas.List.{append_cancel_left, take_all, take-append-drop}
 use Rattle.rights_types.specs.Messages.{QueryValue}
 use Rattle.rights_types.specs.Messages.MessageValue.{AQuery}
 use Rattle.rights_types.specs.declared.fault.OutOfMemory.{OutOfMemory as Want}
 use Rattle.entry_codec.specs.Pieces.{pieces, pieces_after, unfinished}
-use Rattle.entry_codec.proofs.Pieces.{pieces_append, rest_append}
+use Rattle.memchr.specs.Find.{IsFirstByte, is_byte}
+use Rattle.entry_codec.proofs.Pieces.{pieces_append, rest_append, one_piece}
 use Rattle.entry_codec.specs.Cutter.{CutterView}
 use Rattle.line_streams.proofs.CountLaws.{lines_both}
 use Rattle.line_streams.proofs.WriteLaws.{take_both}
@@ -15,6 +16,7 @@ use Rattle.link_intake.specs.Intakes.{IntakeValue}
 use Rattle.peer_links.specs.Links.{IsFedAll, IsOfIntake}
 use Rattle.peer_links.specs.Ports.{Heard}
 use Rattle.peer_links.specs.Turns.{InTurn}
+use Rattle.peer_links.proofs.LineLaws.{found_end}
 use Rattle.peer_links.proofs.TurnLaws.{turn_one, turns_both}
 use Rattle.peer_links.specs.declared.link.DeskMessage.{DeskMessage}
 use Rattle.site_core.specs.Calls.{LineOf}
@@ -148,30 +150,30 @@ module _ {A : Type 0} where
   }
 
   -- a piece that fails ends it
-  pub stops_one : (n : ℕ) (old new : IntakeValue A) (pieces : List (List ℕ)) (fault : LinkFault) (heard : List Heard)
-      → IsOfIntake fault → Breaks old pieces fault heard new → Stops n old pieces fault heard new
-  stops_one n old new pieces LaneClosed heard may h = h
-  stops_one n old new pieces OutOfMemory heard may h = inr h
-  stops_one n old new pieces TooManyLines heard may h = elim may [ inl e ↦ absurd cc | inr e ↦ absurd cc ]
-  stops_one n old new pieces ReadFailed heard may h = elim may [ inl e ↦ absurd cc | inr e ↦ absurd cc ]
-  stops_one n old new pieces WriteFailed heard may h = elim may [ inl e ↦ absurd cc | inr e ↦ absurd cc ]
-  stops_one n old new pieces NoHello heard may h = elim may [ inl e ↦ absurd cc | inr e ↦ absurd cc ]
+  pub stops_one : (n : ℕ) (old new : IntakeValue A) (pieces rest : List (List ℕ)) (fault : LinkFault) (heard : List Heard)
+      → IsOfIntake fault → Breaks old pieces fault heard new → Stops n old pieces rest fault heard new
+  stops_one n old new pieces rest LaneClosed heard may h = h
+  stops_one n old new pieces rest OutOfMemory heard may h = inr h
+  stops_one n old new pieces rest TooManyLines heard may h = elim may [ inl e ↦ absurd cc | inr e ↦ absurd cc ]
+  stops_one n old new pieces rest ReadFailed heard may h = elim may [ inl e ↦ absurd cc | inr e ↦ absurd cc ]
+  stops_one n old new pieces rest WriteFailed heard may h = elim may [ inl e ↦ absurd cc | inr e ↦ absurd cc ]
+  stops_one n old new pieces rest NoHello heard may h = elim may [ inl e ↦ absurd cc | inr e ↦ absurd cc ]
 
-  stops_after : (n j : ℕ) (old mid new : IntakeValue A) (a b : List (List ℕ)) (fault : LinkFault) (h k : List Heard)
-      → j ≡ n + length a → Takes old a h mid → Stops j mid b fault k new → Stops n old (a ++ b) fault (h ++ k) new
-  stops_after n j old mid new a b LaneClosed h k e x y = breaks_after old mid new a b LaneClosed h k x y
-  stops_after n j old mid new a b OutOfMemory h k e x y = elim y [
-    | inl y ↦ inl (takes_both old mid new a b h k x y)
+  stops_after : (n j : ℕ) (old mid new : IntakeValue A) (a b rest : List (List ℕ)) (fault : LinkFault) (h k : List Heard)
+      → j ≡ n + length a → Takes old a h mid → Stops j mid b rest fault k new → Stops n old (a ++ b) rest fault (h ++ k) new
+  stops_after n j old mid new a b rest LaneClosed h k e x y = breaks_after old mid new a b LaneClosed h k x y
+  stops_after n j old mid new a b rest OutOfMemory h k e x y = elim y [
+    | inl y ↦ inl (takes_both old mid new a b h k x y.0, y.1)
     | inr y ↦ inr (breaks_after old mid new a b OutOfMemory h k x y)
   ]
-  stops_after n j old mid new a b TooManyLines h k e x y = (takes_both old mid new a b h k x y.0, omega (arith, e, y.1, length-append a b))
-  stops_after n j old mid new a b ReadFailed h k e x y = absurd y
-  stops_after n j old mid new a b WriteFailed h k e x y = absurd y
-  stops_after n j old mid new a b NoHello h k e x y = absurd y
+  stops_after n j old mid new a b rest TooManyLines h k e x y = (takes_both old mid new a b h k x y.0, omega (arith, e, y.1, length-append a b))
+  stops_after n j old mid new a b rest ReadFailed h k e x y = absurd y
+  stops_after n j old mid new a b rest WriteFailed h k e x y = absurd y
+  stops_after n j old mid new a b rest NoHello h k e x y = absurd y
 
   -- a prefix of these was taken before the fault
   pub to_stop : (n : ℕ) (old new : IntakeValue A) (front rest all : List (List ℕ)) (fault : LinkFault) (heard : List Heard)
-      → all ≡ front ++ rest → Stops n old front fault heard new → TakesTo n old all (Err fault) heard new
+      → all ≡ front ++ rest → Stops n old front rest fault heard new → TakesTo n old all (Err fault) heard new
   to_stop n old new front rest all LaneClosed heard e h = (front, rest, sym e, h)
   to_stop n old new front rest all OutOfMemory heard e h = (front, rest, sym e, h)
   to_stop n old new front rest all TooManyLines heard e h = (front, rest, sym e, h)
@@ -185,15 +187,15 @@ module _ {A : Type 0} where
   to_after n j old mid new a b (Ok u) h k e x y = takes_both old mid new a b h k x y
   to_after n j old mid new a b (Err ReadFailed) h k e x y = takes_both old mid new a b h k x y
   to_after n j old mid new a b (Err LaneClosed) h k e x y =
-      (a ++ y.0, y.1, append_assoc a y.0 y.1 ∙ ap (λ (l : List (List ℕ)). a ++ l) y.2, stops_after n j old mid new a y.0 LaneClosed h k e x y.3)
+      (a ++ y.0, y.1, append_assoc a y.0 y.1 ∙ ap (λ (l : List (List ℕ)). a ++ l) y.2, stops_after n j old mid new a y.0 y.1 LaneClosed h k e x y.3)
   to_after n j old mid new a b (Err OutOfMemory) h k e x y =
-      (a ++ y.0, y.1, append_assoc a y.0 y.1 ∙ ap (λ (l : List (List ℕ)). a ++ l) y.2, stops_after n j old mid new a y.0 OutOfMemory h k e x y.3)
+      (a ++ y.0, y.1, append_assoc a y.0 y.1 ∙ ap (λ (l : List (List ℕ)). a ++ l) y.2, stops_after n j old mid new a y.0 y.1 OutOfMemory h k e x y.3)
   to_after n j old mid new a b (Err TooManyLines) h k e x y =
-      (a ++ y.0, y.1, append_assoc a y.0 y.1 ∙ ap (λ (l : List (List ℕ)). a ++ l) y.2, stops_after n j old mid new a y.0 TooManyLines h k e x y.3)
+      (a ++ y.0, y.1, append_assoc a y.0 y.1 ∙ ap (λ (l : List (List ℕ)). a ++ l) y.2, stops_after n j old mid new a y.0 y.1 TooManyLines h k e x y.3)
   to_after n j old mid new a b (Err WriteFailed) h k e x y =
-      (a ++ y.0, y.1, append_assoc a y.0 y.1 ∙ ap (λ (l : List (List ℕ)). a ++ l) y.2, stops_after n j old mid new a y.0 WriteFailed h k e x y.3)
+      (a ++ y.0, y.1, append_assoc a y.0 y.1 ∙ ap (λ (l : List (List ℕ)). a ++ l) y.2, stops_after n j old mid new a y.0 y.1 WriteFailed h k e x y.3)
   to_after n j old mid new a b (Err NoHello) h k e x y =
-      (a ++ y.0, y.1, append_assoc a y.0 y.1 ∙ ap (λ (l : List (List ℕ)). a ++ l) y.2, stops_after n j old mid new a y.0 NoHello h k e x y.3)
+      (a ++ y.0, y.1, append_assoc a y.0 y.1 ∙ ap (λ (l : List (List ℕ)). a ++ l) y.2, stops_after n j old mid new a y.0 y.1 NoHello h k e x y.3)
 
   -- counting one line too many ends the connection
   pub to_count : (n count : ℕ) (old new : IntakeValue A) (all : List (List ℕ)) (result : Result (Unit {0}) LinkFault) (heard : List Heard)
@@ -220,7 +222,7 @@ module _ {A S : Type 0} (hears : S → Heard → S → Type 0) (old i new : Inta
       → (heard : List Heard) × TakesTo n old all (Err fault) heard new × InTurn hears first heard last
   one_breaks n text rest all fault may cut h =
       let breaks = breaks_one old i new front text fault before.0 h.0 before.1 h.1 in
-      (before.0 ++ h.0, to_stop n old new _ rest all fault _ cut (stops_one n old new _ fault _ may breaks), turns_both hears first mid last before.0 h.0 before.2 h.2)
+      (before.0 ++ h.0, to_stop n old new _ rest all fault _ cut (stops_one n old new _ rest fault _ may breaks), turns_both hears first mid last before.0 h.0 before.2 h.2)
 
   -- one more block
   pub block_taken : (n j : ℕ) (more all : List (List ℕ)) (result : Result (Unit {0}) LinkFault) → j ≡ n + length front → all ≡ front ++ more
@@ -238,6 +240,20 @@ module _ {A S : Type 0} (hears : S → Heard → S → Type 0) (old i new : Inta
 pub front_behind : (stream bytes : List ℕ) (at : ℕ) → pieces_behind stream bytes ≡ pieces_behind stream (take at bytes) ++ pieces_behind (stream ++ take at bytes) (drop at bytes)
 front_behind stream bytes at =
     ap (pieces_behind stream) (sym (take-append-drop at bytes)) ∙ behind_both stream (take at bytes) (drop at bytes)
+
+-- a line feed in these bytes ends a piece
+pub ends_piece : (stream bytes : List ℕ) (n : ℕ) → IsFirstByte (is_byte 10) bytes (Some n) → pieces_behind stream bytes ≢ []
+ends_piece stream bytes n found none =
+    let end = found_end bytes n found in
+    let one = one_piece (unfinished stream) (take n bytes) end.1 in
+    let front : pieces_behind stream (take (n + 1) bytes) ≡ ((unfinished stream ++ take n bytes) ++ 10 ∷ []) ∷ [] = ap (pieces_behind stream) end.2 ∙ one.0 in
+    let whole = sym none ∙ front_behind stream bytes (n + 1) in
+    omega (
+      arith,
+      ap length whole,
+      length-append (pieces_behind stream (take (n + 1) bytes)) (pieces_behind (stream ++ take (n + 1) bytes) (drop (n + 1) bytes)),
+      ap length front,
+    )
 
 no_text : {X : Type 0} (o : Option (Piece X)) (ended : List (List ℕ)) → ((p : Piece X) → o ≡ Some p → ⊥) → IsGivenFor o ended → ended ≡ []
 no_text (Some p) ended other h = absurd (other p refl)

@@ -1,5 +1,5 @@
 -- The lines that wait in an outbox, as plain data.
-use Rattle.std.specs.Prelude.{◌≡◌, ℕ, ◌-◌, ◌<◌, ◌≤◌, Bool, true, false, List, [], ◌∷◌, ◌++◌, length, take, Result, Ok, Err, nat_le, if◌then◌else◌}
+use Rattle.std.specs.Prelude.{◌≡◌, ℕ, ◌-◌, ◌<◌, ◌≤◌, ◌⊎◌, Bool, true, false, List, [], ◌∷◌, ◌++◌, length, take, Result, Ok, Err, nat_le, if◌then◌else◌}
 use Rattle.entry_codec.specs.Pieces.{IsLine}
 use Rattle.peer_links.specs.Sources.{AreLines}
 use Rattle.peer_links.specs.declared.outbox.PutError.{PutError}
@@ -19,6 +19,11 @@ Puts old line (Ok _) new =
     (old.ended ≡ false) × (length old.lines < OUTBOX_LINES) × (new ≡ record old { lines = old.lines ++ line ∷ [] })
 Puts old line (Err Ended) new = (old.ended ≡ true) × (new ≡ old)
 Puts old line (Err Full) new = (old.ended ≡ false) × (length old.lines ≡ OUTBOX_LINES) × (new ≡ old)
+
+-- the same, by whether the line was put
+abbrev pub PutsIf : Waiting → List ℕ → Bool → Waiting → Type 0
+PutsIf old line true new = Puts old line (Ok tt) new
+PutsIf old line false new = Puts old line (Err Ended) new ⊎ Puts old line (Err Full) new
 
 -- the longest prefix of these lines that fits into this number of bytes
 abbrev pub front_in : ℕ → List (List ℕ) → List (List ℕ)

@@ -1,5 +1,5 @@
 -- The effect of the lines of a connection on the intake and on the port.
-use Rattle.std.specs.Prelude.{◌≡◌, ℕ, ◌+◌, ◌<◌, ◌≤◌, ◌⊎◌, Bool, true, false, List, [], ◌∷◌, ◌++◌, length, Option, Some, None, Result, Ok, Err, IsErr}
+use Rattle.std.specs.Prelude.{◌≡◌, ◌≢◌, ℕ, ◌+◌, ◌<◌, ◌≤◌, ◌⊎◌, Bool, true, false, List, [], ◌∷◌, ◌++◌, length, Option, Some, None, Result, Ok, Err, IsErr}
 use Rattle.rights_types.specs.Messages.{QueryValue}
 use Rattle.rights_types.specs.Messages.MessageValue.{AQuery}
 use Rattle.rights_types.specs.declared.limits.TheConstants.{MAX_LINE}
@@ -30,6 +30,11 @@ use Rattle.peer_links.specs.declared.link.LinkFault.TheVariants.{ReadFailed, Too
 -- the pieces that end in these bytes, which follow this stream
 abbrev pub pieces_behind : List ℕ → List ℕ → List (List ℕ)
 pieces_behind stream bytes = pieces_after (unfinished stream) bytes
+
+-- a line that began before these bytes ends in them
+pub record EndsBegun (stream bytes : List ℕ) : Type 0 where
+  pub begun : 0 < length (unfinished stream)
+  pub ends : pieces_behind stream bytes ≢ []
 
 -- ---- one line
 
@@ -140,19 +145,21 @@ module _ {A : Type 0} where
     pub breaks : TakesPiece mid last (Err fault) rest new
     pub whole : heard ≡ first ++ rest
 
-  -- the pieces taken before this fault: after TooManyLines, their number and what was counted before reach the limit
-  abbrev pub Stops : ℕ → IntakeValue A → List (List ℕ) → LinkFault → List Heard → IntakeValue A → Type 0
-  Stops besides old pieces TooManyLines heard new = Takes old pieces heard new × (besides + length pieces ≡ LINE_LIMIT)
-  Stops besides old pieces LaneClosed heard new = Breaks old pieces LaneClosed heard new
-  Stops besides old pieces NoMemory heard new = Takes old pieces heard new ⊎ Breaks old pieces NoMemory heard new
-  Stops besides old pieces fault heard new = ⊥
+  -- these pieces were taken before this fault, and the rest was not: at TooManyLines, their number and what was
+  -- counted before reach the limit; at NoMemory, memory was refused for the first line of the rest, or for handling
+  -- the last of these
+  abbrev pub Stops : ℕ → IntakeValue A → List (List ℕ) → List (List ℕ) → LinkFault → List Heard → IntakeValue A → Type 0
+  Stops besides old pieces rest TooManyLines heard new = Takes old pieces heard new × (besides + length pieces ≡ LINE_LIMIT)
+  Stops besides old pieces rest LaneClosed heard new = Breaks old pieces LaneClosed heard new
+  Stops besides old pieces rest NoMemory heard new = (Takes old pieces heard new × (rest ≢ [])) ⊎ Breaks old pieces NoMemory heard new
+  Stops besides old pieces rest fault heard new = ⊥
 
   -- all of these pieces were taken, or a prefix of them before a fault
   abbrev pub TakesTo : ℕ → IntakeValue A → List (List ℕ) → Result (Unit {0}) LinkFault → List Heard → IntakeValue A → Type 0
   TakesTo besides old pieces (Ok _) heard new = Takes old pieces heard new
   TakesTo besides old pieces (Err ReadFailed) heard new = Takes old pieces heard new
   TakesTo besides old pieces (Err fault) heard new =
-      (front : List (List ℕ)) × (rest : List (List ℕ)) × (front ++ rest ≡ pieces) × Stops besides old front fault heard new
+      (front : List (List ℕ)) × (rest : List (List ℕ)) × (front ++ rest ≡ pieces) × Stops besides old front rest fault heard new
 
 -- the pieces of this input, after all that the cutter was fed, were taken, and the port received what they say
 abbrev pub TakesInput : {A S : Type 0} → (S → Heard → S → Type 0) → ℕ → CutterView → List ℕ → IntakeValue A → S → Result (Unit {0}) LinkFault → IntakeValue A → S → Type 0

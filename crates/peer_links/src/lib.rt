@@ -9,5 +9,5 @@ mod source;
 
 pub use lines::{Piece, next_piece};
 pub use link::{DeskMessage, LinkFault, Port, Skipped, read_hello, read_link, write_link};
-pub use outbox::{OUTBOX_LINES, Outbox, PutError};
+pub use outbox::{OUTBOX_LINES, Outbox, OutboxLines, PutError};
 pub use source::{Batch, LineSource};

@@ -1,9 +1,10 @@
 //! The pieces of a stream that is read a block at a time: borrowed if they lie whole in a block, and
 //! copied only if they span two blocks.
-ghost use Rattle.std.specs.Prelude.{◌≡◌, ℕ, ◌<◌, ◌≤◌, ◌++◌, List, length, take, IfOk, IfSome, IfNone};
+ghost use Rattle.std.specs.Prelude.{◌≡◌, ℕ, ◌<◌, ◌≤◌, ◌++◌, List, length, take, IfOk, OnErr, IfSome, IfNone};
 ghost use Rattle.entry_codec.specs.Pieces.{pieces};
 ghost use Rattle.peer_links.specs.Links.{IsFedAll};
 ghost use Rattle.peer_links.specs.Lines.{IsGivenFor};
+ghost use Rattle.peer_links.specs.Takes.{EndsBegun};
 
 use entry_codec::{Cut, LineCutter};
 use memchr::memchr;
@@ -38,6 +39,7 @@ pub fn next_piece<'a, A: Allocator + Copy>(
     ensures piece { IfOk result (λ r. (stream : List ℕ) → IsFedAll cutter.old stream
         → (ended : List (List ℕ)) × IsGivenFor r.0 ended
         × (pieces (stream ++ take r.1 bytes.now) ≡ pieces stream ++ ended)) }
+    ensures memory { OnErr result ((stream : List ℕ) → IsFedAll cutter.old stream → EndsBegun stream bytes.now) }
 {
     let Some(length) = memchr(LINE_END, bytes) else {
         cutter.push(bytes);

@@ -184,8 +184,41 @@ fn copy_at(room: &mut [u8], at: usize, text: &[u8])
 #[derive(Drop)]
 pub struct Outbox<A: Allocator = Global> {
     queue: Mutex<Queue<A>>,
-    /// Notified of each line that was put, and of the end.
+    /// Notified when lines were put, and of the end.
     changed: Condvar,
+}
+
+/// The lines that wait in an outbox, under its lock, for putting more. When it is dropped, the thread that takes
+/// lines is woken.
+pub struct OutboxLines<'a, A: Allocator = Global> {
+    queue: MutexGuard<'a, Queue<A>>,
+    changed: &'a Condvar,
+}
+
+impl<'a, A: Allocator> Model for OutboxLines<'a, A> {
+    ghost use Rattle.peer_links.specs.Outboxes.{Waiting};
+
+    ghost Value = { Waiting };
+
+    ghost view = { λ lines. lines.queue.value };
+}
+
+impl<A: Allocator> OutboxLines<'_, A> {
+    /// Puts a line after the others. A line that is refused is lost. Errors, in this order: `Ended`, `Full`.
+    pub fn put(&mut self, line: Vec<u8, A>) -> Result<(), PutError>
+        requires { IsLine line.items }
+        ensures { Puts self.old line.items result self.new }
+    {
+        self.queue.put(line)
+    }
+}
+
+impl<A: Allocator> Drop for OutboxLines<'_, A> {
+    fn drop(self) {
+        let Self { queue, changed } = self;
+        drop(queue);
+        changed.notify_one();
+    }
 }
 
 impl<A: Allocator> Outbox<A> {
@@ -197,13 +230,19 @@ impl<A: Allocator> Outbox<A> {
         })
     }
 
-    /// Puts a line after the others. A line that is refused is lost. Errors, in this order: `Ended`, `Full`.
+    /// Locks the lines that wait, for putting more. Waits until no other thread holds the lock.
+    pub fn lock<'a, R: Wait>(&'a self, rt: &R) -> OutboxLines<'a, A> {
+        OutboxLines {
+            queue: self.queue.lock(rt),
+            changed: &self.changed,
+        }
+    }
+
+    /// Puts one line, as `OutboxLines::put` does. The lock hides which lines waited before.
     pub fn put<R: Wait>(&self, rt: &R, line: Vec<u8, A>) -> Result<(), PutError>
         requires { IsLine line.items }
     {
-        self.queue.lock(rt).put(line)?;
-        self.changed.notify_one();
-        Ok(())
+        self.lock(rt).put(line)
     }
 
     /// Takes the oldest line. Blocks until there is one or the outbox has ended. `None` if it has ended and no line

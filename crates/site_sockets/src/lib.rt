@@ -19,7 +19,7 @@ pub use clients::{Accepted, CLIENTS, ClientStream, Clients, bounded_reader, clos
 pub use connection_slot::{Connection, ConnectionSlot};
 pub use deadline_reader::DeadlineReader;
 pub use events::{LinkEvents, SkipCause};
-pub use peer::PeerState;
+pub use peer::{PeerLines, PeerState};
 pub use sending::begin_sender;
 pub use site::Site;
 pub use tick_notifier::TickNotifier;

@@ -1,14 +1,16 @@
 //! What a site keeps for each other site.
 ghost use Rattle.std.specs.Prelude.{◌≡◌};
 ghost use Rattle.entry_codec.specs.Pieces.{IsLine};
+ghost use Rattle.peer_links.specs.Outboxes.{PutsIf};
 
 use crate::connection_slot::ConnectionSlot;
 use crate::events::LinkEvents;
 use crate::shutdown_handle::ShutdownHandle;
-use peer_links::Outbox;
+use peer_links::{Outbox, OutboxLines};
 use rights_types::{OutOfMemory, SiteId};
 use site_words::{Config, PeerView};
 use std::alloc::Global;
+use std::marker::Model;
 use std::sync::{Mutex, Wait};
 use sub_buffer::State;
 
@@ -56,15 +58,19 @@ impl PeerState {
         })
     }
 
-    /// Puts a line into the outbox. `false` if the outbox has no room or has ended; then the line is lost.
+    /// Locks the lines that wait for it, for putting more. Waits until no other thread holds the lock.
+    pub fn lines<'a, R: Wait>(&'a self, rt: &R) -> PeerLines<'a> {
+        PeerLines {
+            lines: self.outbox.lock(rt),
+            events: &self.events,
+        }
+    }
+
+    /// Puts one line into the outbox, as `PeerLines::put` does. The lock hides which lines waited before.
     pub fn send<R: Wait>(&self, rt: &R, line: Vec<u8>) -> bool
         requires { IsLine line.items }
     {
-        let has_room = self.outbox.put(rt, line).is_ok();
-        if !has_room {
-            self.events.drops_line();
-        }
-        has_room
+        self.lines(rt).put(line)
     }
 
     /// How many lines wait to be sent, 0 to `OUTBOX_LINES`.
@@ -99,6 +105,37 @@ impl PeerState {
             applied,
             buffering: seen.buffering,
             held: seen.held,
+        }
+    }
+}
+
+/// The lines that wait for one peer, under the lock of its outbox.
+#[derive(Drop)]
+pub struct PeerLines<'a> {
+    lines: OutboxLines<'a>,
+    events: &'a LinkEvents,
+}
+
+impl<'a> Model for PeerLines<'a> {
+    ghost use Rattle.peer_links.specs.Outboxes.{Waiting};
+
+    ghost Value = { Waiting };
+
+    ghost view = { λ peer. peer.lines };
+}
+
+impl PeerLines<'_> {
+    /// Puts a line after the others. `false` if the outbox is full or has ended; then the line is lost.
+    pub fn put(&mut self, line: Vec<u8>) -> bool
+        requires { IsLine line.items }
+        ensures { PutsIf self.old line.items result self.new }
+    {
+        match self.lines.put(line) {
+            Ok(()) => true,
+            Err(_) => {
+                self.events.drops_line();
+                false
+            }
         }
     }
 }

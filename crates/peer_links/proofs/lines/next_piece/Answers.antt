@@ -1,6 +1,7 @@
 use Rattle.std.proofs.Common.{append-nil, sym, ◌+◌, [], ◌∷◌, take, Some, ap, refl, ◌∙◌, arith}
 use Rattle.entry_codec.specs.Pieces.{pieces}
-use Rattle.peer_links.proofs.LineLaws.{push_none, waits, kept, lent, no_rest, none_is}
+use Rattle.peer_links.proofs.LineLaws.{push_none, waits, kept, lent, no_rest, some_rest, none_is, on_err}
+use Rattle.peer_links.proofs.TakeLaws.{ends_piece}
 use Rattle.peer_links.proofs.lines.next_piece.Goals as goal
 
 pub returns-in_default-clause-fed : goal.returns-in_default-clause-fed
@@ -72,3 +73,10 @@ returns-clause-piece g c = λ stream h.
     let nothing = no_rest c.unfinished.result _ (c.unfinished.ensures.stream stream (pieces stream) h) c.if-unfinished.false in
     let l = lent c.args.cutter.now stream c.args.bytes.now c.in-Some.length c.in-Some.ensures nothing h in
     (take (c.in-Some.length + 1) c.args.bytes.now ∷ [], (take (c.in-Some.length + 1) c.args.bytes.now, (refl, omega (arith, l.2, c.if-count-gt-MAX_LINE.false)), refl), l.1)
+
+pub returns-in_err-line-clause-memory : goal.returns-in_err-line-clause-memory
+returns-in_err-line-clause-memory g c = on_err c.from_residual.result (λ stream h.
+    record {
+      begun = some_rest c.unfinished.result _ (c.unfinished.ensures.stream stream (pieces stream) h) c.if-unfinished.true;
+      ends = ends_piece stream c.args.bytes.now c.in-Some.length c.in-Some.ensures;
+    })

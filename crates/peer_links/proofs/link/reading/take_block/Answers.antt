@@ -1,4 +1,4 @@
-use Rattle.std.proofs.Common.{◌≡◌, ℕ, ◌+◌, ◌<◌, List, [], ◌∷◌, ◌++◌, length, take, drop, inl, sym, ap, subst, ◌∙◌, arith, length-drop}
+use Rattle.std.proofs.Common.{◌≡◌, ◌≢◌, ℕ, ◌+◌, ◌<◌, List, [], ◌∷◌, ◌++◌, length, take, drop, inl, sym, ap, subst, ◌∙◌, arith, length-drop}
 use Rattle.std.proofs.lemmas.List.{take_all, take_rest}
 use Rattle.entry_codec.specs.Pieces.{pieces}
 use Rattle.line_streams.proofs.CountLaws.{counts_lines, counts_still, counts_within, line_some}
@@ -62,7 +62,9 @@ pub returns-in_err-piece-clause-takes : goal.returns-in_err-piece-clause-takes
 returns-in_err-piece-clause-takes g c = λ stream h.
     let p = err_from_is_err_and c.from_residual.result c.from_residual.ensures.1 in
     let t = c.pieces.invariant.7 stream h in
-    rw (p.1, p.2) (t.0, to_stop (c.args.count.now + still (c.args.bytes.now ∷ [])) _ _ _ _ _ OutOfMemory t.0 (front_behind stream c.args.bytes.now c.pieces.at) (inl t.1), t.2)
+    let more = c.in_err-piece.ensures.memory (stream ++ take c.pieces.at c.args.bytes.now) (c.pieces.invariant.6 stream h) in
+    let ends = subst (λ (l : List ℕ). pieces_behind (stream ++ take c.pieces.at c.args.bytes.now) l ≢ []) (take_rest c.args.bytes.now c.pieces.at) more.ends in
+    rw (p.1, p.2) (t.0, to_stop (c.args.count.now + still (c.args.bytes.now ∷ [])) _ _ _ _ _ OutOfMemory t.0 (front_behind stream c.args.bytes.now c.pieces.at) (inl (t.1, ends)), t.2)
 
 pub returns-then-at-eq0-clause-takes : goal.returns-then-at-eq0-clause-takes
 returns-then-at-eq0-clause-takes g c = λ stream h.
