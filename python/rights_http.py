@@ -34,9 +34,9 @@ from collections.abc import Callable, Iterable
 from contextlib import suppress
 from typing import Any
 
-# A body has so many bytes at most.
+# The greatest number of bytes of a body.
 LONGEST_BODY = 1_048_576
-# The site closes a connection that said nothing for 60 seconds. A little earlier it is not used any more.
+# The site closes a connection on which nothing was sent for 60 seconds. Shortly before that, it is no longer used.
 IDLE = 50.0
 SAMPLE = re.compile(r'^([a-z_]+)(?:\{[a-z]+="([^"]*)"\})? (\d+)$', re.MULTILINE)
 
@@ -50,10 +50,10 @@ class SiteRefused(Exception):
 
 
 class AnswerLost(Exception):
-    """The request was sent and no answer came. It is unknown whether its `commands` were carried out."""
+    """The request was sent and no reply arrived. It is unknown whether its `commands` were carried out."""
 
     def __init__(self, cause: object, commands: list[str]) -> None:
-        super().__init__(f"no answer came to {', '.join(map(repr, commands[:3]))}{' ..' * (len(commands) > 3)}: {cause}")
+        super().__init__(f"no reply to {', '.join(map(repr, commands[:3]))}{' ..' * (len(commands) > 3)}: {cause}")
         self.commands = commands
 
 
@@ -140,7 +140,7 @@ class SiteClient:
     def _post(self, target: str, commands: list[str], timeout: float) -> str:
         body = b"".join(map(line_of, commands))
         if len(body) > LONGEST_BODY:
-            raise ValueError(f"a request has at most {LONGEST_BODY:,} bytes, and these commands have {len(body):,}")
+            raise ValueError(f"the commands have {len(body):,} bytes, but a request has at most {LONGEST_BODY:,}")
 
         def once() -> str:
             try:
@@ -162,7 +162,7 @@ class SiteClient:
         raise AssertionError
 
     def _exchange(self, method: str, target: str, body: bytes, timeout: float) -> str:
-        """One request and its answer. NotSent if it was not sent whole, or was turned away."""
+        """One request and its response. NotSent if it was not sent whole, or was turned away."""
         if self._process != os.getpid():
             # The connections of the process that this one was forked from are not ours.
             self._renew()
@@ -177,7 +177,7 @@ class SiteClient:
     def _talk(self, connection: http.client.HTTPConnection, method: str, target: str, body: bytes, timeout: float) -> str:
         connection.sock.settimeout(timeout)
         try:
-            # A body with a length is carried out only once its last byte has come, so half a request has no effect.
+            # A body with a length is carried out only once its last byte has arrived, so half a request has no effect.
             connection.request(method, target, body or None, {"content-type": "text/plain"} if body else {})
         except OSError as cause:
             raise NotSent(cause) from cause
@@ -192,7 +192,7 @@ class SiteClient:
             with self._lock:
                 self._idle.append((connection, time.monotonic()))
         if answer.status == 503 and answer.getheader("retry-after"):
-            raise NotSent("all places for clients are taken")
+            raise NotSent("all client connections of the site are in use")
         if answer.status not in (200, 400, 409, 503) or (body and not text.endswith("\n")):
             raise SiteRefused(f"{method} {target}: {answer.status} {answer.reason}")
         return text
@@ -219,7 +219,7 @@ class SiteClient:
         return connection
 
     def _take_idle(self) -> http.client.HTTPConnection | None:
-        """The connection that was used last, if that was not long ago."""
+        """The connection that was used last, if that was less than `IDLE` seconds ago."""
         with self._lock:
             while self._idle:
                 connection, since = self._idle.pop()
@@ -239,7 +239,7 @@ def is_silent(stream: socket.socket) -> bool:
 def line_of(command: str) -> bytes:
     """The line of a command. More than one line would get more than one reply."""
     if "\n" in command:
-        raise ValueError(f"a command is one line, and this one has a line feed: {command!r}")
+        raise ValueError(f"a command must not contain a line feed: {command!r}")
     return command.encode() + b"\n"
 
 

@@ -44,7 +44,7 @@ class SiteEnded(Exception):
 
 
 class SiteSilent(SiteEnded):
-    """The site did not answer in time. It is unknown whether it carried out the commands that were sent."""
+    """The site did not reply in time. It is unknown whether it carried out the commands that were sent."""
 
 
 def find_program() -> str:
@@ -54,8 +54,8 @@ def find_program() -> str:
     found = shutil.which(NAME)
     if found is None:
         raise FileNotFoundError(
-            f"no program of a site is there: neither {BESIDE} nor a {NAME} on the path ({os.environ.get('PATH', '')}). "
-            "Install it, or name it by program="
+            f"program not found: neither {BESIDE} nor {NAME} on the path ({os.environ.get('PATH', '')}). "
+            "Install it, or pass its path as program="
         )
     return found
 
@@ -169,7 +169,7 @@ class Site:
     def _exchange(self, data: bytes, count: int) -> list[str]:
         """Writes these bytes and reads this many replies at the same time, so neither side blocks the other."""
         if self._is_broken:
-            raise SiteSilent(f"site {self.number}: it did not answer in time before, so its replies can't be told apart")
+            raise SiteSilent(f"site {self.number}: an earlier command timed out, so replies no longer match commands")
         replies: list[str] = []
         while data or len(replies) < count:
             if not data and b"\n" in self._unread:
@@ -186,7 +186,7 @@ class Site:
         return replies
 
     def _wait(self, is_writing: bool) -> bool:
-        """Waits until it can be written to or read from. Whether it can be written to, with nothing to read."""
+        """Waits until the site can be written to or read from. Whether it can be written to, with nothing to read."""
         self._poll.register(self._output, select.POLLIN)
         if is_writing and not self._input.closed:
             self._poll.register(self._input, select.POLLOUT)
@@ -215,21 +215,21 @@ class Site:
 
     def _last_words(self) -> str:
         lines = self.said().splitlines()
-        return f"; it said: {lines[-1]}" if lines else ""
+        return f"; last line on standard error: {lines[-1]}" if lines else ""
 
     def _ended(self) -> SiteEnded:
-        # Its last line is complete once it has ended.
+        # The last line on standard error is complete once the process has ended.
         with suppress(subprocess.TimeoutExpired):
             self.process.wait(1)
-        return SiteEnded(f"site {self.number}: it ended{self._last_words()}")
+        return SiteEnded(f"site {self.number}: the process ended{self._last_words()}")
 
 
 def line_of(command: str) -> bytes:
     """The line of a command. More than one line would get more than one reply, and `quit` gets none."""
     if "\n" in command:
-        raise ValueError(f"a command is one line, and this one has a line feed: {command!r}")
+        raise ValueError(f"a command must not contain a line feed: {command!r}")
     if command == "quit":
-        raise ValueError("`quit` has no reply: a site is ended by end()")
+        raise ValueError("`quit` has no reply: call end() instead")
     return command.encode() + b"\n"
 
 

@@ -536,11 +536,11 @@ def a_start_that_fails_is_said():
     with socket.create_server(("127.0.0.1", 0)) as taken:
         address = at(taken.getsockname()[1])
         said = refusal_of(lambda: Site(1, 2, address, {2: at(other)}, PROGRAM), SiteEnded)
-        expect(said, "site 1: it ended; it said: rights-site: cannot listen")
+        expect(said, "site 1: the process ended; last line on standard error: rights-site: cannot listen")
     expect(refusal_of(lambda: Site(3, 2, at(own), {2: at(other)}, PROGRAM), SiteEnded)[-16:], "bad command line")
     mute = ["sh", "-c", "echo starting >&2; exec sleep 20", "sh"]
     silent = refusal_of(lambda: Site(1, 2, at(own), {2: at(other)}, mute, timeout=0.3), rights_site.SiteSilent)
-    expect(silent, "site 1: no reply within 0.3 seconds; it said: starting")
+    expect(silent, "site 1: no reply within 0.3 seconds; last line on standard error: starting")
 
 
 def a_program_that_is_nowhere_is_said():

@@ -146,7 +146,7 @@ class Closed(Situation):
 
 class Unreachable(Situation):
     ends = 190
-    shows = [*Situation.shows, "unreachable", "The site has not been reached since", "What stands below is of"]
+    shows = [*Situation.shows, "unreachable", "The site has not been reached since", "The values below are from"]
     hides = ["Cut off", "has closed"]
 
 

@@ -1,11 +1,11 @@
 #!/usr/bin/env python3
-"""A buyer, as a process of its own: buys tickets at one site over HTTP, and prints what came of each purchase.
+"""A buyer, as a process of its own: buys tickets at one site over HTTP, and prints the result of each purchase.
 
     examples/ticket-sale/buyer.py ADDRESS --seed N --pace N
 
-It says that it is ready, and reads a line with a number T. Then it buys some N times a second, more in the middle of the
-sale than at its ends, until T, in seconds since 1970. Each line that it prints is a word (sold, refused, or unknown where
-the answer got lost) and how many tickets it was about.
+It prints that it is ready, and reads a line with a number T. Then it buys about N times a second, more often in the
+middle of the sale than at its ends, until T, in seconds since 1970. Each line that it prints is a word (`sold`,
+`refused`, or `unknown` if the reply was lost) and the number of tickets.
 """
 
 import argparse
@@ -21,11 +21,11 @@ from rights_http import AnswerLost, SiteClient, SiteUnreachable, in_seconds  # n
 
 
 def buy(site, amount, patience):
-    """Buys so many tickets. Where the site has too few, waits so many seconds for them. What came of it."""
+    """Buys this many tickets. If the site has too few, waits up to `patience` seconds for them. Returns the result."""
     try:
         reply = site.wait(f"spend {amount} {in_seconds(patience)}")
     except AnswerLost:
-        # It may have been sold, so it is not asked for again.
+        # They may have been sold, so the command is not sent again.
         return "unknown"
     except SiteUnreachable:
         return "refused"
@@ -33,11 +33,11 @@ def buy(site, amount, patience):
         return "sold"
     if reply in ("expired", "error QueueFull", "error Closed"):
         return "refused"
-    raise SystemExit(f"the site answered {reply!r} to a buyer")
+    raise SystemExit(f"the site replied {reply!r} to a buyer")
 
 
 def rush(part):
-    """How much more is bought at this part of the sale, from 0 to 1, than on the average."""
+    """The rate of purchases at this part of the sale, from 0 to 1, relative to the average."""
     return 0.4 + 1.8 * max(0.0, 1 - abs(part - 0.5) / 0.35)
 
 

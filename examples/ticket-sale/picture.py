@@ -5,7 +5,7 @@ LEFT, RIGHT = 84, 812
 TOP, BOTTOM = 112, 452
 LOW_TOP, LOW_BOTTOM = 510, 630
 
-# They differ in lightness too, so that they can be told apart in a print without colours.
+# They differ in lightness too, so that they can be distinguished in a print without colours.
 COLOURS = {"sold": "#dfe3e8", 1: "#28567f", 2: "#7fb3d9", 3: "#fdc34c", "way": "#b8370b"}
 
 
@@ -42,7 +42,7 @@ class Panel:
 
 
 def nice_step(most, parts):
-    """A round step (1, 2 or 5 and zeros) that parts this into so many parts at most."""
+    """A round step (1, 2 or 5, followed by zeros) that divides this into at most this many parts."""
     step = 1
     while True:
         for factor in (1, 2, 5):
@@ -64,7 +64,7 @@ def shade(panel, cuts):
 
 
 def bands(panel, moments, sites):
-    """What is sold, held and on the way, one upon the other: together they are what was issued."""
+    """What is sold, held and in transit, stacked: together they are what was issued."""
     layers = [("sold", [moment.spent for moment in moments])]
     layers += [(site, [moment.held[site] for moment in moments]) for site in sites]
     layers.append(("way", [moment.way for moment in moments]))
@@ -95,8 +95,8 @@ def line_colour(site):
 
 
 def flags(panel, notes, cuts):
-    """What happened when, above the upper panel: from the last on, each in the lowest row where it ends before the
-    next text and before the poles of those above, if one of them has that room."""
+    """What happened when, above the upper panel: from the last event back, each in the lowest row in which it ends
+    before the next text and before the poles of those above, if there is such a row."""
     starts = [WIDTH] * 4
     told = [(seconds, words) for seconds, words in notes] + [(since, words) for since, _, words in cuts]
     for seconds, words in sorted(told, reverse=True):

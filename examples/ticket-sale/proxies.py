@@ -1,4 +1,4 @@
-"""What stands between the sites: proxies that pass lines on or lose them, and a witness that reads them."""
+"""What is between the sites: proxies that pass lines on or lose them, and a witness that reads them."""
 
 import socket
 import threading
@@ -6,7 +6,7 @@ from contextlib import suppress
 
 
 class Witness:
-    """Knows the sites' logs from the lines that came by, so that it can tell what is on the way."""
+    """Knows the sites' logs from the lines that passed, so that it can compute what is in transit."""
 
     def __init__(self):
         self.lock = threading.Lock()
@@ -14,7 +14,7 @@ class Witness:
         self.entries = {}
 
     def see(self, line):
-        """Notes each entry of a line: one of its own, or those of an answer."""
+        """Records each entry of a line: a single one, or those of an answer."""
         for part in line.decode("ascii", "replace").rstrip("\n").split(";"):
             fields = part.split(" ")
             if fields[0] == "E":
@@ -23,7 +23,7 @@ class Witness:
                     self.entries.setdefault(origin, {})[before] = (own, fields[4:])
 
     def log(self, origin):
-        """The entries of a log from its beginning on, as far as they were seen: (before, own, moves) each."""
+        """The entries of a log from its beginning, as far as they were seen: each as (before, own, moves)."""
         with self.lock:
             entries = dict(self.entries.get(origin, {}))
         before, log = 0, []
@@ -34,8 +34,8 @@ class Witness:
         return log
 
     def ways(self, numbers, applied):
-        """The rights on the way to each site, where each log ends at its number and `applied` has what a site applied
-        of an origin, by (site, origin). None where the end of a log was not seen yet."""
+        """The rights in transit to each site, if each log ends at its number and `applied` has what a site applied
+        of an origin, by (site, origin). None if the end of a log was not seen yet."""
         ways = dict.fromkeys(numbers, 0)
         for origin, number in numbers.items():
             log = [entry for entry in self.log(origin) if entry[1] <= number]
@@ -50,7 +50,7 @@ class Witness:
         return ways
 
     def taken_back(self):
-        """What each site took back from each closed one, by (site, closed)."""
+        """What each site reclaimed from each closed one, by (site, closed)."""
         sums = {}
         for origin in list(self.entries):
             for _, _, moves in self.log(origin):
@@ -61,7 +61,7 @@ class Witness:
 
 
 def gifts_and_backs(moves):
-    """Grants (G), gifts (R) and what is taken back (V) of these moves: (kind, peer, amount) each."""
+    """The grants (G), gifts (R) and reclaims (V) among these moves: each as (kind, peer, amount)."""
     for move in moves:
         words = move.split(":")
         if words[0] in ("G", "R", "V"):
@@ -69,7 +69,7 @@ def gifts_and_backs(moves):
 
 
 class Proxy:
-    """Passes lines on from one site to another, but for those that `passes` says no to."""
+    """Passes lines on from one site to another, except those that `passes` rejects."""
 
     def __init__(self, target):
         self.target = target
@@ -81,7 +81,7 @@ class Proxy:
         return True
 
     def accept(self):
-        # Once its listener is closed, it takes no connection more.
+        # Once the listener is closed, it accepts no further connection.
         with suppress(OSError):
             while True:
                 stream, _ = self.server.accept()
@@ -89,7 +89,7 @@ class Proxy:
 
     def carry(self, stream):
         host, port = self.target.split(":")
-        # Where one of the two has ended, the other sees its connection end.
+        # If one of the two ends, the other sees its connection end.
         with stream, suppress(OSError), socket.create_connection((host, int(port))) as out:
             out.setsockopt(socket.IPPROTO_TCP, socket.TCP_NODELAY, 1)
             for line in stream.makefile("rb"):
@@ -114,7 +114,7 @@ class Link(Proxy):
 
 
 def free_ports(count):
-    """Ports that nobody listened on a moment ago."""
+    """Ports on which no process listened a moment ago."""
     sockets = [socket.create_server(("127.0.0.1", 0)) for _ in range(count)]
     ports = [each.getsockname()[1] for each in sockets]
     for each in sockets:

@@ -3,9 +3,9 @@
 
     examples/ticket-sale/sell.py [--seed N] [--seconds N] [--program PATH] [--picture FILE]
 
-The buyers are processes of their own, which buy over HTTP. It prints a line a second and a table at the end, and ends with
-status 1 and a loud line if ever more was sold than issued, or if any other sum is wrong. The seed fixes the buyers and
-the plan, not how processes and the threads of the sites are scheduled.
+The buyers are processes of their own, which buy over HTTP. It prints a line each second and a table at the end. If
+more was ever sold than issued, or any other sum is wrong, it prints an error and exits with status 1. The seed
+determines the buyers and the plan, not how processes and the threads of the sites are scheduled.
 """
 
 import argparse
@@ -30,11 +30,11 @@ SITES = (1, 2, 3)
 
 # How many buyers come to each site. Most come to site 3, which is also the one that is cut off.
 BUYERS = {1: 2, 2: 3, 3: 7}
-# How often each of them buys in a second, on the average.
+# How often each of them buys per second, on average.
 PACE = 3
-# Sites tick so often, in milliseconds.
+# The milliseconds between two ticks of a site.
 TICK = 40
-# The operator looks at all sites so often, in seconds.
+# The seconds between two checks of all sites.
 LOOK = 0.1
 
 ENDED = re.compile(r"rights-site: ended: issued (\d+) spent (\d+) .*; told issued (\d+) spent (\d+) served (\d+)")
@@ -45,7 +45,7 @@ class WrongSum(Exception):
 
 
 class Office:
-    """The buyers of one site, and what they were told."""
+    """The buyers of one site, and what its replies reported to them."""
 
     def __init__(self, site):
         self.site = site
@@ -55,7 +55,7 @@ class Office:
         self.readers = []
 
     def open(self, address, seed):
-        """Starts the buyers, which wait for the begin of the sale."""
+        """Starts the buyers, which wait for the sale to begin."""
         for place in range(BUYERS[self.site]):
             words = [sys.executable, os.path.join(HERE, "buyer.py"), address, "--pace", str(PACE)]
             words += ["--seed", str(seed * 100 + self.site * 10 + place)]
@@ -83,7 +83,7 @@ class Office:
             buyer.stdin.close()
 
     def is_open(self):
-        """Whether somebody still buys."""
+        """Whether any buyer still buys."""
         return any(buyer.poll() is None for buyer in self.buyers)
 
     def close(self):
@@ -101,7 +101,7 @@ class Office:
 
 
 class Moment:
-    """What all sites said while none of them changed."""
+    """The status of all sites while none of them changed."""
 
     def __init__(self, seconds, statuses, issued, witness):
         self.seconds = seconds
@@ -122,7 +122,7 @@ class Moment:
         if self.way < 0:
             raise WrongSum(f"{-self.way} rights too many: held {self.held}, sold {self.spent} of {self.issued}")
         if self.way_to is not None and sum(self.way_to.values()) != self.way:
-            raise WrongSum(f"by the lines {self.way_to} is on the way, by the sums {self.way}")
+            raise WrongSum(f"in transit: {self.way_to} according to the lines, {self.way} according to the sums")
 
 
 class Sale:
@@ -176,7 +176,7 @@ class Sale:
         for proxy in self.proxies.values():
             proxy.is_cut = False
         self.cuts[-1][1] = self.seconds()
-        print(f"{self.seconds():5.1f} s  all links stand", flush=True)
+        print(f"{self.seconds():5.1f} s  all links are restored", flush=True)
 
     def issue(self, site, amount):
         self.issued += amount
@@ -185,10 +185,10 @@ class Sale:
     def expect(self, site, command):
         reply = self.clients[site].ask(command)
         if not reply.startswith("number "):
-            raise WrongSum(f"site {site} answered {reply!r} to {command!r}")
+            raise WrongSum(f"site {site} replied {reply!r} to {command!r}")
 
     def look(self):
-        """Asks all sites twice. Numbers only grow, so where both answers are one, all of them held at one moment."""
+        """Asks all sites twice. Numbers only grow, so if both rounds are equal, all of them held at one moment."""
         before = self.statuses()
         for _ in range(5):
             after = self.statuses()
@@ -205,13 +205,13 @@ class Sale:
         told = {site: office.sums["sold"] for site, office in self.offices.items()}
         statuses = {number: client.status() for number, client in self.clients.items()}
         for site, status in statuses.items():
-            # What buyers were told before was spent before.
+            # What was reported to buyers before was spent before.
             if told[site] > status["spent"]:
-                raise WrongSum(f"site {site} told buyers of {told[site]} tickets, and spent {status['spent']}")
-            # These two are news of the links, and say nothing of rights.
+                raise WrongSum(f"site {site} reported {told[site]} as sold, but spent {status['spent']}")
+            # These two describe the links, not rights.
             for peer in status["peers"]:
                 peer.pop("buffering"), peer.pop("held")
-        # Nobody issues but this program, so at no moment more is spent than this.
+        # Only this program issues, so at no moment more than this may be spent.
         spent = sum(status["spent"] for status in statuses.values())
         if spent > self.issued:
             raise WrongSum(f"OVERSOLD: {spent} sold of {self.issued} issued")
@@ -228,45 +228,45 @@ class Sale:
         print(f"{self.seconds():5.1f} s  sold {sums['sold']:5,} of {self.issued:5,}  refused {sums['refused']:4,}  {sites}", flush=True)
 
     def balance(self):
-        """Whoever holds the most gives a third of what it could to whoever holds the least, as an operator does who
-        sees all sites but not the lines between them."""
+        """The site with the most free rights gives a third of the difference to the site with the fewest, as an
+        operator would who sees all sites but not the lines between them."""
         free = {number: max(0, status["held"] - status["queued"]) for number, status in self.statuses().items()}
         rich, poor = max(free, key=free.get), min(free, key=free.get)
         amount = (free[rich] - free[poor]) // 3
         if amount > 0:
-            # It may be short by now: buyers and grants may have come between.
+            # It may hold too little by now, because of buyers and grants in between.
             reply = self.clients[rich].ask(f"give {poor} {amount}")
             if not reply.startswith("number ") and reply != "error Short":
-                raise WrongSum(f"site {rich} answered {reply!r} to a gift")
+                raise WrongSum(f"site {rich} replied {reply!r} to a gift")
 
     def rest(self, seconds):
-        """Looks for so long, and does nothing."""
+        """Only checks the sites, for this many seconds."""
         until = time.monotonic() + seconds
         while time.monotonic() < until:
             self.look()
             time.sleep(LOOK)
 
     def wait_until(self, condition, what, seconds=20):
-        """Looks until all sites say what is waited for."""
+        """Checks the sites until the condition holds for their statuses."""
         until = time.monotonic() + seconds
         while time.monotonic() < until:
             moment = self.look()
             if moment and condition(moment.statuses):
                 return
             time.sleep(LOOK)
-        raise WrongSum(f"{what}: not within {seconds} seconds")
+        raise WrongSum(f"not within {seconds} seconds: {what}")
 
     def end(self):
-        """Ends all sites, each of which reports what it told."""
+        """Ends all sites, and checks the report of each against what it replied."""
         for number, site in self.sites.items():
             status = site.end()
             said = site.said()
             report = ENDED.search(said)
             if status != 0 or not report:
-                raise WrongSum(f"site {number} ended with status {status} and said {said!r}")
+                raise WrongSum(f"site {number} ended with status {status} and wrote {said!r}")
             issued, spent, told_issued, told_spent, told_served = map(int, report.groups())
             if issued != told_issued or spent != told_spent + told_served:
-                raise WrongSum(f"site {number} reports other sums than it told: {said!r}")
+                raise WrongSum(f"the report of site {number} differs from what it replied: {said!r}")
 
     def kill(self):
         for office in self.offices.values():
@@ -277,7 +277,7 @@ class Sale:
 
 
 def applied_all(statuses, receivers=SITES):
-    """Whether each of these sites has applied all that each other site wrote."""
+    """Whether each of these sites has applied every entry of each other site."""
     return all(
         peer["applied"] == statuses[peer["site"]]["number"]
         for site in receivers for peer in statuses[site]["peers"]
@@ -321,7 +321,7 @@ def sell(sale, chance, seconds):
 
 
 def close_site_3(sale, seconds):
-    """Site 3 closes while nothing reaches it: what it was given and never applied is taken back by those who gave."""
+    """Site 3 closes while nothing reaches it: sites 1 and 2 reclaim what they gave and it never applied."""
     pause = seconds / 16
     sale.cut(((1, 3), (2, 3)), "nothing reaches site 3")
     sale.note("sites 1 and 2 give")
@@ -332,32 +332,32 @@ def close_site_3(sale, seconds):
     sale.note("site 3 closes")
     sale.expect(3, "close 1")
     sale.wait_until(
-        lambda statuses: statuses[3]["closed"] and applied_all(statuses, (1, 2)), "all know that site 3 closed"
+        lambda statuses: statuses[3]["closed"] and applied_all(statuses, (1, 2)), "all sites know that site 3 closed"
     )
     sale.rest(pause)
     sale.heal()
     sale.rest(pause / 2)
     if sale.witness.taken_back() != {(1, 3): 90, (2, 3): 60}:
-        raise WrongSum(f"taken back: {sale.witness.taken_back()}, of 90 and 60 given")
+        raise WrongSum(f"reclaimed: {sale.witness.taken_back()}, of 90 and 60 given")
 
 
 def last_look(sale):
-    """The sums once nothing moves any more: here all of them can be known."""
+    """The sums once nothing is in transit: then all of them can be known."""
     last = sale.look()
     if last is None or last.way_to is None:
         raise WrongSum("the sites did not come to rest")
     for site, office in sale.offices.items():
         spent, sums = last.statuses[site]["spent"], office.sums
         if not sums["sold"] <= spent <= sums["sold"] + sums["unknown"]:
-            raise WrongSum(f"site {site} told its buyers {sums}, and spent {spent}")
+            raise WrongSum(f"site {site} reported {sums} to its buyers, but spent {spent}")
     if sum(last.held.values()) + last.spent + sum(last.way_to.values()) != last.issued:
-        raise WrongSum("held + sold + on the way is not what was issued")
+        raise WrongSum("held + sold + in transit is not what was issued")
     return last
 
 
 def table(sale, last):
-    """What was wanted and what came of it, by site and in sum. On the way: to that site."""
-    heads = ["", "issued", "wanted", "sold", "refused", "held", "on the way"]
+    """What was wanted and the result, for each site and in total. In transit: to that site."""
+    heads = ["", "issued", "wanted", "sold", "refused", "held", "in transit"]
     rows = [
         [
             last.statuses[site]["issued"], sum(office.sums.values()), office.sums["sold"], office.sums["refused"],
@@ -386,7 +386,7 @@ def main():
         sale.note("the sale ends")
         sale.wait_until(
             lambda statuses: applied_all(statuses) and not any(status["queued"] for status in statuses.values()),
-            "nothing waits and nothing is on the way",
+            "no spend waits and nothing is in transit",
         )
         close_site_3(sale, given.seconds)
         last = last_look(sale)
@@ -402,9 +402,9 @@ def main():
     print(f"\n{table(sale, last)}")
     back = sum(sale.witness.taken_back().values())
     print(f"\nlines lost in cuts: {sum(proxy.lost for proxy in sale.proxies.values()):,}; "
-          f"taken back of site 3, which closed: {back}")
-    print(f"held + sold + on the way = issued: seen at {len(sale.moments):,} moments, "
-          f"and by the lines too at {sale.known:,} of them")
+          f"reclaimed from site 3, which closed: {back}")
+    print(f"held + sold + in transit = issued: seen at {len(sale.moments):,} moments, "
+          f"and from the lines too at {sale.known:,} of them")
     print("all sums are right")
     return 0
 

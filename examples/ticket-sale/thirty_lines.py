@@ -14,7 +14,7 @@ HTTP = {1: "127.0.0.1:8001", 2: "127.0.0.1:8002"}
 
 
 def seller(number):
-    """Sells one by one at a site, until two seconds bring no more rights to it. How many it sold."""
+    """Sells one by one at a site, until no right arrives there within two seconds. Returns how many it sold."""
     sold = 0
     with SiteClient(HTTP[number]) as site:
         while True:
@@ -27,7 +27,7 @@ def seller(number):
 
 
 if __name__ == "__main__":
-    # The files of `once` keep a site from being started again while the other one runs.
+    # The files of `once` prevent a second start of a site while the other one runs.
     with tempfile.TemporaryDirectory() as room:
         one = Site(1, 2, "127.0.0.1:7001", {2: "127.0.0.1:7002"}, http=HTTP[1], tick=50, once=f"{room}/1")
         two = Site(2, 2, "127.0.0.1:7002", {1: "127.0.0.1:7001"}, http=HTTP[2], tick=50, once=f"{room}/2")

@@ -1,4 +1,4 @@
--- What an applier told, from item to item.
+-- What an applier reports, from item to item.
 use Rattle.std.proofs.Common.{◌≡◌, ◌≢◌, ℕ, ◌+◌, ◌≤◌, Bool, true, false, true≢false, ◌==◌, List, [], ◌∷◌, ◌++◌, Option, Some, None, Result, Ok, Err, IfOk, IsSome, cond, nat_lt, refl, sym, ap, ◌∙◌, subst, arith, append-nil, append_assoc}
 use Rattle.std.proofs.lemmas.Bool.{eq-eqb, ltb-false}
 use Rattle.rights_types.specs.Entries.{EntryValue, own}
@@ -59,7 +59,7 @@ module _ {G A : Type 0} where
       let last = chain_right chain.0 false 0 c.applied (e ∷ []) all in
       last.2 ∙ sym c.number
 
-  -- .. in the log of its own origin
+  -- in the log of its own origin
   log_follows : (id : DeskId) (a : ApplierValue G A) (e : EntryValue) → (c : IsCounted id a) → a.hand ≡ Some e → a.dropping ≡ false → e.origin ≡ a.origin
       → IsChain a.origin (c.applied ++ e ∷ [])
   log_follows id a e c is free same =
@@ -106,7 +106,7 @@ module _ {G A : Type 0} where
     empty_hand = λ _. refl;
   }
 
-  -- all entries that were taken, where none is in hand
+  -- all entries that were taken, if none is in hand
   empty_taken : (id : DeskId) (a : ApplierValue G A) → (c : IsCounted id a) → a.hand ≡ None → a.ended ≡ false
       → a.outlet.taken ≡ items_of (c.applied ++ c.dropped)
   empty_taken id a c none free =
@@ -168,7 +168,7 @@ module _ {G A : Type 0} where
   next_hand None a b e was is = ap (λ (x : ApplierValue G A). x.hand) is
   next_hand (Some f) a b e was is = ap (λ (x : ApplierValue G A). x.hand) is.1 ∙ was ∙ ap (λ (x : EntryValue). Some x) is.0
 
-  -- what becomes of the entry in hand keeps origin and lane
+  -- what happens to the entry in hand keeps origin and lane
   leaves_same : (id : DeskId) (late : Bool) (a b : ApplierValue G A) (e : EntryValue) → LeavesHand id late a e b → (b.origin ≡ a.origin) × (b.outlet.lane ≡ a.outlet.lane)
   leaves_same id true a b e is = (ap (λ (x : ApplierValue G A). x.origin) is, ap (λ (x : ApplierValue G A). x.outlet.lane) is)
   leaves_same id false a b e is = (ap (λ (x : ApplierValue G A). x.origin) is, ap (λ (x : ApplierValue G A). x.outlet.lane) is)
@@ -179,7 +179,7 @@ module _ {G A : Type 0} where
   leaves_hand id true a b e gone kept = gone refl
   leaves_hand id false a b e gone kept = kept refl
 
-  -- the applier that took its next entry, passed its gate and has the lock
+  -- the applier that took its next entry, passed its gate and holds the lock
   pub comes_to_desk : (passes : G → ℕ → G → Type 0) (id : DeskId) (old taken mid : ApplierValue G A) (k : KeptValue)
       → (old.ended ≡ false) × (e : EntryValue) × HasNext old.hand old e taken → passes taken.gate taken.origin mid.gate
       → mid ≡ record taken { gate = mid.gate } → IsKept id k → (e : EntryValue) × ComesToDesk passes id old e k mid × (mid.hand ≡ Some e)
@@ -189,13 +189,13 @@ module _ {G A : Type 0} where
     ap (λ (x : ApplierValue G A). x.hand) rest ∙ next_hand old.hand old taken more.1 refl more.2,
   )
 
-  -- .. and what it made of the entry
+  -- and what it did with the entry
   pub step_done : (passes : G → ℕ → G → Type 0) (id : DeskId) (old mid new : ApplierValue G A) (k : KeptValue) (e : EntryValue)
       → ComesToDesk passes id old e k mid → step_fault mid k.desk e ≡ None → (is_late mid k.desk ≡ true → new ≡ dropped mid)
       → (is_late mid k.desk ≡ false → new ≡ applied id mid e) → Steps passes id old true new
   step_done passes id old mid new k e comes none gone kept = (e, k, mid, comes, none, leaves_hand id (is_late mid k.desk) mid new e gone kept)
 
-  -- .. or why it did not
+  -- or why it did nothing with it
   pub step_failed : (passes : G → ℕ → G → Type 0) (id : DeskId) (old new : ApplierValue G A) (k : KeptValue) (e : EntryValue) (fault : StepError)
       → ComesToDesk passes id old e k new → StepRefuses (step_fault new k.desk e) (Err fault)
       → (fault ≡ OutOfMemory → ¬ (numbers_in e.moves ≡ None)) → StepFails passes id old fault new
@@ -229,7 +229,7 @@ module _ {G A : Type 0} where
     empty_hand = λ _. empty;
   }
 
--- a new seat was told nothing
+-- the calls of a new seat have reported nothing
 pub seat_told : (old : KeptValue) (answer : Result SeatValue SeatsFull) (new : KeptValue) → GivesSeat old answer new → IfOk answer (λ s. s ≡ told_nothing)
 seat_told old (Ok s) new h = h.0
 seat_told old (Err full) new h = tt
@@ -261,7 +261,7 @@ same_between true old mid o n same = (λ j. ap (λ (x : BookValue). (peer x j).g
 same_between false old mid o n taken =
     (λ j. omega (arith, taken.gives_to j, nothing_given j o n), taken.same_received_from)
 
--- the desk's book moved on by the entry
+-- the entry advanced the desk's book
 pub moves_on : (id : DeskId) (k : KeptValue) (d : DeskValue) (o : ℕ) (e : EntryValue) → IsKept id k → (h : DeskApplies k.desk o e d)
     → ApplyKeeps k.desk.ledger o e h.entry.between d.ledger → e.prev ≡ (peer k.desk.ledger.book o).log.end → MovesOn id.site k.desk o e d
 moves_on id k d o e is applies keeps next =

@@ -1,4 +1,4 @@
--- What was taken from a lane, and what waits there, by what was put.
+-- What was taken from a lane, and what waits there, from what was put.
 use Rattle.std.proofs.Common.{◌≡◌, Bool, true, false, List, [], ◌∷◌, ◌++◌, Option, Some, None, refl, ap, sym, ◌∙◌}
 use Rattle.rights_types.specs.Entries.{EntryValue}
 use Rattle.rights_types.specs.Chains.{is_closed}
@@ -11,7 +11,7 @@ use Rattle.apply_lanes.specs.Appliers.{ApplierValue, IsCounted, in_hand}
 use Rattle.apply_lanes.specs.Between.{IsBetween}
 
 module _ {A : Type 0} where
-  -- entries that begin those that were put: the others wait
+  -- entries that are a prefix of those that were put: the others wait
   waits : (es xs : List EntryValue) (c d : Bool) (rest : List (Item A)) → items_of {A = A} es ++ end_if c ≡ (items_of xs ++ end_if d) ++ rest
       → (more : List EntryValue) × (es ≡ xs ++ more)
   waits es [] c d rest h = (es, refl)

@@ -1,4 +1,4 @@
--- The invariant of the lock's value is kept by each change of its desk.
+-- Each change of the desk preserves the invariant of the lock's value.
 use Rattle.std.proofs.Common.{◌≡◌, ℕ, ◌+◌, ◌-◌, ◌≤◌, ◌<◌, inl, inr, Bool, true, false, ◌==◌, Option, Some, None, Result, Ok, Err, OnOk, OnErr, List, [], ◌∷◌, ◌++◌, length, get_or, set, cond, refl, sym, ap, ◌∙◌, subst, arith}
 use Rattle.std.proofs.lemmas.Bool.{cases_eq, eq-eqb, ne_eqb}
 use Rattle.std.proofs.lemmas.List.{length-set, get_or_default}
@@ -63,14 +63,14 @@ has_shards k d i s n r p a b c e = record {
   no_received_back = e.returned ∙ p.no_received_back;
 }
 
--- ---- what the book adds up to
+-- ---- the sums of the book
 
 same_numbers : (b c : BookValue) → sites c ≡ sites b → ((o : ℕ) → (peer c o).log ≡ (peer b o).log) → applied_by c ≡ applied_by b
 same_numbers b c same logs =
     ap (λ n. sum_sites n (λ o. (peer c o).log.end)) same
     ∙ sum_same (sites b) (λ o. (peer c o).log.end) (λ o. (peer b o).log.end) (λ o _ _. ap (λ (a : Account). a.end) (logs o))
 
--- the site wrote an entry that issues and spends so much
+-- the site wrote an entry that issues and spends these amounts
 tallied_write : (b c : BookValue) (ms : List Move) (i s n r j t : ℕ) → MatchesBook b i s n r → OwnLeaves b ms c → j ≡ i + issued ms → t ≡ s + spent ms
     → MatchesBook c j t n r
 tallied_write b c ms i s n r j t is l a e = record {
@@ -158,7 +158,7 @@ nothing_closing b (Some j) = closes_without (held_by b == 0) j (held_by b) (fron
 
 -- ---- the lock's value
 
--- whatever the desk wrote and applied, as long as the counters follow its book
+-- for anything that the desk wrote and applied, if the counters follow its book
 kept_by : (id : DeskId) (k : KeptValue) (d : DeskValue) (i s n r : ShardedCounterValue) → IsKept id k → d.ledger.log.site ≡ k.desk.ledger.log.site
     → d.ledger.book.me ≡ k.desk.ledger.book.me → sites d.ledger.book ≡ sites k.desk.ledger.book → MatchesBook d.ledger.book i.sum s.sum n.sum r.sum
     → SameShards k.issued i → SameShards k.spent s → SameShards k.number n → SameShards k.received r → KeepsProtocol d.ledger
@@ -173,14 +173,14 @@ kept_by id k d i s n r is site me count matches_book a b c e protocol = record {
   protocol = protocol;
 }
 
--- what was applied is so still
+-- what was applied is still applied
 still_applied : (l m : LedgerValue) → KeepsProtocol l → SameApplied l m → KeepsProtocol m
 still_applied l m h same = (h.0, same.all h.0 h.1)
 
 all_same : (t : ShardedCounterValue) → SameShards t t
 all_same t = record { left = refl; returned = refl }
 
--- log and book are as before
+-- log and book are unchanged
 same_ledger : (id : DeskId) (k : KeptValue) (d : DeskValue) → IsKept id k → d.ledger ≡ k.desk.ledger → IsKept id (record k { desk = d })
 same_ledger id k d is same =
     kept_by id k d k.issued k.spent k.number k.received is (ap (λ (l : LedgerValue). l.log.site) same) (ap (λ (l : LedgerValue). l.book.me) same)
@@ -213,7 +213,7 @@ pub kept_skip : (id : DeskId) (k : KeptValue) (d : DeskValue) (peer : ℕ) → I
 kept_skip id k d peer is same =
     subst (λ (y : DeskValue). IsKept id (record k { desk = y })) (sym same) (same_entries id k (all_published k.desk.ledger.log peer) is refl refl)
 
--- the desk wrote an entry, by which so much was issued and spent
+-- the desk wrote an entry, which issued and spent these amounts
 pub kept_write : (id : DeskId) (k : KeptValue) (d : DeskValue) (ms : List Move) (a b : ℕ) (i s : ShardedCounterValue) → IsKept id k
     → d.ledger.log ≡ with_entry k.desk.ledger.log ms → OwnLeaves k.desk.ledger.book ms d.ledger.book → SameApplied k.desk.ledger d.ledger
     → issued ms ≡ a → spent ms ≡ b → i ≡ raised k.issued a → s ≡ raised k.spent b → IsKept id (record k { desk = d; issued = i; spent = s })
@@ -244,14 +244,14 @@ adds_one applied o e = record {
   elsewhere = λ k apart. ap (λ b. cond b (applied o ++ e ∷ []) (applied k)) (ne_eqb k o apart);
 }
 
--- the next entry of o goes on the chain of those that were applied
+-- the next entry of o continues the chain of those that were applied
 pub next_applied : (l : LedgerValue) (applied : ℕ → List EntryValue) (o : ℕ) (e : EntryValue) → HasApplied applied l → (peer l.book o).log.closed ≡ false
     → e.prev ≡ (peer l.book o).log.end → e.origin ≡ o → IsEntry e → IsChain o (applied o ++ e ∷ [])
 next_applied l applied o e h live next of is =
     let sums = h.in_book.sums o in
     chain_push o false 0 (applied o) e (h.kept.chains o) (sym (ap (λ (a : Account). a.closed) sums) ∙ live) of (next ∙ ap (λ (a : Account). a.end) sums) is
 
--- .. and it was applied
+-- and it was applied
 pub has_one : (l m : LedgerValue) (applied : ℕ → List EntryValue) (o : ℕ) (e : EntryValue) → HasApplied applied l → (peer l.book o).log.closed ≡ false
     → e.prev ≡ (peer l.book o).log.end → e.origin ≡ o → IsEntry e → MoreApplied l o e m → HasApplied (with_one applied o e) m
 has_one l m applied o e h live next of is more =
@@ -276,7 +276,7 @@ kept_apply id k d o e n r is applies keeps low high next live of entry more gift
     (all_same k.issued) (all_same k.spent) (raised_shards k.number n (length e.moves) more) (raised_shards k.received r (to id.site e.moves) gift)
     (with_one is.protocol.0 o e, has_one k.desk.ledger d.ledger is.protocol.0 o e is.protocol.1 live next of entry keeps.applied)
 
--- what the desk received by that entry
+-- what the desk received with that entry
 pub gift_is : (id : DeskId) (k : KeptValue) (d : DeskValue) (o : ℕ) (e : EntryValue) → IsKept id k → (a : AppliesEntry k.desk.ledger o e d.ledger)
     → ApplyKeeps k.desk.ledger o e a.between d.ledger → received_by d.ledger.book ≡ received_by k.desk.ledger.book + to id.site e.moves
 gift_is id k d o e is applies keeps =
@@ -299,7 +299,7 @@ admit_left bs i d within free =
     let h = count_by-le-length (λ b. b) (set bs i true) in
     omega (arith, admit_more bs i d within free, h, length-set bs i true)
 
--- the site of that place was admitted
+-- the site at that index was admitted
 pub kept_admit : (id : DeskId) (k : KeptValue) (i : ℕ) (n r : ShardedCounterValue) → IsKept id k → i < 16 → get_or k.admitted i false ≡ false
     → n ≡ record k.number { left = n.left } → n.left + 1 ≡ k.number.left → r ≡ record k.received { left = r.left } → r.left + 1 ≡ k.received.left
     → IsKept id (record k { number = n; received = r; admitted = set k.admitted i true })
@@ -338,7 +338,7 @@ kept_admit id k i n r is within free of_number less of_received fewer =
 pub shard_left : (k : KeptValue) (i : ℕ) (d : Bool) → HasShards k → i < 16 → get_or k.admitted i d ≡ false → 1 ≤ k.number.left
 shard_left k i d p within free = omega (arith, admit_left k.admitted i d (omega (arith, p.places)) free, p.appliers, p.places)
 
--- the same, by the site
+-- the same, for a site
 pub free_site : (bs : List Bool) (o : ℕ) → 1 ≤ o → o ≤ length bs → get_or bs (o - 1) false ≡ false → at_site bs o true ≡ false
 free_site bs o low high free =
     at_site-index bs (o - 1) o true (omega arith) ∙ get_or_default bs (o - 1) true false (omega arith) ∙ free
@@ -353,7 +353,7 @@ nothing_received : (b : BookValue) → StandsForApplied (λ o. []) b → sum_sit
 nothing_received b h =
     sum_same (sites b) (λ o. (peer b o).received) (λ o. 0) (λ o _ _. h.received_are o ∙ ap (to b.me) moves_of-nil ∙ to-nil b.me) ∙ sum_zero (sites b)
 
--- a desk that wrote and applied nothing adds up to nothing
+-- the sums of a desk that wrote and applied nothing are 0
 pub nothing_tallied : (d : DeskValue) → IsUnused d → d.ledger.book.own.issued ≡ issued (moves_of d.ledger.log.entries)
     → d.ledger.book.own.spent ≡ spent (moves_of d.ledger.log.entries)
     → received_by d.ledger.book ≡ sum_sites (sites d.ledger.book) (λ o. (peer d.ledger.book o).received) → MatchesBook d.ledger.book 0 0 0 0

@@ -12,7 +12,7 @@ use Rattle.site_core.proofs.Protocol.{none_applied}
 use Rattle.apply_lanes.specs.Names.{DeskId}
 use Rattle.apply_lanes.specs.Steps.{site_lists, IsWritten, CallsDesk, CallsDesks, AreUnused, KeepsPromises}
 
--- the lists of all sites, where these were applied
+-- the lists of all sites, if these were applied
 abbrev all_lists : (ℕ → DeskValue) → (ℕ → ℕ → List EntryValue) → ℕ → SiteLists
 all_lists desks applied = λ k. site_lists (desks k) (applied k)
 

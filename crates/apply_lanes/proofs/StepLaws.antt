@@ -24,12 +24,12 @@ use Rattle.apply_lanes.specs.Kepts.{KeptValue, IsKept, KeepsProtocol}
 use Rattle.apply_lanes.specs.Steps.{site_lists, StepsBy, spend_change, serve_change, answer_change, apply_change}
 use Rattle.apply_lanes.proofs.KeptLaws.{with_one, adds_one, next_applied, has_one}
 
--- a step of the site that the desk is of
+-- a step of the desk's own site
 step_of : (id : DeskId) (k : KeptValue) (old new : SiteLists) (change : LocalChange) → IsKept id k
     → LocalStep (sites k.desk.ledger.book) k.desk.ledger.log.site old change new → LocalStep id.sites id.site old change new
 step_of id k old new change is step = subst (λ (x : ℕ × ℕ). LocalStep x.0 x.1 old change new) (λ i. (is.same_sites i, is.site i)) step
 
--- of a value seen from outside
+-- for a value seen from outside
 pub seen : (id : DeskId) (k l : KeptValue) (change : LocalChange) (new : DeskValue) → k ≡ l → StepsBy id k.desk change new → StepsBy id l.desk change new
 seen id k l change new same steps = subst (λ (x : KeptValue). StepsBy id x.desk change new) same steps
 
@@ -43,7 +43,7 @@ steps_write id k new ms is w keeps applied h = (
       (record { may = keeps.may applied h; log = ap (λ (l : LogValue). l.entries) w.log; applied = λ o. refl }),
 )
 
--- the closing entry was
+-- the closing entry was written
 pub steps_close : (id : DeskId) (k : KeptValue) (new : DeskValue) (heir : Option ℕ) → IsKept id k → WritesClosing k.desk.ledger heir new.ledger
     → ClosingKeeps k.desk.ledger heir new.ledger → StepsBy id k.desk (Retire heir) new
 steps_close id k new heir is w keeps applied h =
@@ -79,7 +79,7 @@ steps_apply id k new o e is a keeps low high other unclosed live next of entry a
       }),
     )
 
--- log and book are as before
+-- log and book are unchanged
 pub steps_none : (id : DeskId) (old new : DeskValue) → new.ledger ≡ old.ledger → StepsBy id old Other new
 steps_none id old new same applied h =
     (applied, subst (HasApplied applied) (sym same) h, record { log = ap (λ (l : LedgerValue). l.log.entries) same; applied = λ o. refl })
@@ -123,11 +123,11 @@ pub steps_in_time : (id : DeskId) (old new : DeskValue) (late : Bool) (o : ℕ) 
 steps_in_time id old new false o e is step = step
 steps_in_time id old new true o e is step = absurd (true≢false is)
 
--- such a step keeps the protocol's fact
+-- such a step preserves the protocol's invariant
 pub step_keeps : (id : DeskId) (old new : DeskValue) (change : LocalChange) → KeepsProtocol old.ledger → StepsBy id old change new → KeepsProtocol new.ledger
 step_keeps id old new change h steps = let s = steps h.0 h.1 in (s.0, s.1)
 
--- ---- by the answer
+-- ---- by the result
 
 pub steps_spend : (id : DeskId) (k : KeptValue) (new : DeskValue) (n deadline : ℕ) (answer : Spending) → IsKept id k
     → DeskSpends k.desk n deadline answer new → SpendKeeps k.desk n answer new → StepsBy id k.desk (spend_change n answer) new
@@ -147,7 +147,7 @@ pub steps_serve : (id : DeskId) (k : KeptValue) (new : DeskValue) (ticket number
     → StepsBy id k.desk (serve_change (Some (ticket, number, amount))) new
 steps_serve id k new ticket number amount is w keeps = steps_write id k new (Spend amount ∷ []) is w keeps
 
--- ---- what the lock's value keeps
+-- ---- what the lock's value preserves
 
 pub protocol_of : (id : DeskId) (k : KeptValue) → IsKept id k
     → (applied : ℕ → List EntryValue) × HasApplied applied k.desk.ledger × SiteKept id.sites id.site k.desk.ledger.log.entries applied

@@ -8,8 +8,8 @@ use Rattle.apply_lanes.specs.Appliers.{ApplierValue, in_hand}
 use Rattle.apply_lanes.specs.Names.{DeskId}
 
 module _ {G A : Type 0} where
-  -- what the buffer put is what was applied, then what was dropped at a closed desk, then the entry in hand, then what
-  -- waits on the lane; number and received are those of what was applied
+  -- what the buffer delivered is what was applied, then what was dropped at a closed desk, then the entry in hand,
+  -- then what waits on the lane; number and received are computed from what was applied
   pub record IsBetween (id : DeskId) (i : IntakeValue A) (a : ApplierValue G A) : Type 0 where
     pub put : IsInStep i
     pub applied : List EntryValue

@@ -1,4 +1,4 @@
--- The value under the lock of a shared desk, and what its seats were told.
+-- The value under the lock of a shared desk, and what the calls of its seats reported.
 use Rattle.std.specs.Prelude.{◌≡◌, ℕ, ◌+◌, ◌-◌, ◌≤◌, Bool, if◌then◌else◌, List, length, Option, Some, None, count_by}
 use Rattle.rights_types.specs.Entries.{EntryValue}
 use Rattle.rights_types.specs.Chains.{moves_of, IsChain}
@@ -25,9 +25,9 @@ pub record KeptValue : Type 0 where
   pub admitted : List Bool
   pub clock_given : Bool
 
--- ---- what the lock keeps
+-- ---- the invariant of the lock
 
--- the four sums are the book's, of which each number is in its range
+-- the four sums are the book's, and each number in the book is in its range
 pub record MatchesBook (b : BookValue) (issued spent number received : ℕ) : Type 0 where
   pub issued_is : issued ≡ b.own.issued
   pub spent_is : spent ≡ b.own.spent
@@ -39,7 +39,7 @@ pub record MatchesBook (b : BookValue) (issued spent number received : ℕ) : Ty
 abbrev pub admitted_count : List Bool → ℕ
 admitted_count bs = count_by (λ b. b) bs
 
--- shards that are kept for the clock's seat: one, until it is given out
+-- shards that are reserved for the clock's seat: one, until it is given out
 abbrev pub for_clock : KeptValue → ℕ
 for_clock k = if k.clock_given then 0 else 1
 
@@ -47,12 +47,12 @@ for_clock k = if k.clock_given then 0 else 1
 abbrev pub seats_left : KeptValue → ℕ
 seats_left k = k.issued.left - for_clock k
 
--- seats that were given out, the clock's among them
+-- seats that were given out, the clock's included
 abbrev pub seats_given : KeptValue → ℕ
 seats_given k = SEATS + 1 - k.issued.left
 
--- each seat has a shard of two counters, each applier one of the two others, none has come back, and that of the
--- clock is there until it is given out
+-- each seat has a shard of two counters, each applier has one of the two others, none was returned, and that of the
+-- clock's seat is there until it is given out
 pub record HasShards (k : KeptValue) : Type 0 where
   pub seats : k.issued.left ≤ SEATS + for_clock k
   pub clock : for_clock k ≤ k.issued.left
@@ -65,12 +65,12 @@ pub record HasShards (k : KeptValue) : Type 0 where
   pub no_number_back : k.number.returned ≡ 0
   pub no_received_back : k.received.returned ≡ 0
 
--- there are lists of what the site applied of the other logs: its book stands for them, and the protocol's fact of one
--- site holds of its log and them
+-- for some lists of what the site applied of the other logs: its book has the sums of these lists, and the protocol's
+-- invariant of one site holds of its log and them
 abbrev pub KeepsProtocol : LedgerValue → Type 0
 KeepsProtocol l = (applied : ℕ → List EntryValue) × HasApplied applied l
 
--- whenever the lock is free
+-- what holds whenever the lock is free
 pub record IsKept (id : DeskId) (k : KeptValue) : Type 0 where
   pub site : k.desk.ledger.log.site ≡ id.site
   pub same_me : k.desk.ledger.book.me ≡ id.site
@@ -80,8 +80,8 @@ pub record IsKept (id : DeskId) (k : KeptValue) : Type 0 where
   pub has_shards : HasShards k
   pub protocol : KeepsProtocol k.desk.ledger
 
--- the log is a chain; the sums are those of the log and of what was applied; and what is held is issued, received
--- and taken back, less given and spent, so that this is not negative
+-- the log is a chain; the sums are those of the log and of what was applied; and what is held is what was issued,
+-- received and taken back, less what was given and spent, so it is not negative
 pub record IsInBalance (k : KeptValue) : Type 0 where
   pub chain : IsChain k.desk.ledger.log.site k.desk.ledger.log.entries
   pub issued_is : k.issued.sum ≡ issued (moves_of k.desk.ledger.log.entries)
@@ -92,17 +92,17 @@ pub record IsInBalance (k : KeptValue) : Type 0 where
       ≡ issued (moves_of k.desk.ledger.log.entries) + sum_sites (sites k.desk.ledger.book) (λ o. (peer k.desk.ledger.book o).received)
       + taken_back (moves_of k.desk.ledger.log.entries)
 
--- a counter to which so much was added
+-- a counter to which n was added
 abbrev pub raised : ShardedCounterValue → ℕ → ShardedCounterValue
 raised t n = record t { sum = t.sum + n }
 
--- .. of which one shard more was given out
+-- a counter of which one more shard was given out
 abbrev pub one_less : ShardedCounterValue → ShardedCounterValue → Type 0
 one_less old new = (new ≡ record old { left = new.left }) × (new.left + 1 ≡ old.left)
 
 -- ---- seats
 
--- what a seat was told
+-- what the calls of a seat reported
 pub record SeatValue : Type 0 where
   pub issued : ℕ
   pub spent : ℕ
@@ -117,7 +117,7 @@ told_issued s n = record s { issued = s.issued + n }
 abbrev pub told_served : SeatValue → ℕ → SeatValue
 told_served s n = record s { served = s.served + n }
 
--- what is spent by a spend that got this answer
+-- what is spent by a spend with this result
 abbrev pub spent_by : ℕ → Spending → ℕ
 spent_by n (Spent number) = n
 spent_by n (Queued ticket) = 0
@@ -125,7 +125,7 @@ spent_by n (Queued ticket) = 0
 abbrev pub told_spent : SeatValue → ℕ → Spending → SeatValue
 told_spent s n answer = record s { spent = s.spent + spent_by n answer }
 
--- ---- what a serve answers, with the amount
+-- ---- the result of a serve, with the amount
 
 abbrev pub without_amount : Option (ℕ × ℕ × ℕ) → Option (ℕ × ℕ)
 without_amount None = None

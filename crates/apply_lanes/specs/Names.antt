@@ -1,4 +1,4 @@
--- What a desk that threads share is known by.
+-- What identifies a desk that threads share.
 use Rattle.std.specs.Prelude.{◌≡◌, ℕ, ◌+◌, []}
 use Rattle.rights_book.specs.Books.{sites}
 use Rattle.rights_book.specs.StandsFor.{StandsForApplied}
@@ -15,7 +15,7 @@ pub record DeskId : Type 0 where
   pub site : ℕ
   pub sites : ℕ
 
--- of a desk with these blanks
+-- the identity of a desk with these blanks
 abbrev pub id_of : DeskValue → Blanks → DeskId
 id_of d blanks = record {
   issued = blanks.issued.name;
@@ -26,14 +26,14 @@ id_of d blanks = record {
   sites = sites d.ledger.book;
 }
 
--- a part for each seat, the clock's among them, and each applier, and one for the desk
+-- one part for each seat, the clock's included, or for each applier, and one for the desk
 pub record AreBlank (blanks : Blanks) : Type 0 where
   pub issued : blanks.issued.parts ≡ SEATS + 2
   pub spent : blanks.spent.parts ≡ SEATS + 2
   pub number : blanks.number.parts ≡ APPLIERS + 1
   pub received : blanks.received.parts ≡ APPLIERS + 1
 
--- it wrote nothing and applied nothing
+-- the desk wrote nothing and applied nothing
 pub record IsUnused (d : DeskValue) : Type 0 where
   pub nothing_written : d.ledger.log.entries ≡ []
   pub nothing_applied : StandsForApplied (λ o. []) d.ledger.book

@@ -14,7 +14,7 @@ use Rattle.apply_lanes.specs.declared.stopping.Parts.{Parts}
 use Rattle.apply_lanes.specs.declared.stopping.StopError.{StopError}
 use Rattle.apply_lanes.specs.declared.stopping.StopError.TheVariants.{SeatMissing, ApplierMissing}
 
--- what the seats were told, in sum
+-- what the calls of the seats reported, in total
 abbrev pub all_issued : List SeatValue → ℕ
 all_issued seats = sum_by (λ (s : SeatValue). s.issued) seats
 
@@ -24,14 +24,14 @@ all_spent seats = sum_by (λ (s : SeatValue). s.spent) seats
 abbrev pub all_served : List SeatValue → ℕ
 all_served seats = sum_by (λ (s : SeatValue). s.served) seats
 
--- what the appliers told, in sum
+-- what the appliers reported, in total
 abbrev pub all_numbers : List AppliedValue → ℕ
 all_numbers applied = sum_by (λ (a : AppliedValue). a.number) applied
 
 abbrev pub all_received : List AppliedValue → ℕ
 all_received applied = sum_by (λ (a : AppliedValue). a.received) applied
 
--- a report says what the seats and appliers were told, and is in balance
+-- a report has what the calls of the seats and the appliers reported, and is in balance
 pub record Reports (seats : List SeatValue) (shares : List AppliedValue) (r : Report) : Type 0 where
   pub told_issued : r.told_issued ≡ all_issued seats
   pub told_spent : r.told_spent ≡ all_spent seats
@@ -42,14 +42,14 @@ pub record Reports (seats : List SeatValue) (shares : List AppliedValue) (r : Re
   pub received : r.received ≡ all_received shares
   pub held : r.held + r.given + r.spent ≡ r.issued + r.received + r.back
 
--- .. and of what the desk gave, took back and holds, what the desk says
+-- and what it says was given, taken back and is held is what the desk says
 pub record ReportsDesk (d : DeskValue) (r : Report) : Type 0 where
   pub given : r.given ≡ out (moves_of d.ledger.log.entries)
   pub back : r.back ≡ taken_back (moves_of d.ledger.log.entries)
   pub held : r.held ≡ held_by d.ledger.book
 
--- what is missing of all that was given out, where so many seats and appliers are there; the clock's seat is one of
--- the seats
+-- what is missing of all that was given out, if this number of seats and appliers is there; the clock's seat counts
+-- among the seats
 abbrev pub missing_of : KeptValue → ℕ → ℕ → Option Missing
 missing_of k seats appliers =
     if not (seats == seats_given k) then Some Seat
@@ -60,7 +60,7 @@ abbrev pub missing_by : {D A : Type 0} → StopError D A → Missing
 missing_by (SeatMissing parts) = Seat
 missing_by (ApplierMissing parts) = Applier
 
--- the parts that a refusal hands back
+-- the parts that a refusal returns
 abbrev pub parts_of : {D A : Type 0} → StopError D A → Parts D A
 parts_of (SeatMissing parts) = parts
 parts_of (ApplierMissing parts) = parts

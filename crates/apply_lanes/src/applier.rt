@@ -16,20 +16,20 @@ use std::sync::Wait;
 use std::time::Clock;
 use thread_parts::{Item, Outlet, Shard};
 
-/// Why a step of an applier failed, in the order in which the causes are looked for.
+/// Why a step of an applier failed, in the order in which the causes are checked.
 #[derive(Clone, Copy, Debug, PartialEq, Eq)]
 pub enum StepError {
-    /// The lane's other end is gone, and nothing waits on it.
+    /// The lane's other end is gone, and no item waits.
     LaneClosed,
-    /// The entry is of another site's log; or the desk's number of this log is not the one before the entry,
-    /// or the desk has this log closed. The entry stays in hand.
+    /// The entry is from another site's log; or the desk's number of this log is not the one before the entry, or the
+    /// desk has this log closed. The entry stays in hand.
     OutOfStep,
-    /// A request for memory was refused. The entry stays in hand, and the next step tries it again.
+    /// A memory request was refused. The entry stays in hand, and the next step tries it again.
     OutOfMemory,
 }
 
-/// Takes the entries of one log from a lane, and applies them at a shared desk, one under each lock. Where
-/// the desk has closed it drops them, and all that come after.
+/// Takes the entries of one log from a lane, and applies them at a shared desk, one each time it holds the lock. Once
+/// it finds the desk closed, it drops that entry and all later ones.
 #[derive(Drop)]
 pub struct Applier<D: DeskNames, G: Gate, A: Allocator = Global> {
     pub(crate) origin: SiteId,
@@ -57,8 +57,8 @@ impl<D: DeskNames, G: Gate, A: Allocator> Applier<D, G, A> {
     ghost use Rattle.apply_lanes.specs.Kepts.{IsKept};
     ghost use Rattle.apply_lanes.specs.Steps.{StepsBy, apply_change};
 
-    /// Applies the entry in hand, under the lock whose value this is; at a closed desk it is dropped. A
-    /// refusal leaves it in hand, and changes nothing.
+    /// Applies the entry in hand to the value under the lock; at a closed desk the entry is dropped. Errors, in this
+    /// order: `OutOfStep`, `OutOfMemory`. An error leaves the entry in hand, and changes nothing.
     pub fn apply_in<B: Allocator + Copy>(&mut self, kept: &mut Kept<D, B>) -> Result<(), StepError>
         requires { IsSome self.old.hand }
         ensures refused { (e : EntryValue) → self.old.hand ≡ Some e → StepRefuses (step_fault self.old kept.old.desk e) result }
@@ -85,7 +85,7 @@ impl<D: DeskNames, G: Gate, A: Allocator> Applier<D, G, A> {
             return Ok(());
         }
         if entry.origin() != self.origin {
-            // The lane is another site's.
+            // The lane is that of another site.
             return Err(StepError::OutOfStep);
         }
         if kept.desk.closed(self.origin) || kept.desk.applied(self.origin) != entry.prev() {
@@ -100,14 +100,14 @@ impl<D: DeskNames, G: Gate, A: Allocator> Applier<D, G, A> {
         }
     }
 
-    // Whether the desk had closed when the applier came to it, now or before.
+    // Whether the desk had closed when the applier reached it, now or before.
     fn is_late<B: Allocator + Copy>(&self, kept: &Kept<D, B>) -> bool
         ensures { result ≡ is_late self.now kept.now.desk }
     {
         self.dropping || kept.desk.log().closed()
     }
 
-    // Has the next entry in hand. False where End was taken.
+    // Takes the next entry in hand, unless one is there. `false` if End was taken.
     fn fill<R: Wait>(&mut self, rt: &R) -> Result<bool, StepError>
         ensures ok { IfOk result (λ more. Fills self.old more self.new) }
         ensures hand { IfOk result (λ more. more ≡ true → IsSome self.new.hand) }
@@ -143,8 +143,8 @@ impl<D: DeskNames, G: Gate, A: Allocator> Applier<D, G, A> {
         self.gate.before_apply(rt, self.origin);
     }
 
-    /// Takes the next entry where none is in hand, passes the gate, and applies or drops it under the lock.
-    /// False where End was taken.
+    /// Takes the next entry if none is in hand, passes the gate, and applies or drops the entry under the lock.
+    /// `false` if End was taken. Errors, in this order: `LaneClosed`; those of `apply_in`.
     pub fn step<R: Wait + Clock, B: Allocator + Copy>(
         &mut self,
         rt: &R,
@@ -165,7 +165,8 @@ impl<D: DeskNames, G: Gate, A: Allocator> Applier<D, G, A> {
         Ok(true)
     }
 
-    /// Steps until End was taken, and answers how many entries were applied or dropped.
+    /// Steps until End was taken, and returns how many entries were applied or dropped. Stops at the first step that
+    /// fails.
     pub fn run<R: Wait + Clock, B: Allocator + Copy>(
         &mut self,
         rt: &R,
@@ -182,13 +183,13 @@ impl<D: DeskNames, G: Gate, A: Allocator> Applier<D, G, A> {
                 return Ok(count);
             }
         }
-        // No log has as many entries.
+        // No log has this many entries.
         for _ in rt.forever() {}
         unreachable!()
     }
 }
 
-/// What an applier told, once it is done.
+/// What an applier reports, once it is done.
 #[derive(Drop)]
 pub struct Applied<D: DeskNames> {
     origin: SiteId,
@@ -205,21 +206,21 @@ impl<D: DeskNames> Model for Applied<D> {
 }
 
 impl<D: DeskNames> Applied<D> {
-    /// Whose log it applied.
+    /// The site whose log it applied.
     pub fn origin(&self) -> SiteId
         ensures { result ≡ self.now.origin }
     {
         self.origin
     }
 
-    /// The number of the last entry that it applied, 0 where there was none.
+    /// The number of the last entry that it applied, or 0 if it applied none.
     pub fn number(&self) -> u64
         ensures { result ≡ self.now.number }
     {
         self.number.added()
     }
 
-    /// What the entries that it applied gave to the site.
+    /// The rights that the entries that it applied gave to the site.
     pub fn received(&self) -> u64
         ensures { result ≡ self.now.received }
     {

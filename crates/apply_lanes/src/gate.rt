@@ -5,13 +5,14 @@ use rights_types::SiteId;
 use std::sync::Wait;
 use std::time::Clock;
 
-/// A place on an applier's way, between the entry that it took and the lock under which it applies it. The
-/// lock is not held there.
+/// A point that an applier passes after it took an entry and before it takes the lock under which it applies the
+/// entry. The lock is not held there.
 pub trait Gate {
-    /// What a gate becomes as the applier of this origin passes it. Each step of an applier says that it did.
+    /// The effect on a gate when the applier of this origin passes it. The contract of an applier's step says that it
+    /// did.
     ghost passes: { Self → ℕ → Self → Type 0 };
 
-    /// The applier of this origin is about to take the lock.
+    /// Called when the applier of this origin is about to take the lock.
     fn before_apply<R: Wait + Clock>(&mut self, rt: &R, origin: SiteId)
         ensures { passes self.old origin self.new };
 }

@@ -32,8 +32,8 @@ use thread_parts::{DeskView, Outlet, Shard, ShardedCounter};
 mod lines;
 mod requests;
 
-/// A desk under its lock. It is met behind the guard of `SharedDesk::lock` alone. Its calls are those of the
-/// desk, and answer as these do; what is issued and spent counts for a seat besides.
+/// A desk under its lock, reached only through the guard of `SharedDesk::lock`. Its calls are those of the desk, with
+/// the same results; in addition, what is issued and spent is counted for a seat.
 #[derive(Drop)]
 pub struct Kept<D: DeskNames, A: Allocator = Global> {
     pub(crate) desk: Desk<A>,
@@ -41,9 +41,9 @@ pub struct Kept<D: DeskNames, A: Allocator = Global> {
     pub(crate) spent: ShardedCounter<SpentBy<D>>,
     pub(crate) number: ShardedCounter<NumberOf<D>>,
     pub(crate) received: ShardedCounter<ReceivedBy<D>>,
-    // Whether an applier was given out, of each site's log.
+    // For each site's log, whether an applier was given out.
     pub(crate) admitted: [bool; 16],
-    // Whether the clock's seat was given out. Until then a shard of `issued` and of `spent` is kept for it.
+    // Whether the clock's seat was given out. Until then one shard of `issued` and one of `spent` is reserved for it.
     pub(crate) clock_given: bool,
 }
 
@@ -57,18 +57,18 @@ impl<D: DeskNames, A: Allocator> Model for Kept<D, A> {
     ghost invariant = { λ k. IsKept D.id (record { desk = k.desk; issued = k.issued; spent = k.spent; number = k.number; received = k.received; admitted = k.admitted; clock_given = k.clock_given }) };
 }
 
-/// Why an origin gets no applier, in the order in which the causes are looked for.
+/// Why an origin gets no applier, in the order in which the causes are checked.
 #[derive(Clone, Copy, Debug, PartialEq, Eq)]
 pub enum AdmitCause {
     /// The system does not have that site.
     NoSuchSite,
     /// It is the desk's own site.
     SameSite,
-    /// An applier of that origin was given out.
+    /// An applier of that origin was given out already.
     Taken,
 }
 
-/// An origin got no applier. What was handed over comes back.
+/// An origin gets no applier. The outlet and the gate are returned.
 #[derive(Drop)]
 pub struct AdmitError<G: Gate, A: Allocator = Global> {
     pub cause: AdmitCause,
@@ -76,7 +76,7 @@ pub struct AdmitError<G: Gate, A: Allocator = Global> {
     pub gate: G,
 }
 
-/// What is not back where a desk is to stop, in the order in which it is looked for.
+/// What is missing when a desk is to stop, in the order in which it is checked.
 #[derive(Clone, Copy, Debug, PartialEq, Eq)]
 pub(crate) enum Missing {
     Seat,
@@ -90,7 +90,7 @@ impl<D: DeskNames, A: Allocator + Copy> Kept<D, A> {
     ghost use Rattle.apply_lanes.specs.Kepts.{KeptValue, IsKept, IsInBalance, raised};
     ghost use Rattle.apply_lanes.specs.Stops.{missing_of};
 
-    /// A fresh desk, which nobody has a seat at.
+    /// A new desk, with no seat given out.
     pub(crate) fn open(desk: Desk<A>, blanks: Blanks) -> Kept<D, A>
         requires id { D.id ≡ id_of desk blanks }
         requires blanks { AreBlank blanks }
@@ -117,7 +117,7 @@ impl<D: DeskNames, A: Allocator + Copy> Kept<D, A> {
         }
     }
 
-    /// The desk, lent for reading. Whenever the lock is free, it is in balance.
+    /// The desk, for reading. Whenever the lock is free, it is in balance.
     pub fn desk(&self) -> &Desk<A>
         ensures value { result.now ≡ self.now.desk }
         ensures balance { IsInBalance self.now }
@@ -134,7 +134,7 @@ impl<D: DeskNames, A: Allocator + Copy> Kept<D, A> {
         desk
     }
 
-    /// What the desk looks like now.
+    /// A snapshot of the desk.
     pub fn view(&self) -> DeskView
         ensures { IsViewOf self.now.desk result }
     {
@@ -153,7 +153,7 @@ impl<D: DeskNames, A: Allocator + Copy> Kept<D, A> {
         }
     }
 
-    /// A new seat, if there is one left beside the clock's.
+    /// A new seat. `SeatsFull` if none is left besides the clock's.
     pub(crate) fn seat(&mut self) -> Result<Seat<D>, SeatsFull>
         ensures seat { GivesSeat self.old result self.new }
         ensures before { IsKept D.id self.old }
@@ -166,7 +166,7 @@ impl<D: DeskNames, A: Allocator + Copy> Kept<D, A> {
         Ok(new_seat(&mut self.issued, &mut self.spent))
     }
 
-    /// The clock's seat, if it was not given out yet. It is none of those that `seat` gives.
+    /// The clock's seat. `SeatsFull` if it was given out already. It does not count among those that `seat` gives out.
     pub(crate) fn clock_seat(&mut self) -> Result<Seat<D>, SeatsFull>
         ensures seat { GivesClockSeat self.old result self.new }
         ensures before { IsKept D.id self.old }
@@ -179,7 +179,7 @@ impl<D: DeskNames, A: Allocator + Copy> Kept<D, A> {
         Ok(new_seat(&mut self.issued, &mut self.spent))
     }
 
-    // The shards of the applier of that origin.
+    // The shards for the applier of that origin.
     fn admit(&mut self, origin: SiteId) -> Result<Admission<D>, AdmitCause>
         ensures refused { MatchResult result (λ _. Admits D.id self.old.admitted origin None) (λ fault. Admits D.id self.old.admitted origin (Some fault)) }
         ensures ok { IfOk result (λ p. (p.0 ≡ 0) × (p.1 ≡ 0) × (self.new.admitted ≡ set_site self.old.admitted origin true)) }
@@ -209,7 +209,7 @@ impl<D: DeskNames, A: Allocator + Copy> Kept<D, A> {
         Ok((number, received))
     }
 
-    /// The applier of the log of that origin, which comes by this lane.
+    /// The applier of that origin's log, whose entries arrive on this lane.
     pub(crate) fn applier<G: Gate, B: Allocator>(
         &mut self,
         origin: SiteId,
@@ -242,7 +242,7 @@ impl<D: DeskNames, A: Allocator + Copy> Kept<D, A> {
         }
     }
 
-    /// What is missing of all that was given out, where so many seats and appliers are there.
+    /// What is missing of all that was given out, if this number of seats and appliers is there.
     pub(crate) fn missing(&self, seats: usize, appliers: usize) -> Option<Missing>
         ensures missing { result ≡ missing_of self.now seats appliers }
         ensures valid { IsKept D.id self.now }
@@ -290,7 +290,7 @@ impl<D: DeskNames, A: Allocator + Copy> Kept<D, A> {
     }
 }
 
-// A new seat, by one shard of each counter.
+// A new seat, with one shard of each counter.
 fn new_seat<D: DeskNames>(
     issued: &mut ShardedCounter<IssuedBy<D>>,
     spent: &mut ShardedCounter<SpentBy<D>>,

@@ -1,4 +1,4 @@
-//! What the two ends of one lane say of each other, and what the calls at all desks of a system add up to.
+//! What the two ends of one lane say about each other, and what follows for the calls at all desks of a system.
 ghost use Rattle.std.specs.Prelude.{◌≡◌, true, false};
 ghost use Rattle.thread_parts.specs.Items.{StartsWith};
 ghost use Rattle.apply_lanes.specs.Between.{IsBetween};
@@ -11,9 +11,10 @@ use link_intake::Intake;
 use std::alloc::Allocator;
 pub use thread_parts::ends_taken_in;
 
-/// Given the intake and the applier of one lane, what the applier took is a prefix of what the intake put,
-/// and all of it where End was taken. The applier comes back as it was. In whatever schedule of their threads, between
-/// two calls of each: what the buffer put is what was applied, dropped, is in hand, and waits on the lane, in this order.
+/// Given the intake and the applier of one lane, what the applier took is a prefix of what the intake put, and equal
+/// to it if End was taken. The applier is returned unchanged. In every schedule of their threads, between two calls
+/// of each: what the buffer delivered is what was applied, was dropped, is in hand, and waits on the lane, in this
+/// order.
 pub fn taken_in<D: DeskNames, G: Gate, A: Allocator>(
     intake: Intake<A>,
     mut applier: Applier<D, G, A>,
@@ -29,8 +30,8 @@ pub fn taken_in<D: DeskNames, G: Gate, A: Allocator>(
 }
 
 /// The desks of a system's sites, each under its lock, unused at first. In every schedule of calls under these locks,
-/// whichever thread of whichever site makes each, the headline and retirement hold whenever no lock is held. The
-/// premise: an entry that a site applies stands in its origin's log by then, which has one writer.
+/// by any threads of any sites, the headline and retirement hold whenever no lock is held. The premise: an entry that
+/// a site applies is already in its origin's log, which has one writer.
 pub fn every_schedule()
     ensures { EverySchedule }
 {}

@@ -1,17 +1,17 @@
-//! What a shared desk is known by, and the names of its four ledgers.
+//! What identifies a shared desk, and the names of its four ledgers.
 ghost use Rattle.apply_lanes.specs.Names.{DeskId};
 
 use std::marker::{Brand, PhantomData};
 use std::sync::ledger::{Blank, Ledger};
 
-/// Seats of one shared desk, at most, beside that of its site's clock.
+/// The greatest number of seats of one shared desk, besides that of its site's clock.
 pub const SEATS: u64 = 64;
 
-/// Appliers of one shared desk, at most: one for each site that a system can have.
+/// The greatest number of appliers of one shared desk: one for each site that a system can have.
 pub const APPLIERS: u64 = 16;
 
-/// Names one shared desk: its seats and appliers are those of a type. A program picks it where it calls a
-/// function over all names with `Brand`, by the desk and the blanks that it passes.
+/// Names one shared desk: its seats and appliers have types with this parameter. A program picks it when it calls a
+/// function over all names through `Brand`, with the desk and the blanks that it passes.
 pub trait DeskNames {
     ghost id: { DeskId };
 }
@@ -20,8 +20,8 @@ impl DeskNames for Brand {
     ghost id = { record { issued = 0; spent = 0; number = 0; received = 0; site = 0; sites = 0 } };
 }
 
-/// What the names of four ledgers are written on: of the rights issued, and spent, by seats, and of the
-/// numbers applied, and the rights received, by appliers.
+/// What the names of the four ledgers are written on: rights issued and spent by seats, numbers applied and rights
+/// received by appliers.
 #[derive(Drop)]
 pub struct Blanks {
     pub issued: Blank,
@@ -33,7 +33,7 @@ pub struct Blanks {
 impl Blanks {
     ghost use Rattle.apply_lanes.specs.Names.{AreBlank};
 
-    /// Blanks for one desk.
+    /// The blanks of one desk.
     pub fn new() -> Blanks
         ensures { AreBlank result }
     {

@@ -4,8 +4,8 @@ use crate::names::{DeskNames, IssuedBy, SpentBy};
 use std::marker::Model;
 use thread_parts::Shard;
 
-/// One caller's place at a shared desk: what it issued and spent there is counted, and all seats together
-/// make the desk's sums.
+/// One caller's account at a shared desk: what it issued and spent there is counted, and all seats together have the
+/// desk's sums.
 #[derive(Drop)]
 pub struct Seat<D: DeskNames> {
     pub(crate) issued: Shard<IssuedBy<D>>,
@@ -14,7 +14,7 @@ pub struct Seat<D: DeskNames> {
     pub(crate) served: u64,
 }
 
-/// All seats of the desk are given out; of the clock's, that it was given before.
+/// All seats of the desk were given out; or, for the clock's seat, it was given out before.
 #[derive(Clone, Copy, Debug, PartialEq, Eq)]
 pub struct SeatsFull;
 
@@ -32,21 +32,21 @@ impl<D: DeskNames> Model for Seat<D> {
 impl<D: DeskNames> Seat<D> {
     ghost use Rattle.std.specs.Prelude.{◌≡◌};
 
-    /// The rights that its calls of `issue` were told.
+    /// The rights that its calls of `issue` reported as issued.
     pub fn told_issued(&self) -> u64
         ensures { result ≡ self.now.issued }
     {
         self.issued.added()
     }
 
-    /// The rights that its calls of `spend` were told to be spent.
+    /// The rights that its calls of `spend` reported as spent.
     pub fn told_spent(&self) -> u64
         ensures { result ≡ self.now.spent }
     {
         self.spent
     }
 
-    /// The rights that its calls of `serve` were told to be spent.
+    /// The rights that its calls of `serve` reported as spent.
     pub fn told_served(&self) -> u64
         ensures { result ≡ self.now.served }
     {

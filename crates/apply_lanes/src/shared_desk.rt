@@ -23,7 +23,7 @@ pub struct SharedDesk<D: DeskNames, A: Allocator = Global> {
 }
 
 impl<D: DeskNames, A: Allocator + Copy> SharedDesk<D, A> {
-    /// Shares a desk with an empty log that applied nothing. The names of its ledgers are written on the
+    /// Shares a desk whose log is empty and that applied nothing. The names of its ledgers are written on the
     /// blanks.
     pub fn new(desk: Desk<A>, blanks: Blanks) -> SharedDesk<D, A>
         requires id { D.id ≡ id_of desk blanks }
@@ -35,30 +35,33 @@ impl<D: DeskNames, A: Allocator + Copy> SharedDesk<D, A> {
         }
     }
 
-    /// Waits until no other thread has the desk, and gives it until the guard is dropped.
+    /// Waits until no other thread holds the desk, and holds it until the guard is dropped.
     pub fn lock<'a, R: Wait>(&'a self, rt: &R) -> MutexGuard<'a, Kept<D, A>> {
         self.lock.lock(rt)
     }
 
-    /// A new seat, which was told nothing yet: one of at most `SEATS`, beside the clock's.
+    /// A new seat, whose calls have reported nothing yet: one of at most `SEATS`, besides the clock's.
+    /// `SeatsFull` if all of them were given out.
     pub fn seat<R: Wait>(&self, rt: &R) -> Result<Seat<D>, SeatsFull>
         ensures told { IfOk result (λ s. s ≡ told_nothing) }
         ensures seat { (old : KeptValue) × (new : KeptValue) × IsKept D.id old × IsKept D.id new × GivesSeat old result new }
     {
-        // The desk decides, under its lock.
+        // The decision is the desk's, under its lock.
         self.lock(rt).seat()
     }
 
-    /// The seat of the site's clock, which was told nothing yet. It is given once, and none of the `SEATS` others.
+    /// The seat of the site's clock, whose calls have reported nothing yet. It is given out once, besides the `SEATS`
+    /// others; then `SeatsFull`.
     pub fn clock_seat<R: Wait>(&self, rt: &R) -> Result<Seat<D>, SeatsFull>
         ensures told { IfOk result (λ s. s ≡ told_nothing) }
         ensures seat { (old : KeptValue) × (new : KeptValue) × IsKept D.id old × IsKept D.id new × GivesClockSeat old result new }
     {
-        // The desk decides, under its lock.
+        // The decision is the desk's, under its lock.
         self.lock(rt).clock_seat()
     }
 
-    /// The applier of the log of that origin, which comes by this lane. It passes the gate before each lock.
+    /// The applier of that origin's log, whose entries arrive on this lane. It passes the gate each time before it
+    /// takes the lock. The cause of a refusal is in the error.
     pub fn applier<G: Gate, B: Allocator, R: Wait>(
         &self,
         rt: &R,
@@ -72,7 +75,7 @@ impl<D: DeskNames, A: Allocator + Copy> SharedDesk<D, A> {
         ensures err { IfErr result (λ e. (kept : KeptValue) × IsKept D.id kept × Admits D.id kept.admitted origin (Some e.cause)) }
         ensures back { IfErr result (λ e. (e.outlet ≡ outlet) × (e.gate ≡ gate)) }
     {
-        // The desk decides, under its lock.
+        // The decision is the desk's, under its lock.
         self.lock(rt).applier(origin, outlet, gate)
     }
 }

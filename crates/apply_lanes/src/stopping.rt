@@ -15,7 +15,7 @@ use std::alloc::{Allocator, Global};
 use std::sync::Mutex;
 use thread_parts::ShardedCounter;
 
-/// A shared desk, with all that was given out of it.
+/// A shared desk, with everything that was given out for it.
 #[derive(Drop)]
 pub struct Parts<D: DeskNames, A: Allocator = Global> {
     pub desk: SharedDesk<D, A>,
@@ -23,7 +23,7 @@ pub struct Parts<D: DeskNames, A: Allocator = Global> {
     pub applied: Vec<Applied<D>, A>,
 }
 
-/// Why a desk does not stop, in the order in which the causes are looked for. All parts come back.
+/// Why a desk does not stop, in the order in which the causes are checked. All parts are returned.
 #[derive(Drop)]
 pub enum StopError<D: DeskNames, A: Allocator = Global> {
     /// A seat was given out that is not among the parts.
@@ -32,7 +32,7 @@ pub enum StopError<D: DeskNames, A: Allocator = Global> {
     ApplierMissing(Parts<D, A>),
 }
 
-/// What a desk did, and what its seats and appliers were told.
+/// What a desk did, and what its seats and appliers reported.
 #[derive(Clone, Copy, Debug, PartialEq, Eq)]
 pub struct Report {
     pub issued: u64,
@@ -48,7 +48,7 @@ pub struct Report {
     pub applied: u64,
 }
 
-/// Ends a desk whose seats and appliers are all there.
+/// Stops a desk whose seats and appliers are all there. An error returns the desk unchanged, under a lock.
 pub fn stop<D: DeskNames, A: Allocator + Copy>(
     parts: Parts<D, A>,
 ) -> Result<Report, StopError<D, A>>
@@ -65,14 +65,14 @@ pub fn stop<D: DeskNames, A: Allocator + Copy>(
         applied,
     } = parts;
     let SharedDesk { lock } = desk;
-    // The desk decides. What it refuses goes back under a lock as it is.
+    // The desk decides. If it refuses, it goes back under a lock unchanged.
     match end(lock.into_inner(), seats, applied) {
         Ok(report) => Ok(report),
         Err(unfinished) => Err(unfinished.again()),
     }
 }
 
-// A desk that does not stop, out of its lock.
+// A desk that does not stop, taken out of its lock.
 struct Unfinished<D: DeskNames, A: Allocator> {
     missing: Missing,
     kept: Kept<D, A>,
@@ -81,7 +81,7 @@ struct Unfinished<D: DeskNames, A: Allocator> {
 }
 
 impl<D: DeskNames, A: Allocator + Copy> Unfinished<D, A> {
-    // The refusal, with the desk under a lock again.
+    // The refusal, with the desk back under a lock.
     fn again(self) -> StopError<D, A>
         ensures missing { missing_by result ≡ self.missing }
         ensures parts { ((parts_of result).seats ≡ self.seats) × ((parts_of result).applied ≡ self.applied) }
@@ -106,8 +106,8 @@ impl<D: DeskNames, A: Allocator + Copy> Unfinished<D, A> {
     }
 }
 
-// What the desk did, and all seats and appliers were told. Where one of them is missing the desk stays as it
-// is.
+// What the desk did, and what all seats and appliers reported. If one of them is missing, the desk is returned
+// unchanged.
 fn end<D: DeskNames, A: Allocator + Copy>(
     kept: Kept<D, A>,
     seats: Vec<Seat<D>, A>,
@@ -130,7 +130,7 @@ fn end<D: DeskNames, A: Allocator + Copy>(
     }
 }
 
-// What the desk did, and all seats and appliers were told.
+// What the desk did, and what all seats and appliers reported.
 fn settle<D: DeskNames, A: Allocator + Copy>(
     kept: Kept<D, A>,
     seats: Vec<Seat<D>, A>,
@@ -166,7 +166,7 @@ fn settle<D: DeskNames, A: Allocator + Copy>(
     }
 }
 
-// Where all seats are there, the sums are what they were told: issued, spent and served.
+// If all seats are there, the sums are what they reported: issued, spent and served.
 fn settle_seats<D: DeskNames, A: Allocator>(
     mut issued: ShardedCounter<IssuedBy<D>>,
     mut spent: ShardedCounter<SpentBy<D>>,
@@ -184,7 +184,7 @@ fn settle_seats<D: DeskNames, A: Allocator>(
     told
 }
 
-// Where all appliers are there, the sums are what they told. Answers that of the numbers.
+// If all appliers are there, the sums are what they reported. Returns the sum of the numbers.
 fn settle_applied<D: DeskNames, A: Allocator>(
     mut number: ShardedCounter<NumberOf<D>>,
     mut received: ShardedCounter<ReceivedBy<D>>,
@@ -201,7 +201,7 @@ fn settle_applied<D: DeskNames, A: Allocator>(
     number.sum()
 }
 
-// Takes in the shards of all seats, and answers what they were told: issued, spent and served.
+// Takes back the shards of all seats, and returns what they reported: issued, spent and served.
 fn collect_seats<D: DeskNames, A: Allocator>(
     issued: &mut ShardedCounter<IssuedBy<D>>,
     spent: &mut ShardedCounter<SpentBy<D>>,
@@ -230,7 +230,7 @@ fn collect_seats<D: DeskNames, A: Allocator>(
     (told_issued, told_spent, told_served)
 }
 
-// Takes in the shards of all appliers.
+// Takes back the shards of all appliers.
 fn collect_applied<D: DeskNames, A: Allocator>(
     number: &mut ShardedCounter<NumberOf<D>>,
     received: &mut ShardedCounter<ReceivedBy<D>>,

@@ -1,4 +1,4 @@
-//! How many offers a subscriber buffer takes in a second.
+//! How many offers a subscriber buffer takes per second.
 
 mod windows;
 
@@ -9,10 +9,10 @@ use std::rt::Clock;
 use std::time::Instant;
 use sub_buffer::{SubBuffer, Verdict};
 
-// The best of so many runs is told.
+// The number of runs, of which the best is reported.
 const RUNS: u64 = 5;
 
-/// Prints the rates of entries in order, backwards within windows of 64, and each three times.
+/// Prints the rates of entries that come in order, backwards within windows of 64, and each three times.
 pub(crate) fn measure_all<R: Clock + Print + AllocGlobal>(rt: &R) -> Option<()> {
     measure(rt, "in order", Order::Forward)?;
     measure(rt, "backwards by 64", Order::Backward)?;
@@ -29,7 +29,7 @@ fn measure<R: Clock + Print + AllocGlobal>(rt: &R, name: &str, order: Order) -> 
     println!(rt; "buffer {name}: {rate} offers/s ({count} offers)").ok()
 }
 
-// The nanoseconds that the offers of all windows take, without the making of their entries.
+// The nanoseconds that the offers of all windows take, without building their entries.
 fn offer_time<R: Clock + AllocGlobal>(rt: &R, order: Order) -> Option<u128> {
     let mut buffer = SubBuffer::new(rt.alloc(), SiteId::known(2), SiteId::known(1)).ok()?;
     let mut nanos: u128 = 0;
@@ -53,7 +53,7 @@ fn offer_all(buffer: &mut SubBuffer, entries: Vec<Entry>) {
     }
 }
 
-// Delivers what has become next.
+// Delivers the entries that are ready.
 fn deliver(buffer: &mut SubBuffer) {
     for _ in 0..64u8 {
         if buffer.pop_ready().is_none() {

@@ -10,8 +10,8 @@ use std::alloc::Global;
 use std::rt::Clock;
 use std::time::Instant;
 
-// Each load is gone over so many times in a run, and the best of so many runs is told. The runs are
-// short, so that some of them are not disturbed where other programs run too.
+// How often each load is repeated in a run, and the number of runs, of which the best is reported. The runs are
+// short, so that some of them are not disturbed when other programs run too.
 const ROUNDS: u64 = 1_000;
 
 const RUNS: u64 = 100;

@@ -1,4 +1,4 @@
-//! How fast a desk spends, gives, grants, applies and takes back, beside a log alone.
+//! How fast a desk spends, gives, grants, applies and takes back, compared with a log alone.
 
 mod loads;
 mod threads;
@@ -16,23 +16,23 @@ use std::sync::Wait;
 use std::thread::Threads;
 use std::time::Instant;
 
-// The best of so many runs is told.
+// The number of runs, of which the best is reported.
 const RUNS: u64 = 5;
 
-// Calls of a run.
+// The number of calls of a run.
 const CALLS: u64 = 1_000_000;
 
-// Entries that are made before a run and applied in it.
+// The number of entries that are built before a run and applied in it.
 const ENTRIES: u64 = 100_000;
 
-// What a desk is asked for, over and over.
+// The call of a desk that is measured.
 #[derive(Clone, Copy)]
 enum Load<'a> {
     Spends,
     Gifts,
     Grants,
     Entries(&'a [Entry]),
-    // The closing entry of a site, after so many gifts to it.
+    // Applying the closing entry of a site, after this number of gifts to it.
     Closing(&'a [Entry]),
 }
 
@@ -61,7 +61,7 @@ impl Load<'_> {
         Some(start.elapsed(rt).ok()?.as_nanos())
     }
 
-    // The time at a desk of its own.
+    // The time at a new desk.
     fn time<R: Clock + AllocGlobal>(&self, rt: &R) -> Option<u128> {
         let mut desk = opened(rt.alloc())?;
         self.time_at(rt, &mut desk)
@@ -96,9 +96,9 @@ fn print_rate<R: Print>(rt: &R, what: &str, count: u64, nanos: u128) -> Option<(
     println!(rt; "desk: {rate} {what}/s").ok()
 }
 
-// A site gave so many times to one that closes without having applied the last of them.
+// A site gave this number of times to a site that closes without having applied the last gift.
 fn measure_taking_back<R: Clock + Print + AllocGlobal>(rt: &R, beyond: u64) -> Option<()> {
-    // The site's log is an entry that issues, and then the gifts.
+    // The site's log is one entry that issues, and then the gifts.
     let close = closing(rt.alloc(), (CALLS + 1).saturating_sub(beyond))?;
     let took = Load::Closing(close.as_slice()).time(rt)?;
     let rate = per_second(beyond, took);

@@ -1,4 +1,4 @@
-//! How many entries pass through a lane between two threads in a second, beside the plain channel.
+//! How many entries pass through a lane between two threads per second, compared with the plain channel.
 ghost use Rattle.std.specs.Prelude.{◌≡◌, ◌+◌, [], false, IfSome};
 ghost use Rattle.rights_types.specs.Entries.{IsEntry, own, closes};
 
@@ -13,12 +13,12 @@ use std::thread;
 use std::thread::Threads;
 use std::time::Instant;
 
-// Entries of one run.
+// The number of entries of one run.
 const ENTRIES: u64 = 200_000;
 
 const CAPACITY: usize = 32;
 
-// The best of so many runs is told.
+// The number of runs, of which the best is reported.
 const RUNS: u64 = 5;
 
 // An entry of site 1 that issues one right.
@@ -73,7 +73,7 @@ fn receive_all<R: Wait>(rt: &R, receiver: Receiver<Entry>) -> u64 {
     count
 }
 
-// The nanoseconds in which all entries pass through a lane.
+// The nanoseconds that all entries take to pass through a lane.
 fn lane_time<R: Clock + Threads + Wait + Sync + AllocGlobal>(rt: &R) -> Option<u128> {
     let alloc = rt.alloc();
     let (inlet, outlet) = lane(alloc, CAPACITY).ok()?;

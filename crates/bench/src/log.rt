@@ -8,16 +8,16 @@ use origin_log::OriginLog;
 use std::rt::Clock;
 use std::time::Instant;
 
-// The best of so many runs is told.
+// The number of runs, of which the best is reported.
 const RUNS: u64 = 3;
 
-// Calls of a run, at least.
+// The least number of calls of a run.
 const CALLS: u64 = 1_000_000;
 
-// An answer is asked for a number and so many behind it, which four entries hold.
+// A query asks for a number and this many after it, which four entries contain.
 const GAP: u64 = 12;
 
-// A short log is filled several times over.
+// A short log is filled several times.
 fn append_time<R: Clock + AllocGlobal>(rt: &R, entries: u64, rounds: u64) -> Option<u128> {
     let start = Instant::now(rt).ok()?;
     for _ in 0..rounds {
@@ -87,7 +87,7 @@ struct Reading {
     read: u128,
 }
 
-// The first so many numbers are read.
+// The best times of the runs, in which numbers up to `numbers` are read.
 fn times_of<R: Clock>(rt: &R, log: &OriginLog, numbers: u64) -> Option<Reading> {
     let (mut line, mut answer, mut read) = (u128::MAX, u128::MAX, u128::MAX);
     for _ in 0..RUNS {
@@ -106,7 +106,7 @@ fn best_append_time<R: Clock + AllocGlobal>(rt: &R, entries: u64, rounds: u64) -
     Some(best)
 }
 
-// Prints the rates at a log of so many moves, of which the first so many numbers are read.
+// Prints the rates for a log of this number of moves, of which numbers up to `numbers` are read.
 fn measure<R: Clock + Print + AllocGlobal>(rt: &R, moves: u64, numbers: u64) -> Option<()> {
     let entries = moves / MOVES;
     let rounds = (CALLS / entries.max(1)).max(1);
@@ -135,8 +135,8 @@ fn print_rates<R: Clock + Print>(
     ).ok()
 }
 
-/// Prints the rates of a short, a middling and a long log. The long one is read over a short front
-/// too, which caches hold, so that what its length alone costs is seen.
+/// Prints the rates for a short, a medium and a long log. The long one is also read over a short prefix, which fits
+/// into caches, so that the cost of its length alone can be seen.
 pub(crate) fn measure_all<R: Clock + Print + AllocGlobal>(rt: &R) -> Option<()> {
     measure(rt, 1_000, 1_000)?;
     measure(rt, 100_000, 100_000)?;

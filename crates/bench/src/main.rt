@@ -1,4 +1,4 @@
-//! Measures the parts of a site. With no word it says which.
+//! Measures the parts of a site. Without an argument it lists them.
 #![tactic(auto)]
 
 mod buffer;
@@ -21,6 +21,6 @@ fn main(rt: HostRuntime) -> io::Result<()> {
         Some("desk") => desk::measure_all(&rt),
         _ => return println!(rt; "usage: bench codec|buffer|log|lane|desk"),
     };
-    // What fails are calls for memory, the clock and the output, and calls that are measured.
+    // Calls that may fail: memory requests, the clock, the output, and the calls that are measured.
     measured.ok_or(io::Error::from(ErrorKind::Other))
 }

@@ -1,6 +1,6 @@
-//! Rates by counts and times.
+//! Rates, from counts and times.
 
-/// How many a second, 0 where no time was measured.
+/// The rate per second, or 0 if no time was measured.
 pub(crate) fn per_second(count: u64, nanos: u128) -> u128 {
     (count as u128)
         .saturating_mul(1_000_000_000)

@@ -1,5 +1,5 @@
-//! What is read is written again as it was, faults are told in their order, and no call wants more
-//! memory than it has to.
+//! What is read is written again unchanged, faults are reported in their order, and no call requests more
+//! memory than it needs.
 
 mod cutting;
 mod decimals;

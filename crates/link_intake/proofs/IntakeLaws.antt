@@ -1,4 +1,4 @@
--- What an intake puts follows what came in order.
+-- What an intake puts follows from what arrived in order.
 use Rattle.std.proofs.Common.{◌≡◌, ℕ, suc, ◌+◌, ◌<◌, ◌≤◌, Bool, true, false, true≢false, cond, List, [], ◌∷◌, ◌++◌, length, take, get_or, refl, sym, ap, ◌∙◌, subst, append-nil, append_assoc, arith}
 use Rattle.std.specs.Prelude.{count_by}
 use Rattle.std.proofs.lemmas.List.{map-append, length-take-le}
@@ -54,7 +54,7 @@ ready-append (Full ∷ xs) ys = ready-append xs ys
 none : (n : ℕ) → n ≡ n + 0
 none n = omega arith
 
--- how many verdicts of each kind there are after one more
+-- the number of verdicts of each kind after one more
 counts_more : {A : Type 0} (vs : List (Verdict A)) (i : ℕ) (v : Verdict A) (c : VerdictCounts) → i < length vs → v ≡ get_or vs i v
     → c ≡ counts_of (take i vs) → (r h p a f : ℕ) → r ≡ c.ready + cond (is_ready v) 1 0 → h ≡ c.held + cond (is_held v) 1 0
     → p ≡ c.repeat + cond (is_repeat v) 1 0 → a ≡ c.after_close + cond (is_after_close v) 1 0 → f ≡ c.full + cond (is_full v) 1 0
@@ -70,7 +70,7 @@ counts_more {A} vs i v c within is so_far r h p a f er eh ep ea ef =
     let eqf = more is_full c.full f (ap (λ (x : VerdictCounts). x.full) so_far) ef in
     λ j. record { ready = eqr j; held = eqh j; repeat = eqp j; after_close = eqa j; full = eqf j }
 
--- a verdict counts for its own kind
+-- a verdict counts for its own kind only
 by_kind : {A : Type 0} (c : VerdictCounts) (v : Verdict A) → with_verdict c v ≡ record {
   ready = c.ready + cond (is_ready v) 1 0;
   held = c.held + cond (is_held v) 1 0;
@@ -105,7 +105,7 @@ all_counted [] = refl
 all_counted (v ∷ vs) =
     omega (arith, one_counted is_ready v vs, one_counted is_held v vs, one_counted is_repeat v vs, one_counted is_after_close v vs, one_counted is_full v vs, one_kind v, all_counted vs)
 
--- .. so that the counts are few
+-- so the counts are small
 pub few_counted : {A : Type 0} (vs : List (Verdict A)) (i : ℕ) (c : VerdictCounts) → i < length vs → c ≡ counts_of (take i vs) → all_counts c < length vs
 few_counted vs i c within is =
     omega (arith, ap (λ (x : VerdictCounts). all_counts x) is ∙ all_counted (take i vs) ∙ length-take-le i vs (omega arith))
@@ -132,13 +132,13 @@ module _ {A : Type 0} where
       let chain : IsChain o (es ++ e ∷ []) = chain_left o false 0 (es ++ e ∷ []) more (subst (IsChain o) (sym (append_assoc es (e ∷ []) more)) c.2) in
       ((o, es, is, chain), c.4 ∙ free, (es, is))
 
-  -- the first of them can be put
+  -- the first of them may be put
   pub first_can : (ended : Bool) (put : List (Item A)) (e : EntryValue) (more : List EntryValue) → CanPut ended put (e ∷ more) → CanPut ended put (e ∷ [])
   first_can ended put e more c =
       let chain = chain_left c.0 false 0 (c.1 ++ e ∷ []) more (subst (IsChain c.0) (sym (append_assoc c.1 (e ∷ []) more)) c.2) in
       (c.0, c.1, chain, c.3, c.4)
 
-  -- once the first of them were put, the others can be
+  -- once the first of them were put, the others may be put
   pub others_can : (ended : Bool) (put : List (Item A)) (xs ys : List EntryValue) (later : Bool) (new : InletValue A) → CanPut ended put (xs ++ ys)
       → PutsAll put ended xs later new → CanPut later new.put ys
   others_can ended put xs ys later new c p =
@@ -153,7 +153,7 @@ module _ {A : Type 0} where
         p.1 ∙ ap (λ b. closed_from b xs) c.4 ∙ sym (closed_from-append false es xs),
       )
 
-  -- what is put first is not closed, where more is put
+  -- what is put first is not closed, if more is put
   inner_open : (ended : Bool) (put : List (Item A)) (xs ys : List EntryValue) → CanPut ended put (xs ++ ys) → OpenTo xs ys
   inner_open ended put xs [] c = tt
   inner_open ended put [] (y ∷ ys) c = refl
@@ -210,7 +210,7 @@ module _ {A : Type 0} where
         q.2,
       )
 
-  -- the first were put, and of the next a front
+  -- the first were put, and of the next ones a prefix
   pub front_put : (ended : Bool) (put : List (Item A)) (xs ys more : List EntryValue) (mid later : Bool) (a b : InletValue A)
       → CanPut ended put ((xs ++ ys) ++ more) → PutsAll put ended xs mid a → PutsFront a.put ys later b → PutsFront put ((xs ++ ys) ++ more) later b
   front_put ended put xs ys more mid later a b c p q =
@@ -230,7 +230,7 @@ module _ {A : Type 0} where
         q.6,
       )
 
-  -- one verdict more of those that are left
+  -- one more of the remaining verdicts
   pub one_more : (y : List (Verdict A)) (v : Verdict A) (left rest all : List (Verdict A)) → left ≡ v ∷ rest → y ++ left ≡ all
       → (y ++ v ∷ []) ++ rest ≡ all
   one_more y v left rest all next is = append_assoc y (v ∷ []) rest ∙ ap (λ l. y ++ l) (sym next) ∙ is
@@ -242,7 +242,7 @@ module _ {A : Type 0} where
 
 -- ---- a line
 
--- entries came by the message
+-- the message contains entries
 pub entries_come : {A : Type 0} (old : InboundValue) (m : MessageValue) (vs : List (Verdict A)) (new : InboundValue)
     → Arrives old m (Entries vs) new → (es : List EntryValue) × EntriesCome old es vs new
 entries_come old (AnEntry e) vs new a = (e ∷ [], a)
@@ -253,7 +253,7 @@ entries_come old (AnAsk x) vs new a = absurd cc
 entries_come old (ADenial d) vs new a = absurd cc
 entries_come old (AHello s) vs new a = absurd cc
 
--- the verdicts on what comes by a message are few
+-- there are few verdicts on what arrives with a message
 pub few_come : {A : Type 0} (old : InboundValue) (m : MessageValue) (a : Arrival A) (new : InboundValue) → Arrives old m a new
     → length (verdicts_of a) ≤ MAX_VERDICTS
 few_come old m (Entries vs) new x = (entries_come old m vs new x).1.few
@@ -283,7 +283,7 @@ module _ {A : Type 0} where
   no_more : (put : List EntryValue) (a b : Arrival A) (c : BufferValue) → a ≡ b → ready_of b ≡ [] → HasPut put c → HasPut (put ++ ready_of a) c
   no_more put a b c is none h = subst (λ l. HasPut l c) (sym (ap (λ x. put ++ ready_of x) is ∙ ap (λ l. put ++ l) none ∙ append-nil put)) h
 
-  -- whatever comes, what became ready goes on the chain of what was put
+  -- whatever arrives, what became ready continues the chain of what was put
   delivers : (old : InboundValue) (put : List EntryValue) (m : MessageValue) (a : Arrival A) (new : InboundValue) → HasPut put old.buffer → Arrives old m a new
       → HasPut (put ++ ready_of a) new.buffer
   delivers old put (AnEntry e) a new h x = brought old put (e ∷ []) a new h x
@@ -296,14 +296,14 @@ module _ {A : Type 0} where
   delivers old put (ADenial d) a new h x = no_more put a (Deny d) new.buffer x.0 refl (subst (λ (i : InboundValue). HasPut put i.buffer) (sym x.1) h)
   delivers old put (AHello s) a new h x = no_more put a Hello new.buffer x.0 refl (subst (λ (i : InboundValue). HasPut put i.buffer) (sym x.1) h)
 
-  -- what became ready can be put
+  -- what became ready may be put
   pub can_take : (i : IntakeValue A) (m : MessageValue) (a : Arrival A) (new : InboundValue) → IsInStep i → Arrives i.inbound m a new
       → CanPut i.ended i.inlet.put (ready_of a)
   can_take i m a new s x =
       let h = delivers i.inbound s.entries m a new s.delivered x in
       (new.buffer.origin, s.entries, h.chain, s.put, s.ended)
 
-  -- once it was, all that came in order was put
+  -- once it was put, all that arrived in order was put
   in_step_after : (i j : IntakeValue A) (m : MessageValue) (a : Arrival A) → IsInStep i → Arrives i.inbound m a j.inbound
       → PutsAll i.inlet.put i.ended (ready_of a) j.ended j.inlet → IsInStep j
   in_step_after i j m a s x p =
@@ -339,11 +339,11 @@ module _ {A : Type 0} where
     dead,
   )
 
-  -- where nothing came yet
+  -- if nothing has arrived yet
   pub new_intake : (i : IntakeValue A) → HasPut [] i.inbound.buffer → i.inlet.put ≡ [] → i.ended ≡ false → IsIntake i
   new_intake i h empty free = is_intake i (record { entries = []; delivered = h; put = empty; ended = free })
 
-  -- after an arrival was taken in, all of it or a front
+  -- after an arrival was taken in, all of it or a prefix
   pub still_intake : (i j : IntakeValue A) (m : MessageValue) (a : Arrival A) (r : Result Arrived IntakeError) → IsInStep i → Arrives i.inbound m a j.inbound
       → IfOk r (λ arrived. (arrived ≡ arrived_of a) × PutsAll i.inlet.put i.ended (ready_of a) j.ended j.inlet)
       → IfErr r (λ fault. (fault ≡ LaneClosed) × PutsFront i.inlet.put (ready_of a) j.ended j.inlet) → IsIntake j
@@ -356,7 +356,7 @@ module _ {A : Type 0} where
         in_step = λ live. absurd (true≢false (sym f.4 ∙ live));
       }
 
-  -- what that says of the line
+  -- what that says about the line
   pub line_leaves : (i j : IntakeValue A) (read : Result MessageValue LineError) (a : Arrival A) (r : Result Arrived IntakeError) → Brings i read a j
       → IfOk r (λ arrived. (arrived ≡ arrived_of a) × PutsAll i.inlet.put i.ended (ready_of a) j.ended j.inlet)
       → IfErr r (λ fault. (fault ≡ LaneClosed) × PutsFront i.inlet.put (ready_of a) j.ended j.inlet) → LineLeaves i read r j

@@ -43,7 +43,7 @@ abbrev pub is_full : {A : Type 0} → Verdict A → Bool
 is_full Full = true
 is_full v = false
 
--- how many verdicts there are of each kind
+-- the number of verdicts of each kind
 abbrev pub counts_of : {A : Type 0} → List (Verdict A) → VerdictCounts
 counts_of vs = record {
   ready = count_by is_ready vs;
@@ -53,7 +53,7 @@ counts_of vs = record {
   full = count_by is_full vs;
 }
 
--- the counts with one verdict more
+-- the counts with one more verdict
 abbrev pub with_verdict : {A : Type 0} → VerdictCounts → Verdict A → VerdictCounts
 with_verdict c (Ready e) = record c { ready = c.ready + 1 }
 with_verdict c Held = record c { held = c.held + 1 }
@@ -61,11 +61,11 @@ with_verdict c Repeat = record c { repeat = c.repeat + 1 }
 with_verdict c AfterClose = record c { after_close = c.after_close + 1 }
 with_verdict c Full = record c { full = c.full + 1 }
 
--- how many verdicts were counted, of all kinds
+-- the number of verdicts counted, of all kinds
 abbrev pub all_counts : VerdictCounts → ℕ
 all_counts c = c.ready + c.held + c.repeat + c.after_close + c.full
 
--- what an intake says of what came
+-- what an intake returns for what arrived
 abbrev pub arrived_of : {A : Type 0} → Arrival A → Arrived
 arrived_of (ComesEntries vs) = Entries (counts_of vs)
 arrived_of ComesBeat = Beat
@@ -74,23 +74,23 @@ arrived_of (ComesAsk a) = Ask a
 arrived_of (ComesDeny d) = Deny d
 arrived_of ComesHello = Hello
 
--- the verdicts on what came
+-- the verdicts on what arrived
 abbrev pub verdicts_of : {A : Type 0} → Arrival A → List (Verdict A)
 verdicts_of (ComesEntries vs) = vs
 verdicts_of arrival = []
 
--- the entries that became ready by what came
+-- the entries that became ready with what arrived
 abbrev pub ready_of : {A : Type 0} → Arrival A → List EntryValue
 ready_of (ComesEntries vs) = ready_in vs
 ready_of arrival = []
 
--- a line is refused by the inbound's cause, or else since the lane is closed
+-- a line is refused for the inbound's cause, or else because the lane is closed
 abbrev pub IntakeRefuses : {X : Type 0} → InboundValue → Result MessageValue LineError → Result X IntakeError → Type 0
 IntakeRefuses i read (Ok x) = line_fault i read ≡ None
 IntakeRefuses i read (Err (Inbound fault)) = InboundRefuses {X = Unit {0}} i read (Err fault)
 IntakeRefuses i read (Err LaneClosed) = line_fault i read ≡ None
 
--- what comes in; the end of its lane; whether End was put, and whether by finishing
+-- the inbound; the inlet of its lane; whether End was put, and whether by `finish`
 pub record IntakeValue (A : Type 0) : Type 0 where
   pub inbound : InboundValue
   pub inlet : InletValue A
@@ -98,18 +98,18 @@ pub record IntakeValue (A : Type 0) : Type 0 where
   pub finished : Bool
 
 module _ {A : Type 0} where
-  -- entries as they are put: in order, with End after a closing one
+  -- entries as they are put: in order, with End after a closing entry
   abbrev pub sent : List EntryValue → List (Item A)
   sent es = items_of es ++ end_if (is_closed es)
 
-  -- all that came in order was put
+  -- all entries that arrived in order were put
   pub record IsInStep (i : IntakeValue A) : Type 0 where
     pub entries : List EntryValue
     pub delivered : HasPut entries i.inbound.buffer
     pub put : i.inlet.put ≡ sent entries
     pub ended : i.ended ≡ is_closed entries
 
-  -- of every intake
+  -- the invariant of every intake
   pub record IsIntake (i : IntakeValue A) : Type 0 where
     pub no_end : i.ended ≡ false → IsOpen i.inlet.put
     pub at_end : i.ended ≡ true → IsEnded i.inlet.put
@@ -117,20 +117,20 @@ module _ {A : Type 0} where
 
   -- ---- a line
 
-  -- the message of a line came in by this arrival
+  -- the message of a line was taken in by this arrival
   pub record Brings (old : IntakeValue A) (read : Result MessageValue LineError) (arrival : Arrival A) (new : IntakeValue A) : Type 0 where
     pub message : MessageValue
     pub read_as : read ≡ Ok message
     pub arrives : Arrives old.inbound message arrival new.inbound
     pub lane : new.inlet.lane ≡ old.inlet.lane
 
-  -- all entries that became ready were put, in order, and End after a closing one
+  -- all entries that became ready were put, in order, and End after a closing entry
   abbrev pub TakesIn : IntakeValue A → Result MessageValue LineError → Arrived → IntakeValue A → Type 0
   TakesIn old read arrived new =
       (arrival : Arrival A) × Brings old read arrival new × (arrived ≡ arrived_of arrival)
       × (new.inlet.put ≡ old.inlet.put ++ sent (ready_of arrival)) × (new.inlet.dead ≡ false)
 
-  -- the lane is closed: only a front of these was put
+  -- the lane is closed: only a prefix of these was put
   abbrev pub FindsClosed : IntakeValue A → Result MessageValue LineError → IntakeValue A → Type 0
   FindsClosed old read new =
       (arrival : Arrival A) × Brings old read arrival new × (front : List (Item A)) × (rest : List (Item A))
@@ -143,21 +143,21 @@ module _ {A : Type 0} where
 
   -- ---- putting
 
-  -- these entries go on the chain of those that were put, and End was put where that has closed
+  -- these entries continue the chain of those that were put, and End was put if that chain is closed
   abbrev pub CanPut : Bool → List (Item A) → List EntryValue → Type 0
   CanPut ended put more = (o : ℕ) × (es : List EntryValue) × IsChain o (es ++ more) × (put ≡ sent es) × (ended ≡ is_closed es)
 
-  -- they were put, and End after a closing one
+  -- they were put, and End after a closing entry
   abbrev pub PutsAll : List (Item A) → Bool → List EntryValue → Bool → InletValue A → Type 0
   PutsAll put was_ended more ended new = (new.put ≡ put ++ sent more) × (ended ≡ closed_from was_ended more) × (new.dead ≡ false)
 
-  -- only a front of these was put, and no End
+  -- only a prefix of these was put, and no End
   abbrev pub PutsFront : List (Item A) → List EntryValue → Bool → InletValue A → Type 0
   PutsFront put more ended new =
       (front : List (Item A)) × (rest : List (Item A)) × (front ++ rest ≡ sent more) × (new.put ≡ put ++ front)
       × (new.dead ≡ true) × (ended ≡ false) × IsOpen new.put
 
-  -- what was put once it ends in End, where that was put before or not
+  -- what was put once it ends in End, whether End was put before or not
   abbrev pub with_end : Bool → List (Item A) → List (Item A)
   with_end true put = put
   with_end false put = put ++ End ∷ []

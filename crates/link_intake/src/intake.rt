@@ -1,4 +1,4 @@
-//! What one other site sends: lines in, and entries out on a lane.
+//! The input from one other site: lines arrive, and entries leave on a lane.
 ghost use Rattle.std.specs.Prelude.{◌≡◌, ◌≤◌, ◌<◌, ◌++◌, [], ◌∷◌, true, false, List, Option, Ok, IfOk, IfErr, OnOk, OnErr, IsErr, MatchResult, IsSome, length};
 ghost use Rattle.std.specs.Option.{option_map};
 ghost use Rattle.rights_types.specs.Entries.{EntryValue};
@@ -25,7 +25,7 @@ use std::sync::Wait;
 use sub_buffer::{MAX_VERDICTS, State, Verdict};
 use thread_parts::{Inlet, LaneClosed};
 
-/// How many verdicts of each kind the entries of one line got.
+/// How many entries of one line got each verdict.
 #[derive(Clone, Copy, Debug, PartialEq, Eq)]
 pub struct VerdictCounts {
     pub ready: usize,
@@ -35,14 +35,14 @@ pub struct VerdictCounts {
     pub full: usize,
 }
 
-/// What a line brought. Entries that are ready have gone to the lane.
+/// What a line contained. Entries that are ready have been put on the lane.
 #[derive(Clone, Copy, Debug, PartialEq, Eq)]
 pub enum Arrived {
     /// Entries.
     Entries(VerdictCounts),
     /// A beat.
     Beat,
-    /// The origin asks for entries of the desk's log.
+    /// The origin queries entries of the desk's log.
     Query(Query),
     /// The origin asks for rights.
     Ask(Ask),
@@ -52,16 +52,16 @@ pub enum Arrived {
     Hello,
 }
 
-/// Why a line was not taken in, in the order in which the causes are looked for.
+/// Why a line was not taken in, in the order in which the causes are checked.
 #[derive(Clone, Copy, Debug, PartialEq, Eq)]
 pub enum IntakeError {
-    /// The line is to be skipped: it has changed nothing.
+    /// The line is to be skipped: it had no effect.
     Inbound(InboundError),
-    /// The lane's other end is gone. The intake is dead: it takes no line in from then on.
+    /// The lane's other end is gone. The intake is dead: it takes in no further line.
     LaneClosed,
 }
 
-/// The lines that one other site sends. What they bring in order goes to a lane; no call is lent a desk.
+/// The input from one other site. The entries that it delivers in order go to a lane; no call borrows a desk.
 #[derive(Drop)]
 pub struct Intake<A: Allocator = Global> {
     inbound: Inbound<A>,
@@ -83,8 +83,8 @@ impl<A: Allocator> Model for Intake<A> {
 impl<A: Allocator> Intake<A> {
     ghost use Rattle.link_intake.specs.Intakes.{IsInStep};
 
-    /// The end of its lane, which it is taken apart for. Where the lane was not found closed, and End was not put by
-    /// finishing, all that the buffer put went onto it.
+    /// Takes the intake apart, and returns the inlet of its lane. Unless the lane was found closed or `finish` put
+    /// End, all entries that the buffer delivered were put on the lane.
     pub fn into_inlet(self) -> Inlet<A>
         ensures inlet { result ≡ self.inlet }
         ensures in_step { self.inlet.dead ≡ false → self.finished ≡ false → IsInStep self }
@@ -101,7 +101,7 @@ impl<A: Allocator> Intake<A> {
 
 impl<A: Allocator + Copy> Intake<A> {
     ghost use Rattle.link_intake.specs.Intakes.{IntakeValue, IntakeRefuses, LineLeaves};
-    /// What comes in to an inbound to which nothing came, by a new lane.
+    /// The intake of an inbound at which nothing has arrived, with a new lane.
     pub fn new(inbound: Inbound<A>, inlet: Inlet<A>) -> Intake<A>
         requires inbound { HasPut [] inbound.buffer }
         requires inlet { (inlet.put ≡ []) × (inlet.dead ≡ false) }
@@ -115,8 +115,9 @@ impl<A: Allocator + Copy> Intake<A> {
         }
     }
 
-    /// Takes a line in, and puts the entries that are ready by it; after a closing one also End. It waits
-    /// while the lane is full. Not to be called after `finish`.
+    /// Takes a line in, and puts the entries that become ready on the lane; after a closing entry also End. It blocks
+    /// while the lane is full. It must not be called after `finish`. Errors, in this order: that of
+    /// `Inbound::on_line`; `LaneClosed`.
     pub fn on_line<R: Wait>(&mut self, rt: &R, line: &[u8]) -> Result<Arrived, IntakeError>
         requires { self.old.finished ≡ false }
         ensures refused { IntakeRefuses self.old.inbound (reading line.now) result }
@@ -124,7 +125,7 @@ impl<A: Allocator + Copy> Intake<A> {
         ensures dead { self.old.inlet.dead ≡ true → IsErr result × (self.new.inlet ≡ self.old.inlet) }
         ensures lane { self.new.inlet.lane ≡ self.old.inlet.lane }
         ensures unfinished { self.new.finished ≡ false }
-        // Only entries take memory.
+        // Only entries request memory.
         ensures memory { IfErr result (λ fault. fault ≡ BadLine NoMemory → (m : MessageValue) × (reading line.now ≡ Ok m) × (has_entries m ≡ true)) }
     {
         let arrival = match self.inbound.on_line(line) {
@@ -137,8 +138,9 @@ impl<A: Allocator + Copy> Intake<A> {
         take_in(rt, &mut self.inlet, &mut self.ended, arrival)
     }
 
-    /// The line of the query for the gap, where there is one: always with `again`, else where it is not the
-    /// gap that was asked for last. It counts as asked for from then on, also where the line found no memory.
+    /// The line of the query for the gap: with `again` if there is a gap, else only if it is not the gap that was
+    /// queried last. `None` if there is none to send. The gap counts as queried afterwards, even if there was no
+    /// memory for the line.
     pub fn query_line(&mut self, again: bool) -> Result<Option<Vec<u8, A>>, OutOfMemory>
         ensures query { (q : Option QueryValue) × QueryOf self.old.inbound again q self.new.inbound
             × MatchResult result (λ line. LineOf (λ l. l.items) (option_map (λ x. AQuery x) q) line) (λ _. IsSome q) }
@@ -147,7 +149,7 @@ impl<A: Allocator + Copy> Intake<A> {
         self.inbound.query_line(again)
     }
 
-    /// Puts End, where none was put. It waits while the lane is full.
+    /// Puts End, unless it was put already. It blocks while the lane is full.
     pub fn finish<R: Wait>(&mut self, rt: &R) -> Result<(), LaneClosed<A>>
         ensures ok { OnOk result ((self.new.ended ≡ true) × IsEnded self.new.inlet.put × (self.new.inlet.put ≡ with_end self.old.ended self.old.inlet.put)) }
         ensures err { OnErr result ((self.old.ended ≡ false) × (self.new ≡ record self.old { inlet = record self.old.inlet { dead = true } })) }
@@ -162,7 +164,7 @@ impl<A: Allocator + Copy> Intake<A> {
         Ok(())
     }
 
-    /// Buffering where there is a gap.
+    /// `Buffering` while there is a gap.
     pub fn state(&self) -> State
         ensures table { (gap : Option QueryValue) × GapOf self.now.inbound.buffer gap × StateOf gap result }
         ensures log { (es set put : List EntryValue) → Follows es set put self.now.inbound.buffer
@@ -171,7 +173,7 @@ impl<A: Allocator + Copy> Intake<A> {
         self.inbound.state()
     }
 
-    /// How many entries are held, at most 64.
+    /// How many entries are held, 0 to 64.
     pub fn held_count(&self) -> usize
         ensures { result ≡ length self.now.inbound.buffer.held }
     {
@@ -179,7 +181,7 @@ impl<A: Allocator + Copy> Intake<A> {
     }
 }
 
-// Puts what became ready by what came, and answers what that was.
+// Puts the entries that became ready with what arrived, and returns what that was.
 fn take_in<A: Allocator, R: Wait>(
     rt: &R,
     inlet: &mut Inlet<A>,
@@ -203,7 +205,7 @@ fn take_in<A: Allocator, R: Wait>(
     }
 }
 
-// Puts the entries that are ready, and answers how many verdicts there are of each kind.
+// Puts the entries that are ready, and returns the number of verdicts of each kind.
 fn put_entries<A: Allocator, R: Wait>(
     rt: &R,
     inlet: &mut Inlet<A>,
@@ -222,7 +224,7 @@ fn put_entries<A: Allocator, R: Wait>(
     Ok(Arrived::Entries(counts))
 }
 
-// How many verdicts there are of each kind.
+// The number of verdicts of each kind.
 fn count<A: Allocator>(verdicts: &[Verdict<A>]) -> VerdictCounts
     requires { length verdicts.now ≤ MAX_VERDICTS }
     ensures { result ≡ counts_of verdicts.now }
@@ -240,7 +242,7 @@ fn count<A: Allocator>(verdicts: &[Verdict<A>]) -> VerdictCounts
     counts
 }
 
-// Counts one verdict more.
+// Counts one more verdict.
 fn count_one<A: Allocator>(counts: &mut VerdictCounts, verdict: &Verdict<A>)
     requires { all_counts counts.old < MAX_VERDICTS }
     ensures { counts.new ≡ with_verdict counts.old verdict.now }
@@ -254,7 +256,7 @@ fn count_one<A: Allocator>(counts: &mut VerdictCounts, verdict: &Verdict<A>)
     }
 }
 
-// Puts the entries that are ready, in order, and End after a closing one.
+// Puts the entries that are ready, in order, and End after a closing entry.
 fn put_ready<A: Allocator, R: Wait>(
     rt: &R,
     inlet: &mut Inlet<A>,
@@ -275,7 +277,7 @@ fn put_ready<A: Allocator, R: Wait>(
     Ok(())
 }
 
-// Puts the verdict's entry, if it has one, and End after it where it closes.
+// Puts the verdict's entry, if it has one, and End after it if it is a closing entry.
 fn put_if_ready<A: Allocator, R: Wait>(
     rt: &R,
     inlet: &mut Inlet<A>,
@@ -294,7 +296,7 @@ fn put_if_ready<A: Allocator, R: Wait>(
     }
 }
 
-// Puts the entry, and End after it where it closes.
+// Puts the entry, and End after it if it is a closing entry.
 fn put_next<A: Allocator, R: Wait>(
     rt: &R,
     inlet: &mut Inlet<A>,

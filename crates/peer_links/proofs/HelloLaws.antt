@@ -38,7 +38,7 @@ open_more text b all other = All-push (λ (b : ℕ). b ≢ 10) text b all other
 pub line_ends : (text : List ℕ) (b : ℕ) → IsOpen text → b ≡ 10 → IsLine (text ++ b ∷ [])
 line_ends text b all end = (text, ap (λ (x : ℕ). text ++ x ∷ []) end, all)
 
--- an unfinished line is no whole one
+-- an unfinished line is not a whole line
 open_no_line : (text : List ℕ) → IsOpen text → IsLine text → ⊥
 open_no_line text all line =
     let long = ap length line.1 ∙ length-append line.0 (10 ∷ []) in
@@ -48,7 +48,7 @@ open_no_line text all line =
 pub open_no_hello : (text : List ℕ) → IsOpen text → (site : ℕ) → Spells (AHello site) text → ⊥
 open_no_hello text all site h = open_no_line text all (is_line (AHello site) text h)
 
--- one byte more was taken
+-- one more byte was taken
 pub push_byte : (c new : CutterView) (text : List ℕ) (b taken : ℕ) → IsFed c text [] → IsOpen text
     → taken ≡ cond c.is_finished 0 (length (take_through 10 (b ∷ []))) → IsFed new (text ++ take taken (b ∷ [])) [] → IsFed new (text ++ b ∷ []) []
 push_byte c new text b taken h all count fed =
@@ -58,7 +58,7 @@ push_byte c new text b taken h all count fed =
     let all : taken ≡ 1 = count ∙ rw unended one in
     subst (λ (n : ℕ). IsFed new (text ++ take n (b ∷ [])) []) all fed
 
--- the line that was read is given whole
+-- the line that was read is returned whole
 pub given_whole : {A : Type 0} (mid new : CutterView) (text : List ℕ) (o : Option (Cut A)) (cut : Cut A) → IsLine text → IsFed mid text [] → o ≡ Some cut
     → IfSome o (λ cut. IsTrue mid.is_finished × (new ≡ view_of []) × ((piece : List ℕ) → Holds mid piece → IsCut piece cut))
     → IfSome o (λ cut. (stream : List ℕ) (given : List (List ℕ)) → IsFed mid stream given → IsGiven cut new stream given)
@@ -75,11 +75,11 @@ given_whole {A} mid new text o cut line fed is one given =
     let same : next.0 ≡ text = ap (λ (l : List (List ℕ)). get_or l 0 []) (sym all.1 ∙ whole) in
     (subst (λ (piece : List ℕ). IsCut piece cut) same next.1, all.0)
 
--- so one waits
+-- so a line waits
 pub line_waits : (mid : CutterView) (text : List ℕ) → IsLine text → IsFed mid text [] → mid.is_finished ≡ false → ⊥
 line_waits mid text line fed unended = one_waits mid [] line.0 text (λ k low. line.2 k 0 low) line.1 fed unended
 
--- what is answered where the line was not read to its end
+-- the result if the line was not read to its end
 pub reads_hello_err : (text : List ℕ) (fault : LinkFault) → IsOpen text → (fault ≡ NoHello) ⊎ (fault ≡ ReadFailed) → ReadsHello text (Err fault)
 reads_hello_err text NoHello all why = open_no_hello text all
 reads_hello_err text ReadFailed all why = all
@@ -92,7 +92,7 @@ abbrev has_entries_in : Result MessageValue LineError → Bool
 has_entries_in (Ok m) = has_entries m
 has_entries_in (Err e) = false
 
--- what was not read as a message says not who speaks
+-- a line that does not read as a message names no site
 pub not_read : {A : Type 0} (r : Result (Message A) LineError) (text : List ℕ) (site : ℕ) → ((m : Message A) → r ≡ Ok m → ⊥) → Spells (AHello site) text
     → Gives value_of r (Ok (AHello site)) → WantsRoom r (reading text) → ⊥
 not_read (Ok m) text site other h gives room = other m refl

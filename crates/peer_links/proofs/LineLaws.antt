@@ -1,4 +1,4 @@
--- The pieces of a stream, which are given as they end.
+-- The pieces of a stream, returned as they end.
 use Rattle.std.proofs.Common.{◌≡◌, ℕ, ◌+◌, ◌-◌, ◌<◌, ◌≤◌, Bool, true, false, cond, List, [], ◌∷◌, ◌++◌, length, take, get_or, Option, Some, None, Result, Ok, Err, OnErr, IfSome, IfNone, IsTrue, ◌↔◌, refl, sym, ap, subst, ◌∙◌, arith, append-nil, length-append, length-take, get_or-take}
 use Rattle.std.specs.Io.BufRead.{take_through}
 use Rattle.std.proofs.lemmas.Bool.{eqb-true, eq-eqb}
@@ -13,7 +13,7 @@ use Rattle.entry_codec.proofs.Cuts.{first_is_position}
 use Rattle.entry_codec.proofs.Streams.{through_found, through_missed}
 use Rattle.peer_links.specs.Links.{IsFedAll}
 
--- ---- a stream of which all pieces were given
+-- ---- a stream of which all pieces were returned
 
 all_given : (b : Bool) (ps : List (List ℕ)) (piece : List ℕ) → ps ≡ ps ++ cond b (piece ∷ []) [] → b ≡ false
 all_given true ps piece e = absurd (omega (arith, ap length e, length-append ps (piece ∷ [])))
@@ -45,7 +45,7 @@ one_more stream front none =
       rest_append [] stream (front ++ 10 ∷ []) ∙ p.1,
     )
 
--- a line that was lent: the cutter had nothing, and has nothing
+-- a borrowed line: the cutter was empty, and is empty
 pub fed_lent : (c : CutterView) (stream front text : List ℕ) → HasNoEnd front → text ≡ front ++ 10 ∷ [] → unfinished stream ≡ [] → IsFedAll c stream
     → IsFedAll c (stream ++ text) × (pieces (stream ++ text) ≡ pieces stream ++ text ∷ [])
 fed_lent c stream front text none is nothing h =
@@ -71,7 +71,7 @@ one_waits c stream front text none is h unended =
     let more : pieces stream ++ line ∷ [] ≡ pieces stream = sym p.0 ∙ ap (λ (l : List ℕ). pieces (stream ++ l)) (sym is) ∙ last in
     omega (arith, ap length more, length-append (pieces stream) (line ∷ []))
 
--- the piece that waited was given
+-- the piece that waited was returned
 pub fed_kept : (c : CutterView) (stream text piece : List ℕ) → c ≡ view_of [] → IsFed c (stream ++ text) (pieces stream ++ piece ∷ [])
     → IsFedAll c (stream ++ text) × (pieces (stream ++ text) ≡ pieces stream ++ piece ∷ [])
 fed_kept c stream text piece empty h =
@@ -100,13 +100,13 @@ found_end s n here =
       take_more s n 0 here.0.high ∙ ap (λ (b : ℕ). take n s ++ b ∷ []) last,
     )
 
--- there are no bytes behind the last line feed
+-- no bytes follow the last line feed
 pub no_rest : (b : Bool) (xs : List ℕ) → (IsTrue b ↔ (0 < length xs)) → b ≡ false → xs ≡ []
 no_rest true xs h e = absurd cc
 no_rest false [] h e = refl
 no_rest false (x ∷ xs) h e = let t : IsTrue false = h.1 (omega arith) in absurd cc
 
--- there are some
+-- the list is not empty
 pub some_rest : (b : Bool) (xs : List ℕ) → (IsTrue b ↔ (0 < length xs)) → b ≡ true → 0 < length xs
 some_rest true xs h e = h.0 refl
 some_rest false xs h e = absurd cc
@@ -139,7 +139,7 @@ module _ (c mid : CutterView) (stream bytes : List ℕ) (taken : ℕ) (h : IsFed
       let end = found_end bytes n found in
       one_waits mid stream (take n bytes) (take (n + 1) bytes) end.1 end.2 (push_some n found) unended
 
-  -- and it is given
+  -- and it is returned
   pub kept : {A : Type 0} (n : ℕ) → IsFirstByte (is_byte 10) bytes (Some n) → (new : CutterView) (o : Option (Cut A)) (cut : Cut A) → o ≡ Some cut
       → IfSome o (λ cut. IsTrue mid.is_finished × (new ≡ view_of []) × ((piece : List ℕ) → Holds mid piece → IsCut piece cut))
       → IfSome o (λ cut. (stream : List ℕ) (given : List (List ℕ)) → IsFed mid stream given → IsGiven cut new stream given)
@@ -153,7 +153,7 @@ module _ (c mid : CutterView) (stream bytes : List ℕ) (taken : ℕ) (h : IsFed
       let all = fed_kept new stream (take (n + 1) bytes) next.0 one'.1 next.2 in
       (next.0, next.1, all.0, all.1)
 
--- a line that is lent
+-- a borrowed line
 pub lent : (c : CutterView) (stream bytes : List ℕ) (n : ℕ) → IsFirstByte (is_byte 10) bytes (Some n) → unfinished stream ≡ [] → IsFedAll c stream
     → IsFedAll c (stream ++ take (n + 1) bytes) × (pieces (stream ++ take (n + 1) bytes) ≡ pieces stream ++ take (n + 1) bytes ∷ []) × (length (take (n + 1) bytes) ≡ n + 1)
 lent c stream bytes n found nothing h =

@@ -1,4 +1,4 @@
--- Whose lines an intake takes, and for which site: that stays; and which messages come of them.
+-- The origin and the site of an intake's lines do not change; and which messages result from these lines.
 use Rattle.std.proofs.Common.{◌≡◌, ℕ, eqb, ◌==◌, ◌||◌, not, Bool, true, false, cond, List, [], ◌∷◌, Option, Some, None, Result, Ok, Err, IfSome, refl, sym, ap, subst, ◌∙◌}
 use Rattle.std.proofs.lemmas.Bool.{eqb-true}
 use Rattle.rights_types.specs.Entries.{EntryValue}
@@ -23,7 +23,7 @@ use Rattle.peer_links.specs.Takes.{message_in, AsksGap}
 use Rattle.peer_links.specs.declared.link.DeskMessage.{DeskMessage}
 use Rattle.peer_links.specs.declared.link.DeskMessage.TheVariants.{Query, Ask, Deny}
 
--- ---- the pair stays
+-- ---- the pair does not change
 
 pub same_pair : (b : BufferValue) → SamePair b b
 same_pair b = record { me = refl; origin = refl }
@@ -65,7 +65,7 @@ comes old (ADenial d) arrival new h = same_buffer old new h.1
 comes old (AHello s) arrival new h = same_buffer old new h.1
 
 module _ {A : Type 0} (old new : IntakeValue A) where
-  -- a line leaves it
+  -- a line does not change it
   pub line_pair : (read : Result MessageValue LineError) (came : Result Arrived IntakeError) → LineLeaves old read came new → SamePair old.inbound.buffer new.inbound.buffer
   line_pair read (Ok arrived) h = comes old.inbound h.1.message h.0 new.inbound h.1.arrives
   line_pair read (Err LaneClosed) h = comes old.inbound h.1.message h.0 new.inbound h.1.arrives
@@ -75,7 +75,7 @@ asked_pair : (b : BufferValue) (q : Option QueryValue) → SamePair b (asked_for
 asked_pair b None = same_pair b
 asked_pair b (Some q) = record { me = refl; origin = refl }
 
--- and so does a query
+-- neither does a query
 pub query_pair : (old new : InboundValue) (again : Bool) (q : Option QueryValue) → QueryOf old again q new → SamePair old.buffer new.buffer
 query_pair old new again q h = subst (λ (i : InboundValue). SamePair old.buffer i.buffer) (sym h.left) (asked_pair old.buffer q)
 
@@ -86,10 +86,10 @@ gap_pair old new again asked heard h = query_pair old.inbound new.inbound again 
 pub accepts_still : (accepts : DeskMessage → Type 0) (old new : BufferValue) → SamePair old new → AcceptsPeer accepts old → AcceptsPeer accepts new
 accepts_still accepts old new pair h = λ m is. h m (record { from = is.from ∙ pair.origin; to = is.to ∙ ap Some pair.me })
 
--- ---- what comes is the origin's, and for this site
+-- ---- each message that arrives is from the origin, and for this site
 
 module _ (i : InboundValue) (m : DeskMessage) where
-  -- whose it is
+  -- its sender
   between : (from to foreign : Bool) → eqb (sender (message_of m)) i.buffer.origin ≡ from → is_for i.buffer.me (message_of m) ≡ to
       → message_fault i (message_of m) ≡ None → (from ≡ true) × (to ≡ true)
   between true true foreign e f h = (refl, refl)
@@ -106,7 +106,7 @@ faultless i m h =
     let is = between i m _ _ false refl refl h in
     record { from = eqb-true (sender (message_of m)) i.buffer.origin is.0; to = is_addressed i.buffer.me m is.1 }
 
--- no message for the desk comes of entries
+-- entries give no message for the desk
 no_message : {A : Type 0} (P : DeskMessage → Type 0) (old : InboundValue) (es : List EntryValue) (arrival : Arrival A) (new : InboundValue) → BringsEntries old es arrival new
     → IfSome (message_in (arrived_of arrival)) P
 no_message P old es (Entries vs) new h = tt
@@ -126,7 +126,7 @@ says {A} P old (AnAsk a) arrival new h good all = subst (λ (x : Arrival A). IfS
 says {A} P old (ADenial d) arrival new h good all = subst (λ (x : Arrival A). IfSome (message_in (arrived_of x)) P) (sym h.0) (all (Deny d) (faultless old (Deny d) good))
 says {A} P old (AHello s) arrival new h good all = subst (λ (x : Arrival A). IfSome (message_in (arrived_of x)) P) (sym h.0) tt
 
--- what the desk is told was accepted
+-- what the desk receives was accepted
 pub is_accepted : {A : Type 0} (P : DeskMessage → Type 0) (old new : IntakeValue A) (read : Result MessageValue LineError) (arrived : Arrived)
     → line_fault old.inbound read ≡ None → TakesIn old read arrived new → AcceptsPeer P old.inbound.buffer → IfSome (message_in arrived) P
 is_accepted P old new read arrived good h all =

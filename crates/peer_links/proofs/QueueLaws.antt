@@ -1,4 +1,4 @@
--- The lines of an outbox, which lie in a ring.
+-- The lines of an outbox, which are stored in a ring.
 use Rattle.std.proofs.Common.{◌≡◌, ℕ, zero, suc, Bool, true, false, cond, ◌+◌, ◌-◌, ◌<◌, ◌≤◌, List, [], ◌∷◌, ◌++◌, length, take, drop, map, Vec, Some, None, Result, Ok, Err, OnOk, IfErr, IsOk, ◌↔◌, rules, refl, sym, ap, subst, ◌∙◌, arith, inl, inr, drop-cons, append-nil, append_assoc, length-append, length-take}
 use Rattle.std.specs.Prelude.{option_map}
 use Rattle.std.specs.List.{All, slice_get}
@@ -62,7 +62,7 @@ module _ {X : Type 0} (lines : List (Vec ℕ X)) (i : ℕ) where
         drop-cons (texts lines) i [] low' ∙ rw (get_or_from_slice_get (texts lines) i line.items [] here) (ap (λ (n : ℕ). line.items ∷ drop n (texts lines)) next),
       )
 
-  -- there is none
+  -- no line is left
   pub no_line : None ≡ slice_get lines i → drop i (texts lines) ≡ []
   no_line none = elim (cases_lt i (length lines)) [
     | inl low ↦ let some = slice_get-some lines i low in absurd (none-some some.0 (none ∙ some.1))
@@ -70,7 +70,7 @@ module _ {X : Type 0} (lines : List (Vec ℕ X)) (i : ℕ) where
   ]
 
 module _ (room filled i : ℕ) (lines : List (List ℕ)) (front : List ℕ) (h : joined (front_in room lines) ≡ front ++ joined (front_in (room - filled) (drop i lines))) where
-  -- a line more was copied
+  -- one more line was copied
   pub copied_more : (line : List ℕ) → drop i lines ≡ line ∷ drop (i + 1) lines → length line ≤ room - filled
       → joined (front_in room lines) ≡ (front ++ line) ++ joined (front_in (room - (filled + length line)) (drop (i + 1) lines))
   copied_more line cut fits =
@@ -81,7 +81,7 @@ module _ (room filled i : ℕ) (lines : List (List ℕ)) (front : List ℕ) (h :
       h ∙ ap (λ (l : List (List ℕ)). front ++ joined (front_in (room - filled) l)) cut ∙ ap (λ (l : List ℕ). front ++ l) one
       ∙ sym (append_assoc front line (joined (front_in (room - (filled + length line)) rest)))
 
-  -- the next line finds no room
+  -- the next line does not fit
   pub copied_all : (line : List ℕ) → drop i lines ≡ line ∷ drop (i + 1) lines → room - filled < length line → front ≡ joined (front_in room lines)
   copied_all line cut large =
       let none : joined (front_in (room - filled) (line ∷ drop (i + 1) lines)) ≡ [] = rw (leb_no (length line) (room - filled) large) refl in
@@ -90,7 +90,7 @@ module _ (room filled i : ℕ) (lines : List (List ℕ)) (front : List ℕ) (h :
   pub copied_last : drop i lines ≡ [] → front ≡ joined (front_in room lines)
   copied_last cut = sym (h ∙ ap (λ (l : List (List ℕ)). front ++ joined (front_in (room - filled) l)) cut ∙ append-nil front)
 
-  -- the same, as a loop has it
+  -- the same, in the form that a loop needs
   pub copied_on : (room' filled' : ℕ) (front' line : List ℕ) → drop i lines ≡ line ∷ drop (i + 1) lines → length line ≤ room - filled
       → room' ≡ room → filled' ≡ filled + length line → front' ≡ front ++ line
       → joined (front_in room' lines) ≡ front' ++ joined (front_in (room' - filled') (drop (i + 1) lines))
@@ -101,7 +101,7 @@ module _ (room filled i : ℕ) (lines : List (List ℕ)) (front : List ℕ) (h :
 abbrev waiting : List (List ℕ) → Bool → Waiting
 waiting lines ended = record { lines = lines; ended = ended }
 
--- one line more was dropped
+-- one more line was dropped
 pub dropped_more : (old mid new : Waiting) (n : ℕ) → mid ≡ record old { lines = drop n old.lines } → new ≡ record mid { lines = drop 1 mid.lines }
     → new ≡ record old { lines = drop (n + 1) old.lines }
 dropped_more old mid new n e f =
@@ -136,7 +136,7 @@ takes_all : (ended : Bool) (front others : List (List ℕ)) → InTurn TakesOlde
 takes_all ended [] others = refl
 takes_all ended (line ∷ front) others = (waiting (front ++ others) ended, refl, takes_all ended front others)
 
--- so many of these are taken in turn
+-- this number of them is taken, one after another
 pub takes_front : (old new : Waiting) (count : ℕ) → new ≡ record old { lines = drop count old.lines } → (lines : List (List ℕ)) → BeginsWith old lines → count ≤ length lines
     → InTurn TakesOldest old (take count lines) new
 takes_front old new count left lines h few =
@@ -147,13 +147,13 @@ takes_front old new count left lines h few =
     let all = takes_all old.ended (take count lines) (drop count lines ++ h.0) in
     rw (left, rest) (subst (λ (l : List (List ℕ)). InTurn TakesOldest (waiting l old.ended) (take count lines) (waiting (drop count lines ++ h.0) old.ended)) (sym parts) all)
 
--- whole lines are taken in turn, where no more is said of it
+-- whole lines are taken one after another, if nothing else is said of them
 pub all_in_turn : {S : Type 0} (s : S) (count : ℕ) (lines : List (List ℕ)) → All IsLine lines → InTurn {S = S} (λ _ line _. IsLine line) s (take count lines) s
 all_in_turn s zero lines all = refl
 all_in_turn s (suc n) [] all = refl
 all_in_turn s (suc n) (line ∷ lines) all = (s, All-head IsLine line lines all, all_in_turn s n lines (All-tail IsLine line lines all))
 
--- ---- what is to be written next
+-- ---- the next batch
 
 -- of a queue, as any source gives it
 pub gives_batch : {M : Type 0} (old new : Waiting) (batch : Batch M) (room : List ℕ) → Batches old batch room new → GivesBatch BeginsWith TakesOldest IsEmpty old batch room new
@@ -161,14 +161,14 @@ gives_batch old new Over room h = (subst IsEmpty (sym h.1) h.0, h.1)
 gives_batch old new (Copied count) room h = (h.0, h.1, h.3, front_in (length room) old.lines, front_waits (length room) old, h.2)
 gives_batch old new (Large line) room h = h
 
--- of an outbox, of whose lines it is only said that they are whole
+-- of an outbox, whose contract says only that its lines are whole
 pub outbox_batch : {S M : Type 0} (s : S) (old new : Waiting) (batch : Batch M) (room : List ℕ) → GivesBatch BeginsWith TakesOldest IsEmpty old batch room new
     → GivesBatch {S = S} (λ _ lines. All IsLine lines) (λ _ line _. IsLine line) (λ _. Unit {0}) s batch room s
 outbox_batch s old new Over room h = (tt, refl)
 outbox_batch s old new (Copied count) room h = (h.0, h.1, refl, h.3, h.5.0, h.5)
 outbox_batch s old new (Large line) room h = (h.0, h.1, h.0)
 
--- the oldest line is larger than the room, if nothing was copied
+-- the oldest line is larger than the buffer, if nothing was copied
 large_line : (room : ℕ) (line : List ℕ) (rest : List (List ℕ)) → IsLine line → joined (front_in room (line ∷ rest)) ≡ [] → room < length line
 large_line room line rest h none = elim (cases_lt room (length line)) [
   | inl low ↦ low

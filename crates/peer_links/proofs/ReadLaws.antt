@@ -1,4 +1,4 @@
--- What a connection gave, read by read, and what its lines came to.
+-- What was read from a connection, read by read, and the effect of its lines.
 use Rattle.std.proofs.Common.{◌≡◌, ℕ, ◌+◌, ◌<◌, ◌≤◌, List, [], ◌∷◌, ◌++◌, length, take, drop, Vec, Option, Some, None, Result, Ok, Err, OnOk, IfNone, refl, sym, ap, subst, ◌∙◌, arith, inl, inr, append-nil, append_assoc, length-append, length-drop}
 use Rattle.std.specs.Prelude.{option_map}
 use Rattle.std.specs.Io.KnownBytes.{Consumes, Keeps}
@@ -23,7 +23,7 @@ use Rattle.line_streams.specs.declared.limit.TheConstants.{LINE_LIMIT}
 pub gave_none : (a : Option (List ℕ)) → (gave : LinkGave a a) × (0 ≡ counted gave) × (gave.input ≡ [])
 gave_none a = (record { chunks = []; input = []; reads = Consumes-nil a; parted = none_parted }, refl, refl)
 
--- one read more
+-- one more read
 pub gave_more : (a b c : Option (List ℕ)) (gave : LinkGave a b) (old : ℕ) → old ≡ counted gave → (bytes : List ℕ) → 0 < length bytes → Consumes b c bytes
     → (new : LinkGave a c) × (counted new ≡ old + counts_for bytes) × (new.input ≡ gave.input ++ bytes) × (still new.chunks ≡ still gave.chunks + still (bytes ∷ []))
 gave_more a b c gave old count bytes some read = (
@@ -82,7 +82,7 @@ none_ended : {A : Type 0} (o : Option (Piece A)) (ended : List (List ℕ)) → (
 none_ended (Some p) ended other h = absurd (other p refl)
 none_ended None ended other h = ap length h
 
--- the bytes up to a place were taken, and then the next ones
+-- the bytes up to an offset were taken, and then the next ones
 module _ (bytes rest : List ℕ) (at n : ℕ) (e : rest ≡ drop at bytes) (old mid new : CutterView)
     (before : (stream : List ℕ) → IsFedAll old stream → IsFedAll mid (stream ++ take at bytes)) where
   more : take (at + n) bytes ≡ take at bytes ++ take n rest
@@ -116,7 +116,7 @@ module _ (bytes rest : List ℕ) (at n : ℕ) (e : rest ≡ drop at bytes) (old 
         let whole : take (at + n) bytes ≡ bytes = take_all (at + n) bytes (omega (arith, all, ap length e, length-drop at bytes, within)) in
         omega (arith, ended.2, none_ended o ended.0 other ended.1, ap (λ (l : List ℕ). length (pieces l)) whole)
 
--- a line that asks for the gap
+-- a line that queries the gap
 asks : {X : Type 0} (q : Option QueryValue) (line : Vec ℕ X) → LineOf (λ (l : Vec ℕ X). l.items) (option_map (λ x. AQuery x) q) (Some line) → IsLine line.items
 asks (Some q) line h = is_line (AQuery q) line.items h
 asks None line h = absurd h

@@ -1,4 +1,4 @@
--- What the lines of a connection come to, one after another.
+-- The effect of the lines of a connection, one after another.
 use Rattle.std.proofs.Common.{◌≡◌, ◌≢◌, ℕ, ◌+◌, ◌≤◌, Bool, List, [], ◌∷◌, ◌++◌, length, take, drop, Vec, Option, Some, None, Result, Ok, Err, IfErr, refl, sym, ap, subst, ◌∙◌, arith, inl, inr, append-nil, append_assoc, length-append, length-drop}
 use Rattle.std.specs.Prelude.{option_map, IsSome}
 use Rattle.std.proofs.lemmas.List.{append_cancel_left, take_all, take-append-drop}
@@ -32,7 +32,7 @@ use Rattle.peer_links.specs.Takes.{HearsMessage, HearsQuery, as_fault, AsksGap, 
 use Rattle.peer_links.specs.declared.link.LinkFault.{LinkFault}
 use Rattle.peer_links.specs.declared.link.LinkFault.TheVariants.{ReadFailed, WriteFailed, TooManyLines, NoHello, LaneClosed, OutOfMemory}
 
--- ---- the pieces behind a stream
+-- ---- the pieces after a stream
 
 pub behind_none : (stream : List ℕ) → pieces_behind stream [] ≡ []
 behind_none stream = refl
@@ -42,7 +42,7 @@ behind_both stream a b =
     pieces_append (unfinished stream) a b
     ∙ ap (λ (front : List ℕ). pieces_behind stream a ++ pieces_after front b) (sym (rest_append [] stream a))
 
--- those that were given are these
+-- the pieces that were returned are these
 pub behind_given : (stream bytes : List ℕ) (given : List (List ℕ)) → pieces (stream ++ bytes) ≡ pieces stream ++ given → pieces_behind stream bytes ≡ given
 behind_given stream bytes given h = append_cancel_left (pieces stream) _ _ (sym (pieces_append [] stream bytes) ∙ h)
 
@@ -51,7 +51,7 @@ pub behind_count : (stream bytes : List ℕ) → length (pieces_behind stream by
 behind_count stream bytes =
     omega (arith, ap length (pieces_append [] stream bytes), length-append (pieces stream) (pieces_behind stream bytes), lines_both stream bytes)
 
--- ---- what a port is told
+-- ---- what a port receives
 
 -- the line of the query
 heard_line : {X : Type 0} (q : Option QueryValue) (line : Vec ℕ X) → LineOf (λ (l : Vec ℕ X). l.items) (option_map (λ x. AQuery x) q) (Some line) → HearsQuery q (Ok tt) (ALine line.items ∷ [])
@@ -75,7 +75,7 @@ module _ {A S : Type 0} (hears : S → Heard → S → Type 0) (old : S) where
   hands_lacks i None again e new h = absurd cc h.0
   hands_lacks i (Some m) again e new h = (AMessage m (Err e) ∷ [], (Err e, [], refl, (refl, refl, refl)), (new, h, refl))
 
-  -- the gap is asked for behind it
+  -- then the gap is queried
   pub hands_on : (i after : IntakeValue A) (m : Option DeskMessage) (again known : Bool) (u : Unit {0}) (mid new : S) (asked : Result (Unit {0}) Want)
       → HearsMessage hears old m (Ok u) mid → known ≡ again
       → (heard : List Heard) × AsksGap i known asked heard after × InTurn hears mid heard new
@@ -98,7 +98,7 @@ module _ {A S : Type 0} (hears : S → Heard → S → Type 0) (old : S) where
   as_line i after line text result new is h =
       (h.0, inl (is.1, subst (λ (t : List ℕ). TakesLine i t result h.0 after) is.0 h.1), h.2)
 
-  -- and how the intake stands is shown
+  -- and the state of the intake is reported
   pub shown : (i after : IntakeValue A) (text : List ℕ) (result : Result (Unit {0}) LinkFault) (mid new : S) (state : State) (held : ℕ)
       → (told : List Heard) × TakesOrSkips i text result told after × InTurn hears old told mid
       → (gap : Option QueryValue) × GapOf after.inbound.buffer gap × StateOf gap state
@@ -171,7 +171,7 @@ module _ {A : Type 0} where
   stops_after n j old mid new a b rest WriteFailed h k e x y = absurd y
   stops_after n j old mid new a b rest NoHello h k e x y = absurd y
 
-  -- a front of these was taken before the fault
+  -- a prefix of these was taken before the fault
   pub to_stop : (n : ℕ) (old new : IntakeValue A) (front rest all : List (List ℕ)) (fault : LinkFault) (heard : List Heard)
       → all ≡ front ++ rest → Stops n old front rest fault heard new → TakesTo n old all (Err fault) heard new
   to_stop n old new front rest all LaneClosed heard e h = (front, rest, sym e, h)
@@ -181,7 +181,7 @@ module _ {A : Type 0} where
   to_stop n old new front rest all WriteFailed heard e h = absurd h
   to_stop n old new front rest all NoHello heard e h = absurd h
 
-  -- so many more
+  -- this number more
   pub to_after : (n j : ℕ) (old mid new : IntakeValue A) (a b : List (List ℕ)) (result : Result (Unit {0}) LinkFault) (h k : List Heard)
       → j ≡ n + length a → Takes old a h mid → TakesTo j mid b result k new → TakesTo n old (a ++ b) result (h ++ k) new
   to_after n j old mid new a b (Ok u) h k e x y = takes_both old mid new a b h k x y
@@ -197,18 +197,18 @@ module _ {A : Type 0} where
   to_after n j old mid new a b (Err NoHello) h k e x y =
       (a ++ y.0, y.1, append_assoc a y.0 y.1 ∙ ap (λ (l : List (List ℕ)). a ++ l) y.2, stops_after n j old mid new a y.0 y.1 NoHello h k e x y.3)
 
-  -- counting one line too many ends it
+  -- counting one line too many ends the connection
   pub to_count : (n count : ℕ) (old new : IntakeValue A) (all : List (List ℕ)) (result : Result (Unit {0}) LinkFault) (heard : List Heard)
       → IfErr result (λ fault. (fault ≡ TooManyLines) × (count ≡ LINE_LIMIT)) → n + length all ≡ count → Takes old all heard new → TakesTo n old all result heard new
   to_count n count old new all (Ok u) heard many e h = h
   to_count n count old new all (Err fault) heard many e h =
       subst (λ (fault : LinkFault). TakesTo n old all (Err fault) heard new) (sym many.0) (all, [], append-nil all, (h, e ∙ many.1))
 
--- ---- what both come to
+-- ---- the effect of both
 
 module _ {A S : Type 0} (hears : S → Heard → S → Type 0) (old i new : IntakeValue A) (first mid last : S) (front : List (List ℕ))
     (before : (heard : List Heard) × Takes old front heard i × InTurn hears first heard mid) where
-  -- one piece more
+  -- one more piece
   pub more_taken : (text : List ℕ) (u : Unit {0})
       → (heard : List Heard) × TakesPiece i text (Ok u) heard new × InTurn hears mid heard last
       → (heard : List Heard) × Takes old (front ++ text ∷ []) heard new × InTurn hears first heard last
@@ -224,7 +224,7 @@ module _ {A S : Type 0} (hears : S → Heard → S → Type 0) (old i new : Inta
       let breaks = breaks_one old i new front text fault before.0 h.0 before.1 h.1 in
       (before.0 ++ h.0, to_stop n old new _ rest all fault _ cut (stops_one n old new _ rest fault _ may breaks), turns_both hears first mid last before.0 h.0 before.2 h.2)
 
-  -- a block more
+  -- one more block
   pub block_taken : (n j : ℕ) (more all : List (List ℕ)) (result : Result (Unit {0}) LinkFault) → j ≡ n + length front → all ≡ front ++ more
       → (heard : List Heard) × TakesTo j i more result heard new × InTurn hears mid heard last
       → (heard : List Heard) × TakesTo n old all result heard new × InTurn hears first heard last
@@ -236,7 +236,7 @@ module _ {A S : Type 0} (hears : S → Heard → S → Type 0) (old i new : Inta
 
 -- ---- the pieces of one read
 
--- a front of its bytes ends a front of its pieces
+-- a prefix of its bytes ends a prefix of its pieces
 pub front_behind : (stream bytes : List ℕ) (at : ℕ) → pieces_behind stream bytes ≡ pieces_behind stream (take at bytes) ++ pieces_behind (stream ++ take at bytes) (drop at bytes)
 front_behind stream bytes at =
     ap (pieces_behind stream) (sym (take-append-drop at bytes)) ∙ behind_both stream (take at bytes) (drop at bytes)
@@ -259,7 +259,7 @@ no_text : {X : Type 0} (o : Option (Piece X)) (ended : List (List ℕ)) → ((p 
 no_text (Some p) ended other h = absurd (other p refl)
 no_text None ended other h = h
 
--- the bytes up to a place were taken, and then the next ones
+-- the bytes up to an offset were taken, and then the next ones
 module _ (bytes rest : List ℕ) (at n : ℕ) (e : rest ≡ drop at bytes) (old mid : CutterView) (stream : List ℕ) (h : IsFedAll old stream)
     (before : (stream : List ℕ) → IsFedAll old stream → IsFedAll mid (stream ++ take at bytes)) {X : Type 0} (o : Option (Piece X))
     (given : (stream : List ℕ) → IsFedAll mid stream → (ended : List (List ℕ)) × IsGivenFor o ended × (pieces (stream ++ take n rest) ≡ pieces stream ++ ended)) where

@@ -1,4 +1,4 @@
--- Lines that are written: whole ones, and a front of the next.
+-- Lines that are written: whole ones, and a prefix of the next.
 use Rattle.std.proofs.Common.{◌≡◌, ◌≢◌, ℕ, zero, suc, ◌+◌, ◌-◌, ◌<◌, ◌≤◌, Bool, true, false, cond, ltb, List, [], ◌∷◌, ◌++◌, length, take, drop, get_or, Option, Result, Ok, Err, refl, sym, ap, subst, ◌∙◌, arith, inl, inr, append-nil, append_assoc, length-append, length-take, get_or-take}
 use Rattle.std.specs.List.{All}
 use Rattle.std.specs.Io.KnownBytes.{Appends}
@@ -28,7 +28,7 @@ no_end (x ∷ xs) all (suc k) low = no_end xs (All-tail (λ b. b ≢ 10) x xs al
 line_piece : (line : List ℕ) → IsLine line → length (pieces line) ≡ 1
 line_piece line h = subst (λ (l : List ℕ). length (pieces l) ≡ 1) (sym h.1) (ap length (one_piece [] h.0 (no_end h.0 h.2)).0)
 
--- a front of a line ends none
+-- no line ends in a proper prefix of a line
 front_piece : (line : List ℕ) (n : ℕ) → IsLine line → n < length line → length (pieces (take n line)) ≡ 0
 front_piece line n h low =
     let short : n ≤ length h.0 = omega (arith, low, ap length h.1, length-append h.0 (10 ∷ [])) in
@@ -45,9 +45,9 @@ lines_pieces (line ∷ rest) all =
     let more = lines_pieces rest (All-tail IsLine line rest all) in
     omega (arith, lines_both line (joined rest), one, more)
 
--- ---- so many bytes of these lines
+-- ---- this number of bytes of these lines
 
--- they are whole lines, and a front of the next
+-- they are whole lines, and a prefix of the next
 record CutAt (lines : List (List ℕ)) (n : ℕ) : Type 0 where
   pub whole : List (List ℕ)
   pub next : List ℕ
@@ -58,7 +58,7 @@ record CutAt (lines : List (List ℕ)) (n : ℕ) : Type 0 where
   pub low : m < length next
   pub text : take n (joined lines) ≡ joined whole ++ take m next
 
--- a line, and what comes behind it
+-- a line, and what comes after it
 cut_behind : (line rest : List ℕ) (n k : ℕ) → n ≡ length line + k → take n (line ++ rest) ≡ line ++ take k rest
 cut_behind line rest n k sum =
     ap (λ (i : ℕ). take i (line ++ rest)) sum ∙ take_both (length line) k (line ++ rest)
@@ -96,7 +96,7 @@ cut_at (line ∷ rest) n all low = elim (cases_lt n (length line)) [
       }
 ]
 
--- ---- lines that were copied, of which so many bytes were written
+-- ---- lines that were copied, of which this number of bytes was written
 
 module _ {S : Type 0} (takes : S → List ℕ → S → Type 0) (source after : S) (old new : Option (List ℕ)) (lines : List (List ℕ)) (text : List ℕ) (are : AreLines lines text)
     (n count : ℕ) (begun : count ≡ length (pieces (take n text)) + cond (ltb n (length text)) 1 0)

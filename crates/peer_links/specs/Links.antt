@@ -23,11 +23,11 @@ IsOpen text = All (λ b. b ≢ LINE_END) text
 abbrev pub IsOneLine : List ℕ → Type 0
 IsOneLine text = IsOpen text ⊎ IsLine text
 
--- there is no more of the first line than this text: it ends, it is as long as a line may be, or the stream is at its end
+-- the first line has no further bytes: it has ended, it is as long as a line may be, or the stream is at its end
 abbrev pub HasEnded : List ℕ → Option (List ℕ) → Type 0
 HasEnded text left = IsLine text ⊎ (length text ≡ LONGEST) ⊎ IsAtEnd left
 
--- what the first line of a connection comes to, of which this text was read
+-- the result of reading the first line of a connection, of which this text was read
 abbrev pub ReadsHello : List ℕ → Result ℕ LinkFault → Type 0
 ReadsHello text (Ok site) = Spells (AHello site) text
 ReadsHello text (Err NoHello) = (site : ℕ) → Spells (AHello site) text → ⊥
@@ -35,29 +35,29 @@ ReadsHello text (Err ReadFailed) = IsOpen text
 ReadsHello text (Err OutOfMemory) = IsLine text
 ReadsHello text (Err fault) = ⊥
 
--- reading it came to its end, or stopped before
+-- the first line was read to its line feed, or reading stopped before it
 abbrev pub HasRead : List ℕ → Result (Unit {0}) LinkFault → CutterView → Type 0
 HasRead text (Ok _) cutter = IsLine text × IsFed cutter text []
 HasRead text (Err fault) cutter = IsOpen text × ((fault ≡ NoHello) ⊎ (fault ≡ ReadFailed))
 
--- ---- the lines behind it
+-- ---- the lines after it
 
--- it took a stream, and gave all pieces of it
+-- it took a stream, and returned all pieces of it
 abbrev pub IsFedAll : CutterView → List ℕ → Type 0
 IsFedAll cutter stream = IsFed cutter stream (pieces stream)
 
--- so much a connection gave
+-- what was read from a connection
 pub record LinkGave (given left : Option (List ℕ)) : Type 0 where
   pub chunks : List (List ℕ)
   pub input : List ℕ
   pub reads : Consumes given left input
   pub parted : Parted chunks input
 
--- lines, and reads that end none
+-- the number of lines, plus the number of reads in which no line ends
 abbrev pub counted : {given left : Option (List ℕ)} → LinkGave given left → ℕ
 counted gave = length (pieces gave.input) + still gave.chunks
 
--- why a connection that gave so much was given up
+-- why a connection from which this was read was given up
 abbrev pub LinkEnds : {given left : Option (List ℕ)} → LinkGave given left → Result (Unit {0}) LinkFault → Type 0
 LinkEnds gave (Ok _) = counted gave < LINE_LIMIT
 LinkEnds gave (Err ReadFailed) = counted gave < LINE_LIMIT

@@ -8,30 +8,30 @@ use Rattle.peer_links.specs.declared.outbox.TheConstants.{OUTBOX_LINES}
 use Rattle.peer_links.specs.declared.source.Batch.{Batch}
 use Rattle.peer_links.specs.declared.source.Batch.TheVariants.{Over, Copied, Large}
 
--- the lines that wait, the oldest first; whether no more may come
+-- the lines that wait, the oldest first; whether the outbox has ended
 pub record Waiting : Type 0 where
   pub lines : List (List ℕ)
   pub ended : Bool
 
--- what putting a line answers and leaves
+-- the result and the effect of putting a line
 abbrev pub Puts : Waiting → List ℕ → Result (Unit {0}) PutError → Waiting → Type 0
 Puts old line (Ok _) new =
     (old.ended ≡ false) × (length old.lines < OUTBOX_LINES) × (new ≡ record old { lines = old.lines ++ line ∷ [] })
 Puts old line (Err Ended) new = (old.ended ≡ true) × (new ≡ old)
 Puts old line (Err Full) new = (old.ended ≡ false) × (length old.lines ≡ OUTBOX_LINES) × (new ≡ old)
 
--- .. by whether the line found room
+-- the same, by whether the line was put
 abbrev pub PutsIf : Waiting → List ℕ → Bool → Waiting → Type 0
 PutsIf old line true new = Puts old line (Ok tt) new
 PutsIf old line false new = Puts old line (Err Ended) new ⊎ Puts old line (Err Full) new
 
--- the longest front of these lines for which there is room
+-- the longest prefix of these lines that fits into this number of bytes
 abbrev pub front_in : ℕ → List (List ℕ) → List (List ℕ)
 front_in room [] = []
 front_in room (line ∷ lines) =
     if nat_le (length line) room then line ∷ front_in (room - length line) lines else []
 
--- what is to be written next, where this room is filled by what is copied
+-- the next batch to write; what is copied goes to the start of this buffer
 abbrev pub Batches : {A : Type 0} → Waiting → Batch A → List ℕ → Waiting → Type 0
 Batches old Over room new = (old.lines ≡ []) × (new ≡ old)
 Batches old (Copied count) room new =

@@ -1,4 +1,4 @@
--- What a port is told, as plain data, and which messages it may be told.
+-- What a port receives, as plain data, and which messages it may receive.
 use Rattle.std.specs.Prelude.{◌≡◌, ℕ, List, Some, Result}
 use Rattle.rights_types.specs.Messages.{MessageValue}
 use Rattle.rights_types.specs.Messages.MessageValue.{AQuery, AnAsk, ADenial}
@@ -14,8 +14,8 @@ message_of (Query q) = AQuery q
 message_of (Ask a) = AnAsk a
 message_of (Deny d) = ADenial d
 
--- a message for the desk, and whether there was memory for it; a line for the peer; whether entries are missing, and how many
--- are held
+-- a message for the desk, and whether there was memory for it; a line for the peer; whether entries are missing, and
+-- how many are held
 pub data Heard : Type 0 where
   AMessage : DeskMessage → Result (Unit {0}) OutOfMemory → Heard
   ALine : List ℕ → Heard
@@ -26,6 +26,6 @@ pub record IsBetween (origin me : ℕ) (m : DeskMessage) : Type 0 where
   pub from : sender (message_of m) ≡ origin
   pub to : addressee (message_of m) ≡ Some me
 
--- all that the origin of this buffer may send to its site is accepted
+-- the port accepts every message that the origin of this buffer may send to its site
 abbrev pub AcceptsPeer : (DeskMessage → Type 0) → BufferValue → Type 0
 AcceptsPeer accepts buffer = (m : DeskMessage) → IsBetween buffer.origin buffer.me m → accepts m

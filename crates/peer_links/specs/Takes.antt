@@ -1,4 +1,4 @@
--- What the lines of a connection come to, at the intake and at the port.
+-- The effect of the lines of a connection on the intake and on the port.
 use Rattle.std.specs.Prelude.{◌≡◌, ◌≢◌, ℕ, ◌+◌, ◌<◌, ◌≤◌, ◌⊎◌, Bool, true, false, List, [], ◌∷◌, ◌++◌, length, Option, Some, None, Result, Ok, Err, IsErr}
 use Rattle.rights_types.specs.Messages.{QueryValue}
 use Rattle.rights_types.specs.Messages.MessageValue.{AQuery}
@@ -27,74 +27,74 @@ use Rattle.peer_links.specs.declared.link.DeskMessage.TheVariants.{Query, Ask, D
 use Rattle.peer_links.specs.declared.link.LinkFault.{LinkFault}
 use Rattle.peer_links.specs.declared.link.LinkFault.TheVariants.{ReadFailed, TooManyLines, LaneClosed, OutOfMemory as NoMemory}
 
--- the pieces that end in these bytes, which come behind this stream
+-- the pieces that end in these bytes, which follow this stream
 abbrev pub pieces_behind : List ℕ → List ℕ → List (List ℕ)
 pieces_behind stream bytes = pieces_after (unfinished stream) bytes
 
--- a line ends in these bytes that began before them
+-- a line that began before these bytes ends in them
 pub record EndsBegun (stream bytes : List ℕ) : Type 0 where
   pub begun : 0 < length (unfinished stream)
   pub ends : pieces_behind stream bytes ≢ []
 
 -- ---- one line
 
--- what a line says to the desk
+-- the message of a line for the desk, if it has one
 abbrev pub message_in : Arrived → Option DeskMessage
 message_in (CameQuery q) = Some (Query q)
 message_in (CameAsk a) = Some (Ask a)
 message_in (CameDenial d) = Some (Deny d)
 message_in arrived = None
 
--- a beat has the gap asked for again
+-- after a beat the same gap is queried again
 abbrev pub asks_again : Arrived → Bool
 asks_again Beat = true
 asks_again arrived = false
 
--- the port was told the message, if there is one
+-- the port received the message, if there is one
 abbrev pub HearsMessage : {S : Type 0} → (S → Heard → S → Type 0) → S → Option DeskMessage → Result (Unit {0}) OutOfMemory → S → Type 0
 HearsMessage hears old None told new = (told ≡ Ok tt) × (new ≡ old)
 HearsMessage hears old (Some m) told new = hears old (AMessage m told) new
 
--- the line of the query, unless there is no memory for it
+-- the port receives the line of the query, unless there is no memory for it
 abbrev pub HearsQuery : Option QueryValue → Result (Unit {0}) OutOfMemory → List Heard → Type 0
 HearsQuery None (Ok _) heard = heard ≡ []
 HearsQuery None (Err _) heard = ⊥
 HearsQuery (Some q) (Ok _) heard = (text : List ℕ) × Spells (AQuery q) text × (heard ≡ ALine text ∷ [])
 HearsQuery (Some q) (Err _) heard = heard ≡ []
 
--- want of memory ends a connection
+-- lack of memory ends a connection
 abbrev pub as_fault : Result (Unit {0}) OutOfMemory → Result (Unit {0}) LinkFault
 as_fault (Ok x) = Ok x
 as_fault (Err _) = Err NoMemory
 
 module _ {A : Type 0} where
-  -- the gap is asked for, where there is one to ask for
+  -- the gap is queried, if there is one to query
   pub record AsksGap (old : IntakeValue A) (again : Bool) (asked : Result (Unit {0}) OutOfMemory) (heard : List Heard) (new : IntakeValue A) : Type 0 where
     pub query : Option QueryValue
     pub asks : QueryOf old.inbound again query new.inbound
     pub rest : new ≡ record old { inbound = new.inbound }
     pub hears : HearsQuery query asked heard
 
-  -- the gap is asked for, unless there was no memory for the message
+  -- the gap is queried, unless there was no memory for the message
   abbrev pub AsksThen : Result (Unit {0}) OutOfMemory → IntakeValue A → Bool → Result (Unit {0}) LinkFault → List Heard → IntakeValue A → Type 0
   AsksThen (Ok _) old again result heard new =
       (asked : Result (Unit {0}) OutOfMemory) × AsksGap old again asked heard new × (result ≡ as_fault asked)
   AsksThen (Err _) old again result heard new = (result ≡ Err NoMemory) × (heard ≡ []) × (new ≡ old)
 
-  -- the desk gets the message, if there is one, and then the gap is asked for
+  -- the port receives the message for the desk, if there is one, and then the gap is queried
   abbrev pub HandsOver : IntakeValue A → Option DeskMessage → Bool → Result (Unit {0}) LinkFault → List Heard → IntakeValue A → Type 0
   HandsOver old None again result heard new = AsksThen (Ok tt) old again result heard new
   HandsOver old (Some m) again result heard new =
       (told : Result (Unit {0}) OutOfMemory) × (rest : List Heard) × (heard ≡ AMessage m told ∷ rest) × AsksThen told old again result rest new
 
-  -- what follows what the intake answered; a line that is no line for it is skipped
+  -- what follows the intake's result; a line that it refuses for a cause other than memory is skipped
   abbrev pub Follows : IntakeValue A → Result Arrived IntakeError → Result (Unit {0}) LinkFault → List Heard → IntakeValue A → Type 0
   Follows old (Ok arrived) result heard new = HandsOver old (message_in arrived) (asks_again arrived) result heard new
   Follows old (Err (Inbound LineWants)) result heard new = (result ≡ Err NoMemory) × (heard ≡ []) × (new ≡ old)
   Follows old (Err (Inbound fault)) result heard new = (result ≡ Ok tt) × (heard ≡ []) × (new ≡ old)
   Follows old (Err FoundClosed) result heard new = (result ≡ Err LaneClosed) × (heard ≡ []) × (new ≡ old)
 
-  -- the intake was given the line, and the port was told what came of it
+  -- the intake took the line, and the port received what came of it
   pub record TakesLine (old : IntakeValue A) (line : List ℕ) (result : Result (Unit {0}) LinkFault) (heard : List Heard) (new : IntakeValue A) : Type 0 where
     pub came : Result Arrived IntakeError
     pub mid : IntakeValue A
@@ -111,12 +111,12 @@ module _ {A : Type 0} where
       ((length piece ≤ MAX_LINE) × TakesLine old piece result heard new)
       ⊎ ((MAX_LINE < length piece) × (result ≡ Ok tt) × (heard ≡ []) × (new ≡ old))
 
-  -- whether entries are missing, and how many are held
+  -- the port receives whether entries are missing, and how many are held
   abbrev pub Shows : IntakeValue A → Heard → Type 0
   Shows i heard = (gap : Option QueryValue) × (state : State) × GapOf i.inbound.buffer gap × StateOf gap state
       × (heard ≡ AState state (length i.inbound.buffer.held))
 
-  -- the piece was taken, and then the port was told how the intake stands
+  -- the piece was taken, and then the port received the state of the intake
   pub record TakesPiece (old : IntakeValue A) (piece : List ℕ) (result : Result (Unit {0}) LinkFault) (heard : List Heard) (new : IntakeValue A) : Type 0 where
     pub told : List Heard
     pub shown : Heard
@@ -126,14 +126,14 @@ module _ {A : Type 0} where
 
   -- ---- many
 
-  -- these were taken in order
+  -- these pieces were taken in order
   abbrev pub Takes : IntakeValue A → List (List ℕ) → List Heard → IntakeValue A → Type 0
   Takes old [] heard new = (heard ≡ []) × (new ≡ old)
   Takes old (piece ∷ pieces) heard new =
       (mid : IntakeValue A) × (first : List Heard) × (rest : List Heard)
       × TakesPiece old piece (Ok tt) first mid × Takes mid pieces rest new × (heard ≡ first ++ rest)
 
-  -- these were taken in order, and the last of them failed
+  -- these pieces were taken in order, and the last of them failed
   pub record Breaks (old : IntakeValue A) (pieces : List (List ℕ)) (fault : LinkFault) (heard : List Heard) (new : IntakeValue A) : Type 0 where
     pub front : List (List ℕ)
     pub last : List ℕ
@@ -145,22 +145,23 @@ module _ {A : Type 0} where
     pub breaks : TakesPiece mid last (Err fault) rest new
     pub whole : heard ≡ first ++ rest
 
-  -- .. before this fault, and not the rest; too many lines, by the number of these and what was counted besides; memory that was
-  -- wanted for the first line of the rest, or for what the last of these says
+  -- these pieces were taken before this fault, and the rest was not: at TooManyLines, their number and what was
+  -- counted before reach the limit; at NoMemory, memory was refused for the first line of the rest, or for handling
+  -- the last of these
   abbrev pub Stops : ℕ → IntakeValue A → List (List ℕ) → List (List ℕ) → LinkFault → List Heard → IntakeValue A → Type 0
   Stops besides old pieces rest TooManyLines heard new = Takes old pieces heard new × (besides + length pieces ≡ LINE_LIMIT)
   Stops besides old pieces rest LaneClosed heard new = Breaks old pieces LaneClosed heard new
   Stops besides old pieces rest NoMemory heard new = (Takes old pieces heard new × (rest ≢ [])) ⊎ Breaks old pieces NoMemory heard new
   Stops besides old pieces rest fault heard new = ⊥
 
-  -- all of these were taken, or a front of them before a fault
+  -- all of these pieces were taken, or a prefix of them before a fault
   abbrev pub TakesTo : ℕ → IntakeValue A → List (List ℕ) → Result (Unit {0}) LinkFault → List Heard → IntakeValue A → Type 0
   TakesTo besides old pieces (Ok _) heard new = Takes old pieces heard new
   TakesTo besides old pieces (Err ReadFailed) heard new = Takes old pieces heard new
   TakesTo besides old pieces (Err fault) heard new =
       (front : List (List ℕ)) × (rest : List (List ℕ)) × (front ++ rest ≡ pieces) × Stops besides old front rest fault heard new
 
--- the pieces of this input, behind all that the cutter was fed, were taken, and the port heard what they say
+-- the pieces of this input, after all that the cutter was fed, were taken, and the port received what they say
 abbrev pub TakesInput : {A S : Type 0} → (S → Heard → S → Type 0) → ℕ → CutterView → List ℕ → IntakeValue A → S → Result (Unit {0}) LinkFault → IntakeValue A → S → Type 0
 TakesInput hears besides cutter input old before result new after =
     (stream : List ℕ) → IsFedAll cutter stream

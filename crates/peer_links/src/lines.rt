@@ -1,5 +1,5 @@
-//! The pieces of a stream that is read a block at a time: lent where they lie whole in a block, and
-//! copied only where they span two.
+//! The pieces of a stream that is read a block at a time: borrowed if they lie whole in a block, and
+//! copied only if they span two blocks.
 ghost use Rattle.std.specs.Prelude.{◌≡◌, ℕ, ◌<◌, ◌≤◌, ◌++◌, List, length, take, IfOk, OnErr, IfSome, IfNone};
 ghost use Rattle.entry_codec.specs.Pieces.{pieces};
 ghost use Rattle.peer_links.specs.Links.{IsFedAll};
@@ -11,7 +11,7 @@ use memchr::memchr;
 use rights_types::{MAX_LINE, OutOfMemory};
 use std::alloc::Allocator;
 
-/// What ends a line.
+/// The byte that ends a line.
 pub(crate) const LINE_END: u8 = b'\n';
 
 /// A piece of a stream.
@@ -19,14 +19,14 @@ pub(crate) const LINE_END: u8 = b'\n';
 pub enum Piece<'a, A: Allocator> {
     /// A whole line, with its line feed, in the block that was read.
     Borrowed(&'a [u8]),
-    /// A whole line, with its line feed, whose beginning was read before.
+    /// A whole line, with its line feed, whose first part was in an earlier block.
     Owned(Vec<u8, A>),
-    /// A line with too many bytes.
+    /// A line of more than `MAX_LINE` bytes, its line feed included.
     Long,
 }
 
-/// The next piece of a stream that goes on with these bytes, and how many of them it took. `None` where
-/// they end no piece: then all of them were taken.
+/// The next piece of the stream that these bytes continue, and how many of them were taken. `None` if no piece
+/// ends in them: then all of them were taken.
 pub fn next_piece<'a, A: Allocator + Copy>(
     cutter: &mut LineCutter<A>,
     bytes: &'a [u8],
@@ -51,7 +51,7 @@ pub fn next_piece<'a, A: Allocator + Copy>(
         return match cutter.next_line()? {
             Some(Cut::Line(line)) => Ok((Some(Piece::Owned(line)), count)),
             Some(Cut::Long) => Ok((Some(Piece::Long), count)),
-            // The line feed ended a piece, so this is not reached.
+            // The line feed ended a piece, so this arm is not reached.
             None => Ok((None, bytes.len())),
         };
     }

@@ -1,4 +1,4 @@
-//! One connection with a peer: its first line, the lines that come, and the lines that go.
+//! One connection with a peer: its first line, the incoming lines, and the outgoing lines.
 ghost use Rattle.std.specs.Prelude.{◌≡◌};
 ghost use Rattle.entry_codec.specs.Pieces.{IsLine};
 ghost use Rattle.peer_links.specs.Ports.{Heard};
@@ -24,15 +24,15 @@ pub use writing::write_link;
 pub enum LinkFault {
     /// A read failed.
     ReadFailed,
-    /// A write failed, or took no byte.
+    /// A write failed, or wrote no byte.
     WriteFailed,
-    /// Lines, and reads that end no line, came to 1,000,000,000 together.
+    /// The number of lines, plus the number of reads in which no line ended, reached 1,000,000,000.
     TooManyLines,
-    /// The first line does not say who speaks, or there is none.
+    /// The first line does not name the peer's site, or there is no first line.
     NoHello,
-    /// Nobody applies the peer's entries any more.
+    /// No thread applies the peer's entries any more.
     LaneClosed,
-    /// A request for memory was refused.
+    /// A memory request was refused.
     OutOfMemory,
 }
 
@@ -55,7 +55,7 @@ impl From<InputError> for LinkFault {
 /// A message of a peer that is for the desk.
 #[derive(Clone, Copy, Debug, PartialEq, Eq)]
 pub enum DeskMessage {
-    /// The peer asks for entries of the desk's log.
+    /// The peer queries entries of the desk's log.
     Query(Query),
     /// The peer asks for rights.
     Ask(Ask),
@@ -68,36 +68,36 @@ pub enum DeskMessage {
 pub enum Skipped {
     /// It has more than `MAX_LINE` bytes.
     Long,
-    /// The intake does not take it.
+    /// The intake refused it.
     Refused(InboundError),
 }
 
-/// What is done with what comes from a peer, entries aside, which go to a lane. It names no allocator: the
-/// check takes no impl of a trait that has one as a parameter.
+/// Handles what comes from a peer, except entries, which go to a lane. The trait names no allocator: the
+/// check does not accept an impl of a trait that has one as a parameter.
 pub trait Port {
-    // The messages that it may be told.
+    // The messages that it may receive.
     ghost accepts: { DeskMessage → Type 0 };
 
-    // Told this in the first state, it may be left in the second one.
+    // A port in the first state that receives this may be in the second state afterwards.
     ghost hears: { Self → Heard → Self → Type 0 };
 
-    /// Takes a message for the desk.
+    /// Handles a message for the desk.
     fn message<R: Wait>(&mut self, rt: &R, message: DeskMessage) -> Result<(), OutOfMemory>
         requires { accepts message }
         ensures { hears self.old (AMessage message result) self.new };
 
-    /// Takes a line for the peer, which asks for the entries that are missing.
+    /// Sends the peer a line, which queries the entries that are missing.
     fn line<R: Wait>(&mut self, rt: &R, line: Vec<u8>)
         requires { IsLine line.items }
         ensures { hears self.old (ALine line.items) self.new };
 
-    /// Is told after each line whether entries are missing, and how many are held until these come.
+    /// Reports, after each line, whether entries are missing, and how many are held until those arrive.
     fn seen<R: Wait>(&mut self, rt: &R, state: State, held: usize)
         ensures { hears self.old (AState state held) self.new };
 
-    /// Is told that a line was skipped. It can note that in places that other threads share alone.
+    /// Reports that a line was skipped. A port can record this only in memory that threads share.
     fn skipped<R: Wait>(&self, _rt: &R, _why: Skipped) {}
 
-    /// Is told of a line that was taken in, and whether it is a beat, likewise.
+    /// Reports a line that was taken in, and whether it is a beat. It can record this in the same way only.
     fn taken<R: Wait>(&self, _rt: &R, _line: &[u8], _is_beat: bool) {}
 }

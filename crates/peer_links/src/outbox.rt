@@ -12,19 +12,19 @@ use std::alloc::{Allocator, Global};
 use std::marker::Model;
 use std::sync::{Condvar, Mutex, MutexGuard, Wait};
 
-/// Lines that may wait in an outbox.
+/// The greatest number of lines that wait in an outbox.
 pub const OUTBOX_LINES: usize = 256;
 
-/// Why a line was dropped in place of being put, in the order in which the causes are looked for.
+/// Why a line was dropped instead of queued, in the order in which the causes are checked.
 #[derive(Clone, Copy, Debug, PartialEq, Eq)]
 pub enum PutError {
     /// The outbox has ended.
     Ended,
-    /// As many lines wait as may.
+    /// `OUTBOX_LINES` lines wait.
     Full,
 }
 
-/// The lines that wait, the oldest first, and whether more may come.
+/// The lines that wait, the oldest first, and whether the outbox has ended.
 #[derive(Drop)]
 pub(crate) struct Queue<A: Allocator> {
     lines: HeapCircularBuffer<Vec<u8, A>, A>,
@@ -47,7 +47,7 @@ impl<A: Allocator> Model for Queue<A> {
 }
 
 impl<A: Allocator> Queue<A> {
-    /// An empty one, with all the room that it will ever have.
+    /// An empty queue, with all the memory that it will ever use.
     fn new(alloc: A) -> Result<Queue<A>, OutOfMemory>
         ensures { IfOk result (λ q. q ≡ record { lines = []; ended = false }) }
     {
@@ -57,7 +57,7 @@ impl<A: Allocator> Queue<A> {
         })
     }
 
-    /// Whether nothing waits, and something may still come.
+    /// Whether no line waits and the outbox has not ended.
     fn is_idle(&self) -> bool
         ensures { result ≡ (length self.now.lines == 0 && not self.now.ended) }
     {
@@ -84,7 +84,7 @@ impl<A: Allocator> Queue<A> {
         Ok(())
     }
 
-    /// The oldest line.
+    /// Takes the oldest line. `None` if no line waits.
     fn take(&mut self) -> Option<Vec<u8, A>>
         ensures some { IfSome result (λ line. self.old ≡ record self.new { lines = line.items ∷ self.new.lines }) }
         ensures line { IfSome result (λ line. IsLine line.items) }
@@ -94,7 +94,7 @@ impl<A: Allocator> Queue<A> {
         self.lines.pop_front()
     }
 
-    /// Drops so many of the oldest lines, or all.
+    /// Drops this number of the oldest lines, or all if there are fewer.
     fn drop_front(&mut self, count: usize)
         ensures { self.new ≡ record self.old { lines = drop count self.old.lines } }
     {
@@ -103,7 +103,7 @@ impl<A: Allocator> Queue<A> {
         }
     }
 
-    /// Copies the longest front of the lines that finds room, and answers how many bytes that are.
+    /// Copies the longest prefix of the lines that fits, and returns how many bytes were copied.
     fn copy_front(&self, room: &mut [u8]) -> usize
         ensures within { result ≤ length room.old }
         ensures same { length room.new ≡ length room.old }
@@ -122,7 +122,7 @@ impl<A: Allocator> Queue<A> {
         filled
     }
 
-    /// What is to be written next.
+    /// The next batch to write.
     fn batch(&mut self, room: &mut [u8]) -> Batch<A>
         ensures same { length room.new ≡ length room.old }
         ensures batch { Batches self.old result room.new self.new }
@@ -143,7 +143,7 @@ impl<A: Allocator> Queue<A> {
         self.ended = true;
     }
 
-    /// Drops what waits.
+    /// Drops the lines that wait.
     fn clear(&mut self)
         ensures { self.new ≡ record self.old { lines = [] } }
     {
@@ -160,7 +160,7 @@ impl<A: Allocator> LineSource for Queue<A> {
 
     ghost is_over = { IsEmpty };
 
-    /// What is to be written next. It waits for nothing.
+    /// The next batch to write. It does not block.
     fn next_batch<R: Wait>(&mut self, _rt: &R, room: &mut [u8]) -> Batch<A> {
         self.batch(room)
     }
@@ -170,7 +170,7 @@ impl<A: Allocator> LineSource for Queue<A> {
     }
 }
 
-/// Copies the text to a place in the room.
+/// Copies the text to this offset of the buffer.
 fn copy_at(room: &mut [u8], at: usize, text: &[u8])
     requires { at + length text.now ≤ length room.old }
     ensures same { length room.new ≡ length room.old }
@@ -179,17 +179,17 @@ fn copy_at(room: &mut [u8], at: usize, text: &[u8])
     room[at..at + text.len()].copy_from_slice(text);
 }
 
-/// The lines that wait to be sent to one peer, at most `OUTBOX_LINES`. Many threads may put lines; one
+/// The lines that wait to be sent to one peer, at most `OUTBOX_LINES`. Many threads may put lines; one thread
 /// takes or writes them.
 #[derive(Drop)]
 pub struct Outbox<A: Allocator = Global> {
     queue: Mutex<Queue<A>>,
-    /// Told when lines were put, and of the end.
+    /// Notified when lines were put, and of the end.
     changed: Condvar,
 }
 
-/// The lines that wait in an outbox, under its lock: who has it may put lines. The thread that takes lines is
-/// woken when it is dropped.
+/// The lines that wait in an outbox, under its lock, for putting more. When it is dropped, the thread that takes
+/// lines is woken.
 pub struct OutboxLines<'a, A: Allocator = Global> {
     queue: MutexGuard<'a, Queue<A>>,
     changed: &'a Condvar,
@@ -204,7 +204,7 @@ impl<'a, A: Allocator> Model for OutboxLines<'a, A> {
 }
 
 impl<A: Allocator> OutboxLines<'_, A> {
-    /// Puts a line behind the others. A line that is refused is lost.
+    /// Puts a line after the others. A line that is refused is lost. Errors, in this order: `Ended`, `Full`.
     pub fn put(&mut self, line: Vec<u8, A>) -> Result<(), PutError>
         requires { IsLine line.items }
         ensures { Puts self.old line.items result self.new }
@@ -222,7 +222,7 @@ impl<A: Allocator> Drop for OutboxLines<'_, A> {
 }
 
 impl<A: Allocator> Outbox<A> {
-    /// An empty outbox. All its room is made here.
+    /// An empty outbox, with all the memory that it will ever use.
     pub fn new(alloc: A) -> Result<Outbox<A>, OutOfMemory> {
         Ok(Outbox {
             queue: Mutex::new(Queue::new(alloc)?),
@@ -230,7 +230,7 @@ impl<A: Allocator> Outbox<A> {
         })
     }
 
-    /// The lines that wait, for who puts more of them. It waits until no other thread has them.
+    /// Locks the lines that wait, for putting more. Waits until no other thread holds the lock.
     pub fn lock<'a, R: Wait>(&'a self, rt: &R) -> OutboxLines<'a, A> {
         OutboxLines {
             queue: self.queue.lock(rt),
@@ -238,34 +238,35 @@ impl<A: Allocator> Outbox<A> {
         }
     }
 
-    /// Puts one line, as `OutboxLines::put`. The lock hides what waited before.
+    /// Puts one line, as `OutboxLines::put` does. The lock hides which lines waited before.
     pub fn put<R: Wait>(&self, rt: &R, line: Vec<u8, A>) -> Result<(), PutError>
         requires { IsLine line.items }
     {
         self.lock(rt).put(line)
     }
 
-    /// The oldest line, and `None` once the outbox has ended and none waits. It waits for a line.
+    /// Takes the oldest line. Blocks until there is one or the outbox has ended. `None` if it has ended and no line
+    /// waits.
     pub fn take<R: Wait>(&self, rt: &R) -> Option<Vec<u8, A>>
         ensures { IfSome result (λ line. IsLine line.items) }
     {
         self.ready(rt).take()
     }
 
-    /// How many lines wait.
+    /// How many lines wait, 0 to `OUTBOX_LINES`.
     pub fn len<R: Wait>(&self, rt: &R) -> usize
         ensures { result ≤ OUTBOX_LINES }
     {
         self.queue.lock(rt).len()
     }
 
-    /// Ends the outbox: no line is put from then on.
+    /// Ends the outbox: it refuses every later line.
     pub fn end<R: Wait>(&self, rt: &R) {
         self.queue.lock(rt).end();
         self.changed.notify_all();
     }
 
-    /// Ends the outbox, and drops what waits.
+    /// Ends the outbox, and drops the lines that wait.
     pub fn abandon<R: Wait>(&self, rt: &R) {
         let mut queue = self.queue.lock(rt);
         queue.end();
@@ -274,15 +275,15 @@ impl<A: Allocator> Outbox<A> {
         self.changed.notify_all();
     }
 
-    /// The queue, once a line waits or the outbox has ended.
+    /// Locks the queue once a line waits or the outbox has ended.
     fn ready<'a, R: Wait>(&'a self, rt: &R) -> MutexGuard<'a, Queue<A>> {
         self.changed
             .wait_while(rt, self.queue.lock(rt), |queue| queue.is_idle())
     }
 }
 
-/// The lines that wait, for the one thread that writes them. Others may put lines between its calls, so it
-/// is only said that lines are whole.
+/// The lines that wait, for the one thread that writes them. Other threads may put lines between its calls, so the
+/// contract says only that the lines are whole.
 impl<A: Allocator> LineSource for &Outbox<A> {
     type Memory = A;
 

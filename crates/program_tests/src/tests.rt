@@ -1,4 +1,5 @@
-//! Words, help texts, commands and statuses; outboxes, and connections without sockets; endings, with streams that break.
+//! Words, help texts, commands and statuses; outboxes, and connections without sockets; exit statuses, with streams
+//! that fail.
 
 mod commands;
 mod endings;

@@ -7,21 +7,21 @@ use std::cell::Cell;
 #[cfg(test)]
 mod tests;
 
-/// An allocator for tests over the allocator `A`. It grants a number of requests for memory,
-/// refuses the next one, and grants all that come after it.
+/// An allocator for tests over the allocator `A`. It grants a number of memory requests, refuses the next one, and
+/// grants all that come after it.
 ///
-/// A request is a new block, or the growth or shrinking of one. Giving a block back never counts.
+/// A request is for a new block, or to grow or shrink one. Giving a block back never counts.
 /// A `&` to this allocator is an allocator too, and is `Copy`.
 ///
-/// A test meets each refusal in turn by making its run with 0 requests granted, then with 1 and
+/// To meet each refusal in turn, a test makes its run with 0 requests granted, then with 1 and
 /// so on, until a run ends with `refused` false.
 ///
-/// It is proved that each block comes from the inner allocator and goes back to it as it came.
+/// It is proved that each block comes from the inner allocator and goes back to it unchanged.
 /// Which request is refused is only tested, since no clause can say what a cell contains.
 #[derive(Drop)]
 pub struct Refusing<A: Allocator> {
     inner: A,
-    // How many requests are granted before the refusal, and `None` once it has come.
+    // How many requests are granted before the refusal; `None` once it has happened.
     left: Cell<Option<u64>>,
 }
 
@@ -34,13 +34,13 @@ impl<A: Allocator> Refusing<A> {
         }
     }
 
-    /// Whether the refusal has come.
+    /// Whether the refusal has happened.
     pub fn refused(&self) -> bool {
         self.left.get().is_none()
     }
 }
 
-// Counts one request, and says whether it is the one to refuse.
+// Counts one request, and returns whether it is the one to refuse.
 fn refuses_next(left: &Cell<Option<u64>>) -> bool {
     match left.get() {
         None => false,
@@ -55,7 +55,7 @@ fn refuses_next(left: &Cell<Option<u64>>) -> bool {
     }
 }
 
-// `grow` and `shrink` are the trait's own, which ask `allocate` for the new block.
+// `grow` and `shrink` are the trait's own, which call `allocate` for the new block.
 unsafe impl<A: Allocator> Allocator for Refusing<A> {
     ghost dealloc_token = { λ refusing ty ptr. A.dealloc_token refusing.inner ty ptr };
 

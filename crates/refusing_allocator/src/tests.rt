@@ -58,7 +58,7 @@ fn each_run_meets_one_refusal_or_none(rt: HostRuntime) {
 fn grants_all_but_the_one_after(rt: HostRuntime) {
     for granted in 0..3u64 {
         let refusing = Refusing::new(rt.alloc(), granted);
-        // Each block goes back at once, which does not count.
+        // Each block is given back at once, which does not count.
         for _ in 0..granted {
             assert!(rt; Box::new(&refusing, 1u8).is_ok());
         }

@@ -1,4 +1,4 @@
-//! Scripts and events with ample memory, and with each growth refused.
+//! Scripts and events with ample memory, and with each memory request refused.
 
 mod events;
 mod heaps;
@@ -16,7 +16,7 @@ use transfer_world::{run_last_script, run_script};
 /// More requests than any run here makes.
 const MANY: u64 = 1000;
 
-/// Whether the script runs to its end with these replies, where its world is dropped and where it is left.
+/// Whether the script runs to its end with these replies, both if its world is dropped and if it is left.
 fn is_replied(alloc: Global, script: &[u8], replies: &[u8]) -> bool {
     let mut reader = script;
     let mut out = Vec::new(alloc);

@@ -1,4 +1,4 @@
-//! The desk by its public calls alone, and lines that come in for one.
+//! The desk by its public calls alone, and the lines that arrive for one.
 mod balance;
 mod bounds;
 mod calls;

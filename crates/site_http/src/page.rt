@@ -146,18 +146,18 @@ ul { list-style: none; margin: 0; padding: 0; }
     <div class="head"><h2 id="refused-name">Refused commands</h2></div>
     <ul class="refused" id="refused"></ul>
   </section>
-  <noscript><p class="notice warn">This page needs JavaScript. <code>GET /status</code> and <code>GET /metrics</code> say the same as text.</p></noscript>
+  <noscript><p class="notice warn">This page needs JavaScript. <code>GET /status</code> and <code>GET /metrics</code> have the same values as text.</p></noscript>
 </main>
 <script>
 "use strict";
 
-const PAUSE = 1000;      // milliseconds from an answer to the next poll
-const PATIENCE = 10000;  // after so many milliseconds an answer is given up
-const SPAN = 300000;     // what the picture shows
-const RECENT = 60000;    // a counter that grew within this time is marked
-const RATE_SPAN = 10000; // over which a rate is told
-const SILENCE = 10000;   // a peer that says nothing for so long is marked
-const OUTBOX = 256;      // lines that an outbox holds
+const PAUSE = 1000;      // milliseconds from a response to the next poll
+const PATIENCE = 10000;  // milliseconds after which a request is given up
+const SPAN = 300000;     // milliseconds that the picture shows
+const RECENT = 60000;    // a counter that grew within this many milliseconds is marked
+const RATE_SPAN = 10000; // milliseconds over which a rate is computed
+const SILENCE = 10000;   // a peer that sends nothing for this many milliseconds is marked
+const OUTBOX = 256;      // the greatest number of lines in an outbox
 
 const byId = id => document.getElementById(id);
 const grouped = new Intl.NumberFormat("en-US");
@@ -165,10 +165,10 @@ const compact = new Intl.NumberFormat("en-US", { notation: "compact", maximumFra
 const number = value => grouped.format(BigInt(value));
 const many = (count, one, more) => `${number(count)} ${count == 1 ? one : more}`;
 
-// Values may be greater than a double can tell apart, so they stay texts of digits.
+// Values may exceed what a double represents exactly, so they remain strings of digits.
 const readStatus = text => JSON.parse(text.replace(/:(\d+)/g, ':"$1"'));
 
-// By name: the value, or the values by the value of the only label.
+// By name: the value, or the values by the value of their only label.
 function readMetrics(text) {
   const found = {};
   for (const line of text.split("\n")) {
@@ -181,14 +181,14 @@ function readMetrics(text) {
   return found;
 }
 
-const samples = [];       // { at, held, spent }, or { at } where the site was not reached
+const samples = [];       // { at, held, spent }, or { at } if the site was not reached
 const counters = {};      // by name and peer: { at, value } of the last minute
-const heard = {};         // by peer: the lines that came, when they grew last, and the longest pause before that
+const heard = {};         // by peer: the lines received, when they last grew, and the longest pause before that
 let last = null;          // the last status
-let lastAt = 0;           // when it came
-let lostAt = 0;           // since when the site is not reached; 0 where it is
+let lastAt = 0;           // when it arrived
+let lostAt = 0;           // since when the site cannot be reached; 0 if it can
 let wentBack = false;     // whether this site's own log went back while the page was open
-let cursor = null;        // the time that the reader looks at, or null
+let cursor = null;        // the selected time, or null
 
 function setText(id, text) {
   const element = byId(id);
@@ -211,7 +211,7 @@ function growth(name, value, now) {
   return grown > 0n ? grown : 0n;
 }
 
-// For how many milliseconds nothing came from a peer, where that is longer than its pauses were. Each of its ticks sends a
+// For how many milliseconds a peer has sent nothing, if that is longer than its pauses were. Each of its ticks sends a
 // line, but it may tick rarely.
 function silenceOf(site, lines, now) {
   const known = heard[site] ??= { lines, at: now, pause: 0 };
@@ -260,7 +260,7 @@ function rowOf(peer, metric, findings) {
     ["Lines", count("lines_total")], ["Refused", count("lines_refused_total")], ["Dropped", count("lines_dropped_total")],
     ["Waiting", count("lines_waiting")], ["State", make("ul", {}, ...marks)],
   ];
-  // The roles, since at a phone's width these are no table cells by their style.
+  // The roles are given because at a phone's width the style makes these no table cells.
   return make("tr", { role: "row" }, make("th", { scope: "row", role: "rowheader" }, `Site ${peer.site}`),
     ...cells.map(([name, value]) => make("td", { role: "cell", "data-name": name }, value)));
 }
@@ -334,7 +334,7 @@ function show(status, metric, now) {
   showNumbers(status, metric, now);
   const notices = [];
   if (wentBack) notices.push(["bad", "The log of this site went back while this page was open: it was started anew under its number."]);
-  if (status.closed) notices.push(["warn", "This site has closed. It issues, spends and gives no more."]);
+  if (status.closed) notices.push(["warn", "This site has closed. It no longer issues, spends or gives rights."]);
   showNotices(notices);
   byId("main").classList.remove("stale");
   if (status.closed) showState("warn", "closed");
@@ -345,9 +345,9 @@ function showLost(cause, now) {
   lostAt ||= now;
   samples.push({ at: now });
   byId("main").classList.add("stale");
-  setText("peers-sum", last ? "not known now" : "");
+  setText("peers-sum", last ? "unknown" : "");
   showState("bad", "unreachable");
-  const seen = last ? ` What stands below is of ${clock(lastAt)}.` : "";
+  const seen = last ? ` The values below are from ${clock(lastAt)}.` : "";
   showNotices([["bad", `The site has not been reached since ${clock(lostAt)}: ${cause}.${seen}`]]);
 }
 
@@ -362,7 +362,7 @@ function scaleOf(most) {
   return { step, top: step * Math.max(1, Math.ceil(most / step)) };
 }
 
-// The samples in runs between which the site was not reached.
+// The samples as runs, between which the site was not reached.
 function runs() {
   const found = [[]];
   for (const sample of samples) {
@@ -476,17 +476,17 @@ addEventListener("resize", draw);
 async function get(path) {
   const signal = AbortSignal.timeout(PATIENCE);
   const response = await fetch(path, { signal, cache: "no-store", credentials: "omit" });
-  if (response.status == 503) throw new Error("it answers that it has no place for a further client");
-  if (!response.ok) throw new Error(`it answers ${response.status} to ${path}`);
+  if (response.status == 503) throw new Error("all its client connections are in use");
+  if (!response.ok) throw new Error(`it responds with ${response.status} to ${path}`);
   return response.text();
 }
 
 function causeOf(error) {
-  if (error.name == "TimeoutError") return `no answer within ${PATIENCE / 1000} seconds`;
+  if (error.name == "TimeoutError") return `no response within ${PATIENCE / 1000} seconds`;
   return error instanceof TypeError ? "no connection" : error.message;
 }
 
-// One after the other, so that the page takes one of the site's connections.
+// One after the other, so that the page takes only one of the site's connections.
 async function poll() {
   try {
     const status = readStatus(await get("/status"));

@@ -1,4 +1,4 @@
-//! A client that counts stands for a site.
+//! A client that counts takes the place of a site.
 mod counter;
 mod exchanges;
 mod limits;

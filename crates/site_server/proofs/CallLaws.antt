@@ -1,4 +1,4 @@
--- What a client was told in the responses to its requests is what its seat counts.
+-- What the responses to a client's requests report to it is what its seat counts.
 use Rattle.std.proofs.Common.{◌≡◌, ◌∙◌, ◌⊎◌, ℕ, List, [], ◌∷◌, ◌++◌, append-nil, Bool, Option, Some, None, inl, inr, refl, ap, sym, subst}
 use Rattle.http.specs.declared.request.Request.{Request}
 use Rattle.http.specs.Request.{body_of}
@@ -30,7 +30,7 @@ use Rattle.site_server.specs.Conversations.{IsTurn}
 use Rattle.site_server.specs.Requests.{IsSettledTurn, IsQueued, AreTurnsOf, AreBodyTurns, AreRouteTurns, AreCallTurns, AreCallsTurns, Conversed, CountsCalls}
 use Rattle.site_server.proofs.ConfirmedLaws.{turns_of_line, both}
 
--- a line has turns that lead from one value of the seat to another
+-- a line has turns, which lead from one value of the seat to another
 module _ {S : Type 0} (seat : S → SeatValue) (is_turn : Option SiteCommand → List ℕ → List Turn → Type 0) (answers : Answering S)
     (one : (old : S) (line reply : List ℕ) (new : S) → answers old line reply new → (turns : List Turn) × is_turn (asked line) reply turns × HasTurns (seat old) turns (seat new)) where
   pub turns_of_each : (old : S) (lines replies : List (List ℕ)) (new : S) → AnswersEach answers old lines replies new
@@ -70,7 +70,7 @@ module _ {S : Type 0} (seat : S → SeatValue) (is_turn : Option SiteCommand →
         found.2,
       )
 
-  -- .. where there has to be one line
+  -- the same if there must be one line
   pub turns_of_one : (old : S) (lines replies : List (List ℕ)) (code : ℕ) (r : Response) (new : S)
       → RepliesToOne answers old lines code replies new → r.body.items ≡ text_of replies
       → (turns : List Turn) × (AreBodyTurns is_turn lines r turns ⊎ (turns ≡ [])) × HasTurns (seat old) turns (seat new)
@@ -154,7 +154,7 @@ module _ {P : Type 0} (size : P → ℕ) (sends : P → ℕ → ℕ → P → Ty
         let found = turns_of_calls old calls new h in
         record { turns = found.0; are_turns = found.1; has_turns = found.2; counted = turns_count old.seat found.0 new.seat found.2 }
 
--- a connection from its beginning on
+-- a connection from its beginning
 pub conversed : {S : Type 0} (answers : S → Request (List ℕ) → Response → S → Type 0) (config : Config) (given left held holds : Option (List ℕ)) (old first last new : S) (before after : History)
     → first ≡ old → new ≡ last → before ≡ new_history → ∥ IsServed config after ∥₁
     → (more : List ℕ) × Consumes given left more × (after.received ≡ before.received ++ more)

@@ -1,4 +1,4 @@
--- What a client was told in the replies to its lines is what its seat counts.
+-- What the replies to a client's lines report to it is what its seat counts.
 use Rattle.std.proofs.Common.{◌≡◌, ℕ, List, [], ◌∷◌, ◌++◌, Option, Some, None, Result, Ok, Err, inl, inr, refl, ap, sym, subst}
 use Rattle.line_streams.specs.Handling.{Answering, LineGets, LinesGet}
 use Rattle.line_streams.specs.Talk.{Talk, Leaves}
@@ -37,14 +37,14 @@ module _ {P : Type 0} (size : P → ℕ) (sends : P → ℕ → ℕ → P → Ty
   turns_of_line (Some Quit) was before text now after h = absurd h
 
   module _ {S : Type 0} (seat : S → SeatValue) (peers : S → P) where
-    -- what a handler with such a seat and such peers answers, and as what it is left without memory
+    -- the replies of a handler with such a seat and such peers, and its state after a memory refusal
     abbrev pub Answers : Answering S
     Answers before line reply after = Gets size sends id (asked line) (seat before) (peers before) reply (seat after) (peers after)
 
     abbrev pub Fails : S → S → Type 0
     Fails before after = (seat after ≡ seat before) × (peers after ≡ peers before)
 
-    -- the command of a line came to this
+    -- the command of a line had this effect
     pub line_gets : (goes : Goes) (command : Option SiteCommand) (line : List ℕ) (old new : S) (waits waits' : Waiting) → command ≡ asked line
         → GetsBy size sends goes id command (seat old) (peers old) waits (seat new) (peers new) waits' → LineGets Answers goes old line new waits waits'
     line_gets On command line old new waits waits' same h =
@@ -63,7 +63,7 @@ module _ {P : Type 0} (size : P → ℕ) (sends : P → ℕ → ℕ → P → Ty
           both (seat start) (seat h.1) (seat state) first.0 rest.0 first.2 rest.2,
         )
 
-    -- whatever ended a conversation, the seat is as after the last reply
+    -- however a conversation ended, the seat is as after the last reply
     seat_left : {given left held holds : Option (List ℕ)} (start after : S) (result : Result EndedBy ConversationError) (talk : Talk Answers start given left held holds)
         → Leaves Fails result talk after → seat after ≡ seat talk.state
     seat_left start after (Ok Input) talk h = ap seat h

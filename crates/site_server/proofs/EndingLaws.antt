@@ -7,7 +7,7 @@ use Rattle.apply_lanes.specs.Stops.{Reports, ReportsDesk, missing_of}
 use Rattle.apply_lanes.specs.declared.stopping.Report.{Report}
 use Rattle.site_server.specs.Ending.{StopsDesk}
 
--- a report of the desk, by its seats and appliers
+-- a report of the desk, from its seats and appliers
 pub stops : (id : DeskId) (seats : List SeatValue) (applied : List AppliedValue) (report : Report) → Reports seats applied report
     → (kept : KeptValue) × IsKept id kept × (missing_of kept (length seats) (length applied) ≡ None) × ReportsDesk kept.desk report
     → StopsDesk id report

@@ -1,4 +1,4 @@
--- What becomes of a spend that waits.
+-- The outcome of a spend that waits.
 use Rattle.std.proofs.Common.{◌≡◌, ℕ, false, subst}
 use Rattle.apply_lanes.specs.Names.{DeskId}
 use Rattle.apply_lanes.specs.Kepts.{KeptValue, SeatValue}
@@ -16,7 +16,7 @@ same_seat old was ticket (Spending spending) new now h = absurd h
 same_seat old was ticket (Outcome status) new now h = h.same_seat
 same_seat old was ticket (Refused cause) new now h = absurd h
 
--- to ask for an outcome leaves the seat as it was
+-- asking for an outcome leaves the seat unchanged
 pub keeps_seat : (id : DeskId) (was : SeatValue) (ticket : ℕ) (reply : Reply) (now : SeatValue)
     → ActsAtDesk id was (AsksOutcome ticket) reply now → now ≡ was
 keeps_seat id was ticket reply now h = same_seat h.old was ticket reply h.new now h.acts

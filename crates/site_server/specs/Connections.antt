@@ -1,4 +1,4 @@
--- What the lines of a client get over a connection, and what that leaves of the client.
+-- The reply to each line of a client over a connection, and its effect on the client.
 use Rattle.std.specs.Prelude.{◌≡◌, ℕ, List, Option, Some, None}
 use Rattle.http.specs.declared.request.Request.{Request}
 use Rattle.http_server.specs.declared.response.Response.{Response}
@@ -12,25 +12,25 @@ use Rattle.site_server.specs.Measuring.{TellsMetrics, TellsClosed}
 use Rattle.site_server.specs.Replying.{asked, Says, TellsStatus}
 use Rattle.site_server.specs.Settling.{SettlesCommand}
 
--- a client, as plain data: its seat, its peers, and what tells it of ticks
+-- a client, as plain data: its seat, its peers, and what notifies it of ticks
 pub record ClientValue (P B : Type 0) : Type 0 where
   pub seat : SeatValue
   pub peers : P
   pub signal : B
 
 module _ {P : Type 0} (size : P → ℕ) (sends : P → ℕ → ℕ → P → Type 0) where
-  -- over a connection nothing ends the site: `quit` is no command
+  -- over a connection no command ends the site: `quit` is not a command there
   abbrev pub Tells : DeskId → Option SiteCommand → SeatValue → P → List ℕ → SeatValue → P → Type 0
   Tells id (Some Quit) was before text now after = Says size sends id None was before text now after
   Tells id command was before text now after = Says size sends id command was before text now after
 
-  -- .. to a client that waits for what becomes of its spend
+  -- the same for a client that waits for the outcome of its spend
   abbrev pub TellsSettled : Type 0 → DeskId → Option SiteCommand → SeatValue → P → List ℕ → SeatValue → P → Type 0
   TellsSettled HasEnded id (Some (AtDesk command)) was before text now after =
       SettlesCommand HasEnded id was command text now × (after ≡ before)
   TellsSettled HasEnded id command was before text now after = Tells id command was before text now after
 
-  -- what a request of a client gets over a connection
+  -- the response to a request of a client over a connection
   module _ {B : Type 0} (has_ended : B → Type 0) (id : DeskId) where
     abbrev pub Answers : Answering (ClientValue P B)
     Answers before line text after = Tells id (asked line) before.seat before.peers text after.seat after.peers

@@ -6,7 +6,7 @@ use Rattle.apply_lanes.specs.Names.{DeskId}
 use Rattle.apply_lanes.specs.Stops.{Reports, ReportsDesk, missing_of}
 use Rattle.apply_lanes.specs.declared.stopping.Report.{Report}
 
--- the report of the desk, of which every seat and every applier came back: what all its clients were told is what it did
+-- the report of a desk whose seats and appliers were all returned: what was reported to all its clients is what it did
 pub record StopsDesk (id : DeskId) (report : Report) : Type 0 where
   pub seats : List SeatValue
   pub applied : List AppliedValue

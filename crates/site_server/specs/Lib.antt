@@ -1,4 +1,4 @@
--- What each line of a client gets, what is sent to the peers, and what is done with what they say.
+-- The reply to each line of a client, what is sent to the peers, and how their messages are handled.
 pub mod Replying
 pub mod Settling
 pub mod Measuring

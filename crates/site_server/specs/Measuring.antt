@@ -1,4 +1,4 @@
--- What a site tells of itself to who asks for its metrics or its health.
+-- What a site reports about itself when it is asked for its metrics or its health.
 use Rattle.std.specs.Prelude.{◌≡◌, ℕ, Bool, List, length}
 use Rattle.std.specs.List.{All}
 use Rattle.rights_book.specs.Books.{peer}
@@ -12,7 +12,7 @@ use Rattle.site_metrics.specs.declared.metrics.Metrics.{Metrics}
 use Rattle.site_metrics.specs.declared.metrics.PeerMetrics.{PeerMetrics}
 use Rattle.site_server.specs.declared.site.measuring.DeskValues.{DeskValues}
 
--- each value of the desk in its place; the other values are counters and lists of threads
+-- each value of the desk is in its field; the other fields are counters and values of threads
 pub record HasValues (values : DeskValues) (metrics : Metrics) : Type 0 where
   pub held : metrics.held ≡ values.view.held
   pub queued : metrics.queued ≡ values.view.queued
@@ -26,11 +26,11 @@ pub record HasValues (values : DeskValues) (metrics : Metrics) : Type 0 where
   pub waiting : metrics.requests_waiting ≡ values.waiting
   pub unread : metrics.outcomes_unread ≡ values.unread
 
--- so much of that log was applied at the desk
+-- this value is how far the desk applied that peer's log
 abbrev pub HasApplied : DeskValue → PeerMetrics → Type 0
 HasApplied d metrics = metrics.applied ≡ (peer d.ledger.book metrics.site).log.end
 
--- the values, and what was applied of each peer's log, are those of the desk at one moment
+-- the values, and how far each peer's log was applied, are those of the desk at one moment
 pub record AreValues (id : DeskId) (values : DeskValues) (peers : List PeerMetrics) : Type 0 where
   pub kept : KeptValue
   pub valid : IsKept id kept
@@ -39,20 +39,20 @@ pub record AreValues (id : DeskId) (values : DeskValues) (peers : List PeerMetri
   pub unread : values.unread ≡ length kept.desk.queue.outcomes
   pub applied : All (HasApplied kept.desk) peers
 
--- .. and the site's values are these
+-- the same, and the site's metrics have these values
 pub record AreMetrics (id : DeskId) (metrics : Metrics) (peers : List PeerMetrics) : Type 0 where
   pub values : DeskValues
   pub of_desk : AreValues id values peers
   pub has : HasValues values metrics
 
--- the metrics of such values
+-- the text of such metrics
 pub record TellsMetrics (id : DeskId) (text : List ℕ) : Type 0 where
   pub metrics : Metrics
   pub peers : List PeerMetrics
   pub read : AreMetrics id metrics peers
   pub says : text ≡ metrics_text metrics peers
 
--- whether the desk has closed, at one moment
+-- whether the desk is closed, at one moment
 pub record TellsClosed (id : DeskId) (is_closed : Bool) : Type 0 where
   pub kept : KeptValue
   pub valid : IsKept id kept

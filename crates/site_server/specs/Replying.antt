@@ -1,4 +1,4 @@
--- What each line of a client gets at a site that runs, and what that leaves of the client's seat and of the peers.
+-- The reply to each line of a client at a running site, and its effect on the client's seat and on the peers.
 use Rattle.std.specs.Prelude.{◌≡◌, ℕ, ◌-◌, nat_le, List, [], length, take, Option, Some, None, Result, Ok, Err, if◌then◌else◌}
 use Rattle.std.specs.List.{All}
 use Rattle.rights_types.specs.declared.limits.TheConstants.{MAX_LINE}
@@ -28,26 +28,27 @@ use Rattle.site_node.specs.ToPeers.{SendsToFirst}
 use Rattle.site_node.specs.declared.reply.Reply.{Reply}
 use Rattle.site_node.specs.declared.tick.Ticked.{Ticked}
 
--- the command of a line with its line feed; none where it has no form of a command, or more bytes than a line may have
+-- the command that a line, with its line feed, spells; `None` if it spells none, or has more bytes than a line may
+-- have
 abbrev pub asked : List ℕ → Option SiteCommand
 asked line = if nat_le (length line) MAX_LINE then command_of (take (length line - 1) line) else None
 
 -- ---- replies
 
--- the desk carried the command out, under its lock, and this is the reply
+-- the desk carried out the command, under its lock, and this is the reply
 pub record ActsAtDesk (id : DeskId) (was : SeatValue) (command : DeskCommand) (reply : Reply) (now : SeatValue) : Type 0 where
   pub old : KeptValue
   pub new : KeptValue
   pub valid : IsKept id old
   pub acts : Acts old was command reply new now
 
--- .. and this is its text
+-- the same, and this is the text of the reply
 pub record CarriesOut (id : DeskId) (was : SeatValue) (command : DeskCommand) (text : List ℕ) (now : SeatValue) : Type 0 where
   pub reply : Reply
   pub at_desk : ActsAtDesk id was command reply now
   pub says : text ≡ reply_text reply
 
--- all that is due at this time was done at the desk, under its lock
+-- everything due at this time was done at the desk, under its lock
 pub record TicksAtDesk (id : DeskId) (was : SeatValue) (time : ℕ) (ticked : Result Ticked DeskError) (now : SeatValue) : Type 0 where
   pub old : KeptValue
   pub new : KeptValue
@@ -55,18 +56,18 @@ pub record TicksAtDesk (id : DeskId) (was : SeatValue) (time : ℕ) (ticked : Re
   pub valid : IsKept id old
   pub ticks : Ticks old was time served ticked new now
 
--- so much of that log was applied at the desk
+-- this value is how far the desk applied that peer's log
 abbrev pub IsApplied : DeskValue → PeerView → Type 0
 IsApplied d view = view.applied ≡ (peer d.ledger.book view.site).log.end
 
--- the views are those of the desk at one moment; what a peer's buffer waits for is what was noted last
+-- the views are those of the desk at one moment; the state of a peer's buffer is what was recorded last
 pub record AreViews (id : DeskId) (view : DeskView) (peers : List PeerView) : Type 0 where
   pub kept : KeptValue
   pub valid : IsKept id kept
   pub desk : IsViewOf kept.desk view
   pub applied : All (IsApplied kept.desk) peers
 
--- the status object of such views
+-- the text of a status object with such views
 pub record TellsStatus (id : DeskId) (text : List ℕ) : Type 0 where
   pub view : DeskView
   pub peers : List PeerView
@@ -74,7 +75,8 @@ pub record TellsStatus (id : DeskId) (text : List ℕ) : Type 0 where
   pub says : text ≡ status_text view peers
 
 module _ {P : Type 0} (size : P → ℕ) (sends : P → ℕ → ℕ → P → Type 0) where
-  -- after a tick at the desk all peers are sent what is due to them, unless memory is wanted; after a refusal none is
+  -- after a tick at the desk every peer is sent what is due to it, unless memory is refused; after a refusal no peer
+  -- is
   abbrev pub ThenSends : Result Ticked DeskError → P → Result (Ticked × ℕ) DeskError → P → Type 0
   ThenSends (Ok ticked) before (Ok (done, sent)) after = (done ≡ ticked) × SendsToFirst sends (size before) before sent after
   ThenSends (Ok ticked) before (Err fault) after = fault ≡ OutOfMemory
@@ -85,7 +87,7 @@ module _ {P : Type 0} (size : P → ℕ) (sends : P → ℕ → ℕ → P → Ty
     pub at_desk : TicksAtDesk id was time ticked now
     pub then_sends : ThenSends ticked before result after
 
-  -- .. and this is the reply
+  -- the same, and this is the text of the reply
   pub record DoesDue (id : DeskId) (was : SeatValue) (before : P) (time : ℕ) (text : List ℕ) (now : SeatValue) (after : P) : Type 0 where
     pub result : Result (Ticked × ℕ) DeskError
     pub does : TicksAndSends id was before time result now after
@@ -93,7 +95,7 @@ module _ {P : Type 0} (size : P → ℕ) (sends : P → ℕ → ℕ → P → Ty
 
   -- ---- lines
 
-  -- the reply to what a line asks for, and what is left of the seat and the peers; `quit` gets none
+  -- the reply to a line, and its effect on the seat and the peers; `quit` has no reply
   abbrev pub Says : DeskId → Option SiteCommand → SeatValue → P → List ℕ → SeatValue → P → Type 0
   Says id None was before text now after = (text ≡ bad_command) × (now ≡ was) × (after ≡ before)
   Says id (Some (AtDesk command)) was before text now after = CarriesOut id was command text now × (after ≡ before)
@@ -101,12 +103,12 @@ module _ {P : Type 0} (size : P → ℕ) (sends : P → ℕ → ℕ → P → Ty
   Says id (Some Status) was before text now after = TellsStatus id text × (now ≡ was) × (after ≡ before)
   Says id (Some Quit) was before text now after = ⊥
 
-  -- `quit` ends the conversation, and nothing else does
+  -- `quit` ends the conversation, and no other line does
   abbrev pub Gets : DeskId → Option SiteCommand → SeatValue → P → Option (List ℕ) → SeatValue → P → Type 0
   Gets id command was before (Some text) now after = Says id command was before text now after
   Gets id command was before None now after = (command ≡ Some Quit) × (now ≡ was) × (after ≡ before)
 
-  -- .. as replies that wait to be written
+  -- the same, for replies that wait to be written
   abbrev pub GetsBy : Goes → DeskId → Option SiteCommand → SeatValue → P → Waiting → SeatValue → P → Waiting → Type 0
   GetsBy On id command was before waits now after waits' =
       (text : List ℕ) × Gets id command was before (Some text) now after × AddsReply waits waits' text

@@ -23,7 +23,7 @@ use Rattle.site_http.specs.declared.route.Route.TheVariants.{Commands, Wait}
 use Rattle.site_server.specs.Replying.{asked}
 use Rattle.site_server.specs.Conversations.{IsTurn}
 
--- A connection from its beginning to its end: what was read of it and written to it is such a history, whose calls lead from
+-- A connection from beginning to end: what was read from it and written to it has this history, whose calls lead from
 -- one state of the service to the other.
 pub record Conversed {S : Type 0} (answers : S → Request (List ℕ) → Response → S → Type 0) (given left held holds : Option (List ℕ)) (old new : S) : Type 0 where
   pub config : Config
@@ -37,7 +37,7 @@ pub record Conversed {S : Type 0} (answers : S → Request (List ℕ) → Respon
 abbrev pub IsQueued : Reply → Type 0
 IsQueued reply = (ticket : ℕ) × (reply ≡ Spending (Queued ticket))
 
--- the turn of a line whose client waits: it is told the reply, or, of a spend that was queued, what became of it
+-- the turn of a line whose client waits: it gets the reply, or for a queued spend the outcome
 abbrev pub IsSettledTurn : Option SiteCommand → List ℕ → List Turn → Type 0
 IsSettledTurn (Some (AtDesk command)) text turns =
     (reply : Reply) × (turns ≡ ACommand command reply ∷ []) × ((text ≡ reply_text reply) ⊎ IsQueued reply)
@@ -52,7 +52,8 @@ module _ (is_turn : Option SiteCommand → List ℕ → List Turn → Type 0) wh
       × is_turn (asked line) reply first × AreTurnsOf lines replies rest × (turns ≡ first ++ rest)
   AreTurnsOf lines replies turns = ⊥
 
-  -- the first of these lines were carried out, and the response has their replies; behind them at most that there was no memory
+  -- the first of these lines were carried out, and the response has their replies; after them at most a refusal for
+  -- lack of memory
   pub record AreBodyTurns (lines : List (List ℕ)) (r : Response) (turns : List Turn) : Type 0 where
     pub carried : List (List ℕ)
     pub left : List (List ℕ)
@@ -76,7 +77,7 @@ AreCallsTurns [] turns = turns ≡ []
 AreCallsTurns (call ∷ calls) turns =
     (first : List Turn) × (rest : List Turn) × AreCallTurns call.0 call.1 first × AreCallsTurns calls rest × (turns ≡ first ++ rest)
 
--- what the client was told as issued and as spent in the responses to these requests is what its seat counts more
+-- what the responses to these requests report to the client as issued and as spent is what its seat counts in addition
 pub record CountsCalls (was : SeatValue) (calls : List Call) (now : SeatValue) : Type 0 where
   pub turns : List Turn
   pub are_turns : AreCallsTurns calls turns

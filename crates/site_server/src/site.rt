@@ -1,6 +1,6 @@
-//! One site of a system as a process. Its commands come one after another from a reader; all that other
-//! sites have to say comes over TCP, and is taken in by threads of its own. The command thread waits for
-//! no peer: what it has to say goes into bounded outboxes.
+//! One site of a system as a process. It reads its commands one after another from a reader. Everything that other
+//! sites send arrives over TCP, and is taken in by threads of its own. The command thread does not wait for any peer:
+//! what it sends goes into bounded outboxes.
 ghost use Rattle.std.specs.Prelude.{◌≡◌};
 ghost use Rattle.apply_lanes.specs.Names.{id_of, AreBlank, IsUnused};
 
@@ -40,8 +40,10 @@ use std::thread;
 use std::thread::{Scope, Threads};
 use std::time::Clock;
 
-/// Runs one site till `quit` or the end of its commands. It listens before it reads the first one. Replies
-/// are written before each read, so they never wait for further commands.
+/// Runs one site until `quit` or the end of its commands. It listens before it reads the first one. Replies are
+/// written before each read, so they never wait for further commands. Errors before the first read, in this
+/// order: `StartedBefore` or `CannotCreateStartFile`; `CannotListen`; `OutOfMemory`, also if a thread cannot be
+/// started.
 pub fn run_site<
     R: Net<Listener = TcpListener, Stream = TcpStream>
         + Threads
@@ -89,7 +91,7 @@ fn serve<
     requires unused { IsUnused desk }
     requires configured { (D.id.site ≡ config.now.id) × (D.id.sites ≡ config.now.sites) }
 {
-    // Each thread owns its share of the desk: the check lends no thread a value of a type with a parameter.
+    // Each thread owns a reference to the desk: the check lets no thread borrow a value whose type has a parameter.
     let shared = Arc::new(rt.alloc(), Shared::<D>::new(rt.alloc(), desk, blanks)?)?;
     shared.give_seats(rt);
     let links = links_of(rt, rt.alloc(), config, &shared)?;
@@ -98,7 +100,7 @@ fn serve<
     Ok(ended?)
 }
 
-/// Stops the desk of a site whose threads have ended, and says what it did, where clients could connect.
+/// Stops the desk of a site whose threads have ended, and reports what it did, if clients could connect.
 fn stop_site<D: DeskNames, R: Eprint + AllocGlobal>(rt: &R, site: &Site, shared: Arc<Shared<D>>) {
     let stopped = stop_desk(rt.alloc(), shared);
     if site.clients.is_none() {
@@ -143,7 +145,7 @@ fn run_threads<
     })
 }
 
-/// Answers the commands with their seat, which is put back.
+/// Answers the commands, with their seat, which is put back afterwards.
 fn answer_commands<D: DeskNames, R: Wait + AllocGlobal, I: Read, W: Write>(
     rt: &R,
     site: &Site,
@@ -160,7 +162,7 @@ fn answer_commands<D: DeskNames, R: Wait + AllocGlobal, I: Read, W: Write>(
     Ok(())
 }
 
-/// Starts all threads but that of the commands. False where one could not be started.
+/// Starts all threads except that of the commands. `false` if one could not be started.
 fn begin_all<
     's,
     E,
@@ -190,7 +192,7 @@ fn begin_all<
     has_all
 }
 
-/// Starts the threads that deal with one peer. False where one could not be started.
+/// Starts the threads for one peer. `false` if one could not be started.
 fn begin_peer<
     's,
     E,
@@ -212,7 +214,7 @@ fn begin_peer<
     }
 }
 
-/// Starts the threads that read what this peer says and apply it. False where one could not be started.
+/// Starts the threads that read this peer's lines and apply its entries. `false` if one could not be started.
 fn begin_link<
     's,
     E,
@@ -231,7 +233,7 @@ fn begin_link<
     )
 }
 
-/// Starts a thread for each. False where one could not be started.
+/// Starts a thread for each of the two. `false` if one could not be started.
 fn begin_both<'s, E, F: FnOnce() + Send + Drop + 's, G: FnOnce() + Send + Drop + 's>(
     scope: &Scope<'s, E>,
     first: F,

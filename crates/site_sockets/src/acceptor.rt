@@ -1,4 +1,4 @@
-//! Connections that have not yet said whose they are.
+//! Incoming connections whose first line has not been read.
 
 use crate::connection_slot::Connection;
 use crate::deadline_reader::DeadlineReader;
@@ -12,13 +12,14 @@ use std::thread;
 use std::thread::{Scope, Threads};
 use std::time::{Clock, Duration};
 
-/// How many connections may wait for their first line at a time. A further one is closed.
+/// How many connections may wait for their first line at a time. A further connection is closed.
 pub(crate) const WAITING: usize = 64;
 
 /// How many seconds the first line of a connection may take.
 const HELLO_SECONDS: u64 = 5;
 
-/// The site that a connection says to be of, and the connection behind its first line.
+/// The site that the first line of a connection names, and the connection after that line. `None` if there is no such
+/// line in time, or an operation on the stream or a memory request fails.
 fn identified<R: Wait + Clock + AllocGlobal>(
     rt: &R,
     stream: TcpStream,
@@ -31,8 +32,8 @@ fn identified<R: Wait + Clock + AllocGlobal>(
     Some((from, Connection { stream, cutter }))
 }
 
-/// Reads the first line of a connection, which waits at this place, and hands the connection to the
-/// thread that reads this peer. Any other first line, or none in time, closes it.
+/// Reads the first line of a connection, which has this place while it waits, and hands the connection to the thread
+/// that reads this peer. If the first line does not name a peer, or does not arrive in time, the connection is closed.
 fn handshake<R: Wait + Clock + AllocGlobal>(rt: &R, site: &Site, stream: TcpStream, place: usize) {
     let identified = identified(rt, stream);
     site.handshakes.leave(rt, place);
@@ -44,7 +45,7 @@ fn handshake<R: Wait + Clock + AllocGlobal>(rt: &R, site: &Site, stream: TcpStre
     }
 }
 
-/// Lets in who connects, each with a thread of its own till its first line is read, till the site ends.
+/// Accepts connections until the site ends, each with a thread of its own until its first line is read.
 fn run_acceptor<R: Threads + Wait + Clock + AllocGlobal + Sync>(rt: &R, site: &Site) {
     thread::scope(thread::scope_env(), rt, |scope| {
         for _ in rt.forever() {
@@ -61,7 +62,7 @@ fn run_acceptor<R: Threads + Wait + Clock + AllocGlobal + Sync>(rt: &R, site: &S
     })
 }
 
-/// Starts the thread that lets in who connects. False where it could not be started.
+/// Starts the thread that accepts connections of peers. `false` if it could not be started.
 pub fn begin_acceptor<'s, E, R: Threads + Wait + Clock + AllocGlobal + Sync>(
     scope: &Scope<'s, E>,
     rt: &'s R,

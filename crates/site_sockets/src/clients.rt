@@ -1,4 +1,4 @@
-//! Clients that connect: where they are let in, and what ends them.
+//! Client connections: accepting them, and what ends them.
 
 use crate::connection_pool::ConnectionPool;
 use crate::deadline_reader::DeadlineReader;
@@ -12,38 +12,38 @@ use std::sync::atomic::{AtomicBool, Ordering};
 use std::time::{Clock, Duration};
 use std::{io, thread};
 
-/// How many clients may be connected at a time. A further one is turned away.
+/// How many clients may be connected at a time. A further client is turned away.
 pub const CLIENTS: usize = 63;
 
-/// How many clients may be told at a time that they are turned away. A further one is closed.
+/// How many clients may be in the process of being turned away at a time. A further one is closed.
 const TURNED_AWAY: usize = 8;
 
-/// How many seconds a client may send nothing, or take nothing of what is written to it.
+/// How many seconds a client may send nothing, or accept none of the bytes written to it.
 const IDLE_SECONDS: u64 = 60;
 
-/// How many seconds a client that is turned away, or has been answered for the last time, is still read.
+/// For how many seconds input is still read from a client that is turned away, or that has got its last response.
 const LAST_READ_SECONDS: u64 = 1;
 
-/// How many milliseconds the accepting thread rests where a connection could not be accepted.
+/// How many milliseconds the accepting thread pauses after a connection could not be accepted.
 const REST_MILLISECONDS: u64 = 10;
 
-/// A connection, and the place that it has.
+/// A connection, and the place that it has in its pool.
 #[derive(Drop)]
 pub enum Accepted {
     Client(TcpStream, usize),
-    /// All places of clients are taken. This one it has till it was told so.
+    /// All places of clients are taken. The connection has this place until it is turned away.
     TurnedAway(TcpStream, usize),
 }
 
-/// Where clients are let in.
+/// Accepts the connections of clients.
 #[derive(Drop)]
 pub struct Clients {
     listener: TcpListener,
-    /// Whether it is written to standard error that clients are turned away.
+    /// Whether it is logged to standard error that clients are turned away.
     log: bool,
     pool: ConnectionPool,
     turned_away: ConnectionPool,
-    /// Whether the last one that came was turned away.
+    /// Whether the last connection was turned away.
     is_full: AtomicBool,
 }
 
@@ -62,12 +62,12 @@ impl Clients {
         })
     }
 
-    /// How many are connected.
+    /// How many clients are connected, 0 to `CLIENTS`.
     pub fn count<R: Wait>(&self, rt: &R) -> usize {
         self.pool.count(rt)
     }
 
-    /// The next connection that finds a place. None once the site ends.
+    /// The next connection that gets a place. `None` once the site ends.
     pub fn next<R: Wait + Clock + Eprint>(&self, rt: &R) -> Option<Accepted> {
         for stream in self.listener.incoming() {
             if self.pool.is_closed(rt) {
@@ -107,7 +107,7 @@ impl Clients {
         }
     }
 
-    /// The stream of the client at this place, to be read and written.
+    /// The stream of the client at this place, for reading and writing.
     pub fn stream<'a>(&'a self, stream: &'a TcpStream, place: usize) -> ClientStream<'a> {
         ClientStream {
             pool: &self.pool,
@@ -116,17 +116,18 @@ impl Clients {
         }
     }
 
-    /// The client at this place has gone.
+    /// Frees the place of a client that has disconnected.
     pub fn leave<R: Wait>(&self, rt: &R, place: usize) {
         self.pool.leave(rt, place);
     }
 
-    /// The one at this place was told that it is turned away.
+    /// Frees the place of a client that has been turned away.
     pub fn leave_turned_away<R: Wait>(&self, rt: &R, place: usize) {
         self.turned_away.leave(rt, place);
     }
 
-    /// Lets no client in any more, and no request begin. Waits until those that have begun are answered, or the time is over.
+    /// Accepts no further client, and lets no further request begin. Waits until the requests that have begun are
+    /// answered, or the time is over.
     pub(crate) fn end<R: Net<Stream = TcpStream> + Wait + Clock>(&self, rt: &R, time: Duration) {
         self.pool.end(rt);
         self.turned_away.end(rt);
@@ -134,15 +135,15 @@ impl Clients {
         self.pool.wait_until_empty(rt, time);
     }
 
-    /// Leaves no client connected.
+    /// Shuts down the connections of all clients.
     pub(crate) fn close<R: Wait>(&self, rt: &R) {
         self.pool.close(rt);
         self.turned_away.close(rt);
     }
 }
 
-/// The stream of a client. A request begins with what is read, and ends with what is written; where several are sent
-/// at once, the rest of them counts as one only once more of it is read.
+/// The stream of a client. A request begins with a read, and ends with a write; if several are sent at once, the rest
+/// of them counts as begun only once more of it is read.
 #[derive(Drop)]
 pub struct ClientStream<'a> {
     pool: &'a ConnectionPool,
@@ -156,7 +157,7 @@ impl Read for ClientStream<'_> {
             return Ok(0);
         }
         let mut stream = self.stream;
-        // An interrupted call is tried again: only a client ends its connection.
+        // An interrupted call is retried: only a client ends its connection.
         let Ok(count) = read_some(&mut stream, buf) else {
             return Err(io::Error::from(ErrorKind::Other));
         };
@@ -180,21 +181,21 @@ impl Write for ClientStream<'_> {
     }
 }
 
-/// Wakes the thread that accepts connections, by one more.
+/// Wakes the thread that accepts connections, by connecting to it.
 pub(crate) fn wake<R: Net<Stream = TcpStream>>(rt: &R, listener: &TcpListener) {
     if let Ok(address) = listener.local_addr() {
         let _ = TcpStream::connect_timeout(rt, &address, Duration::from_secs(1));
     }
 }
 
-/// Answers go out as they are written, and nobody is waited for without end.
+/// Sets the stream to send replies without delay, and not to wait for the client for longer than `IDLE_SECONDS`.
 fn prepare(stream: &TcpStream) -> io::Result<()> {
     stream.set_nodelay(true)?;
     stream.set_read_timeout(Some(Duration::from_secs(IDLE_SECONDS)))?;
     stream.set_write_timeout(Some(Duration::from_secs(IDLE_SECONDS)))
 }
 
-/// A stream of which no more is read than comes in a second, however slowly: that of who is turned away.
+/// A stream of a client that is turned away: it is read for a second at most, however slowly its bytes arrive.
 pub fn bounded_reader<'a, R: Clock>(
     rt: &'a R,
     stream: &'a TcpStream,
@@ -202,8 +203,8 @@ pub fn bounded_reader<'a, R: Clock>(
     DeadlineReader::new(rt, stream, Duration::from_secs(LAST_READ_SECONDS))
 }
 
-/// Says that nothing more is written, and drops what still comes for a second at most: a stream that is closed with
-/// bytes unread takes back what was written to it last.
+/// Ends the output, and discards input for a second at most: closing a stream with unread input would destroy the
+/// output that was sent last.
 pub fn close_gracefully<R: Clock>(rt: &R, stream: &TcpStream) {
     if stream.shutdown(Shutdown::Write).is_err() {
         return;

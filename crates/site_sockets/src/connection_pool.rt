@@ -1,4 +1,4 @@
-//! Places for connections, a fixed number of them, which another thread may shut down.
+//! A fixed number of places for connections, which another thread may shut down.
 
 use rights_types::OutOfMemory;
 use std::alloc::Global;
@@ -7,15 +7,15 @@ use std::sync::atomic::{AtomicBool, Ordering};
 use std::sync::{Condvar, CondvarTimeouts, Mutex, Wait};
 use std::time::{Clock, Duration};
 
-/// Places for connections. Each connection that a thread deals with has one.
+/// Places for connections. Each connection that a thread serves has one.
 #[derive(Drop)]
 pub(crate) struct ConnectionPool {
     state: Mutex<State>,
-    /// Told whenever a place is free again.
+    /// Notified whenever a place becomes free.
     freed: Condvar,
-    /// Of each place, whether its connection waits for something to begin.
+    /// For each place, whether its connection is idle: no request has begun on it.
     idle: Vec<AtomicBool>,
-    /// Whether nothing is to begin any more.
+    /// Whether no further request may begin.
     is_ending: AtomicBool,
 }
 
@@ -51,7 +51,7 @@ impl State {
         }
     }
 
-    /// Ends the input of those that are idle.
+    /// Ends the input of the idle connections.
     fn end_idle(&self, idle: &[AtomicBool]) {
         for (stream, idle) in self.places.iter().zip(idle) {
             if let Some(stream) = stream {
@@ -64,7 +64,7 @@ impl State {
 }
 
 impl ConnectionPool {
-    /// So many free places.
+    /// A pool with this number of free places.
     pub(crate) fn new(alloc: Global, size: usize) -> Result<ConnectionPool, OutOfMemory> {
         let mut places = Vec::with_capacity(alloc, size)?;
         let mut idle = Vec::with_capacity(alloc, size)?;
@@ -83,14 +83,15 @@ impl ConnectionPool {
         })
     }
 
-    /// A place for the connection, counted from 0. None where all are taken, or the pool is closed.
+    /// A place for the connection, counted from 0. `None` if all are taken, or the pool is closed, or the system
+    /// gives no second handle of the stream.
     pub(crate) fn enter<R: Wait>(&self, rt: &R, stream: &TcpStream) -> Option<usize> {
         let place = self.state.lock(rt).enter(stream)?;
         self.set_idle(place, true);
         Some(place)
     }
 
-    /// The connection at this place is dealt with no more.
+    /// Frees this place.
     pub(crate) fn leave<R: Wait>(&self, rt: &R, place: usize) {
         self.state.lock(rt).leave(place);
         self.freed.notify_all();
@@ -105,14 +106,14 @@ impl ConnectionPool {
         self.state.lock(rt).is_closed
     }
 
-    /// Notes whether the connection at this place waits for something to begin.
+    /// Records whether the connection at this place is idle.
     pub(crate) fn set_idle(&self, place: usize, is_idle: bool) {
         if let Some(idle) = self.idle.get(place) {
             idle.store(is_idle, Ordering::SeqCst);
         }
     }
 
-    /// Whether the connection at this place has come to its end: it is idle, and nothing is to begin any more.
+    /// Whether the connection at this place has come to its end: it is idle, and no further request may begin.
     pub(crate) fn is_done(&self, place: usize) -> bool {
         match self.idle.get(place) {
             Some(idle) => self.is_ending.load(Ordering::SeqCst) && idle.load(Ordering::SeqCst),
@@ -120,7 +121,8 @@ impl ConnectionPool {
         }
     }
 
-    /// Lets none in any more. Who is idle has come to the end of its input, and so has who becomes so.
+    /// Closes the pool to new connections. The input of each connection that is idle, or becomes idle later, has
+    /// ended.
     pub(crate) fn end<R: Wait>(&self, rt: &R) {
         let mut state = self.state.lock(rt);
         let state = &mut *state;
@@ -136,7 +138,7 @@ impl ConnectionPool {
             .wait_timeout_while(rt, self.state.lock(rt), time, |state| state.count() > 0);
     }
 
-    /// Shuts all down that are in, and lets none in any more.
+    /// Closes the pool to new connections, and shuts down all that are in it.
     pub(crate) fn close<R: Wait>(&self, rt: &R) {
         let mut state = self.state.lock(rt);
         let state = &mut *state;

@@ -1,4 +1,4 @@
-//! Connections of one peer on their way to the thread that reads them.
+//! Connections of one peer, handed over to the thread that reads them.
 ghost use Rattle.std.specs.Prelude.{◌≡◌, []};
 ghost use Rattle.entry_codec.specs.Cutter.{view_of};
 
@@ -7,7 +7,7 @@ use entry_codec::LineCutter;
 use std::net::TcpStream;
 use std::sync::{Condvar, Mutex, Wait};
 
-/// A connection whose first line was read, and what cuts the rest of it.
+/// A connection whose first line was read, and the cutter for the rest of it.
 #[derive(Drop)]
 pub struct Connection {
     pub stream: TcpStream,
@@ -15,8 +15,8 @@ pub struct Connection {
     ghost empty: { cutter ≡ view_of [] },
 }
 
-/// The newest connection of a peer. It waits till the reading thread comes for it, and the one that this
-/// thread reads is shut down by it: a peer that went away without a word and came back is heard.
+/// The newest connection of a peer. It waits until the reading thread takes it, and it shuts down the connection that
+/// this thread is reading: a peer that disappeared without closing and came back can be read again.
 #[derive(Drop)]
 pub struct ConnectionSlot {
     waiting: Mutex<Waiting>,
@@ -42,7 +42,7 @@ impl ConnectionSlot {
         }
     }
 
-    /// Hands a connection over. One that still waits is closed, and so is the one that is read.
+    /// Hands a connection over. One that still waits is closed, and the one that is being read is shut down.
     pub(crate) fn put<R: Wait>(&self, rt: &R, connection: Connection) {
         let mut waiting = self.waiting.lock(rt);
         let waiting = &mut *waiting;
@@ -54,7 +54,7 @@ impl ConnectionSlot {
         self.came.notify_one();
     }
 
-    /// Waits for the next connection to read. None once the connection slot is closed.
+    /// Waits for the next connection to read. `None` once the slot is closed.
     pub fn take<R: Wait>(&self, rt: &R) -> Option<Connection> {
         for _ in rt.forever() {
             let mut waiting = self.came.wait_while(
@@ -69,7 +69,7 @@ impl ConnectionSlot {
             let Some(connection) = waiting.next.take() else {
                 continue;
             };
-            // Under the lock, so that no newer connection comes in between unseen.
+            // Under the lock, so that no newer connection comes in between unnoticed.
             if self.reading.hold(rt, &connection.stream) {
                 return Some(connection);
             }
@@ -77,12 +77,12 @@ impl ConnectionSlot {
         unreachable!()
     }
 
-    /// The reading thread has left its connection.
+    /// The reading thread has finished with its connection.
     pub fn finish<R: Wait>(&self, rt: &R) {
         self.reading.release(rt);
     }
 
-    /// Closes all connections, and takes no other.
+    /// Closes all connections, and accepts no other.
     pub(crate) fn close<R: Wait>(&self, rt: &R) {
         let mut waiting = self.waiting.lock(rt);
         let waiting = &mut *waiting;

@@ -1,11 +1,11 @@
-//! A stream that is read till a moment, however slowly its bytes come.
+//! A stream that is read until a deadline, however slowly its bytes arrive.
 
 use std::io;
 use std::io::{ErrorKind, Read};
 use std::net::TcpStream;
 use std::time::{Clock, Duration, Instant};
 
-/// A stream that is read till a moment. A read behind it fails.
+/// A stream that is read until a deadline. A read after the deadline fails.
 #[derive(Drop)]
 pub struct DeadlineReader<'a, R> {
     rt: &'a R,
@@ -15,7 +15,7 @@ pub struct DeadlineReader<'a, R> {
 }
 
 impl<'a, R: Clock> DeadlineReader<'a, R> {
-    /// Reads for so long from now on.
+    /// Its deadline is this time from now.
     pub(crate) fn new(
         rt: &'a R,
         stream: &'a TcpStream,

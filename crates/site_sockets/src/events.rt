@@ -1,5 +1,5 @@
-//! What happens on the links with one peer: counted, and told to who reads the log. No lock is taken for it, since each
-//! thread notes its own.
+//! What happens on the links with one peer: counted, and reported in the log. No lock is taken for it, since each
+//! thread records its own events.
 
 use rights_types::SiteId;
 use site_metrics::PeerCounters;
@@ -9,13 +9,13 @@ use std::sync::atomic::{AtomicBool, AtomicU64, Ordering};
 /// Why lines of a peer are skipped.
 #[derive(Clone, Copy, Debug, PartialEq, Eq)]
 pub enum SkipCause {
-    /// The line has more bytes than a line may have.
+    /// The line has more than `MAX_LINE` bytes.
     TooLong,
-    /// It is no line of a message.
+    /// The line is not a message.
     NoMessage,
-    /// Another site than the peer sent it.
+    /// It was sent by another site than the peer.
     WrongOrigin,
-    /// It names a site that the system does not have, or is for another one.
+    /// It names a site that the system does not have, or is for another site.
     BadSite,
 }
 
@@ -30,7 +30,7 @@ impl SkipCause {
         }
     }
 
-    /// A number with one bit, another one for each cause.
+    /// A number with one bit set, a different one for each cause.
     fn bit(self) -> u64 {
         match self {
             SkipCause::TooLong => 1,
@@ -41,18 +41,18 @@ impl SkipCause {
     }
 }
 
-/// What happened on the links with one peer since the site began.
+/// What happened on the links with one peer since the site started.
 #[derive(Drop)]
 pub struct LinkEvents {
     site: SiteId,
-    /// Whether events are written to standard error.
+    /// Whether events are logged to standard error.
     log: bool,
     counters: PeerCounters,
-    /// Whether sending failed, and was not taken up again.
+    /// Whether sending failed, and has not been resumed.
     failed: AtomicBool,
     /// Whether entries are missing.
     lacking: AtomicBool,
-    /// The causes for which lines were skipped since one was taken.
+    /// The causes for which lines were skipped since a line was last taken.
     skipping: AtomicU64,
 }
 
@@ -68,12 +68,12 @@ impl LinkEvents {
         }
     }
 
-    /// What was counted.
+    /// The counters.
     pub fn counters(&self) -> &PeerCounters {
         &self.counters
     }
 
-    /// A connection is read by which lines of the peer come.
+    /// A connection is being read on which the peer sends lines.
     pub fn receives<R: Eprint>(&self, rt: &R) {
         let is_new = !self.counters.is_receiving();
         self.counters.set_receiving(true);
@@ -96,7 +96,7 @@ impl LinkEvents {
         }
     }
 
-    /// A connection stands by which lines go to the peer.
+    /// A connection is open on which lines go to the peer.
     pub(crate) fn sends<R: Eprint>(&self, rt: &R) {
         self.failed.store(false, Ordering::Relaxed);
         let is_new = !self.counters.is_sending();
@@ -106,7 +106,7 @@ impl LinkEvents {
         }
     }
 
-    /// No such connection stands any more, or none could be made. A line was lost by it.
+    /// That connection has ended, or none could be made. A line was lost with it.
     pub(crate) fn sends_no_more<R: Eprint>(&self, rt: &R, cause: &str) {
         self.drops_line();
         self.counters.set_sending(false);
@@ -154,7 +154,7 @@ impl LinkEvents {
         }
     }
 
-    /// None is missing.
+    /// No entry is missing.
     pub fn lacks_nothing<R: Eprint>(&self, rt: &R) {
         if self.lacking.load(Ordering::Relaxed) {
             self.lacking.store(false, Ordering::Relaxed);

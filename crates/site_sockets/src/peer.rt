@@ -1,4 +1,4 @@
-//! What a site keeps of each other site.
+//! What a site keeps for each other site.
 ghost use Rattle.std.specs.Prelude.{◌≡◌};
 ghost use Rattle.entry_codec.specs.Pieces.{IsLine};
 ghost use Rattle.peer_links.specs.Outboxes.{PutsIf};
@@ -14,23 +14,23 @@ use std::marker::Model;
 use std::sync::{Mutex, Wait};
 use sub_buffer::State;
 
-/// What the reading thread noted of its buffer after the last line.
+/// The state of the buffer, as the reading thread recorded it after the last line.
 #[derive(Clone, Copy)]
 struct Seen {
     buffering: bool,
     held: usize,
 }
 
-/// Another site, as the threads that deal with it share it.
+/// Another site, shared by the threads that serve it.
 #[derive(Drop)]
 pub struct PeerState {
     pub site: SiteId,
-    /// Where it listens.
+    /// The address on which it listens.
     pub(crate) address: String,
     pub(crate) outbox: Outbox,
-    /// The connection that lines are sent by.
+    /// The connection on which lines are sent to it.
     pub(crate) sending: ShutdownHandle,
-    /// The connections that it made.
+    /// The connections that it opened.
     pub connection_slot: ConnectionSlot,
     /// What happened on the links with it.
     pub events: LinkEvents,
@@ -58,7 +58,7 @@ impl PeerState {
         })
     }
 
-    /// The lines that wait for it, for who puts more of them. It waits until no other thread has them.
+    /// Locks the lines that wait for it, for putting more. Waits until no other thread holds the lock.
     pub fn lines<'a, R: Wait>(&'a self, rt: &R) -> PeerLines<'a> {
         PeerLines {
             lines: self.outbox.lock(rt),
@@ -66,19 +66,19 @@ impl PeerState {
         }
     }
 
-    /// Puts one line into the outbox, as `PeerLines::put`. The lock hides what waited before.
+    /// Puts one line into the outbox, as `PeerLines::put` does. The lock hides which lines waited before.
     pub fn send<R: Wait>(&self, rt: &R, line: Vec<u8>) -> bool
         requires { IsLine line.items }
     {
         self.lines(rt).put(line)
     }
 
-    /// How many lines wait to be sent.
+    /// How many lines wait to be sent, 0 to `OUTBOX_LINES`.
     pub fn waiting<R: Wait>(&self, rt: &R) -> usize {
         self.outbox.len(rt)
     }
 
-    /// Notes the state of the buffer after a line.
+    /// Records the state of the buffer after a line.
     pub fn note<R: Wait>(&self, rt: &R, state: State, held: usize) {
         let mut seen = self.seen.lock(rt);
         *seen = Seen {
@@ -87,14 +87,14 @@ impl PeerState {
         };
     }
 
-    /// Leaves no stream open, and lets no other be opened.
+    /// Closes every stream, and lets no other be opened.
     pub(crate) fn close<R: Wait>(&self, rt: &R) {
         self.outbox.abandon(rt);
         self.sending.close(rt);
         self.connection_slot.close(rt);
     }
 
-    /// What the status says of this peer, of which so much was applied.
+    /// What the status says of this peer, of whose log this much was applied.
     pub fn view<R: Wait>(&self, rt: &R, applied: u64) -> PeerView
         ensures site { result.site ≡ self.now.site }
         ensures applied { result.applied ≡ applied }
@@ -125,7 +125,7 @@ impl<'a> Model for PeerLines<'a> {
 }
 
 impl PeerLines<'_> {
-    /// Puts a line behind the others. False where it finds no room, and is lost.
+    /// Puts a line after the others. `false` if the outbox is full or has ended; then the line is lost.
     pub fn put(&mut self, line: Vec<u8>) -> bool
         requires { IsLine line.items }
         ensures { PutsIf self.old line.items result self.new }

@@ -1,4 +1,4 @@
-//! Sending to the peers what waits in their outboxes.
+//! Sending the lines that wait in the outboxes to the peers.
 
 use crate::peer::PeerState;
 use crate::site::{CONNECT_SECONDS, Site};
@@ -13,7 +13,7 @@ use std::sync::{Condvar, CondvarTimeouts, Mutex, Wait};
 use std::thread::{Scope, Threads};
 use std::time::{Clock, Duration, Instant};
 
-/// How many sending threads are at work.
+/// How many sending threads are running.
 #[derive(Drop)]
 pub(crate) struct Senders {
     running: Mutex<u64>,
@@ -39,7 +39,7 @@ impl Senders {
         self.ended.notify_all();
     }
 
-    /// Waits until none is at work, or the time is over.
+    /// Waits until none is running, or the time is over.
     pub(crate) fn wait_for_all<R: Wait + Clock>(&self, rt: &R, time: Duration) {
         let _ = self
             .ended
@@ -47,8 +47,8 @@ impl Senders {
     }
 }
 
-/// Sends what waits for this peer, till its outbox has ended and is empty. A line that is taken while
-/// there is no connection makes one attempt to connect, and is lost where that fails.
+/// Sends the lines that wait for this peer, until its outbox has ended and is empty. A line taken while there is no
+/// connection causes one attempt to connect, and is lost if that fails.
 fn send_to<R: Net<Stream = TcpStream> + Wait + Clock + AllocGlobal + Eprint>(
     rt: &R,
     site: &Site,
@@ -69,7 +69,7 @@ fn send_to<R: Net<Stream = TcpStream> + Wait + Clock + AllocGlobal + Eprint>(
     site.senders.finish(rt);
 }
 
-/// Sends this line and all that waits behind it by a connection. False where that failed, or the site has ended.
+/// Sends this line and all that wait after it on a connection. `false` if that failed, or the site has ended.
 fn send_by<R: Wait + AllocGlobal + Eprint>(
     rt: &R,
     site: &Site,
@@ -90,7 +90,7 @@ fn send_by<R: Wait + AllocGlobal + Eprint>(
     is_sent
 }
 
-/// Writes the first line of a connection, and the line that it was made for. False where that fails.
+/// Writes the first line of a connection, and the line for which it was made. `false` if that fails.
 fn send_hello(alloc: Global, site: SiteId, stream: &mut TcpStream, line: &[u8]) -> bool {
     let Ok(mut text) = write_line(alloc, &Message::<Global>::Hello(site)) else {
         return false;
@@ -98,14 +98,15 @@ fn send_hello(alloc: Global, site: SiteId, stream: &mut TcpStream, line: &[u8]) 
     text.extend_from_slice(line).is_ok() && write_whole(stream, text.as_slice()).is_ok()
 }
 
-/// One attempt to connect. The names' addresses are tried in turn, as long as there is time.
+/// One attempt to connect. The addresses of the name are tried in turn, `CONNECT_SECONDS` in all. `None` if none
+/// could be connected to.
 fn connect<R: Net<Stream = TcpStream> + Clock>(rt: &R, address: &str) -> Option<TcpStream> {
     let addresses = address.to_socket_addrs(rt).ok()?;
     let since = Instant::now(rt).ok()?;
     for address in addresses {
         let left = Duration::from_secs(CONNECT_SECONDS).checked_sub(since.elapsed(rt).ok()?)?;
         if let Ok(stream) = TcpStream::connect_timeout(rt, &address, left) {
-            // Lines go out as they come.
+            // Lines are sent without delay.
             let _ = stream.set_nodelay(true);
             return Some(stream);
         }
@@ -113,7 +114,7 @@ fn connect<R: Net<Stream = TcpStream> + Clock>(rt: &R, address: &str) -> Option<
     None
 }
 
-/// Starts the thread that sends to this peer. False where it could not be started.
+/// Starts the thread that sends to this peer. `false` if it could not be started.
 pub fn begin_sender<
     's,
     E,

@@ -1,9 +1,9 @@
-//! A stream that one thread is at, and that another one may shut down.
+//! A stream that one thread uses, and that another thread may shut down.
 
 use std::net::{Shutdown, TcpStream};
 use std::sync::{Mutex, Wait};
 
-/// Lets a thread be woken that reads or writes a stream.
+/// Lets a thread that reads or writes a stream be woken.
 #[derive(Drop)]
 pub(crate) struct ShutdownHandle {
     state: Mutex<State>,
@@ -34,8 +34,8 @@ impl ShutdownHandle {
         }
     }
 
-    /// The thread is at this stream from now on. False where it may not go to any, as after `close`, or
-    /// where the system gives no second handle of it.
+    /// The thread uses this stream from now on. `false` if it may not, as after `close`, or if the system gives no
+    /// second handle of the stream.
     pub(crate) fn hold<R: Wait>(&self, rt: &R, stream: &TcpStream) -> bool {
         let mut state = self.state.lock(rt);
         let state = &mut *state;
@@ -49,7 +49,7 @@ impl ShutdownHandle {
         true
     }
 
-    /// The thread has left its stream.
+    /// The thread no longer uses its stream.
     pub(crate) fn release<R: Wait>(&self, rt: &R) {
         let mut state = self.state.lock(rt);
         state.stream = None;
@@ -60,7 +60,7 @@ impl ShutdownHandle {
         self.state.lock(rt).shut_down();
     }
 
-    /// Shuts the stream down, and lets the thread go to no other.
+    /// Shuts the stream down, and lets the thread use no other.
     pub(crate) fn close<R: Wait>(&self, rt: &R) {
         let mut state = self.state.lock(rt);
         let state = &mut *state;

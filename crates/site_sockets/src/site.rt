@@ -1,4 +1,4 @@
-//! What the threads of a site share, beside its desk.
+//! What the threads of a site share, besides its desk.
 
 use crate::acceptor::WAITING;
 use crate::clients::{Clients, wake};
@@ -20,38 +20,39 @@ use std::time::{Clock, Duration};
 /// How many seconds an attempt to connect may take.
 pub(crate) const CONNECT_SECONDS: u64 = 1;
 
-/// How many seconds requests that have begun are still answered for after the last command.
+/// For how many seconds requests that have begun are still answered after the last command.
 const LAST_REPLIES_SECONDS: u64 = 1;
 
-/// How many seconds lines that wait are still written for after that.
+/// For how many seconds after that lines that wait are still written.
 const LAST_LINES_SECONDS: u64 = 1;
 
-/// How many milliseconds the accepting thread rests where a connection could not be accepted.
+/// How many milliseconds the accepting thread pauses after a connection could not be accepted.
 const REST_MILLISECONDS: u64 = 10;
 
-/// What the threads of a site share, beside its desk.
+/// What the threads of a site share, besides its desk.
 #[derive(Drop)]
 pub struct Site {
     pub(crate) id: SiteId,
     listener: TcpListener,
-    /// The other sites, in order.
+    /// The peers, in the order of the sites.
     peers: Vec<PeerState>,
     /// The connections that wait for their first line.
     pub(crate) handshakes: ConnectionPool,
     pub(crate) senders: Senders,
-    /// Where clients connect, if they may.
+    /// Accepts clients, if any may connect.
     pub clients: Option<Clients>,
     pub tick_notifier: TickNotifier,
-    /// The commands that were answered.
+    /// Counters of the commands that were answered.
     pub commands: Counters,
-    /// An applier met a refused request for memory.
+    /// Whether a memory request of an applier was refused.
     out_of_memory: AtomicBool,
-    /// All connections were shut down.
+    /// Whether all connections were shut down.
     is_over: AtomicBool,
 }
 
 impl Site {
-    /// A site that listens.
+    /// A site that listens for peers, and for clients if the configuration says so. Errors, in this order:
+    /// `CannotListen`, `OutOfMemory`.
     pub fn open<R: Net<Listener = TcpListener, Stream = TcpStream> + AllocGlobal>(
         rt: &R,
         config: &Config,
@@ -81,7 +82,7 @@ impl Site {
         })
     }
 
-    /// Says where the site listens, if what happens is to be said.
+    /// Logs the address on which the site listens, if logging is on.
     pub fn announce<R: Eprint>(&self, rt: &R, config: &Config) {
         if !config.log() {
             return;
@@ -101,12 +102,12 @@ impl Site {
         };
     }
 
-    /// The other sites, in order.
+    /// The peers, in the order of the sites.
     pub fn peers(&self) -> &[PeerState] {
         self.peers.as_slice()
     }
 
-    /// The peer of that number, if the system has it.
+    /// The peer with this number. `None` if it is not a peer.
     pub fn peer(&self, site: SiteId) -> Option<&PeerState> {
         self.peers.iter().find(|peer| peer.site == site)
     }
@@ -119,22 +120,22 @@ impl Site {
         }
     }
 
-    /// Notes that the program can't go on for want of memory. The command thread ends it at its next read.
+    /// Records that the program cannot continue for lack of memory. The command thread ends it at its next read.
     pub fn fail(&self) {
         self.out_of_memory.store(true, Ordering::SeqCst);
     }
 
-    /// Whether the program can't go on for want of memory.
+    /// Whether the program cannot continue for lack of memory.
     pub fn has_failed(&self) -> bool {
         self.out_of_memory.load(Ordering::SeqCst)
     }
 
-    /// Whether all connections were shut down: nobody gets a reply any more.
+    /// Whether all connections were shut down: no client can receive replies any more.
     pub fn is_over(&self) -> bool {
         self.is_over.load(Ordering::SeqCst)
     }
 
-    /// The next connection that finds a place to wait for its first line at. None once the site ends.
+    /// The next connection that gets a place to wait for its first line. `None` once the site ends.
     pub(crate) fn accept<R: Wait + Clock>(&self, rt: &R) -> Option<(TcpStream, usize)> {
         for stream in self.listener.incoming() {
             if self.handshakes.is_closed(rt) {
@@ -151,8 +152,8 @@ impl Site {
         None
     }
 
-    /// Ends all threads: requests that have begun are still answered and lines that wait still sent for a while, and then
-    /// no stream is left open.
+    /// Ends all threads: for a while requests that have begun are still answered and lines that wait still sent; then
+    /// every stream is closed.
     pub fn shut_down<R: Net<Stream = TcpStream> + Wait + Clock>(&self, rt: &R) {
         self.tick_notifier.end(rt);
         if let Some(clients) = &self.clients {
@@ -166,7 +167,7 @@ impl Site {
         self.close(rt);
     }
 
-    /// Leaves no stream open.
+    /// Closes every stream.
     fn close<R: Net<Stream = TcpStream> + Wait>(&self, rt: &R) {
         self.is_over.store(true, Ordering::SeqCst);
         if let Some(clients) = &self.clients {
@@ -190,7 +191,7 @@ fn listen<R: Net<Listener = TcpListener, Stream = TcpStream>>(
     }
 }
 
-/// Where clients may connect, if the configuration says so.
+/// Accepts clients, if the configuration says so. `None` if it does not.
 fn clients_of<R: Net<Listener = TcpListener, Stream = TcpStream> + AllocGlobal>(
     rt: &R,
     config: &Config,

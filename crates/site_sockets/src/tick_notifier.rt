@@ -1,15 +1,15 @@
-//! The ticks of a site, as its threads wait for them.
+//! The ticks of a site, and the threads that wait for them.
 
 use std::sync::{Condvar, CondvarTimeouts, Mutex, Wait};
 use std::time::{Clock, Duration};
 
-/// Counts the ticks of a site, and tells those that wait for one, or for the site's end.
+/// Counts the ticks of a site, and notifies the threads that wait for one, or for the site's end.
 #[derive(Drop)]
 pub struct TickNotifier {
     state: Mutex<State>,
-    /// Told of each tick, and of the end.
+    /// Notified of each tick, and of the end.
     ticked: Condvar,
-    /// Told of the end.
+    /// Notified of the end.
     ended: Condvar,
 }
 
@@ -31,12 +31,12 @@ impl TickNotifier {
         }
     }
 
-    /// How many ticks there were.
+    /// How many ticks were done, modulo 2^64.
     pub fn count<R: Wait>(&self, rt: &R) -> u64 {
         self.state.lock(rt).ticks
     }
 
-    /// A tick was done.
+    /// Counts a tick, and wakes the threads that wait for one.
     pub fn tick<R: Wait>(&self, rt: &R) {
         let mut state = self.state.lock(rt);
         let state = &mut *state;
@@ -44,19 +44,19 @@ impl TickNotifier {
         self.ticked.notify_all();
     }
 
-    /// Waits until there were other than so many ticks, and answers how many. None at the end of the site.
+    /// Waits until the number of ticks is not `seen`, and returns it. `None` at the end of the site.
     pub fn next<R: Wait>(&self, rt: &R, seen: u64) -> Option<u64> {
         let state = self.ticked.wait_while(rt, self.state.lock(rt), |state| {
             state.ticks == seen && !state.has_ended
         });
-        // A tick that came before the end is told first.
+        // A tick done before the end is reported first.
         if state.ticks == seen {
             return None;
         }
         Some(state.ticks)
     }
 
-    /// Waits for so long, or for the end of the site. False at the end.
+    /// Waits for this time, or until the site ends. `false` if it has ended.
     pub fn rest<R: Wait + Clock>(&self, rt: &R, time: Duration) -> bool {
         let (state, _) = self
             .ended
@@ -64,7 +64,7 @@ impl TickNotifier {
         !state.has_ended
     }
 
-    /// The site ends: nobody waits any more.
+    /// Ends the waiting of all threads: the site ends.
     pub(crate) fn end<R: Wait>(&self, rt: &R) {
         let mut state = self.state.lock(rt);
         let state = &mut *state;

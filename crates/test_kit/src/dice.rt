@@ -1,18 +1,18 @@
-//! Numbers that look drawn.
+//! Pseudo-random numbers.
 
-/// Numbers that look drawn, the same in each run from the same seed.
+/// Pseudo-random numbers, the same in each run from the same seed.
 #[derive(Clone, Copy)]
 pub struct Dice {
     state: u64,
 }
 
 impl Dice {
-    /// The dice of a game of this number.
+    /// The sequence for the game with this number.
     pub fn new(seed: u64) -> Dice {
         Dice { state: seed }
     }
 
-    /// A number below the count of sides, or 0 where there is none.
+    /// A number below the count of sides, or 0 if that is 0.
     pub fn roll(&mut self, sides: u64) -> u64 {
         self.state = self
             .state

@@ -1,4 +1,4 @@
-//! What the test crates share: moves and entries by bare numbers, calls with each memory request refused in turn,
+//! What the test crates share: moves and entries from bare numbers, calls with each memory request refused in turn,
 //! streams that read or write few bytes at a time, and pseudo-random numbers. No part of the product uses it.
 #![tactic(auto)]
 

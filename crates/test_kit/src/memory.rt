@@ -1,15 +1,15 @@
-//! Calls with each request for memory refused in turn.
+//! Calls with each memory request refused in turn.
 
 use refusing_allocator::Refusing;
 use std::alloc::Allocator;
 
-/// A test that makes more requests than this is taken for one that never ends.
+/// A test that makes more requests than this is assumed never to end.
 const MANY: u64 = 100_000;
 
-/// Makes the run with its first request for memory refused, then its second, and so on, until a run
-/// meets no refusal, and answers how many requests that one made. A run is given the allocator, and
-/// says whether it came to what it should: want of memory where `refused` holds of the allocator, else
-/// what it comes to with ample memory. `None` where some run did not.
+/// Makes the run with its first memory request refused, then with its second, and so on, until a run meets no
+/// refusal, and returns how many requests that one made. A run gets the allocator, and returns whether it had the
+/// expected result: lack of memory if `refused` holds of the allocator, else what it has with ample memory. `None` if
+/// some run had not.
 pub fn requests_of<A: Allocator + Copy, F: FnMut(&Refusing<A>) -> bool>(
     alloc: A,
     mut run: F,

@@ -1,4 +1,4 @@
-//! Moves and entries by bare numbers.
+//! Moves and entries from bare numbers.
 ghost use Rattle.std.specs.Prelude.{◌≡◌};
 ghost use Rattle.rights_types.specs.Ranges.{IsAmount, IsAskNumber, IsSite, IsTotal};
 
@@ -9,7 +9,7 @@ use rights_types::{
 use std::alloc::Allocator;
 use std::test::Fail;
 
-/// The site of a number.
+/// The site with a number.
 pub fn site(number: u64) -> SiteId
     requires { IsSite number }
     ensures { result ≡ number }
@@ -66,7 +66,7 @@ pub fn take_back(peer: u64, amount: u64) -> Move
     }
 }
 
-/// Closes a log as an older writer did.
+/// Closes a log without a frontier, as older writers did.
 pub fn close() -> Move {
     Move::Close
 }
@@ -81,14 +81,14 @@ pub fn longest_grant() -> Move {
     grant(16, MAX_AMOUNT, MAX_ASK)
 }
 
-/// The closing move of site 1 with the longest text: sixteen sites, and all numbers the greatest.
+/// The closing move of site 1 with the longest text: sixteen sites, and the greatest numbers throughout.
 pub fn longest_close() -> Result<Move, TypeError> {
     let mut numbers = [MAX_NUMBER; 16];
     numbers[0] = 0;
     close_at(&numbers)
 }
 
-/// The move of site 1 of a kind, from 0 to 4: those that any entry may have anywhere.
+/// The move of site 1 of this kind, from 0 to 4: the moves that may be anywhere in any entry.
 pub fn move_of_kind(kind: u64) -> Move {
     match kind {
         0 => issue(10),
@@ -110,7 +110,7 @@ pub fn entry<A: Allocator>(
     Ok(Entry::new(SiteId::new(origin)?, prev, moves)?)
 }
 
-/// Whether the entry is that of the origin behind a number, with these moves.
+/// Whether the entry is that of the origin after a number, with these moves.
 pub fn is_entry<A: Allocator>(entry: &Entry<A>, origin: u64, prev: u64, moves: &[Move]) -> bool {
     entry.origin().number() == origin && entry.prev() == prev && entry.moves() == moves
 }

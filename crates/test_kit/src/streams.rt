@@ -1,15 +1,15 @@
-//! Streams that give or take few bytes at a time.
+//! Streams that read or write few bytes at a time.
 
 use std::alloc::Allocator;
 use std::io;
 use std::io::{ErrorKind, Read, Write};
 
-/// A writer that takes at most so many bytes at a time, and keeps them.
+/// A writer that takes at most this number of bytes at a time, and keeps them.
 #[derive(Drop)]
 pub struct Slow<A: Allocator> {
     /// What was written.
     pub text: Vec<u8, A>,
-    /// The most bytes that one write takes.
+    /// The greatest number of bytes of one write.
     pub step: usize,
 }
 
@@ -27,12 +27,12 @@ impl<A: Allocator> Write for Slow<A> {
     }
 }
 
-/// A reader that gives at most so many bytes at a time.
+/// A reader that returns at most this number of bytes at a time.
 #[derive(Drop)]
 pub struct FewAtATime<'a> {
-    /// What is still to be read.
+    /// The bytes that are still to be read.
     pub rest: &'a [u8],
-    /// The most bytes that one read gives.
+    /// The greatest number of bytes of one read.
     pub step: usize,
 }
 

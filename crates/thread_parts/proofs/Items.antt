@@ -7,7 +7,7 @@ use Rattle.thread_parts.specs.declared.item.Item.{Item}
 use Rattle.thread_parts.specs.declared.item.Item.TheVariants.{Entry, End}
 use Rattle.thread_parts.specs.Items.{items_of, IsOpen, end_if, IsItemChain, Continues, MayCome, IsEnded, Precedes, MayBeFirst, Leaves}
 
--- a chain goes on with what follows its last entry
+-- a chain continues with what follows its last entry
 follows_on : (o : ℕ) (es : List EntryValue) (e f : EntryValue) → IsChain o (es ++ e ∷ []) → Precedes e f → IsChain o ((es ++ e ∷ []) ++ f ∷ [])
 follows_on o es e f chain follows =
     let last = chain_right o false 0 es (e ∷ []) chain in
@@ -22,7 +22,7 @@ module _ {A : Type 0} where
   pub open_push : (items : List (Item A)) (e : EntryValue) → IsOpen items → IsOpen (items ++ Entry e ∷ [])
   open_push items e free = (free.0 ++ e ∷ [], ap (λ l. l ++ Entry e ∷ []) free.1 ∙ sym (items_of-push free.0 e))
 
-  -- items that an entry continues are a chain with it
+  -- items that an entry continues form a chain with it
   pub continued : (items : List (Item A)) (e : EntryValue) → Continues items e → IsItemChain (items ++ Entry e ∷ [])
   continued items e c =
       (c.0, c.1 ++ e ∷ [], false, c.3, ap (λ l. l ++ Entry e ∷ []) c.2 ∙ sym (items_of-push c.1 e) ∙ sym (append-nil (items_of (c.1 ++ e ∷ []))))
@@ -40,7 +40,7 @@ module _ {A : Type 0} where
   nothing_after (x ∷ before) ys [] false is = absurd cc
   nothing_after (x ∷ before) ys (e ∷ es) b is = nothing_after before ys es b cc
 
-  -- entries alone have no End
+  -- a list of entries alone has no End
   no_end : (items : List (Item A)) (es fs : List EntryValue) → items ≡ items_of es → items ≡ items_of fs ++ End ∷ [] → ⊥
   no_end items [] [] a b = cc
   no_end items [] (f ∷ fs) a b = cc
@@ -54,11 +54,11 @@ module _ {A : Type 0} where
   pub empty_chain : IsItemChain {A = A} []
   empty_chain = (0, [], false, tt, refl)
 
-  -- a chain that has not come to End is one with End too
+  -- a chain without End remains a chain with End added
   pub end_chain : (items : List (Item A)) → IsItemChain items → IsOpen items → IsItemChain (items ++ End ∷ [])
   end_chain items chain free = ended items chain.0 chain.1 chain.2 chain.3 chain.4 free
 
-  -- a list of items that is a front of others
+  -- a list of items that is a prefix of another
   front : (xs ys : List (Item A)) (es : List EntryValue) (b : Bool) → xs ++ ys ≡ items_of es ++ end_if b
       → (fs : List EntryValue) × (gs : List EntryValue) × (c : Bool) × (fs ++ gs ≡ es) × (xs ≡ items_of fs ++ end_if c)
   front [] ys es b is = ([], es, false, refl, refl)
@@ -68,13 +68,13 @@ module _ {A : Type 0} where
   front (x ∷ xs) ys [] true is = ([], [], true, refl, only_end x xs ys is)
   front (x ∷ xs) ys [] false is = absurd cc
 
-  -- the front of a chain is a chain
+  -- a prefix of a chain is a chain
   pub front_chain : (xs ys : List (Item A)) → IsItemChain (xs ++ ys) → IsItemChain xs
   front_chain xs ys chain =
       let cut = front xs ys chain.1 chain.2 chain.4 in
       (chain.0, cut.0, cut.2, chain_left chain.0 false 0 cut.0 cut.1 (subst (IsChain chain.0) (sym cut.3) chain.3), cut.4)
 
-  -- nothing stands after End
+  -- nothing comes after End
   pub whole_at_end : (xs ys : List (Item A)) → IsItemChain (xs ++ ys) → IsEnded xs → ys ≡ []
   whole_at_end xs ys chain ended = nothing_after ended.0 ys chain.1 chain.2 (ap (λ l. l ++ ys) (sym ended.1) ∙ chain.4)
 
@@ -106,7 +106,7 @@ module _ {A : Type 0} where
       (chain.0, free.0, free.1, subst (IsChain chain.0) (sym (same_entries (free.0 ++ e ∷ []) chain.1 chain.2 entries)) chain.3)
   may_come items later End is chain free = free
 
-  -- what is known of items of which this is the last
+  -- what is known of items whose last one is this
   pub leaves : (items : List (Item A)) (x : Item A) → IsOpen items → Leaves x (items ++ x ∷ [])
   leaves items (Entry e) is_open = open_push items e is_open
   leaves items End is_open = (items, refl)

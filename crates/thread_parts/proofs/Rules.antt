@@ -1,4 +1,4 @@
--- Each move keeps the rule of a lane.
+-- Each operation preserves the rule of a lane.
 use Rattle.std.proofs.Common.{◌≡◌, ◌≢◌, ℕ, zero, suc, Bool, true, false, true≢false, List, [], ◌∷◌, ◌++◌, length, set, sym, refl, ap, ◌∙◌, subst, ⊎_elim, append_assoc}
 use mathlib.Core.Option.{some, some-ne-none}
 use lib.ListN.{get_elem?}
@@ -18,7 +18,7 @@ module _ {A : Type 0} where
   abbrev Each : (ℕ → Hand A → Type 0) → List (Hand A) → Type 0
   Each F views = (pass : ℕ) (v : Hand A) → get_elem? views pass ≡ some v → F pass v
 
-  -- the place past the end is that of an item added
+  -- the index just past the end is that of an appended item
   at_end : (views : List (Hand A)) (v w : Hand A) (j : ℕ) → get_elem? views j ≢ some w → get_elem? (views ++ v ∷ []) j ≡ some w → j ≡ length views
   at_end [] v w zero apart is = refl
   at_end [] v w (suc j) apart is = absurd (some-ne-none w (sym is))

@@ -8,19 +8,19 @@ use Rattle.thread_parts.specs.declared.item.Item.{Item}
 use Rattle.thread_parts.specs.declared.rule.Hand.{Hand}
 
 module _ (A : Type 0) where
-  -- which lane it is, and how many items it holds at most
+  -- which lane it is, and the greatest number of items that it holds
   pub record LaneId : Type 0 where
     pub table : TableId
     pub messages : Badge (Key (Item A))
     pub capacity : ℕ
 
-  -- the end that puts: its lane, what was put, and whether LaneClosed was answered
+  -- the inlet: its lane, what was put, and whether LaneClosed was returned
   pub record InletValue : Type 0 where
     pub lane : LaneId
     pub put : List (Item A)
     pub dead : Bool
 
-  -- the end that takes: its lane, what was taken, and whether LaneClosed was answered
+  -- the outlet: its lane, what was taken, and whether LaneClosed was returned
   pub record OutletValue : Type 0 where
     pub lane : LaneId
     pub taken : List (Item A)

@@ -1,4 +1,4 @@
--- What may stand on a lane.
+-- Which items may be on a lane, and in which order.
 use Rattle.std.specs.Prelude.{◌≡◌, ℕ, Bool, true, false, List, [], ◌∷◌, ◌++◌, map}
 use Rattle.rights_types.specs.Entries.{EntryValue, own, closes, IsEntry}
 use Rattle.rights_types.specs.Chains.{IsChain}
@@ -10,11 +10,11 @@ module _ {A : Type 0} where
   abbrev pub items_of : List EntryValue → List (Item A)
   items_of es = map (λ e. Entry e) es
 
-  -- these items are entries alone, in order: End has not come
+  -- these items are these entries alone, in order: End is not among them
   abbrev pub AreEntries : List EntryValue → List (Item A) → Type 0
   AreEntries es items = items ≡ items_of es
 
-  -- End has not come
+  -- End is not among these items
   abbrev pub IsOpen : List (Item A) → Type 0
   IsOpen items = (es : List EntryValue) × AreEntries es items
 
@@ -26,16 +26,16 @@ module _ {A : Type 0} where
   abbrev pub IsItemChain : List (Item A) → Type 0
   IsItemChain items = (o : ℕ) × (es : List EntryValue) × (ended : Bool) × IsChain o es × (items ≡ items_of es ++ end_if ended)
 
-  -- the entry continues the chain of these items, of which none closes it or is End
+  -- the entry continues the chain of these items, all of which are entries, and none of which closes it
   abbrev pub Continues : List (Item A) → EntryValue → Type 0
   Continues items e = (o : ℕ) × (es : List EntryValue) × AreEntries es items × IsChain o (es ++ e ∷ [])
 
-  -- the item may come next to these, of which none is End: an entry continues their chain
+  -- the item may come next after these, none of which is End: an entry continues their chain
   unfoldable pub MayCome : Item A → List (Item A) → Type 0
   MayCome (Entry e) items = Continues items e
   MayCome End items = IsOpen items
 
-  -- some items, followed by others, are all
+  -- `some` is a prefix of `all`
   abbrev pub StartsWith : List (Item A) → List (Item A) → Type 0
   StartsWith all some = (rest : List (Item A)) × (all ≡ some ++ rest)
 
@@ -43,7 +43,7 @@ module _ {A : Type 0} where
   abbrev pub IsEnded : List (Item A) → Type 0
   IsEnded items = (before : List (Item A)) × (items ≡ before ++ End ∷ [])
 
-  -- what a list whose last item this is, is known to be
+  -- what is known of a list whose last item is this one
   abbrev pub Leaves : Item A → List (Item A) → Type 0
   Leaves (Entry e) items = IsOpen items
   Leaves End items = IsEnded items

@@ -1,5 +1,5 @@
 -- The rule of a lane: what was put is what was taken, followed by what waits, and it is a chain of entries
--- with at most one End, last. One pass at most puts, and one takes.
+-- with at most one End, last. At most one pass puts, and at most one takes.
 use Rattle.std.specs.Prelude.{◌≡◌, ℕ, Bool, true, List, [], ◌∷◌, ◌++◌}
 use mathlib.Core.Option.{some}
 use lib.ListN.{get_elem?}
@@ -22,14 +22,14 @@ module _ {A : Type 0} where
       × (put ≡ taken ++ waiting) × IsItemChain put
       × ((pass : ℕ) (v : Hand A) → get_elem? views pass ≡ some v → Fits writer reader put taken pass v)
 
-  -- what a send tells
+  -- the effect of a send on its pass
   abbrev pub Sends : Hand A → Item A → Hand A → Type 0
   Sends v x w = w ≡ hand v.puts v.takes (v.put ++ x ∷ []) v.taken
 
-  -- what a receive tells
+  -- the effect of a receive on its pass, and what is known then
   abbrev pub Receives : Hand A → Item A → Hand A → Type 0
   Receives v x w = (w ≡ hand v.puts v.takes v.put (v.taken ++ x ∷ [])) × IsItemChain (v.taken ++ x ∷ [])
 
-  -- what both passes together know, where so much waits
+  -- what both passes know together, if these items wait
   abbrev pub Compares : Hand A → List (Item A) → Type 0
   Compares v waiting = (v.put ≡ v.taken ++ waiting) × IsItemChain v.put

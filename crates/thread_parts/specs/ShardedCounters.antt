@@ -1,7 +1,7 @@
 -- A sharded counter, as plain data.
 use Rattle.std.specs.Prelude.{ℕ}
 
--- its sum, how many shards are left to give out, and what the shards that came back added
+-- its sum; how many shards it has, not given out yet or returned; and what the returned shards added
 pub record ShardedCounterValue : Type 0 where
   pub sum : ℕ
   pub left : ℕ

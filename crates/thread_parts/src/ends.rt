@@ -12,17 +12,17 @@ use std::alloc::{Allocator, Global};
 use std::marker::Model;
 use std::sync::Wait;
 
-/// Items that a lane holds, at most.
+/// The greatest number of items that a lane holds.
 pub const MAX_LANE: usize = 32;
 
-/// The other end of the lane is gone. An entry that could not be put comes back. From then on the end
-/// is dead: it answers this to every call.
+/// The other end of the lane is gone. An entry that could not be put is returned in `entry`, which is `None` if there
+/// is none. From then on this end is dead: each later call returns this error.
 #[derive(Drop)]
 pub struct LaneClosed<A: Allocator = Global> {
     pub entry: Option<Entry<A>>,
 }
 
-/// The end of a lane that puts.
+/// The end of a lane that puts items.
 #[derive(Drop)]
 pub struct Inlet<A: Allocator = Global> {
     pub(crate) sender: LaneSender<A>,
@@ -45,7 +45,7 @@ impl<A: Allocator> Model for Inlet<A> {
     ghost invariant = { λ i. IsSeatAt (sends_on i.sender) i.pass × (hand_of i.pass ≡ hand true false (hand_of i.pass).put []) × IsItemChain (hand_of i.pass).put };
 }
 
-/// The end of a lane that takes.
+/// The end of a lane that takes items.
 #[derive(Drop)]
 pub struct Outlet<A: Allocator = Global> {
     pub(crate) receiver: LaneReceiver<A>,
@@ -68,8 +68,8 @@ impl<A: Allocator> Model for Outlet<A> {
     ghost invariant = { λ o. IsSeatAt (receives_on o.receiver) o.pass × (hand_of o.pass ≡ hand false true [] (hand_of o.pass).taken) × IsItemChain (hand_of o.pass).taken };
 }
 
-/// The two ends of a new lane, which holds at most so many items, 1 to `MAX_LANE`. Its room is made
-/// here, and no later call takes memory.
+/// The two ends of a new lane, which holds at most `capacity` items, 1 to `MAX_LANE`. Its memory is requested here;
+/// no later call requests any.
 #[tactic(auto, using(crate::proofs::Rules::begins))]
 pub fn lane<A: Allocator + Copy>(
     alloc: A,
@@ -98,14 +98,14 @@ pub fn lane<A: Allocator + Copy>(
 }
 
 impl<A: Allocator> Inlet<A> {
-    /// Whether LaneClosed was answered.
+    /// Whether LaneClosed was returned.
     pub fn is_dead(&self) -> bool
         ensures { result ≡ self.now.dead }
     {
         self.dead
     }
 
-    /// Puts the next entry, and waits while the lane is full.
+    /// Puts the next entry, and blocks while the lane is full.
     pub fn put<R: Wait>(&mut self, rt: &R, entry: Entry<A>) -> Result<(), LaneClosed<A>>
         requires { Continues self.old.put entry }
         ensures lane { self.new.lane ≡ self.old.lane }
@@ -122,7 +122,7 @@ impl<A: Allocator> Inlet<A> {
         }
     }
 
-    /// Puts End, and waits while the lane is full.
+    /// Puts End, and blocks while the lane is full.
     #[tactic(auto, using(crate::proofs::Items::end_chain))]
     pub fn end<R: Wait>(&mut self, rt: &R) -> Result<(), LaneClosed<A>>
         requires { IsOpen self.old.put }
@@ -159,8 +159,8 @@ impl<A: Allocator> Inlet<A> {
 }
 
 impl<A: Allocator> Outlet<A> {
-    /// Takes the next item, and waits while there is none. That an entry continues those taken before
-    /// is known by the rule, with no test.
+    /// Takes the next item, and blocks while there is none. That an entry continues those taken before follows from
+    /// the rule, without a check at run time.
     pub fn take<R: Wait>(&mut self, rt: &R) -> Result<Item<A>, LaneClosed<A>>
         requires { IsOpen self.old.taken }
         ensures lane { self.new.lane ≡ self.old.lane }
@@ -177,7 +177,7 @@ impl<A: Allocator> Outlet<A> {
         }
     }
 
-    // None once the inlet is gone and nothing waits: then this end is dead.
+    // `None` once the inlet is gone and no item waits: then this end is dead.
     fn receive<R: Wait>(&mut self, rt: &R) -> Option<Item<A>>
         ensures lane { self.new.lane ≡ self.old.lane }
         ensures some { IfSome result (λ x. (self.new.taken ≡ self.old.taken ++ x ∷ []) × (self.new.dead ≡ false)) }

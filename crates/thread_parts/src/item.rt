@@ -7,6 +7,6 @@ use std::alloc::{Allocator, Global};
 pub enum Item<A: Allocator = Global> {
     /// The next entry.
     Entry(Entry<A>),
-    /// Nothing comes after it.
+    /// The end: no item comes after it.
     End,
 }

@@ -1,4 +1,4 @@
-//! What the two ends of one lane say of each other.
+//! What the two ends of one lane say about each other.
 ghost use Rattle.std.specs.Prelude.{◌≡◌};
 ghost use Rattle.thread_parts.specs.Items.{StartsWith, IsEnded};
 
@@ -7,8 +7,7 @@ use crate::rule::{Compared, Ends};
 use std::alloc::Allocator;
 
 /// Given the two ends of one lane, what was taken is a prefix of what was put, and all of it where End
-/// was taken. The outlet comes back as it was. (It joins the knowledge of both ends, which touches no
-/// item.)
+/// was taken. The outlet is returned unchanged. (The law joins what both ends know, which changes no item.)
 pub fn ends_taken_in<A: Allocator>(inlet: Inlet<A>, mut outlet: Outlet<A>) -> Outlet<A>
     requires { outlet.lane ≡ inlet.lane }
     ensures same { result ≡ outlet }

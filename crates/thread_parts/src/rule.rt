@@ -5,8 +5,8 @@ use crossbeam_channel::{Pass, RuledReceiver, RuledSender};
 use std::alloc::Allocator;
 use std::collections::LinkedList;
 
-// What a pass knows: whether it is the one that puts, whether it is the one that takes, and what was put
-// or taken. No value of it is made.
+// What a pass knows: whether it puts, whether it takes, and what was put or taken. No value of this type is
+// created.
 pub(crate) struct Hand<A: Allocator> {
     pub(crate) puts: bool,
     pub(crate) takes: bool,
@@ -14,7 +14,7 @@ pub(crate) struct Hand<A: Allocator> {
     pub(crate) taken: LinkedList<Item<A>>,
 }
 
-// What was put is what was taken and what waits: a chain of entries, and at most one End, last.
+// What was put is what was taken, followed by what waits: a chain of entries, and at most one End, last.
 pub(crate) struct InOrder;
 
 impl<A: Allocator> Protocol<Item<A>, Hand<A>> for InOrder {
@@ -26,7 +26,7 @@ impl<A: Allocator> Protocol<Item<A>, Hand<A>> for InOrder {
     ghost first = { hand true true [] [] };
 }
 
-// One pass becomes the two of the ends, and these become one again.
+// One pass is split into those of the two ends, and these are joined again.
 pub(crate) struct Ends;
 
 impl<A: Allocator> Split<Hand<A>> for Ends {

@@ -4,8 +4,8 @@ ghost use Rattle.std.specs.Prelude.{◌≡◌, ◌+◌, ◌<◌, ◌≤◌, ◌^
 use std::marker::Model;
 use std::sync::ledger::{Blank, Book, Ledger, Share};
 
-/// The sum, kept under the lock, with the parts of its ledger that were not given out or have come
-/// back. The sum is always that of all shards, wherever they are.
+/// The sum, kept under the lock, with the parts of its ledger that were not given out or were returned. The sum is
+/// always that of all shards, wherever they are.
 #[derive(Drop)]
 pub struct ShardedCounter<L: Ledger> {
     sum: u64,
@@ -43,7 +43,7 @@ impl<L: Ledger> Model for Shard<L> {
 }
 
 impl<L: Ledger> ShardedCounter<L> {
-    /// A sum of 0, of which so many shards can be given out. The blank is what the ledger's name
+    /// A sum of 0 with this number of shards to give out. The blank is what the ledger's name
     /// is written on.
     pub fn open(blank: Blank, shards: u64) -> ShardedCounter<L>
         requires name { blank.name ≡ L.name }
@@ -66,14 +66,14 @@ impl<L: Ledger> ShardedCounter<L> {
         self.sum
     }
 
-    /// How many shards are here: not given out yet, or come back.
+    /// How many shards the counter has: not given out yet, or returned.
     pub fn left(&self) -> u64
         ensures { result ≡ self.now.left }
     {
         self.left
     }
 
-    /// A new shard, which has added 0. None where all are given out.
+    /// A new shard, which has added 0. `None` if the counter has no shard left.
     pub fn split(&mut self) -> Option<Shard<L>>
         ensures some { IfSome result (λ p. (p ≡ 0) × (self.new ≡ record { sum = self.old.sum; left = self.new.left; returned = self.old.returned }) × (self.new.left + 1 ≡ self.old.left)) }
         ensures none { IfNone result ((self.old.left ≡ 0) × (self.new ≡ self.old)) }
@@ -99,7 +99,7 @@ impl<L: Ledger> ShardedCounter<L> {
         shard.added += amount;
     }
 
-    /// Takes in a shard that has come back, and answers what it added.
+    /// Takes a shard back, and returns what it added.
     pub fn collect(&mut self, shard: Shard<L>) -> u64
         requires { self.old.left + 1 < 2 ^ 64 }
         ensures added { result ≡ shard }
@@ -113,7 +113,7 @@ impl<L: Ledger> ShardedCounter<L> {
         added
     }
 
-    /// Where all shards are back, the sum is what they added. It changes nothing.
+    /// If all shards are back, the sum is what they added. The call changes nothing.
     pub fn settle(&mut self)
         requires { self.old.left + 1 ≡ L.parts }
         ensures same { self.new ≡ self.old }
@@ -125,7 +125,7 @@ impl<L: Ledger> ShardedCounter<L> {
 }
 
 impl<L: Ledger> Shard<L> {
-    /// What it added to the sum so far.
+    /// What this shard has added to the sum.
     pub fn added(&self) -> u64
         ensures { result ≡ self.now }
     {

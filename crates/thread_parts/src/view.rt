@@ -1,4 +1,4 @@
-//! What a desk looked like at one moment.
+//! A snapshot of a desk.
 
 use rights_types::SiteId;
 
@@ -6,18 +6,18 @@ use rights_types::SiteId;
 #[derive(Clone, Copy, Debug, PartialEq, Eq)]
 pub struct DeskView {
     pub site: SiteId,
-    /// Whether the site has closed.
+    /// Whether the site is closed.
     pub closed: bool,
     /// The own number of the log's last entry.
     pub number: u64,
     pub issued: u64,
     pub spent: u64,
-    /// What was given to all others, taken back or not.
+    /// The rights given to all other sites, taken back or not.
     pub given: u64,
-    /// What was taken back from all others.
+    /// The rights taken back from all other sites.
     pub back: u64,
     pub received: u64,
     pub held: u64,
-    /// The rights that waiting spends are for.
+    /// The sum of the rights that waiting spends ask for.
     pub queued: u64,
 }

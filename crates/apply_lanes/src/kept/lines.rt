@@ -1,4 +1,4 @@
-//! Lines that a desk sends, under its lock.
+//! Lines that a desk sends, made under its lock.
 ghost use Rattle.std.specs.Prelude.{◌≡◌, None, IfOk, IsOk, OnOk, OnErr};
 ghost use Rattle.std.specs.Option.{option_map};
 ghost use Rattle.rights_types.specs.Messages.MessageValue.{AnAsk, AnAnswer};
@@ -17,7 +17,7 @@ use rights_types::{OutOfMemory, Query, SiteId};
 use std::alloc::Allocator;
 
 impl<D: DeskNames, A: Allocator + Copy> Kept<D, A> {
-    /// The line of the outstanding ask to that peer.
+    /// The line of the outstanding ask to that peer. `None` if there is none.
     pub fn ask_line(&self, peer: SiteId) -> Result<Option<Vec<u8, A>>, OutOfMemory>
         ensures line { IfOk result (λ line. LineOf (λ l. l.items) (option_map (λ ask. AnAsk ask) (outstanding_ask self.now.desk.manager peer)) line) }
         ensures memory { outstanding_ask self.now.desk.manager peer ≡ None → IsOk result }
@@ -25,7 +25,7 @@ impl<D: DeskNames, A: Allocator + Copy> Kept<D, A> {
         self.desk.ask_line(peer)
     }
 
-    /// The line of the next entry for that peer, which is published by it; None where all were.
+    /// The line of the next entry for that peer, which then counts as published. `None` if all entries were published.
     pub fn publish(&mut self, peer: SiteId) -> Result<Option<Vec<u8, A>>, OutOfMemory>
         ensures line { IfOk result (λ line. LineOf (λ l. l.items) (next_push self.old.desk.ledger.log peer) line) }
         ensures ok { OnOk result (self.new ≡ record self.old { desk = after_publish self.old.desk peer }) }
@@ -36,7 +36,7 @@ impl<D: DeskNames, A: Allocator + Copy> Kept<D, A> {
         self.desk.publish(peer)
     }
 
-    /// Counts all entries as published to that peer, in the same time however many they are.
+    /// Counts all entries as published to that peer, in a time that does not depend on their number.
     pub fn skip_unpublished(&mut self, peer: SiteId)
         ensures skips { self.new ≡ record self.old { desk = after_skip self.old.desk peer } }
         ensures step { StepsBy D.id self.old.desk Other self.new.desk }
@@ -51,7 +51,7 @@ impl<D: DeskNames, A: Allocator + Copy> Kept<D, A> {
         self.desk.beat_line(peer)
     }
 
-    /// The line of the answer to a query.
+    /// The line of the answer to a query. Errors: those of `Desk::on_query`.
     pub fn on_query(&self, query: &Query) -> Result<Vec<u8, A>, ReadError>
         ensures refused { ReadRefuses (query_fault self.now.desk.ledger.log query.now) result }
         ensures ok { IfOk result (λ line. Spells (AnAnswer (answer_to_query query.now self.now.desk.ledger.log)) line.items) }

@@ -1,4 +1,4 @@
-//! Calls under the lock by which a desk changes: what seats issue and spend, and all others.
+//! Calls under the lock that change a desk: those of seats, which issue and spend, and all others.
 ghost use Rattle.std.specs.Prelude.{◌≡◌, ℕ, ◌<◌, ◌≤◌, ◌∷◌, [], true, None, Some, IfOk, IfErr, IfSome, OnOk, OnErr, IsOk, List, length};
 ghost use Rattle.rights_types.specs.Chains.{end};
 ghost use Rattle.rights_types.specs.declared.moves.Move.TheVariants.{Issue as Issues, Give as Gives};
@@ -25,7 +25,7 @@ use std::alloc::Allocator;
 impl<D: DeskNames, A: Allocator + Copy> Kept<D, A> {
     ghost use Rattle.apply_lanes.specs.Kepts.{raised, told_issued, told_spent, told_served, spent_by, without_amount, amount_of, IsFront};
 
-    /// Creates rights, by one entry whose number is answered.
+    /// Creates rights, with one entry, whose number is returned.
     pub fn issue(&mut self, seat: &mut Seat<D>, amount: u64) -> Result<u64, DeskError>
         ensures refused { DeskRefuses (issue_fault self.old.desk amount) result }
         ensures ok { OnOk result (DeskWrites self.old.desk (Issues amount ∷ []) self.new.desk) }
@@ -43,7 +43,8 @@ impl<D: DeskNames, A: Allocator + Copy> Kept<D, A> {
         Ok(number)
     }
 
-    /// Spends so many rights at once, where no spend waits and as many are held; else lets the spend wait.
+    /// Spends `amount` rights at once if no spend waits and that many are held; else the spend waits until its
+    /// deadline. Errors: see `Desk::spend`.
     pub fn spend(
         &mut self,
         seat: &mut Seat<D>,
@@ -69,8 +70,8 @@ impl<D: DeskNames, A: Allocator + Copy> Kept<D, A> {
         Ok(spending)
     }
 
-    /// Serves the spend that waits at the front, where as many rights are held, and answers its ticket, the
-    /// number of the entry that spends it, and its amount.
+    /// Serves the spend at the front of the queue, if that many rights are held, and returns its ticket, the number
+    /// of the entry that spends it, and its amount in rights. `None` if none waits or too few rights are held.
     pub fn serve(&mut self, seat: &mut Seat<D>) -> Result<Option<(u64, u64, u64)>, DeskError>
         ensures refused { DeskRefuses (serve_fault self.old.desk) result }
         ensures ok { IfOk result (λ served. DeskServes self.old.desk (without_amount served) self.new.desk) }
@@ -94,7 +95,7 @@ impl<D: DeskNames, A: Allocator + Copy> Kept<D, A> {
         Ok(Some((ticket, number, amount)))
     }
 
-    /// Gives rights to a peer that did not ask, by one entry whose number is answered.
+    /// Gives rights to a peer that did not ask, with one entry, whose number is returned.
     pub fn give_back(&mut self, peer: SiteId, amount: u64) -> Result<u64, DeskError>
         ensures refused { DeskRefuses (give_fault self.old.desk peer amount) result }
         ensures ok { OnOk result (DeskWrites self.old.desk (Gives peer amount ∷ []) self.new.desk) }
@@ -107,7 +108,7 @@ impl<D: DeskNames, A: Allocator + Copy> Kept<D, A> {
         Ok(self.desk.give_back(peer, amount)?)
     }
 
-    /// Ends all waiting spends whose deadlines are less than this time, and answers how many they were.
+    /// Expires all waiting spends whose deadlines are less than this time, and returns how many there were.
     pub fn expire(&mut self, time: u64) -> Result<u64, DeskError>
         ensures refused { DeskRefuses (expire_fault self.old.desk time) result }
         ensures memory { IfErr result (λ fault. ¬ (fault ≡ NoMemory)) }
@@ -119,7 +120,7 @@ impl<D: DeskNames, A: Allocator + Copy> Kept<D, A> {
         self.desk.expire(time)
     }
 
-    /// What became of the spend of this ticket. Its outcome is told once, which frees its slot.
+    /// The state of the spend with this ticket. Its outcome is reported once, which frees its slot.
     pub fn status(&mut self, ticket: u64) -> Status
         ensures outcome { TellsOutcome self.old.desk.queue ticket result self.new.desk.queue }
         ensures step { StepsBy D.id self.old.desk Other self.new.desk }
@@ -128,8 +129,8 @@ impl<D: DeskNames, A: Allocator + Copy> Kept<D, A> {
         self.desk.status(ticket)
     }
 
-    /// Ends asks to peers that are known to have closed, and asks peers for the rights that waiting spends
-    /// lack. Answers how many were asked.
+    /// Ends asks to peers that are known to be closed, and asks peers for the rights that waiting spends lack.
+    /// Returns the number of asks made.
     pub fn plan(&mut self) -> u64
         ensures plans { DeskPlans self.old.desk result self.new.desk }
         ensures step { StepsBy D.id self.old.desk Other self.new.desk }
@@ -154,7 +155,7 @@ impl<D: DeskNames, A: Allocator + Copy> Kept<D, A> {
         Ok(self.desk.on_ask(ask)?)
     }
 
-    /// That peer denied the ask of this number. Only the outstanding one ends by it.
+    /// That peer denied the ask with this number. Only the outstanding ask can be ended by it.
     pub fn on_deny(&mut self, peer: SiteId, ask: AskNumber)
         requires site { peer ≤ sites self.old.desk.ledger.book }
         ensures ends { self.new ≡ record self.old { desk = record self.old.desk { manager = ended self.old.desk.manager peer ask } } }
@@ -163,8 +164,8 @@ impl<D: DeskNames, A: Allocator + Copy> Kept<D, A> {
         self.desk.on_deny(peer, ask);
     }
 
-    /// Writes the closing entry, and answers its number. All that is held goes to the heir. From then on
-    /// appliers drop what they take.
+    /// Writes the closing entry, and returns its number. All that is held goes to the heir, if one is named. From
+    /// then on appliers drop what they take.
     pub fn close(&mut self, heir: Option<SiteId>) -> Result<u64, DeskError>
         ensures refused { DeskRefuses (close_fault self.old.desk heir) result }
         ensures ok { OnOk result (DeskCloses self.old.desk heir self.new.desk) }

@@ -3,10 +3,10 @@
 use rights_types::{Amount, Entry, Move, SiteId};
 use std::alloc::Global;
 
-/// So many windows are offered in one run.
+/// The number of windows offered in one run.
 pub(crate) const WINDOW_COUNT: u32 = 10_000;
 
-/// How the 64 entries of a window come.
+/// The order in which the 64 entries of a window come.
 #[derive(Clone, Copy)]
 pub(crate) enum Order {
     /// First to last.
@@ -35,7 +35,7 @@ fn entry(alloc: Global, prev: u64) -> Option<Entry> {
     Entry::new(SiteId::known(1), prev, moves).ok()
 }
 
-/// The entries of a window as they come.
+/// The entries of a window in the order in which they come.
 pub(crate) fn window(alloc: Global, order: Order, number: u32) -> Option<Vec<Entry>> {
     let mut entries = Vec::with_capacity(alloc, 192).ok()?;
     let first = number as u64 * 64;

@@ -1,4 +1,4 @@
-//! Desks and what is done with them. The desk is that of site 1 of 2.
+//! Desks and what is measured on them. The desk is that of site 1 of 2.
 
 use origin_log::OriginLog;
 use rights_types::{Amount, Ask, AskNumber, Entry, Frontier, MAX_AMOUNT, Move, SiteId};
@@ -98,7 +98,7 @@ pub(crate) fn gifts(alloc: Global, count: u64) -> Option<Vec<Entry>> {
     Some(entries)
 }
 
-/// The closing entry of site 2, which applied of site 1 all up to this number.
+/// The closing entry of site 2, which had applied site 1's entries up to this number.
 pub(crate) fn closing(alloc: Global, number: u64) -> Option<Vec<Entry>> {
     let frontier = Frontier::new(&[number, 0]).ok()?;
     let mut entries = Vec::new(alloc);

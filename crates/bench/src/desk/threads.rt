@@ -1,4 +1,4 @@
-//! How fast seats spend under one lock: one alone, and some on threads of their own beside an applier.
+//! How fast seats spend under one lock: one alone, and several on threads of their own besides an applier.
 ghost use Rattle.std.specs.Prelude.{◌≡◌, [], false, IfOk, IfSome};
 ghost use Rattle.apply_lanes.specs.Names.{id_of, AreBlank, IsUnused};
 
@@ -15,10 +15,10 @@ use std::thread;
 use std::thread::Threads;
 use std::time::Instant;
 
-// Spends of all seats together.
+// The number of spends of all seats together.
 const SPENDS: u64 = 1_000_000;
 
-// Entries that come in beside them.
+// The number of entries that arrive meanwhile.
 const ENTRIES: u64 = 100_000;
 
 fn unused(alloc: Global) -> Result<Desk, OutOfMemory>
@@ -27,7 +27,7 @@ fn unused(alloc: Global) -> Result<Desk, OutOfMemory>
     Desk::new(alloc, SiteId::known(1), 2)
 }
 
-/// What comes from the other site.
+/// The input from the other site.
 #[derive(Drop)]
 struct Feeder {
     intake: Intake,
@@ -51,7 +51,7 @@ fn link(alloc: Global) -> Option<(Feeder, Outlet)>
     Some((Feeder { intake }, outlet))
 }
 
-// The lines of so many entries, each of which gives the desk a right.
+// The lines of this number of entries, each of which gives the desk one right.
 fn lines(alloc: Global) -> Option<Vec<String>> {
     let mut lines = Vec::new(alloc);
     for number in 0..ENTRIES {
@@ -62,7 +62,7 @@ fn lines(alloc: Global) -> Option<Vec<String>> {
     Some(lines)
 }
 
-// The nanoseconds in which the seat spends so many rights, one at a time.
+// The nanoseconds that the seat takes to spend this number of rights, one at a time.
 fn spend_all<D: DeskNames, R: Wait + Clock>(
     rt: &R,
     desk: &SharedDesk<D>,
@@ -118,7 +118,7 @@ fn seats<D: DeskNames, R: Wait>(
     Some(seats)
 }
 
-// The longest of these times, if none failed.
+// The longest of these times. `None` if one failed.
 fn longest(times: &[Option<u128>]) -> Option<u128> {
     let mut longest = 0u128;
     for time in times {
@@ -141,7 +141,7 @@ fn spend_each<D: DeskNames + Send + Sync, R: Threads + Wait + Clock + Sync>(
     }
 }
 
-// The nanoseconds of the applier, where all lines were taken in on another thread.
+// The nanoseconds of the applier, if all lines were taken in on another thread.
 fn feed_and_apply<D: DeskNames + Send + Sync, R: Threads + Wait + Clock + Sync>(
     rt: &R,
     desk: &SharedDesk<D>,
@@ -157,7 +157,7 @@ fn feed_and_apply<D: DeskNames + Send + Sync, R: Threads + Wait + Clock + Sync>(
     if fed { applied } else { None }
 }
 
-// What comes from the other site, and its applier.
+// The input from the other site, and its applier.
 fn applier_of<D: DeskNames, R: Wait>(
     rt: &R,
     alloc: Global,
@@ -170,7 +170,7 @@ fn applier_of<D: DeskNames, R: Wait>(
     }
 }
 
-// The nanoseconds of so many seats on as many threads, and of the applier beside them.
+// The nanoseconds of this number of seats on as many threads, and of the applier that runs besides.
 fn game<D: DeskNames + Send + Sync, R: Threads + Wait + Clock + Sync>(
     rt: &R,
     alloc: Global,
@@ -237,7 +237,7 @@ fn measure_alone<R: Clock + Print + Wait>(rt: &R, alloc: Global) -> Option<()> {
     println!(rt; "shared desk, a seat alone: {spends} spends/s under the lock").ok()
 }
 
-// Prints the rates of so many seats beside an applier.
+// Prints the rates of this number of seats besides an applier.
 fn measure_game<R: Clock + Print + Threads + Wait + Sync>(
     rt: &R,
     alloc: Global,
@@ -257,7 +257,7 @@ fn measure_game<R: Clock + Print + Threads + Wait + Sync>(
     ).ok()
 }
 
-/// Prints the rates of one seat alone, and of 1, 2 and 4 seats beside an applier.
+/// Prints the rates of one seat alone, and of 1, 2 and 4 seats besides an applier.
 pub(crate) fn measure_seats<R: Clock + Print + Threads + Wait + Sync + AllocGlobal>(
     rt: &R,
 ) -> Option<()> {

@@ -8,7 +8,7 @@ use origin_log::OriginLog;
 use rights_types::{Amount, AskNumber, Move, Query, SiteId};
 use std::alloc::{AllocError, Global};
 
-/// Moves of each entry.
+/// The number of moves of each entry.
 pub(crate) const MOVES: u64 = 4;
 
 // The moves of an entry of site 1.
@@ -35,7 +35,7 @@ fn moves_of_one(alloc: Global) -> Result<Vec<Move>, AllocError>
     )
 }
 
-/// The log of site 1 with so many entries.
+/// The log of site 1 with this number of entries.
 pub(crate) fn filled(alloc: Global, entries: u64) -> Option<OriginLog> {
     let mut log = OriginLog::new(alloc, SiteId::known(1));
     for _ in 0..entries {
@@ -44,14 +44,14 @@ pub(crate) fn filled(alloc: Global, entries: u64) -> Option<OriginLog> {
     Some(log)
 }
 
-/// The next number of a sequence that goes all over its range.
+/// The next number of a sequence that covers its whole range.
 pub(crate) fn next(number: u64) -> u64 {
     number
         .wrapping_mul(6_364_136_223_846_793_005)
         .wrapping_add(1_442_695_040_888_963_407)
 }
 
-/// Site 2 asks for a number and so many behind it.
+/// Site 2 queries a number and this many after it.
 pub(crate) fn query(first: u64, more: u64) -> Option<Query> {
     let last = first.saturating_add(more);
     Query::new(SiteId::known(2), SiteId::known(1), first, last).ok()

@@ -1,4 +1,4 @@
-//! Cutters that find no memory, and how much they want.
+//! Cutters that run out of memory, and how much they request.
 
 use super::pieces::{gives_line, gives_long, is_line, take, takes_each};
 use entry_codec::{Cut, LineCutter};
@@ -7,7 +7,7 @@ use refusing_allocator::Refusing;
 use rights_types::OutOfMemory;
 use std::alloc::Allocator;
 
-// Whether no cutter is made where the first request for memory is refused.
+// Whether no cutter is made if the first memory request is refused.
 fn is_refused<A: Allocator + Copy>(alloc: A) -> bool {
     let refusing = Refusing::new(alloc, 0);
     LineCutter::new(&refusing).is_err() && refusing.refused()
@@ -22,14 +22,14 @@ fn fills_with_one_request<A: Allocator + Copy>(alloc: A) -> bool {
     }
 }
 
-/// A cutter makes its room with one request, and the bytes that it takes need none.
+/// A cutter makes its buffer with one request, and the bytes that it takes need none.
 #[test]
 fn room_refused(rt: HostRuntime) {
     assert!(rt; is_refused(rt.alloc()));
     assert!(rt; fills_with_one_request(rt.alloc()));
 }
 
-// Whether the line, once refused, waits and is given, and the next one behind it.
+// Whether the line, once refused, waits and is returned, and the next one after it.
 fn still_gives<A: Allocator + Copy>(cutter: &mut LineCutter<A>) -> bool {
     take(cutter, b"B") == 0
         && !cutter.unfinished()
@@ -38,8 +38,8 @@ fn still_gives<A: Allocator + Copy>(cutter: &mut LineCutter<A>) -> bool {
         && gives_line(cutter, b"H 1\n")
 }
 
-// Whether the line is given at once where so many requests are granted, else only when it is asked for
-// again. `None` where it is lost, or its memory was refused and that was not told.
+// Whether the line is returned at once if this number of requests is granted, else only when it is asked for
+// again. `None` if it is lost, or its memory was refused and that was not reported.
 fn gives_at_once<A: Allocator + Copy>(alloc: A, granted: u64) -> Option<bool> {
     let refusing = Refusing::new(alloc, granted);
     let Ok(mut cutter) = LineCutter::new(&refusing) else {
@@ -55,7 +55,7 @@ fn gives_at_once<A: Allocator + Copy>(alloc: A, granted: u64) -> Option<bool> {
     if is_right { Some(at_once) } else { None }
 }
 
-/// A line that is refused for memory still waits.
+/// A line for which memory was refused still waits.
 #[test]
 fn line_refused(rt: HostRuntime) {
     // The first request is the cutter's own.
@@ -63,12 +63,12 @@ fn line_refused(rt: HostRuntime) {
     assert!(rt; gives_at_once(rt.alloc(), 2) == Some(true));
 }
 
-// Whether a cutter that took so many bytes and a line feed says that the line is too long.
+// Whether a cutter that took this number of bytes and a line feed says that the line is too long.
 fn tells_a_long_line<A: Allocator + Copy>(cutter: &mut LineCutter<A>, count: usize) -> bool {
     takes_each(cutter, count) && take(cutter, b"\n") == 1 && gives_long(cutter)
 }
 
-/// That a line was too long is told without memory.
+/// That a line was too long is reported without memory.
 #[test]
 fn long_line_takes_no_memory(rt: HostRuntime) {
     let refusing = Refusing::new(rt.alloc(), 1);
@@ -92,7 +92,7 @@ fn gives_within<A: Allocator + Copy>(
     }
 }
 
-/// A cutter's room is that of the longest line, and a line that it gives takes its own length, to
+/// A cutter's buffer has the size of the longest line, and a line that it returns takes its own length, to
 /// the heap's next 16 bytes.
 #[test]
 fn bytes_of_a_cutter(rt: HostRuntime) {
@@ -102,7 +102,7 @@ fn bytes_of_a_cutter(rt: HostRuntime) {
     assert!(rt; gives_within(&mut cutter, &heap, 16400));
 }
 
-// How long the line is that the cutter gives next, if it gives one.
+// The length of the line that the cutter returns next, if it returns one.
 fn next_length<A: Allocator + Copy>(cutter: &mut LineCutter<A>) -> Option<usize> {
     match cutter.next_line() {
         Ok(Some(Cut::Line(line))) => Some(line.len()),
@@ -110,12 +110,12 @@ fn next_length<A: Allocator + Copy>(cutter: &mut LineCutter<A>) -> Option<usize>
     }
 }
 
-// Whether the cutter takes and gives a line of 16,384 bytes.
+// Whether the cutter takes and returns a line of 16,384 bytes.
 fn gives_the_longest<A: Allocator + Copy>(cutter: &mut LineCutter<A>) -> bool {
     takes_each(cutter, 16383) && take(cutter, b"\n") == 1 && next_length(cutter) == Some(16384)
 }
 
-/// The heap has the bytes of the cutter's room and of one line, so no more are held at any moment.
+/// The heap has the bytes of the cutter's buffer and of one line, so no more are held at any moment.
 #[test]
 fn bytes_of_the_longest_line(rt: HostRuntime) {
     let heap = LocalHeap::new(rt.alloc(), 32768).expect(&rt, "a heap");

@@ -38,7 +38,7 @@ fn decimals(rt: HostRuntime) {
     }
 }
 
-// Whether the text is read so where numbers from 1 to 16 are wanted.
+// Whether the text is read as this if numbers from 1 to 16 are permitted.
 fn is_site(text: &[u8], wanted: Option<u64>) -> bool {
     read_decimal(text, 1, 16) == wanted
 }

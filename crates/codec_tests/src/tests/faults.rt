@@ -1,4 +1,4 @@
-//! Lines that are refused, and for what.
+//! Lines that are refused, and the causes.
 
 use super::texts::repeated;
 use Refusal::{Field, Misfit, No, Whole};
@@ -13,14 +13,14 @@ fn fault<A: Allocator + Copy>(alloc: A, line: &[u8]) -> Option<LineError> {
     }
 }
 
-/// What a line is refused for.
+/// The cause for which a line is refused.
 #[derive(Clone, Copy)]
 enum Refusal {
-    /// It is read.
+    /// None: it is read.
     No,
-    /// The field of a part.
+    /// A field of a part.
     Field(u16, u16),
-    /// The field of a part, which is no move that may stand there.
+    /// A field of a part that is not a move that may be there.
     Misfit(u16, u16),
     /// The line as a whole.
     Whole(LineError),
@@ -37,7 +37,7 @@ impl Refusal {
     }
 }
 
-/// The first line with another fault than the one beside it.
+/// The first line whose fault is not the one listed with it.
 fn first_wrong<'a, A: Allocator + Copy>(alloc: A, cases: &[(&'a str, Refusal)]) -> Option<&'a str> {
     for (line, expected) in cases {
         if fault(alloc, line.as_bytes()) != expected.error() {
@@ -115,14 +115,14 @@ const PARTS_AND_MOVES_OUT_OF_PLACE: [(&str, Refusal); 11] = [
     ("E 1 0 1 V:1:4\n", Misfit(0, 4)),
 ];
 
-/// More parts or fields than the kind has, frontiers that do not fit their origin, moves that name
-/// it, and closing moves that are not the last.
+/// More parts or fields than the kind has, frontiers that do not fit their origin, moves that name it, and
+/// closing moves that are not the last.
 #[test]
 fn parts_and_moves_out_of_place(rt: HostRuntime) {
     assert!(rt; first_wrong(rt.alloc(), &PARTS_AND_MOVES_OUT_OF_PLACE).is_none());
 }
 
-// The fault of a line with a text so many times in the midst of it.
+// The fault of a line with this text repeated in the middle of it.
 fn repeated_fault(
     alloc: Global,
     front: &[u8],
@@ -175,7 +175,7 @@ const ORDER_OF_FAULTS: [(&str, Refusal); 11] = [
     ("B 1 5 6;\n", Whole(LineError::TrailingBytes)),
 ];
 
-/// The first fault in the order decides, and within it the least place.
+/// The first fault in the order decides, and within it the lowest position.
 #[test]
 fn order_of_faults(rt: HostRuntime) {
     assert!(rt; first_wrong(rt.alloc(), &ORDER_OF_FAULTS).is_none());
@@ -193,7 +193,7 @@ const ORDER_OF_FAULTS_OF_ASKS: [(&str, Refusal); 9] = [
     ("H 1;\n", Whole(LineError::TrailingBytes)),
 ];
 
-/// The same of asks, denials and first lines.
+/// The same for asks, denials and first lines.
 #[test]
 fn order_of_faults_of_asks(rt: HostRuntime) {
     assert!(rt; first_wrong(rt.alloc(), &ORDER_OF_FAULTS_OF_ASKS).is_none());
@@ -208,7 +208,7 @@ const ORDER_OF_FAULTS_OF_ANSWERS: [(&str, Refusal); 6] = [
     ("A 1 2; E 1 0 1 I:1\n", Field(1, 0)),
 ];
 
-/// Part 0 of an answer comes first, then part after part, and the count of parts last.
+/// Part 0 of an answer comes first, then the parts in order, and the count of parts last.
 #[test]
 fn order_of_faults_of_answers(rt: HostRuntime) {
     assert!(rt; first_wrong(rt.alloc(), &ORDER_OF_FAULTS_OF_ANSWERS).is_none());
@@ -262,7 +262,7 @@ const DECIMALS: [(&str, Refusal); 10] = [
     ("B 1 1000000000\n", No),
 ];
 
-/// No sign, no leading zero, no other byte, and no number that passes a word.
+/// No sign, no leading zero, no other byte, and no number that exceeds a word.
 #[test]
 fn decimals(rt: HostRuntime) {
     assert!(rt; first_wrong(rt.alloc(), &DECIMALS).is_none());

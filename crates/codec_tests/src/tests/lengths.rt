@@ -1,5 +1,5 @@
-//! Lines of every length, with ample memory: whatever is read or cut is what was written. A body that
-//! gives up on some length is proved, since it may always want memory, and is found here.
+//! Lines of every length, with ample memory: what is read or cut is what was written. A body that gives up at some
+//! length can be proved, since it may always run out of memory; it is found here.
 
 use super::pieces::{gives_line, take};
 use super::texts::{is_again, is_entry_line, repeated};
@@ -8,12 +8,12 @@ use linked_list_allocator::LocalHeap;
 use rights_types::{MAX_LINE, Message};
 use std::alloc::{AllocError, Allocator};
 
-// The text of a move of each kind, those that close behind the others.
+// The text of a move of each kind, those that close after the others.
 const MOVES: [&str; 7] = [
     " I:10", " S:9", " G:2:8:7", " R:3:6", " V:4:5", " C", " K:0:1:2",
 ];
 
-// Adds an entry of so many moves, of the kinds in turn, of which the last is of this one.
+// Adds an entry with this number of moves, of the kinds in turn; the last is of this kind.
 fn add_entry<A: Allocator>(
     line: &mut Vec<u8, A>,
     count: usize,
@@ -37,7 +37,7 @@ fn entry_line<A: Allocator>(alloc: A, count: usize, last: usize) -> Result<Vec<u
     Ok(line)
 }
 
-// Whether an entry of so many moves is read, and written again as it was.
+// Whether an entry with this number of moves is read, and written again unchanged.
 fn is_entry_again<A: Allocator + Copy>(alloc: A, count: usize, last: usize) -> bool {
     let Ok(line) = entry_line(alloc, count, last) else {
         return false;
@@ -61,7 +61,7 @@ fn entries_of_every_count(rt: HostRuntime) {
     }
 }
 
-// An answer of entries of 1, 2 and more moves.
+// An answer with entries of 1, 2 and more moves.
 fn answer_line<A: Allocator>(alloc: A, entries: usize) -> Result<Vec<u8, A>, AllocError> {
     let mut line = Vec::from_slice(alloc, b"A 1 2")?;
     for count in 1..=entries {
@@ -72,7 +72,7 @@ fn answer_line<A: Allocator>(alloc: A, entries: usize) -> Result<Vec<u8, A>, All
     Ok(line)
 }
 
-/// Answers of 0 to 16 entries, which have 1, 2 and more moves.
+/// Answers with 0 to 16 entries, which have 1, 2 and more moves.
 #[test]
 fn answers_of_every_count(rt: HostRuntime) {
     for entries in 0..=16usize {
@@ -81,7 +81,7 @@ fn answers_of_every_count(rt: HostRuntime) {
     }
 }
 
-// Takes a zero off the last number that has more digits than one and ends in it, if there is one.
+// Removes one zero from the last number that has more than one digit and ends in zero, if there is one.
 fn shorten<A: Allocator>(line: &mut Vec<u8, A>) -> bool {
     let mut found = 0;
     for at in 1..line.len() {
@@ -96,7 +96,7 @@ fn shorten<A: Allocator>(line: &mut Vec<u8, A>) -> bool {
     true
 }
 
-// Whether the message is written as this line, in no more memory than it is long, to the heap's next 16 bytes.
+// Whether the message is written as this line, in no more memory than its length, to the heap's next 16 bytes.
 fn is_written_within<A: Allocator>(heap: &LocalHeap, message: &Message<A>, line: &[u8]) -> bool {
     match write_line(heap, message) {
         Ok(text) => heap.used() <= line.len() + 16 && text.as_slice() == line,
@@ -104,7 +104,7 @@ fn is_written_within<A: Allocator>(heap: &LocalHeap, message: &Message<A>, line:
     }
 }
 
-// Whether it is written so behind another line.
+// Whether it is written in this way after another line.
 fn is_written_behind<A: Allocator + Copy>(alloc: A, message: &Message<A>, line: &[u8]) -> bool {
     let Ok(mut buffer) = Vec::from_slice(alloc, b"H 1\n") else {
         return false;
@@ -114,7 +114,7 @@ fn is_written_behind<A: Allocator + Copy>(alloc: A, message: &Message<A>, line: 
         && &buffer[4..] == line
 }
 
-// Whether the line is read, and written again as it was.
+// Whether the line is read, and written again unchanged.
 fn is_kept<A: Allocator + Copy>(alloc: A, heap: &LocalHeap, line: &[u8]) -> bool {
     match read_line(alloc, line) {
         Ok(message) => {
@@ -124,8 +124,8 @@ fn is_kept<A: Allocator + Copy>(alloc: A, heap: &LocalHeap, line: &[u8]) -> bool
     }
 }
 
-// Goes over the line and all that come of it by taking zeros off, and answers the length of the first
-// that is not kept, or else how long the last one is.
+// Checks the line and all that result from removing zeros, and returns the length of the first that is not kept, or
+// else that of the last one.
 fn first_lost<A: Allocator + Copy>(
     alloc: A,
     heap: &LocalHeap,
@@ -146,7 +146,7 @@ fn first_lost<A: Allocator + Copy>(
 const WIDE_ENTRY: &str =
     ";E 16 0 16 G:15:1000000000:1000000000 G:15:1000000000:1000000000 G:15:1000000000:1000000000 G:15:1000000000:1000000000 G:15:1000000000:1000000000 G:15:1000000000:1000000000 G:15:1000000000:1000000000 G:15:1000000000:1000000000 G:15:1000000000:1000000000 G:15:1000000000:1000000000 G:15:1000000000:1000000000 G:15:1000000000:1000000000 G:15:1000000000:1000000000 G:15:1000000000:1000000000 G:15:1000000000:1000000000 K:1000000000:1000000000:1000000000:1000000000:1000000000:1000000000:1000000000:1000000000:1000000000:1000000000:1000000000:1000000000:1000000000:1000000000:1000000000:0";
 
-// The length of this line, and that of the last line that comes of it by taking zeros off, if all are
+// The length of this line, and that of the last line that results from removing zeros, if all are
 // kept.
 fn kept_lengths<A: Allocator + Copy>(
     alloc: A,
@@ -204,12 +204,12 @@ fn entries_of_every_length(rt: HostRuntime) {
     }
 }
 
-// Whether the cutter takes this line whole, and gives it.
+// Whether the cutter takes this line whole, and returns it.
 fn is_given<A: Allocator + Copy>(cutter: &mut LineCutter<A>, line: &[u8]) -> bool {
     take(cutter, line) == line.len() && gives_line(cutter, line)
 }
 
-/// A cutter gives lines of every length.
+/// A cutter returns lines of every length.
 #[test]
 fn pieces_of_every_length(rt: HostRuntime) {
     let longest = repeated(rt.alloc(), b"", b"x", MAX_LINE - 1, b"\n").expect(&rt, "memory");

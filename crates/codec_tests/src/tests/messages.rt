@@ -56,7 +56,7 @@ fn longest_line(rt: HostRuntime) {
     assert!(rt; is_again(rt.alloc(), &line));
 }
 
-/// No front of a long line is a line.
+/// No proper prefix of a long line is a line.
 #[test]
 fn fronts_of_the_longest_line(rt: HostRuntime) {
     let line = answer_of(rt.alloc(), 16).expect(&rt, "memory");
@@ -68,14 +68,14 @@ fn fronts_of_the_longest_line(rt: HostRuntime) {
     }
 }
 
-/// How long the fronts of the longest line are that with a line feed are lines: `A 16 1`, `A 16 15`, and
+/// The lengths of the prefixes of the longest line that are lines once a line feed is added: `A 16 1`, `A 16 15`, and
 /// those that end with an entry.
 const ENDED: [usize; 18] = [
     7, 8, 608, 1208, 1808, 2408, 3008, 3608, 4208, 4808, 5408, 6008, 6608, 7208, 7808, 8408, 9008,
     9608,
 ];
 
-/// Whether the front with a line feed is a line or none, as told. If it is, it is written again as it was.
+/// Whether the prefix with a line feed is a line, or not one, as expected. If it is, it is written again unchanged.
 fn is_line_if<A: Allocator + Copy>(alloc: A, is_line: bool, front: &[u8]) -> bool {
     let Ok(text) = repeated(alloc, front, b"", 0, b"\n") else {
         return false;
@@ -159,7 +159,7 @@ fn values_of_entries(rt: HostRuntime) {
     assert!(rt; is_entry_line(rt.alloc(), &message, line));
 }
 
-/// Whether the message is an entry of so many moves.
+/// Whether the message is an entry with this number of moves.
 fn has_moves<A: Allocator>(message: &Message<A>, count: usize) -> bool {
     match message {
         Message::Push(entry) => entry.moves().len() == count,
@@ -192,7 +192,7 @@ fn values_of_answers(rt: HostRuntime) {
     assert!(rt; is_answer(&answer));
 }
 
-/// A take back may stand before other moves.
+/// A take-back may come before other moves.
 #[test]
 fn take_back_first(rt: HostRuntime) {
     assert!(rt; is_again(rt.alloc(), b"E 1 0 2 V:2:5 I:1\n"));
@@ -247,7 +247,7 @@ fn fields_that_are_no_moves(rt: HostRuntime) {
     }
 }
 
-/// Writes the message of the line behind what stands there, and says whether it could.
+/// Writes the message of the line after what is there, and returns whether it could.
 fn adds<A: Allocator + Copy>(alloc: A, buffer: &mut Vec<u8, A>, line: &[u8]) -> bool {
     match read_line(alloc, line) {
         Ok(message) => write_into(buffer, &message).is_ok(),
@@ -255,7 +255,7 @@ fn adds<A: Allocator + Copy>(alloc: A, buffer: &mut Vec<u8, A>, line: &[u8]) -> 
     }
 }
 
-/// Whether the text is this front and then this rest.
+/// Whether the text is this prefix followed by this rest.
 fn is_joined(text: &[u8], front: &[u8], rest: &[u8]) -> bool {
     if text.len() < front.len() {
         return false;

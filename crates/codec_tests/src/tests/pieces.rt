@@ -8,7 +8,7 @@ use std::alloc::Allocator;
 /// More pushes than any stream here needs.
 const MANY: usize = 100_000;
 
-/// Takes the bytes, and appends each piece to the text: a line as it is, and `long` for one that is
+/// Takes the bytes, and appends each piece to the text: a line unchanged, and `long` for one that is
 /// too long.
 fn feed<A: Allocator + Copy>(
     cutter: &mut LineCutter<A>,
@@ -35,7 +35,7 @@ pub(super) fn take<A: Allocator + Copy>(cutter: &mut LineCutter<A>, bytes: &[u8]
     cutter.push(bytes)
 }
 
-/// Whether the cutter takes so many bytes, none of them a line feed, one by one.
+/// Whether the cutter takes this number of bytes, none of them a line feed, one by one.
 pub(super) fn takes_each<A: Allocator + Copy>(cutter: &mut LineCutter<A>, count: usize) -> bool {
     for _ in 0..count {
         if take(cutter, b"x") != 1 {
@@ -45,7 +45,7 @@ pub(super) fn takes_each<A: Allocator + Copy>(cutter: &mut LineCutter<A>, count:
     true
 }
 
-/// Whether a cutter gave this line.
+/// Whether a cutter returned this line.
 pub(super) fn is_line<A: Allocator>(cut: &Option<Cut<A>>, expected: &[u8]) -> bool {
     match cut {
         Some(Cut::Line(line)) => line.as_slice() == expected,
@@ -53,7 +53,7 @@ pub(super) fn is_line<A: Allocator>(cut: &Option<Cut<A>>, expected: &[u8]) -> bo
     }
 }
 
-/// Whether the cutter gives this line next.
+/// Whether the cutter returns this line next.
 pub(super) fn gives_line<A: Allocator + Copy>(cutter: &mut LineCutter<A>, expected: &[u8]) -> bool {
     match cutter.next_line() {
         Ok(cut) => is_line(&cut, expected),
@@ -61,7 +61,7 @@ pub(super) fn gives_line<A: Allocator + Copy>(cutter: &mut LineCutter<A>, expect
     }
 }
 
-/// Whether the cutter tells next that a line is too long.
+/// Whether the cutter reports next that a line is too long.
 pub(super) fn gives_long<A: Allocator + Copy>(cutter: &mut LineCutter<A>) -> bool {
     matches!(cutter.next_line(), Ok(Some(Cut::Long)))
 }
@@ -74,7 +74,7 @@ fn is_unfinished<A: Allocator + Copy>(cutter: &LineCutter<A>) -> bool {
     cutter.unfinished()
 }
 
-/// A line that came in two parts, and the first byte of the next one.
+/// A line that arrives in two parts, and the first byte of the next one.
 #[test]
 fn line_in_two_parts(rt: HostRuntime) {
     let mut cutter = LineCutter::new(rt.alloc()).expect(&rt, "a cutter");
@@ -90,7 +90,7 @@ fn line_in_two_parts(rt: HostRuntime) {
     assert!(rt; is_unfinished(&cutter));
 }
 
-/// A line of one byte too many, and the line behind it.
+/// A line that is one byte too long, and the line after it.
 #[test]
 fn line_behind_a_long_one(rt: HostRuntime) {
     let mut cutter = LineCutter::new(rt.alloc()).expect(&rt, "a cutter");
@@ -119,7 +119,7 @@ fn are_cut<A: Allocator + Copy>(
     text.as_slice() == expected
 }
 
-// Whether the line `x`, front and rest, which has one byte too many, is told to be too long.
+// Whether the line `x`, first part and rest, which is one byte too long, is reported as too long.
 fn is_too_long<A: Allocator + Copy>(
     cutter: &mut LineCutter<A>,
     alloc: A,
@@ -131,7 +131,7 @@ fn is_too_long<A: Allocator + Copy>(
         && are_cut(cutter, alloc, &[rest], b"long\n")
 }
 
-/// The longest line is given whole, and one byte more is too many, in one push or in two.
+/// The longest line is returned whole, and one byte more is too many, in one push or in two.
 #[test]
 fn longest_line(rt: HostRuntime) {
     let line = repeated(rt.alloc(), b"", b"x", 16383, b"\n").expect(&rt, "memory");
@@ -146,7 +146,7 @@ fn longest_line(rt: HostRuntime) {
     }
 }
 
-// Whether so many bytes leave a line unfinished, each of them.
+// Whether this number of bytes leaves a line unfinished, after each of them.
 fn is_unfinished_at_each<A: Allocator + Copy>(cutter: &mut LineCutter<A>, count: usize) -> bool {
     for _ in 0..count {
         if take(cutter, b"x") != 1 || !is_unfinished(cutter) {
@@ -173,7 +173,7 @@ fn are_cut_anew<A: Allocator + Copy>(alloc: A, parts: &[&[u8]], stream: &[u8]) -
     }
 }
 
-/// A stream is cut into the same lines however it came.
+/// A stream is cut into the same lines however it arrives.
 #[test]
 fn stream_cut_at_every_byte(rt: HostRuntime) {
     let stream = b"\nE 1 0 1 I:5\n\n\nB 1 5\nwhatever this is\nA 1 2;E 1 0 1 I:5\nH 1\n".as_slice();

@@ -1,4 +1,4 @@
-//! Messages that find no memory to be read into, and how many requests they take.
+//! Messages for which there is no memory to read them into, and how many requests they make.
 
 use super::texts::{answer_of, is_written, longest_entry};
 use entry_codec::{LineError, Place, read_line};
@@ -6,7 +6,7 @@ use linked_list_allocator::LocalHeap;
 use std::alloc::Allocator;
 use test_kit::requests_of;
 
-/// Lines, and how many requests their messages take.
+/// Lines, and how many requests their messages make.
 const LINES: [(&str, u64); 10] = [
     ("E 1 0 1 I:10\n", 1),
     ("E 1 0 3 I:10 S:4 R:2:3\n", 1),
@@ -20,7 +20,7 @@ const LINES: [(&str, u64); 10] = [
     ("H 1\n", 0),
 ];
 
-/// Lines with a fault behind what takes memory.
+/// Lines with a fault after the parts that take memory.
 const FAULTS: [(&str, LineError); 4] = [
     ("E 1 0 1 I:5;\n", LineError::TrailingBytes),
     (
@@ -34,7 +34,7 @@ const FAULTS: [(&str, LineError); 4] = [
     ("A 1 2;E 1 0 1 I:5;E 1 1 3 I:5\n", LineError::CountWrong),
 ];
 
-// How many requests reading takes, where each that is refused is told as want of memory.
+// How many requests reading makes, if each refusal is reported as lack of memory.
 fn requests<A: Allocator + Copy>(alloc: A, line: &[u8]) -> Option<u64> {
     requests_of(alloc, |memory| {
         match read_line(memory, line) {
@@ -44,7 +44,7 @@ fn requests<A: Allocator + Copy>(alloc: A, line: &[u8]) -> Option<u64> {
     })
 }
 
-// Whether the line has this fault, whatever is refused.
+// Whether the line has this fault, whichever request is refused.
 fn has_fault<A: Allocator + Copy>(alloc: A, line: &[u8], fault: LineError) -> bool {
     requests_of(alloc, |memory| read_line(memory, line).err() == Some(fault)).is_some()
 }
@@ -62,7 +62,7 @@ fn read_line_refused(rt: HostRuntime) {
     assert_eq!(rt; requests(rt.alloc(), &longest), Some(1));
 }
 
-/// The list of an answer's entries takes one request, and so does each entry.
+/// The list of an answer's entries makes one request, and so does each entry.
 #[test]
 fn answers_take_a_request_for_each_entry(rt: HostRuntime) {
     for entries in 1..=16u64 {
@@ -75,7 +75,7 @@ fn answers_take_a_request_for_each_entry(rt: HostRuntime) {
     }
 }
 
-/// A fault is told whether there is memory or not, that there are too many entries too.
+/// A fault is reported whether there is memory or not, also the fault of too many entries.
 #[test]
 fn faults_come_before_want_of_memory(rt: HostRuntime) {
     for (line, fault) in &FAULTS {
@@ -85,7 +85,7 @@ fn faults_come_before_want_of_memory(rt: HostRuntime) {
     assert!(rt; has_fault(rt.alloc(), &line, LineError::CountWrong));
 }
 
-// Whether the line is read, and its message takes so many bytes of the heap at most.
+// Whether the line is read, and its message takes at most this number of bytes of the heap.
 fn is_read_within(heap: &LocalHeap, line: &[u8], most: usize) -> bool {
     match read_line(heap, line) {
         Ok(_message) => heap.used() <= most,
@@ -93,7 +93,7 @@ fn is_read_within(heap: &LocalHeap, line: &[u8], most: usize) -> bool {
     }
 }
 
-/// An entry takes its moves, 80 bytes each at most, and an answer besides it room for 16 entries of
+/// An entry takes its moves, at most 80 bytes each, and an answer in addition room for 16 entries of
 /// 80 bytes.
 #[test]
 fn bytes_of_messages(rt: HostRuntime) {

@@ -25,7 +25,7 @@ pub(super) fn longest_entry<A: Allocator>(alloc: A) -> Result<Vec<u8, A>, AllocE
     Ok(line)
 }
 
-/// The line of an answer of so many of the longest entries.
+/// The line of an answer with this number of the longest entries.
 pub(super) fn answer_of<A: Allocator>(alloc: A, entries: u64) -> Result<Vec<u8, A>, AllocError> {
     let mut line = Vec::new(alloc);
     line.extend_from_slice(b"A 16 15")?;
@@ -37,7 +37,7 @@ pub(super) fn answer_of<A: Allocator>(alloc: A, entries: u64) -> Result<Vec<u8, 
     Ok(line)
 }
 
-/// A text, another so many times, and an end.
+/// A text, another one repeated, and an end.
 pub(super) fn repeated<A: Allocator>(
     alloc: A,
     front: &[u8],
@@ -66,7 +66,7 @@ pub(super) fn is_written<A: Allocator + Copy, B: Allocator>(
     }
 }
 
-/// Whether the line is read, and written again as it was.
+/// Whether the line is read, and written again unchanged.
 pub(super) fn is_again<A: Allocator + Copy>(alloc: A, line: &[u8]) -> bool {
     match read_line(alloc, line) {
         Ok(message) => is_written(alloc, &message, line),
@@ -74,7 +74,7 @@ pub(super) fn is_again<A: Allocator + Copy>(alloc: A, line: &[u8]) -> bool {
     }
 }
 
-/// Whether the message is an entry that is written so.
+/// Whether the message is an entry that is written as this.
 pub(super) fn is_entry_line<A: Allocator + Copy, B: Allocator>(
     alloc: A,
     message: &Message<B>,

@@ -1,4 +1,4 @@
-//! Lines that find no memory to be written into, and how many requests they take.
+//! Lines for which there is no memory to write them into, and how many requests they make.
 
 use super::texts::{answer_of, longest_entry};
 use entry_codec::{read_line, write_entry, write_into, write_line};
@@ -18,7 +18,7 @@ const LINES: [&str; 8] = [
     "H 1\n",
 ];
 
-// How many requests writing takes, where each that is refused is told.
+// How many requests writing makes, if each refusal is reported.
 fn line_requests<A: Allocator + Copy>(alloc: A, message: &Message<A>, line: &[u8]) -> Option<u64> {
     requests_of(alloc, |memory| {
         match write_line(memory, message) {
@@ -37,7 +37,7 @@ fn entry_requests<A: Allocator + Copy>(alloc: A, entry: &Entry<A>, line: &[u8]) 
     })
 }
 
-// The same for a line behind another one, which stays as it is.
+// The same for a line after another one, which stays unchanged.
 fn requests_behind<A: Allocator + Copy>(
     alloc: A,
     message: &Message<A>,
@@ -54,7 +54,7 @@ fn requests_behind<A: Allocator + Copy>(
     })
 }
 
-// How many requests writing the message of a line takes, where each that is refused is told.
+// How many requests writing the message of a line makes, if each refusal is reported.
 fn requests_again<A: Allocator + Copy>(alloc: A, line: &[u8]) -> Option<u64> {
     match read_line(alloc, line) {
         Ok(message) => line_requests(alloc, &message, line),
@@ -62,7 +62,7 @@ fn requests_again<A: Allocator + Copy>(alloc: A, line: &[u8]) -> Option<u64> {
     }
 }
 
-/// Each line is written with one request, so that its room is not made bit by bit.
+/// Each line is written with one request, so its buffer does not grow step by step.
 #[test]
 fn write_line_refused(rt: HostRuntime) {
     for line in &LINES {
@@ -76,7 +76,7 @@ fn write_line_refused(rt: HostRuntime) {
     assert_eq!(rt; requests_again(rt.alloc(), &longest), Some(1));
 }
 
-// The same of the entry of a line.
+// The same for the entry of a line.
 fn entry_requests_again<A: Allocator + Copy>(alloc: A, line: &[u8]) -> Option<u64> {
     match read_line(alloc, line) {
         Ok(Message::Push(entry)) => entry_requests(alloc, &entry, line),
@@ -90,7 +90,7 @@ fn write_entry_refused(rt: HostRuntime) {
     assert_eq!(rt; entry_requests_again(rt.alloc(), &line), Some(1));
 }
 
-/// What was in the buffer stays where a line finds no room.
+/// What was in the buffer is unchanged if there is no room for a line.
 #[test]
 fn write_into_refused(rt: HostRuntime) {
     let message = read_line(rt.alloc(), b"E 1 0 3 I:10 S:4 R:2:3\n").expect(&rt, "a message");

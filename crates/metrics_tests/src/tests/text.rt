@@ -29,7 +29,7 @@ fn site_metrics() -> Metrics {
     }
 }
 
-/// A peer with entries missing, and one that was never heard of.
+/// A peer with entries missing, and one that has never sent anything.
 fn peer_metrics() -> [PeerMetrics; 2] {
     let missing = PeerMetrics {
         site: SiteId::known(2),
@@ -73,7 +73,7 @@ fn is_text(alloc: Global, metrics: &Metrics, peers: &[PeerMetrics], wanted: &[u8
     text.as_slice() == wanted
 }
 
-/// Each value stands at its name, and at its peer.
+/// Each value is shown with its name, and with its peer.
 #[test]
 fn each_value_is_at_its_name(rt: HostRuntime) {
     assert!(rt; is_text(rt.alloc(), &site_metrics(), &peer_metrics(), EXPECTED));
@@ -91,7 +91,7 @@ const REPLIES: [(&[u8], Option<usize>); 9] = [
     (b"", None),
 ];
 
-/// Only a whole name is one.
+/// Only a whole name counts as one.
 #[test]
 fn a_refusal_has_its_place(rt: HostRuntime) {
     for (reply, place) in REPLIES {

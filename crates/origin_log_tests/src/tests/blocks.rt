@@ -37,7 +37,7 @@ fn long_log(rt: &(impl Abort + AllocGlobal)) -> OriginLog<Global> {
     log
 }
 
-/// Each of 3,000 entries of 16 grants is given back by its index and by its number.
+/// Each of 3,000 entries of 16 grants is returned by its index and by its number.
 #[test]
 fn a_long_log_gives_each_entry_back(rt: HostRuntime) {
     let log = long_log(&rt);
@@ -50,7 +50,7 @@ fn a_long_log_gives_each_entry_back(rt: HostRuntime) {
     }
 }
 
-/// `I:n` with so many digits.
+/// `I:n` with this number of digits.
 fn issue_of(digits: usize) -> Move {
     match digits {
         1 => issue(1),
@@ -68,7 +68,7 @@ fn last_len<A: Allocator + Copy>(log: &OriginLog<A>) -> usize {
     }
 }
 
-/// Appends short entries until less than 80 bytes of the first block are left, and answers how many.
+/// Appends short entries until less than 80 bytes of the first block are left, and returns how many.
 fn nearly_fill<A: Allocator + Copy>(
     rt: &(impl Abort + AllocGlobal),
     log: &mut OriginLog<A>,
@@ -84,7 +84,7 @@ fn nearly_fill<A: Allocator + Copy>(
     room
 }
 
-/// Moves whose line has so many bytes more than that of one move.
+/// Moves whose line has this number of bytes more than that of one move.
 fn longer_by(alloc: Global, more: usize) -> Result<Vec<Move>, Fail> {
     let mut moves = Vec::new(alloc);
     // Each further move adds four bytes, and each further digit one.
@@ -95,7 +95,7 @@ fn longer_by(alloc: Global, more: usize) -> Result<Vec<Move>, Fail> {
     Ok(moves)
 }
 
-// Appends these moves, and answers how many bytes the heap gave for that.
+// Appends these moves, and returns how many bytes the heap gave for that.
 fn bytes_of(
     rt: &(impl Abort + AllocGlobal),
     heap: &LocalHeap,

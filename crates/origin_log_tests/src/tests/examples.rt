@@ -9,7 +9,7 @@ use std::alloc::{AllocGlobal, Global};
 use std::process::Abort;
 use test_kit::{give, issue, site, spend};
 
-// Whether this is the next line for the peer, for whom it then counts as published.
+// Whether this is the next line for the peer, which then counts as published to it.
 fn publishes(log: &mut OriginLog<Global>, peer: SiteId, line: &[u8]) -> bool {
     let next = log.cursor(peer);
     if next >= log.len() || log.line(next) != Some(line) {
@@ -19,7 +19,7 @@ fn publishes(log: &mut OriginLog<Global>, peer: SiteId, line: &[u8]) -> bool {
     true
 }
 
-/// Each entry is numbered and published by its line.
+/// Each entry is numbered and published as its line.
 #[test]
 fn entries_are_published_in_order(rt: HostRuntime) {
     let mut log = three(&rt);
@@ -31,7 +31,7 @@ fn entries_are_published_in_order(rt: HostRuntime) {
     assert!(rt; ends_unclosed(&log, 3, 5));
 }
 
-/// Whether site 1's log has so many entries, of which the last one has this number and does not close it.
+/// Whether site 1's log has this number of entries, the last one has this number and does not close it.
 fn ends_unclosed(log: &OriginLog<Global>, len: usize, end: u64) -> bool {
     log.site() == site(1)
         && log.len() == len
@@ -40,7 +40,7 @@ fn ends_unclosed(log: &OriginLog<Global>, len: usize, end: u64) -> bool {
         && !log.closed()
 }
 
-/// The answer's line has the lines of its entries, whole.
+/// The answer's line contains the lines of its entries, whole.
 #[test]
 fn a_gap_is_answered(rt: HostRuntime) {
     let log = three(&rt);
@@ -74,7 +74,7 @@ fn queries_that_are_refused(rt: HostRuntime) {
     assert!(rt; refuses(&log, &other, ReadError::NotMine));
 }
 
-// A log of site 1 that closed for its heir, site 2.
+// A log of site 1 that closed, with site 2 as its heir.
 fn closed(rt: &(impl Abort + AllocGlobal)) -> OriginLog<Global> {
     closed_for_its_heir(rt, rt.alloc()).expect(rt, "memory")
 }
@@ -115,7 +115,7 @@ fn a_closing_entry_is_read_again(rt: HostRuntime) {
     assert!(rt; gives_none(&log, 1));
 }
 
-// A log that issues 10, gives 4 of it to site 2, and takes that back.
+// A log that issues 10, gives 4 of them to site 2, and takes those back.
 fn taken_back(rt: &(impl Abort + AllocGlobal)) -> OriginLog<Global> {
     let mut log: OriginLog<Global> = OriginLog::new(rt.alloc(), site(1));
     assert!(rt; append(rt, &mut log, &[issue(10)]) == Ok(1));
@@ -143,7 +143,7 @@ fn counts_of_moves_that_are_refused(rt: HostRuntime) {
     assert!(rt; append(&rt, &mut log, &[issue(1); 16]) == Ok(21));
 }
 
-// The log of twenty entries, of which each issues 1.
+// The log of twenty entries, each of which issues 1.
 fn twenty(rt: &(impl Abort + AllocGlobal)) -> OriginLog<Global> {
     let mut log: OriginLog<Global> = OriginLog::new(rt.alloc(), site(1));
     for number in 1..=20 {
@@ -152,7 +152,7 @@ fn twenty(rt: &(impl Abort + AllocGlobal)) -> OriginLog<Global> {
     log
 }
 
-// Whether the query from this number on is answered by so many entries, up to that own number.
+// Whether the query from this number on is answered with this number of entries, up to that own number.
 fn finds(log: &OriginLog<Global>, query: &Query, count: usize, own: u64) -> bool {
     let Ok(found) = log.answer(query) else {
         return false;
@@ -168,7 +168,7 @@ fn finds(log: &OriginLog<Global>, query: &Query, count: usize, own: u64) -> bool
     }
 }
 
-/// An answer has sixteen entries at most; a further query gets the rest.
+/// An answer has at most sixteen entries; a further query gets the rest.
 #[test]
 fn a_long_gap_is_answered_in_parts(rt: HostRuntime) {
     let log = twenty(&rt);

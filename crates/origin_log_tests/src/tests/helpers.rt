@@ -1,4 +1,4 @@
-//! Logs that are made in several tests, and calls whose conditions are tested first.
+//! Logs that several tests use, and calls whose preconditions are checked first.
 ghost use Rattle.std.specs.Prelude.{◌≡◌};
 ghost use Rattle.std.specs.List.{list_any};
 ghost use Rattle.origin_log.specs.Logs.{is_special};
@@ -9,7 +9,7 @@ use std::alloc::{AllocGlobal, Allocator, Global};
 use std::process::Abort;
 use test_kit::{give, is_entry, issue, site, spend};
 
-/// Site 2 asks site 1 for these numbers.
+/// Site 2 queries site 1 for these numbers.
 pub(crate) fn query(rt: &impl Abort, first: u64, last: u64) -> Query {
     Query::new(site(2), site(1), first, last).expect(rt, "a query")
 }
@@ -29,7 +29,7 @@ fn any_special(moves: &[Move]) -> bool
     moves.iter().any(|m| is_special(m))
 }
 
-/// Appends these moves. The moves' own memory comes from the host, so that only the log's growths
+/// Appends these moves. The moves' own memory comes from the host, so that only the log's requests
 /// are refused.
 pub(crate) fn append<A: Allocator + Copy>(
     rt: &(impl Abort + AllocGlobal),
@@ -134,7 +134,7 @@ pub(crate) fn three(rt: &(impl Abort + AllocGlobal)) -> OriginLog<Global> {
     three_entries(rt, rt.alloc()).expect(rt, "memory")
 }
 
-/// Whether the query of a gap is answered by this line.
+/// Whether the query of a gap is answered with this line.
 pub(crate) fn is_answered<A: Allocator + Copy>(
     log: &OriginLog<A>,
     first: u64,
@@ -150,7 +150,7 @@ pub(crate) fn is_answered<A: Allocator + Copy>(
     }
 }
 
-/// Whether the query of a gap is answered by this one entry.
+/// Whether the query of a gap is answered with this one entry.
 pub(crate) fn is_answered_by<A: Allocator + Copy>(
     log: &OriginLog<A>,
     first: u64,
@@ -170,7 +170,7 @@ pub(crate) fn is_answered_by<A: Allocator + Copy>(
     }
 }
 
-/// Whether a query is refused with this error, by the entries' answer and by the line's.
+/// Whether a query is refused with this error, for the entries and for the line.
 pub(crate) fn refuses<A: Allocator + Copy>(
     log: &OriginLog<A>,
     query: &Query,
@@ -179,7 +179,7 @@ pub(crate) fn refuses<A: Allocator + Copy>(
     log.answer(query).err() == Some(error) && log.answer_line(query).err() == Some(error)
 }
 
-/// Whether the log lends this line at an index.
+/// Whether the log returns this line at an index.
 pub(crate) fn lends<A: Allocator + Copy>(log: &OriginLog<A>, index: usize, line: &[u8]) -> bool {
     log.line(index) == Some(line)
 }

@@ -7,7 +7,7 @@ use std::process::Abort;
 use std::test::Fail;
 use test_kit::{is_entry, issue, longest_grant, site};
 
-// How the lines of the first entries of site 15 begin, where each has 16 moves.
+// How the lines of the first entries of site 15 begin, if each has 16 moves.
 const HEADS: [&[u8]; 16] = [
     b"E 15 0 16",
     b"E 15 16 32",
@@ -39,12 +39,12 @@ pub(crate) fn longest_log<A: Allocator + Copy>(
     Ok(log)
 }
 
-/// Site 16 asks for all of them, and gets 16.
+/// Site 16 queries all of them, and gets 16.
 pub(crate) fn query_for_all(rt: &impl Abort) -> Query {
     Query::new(site(16), site(15), 1, 272).expect(rt, "a query")
 }
 
-/// An entry's text behind this one, without its line feed.
+/// An entry's text after this one, without its line feed.
 fn add_text<A: Allocator>(text: &mut Vec<u8, A>, head: &[u8]) -> Result<(), AllocError> {
     text.extend_from_slice(head)?;
     for _ in 0..16u8 {

@@ -1,4 +1,4 @@
-//! Growths that are refused.
+//! Memory requests that are refused.
 ghost use Rattle.std.specs.Prelude.{◌<◌, ◌≤◌};
 
 use crate::tests::helpers::{append, gives, lends, query, three_entries};
@@ -23,7 +23,7 @@ fn grants() -> [Move; 16] {
     [grant(2, MAX_AMOUNT, MAX_ASK); 16]
 }
 
-// Whether the log has so many of these entries, and nothing else.
+// Whether the log has this number of these entries, and nothing else.
 fn has_long<A: Allocator + Copy>(log: &OriginLog<A>, count: usize) -> bool
     requires { count ≤ 160 }
 {
@@ -35,8 +35,8 @@ fn has_long<A: Allocator + Copy>(log: &OriginLog<A>, count: usize) -> bool
     log.len() == count && log.end() == count as u64 * 16 && log.line(count).is_none()
 }
 
-// Appends one more of these entries. Where that is refused the log is as it was, and the same append then
-// goes.
+// Appends one more of these entries. If that is refused, the log is unchanged, and the same append then
+// succeeds.
 fn append_long<A: Allocator + Copy>(
     rt: &(impl Abort + AllocGlobal),
     log: &mut OriginLog<A>,
@@ -52,7 +52,7 @@ fn append_long<A: Allocator + Copy>(
     assert_eq!(rt; end, Ok(index as u64 * 16 + 16));
 }
 
-// Appends all these entries, and answers how many bytes the heap gave while one block served.
+// Appends all these entries, and returns how many bytes the heap gave while one block sufficed.
 fn bytes_of_a_block<A: Allocator + Copy>(
     rt: &(impl Abort + AllocGlobal),
     heap: &LocalHeap,
@@ -68,8 +68,8 @@ fn bytes_of_a_block<A: Allocator + Copy>(
     used
 }
 
-/// Each growth of an append refused in turn, from the first block to the second. A refused append leaves
-/// no byte in its block: as many lines as ever find room there.
+/// Each request of an append refused in turn, from the first block to the second. A refused append leaves
+/// no byte in its block: as many lines as before still fit.
 #[test]
 fn each_growth_of_an_append_refused(rt: HostRuntime) -> Result<(), Fail> {
     let heap = LocalHeap::new(rt.alloc(), 1 << 18)?;
@@ -81,7 +81,7 @@ fn each_growth_of_an_append_refused(rt: HostRuntime) -> Result<(), Fail> {
     let requests = requests_of(&heap, |memory| {
         let mut log = OriginLog::new(memory, site(1));
         let used = bytes_of_a_block(&rt, &heap, &mut log);
-        // A log that met no refusal is read no further, since reading asks for memory too.
+        // A log that met no refusal is not read further, since reading requests memory too.
         used == ample && (!memory.refused() || has_long(&log, LONG))
     });
     assert!(rt; requests > Some(4));
@@ -95,20 +95,20 @@ fn lends_three<A: Allocator + Copy>(log: &OriginLog<A>) -> bool {
         && lends(log, 2, b"E 1 4 5 S:2\n")
 }
 
-// Whether an answer finds no memory.
+// Whether there is no memory for an answer.
 fn lacks_memory<A: Allocator + Copy>(log: &OriginLog<A>, query: &Query) -> bool {
     matches!(log.answer(query), Err(ReadError::OutOfMemory))
 }
 
-// With so many requests granted, the least that serve the appends, whether all lines are lent and the next request
-// would be refused. None where the appends lack memory.
+// With this number of requests granted, the least with which the appends succeed, whether all lines are returned and
+// the next request would be refused. `None` if the appends lack memory.
 fn lends_without(rt: &(impl Abort + AllocGlobal), asked: &Query, granted: u64) -> Option<bool> {
     let refusing = Refusing::new(rt.alloc(), granted);
     let log = three_entries(rt, &refusing).ok()?;
     Some(lends_three(&log) && !refusing.refused() && lacks_memory(&log, asked))
 }
 
-/// Lines are lent where no request for memory would be granted.
+/// Lines are returned when no memory request would be granted.
 #[test]
 fn a_line_takes_no_memory(rt: HostRuntime) {
     let asked = query(&rt, 1, 5);

@@ -1,4 +1,4 @@
-//! How much memory a log asks for. Requests are counted by an allocator that refuses the next one, and
+//! How much memory a log requests. Requests are counted by an allocator that refuses the next one, and
 //! bytes by a heap of one block.
 use crate::tests::helpers::append;
 use crate::tests::longest::{longest_log, query_for_all};
@@ -25,7 +25,7 @@ fn requests_of_log(rt: &(impl Abort + AllocGlobal)) -> u64 {
     MANY
 }
 
-// Whether the longest log answers for all its entries, with so many requests granted.
+// Whether the longest log answers with all its entries, if this number of requests is granted.
 fn answers(rt: &(impl Abort + AllocGlobal), granted: u64) -> bool {
     let refusing = Refusing::new(rt.alloc(), granted);
     match longest_log(rt, &refusing) {
@@ -34,7 +34,7 @@ fn answers(rt: &(impl Abort + AllocGlobal), granted: u64) -> bool {
     }
 }
 
-// The same of the line.
+// The same for the line.
 fn answers_with_line(rt: &(impl Abort + AllocGlobal), granted: u64) -> bool {
     let refusing = Refusing::new(rt.alloc(), granted);
     match longest_log(rt, &refusing) {
@@ -43,7 +43,7 @@ fn answers_with_line(rt: &(impl Abort + AllocGlobal), granted: u64) -> bool {
     }
 }
 
-/// The line of an answer of 16 entries is made in one piece.
+/// The line of an answer of 16 entries is allocated in one piece.
 #[test]
 fn an_answers_line_makes_one_request(rt: HostRuntime) {
     let made = requests_of_log(&rt);
@@ -59,7 +59,7 @@ fn an_answer_makes_a_request_for_each_entry(rt: HostRuntime) {
     assert!(rt; answers(&rt, made.saturating_add(17)));
 }
 
-/// How many bytes these entries take when each is copied.
+/// How many bytes these entries take if each is copied.
 fn bytes_of_copies(heap: &LocalHeap, entries: &[Entry<&LocalHeap>]) -> Result<usize, OutOfMemory> {
     let before = heap.used();
     let mut copies: Vec<Entry<&LocalHeap>, &LocalHeap> = Vec::with_capacity(heap, MAX_ANSWER)?;
@@ -83,7 +83,7 @@ fn answer_takes_no_spare_bytes(
     found.len() == MAX_ANSWER && bytes_of_copies(heap, &found) == Ok(taken)
 }
 
-/// The room of an answer is that of copies of its entries.
+/// An answer takes the memory of copies of its entries.
 #[test]
 fn an_answer_takes_no_spare_bytes(rt: HostRuntime) -> Result<(), Fail> {
     let heap = LocalHeap::new(rt.alloc(), 1 << 18)?;
@@ -92,7 +92,7 @@ fn an_answer_takes_no_spare_bytes(rt: HostRuntime) -> Result<(), Fail> {
     Ok(())
 }
 
-// Whether an answer's line takes as many bytes as it has. The heap deals in pieces of at most 32 bytes.
+// Whether an answer's line takes as many bytes as it has. The heap allocates in units of at most 32 bytes.
 fn line_takes_no_spare_bytes(heap: &LocalHeap, log: &OriginLog<&LocalHeap>, query: &Query) -> bool {
     let before = heap.used();
     match log.answer_line(query) {
@@ -101,7 +101,7 @@ fn line_takes_no_spare_bytes(heap: &LocalHeap, log: &OriginLog<&LocalHeap>, quer
     }
 }
 
-/// The room of an answer's line is that of its bytes.
+/// An answer's line takes the memory of its bytes.
 #[test]
 fn an_answers_line_takes_no_spare_bytes(rt: HostRuntime) -> Result<(), Fail> {
     let heap = LocalHeap::new(rt.alloc(), 1 << 18)?;
@@ -112,7 +112,7 @@ fn an_answers_line_takes_no_spare_bytes(rt: HostRuntime) -> Result<(), Fail> {
     Ok(())
 }
 
-// Site 16 asks for so many of the longest entries, or for what lies behind all.
+// Site 16 queries the first of the longest entries, as many as this, or what comes after all of them.
 fn query_for(rt: &impl Abort, count: u64) -> Query {
     let (first, last) = if count == 0 {
         (273, 300)
@@ -122,7 +122,7 @@ fn query_for(rt: &impl Abort, count: u64) -> Query {
     Query::new(site(16), site(15), first, last).expect(rt, "a query")
 }
 
-/// The same of answers of 0 to 16 entries.
+/// The same for answers of 0 to 16 entries.
 #[test]
 fn answers_lines_of_every_size_take_no_spare_bytes(rt: HostRuntime) -> Result<(), Fail> {
     let heap = LocalHeap::new(rt.alloc(), 1 << 18)?;
@@ -134,7 +134,7 @@ fn answers_lines_of_every_size_take_no_spare_bytes(rt: HostRuntime) -> Result<()
     Ok(())
 }
 
-// Appends 33 short entries: for the last of them the index doubles its room.
+// Appends 33 short entries: for the last of them the index doubles its capacity.
 fn append_short<A: Allocator + Copy>(
     rt: &(impl Abort + AllocGlobal),
     log: &mut OriginLog<A>,
@@ -145,7 +145,7 @@ fn append_short<A: Allocator + Copy>(
     Ok(())
 }
 
-// Whether 31 more of the longest entries are appended, which fill the index's room.
+// Whether 31 more of the longest entries are appended, which fill the index's capacity.
 fn appends_long<A: Allocator + Copy>(
     rt: &(impl Abort + AllocGlobal),
     log: &mut OriginLog<A>,
@@ -158,8 +158,8 @@ fn appends_long<A: Allocator + Copy>(
     log.end() == 33 + 31 * 16
 }
 
-// With so many requests granted, whether long entries fill the room that short ones have made with no further
-// request, and one more makes one. None where the short ones lack memory.
+// With this number of requests granted, whether long entries fill the capacity that short ones have made without a
+// further request, and one more makes one. `None` if the short ones lack memory.
 fn fits_in_room(rt: &(impl Abort + AllocGlobal), granted: u64) -> Option<bool> {
     let refusing = Refusing::new(rt.alloc(), granted);
     let mut log = OriginLog::new(&refusing, site(1));
@@ -168,8 +168,8 @@ fn fits_in_room(rt: &(impl Abort + AllocGlobal), granted: u64) -> Option<bool> {
     Some(fits && append(rt, &mut log, &[issue(1)]) == Err(LogError::OutOfMemory))
 }
 
-/// While the index and the last block have room, an append takes no memory, however long its line is: the draft has
-/// room for any.
+/// While the index and the last block have capacity, an append requests no memory, however long its line is: the
+/// draft has room for any.
 #[test]
 fn an_append_that_fits_makes_no_request(rt: HostRuntime) {
     for granted in 0..MANY {

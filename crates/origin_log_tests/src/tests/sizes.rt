@@ -1,4 +1,4 @@
-//! Entries and answers of every size, with ample memory and with each request for it refused in turn.
+//! Entries and answers of every size, with ample memory and with each memory request refused in turn.
 use crate::tests::helpers::{append, append_slice, close, close_for, frontier, gives, take_back};
 use origin_log::{LogError, OriginLog, ReadError};
 use refusing_allocator::Refusing;
@@ -36,7 +36,7 @@ fn prev_at(index: usize) -> u64 {
         .saturating_add(short) as u64
 }
 
-// Whether the log's only entry has these moves. Where its reading is refused memory, it is read again.
+// Whether the log's only entry has these moves. If memory is refused while it is read, it is read again.
 fn has_alone<A: Allocator + Copy>(
     log: &OriginLog<&Refusing<A>>,
     memory: &Refusing<A>,
@@ -48,7 +48,7 @@ fn has_alone<A: Allocator + Copy>(
     gives(log, 0, 0, moves) || memory.refused() && gives(log, 0, 0, moves)
 }
 
-// Whether an append of these moves to an empty log went, or for want of memory left it empty.
+// Whether an append of these moves to an empty log succeeded, or for lack of memory left it empty.
 fn is_appended<A: Allocator + Copy>(
     log: &OriginLog<&Refusing<A>>,
     memory: &Refusing<A>,
@@ -69,11 +69,11 @@ fn is_appended<A: Allocator + Copy>(
     }
 }
 
-// An entry asks for memory for its line, the index, the list of blocks and a block, and again where it is
+// An entry requests memory for its line, the index, the list of blocks and a block, and again when it is
 // read.
 const REQUESTS: Option<u64> = Some(5);
 
-/// Moves that are handed over, and moves that are lent.
+/// Moves that are passed by value, and moves that are borrowed.
 #[test]
 fn entries_of_every_size(rt: HostRuntime) -> Result<(), Fail> {
     for index in 0..ENTRIES {
@@ -155,7 +155,7 @@ fn closing_entries_of_every_size(rt: HostRuntime) -> Result<(), Fail> {
     Ok(())
 }
 
-// The log of all these entries, or None where memory is refused.
+// The log of all these entries, or `None` if memory is refused.
 fn full_log<A: Allocator + Copy>(
     rt: &(impl Abort + AllocGlobal),
     alloc: A,
@@ -168,10 +168,10 @@ fn full_log<A: Allocator + Copy>(
     Some(log)
 }
 
-// Asks for so many entries from an index on, in the midst of the first one.
+// Queries this number of entries from an index on, starting in the middle of the first one.
 fn query_for(index: usize, count: usize) -> Result<Query, TypeError> {
     if count == 0 {
-        // Behind the last entry.
+        // After the last entry.
         return Query::new(
             site(2),
             site(1),
@@ -184,7 +184,7 @@ fn query_for(index: usize, count: usize) -> Result<Query, TypeError> {
     Query::new(site(2), site(1), first, last)
 }
 
-// Whether these are so many entries from an index on.
+// Whether these are this number of entries from an index on.
 fn are_entries<A: Allocator>(
     rt: &impl AllocGlobal,
     found: &[Entry<A>],
@@ -203,7 +203,7 @@ fn are_entries<A: Allocator>(
     found.len() == count
 }
 
-// The line that answers with so many entries from an index on.
+// The line that answers with this number of entries from an index on.
 fn answer_text<A: Allocator + Copy>(
     alloc: Global,
     log: &OriginLog<A>,
@@ -221,8 +221,8 @@ fn answer_text<A: Allocator + Copy>(
     Ok(text)
 }
 
-// Whether the log answers with so many entries from an index on. Where it lacks memory it says so, and
-// answers when it is asked again.
+// Whether the log answers with this number of entries from an index on. If it lacks memory it says so, and
+// answers when it is queried again.
 fn answers<A: Allocator + Copy>(
     rt: &impl AllocGlobal,
     log: &OriginLog<&Refusing<A>>,
@@ -249,7 +249,7 @@ fn answers<A: Allocator + Copy>(
     }
 }
 
-// The same of the line.
+// The same for the line.
 fn answers_with_line<A: Allocator + Copy>(
     rt: &impl AllocGlobal,
     log: &OriginLog<&Refusing<A>>,
@@ -279,8 +279,8 @@ fn answers_with_line<A: Allocator + Copy>(
     }
 }
 
-/// Answers of 0 to 16 entries of 1 to 16 moves, and their lines. The log itself is made with whatever
-/// requests it makes.
+/// Answers of 0 to 16 entries of 1 to 16 moves, and their lines. The log itself may make any number of
+/// requests.
 #[test]
 fn answers_of_every_size(rt: HostRuntime) -> Result<(), Fail> {
     let made = requests_of(
@@ -301,8 +301,7 @@ fn answers_of_every_size(rt: HostRuntime) -> Result<(), Fail> {
         true
     });
     assert!(rt; made.is_some());
-    // Each answer but that of no entries makes a request for the list, and one for each entry; each line
-    // makes one.
+    // Each answer with entries makes a request for the list, and one for each entry; each line makes one.
     let requests = 16 + 136 + 17;
     assert_eq!(rt; asked, made.map(|count| count.saturating_add(requests)));
     Ok(())

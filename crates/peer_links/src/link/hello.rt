@@ -17,8 +17,10 @@ use rights_types::{MAX_LINE, Message, SiteId};
 use std::alloc::Allocator;
 use std::io::Read;
 
-/// Reads the first line of a connection, and answers who speaks. It reads byte by byte, so that what
-/// follows the line is left to be read. The cutter is a new one.
+/// Reads the first line of a connection, and returns the site that it names. It reads byte by byte, so that the
+/// bytes after the line are left in the reader. The cutter must be new. Errors, in this order: `ReadFailed`, or
+/// `NoHello` if the stream ends or the line gets too long before a line feed; `OutOfMemory`; `NoHello` if the line
+/// names no site.
 pub fn read_hello<I: Read, A: Allocator + Copy>(
     reader: &mut I,
     cutter: &mut LineCutter<A>,
@@ -27,7 +29,7 @@ pub fn read_hello<I: Read, A: Allocator + Copy>(
     ensures read { (text : List ℕ) × Consumes (I.remaining reader.old) (I.remaining reader.new) text
         × IsOneLine text × (length text ≤ LONGEST) × ReadsHello text result
         × (IsErrOf result LinkFault.NoHello → HasEnded text (I.remaining reader.new)) }
-    // Nothing of the line is left in the cutter.
+    // No byte of the line is left in the cutter.
     ensures empty { OnOk result (cutter.new ≡ view_of []) }
 {
     read_first(reader, cutter)?;
@@ -38,7 +40,7 @@ pub fn read_hello<I: Read, A: Allocator + Copy>(
     }
 }
 
-/// Reads to the first line feed, which it finds within the longest line.
+/// Reads up to the first line feed, which must be within the first `MAX_LINE` bytes.
 fn read_first<I: Read, A: Allocator + Copy>(
     reader: &mut I,
     cutter: &mut LineCutter<A>,
@@ -60,7 +62,7 @@ fn read_first<I: Read, A: Allocator + Copy>(
     Err(LinkFault::NoHello)
 }
 
-/// Reads one byte. `None` at the end.
+/// Reads one byte. `None` at the end of the stream.
 fn read_byte<I: Read>(reader: &mut I) -> Result<Option<u8>, LinkFault>
     ensures some { IfOk result (λ byte. IfSome byte (λ byte.
         Consumes (I.remaining reader.old) (I.remaining reader.new) (byte ∷ []))) }
@@ -78,7 +80,7 @@ fn read_byte<I: Read>(reader: &mut I) -> Result<Option<u8>, LinkFault>
     }
 }
 
-/// Who speaks, if the line says it.
+/// The site that the line names, if it is a first line.
 fn speaker<A: Allocator + Copy>(line: &Vec<u8, A>) -> Result<SiteId, LinkFault>
     requires { IsLine line.now.items }
     ensures { ReadsHello line.now.items result }
@@ -92,7 +94,7 @@ fn speaker<A: Allocator + Copy>(line: &Vec<u8, A>) -> Result<SiteId, LinkFault>
     }
 }
 
-/// The site that a first line names.
+/// The site that a first line names. `None` for any other message.
 fn site_of<A: Allocator>(message: &Message<A>) -> Option<SiteId>
     ensures some { IfSome result (λ site. value_of message.now ≡ AHello site) }
     ensures none { IfNone result ((site : ℕ) → value_of message.now ≡ AHello site → ⊥) }

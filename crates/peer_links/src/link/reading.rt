@@ -1,4 +1,4 @@
-//! The lines that come from a peer.
+//! The incoming lines of a peer.
 ghost use Rattle.std.specs.Prelude.{◌≡◌, ℕ, ◌+◌, ◌<◌, ◌≤◌, ◌++◌, [], ◌∷◌, false, List, length, take, OnOk, IfOk, IfErr, IfSome, IsErrOf, MatchResult};
 ghost use Rattle.std.specs.Io.KnownBytes.{Consumes, IsAtEnd};
 ghost use Rattle.line_streams.specs.Counting.{counts_for, still};
@@ -21,12 +21,13 @@ use std::alloc::Global;
 use std::io::Read;
 use std::sync::Wait;
 
-/// So many bytes are read at a time.
+/// The greatest number of bytes of one read.
 const READ_SIZE: usize = 16_384;
 
-/// Takes in the lines of a connection to its end, behind its first one. An unfinished last line is
-/// dropped. The intake is not finished, no line waits in the cutter, and the port accepts what the intake's
-/// origin may send to its site.
+/// Takes in the lines of a connection after the first one, until its end. An unfinished last line is dropped.
+/// Requires that the intake is not finished, that no line waits in the cutter, and that the port accepts what the
+/// intake's origin may send to its site.
+/// Stops at the first error: `ReadFailed`, `TooManyLines`, `LaneClosed` or `OutOfMemory`.
 pub fn read_link<R: Wait, I: Read, P: Port>(
     rt: &R,
     reader: &mut I,
@@ -56,7 +57,7 @@ pub fn read_link<R: Wait, I: Read, P: Port>(
     }
 }
 
-/// Counts one more, which may be one too many.
+/// Counts one more. `TooManyLines` if the count reaches the limit.
 fn count_one(count: &mut u64) -> Result<(), LinkFault>
     requires { count.old < LINE_LIMIT }
     ensures more { count.new ≡ count.old + 1 }
@@ -70,8 +71,8 @@ fn count_one(count: &mut u64) -> Result<(), LinkFault>
     Ok(())
 }
 
-/// Takes in the lines that end in what one read gave, and counts them, or the read where none ends in
-/// it.
+/// Takes in the lines that end in the bytes of one read, and counts them. If no line ends in them, the read counts
+/// as one.
 fn take_block<R: Wait, P: Port>(
     rt: &R,
     cutter: &mut LineCutter,
@@ -110,7 +111,7 @@ fn take_block<R: Wait, P: Port>(
     Ok(())
 }
 
-/// Takes a piece in. One that is no line for this intake is skipped.
+/// Takes a piece in. A line that is too long, or that the intake refuses for a cause other than memory, is skipped.
 fn take_piece<R: Wait, P: Port>(
     rt: &R,
     piece: Piece<'_, Global>,
@@ -138,7 +139,7 @@ fn take_piece<R: Wait, P: Port>(
     taken
 }
 
-/// Takes a line in, hands over what it says to the desk, and asks for the entries that are missing.
+/// Takes a line in, hands its message to the desk, and queries the entries that are missing.
 fn take_line<R: Wait, P: Port>(
     rt: &R,
     line: &[u8],
@@ -170,14 +171,14 @@ fn take_line<R: Wait, P: Port>(
     Ok(())
 }
 
-/// Whether a beat came, by which the gap is asked for again.
+/// Whether a beat arrived, after which the gap is queried again.
 fn is_beat(arrived: &Arrived) -> bool
     ensures { result ≡ asks_again arrived.now }
 {
     *arrived == Arrived::Beat
 }
 
-/// Hands over what a line says to the desk, if it says anything.
+/// Hands the line's message to the desk, if it has one.
 fn hand_over<R: Wait, P: Port>(rt: &R, arrived: Arrived, port: &mut P) -> Result<(), OutOfMemory>
     requires { IfSome (message_in arrived) P.accepts }
     ensures { HearsMessage P.hears port.old (message_in arrived) result port.new }
@@ -190,8 +191,8 @@ fn hand_over<R: Wait, P: Port>(rt: &R, arrived: Arrived, port: &mut P) -> Result
     }
 }
 
-/// Asks for the entries that are missing: always with `again`, else where they are not those that were asked
-/// for last.
+/// Queries the entries that are missing: with `again` in any case, else only if the gap is not the one that was
+/// queried last.
 fn ask_for_gap<R: Wait, P: Port>(
     rt: &R,
     again: bool,

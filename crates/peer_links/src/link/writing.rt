@@ -1,4 +1,4 @@
-//! The lines that go to a peer.
+//! The outgoing lines of a peer.
 ghost use Rattle.std.specs.Prelude.{◌≡◌, ℕ, ◌+◌, ◌≤◌, List, [], ◌∷◌, length, take, nat_lt, if◌then◌else◌, OnOk};
 ghost use Rattle.std.specs.Io.KnownBytes.{Appends};
 ghost use Rattle.entry_codec.specs.Pieces.{pieces, IsLine};
@@ -12,12 +12,13 @@ use memchr::memchr;
 use std::io::Write;
 use std::sync::Wait;
 
-/// So many bytes of lines that wait go into one write, at most.
+/// The greatest number of bytes of waiting lines that one write takes.
 const ROOM: usize = 32_768;
 
-/// Writes the lines of the source as they come, in order and each once, until it has ended and none waits.
-/// Lines that wait together go into one write. Where a write fails, the line that it was to go on with is
-/// lost or torn, and counts as taken; those behind it wait for the next connection. It takes no memory.
+/// Writes the lines of the source as they come, in order and each once, until the source has ended and no line waits.
+/// Lines that wait together go into one write. If a write fails, the line in which that write began is lost or
+/// torn, and counts as taken; the lines after it wait for the next connection. It requests no memory. The only error
+/// is `WriteFailed`.
 pub fn write_link<R: Wait, W: Write, S: LineSource>(
     rt: &R,
     writer: &mut W,
@@ -65,8 +66,8 @@ fn write_line<W: Write>(writer: &mut W, line: &[u8]) -> Result<(), LinkFault>
     Ok(())
 }
 
-/// Writes the text, in as many writes as it takes, and answers how much of it was written when a write
-/// failed, or took no byte.
+/// Writes the text, in as many writes as needed, and returns how many bytes were written before a write failed or
+/// wrote no byte.
 fn write_front<W: Write>(writer: &mut W, text: &[u8]) -> usize
     ensures within { result ≤ length text.now }
     ensures bytes { Appends (W.contents writer.old) (W.contents writer.new) (take result text.now) }
@@ -82,8 +83,8 @@ fn write_front<W: Write>(writer: &mut W, text: &[u8]) -> usize
     done
 }
 
-/// How many lines of the text were begun, where so many of its bytes were written: those that were
-/// written whole, and the one that the next write was to begin with.
+/// How many lines of the text were begun, if this number of its bytes was written: those that were
+/// written whole, and the one in which the next write would have begun.
 fn begun(lines: &[u8], written: usize) -> usize
     requires { written ≤ length lines.now }
     ensures { result ≡ length (pieces (take written lines.now)) + (if nat_lt written (length lines.now) then 1 else 0) }

@@ -1,13 +1,13 @@
-//! What a line of a running site's input is read as.
+//! The command that a line of a running site's input spells.
 use rights_types::SiteId;
 use site_words::{DeskCommand, SiteCommand, read_command};
 
-/// A command by its name and its values; 0 stands for what is not there.
+/// A command, with its name and its values; 0 for a value that is absent.
 type Shown = Option<(&'static str, u64, u64)>;
 
 const MOST: u64 = u64::MAX;
 
-/// Lines without their line feeds, and what they ask for.
+/// Lines without their line feeds, and the commands that they spell.
 const LINES: [(&str, Shown); 40] = [
     ("issue 5", Some(("issue", 5, 0))),
     ("issue 0", Some(("issue", 0, 0))),
@@ -78,7 +78,7 @@ fn is_read_as(line: &str, expected: Shown) -> bool {
     }
 }
 
-/// Each line asks for its command, and no other line for any.
+/// Each line spells its command, and no other line spells any.
 #[test]
 fn lines_ask_for_commands(rt: HostRuntime) {
     for (line, expected) in &LINES {

@@ -1,4 +1,4 @@
-//! How the program ends as its site does, and where its words find no memory; and the texts of faults.
+//! How the program ends, depending on its site, and if there is no memory for its words; and the texts of faults.
 use refusing_allocator::Refusing;
 use rights_program::{VERSION, run_given, run_words};
 use site_words::{Command, Config, SiteFault, read_words};
@@ -8,7 +8,7 @@ use std::io;
 use std::io::Write;
 use test_kit::Slow;
 
-/// A writer that takes no byte.
+/// A writer that accepts no byte.
 #[derive(Drop)]
 struct Full;
 
@@ -22,7 +22,7 @@ impl Write for Full {
     }
 }
 
-/// The words of a process, its name among them.
+/// The words of a process, its name included.
 #[derive(Drop)]
 struct Words<'a>(&'a [&'a [u8]]);
 
@@ -78,7 +78,7 @@ const REFUSED: &str = "rights-site: bad command line\n";
 
 const OUT_OF_MEMORY: &str = "rights-site: out of memory\n";
 
-/// Whether the program ends with this status and this line where its site ends so.
+/// Whether the program ends with this status and this line if its site ends in this way.
 fn ends_with(alloc: Global, of_site: Result<(), SiteFault>, status: u8, line: &str) -> bool {
     let words = [
         "run",
@@ -102,7 +102,7 @@ fn ends_with(alloc: Global, of_site: Result<(), SiteFault>, status: u8, line: &s
     answer.status == status && errors.as_slice() == line.as_bytes()
 }
 
-/// What its site ends with is what the program ends with.
+/// The program ends as its site does.
 #[test]
 fn the_program_ends_as_its_site(rt: HostRuntime) {
     let alloc = rt.alloc();
@@ -158,13 +158,13 @@ fn the_program_ends_as_its_site(rt: HostRuntime) {
     );
 }
 
-/// Stands for a site that no words ask for: the program would end by its fault.
+/// Stands for a site that the words do not ask for: with it, the program would end with its fault.
 fn no_site<R, W>(_config: Config, _reader: &mut R, _writer: &mut W) -> Result<(), SiteFault> {
     Err(SiteFault::ReadFailed)
 }
 
-/// Whether the program ends with this status on these words, and all of this text and of this line is written, however
-/// few bytes a write takes.
+/// Whether the program ends with this status on these words, and all of this text and of this line is written,
+/// however few bytes a write takes.
 fn writes_slowly(alloc: Global, words: &[&str], status: u8, text: &[u8], line: &str) -> bool {
     let mut writer = Slow {
         text: Vec::new(alloc),
@@ -187,7 +187,7 @@ fn writes_slowly(alloc: Global, words: &[&str], status: u8, text: &[u8], line: &
         && errors.text.as_slice() == line.as_bytes()
 }
 
-/// The same of words that ask for help, with its text.
+/// The same for words that ask for help, with its text.
 fn writes_help(alloc: Global, words: &[&str]) -> bool {
     match read_words(alloc, words) {
         Ok(Command::Help(text)) => writes_slowly(alloc, words, 0, text.as_bytes(), ""),
@@ -195,7 +195,7 @@ fn writes_help(alloc: Global, words: &[&str]) -> bool {
     }
 }
 
-/// So it is with help texts and with the line of a fault.
+/// The same holds for help texts and for the line of a fault.
 #[test]
 fn slow_writers_get_all(rt: HostRuntime) {
     let alloc = rt.alloc();
@@ -206,19 +206,19 @@ fn slow_writers_get_all(rt: HostRuntime) {
     assert!(rt; writes_slowly(alloc, &["walk"], 2, b"", REFUSED));
 }
 
-/// What came of the words of a process, with some requests for memory granted and the next one refused.
+/// The result for the words of a process, with some memory requests granted and the next one refused.
 enum Ending {
-    /// Want of memory stopped the program, and it said so.
+    /// Lack of memory stopped the program, and it said so.
     Stopped,
-    /// It did without the memory that it was refused.
+    /// It continued without the memory that was refused.
     Managed,
-    /// It was refused nothing.
+    /// No request was refused.
     Whole,
-    /// Neither its status and line are those of want of memory, nor those that the words ask for.
+    /// Neither its status and line are those of lack of memory, nor those that the words ask for.
     Wrong,
 }
 
-/// How a process with these words ends, which with ample memory has this status and line.
+/// How a process with these words ends, if it has this status and line with ample memory.
 fn ending_with(alloc: Global, words: &[&[u8]], granted: u64, status: u8, line: &str) -> Ending {
     let refusing = Refusing::new(alloc, granted);
     let mut errors = Vec::new(alloc);
@@ -243,14 +243,14 @@ fn ending_with(alloc: Global, words: &[&[u8]], granted: u64, status: u8, line: &
     }
 }
 
-/// How many of the requests that the words take stop the program where they are refused; none where some
+/// How many of the requests that the words make stop the program if they are refused. `None` if some
 /// run does not end as it should.
 fn stops(alloc: Global, words: &[&[u8]], status: u8, line: &str) -> Option<u64> {
     let mut stopped = 0u64;
     for granted in 0..100 {
         match ending_with(alloc, words, granted, status, line) {
             Ending::Stopped => stopped = stopped.saturating_add(1),
-            // It can do without some of the memory that it asks for.
+            // It can continue without some of the memory that it requests.
             Ending::Managed => {}
             Ending::Whole => return Some(stopped),
             Ending::Wrong => return None,
@@ -259,13 +259,13 @@ fn stops(alloc: Global, words: &[&[u8]], status: u8, line: &str) -> Option<u64> 
     None
 }
 
-/// Whether the words end as they should, and some of the requests that they take stop the program.
+/// Whether the words end as they should, and some of the requests that they make stop the program.
 fn may_stop(alloc: Global, words: &[&[u8]], status: u8, line: &str) -> bool {
     stops(alloc, words, status, line).is_some_and(|stopped| stopped > 2)
 }
 
-/// Each request for memory that the words take is refused in turn: where they cannot do without it, it is
-/// want of memory that ends the program, and else what the words ask for.
+/// Each memory request that the words make is refused in turn: if the program cannot continue without it, it ends for
+/// lack of memory, else as the words ask.
 #[test]
 fn each_growth_for_the_words_refused(rt: HostRuntime) {
     let alloc = rt.alloc();

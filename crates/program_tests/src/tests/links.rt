@@ -1,4 +1,4 @@
-//! Connections without sockets: readers and writers that break, that are slow, or that are interrupted.
+//! Connections without sockets: readers and writers that fail, that are slow, or that are interrupted.
 mod entries;
 mod hello;
 mod pieces;

@@ -1,4 +1,4 @@
-//! Lines that wait, by one thread and by three.
+//! Waiting lines, with one thread and with three.
 ghost use Rattle.std.specs.Prelude.{◌≡◌, ◌≤◌, IfOk};
 ghost use Rattle.entry_codec.specs.Pieces.{IsLine};
 
@@ -22,7 +22,7 @@ pub(crate) fn beat<A: Allocator + Copy>(alloc: A, number: u64) -> Result<Vec<u8,
     write_line(alloc, &message)
 }
 
-/// A line of so many bytes, at least its line feed.
+/// A line of this number of bytes, at least its line feed.
 pub(crate) fn long_line(alloc: Global, length: usize) -> Result<Vec<u8>, OutOfMemory>
     requires { 1 ≤ length }
     ensures { IfOk result (λ line. IsLine line.items) }
@@ -32,7 +32,7 @@ pub(crate) fn long_line(alloc: Global, length: usize) -> Result<Vec<u8>, OutOfMe
     Ok(line)
 }
 
-/// Puts the beats with these numbers, and answers whether all found room.
+/// Puts the beats with these numbers, and returns whether there was room for all.
 pub(crate) fn put_beats<R: Wait, A: Allocator + Copy>(
     rt: &R,
     alloc: A,
@@ -51,7 +51,7 @@ pub(crate) fn put_beats<R: Wait, A: Allocator + Copy>(
     true
 }
 
-/// Whether the outbox gives the beats with these numbers.
+/// Whether the outbox returns the beats with these numbers.
 fn takes_beats<R: Wait>(rt: &R, alloc: Global, outbox: &Outbox, first: u64, last: u64) -> bool {
     for number in first..last {
         let Some(line) = outbox.take(rt) else {
@@ -67,7 +67,7 @@ fn takes_beats<R: Wait>(rt: &R, alloc: Global, outbox: &Outbox, first: u64, last
     true
 }
 
-/// Whether putting the beat with this number comes to that.
+/// Whether putting the beat with this number has that result.
 fn puts<R: Wait>(
     rt: &R,
     alloc: Global,
@@ -96,7 +96,7 @@ fn many_lines_fit_and_no_more(rt: HostRuntime) {
     assert!(rt; is_over(&rt, &outbox));
 }
 
-/// Whether the outbox gives nothing, and nothing when it is asked again.
+/// Whether the outbox returns nothing, and nothing when it is asked again.
 fn is_over<R: Wait>(rt: &R, outbox: &Outbox) -> bool {
     outbox.take(rt).is_none() && outbox.take(rt).is_none()
 }
@@ -111,7 +111,7 @@ fn an_abandoned_outbox_gives_nothing(rt: HostRuntime) {
     assert!(rt; puts(&rt, rt.alloc(), &outbox, 3, ended));
 }
 
-/// Whether the line of the beat with this number finds no room behind as many others as may wait.
+/// Whether there is no room for the line of the beat with this number after as many others as may wait.
 pub(crate) fn finds_no_room<R: Wait>(rt: &R, alloc: Global, number: u64) -> bool {
     let Ok(outbox) = Outbox::new(alloc) else {
         return false;
@@ -119,7 +119,7 @@ pub(crate) fn finds_no_room<R: Wait>(rt: &R, alloc: Global, number: u64) -> bool
     put_beats(rt, alloc, &outbox, 0, 256) && puts(rt, alloc, &outbox, number, Err(PutError::Full))
 }
 
-/// Puts so many beats, the same ones, and answers whether all found room.
+/// Puts this number of equal beats, and returns whether there was room for all.
 fn put_same<R: Wait>(rt: &R, alloc: Global, outbox: &Outbox, count: u64) -> bool {
     for _ in 0..count {
         if !put_beats(rt, alloc, outbox, 7, 8) {
@@ -129,7 +129,7 @@ fn put_same<R: Wait>(rt: &R, alloc: Global, outbox: &Outbox, count: u64) -> bool
     true
 }
 
-/// How many beats the outbox gives until it has ended.
+/// How many beats the outbox returns until it has ended.
 fn count_taken<R: Wait, A: Allocator>(rt: &R, outbox: &Outbox<A>) -> u64 {
     let mut count = 0u64;
     for _ in rt.forever() {
@@ -165,7 +165,7 @@ fn two_threads_put_and_one_takes(rt: HostRuntime) {
     assert_eq!(rt; taken, 200);
 }
 
-/// Puts a beat once another thread has had time to wait for it, and answers whether it found room.
+/// Puts a beat once another thread has had time to wait for it, and returns whether there was room.
 fn put_late<R: Wait + Clock>(rt: &R, alloc: Global, outbox: &Outbox) -> bool {
     thread::sleep(rt, Duration::from_millis(50));
     put_beats(rt, alloc, outbox, 7, 8)
@@ -184,8 +184,8 @@ fn a_put_wakes_a_taker(rt: HostRuntime) {
     assert!(rt; taken);
 }
 
-/// Whether an outbox is made, or refused for want of memory alone; where it is made, nothing that it is
-/// asked takes memory.
+/// Whether an outbox is made, or refused for lack of memory only; if it is made, no later call
+/// requests memory.
 fn is_made<R: Wait>(rt: &R, alloc: &Refusing<Global>) -> bool {
     match Outbox::new(alloc) {
         Ok(outbox) => {
@@ -202,8 +202,8 @@ fn each_growth_for_an_outbox_refused(rt: HostRuntime) {
     assert_eq!(rt; requests, Some(1));
 }
 
-/// How many lines an outbox gives, which then has ended, where it and its 256 beats take this memory. `None`
-/// where they find no room.
+/// How many lines an outbox returns until it has ended, if it and its 256 beats take this memory. `None`
+/// if it has no room for them.
 fn taken_of_256<R: Wait>(rt: &R, memory: &Refusing<Global>) -> Option<u64> {
     let outbox = Outbox::new(memory).ok()?;
     if !put_beats(rt, memory, &outbox, 0, 256) {

@@ -1,4 +1,4 @@
-//! The status object, as its text.
+//! The text of the status object.
 use apply_lanes::DeskView;
 use rights_types::{OutOfMemory, SiteId};
 use site_words::{PeerView, status};
@@ -51,7 +51,7 @@ fn has_no_peers(alloc: Global, desk: &DeskView) -> bool {
     }
 }
 
-/// Each value stands at its key, and the peers in the order given.
+/// Each value is shown with its key, and the peers in the order given.
 #[test]
 fn each_value_is_at_its_key(rt: HostRuntime) {
     let desk = DeskView {
@@ -86,7 +86,7 @@ fn each_value_is_at_its_key(rt: HostRuntime) {
     assert!(rt; has_no_peers(rt.alloc(), &desk));
 }
 
-/// The first so many sites of fifteen, each of which has applied as many as its own number.
+/// The first sites of fifteen, each of which has applied as many as its own number.
 fn first_peers(alloc: Global, count: u64) -> Result<Vec<PeerView>, AllocError> {
     let mut peers = Vec::new(alloc);
     for site in 1..=15u64 {
@@ -117,7 +117,7 @@ fn text_with_first_peers(alloc: Global, count: u64) -> Result<String, AllocError
     Ok(text)
 }
 
-/// Whether each of so many peers is in the list.
+/// Whether each of this number of peers is in the list.
 fn lists_peers(alloc: Global, desk: &DeskView, count: u64) -> bool {
     match (
         first_peers(alloc, count),
@@ -128,7 +128,7 @@ fn lists_peers(alloc: Global, desk: &DeskView, count: u64) -> bool {
     }
 }
 
-/// So it is with each number of peers that a system can have.
+/// The same holds for each number of peers that a system can have.
 #[test]
 fn each_peer_is_in_the_list(rt: HostRuntime) {
     let desk = DeskView {

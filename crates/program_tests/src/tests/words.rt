@@ -1,4 +1,4 @@
-//! What the words of a command line are read as.
+//! How the words of a command line are read.
 use site_words::{Command, Config, PeerAddress, WordsFault, read_words};
 use std::alloc::{AllocError, Global};
 
@@ -72,7 +72,7 @@ const HELPS: [(&str, &str); 9] = [
     ("run -h --tick 0 --once", RUN_HELP),
 ];
 
-/// What the words of a line are read as; two spaces stand round an empty word.
+/// How the words of a line are read; two spaces enclose an empty word.
 fn read(alloc: Global, line: &str) -> Result<Command, WordsFault> {
     let words: Result<Vec<&str>, AllocError> = line.split(' ').collect(alloc);
     match words {
@@ -81,7 +81,7 @@ fn read(alloc: Global, line: &str) -> Result<Command, WordsFault> {
     }
 }
 
-/// Whether the words of a line are refused, and that not for want of memory.
+/// Whether the words of a line are refused, and not for lack of memory.
 fn is_refused(alloc: Global, line: &str) -> bool {
     matches!(read(alloc, line), Err(WordsFault::Refused))
 }
@@ -155,7 +155,7 @@ fn help_is_the_text_of_clap(rt: HostRuntime) {
     }
 }
 
-/// Whether a peer is of this number and at this address.
+/// Whether a peer has this number and this address.
 fn is_peer(peer: &PeerAddress, site: u64, address: &str) -> bool {
     peer.site().number() == site && peer.address() == address
 }
@@ -170,7 +170,7 @@ fn has_peers(config: &Config, wanted: &[(u64, &str)]) -> bool {
             .all(|(peer, (site, address))| is_peer(peer, *site, address))
 }
 
-/// Whether a config has these values: its own number, how many sites there are, where it listens, and its peers.
+/// Whether a config has these values: its own number, the number of sites, where it listens, and its peers.
 fn is_config(config: &Config, own: (u64, u64, &str), peers: &[(u64, &str)]) -> bool {
     config.id().number() == own.0
         && config.sites() == own.1
@@ -191,7 +191,7 @@ fn a_config_has_the_values_of_the_words(rt: HostRuntime) {
     let line = "run --id 1 --sites 2 --listen 127.0.0.1:7001 2=127.0.0.1:7002";
     let own = (1, 2, "127.0.0.1:7001");
     assert!(rt; runs_site(rt.alloc(), line, own, &[(2, "127.0.0.1:7002")]));
-    // Peers by number, and options behind them and among them.
+    // Peers by number, with options after them and among them.
     let peers = [(1, "a"), (3, "c:3"), (4, "")];
     for line in [
         "run --id 2 --sites 4 --listen b:2 1=a 3=c:3 4=",
@@ -208,7 +208,7 @@ fn a_config_has_the_values_of_the_words(rt: HostRuntime) {
     }
 }
 
-/// An address is the text behind the first `=`, whatever it is.
+/// An address is the text after the first `=`, whatever it is.
 #[test]
 fn addresses_are_kept(rt: HostRuntime) {
     let line = "run --id 3 --sites 3 --listen  1== 2=1=\u{e9}";
@@ -216,7 +216,7 @@ fn addresses_are_kept(rt: HostRuntime) {
     assert!(rt; runs_site(rt.alloc(), line, (3, 3, ""), &peers));
 }
 
-/// The options that may be left out, as the words of a site should give them.
+/// The options that may be omitted, as the words of a site should set them.
 type Extras = (
     Option<&'static str>,
     Option<u64>,
@@ -224,7 +224,7 @@ type Extras = (
     bool,
 );
 
-/// Words of the options that may be left out, and what they give.
+/// Words for the options that may be omitted, and what they set.
 const EXTRAS: [(&str, Extras); 13] = [
     ("", (None, None, None, false)),
     (" --http [::1]:80", (Some("[::1]:80"), None, None, false)),
@@ -250,13 +250,13 @@ const EXTRAS: [(&str, Extras); 13] = [
     ),
 ];
 
-/// Whether a config has these values for the options that may be left out.
+/// Whether a config has these values for the options that may be omitted.
 fn has_extras(config: &Config, extras: Extras) -> bool {
     let (http, tick, once, log) = extras;
     config.http() == http && config.tick() == tick && config.once() == once && config.log() == log
 }
 
-/// Whether the words of a line are those of site 1 of 2, with these values for the options that may be left out.
+/// Whether the words of a line are those of site 1 of 2, with these values for the options that may be omitted.
 fn runs_with(alloc: Global, line: &str, extras: Extras) -> bool {
     match read(alloc, line) {
         Ok(Command::Run(config)) => {
@@ -266,7 +266,7 @@ fn runs_with(alloc: Global, line: &str, extras: Extras) -> bool {
     }
 }
 
-/// Whether these words, behind all others and before them, give these values.
+/// Whether these words, after all others and before them, set these values.
 fn are_read(alloc: Global, words: &str, extras: Extras) -> bool {
     let behind = format!(in alloc; "run --id 1 --sites 2 --listen a 2=b{words}");
     let before = format!(in alloc; "run{words} 2=b --listen a --sites 2 --id 1");
@@ -285,7 +285,7 @@ fn options_that_may_be_left_out_are_read(rt: HostRuntime) {
     }
 }
 
-/// The options that may be left out, with values.
+/// The options that may be omitted, with values.
 const OPTIONS: [&str; 4] = ["--http h:1", "--tick=5", "--once f", "--log"];
 
 /// Whether these are four words, and so all of `OPTIONS`.
@@ -293,7 +293,7 @@ fn are_all(a: &str, b: &str, c: &str, d: &str) -> bool {
     a != b && a != c && a != d && b != c && b != d && c != d
 }
 
-/// Whether all options are read in this order, between the others and behind them.
+/// Whether all options are read in this order, between the others and after them.
 fn are_read_in_order(alloc: Global, a: &str, b: &str, c: &str, d: &str) -> bool {
     let extras = (Some("h:1"), Some(5), Some("f"), true);
     let among = format!(in alloc; "run {a} --id 1 {b} --sites 2 {c} --listen a {d} 2=b");
@@ -329,7 +329,7 @@ fn options_come_in_any_order(rt: HostRuntime) {
     }
 }
 
-/// Whether these words are refused behind all others and before them.
+/// Whether these words are refused after all others and before them.
 fn are_refused(alloc: Global, words: &str) -> bool {
     let behind = format!(in alloc; "run --id 1 --sites 2 --listen a 2=b {words}");
     let before = format!(in alloc; "run {words} --id 1 --sites 2 --listen a 2=b");
@@ -384,7 +384,7 @@ fn options_with_no_value_are_refused(rt: HostRuntime) {
     }
 }
 
-/// They are options of `run` alone.
+/// They are options of `run` only.
 #[test]
 fn a_script_has_no_options(rt: HostRuntime) {
     for line in [
@@ -439,7 +439,7 @@ fn values_outside_their_range_are_refused(rt: HostRuntime) {
         "run --id x --sites 2 --listen a 2=b",
         "run --id -1 --sites 2 --listen a 2=b",
         "run --id 1 --sites 2= --listen a 2=b",
-        // Each option once, and none left out.
+        // Each option once, and none missing.
         "run --sites 2 --listen a 2=b",
         "run --id 1 --listen a 2=b",
         "run --id 1 --sites 2 2=b",
@@ -491,7 +491,7 @@ fn peers_are_exactly_the_other_sites(rt: HostRuntime) {
     }
 }
 
-/// The words of a site among so many, with its peers from the last to the first.
+/// The words of a site in a system of this many, with its peers from the last to the first.
 fn words_of_site(alloc: Global, id: u64, sites: u64) -> Result<String, AllocError> {
     let mut line = format!(in alloc; "run --id {id} --sites {sites} --listen h:{id}")?;
     for site in (1..=sites).rev() {
@@ -510,7 +510,7 @@ fn is_address_of(alloc: Global, address: &str, site: u64) -> bool {
     }
 }
 
-/// Whether the peers are all others of so many sites, in order.
+/// Whether the peers are all other sites of this many, in order.
 fn are_others(alloc: Global, peers: &[PeerAddress], id: u64, sites: u64) -> bool {
     let others = (1..=sites).filter(|site| *site != id);
     sites.checked_sub(1) == Some(peers.len() as u64)
@@ -519,7 +519,7 @@ fn are_others(alloc: Global, peers: &[PeerAddress], id: u64, sites: u64) -> bool
         })
 }
 
-/// Whether the words of a site among so many are read as its config.
+/// Whether the words of a site in a system of this many are read as its config.
 fn is_read_back(alloc: Global, id: u64, sites: u64) -> bool {
     let Ok(line) = words_of_site(alloc, id, sites) else {
         return false;

@@ -7,7 +7,7 @@ use transfer_world::{EntryVerdict, Event, Moves, Reply, World, WorldError};
 /// The greatest amount.
 const MOST: u64 = 1_000_000_000;
 
-/// How often both sites post.
+/// How many times both sites post.
 const ROUNDS: u64 = 150;
 
 /// The moves of the largest entry: sixteen, each of the greatest amount.
@@ -21,7 +21,7 @@ fn largest(alloc: Global, peer: SiteId) -> Result<Vec<Move>, OutOfMemory> {
     Ok(Vec::from_slice(alloc, &moves)?)
 }
 
-/// Whether it is the reply that one entry became next, with this own number.
+/// Whether the reply is that one entry became ready, with this own number.
 fn is_ready(outcome: &Result<Reply, WorldError>, number: u64) -> bool {
     let Ok(Reply::Verdicts(verdicts)) = outcome else {
         return false;
@@ -41,7 +41,7 @@ fn is_round(outcomes: &[Result<Reply, WorldError>], number: u64, packet: u64) ->
         && matches!(nothing, Ok(Reply::Nothing))
 }
 
-/// Whether it is an entry of these.
+/// Whether it is the entry with this origin, previous number and moves.
 fn is_entry(entry: &Entry, origin: SiteId, prev: u64, moves: &[Move]) -> bool {
     entry.origin() == origin
         && entry.prev() == prev
@@ -75,7 +75,7 @@ fn all_rounds(alloc: Global, one: SiteId, two: SiteId) -> Result<Vec<Event>, Out
     Ok(events)
 }
 
-/// The first packet at which the outcomes are not those of all rounds, or of more than these.
+/// The first packet at which the outcomes differ from those of all rounds, or of more rounds.
 fn wrong_packet(outcomes: &[Result<Reply, WorldError>]) -> Option<u64> {
     let mut rest = outcomes;
     for round in 0..ROUNDS {
@@ -108,7 +108,7 @@ fn is_log(log: &[Entry], site: SiteId, moves: &[Move]) -> bool {
     log.len() as u64 == ROUNDS
 }
 
-/// Whether a site wrote its entries of all rounds, and has the rights that these leave it.
+/// Whether a site wrote its entries of all rounds, and has the rights that remain.
 fn has_all_rounds(alloc: Global, world: &World, site: SiteId, peer: SiteId) -> bool {
     match (world.log(site), largest(alloc, peer)) {
         (Ok(log), Ok(moves)) => is_log(&log, site, &moves) && has_rights(world, site, peer),
@@ -116,7 +116,7 @@ fn has_all_rounds(alloc: Global, world: &World, site: SiteId, peer: SiteId) -> b
     }
 }
 
-/// Some hundred rounds of largest entries, from each of two sites to the other.
+/// Several hundred rounds of largest entries, from each of two sites to the other.
 #[test]
 fn many_rounds(rt: HostRuntime) {
     let (one, two) = (SiteId::known(1), SiteId::known(2));
@@ -136,7 +136,7 @@ fn has_rights(world: &World, site: SiteId, peer: SiteId) -> bool {
         && world.way(site, peer) == 0
 }
 
-/// A post of these moves, whose entry is sent, arrives and is taken.
+/// A post of these moves: its entry is sent, arrives and is taken.
 fn one_round(
     alloc: Global,
     one: SiteId,
@@ -164,7 +164,7 @@ fn has_written(world: &World, site: SiteId, moves: &[Move]) -> bool {
     }
 }
 
-/// Whether these events are answered as the first round is, of two moves.
+/// Whether the replies to these events are those of the first round, with two moves.
 fn runs_as_round(world: &mut World, events: &[Event]) -> bool {
     match world.run(events) {
         Ok(outcomes) => is_round(&outcomes, 2, 1),
@@ -179,7 +179,7 @@ fn has_given(world: &World, one: SiteId, two: SiteId) -> bool {
         && world.packet(1) == Some(b"E 1 0 2 I:10 R:2:3\n".as_slice())
 }
 
-/// A run of events answers each of them, and the log can be copied.
+/// A run of events replies to each of them, and the log can be copied.
 #[test]
 fn a_run_of_events(rt: HostRuntime) {
     let (one, two) = (SiteId::known(1), SiteId::known(2));

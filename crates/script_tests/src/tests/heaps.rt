@@ -5,20 +5,20 @@ use std::alloc::{Allocator, Global};
 use test_kit::{requests_of, site};
 use transfer_world::{Event, Keeping, Reply, World};
 
-/// How far an entry gets.
+/// The stage that an entry reaches.
 #[derive(Clone, Copy, PartialEq, Eq)]
 enum Way {
     /// Site 1 issues a right.
     Issued,
-    /// And publishes the entry to site 2.
+    /// Site 1 also publishes the entry to site 2.
     Published,
-    /// Where it arrives.
+    /// The entry arrives there.
     Arrived,
-    /// And is applied.
+    /// The entry is applied there.
     Taken,
 }
 
-/// Whether an entry gets so far, as the packet of this number.
+/// Whether an entry reaches this stage, as the packet with this number.
 fn goes<A: Allocator + Copy, K: Keeping>(world: &mut World<A, K>, packet: u64, way: Way) -> bool {
     let (one, two) = (site(1), site(2));
     world.step(Event::Issue(one, 1)).is_ok()
@@ -29,7 +29,7 @@ fn goes<A: Allocator + Copy, K: Keeping>(world: &mut World<A, K>, packet: u64, w
             || matches!(world.step(Event::Take(two, one)), Ok(Reply::Taken(own)) if own == packet))
 }
 
-/// Whether so many entries get so far.
+/// Whether this number of entries reaches this stage.
 fn all_go<A: Allocator + Copy, K: Keeping>(world: &mut World<A, K>, count: u64, way: Way) -> bool {
     for packet in 1..=count {
         if !goes(world, packet, way) {
@@ -39,7 +39,7 @@ fn all_go<A: Allocator + Copy, K: Keeping>(world: &mut World<A, K>, count: u64, 
     true
 }
 
-/// How many bytes so many entries take on their way, by what a world keeps.
+/// How many bytes this number of entries takes up to this stage, by what a world keeps.
 fn bytes_of<K: Keeping>(
     heap: &LocalHeap,
     world: &mut World<&LocalHeap, K>,
@@ -54,10 +54,11 @@ fn bytes_of<K: Keeping>(
     }
 }
 
-/// So many entries fill the room that their lists have made.
+/// This number of entries fills the capacity of their lists.
 const COUNT: u64 = 1_024;
 
-/// The bytes that entries take in a world that is made on a heap of its own. All come back when it is dropped.
+/// The bytes that entries take in a world that is made on a heap of its own. All of them are given back when it is
+/// dropped.
 fn bytes_for_replies(alloc: Global, way: Way) -> Option<usize> {
     let heap = LocalHeap::new(alloc, 1 << 20).ok()?;
     let fresh = heap.used();
@@ -67,7 +68,7 @@ fn bytes_for_replies(alloc: Global, way: Way) -> Option<usize> {
     if heap.used() == fresh { bytes } else { None }
 }
 
-/// The same of a world that has readers.
+/// The same for a world that has readers.
 fn bytes_for_readers(alloc: Global, way: Way) -> Option<usize> {
     let heap = LocalHeap::new(alloc, 1 << 20).ok()?;
     let fresh = heap.used();
@@ -77,17 +78,17 @@ fn bytes_for_readers(alloc: Global, way: Way) -> Option<usize> {
     if heap.used() == fresh { bytes } else { None }
 }
 
-/// The log's first block, its draft, and what the lists of a world have to spare.
+/// The log's first block, its draft, and the spare capacity of the lists of a world.
 const FIXED: usize = 65_536 + 6_144;
 
-/// Whether these bytes are so many for each entry at most, and what the log takes anyway.
+/// Whether these bytes are at most this number for each entry, and what the log takes in any case.
 fn is_within(bytes: Option<usize>, each: usize) -> bool {
     let most = each.saturating_mul(COUNT as usize).saturating_add(FIXED);
     bytes.is_some_and(|count| count <= most)
 }
 
-/// An entry takes a row of the log's index besides its line, a packet its place, and an entry that waits to be applied
-/// its moves.
+/// An entry takes a row of the log's index besides its line, a packet its index, and an entry that waits to be
+/// applied its moves.
 #[test]
 fn bytes_of_a_scripts_entries(rt: HostRuntime) {
     assert!(rt; is_within(bytes_for_replies(rt.alloc(), Way::Issued), 12));
@@ -110,10 +111,10 @@ fn bytes_of_entries_for_readers(rt: HostRuntime) {
     assert!(rt; taken == bytes_for_readers(rt.alloc(), Way::Arrived));
 }
 
-/// How many entries come in reverse order, so that all but the last of them are held.
+/// How many entries arrive in reverse order, so that all but the last of them are held.
 const HELD: u64 = 32;
 
-/// Whether so many entries are published, arrive in reverse order, and are all taken.
+/// Whether this number of entries is published, arrives in reverse order, and is taken.
 fn come_in_reverse<A: Allocator + Copy, K: Keeping>(world: &mut World<A, K>, before: u64) -> bool {
     for own in 1..=HELD {
         if !goes(world, before.saturating_add(own), Way::Published) {
@@ -129,7 +130,7 @@ fn come_in_reverse<A: Allocator + Copy, K: Keeping>(world: &mut World<A, K>, bef
     are_taken(world, before)
 }
 
-/// Whether so many entries behind this number are taken, and no more.
+/// Whether this number of entries after this number is taken, and no more.
 fn are_taken<A: Allocator + Copy, K: Keeping>(world: &mut World<A, K>, before: u64) -> bool {
     for own in 1..=HELD {
         let number = before.saturating_add(own);
@@ -144,7 +145,7 @@ fn are_taken<A: Allocator + Copy, K: Keeping>(world: &mut World<A, K>, before: u
     )
 }
 
-/// The bytes that all entries take where they come in reverse order, by what a world keeps.
+/// The bytes that all entries take if they arrive in reverse order, by what a world keeps.
 fn bytes_with_gaps<K: Keeping>(
     heap: &LocalHeap,
     world: &mut World<&LocalHeap, K>,
@@ -176,7 +177,7 @@ fn gaps_for_readers(alloc: Global) -> Option<usize> {
     if heap.used() == fresh { bytes } else { None }
 }
 
-/// Entries that were held take no more bytes in a script's world once they were applied, and in one for readers the
+/// Once applied, entries that were held take no more bytes in a script's world, and in one for readers those of the
 /// list of what reached it.
 #[test]
 fn bytes_of_entries_that_were_held(rt: HostRuntime) {
@@ -184,7 +185,7 @@ fn bytes_of_entries_that_were_held(rt: HostRuntime) {
     assert!(rt; is_within(gaps_for_readers(rt.alloc()), 300));
 }
 
-/// How many requests a script's world makes until so many entries got so far.
+/// How many requests a script's world makes until this number of entries has reached this stage.
 fn requests_until(alloc: Global, count: u64, way: Way) -> Option<u64> {
     requests_of(alloc, |memory| goes_on(memory, count, way))
 }
@@ -202,8 +203,8 @@ fn requests_of_more(alloc: Global, way: Way) -> Option<u64> {
     requests_until(alloc, 128, way)?.checked_sub(some)
 }
 
-/// An entry that is issued or published makes no request but where a list doubles its room. One that arrives makes one,
-/// for its moves, and none where it is taken.
+/// An entry that is issued or published makes no request unless a list doubles its capacity. One that arrives makes
+/// one, for its moves, and none when it is taken.
 #[test]
 fn requests_of_entries(rt: HostRuntime) {
     let bounds = [
@@ -221,7 +222,7 @@ fn requests_of_entries(rt: HostRuntime) {
     }
 }
 
-/// Whether so many beats are told.
+/// Whether this number of beats is sent.
 fn beats<A: Allocator + Copy>(memory: &Refusing<A>, count: u64) -> bool {
     let Ok(mut world) = World::for_replies(memory, 2) else {
         return memory.refused();
@@ -238,7 +239,8 @@ fn requests_of_beats(alloc: Global, count: u64) -> Option<u64> {
     requests_of(alloc, |memory| beats(memory, count))
 }
 
-/// A beat makes one request, for its line, and two more where the lists of packets and of their lines double their room.
+/// A beat makes one request, for its line, and two more when the lists of packets and of their lines double their
+/// capacity.
 #[test]
 fn requests_of_beats_lines(rt: HostRuntime) {
     let some = requests_of_beats(rt.alloc(), 64).expect(&rt, "beats");

@@ -1,4 +1,4 @@
-//! Events with each growth refused: the lists are as they were, and the world has ended.
+//! Events with each memory request refused: the lists are unchanged, and the world has ended.
 use crate::tests::MANY;
 use refusing_allocator::Refusing;
 use rights_types::{Entry, OutOfMemory, SiteId};
@@ -18,7 +18,7 @@ fn two() -> SiteId {
     SiteId::known(2)
 }
 
-/// The text of an entry of site 2 that is none.
+/// The text of an entry of site 2 that is not valid.
 const NOISE: &[u8] = b"E 2 0 1 I:0\n";
 
 /// A post of site 1.
@@ -27,8 +27,8 @@ fn post<A: Allocator>(alloc: A) -> Result<Event<A>, OutOfMemory> {
     Ok(Event::Post(one(), Moves::new(moves)))
 }
 
-/// A post of site 2 that leaves it the rights that it had. With three of them before each, what it serves is its fifth
-/// entry and the closing one its ninth, for which the log's index has no room.
+/// A post of site 2 after which it holds the rights that it held before. With three of them before each, what it
+/// serves is its fifth entry and the closing one its ninth, for which the log's index has no capacity.
 fn idle_post<A: Allocator>(alloc: A) -> Result<Event<A>, OutOfMemory> {
     let moves = Vec::from_slice(alloc, &[issue(1), spend(1)])?;
     Ok(Event::Post(two(), Moves::new(moves)))
@@ -39,8 +39,8 @@ fn noise<A: Allocator>(alloc: A) -> Result<Event<A>, OutOfMemory> {
     Ok(Event::Noise(one(), two(), Line::new(text)))
 }
 
-/// A story of two sites, in which each kind of event happens: the second one misses an entry and asks for it, is granted
-/// rights and denied others, and closes; the first takes back what was on the way.
+/// A scenario of two sites, in which each kind of event happens: the second one misses an entry and queries it, gets
+/// rights granted and others denied, and closes; the first reclaims what was in transit.
 fn event<A: Allocator>(alloc: A, step: usize) -> Result<Event<A>, OutOfMemory> {
     match step {
         1 | 32 => post(alloc),
@@ -50,7 +50,7 @@ fn event<A: Allocator>(alloc: A, step: usize) -> Result<Event<A>, OutOfMemory> {
     }
 }
 
-/// The event of a step that is no post and no noise.
+/// The event of a step that is neither a post nor noise.
 fn plain_event<A: Allocator>(step: usize) -> Event<A> {
     match step {
         0 => Event::Issue(one(), 20),
@@ -85,7 +85,8 @@ fn plain_event<A: Allocator>(step: usize) -> Event<A> {
     }
 }
 
-/// The events that take no memory: spends that wait, plans, a take, an outcome that is read, an expiry, noise, and the
+/// The events that request no memory: spends that wait, plans, a take, an outcome that is read, an expiry, noise, and
+/// the
 /// arrivals of a beat and of a denial.
 fn takes_none(step: usize) -> bool {
     matches!(
@@ -94,7 +95,7 @@ fn takes_none(step: usize) -> bool {
     )
 }
 
-/// A world of eight sites, two of which act, after the first of these events, if no growth was refused.
+/// A world of eight sites, two of which act, after the first of these events, if no memory request was refused.
 fn after<A: Allocator + Copy>(alloc: A, steps: usize) -> Option<World<A>> {
     let mut world = World::new(alloc, 8).ok()?;
     for step in 0..steps {
@@ -106,7 +107,7 @@ fn after<A: Allocator + Copy>(alloc: A, steps: usize) -> Option<World<A>> {
     Some(world)
 }
 
-/// What there is to see of a site of the world.
+/// What can be observed at a site of the world.
 fn site_state<A: Allocator + Copy>(world: &World<A>, site: SiteId, peer: SiteId) -> [u64; 11] {
     [
         world.number(site),
@@ -123,7 +124,7 @@ fn site_state<A: Allocator + Copy>(world: &World<A>, site: SiteId, peer: SiteId)
     ]
 }
 
-/// What there is to see of a world: of both sites, and how many packets were made.
+/// What can be observed in a world: at both sites, and how many packets were made.
 type State = ([u64; 11], [u64; 11], u64);
 
 fn state<A: Allocator + Copy>(world: &World<A>) -> State {
@@ -139,7 +140,7 @@ fn state<A: Allocator + Copy>(world: &World<A>) -> State {
     )
 }
 
-/// Whether it refuses an event that would otherwise happen.
+/// Whether the world refuses an event that would otherwise happen.
 fn has_ended<A: Allocator + Copy>(world: &mut World<A>) -> bool {
     matches!(
         world.step(Event::Take(two(), one())),
@@ -153,19 +154,19 @@ fn state_after<A: Allocator + Copy>(alloc: A, steps: usize) -> Option<State> {
     Some(state(&world))
 }
 
-/// What a run with a growth refused came to.
+/// The result of a run with a memory request refused.
 #[derive(Clone, Copy)]
 enum Run {
-    /// The growth was refused before what the run is about.
+    /// The request was refused before the events that the run is about.
     Early,
-    /// No growth was refused, and this is the state then.
+    /// No request was refused, and this is the state then.
     Whole(State),
-    /// After so many events the growth was refused, this is the state then, and the world has ended.
+    /// After this number of events the request was refused, this is the state then, and the world has ended.
     Refused(usize, State),
     Wrong,
 }
 
-/// Whether the event happens. `None` where it is refused otherwise than for want of memory.
+/// Whether the event happens. `None` if it is refused for another cause than lack of memory.
 fn happens<A: Allocator + Copy>(world: &mut World<A>, next: Event<A>) -> Option<bool> {
     match world.step(next) {
         Ok(_) => Some(true),
@@ -174,7 +175,7 @@ fn happens<A: Allocator + Copy>(world: &mut World<A>, next: Event<A>) -> Option<
     }
 }
 
-/// A run in which the event of this step is to meet the refusal.
+/// A run in which the event of this step is meant to meet the refusal.
 fn run_of<A: Allocator + Copy>(alloc: A, step: usize, granted: u64) -> Run {
     let refusing = Refusing::new(alloc, granted);
     match (after(&refusing, step), event(&refusing, step)) {
@@ -194,7 +195,7 @@ fn run_in<'a, A: Allocator + Copy>(
     came_to(&mut world, refusing, step, done)
 }
 
-/// What the event of this step came to, by whether it happened.
+/// The result of the event of this step, by whether it happened.
 fn came_to<A: Allocator + Copy>(
     world: &mut World<&Refusing<A>>,
     refusing: &Refusing<A>,
@@ -209,8 +210,8 @@ fn came_to<A: Allocator + Copy>(
     }
 }
 
-/// How many growths the event of this step may be refused, where each refusal leaves the world as it was, but ended;
-/// and the last run, which meets none, comes to the world after the event.
+/// How many memory requests of the event of this step may be refused, if each refusal leaves the world unchanged, but
+/// ended; and the last run, which meets none, reaches the world after the event.
 fn growths_of<A: Allocator + Copy>(alloc: A, step: usize) -> Option<u64> {
     let before = state_after(alloc, step)?;
     let behind = state_after(alloc, step.checked_add(1)?)?;
@@ -230,12 +231,12 @@ fn growths_of<A: Allocator + Copy>(alloc: A, step: usize) -> Option<u64> {
 fn each_growth_of_an_event_refused(rt: HostRuntime) {
     for step in 0..EVENTS {
         let growths = growths_of(rt.alloc(), step).expect(&rt, "an event that went well");
-        // A growth may also fall on room that an earlier event has made.
+        // An event that requests memory may also find capacity that an earlier event has made.
         assert!(rt; growths == 0 || !takes_none(step), "at {step}: {growths}");
     }
 }
 
-/// Each of the world's events that takes memory does so at its first time.
+/// Each of the world's events that requests memory does so the first time.
 #[test]
 fn memory_is_taken_where_it_should(rt: HostRuntime) {
     for step in [0usize, 2, 4, 5, 6, 7, 10, 16, 19, 21, 23, 29, 36] {
@@ -244,7 +245,7 @@ fn memory_is_taken_where_it_should(rt: HostRuntime) {
     }
 }
 
-/// Whether the first outcomes are no refusals, the next is one for want of memory, and the others tell
+/// Whether the first outcomes are no refusals, the next is one for lack of memory, and the others say
 /// that the world has ended.
 fn stopped_after<A: Allocator>(outcomes: &[Result<Reply<A>, WorldError>], done: usize) -> bool {
     let Some((front, [Err(WorldError::OutOfMemory), rest @ ..])) = outcomes.split_at_checked(done)
@@ -265,8 +266,8 @@ fn all_events<A: Allocator + Copy>(alloc: A) -> Result<Vec<Event<A>, A>, OutOfMe
     Ok(events)
 }
 
-/// What a run of all events came to where a growth was refused: how many events were done before, and none where there
-/// was no room for the outcomes. `None` where the run went wrong.
+/// The result of a run of all events in which a memory request was refused: how many events were done before, or 0
+/// if there was no room for the outcomes. `None` if the run had another result.
 fn done_by<A: Allocator + Copy>(world: &mut World<A>, events: &[Event<A>]) -> Option<usize> {
     let Ok(outcomes) = world.run(events) else {
         return Some(0);
@@ -298,7 +299,7 @@ fn run_all_in<'a, A: Allocator + Copy>(
     all_came_to(&mut world, refusing, done)
 }
 
-/// What all events came to, by how many were done before a refusal.
+/// The result of all events, by how many were done before a refusal.
 fn all_came_to<A: Allocator + Copy>(
     world: &mut World<&Refusing<A>>,
     refusing: &Refusing<A>,
@@ -335,7 +336,7 @@ fn each_growth_of_a_run_refused(rt: HostRuntime) {
         }
     }
     assert!(rt; whole, "too many growths");
-    // The last event with a growth is the close.
+    // The last event with a memory request is the close.
     assert!(rt; stopped >= 36, "{stopped}");
 }
 
@@ -348,7 +349,7 @@ fn are_first_two<A: Allocator>(entries: &[Entry<A>]) -> bool {
         && second.moves() == [issue(10), spend(1), give(2, 3)].as_slice()
 }
 
-/// What became of a copy of the log.
+/// The result of copying the log.
 #[derive(Clone, Copy)]
 enum Copying {
     /// There was no memory for the events before it.
@@ -390,6 +391,6 @@ fn each_growth_of_a_copied_log_refused(rt: HostRuntime) {
         }
     }
     assert!(rt; whole, "too many growths");
-    // The list is one growth, and each entry another.
+    // The list makes one request, and each entry another.
     assert_eq!(rt; refusals, 3);
 }

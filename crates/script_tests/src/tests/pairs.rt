@@ -1,5 +1,5 @@
-//! Each two sites of worlds of 2 to 16: entries, beats, queries, answers, asks and denials. What gives up at one of them
-//! is proved, since it may always want memory, and is found here.
+//! Each two sites of worlds of 2 to 16: entries, beats, queries, answers, asks and denials. A body that gives up for
+//! one of them can be proved, since it may always run out of memory; it is found here.
 use crate::tests::is_replied;
 use std::alloc::{AllocError, Global};
 use std::test::Fail;
@@ -18,7 +18,7 @@ fn put_issue(lines: &mut Lines, site: u64) -> Result<(), AllocError> {
     lines.replies.push_str("number 1\n")
 }
 
-/// The site tells the peer of its entry, is asked for it, and sends it twice. The peer applies it.
+/// The site sends the peer a beat for its entry, gets a query for it, and sends it twice. The peer applies it.
 fn put_entry(lines: &mut Lines, site: u64, peer: u64) -> Result<(), AllocError> {
     if site == peer {
         return Ok(());
@@ -83,7 +83,7 @@ fn put_asks(lines: &mut Lines, site: u64, sites: u64) -> Result<(), AllocError> 
     Ok(())
 }
 
-/// What happens between each two of so many sites.
+/// What happens between each two of this number of sites.
 fn lines_of(alloc: Global, sites: u64) -> Result<Lines, AllocError> {
     let mut lines = Lines {
         script: format!(in alloc; "sites {sites}\n")?,

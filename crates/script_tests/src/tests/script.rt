@@ -1,12 +1,12 @@
-//! Scripts with ample memory, and with each growth refused.
+//! Scripts with ample memory, and with each memory request refused.
 use crate::tests::MANY;
 use memchr::memchr;
 use refusing_allocator::Refusing;
 use std::alloc::Global;
 use transfer_world::{ScriptFault, run_last_script, run_script};
 
-/// Scripts that lead through all kinds of events: rights that travel, a gap and its answer, an ask that is granted, a
-/// denied one, an heir, and what is taken back.
+/// Scripts with all kinds of events: rights that move, a gap and its answer, an ask that is granted, a denied one, an
+/// heir, and what is taken back.
 const SCRIPTS: [&[u8]; 6] = [
     b"sites 2\npost 1 I:10 S:4 R:2:3\npublish 1 2\narrive 2 1\nreport\ntake 2 1\nreport\n",
     b"sites 2\nissue 1 10\npost 1 S:1 S:1 S:1\npost 1 S:2\npublish 1 2\npublish 1 2\npublish 1 2\narrive 2 3\nquery 2 1\narrive 1 4\narrive 2 5\narrive 2 1\narrive 2 2\narrive 2 3\nreport\n",
@@ -18,7 +18,7 @@ const SCRIPTS: [&[u8]; 6] = [
 
 const REFUSAL: &[u8] = b"error OutOfMemory\n";
 
-/// What comes after the front, where the text begins with it.
+/// What comes after the prefix, if the text begins with it.
 fn rest_after<'a>(text: &'a [u8], front: &[u8]) -> Option<&'a [u8]> {
     if text.len() < front.len() {
         return None;
@@ -58,7 +58,7 @@ fn are_after_end(text: &[u8]) -> bool {
     rest.is_empty()
 }
 
-/// Whether the text is a front of the replies, a refusal for want of memory, and replies of an ended
+/// Whether the text is a prefix of the replies, a refusal for lack of memory, and replies of an ended
 /// world.
 fn ends_the_world(text: &[u8], replies: &[u8]) -> bool {
     for length in 0..text.len() {
@@ -70,8 +70,8 @@ fn ends_the_world(text: &[u8], replies: &[u8]) -> bool {
     false
 }
 
-/// Whether a script that met a refused growth ended as it should: a front of the replies is written, and then the run
-/// stops, or the event is refused and the world has ended.
+/// Whether a script that met a refused memory request ended as it should: a prefix of the replies is written, and
+/// then the run stops, or the event is refused and the world has ended.
 fn is_cut_short(outcome: Result<(), ScriptFault>, text: &[u8], replies: &[u8]) -> bool {
     match outcome {
         Ok(()) => ends_the_world(text, replies),
@@ -87,7 +87,7 @@ fn replies_to(alloc: Global, script: &[u8]) -> Result<Vec<u8>, ScriptFault> {
     Ok(out)
 }
 
-/// Whether a run met a refusal. `None` where it went wrong.
+/// Whether a run met a refusal. `None` if it had another result than it should.
 fn met(
     refusing: &Refusing<Global>,
     outcome: Result<(), ScriptFault>,
@@ -103,7 +103,7 @@ fn met(
     if is_right { Some(is_met) } else { None }
 }
 
-/// Whether the script met a refusal among so many growths.
+/// Whether the script met a refusal with this number of requests granted.
 fn meets_refusal(alloc: Global, script: &[u8], replies: &[u8], granted: u64) -> Option<bool> {
     let refusing = Refusing::new(alloc, granted);
     let mut reader = script;
@@ -112,7 +112,7 @@ fn meets_refusal(alloc: Global, script: &[u8], replies: &[u8], granted: u64) -> 
     met(&refusing, result, &out, replies)
 }
 
-/// The same of a script whose world is left.
+/// The same for a script whose world is left.
 fn last_meets_refusal(alloc: Global, script: &[u8], replies: &[u8], granted: u64) -> Option<bool> {
     let refusing = Refusing::new(alloc, granted);
     let mut reader = script;
@@ -121,7 +121,8 @@ fn last_meets_refusal(alloc: Global, script: &[u8], replies: &[u8], granted: u64
     met(&refusing, result, &out, replies)
 }
 
-/// How many growths of the script were refused, one in each run. `None` where a run went wrong.
+/// How many memory requests of the script were refused, one in each run. `None` if a run had another result than it
+/// should.
 fn refused_growths(alloc: Global, script: &[u8], replies: &[u8]) -> Option<u64> {
     for granted in 0..MANY {
         let is_met = meets_refusal(alloc, script, replies, granted)?;

@@ -1,5 +1,5 @@
-//! Scripts over readers that give a few bytes, over streams that break, and over a reader and a writer
-//! that know of one another.
+//! Scripts over readers that return a few bytes, over streams that fail, and over a reader and a writer
+//! that share a record.
 ghost use Rattle.std.specs.Prelude.{◌≤◌};
 
 use memchr::memchr;
@@ -10,7 +10,7 @@ use std::io::{ErrorKind, Read, Write};
 use test_kit::FewAtATime;
 use transfer_world::{ScriptFault, run_script};
 
-/// A reader that fails where its bytes end.
+/// A reader that fails at the end of its bytes.
 #[derive(Drop)]
 struct Broken<'a>(&'a [u8]);
 
@@ -26,7 +26,7 @@ impl Read for Broken<'_> {
     }
 }
 
-/// A writer that takes so many bytes, one at a time, and then none.
+/// A writer that takes this number of bytes, one at a time, and then none.
 #[derive(Drop)]
 struct Full(u64);
 
@@ -92,7 +92,7 @@ const SCRIPT: &[u8] =
 const REPLIES: &[u8] =
     b"error NoWorld\nerror NoWorld\nerror BadCommand\nerror BadCommand\nerror BadCommand\nerror BadCommand\nerror BadCommand\nerror BadCommand\nerror BadCommand\nerror BadCommand\nok\nerror BadCommand\nerror BadCommand\nerror NoSuchSite\nerror BadCommand\nerror BadCommand\nerror BadCommand\nerror BadCommand\nerror BadCommand\nerror BadCommand\nerror NoSuchSite\nerror NoSuchSite\nerror BadCommand\nerror BadCommand\nerror NoPacket\nerror BadCommand\nerror BadCommand\nerror NoPacket\nerror BadCommand\nerror NoSuchSite\nerror BadCommand\nerror BadCommand\nerror BadCommand\nerror BadCommand\nerror NoSuchSite\nerror BadCommand\nerror BadCommand\nsite 1 number 0 issued 0 spent 0 held 0 closed 0\nsite 2 number 0 issued 0 spent 0 held 0 closed 0\npair 1 2 applied 0 put 0 way 0\npair 2 1 applied 0 put 0 way 0\ntotal issued 0 spent 0 held 0 way 0\n";
 
-/// Whether the script, of which each read gives at most so many bytes, runs to its end with these replies.
+/// Whether the script, of which each read returns at most this number of bytes, runs to its end with these replies.
 fn is_replied_slowly(alloc: Global, script: &[u8], step: usize, replies: &[u8]) -> bool {
     let mut reader = FewAtATime { rest: script, step };
     let mut out = Vec::new(alloc);
@@ -107,7 +107,7 @@ fn replies(rt: HostRuntime) {
     }
 }
 
-/// Adds a post whose line has this length with its line feed.
+/// Adds a post whose line has this length, its line feed included.
 fn add_long_post(script: &mut Vec<u8>, length: usize) -> Result<(), AllocError>
     requires { 7 ≤ length }
 {
@@ -132,7 +132,7 @@ fn long_posts(alloc: Global) -> Result<Vec<u8>, AllocError> {
     Ok(script)
 }
 
-/// Lines of 16,384 bytes with their line feed are the longest, wherever a read ends in them.
+/// Lines of 16,384 bytes, their line feed included, are the longest, wherever a read ends in them.
 #[test]
 fn long_lines(rt: HostRuntime) {
     let script = long_posts(rt.alloc()).expect(&rt, "memory");
@@ -171,14 +171,14 @@ fn write_failed(rt: HostRuntime) {
     assert!(rt; result == Err(ScriptFault::WriteFailed));
 }
 
-/// What was asked and answered between a reader and a writer.
+/// What a reader and a writer did.
 #[derive(Drop)]
 struct Talk {
     asked: Cell<u64>,
     answered: Cell<u64>,
     /// Whether a read came before all replies to the lines of the reads before.
     is_late: Cell<bool>,
-    /// The most bytes that were written at once.
+    /// The greatest number of bytes that were written at once.
     longest: Cell<usize>,
 }
 
@@ -193,7 +193,7 @@ impl Talk {
     }
 }
 
-/// A reader that gives so many lines at a time, each of which has a reply of one line.
+/// A reader that returns this number of lines at a time, each of which has a reply of one line.
 #[derive(Drop)]
 struct Asker<'a> {
     rest: &'a [u8],
@@ -226,7 +226,7 @@ impl Read for Asker<'_> {
     }
 }
 
-/// A writer that takes all, and counts the lines.
+/// A writer that takes all bytes, and counts the lines.
 #[derive(Drop)]
 struct Listener<'a>(&'a Talk);
 
@@ -248,7 +248,7 @@ impl Write for Listener<'_> {
     }
 }
 
-/// So many lines have replies of some blocks.
+/// This number of lines has replies of several blocks.
 const LINES: u64 = 20_000;
 
 /// The first line makes a world, and the others are refused.
@@ -260,7 +260,7 @@ fn many_lines(alloc: Global) -> Result<Vec<u8>, AllocError> {
     Ok(script)
 }
 
-/// Whether the script runs to its end by this talk, in which so many lines come at a time.
+/// Whether the script runs to its end over this record, with this number of lines at a time.
 fn is_talked(alloc: Global, script: &[u8], lines: u64, talk: &Talk) -> bool {
     let mut asker = Asker {
         rest: script,
@@ -270,7 +270,7 @@ fn is_talked(alloc: Global, script: &[u8], lines: u64, talk: &Talk) -> bool {
     run_script(alloc, &mut asker, &mut Listener(talk)).is_ok()
 }
 
-/// All replies to the lines of a read are written before the next read, however many lines a read gives,
+/// All replies to the lines of a read are written before the next read, however many lines a read returns,
 /// and at most a block and a reply at a time.
 #[test]
 fn replies_come_before_the_next_read(rt: HostRuntime) {

@@ -5,7 +5,7 @@ use std::alloc::{AllocError, Global};
 use test_kit::{give, is_entry, issue, site, spend};
 use transfer_world::{EntryVerdict, Event, Moves, Reply, World, WorldError};
 
-/// The move at a place of an entry, and its text.
+/// The move at an index of an entry, and its text.
 fn move_at(place: usize) -> (Move, &'static [u8]) {
     match place % 3 {
         0 => (issue(20), b" I:20"),
@@ -62,7 +62,7 @@ fn are_all_sizes(alloc: Global, entries: &[Entry]) -> Result<bool, OutOfMemory> 
     Ok(right)
 }
 
-/// Whether the world has all entries wherever it should.
+/// Whether the world has all entries wherever they should be.
 fn has_all(alloc: Global, world: &World) -> Result<bool, OutOfMemory> {
     let log = world.log(site(1))?;
     Ok(
@@ -137,7 +137,7 @@ fn steps_with_entries_of_each_size(rt: HostRuntime) {
     assert!(rt; has_all(rt.alloc(), &world) == Ok(true));
 }
 
-/// The text of so many moves.
+/// The text of this number of moves.
 fn words(alloc: Global, count: usize) -> Result<Vec<u8>, AllocError> {
     let mut words = Vec::new(alloc);
     for place in 0..count {

@@ -1,5 +1,5 @@
-//! Worlds, runs and scripts over many sizes with ample memory. What gives up on one of them is proved, since it may
-//! always want memory, and is found here.
+//! Worlds, runs and scripts over many sizes with ample memory. A body that gives up for one of them can be proved,
+//! since it may always run out of memory; it is found here.
 use crate::tests::is_replied;
 use linked_list_allocator::LocalHeap;
 use refusing_allocator::Refusing;
@@ -12,13 +12,13 @@ use std::test::Fail;
 use test_kit::{is_entry, issue, site};
 use transfer_world::{Event, Reply, World, WorldError, run_script};
 
-/// A world of so many sites.
+/// A world of this number of sites.
 fn world_of(rt: &impl Abort, alloc: Global, sites: u64) -> World {
     assert!(rt; 2 <= sites && sites <= 16);
     World::new(alloc, sites).expect(rt, "memory")
 }
 
-/// Whether each site of the world issues a right, and no site behind them does.
+/// Whether each site of the world issues a right, and no site beyond them does.
 fn is_a_world_of(world: &mut World, sites: u64) -> bool {
     for number in 1..=16u64 {
         let issued = match world.step(Event::Issue(site(number), 1)) {
@@ -41,7 +41,7 @@ fn worlds_of_any_number_of_sites(rt: HostRuntime) {
     }
 }
 
-/// So many rights are issued, one by one.
+/// This number of rights is issued, one by one.
 fn issues(alloc: Global, count: usize) -> Result<Vec<Event>, OutOfMemory> {
     let mut events = Vec::new(alloc);
     for _ in 0..count {
@@ -50,7 +50,7 @@ fn issues(alloc: Global, count: usize) -> Result<Vec<Event>, OutOfMemory> {
     Ok(events)
 }
 
-/// Whether these are the replies to so many issues.
+/// Whether these are the replies to this number of issues.
 fn are_numbered(outcomes: &[Result<Reply, WorldError>], count: usize) -> bool {
     outcomes.len() == count
         && outcomes.iter().enumerate().all(|(
@@ -59,7 +59,7 @@ fn are_numbered(outcomes: &[Result<Reply, WorldError>], count: usize) -> bool {
         )| matches!(outcome, Ok(Reply::Number(own)) if *own == (place as u64).saturating_add(1)))
 }
 
-/// Whether these are the entries of so many issues.
+/// Whether these are the entries of this number of issues.
 fn are_issues(entries: &[Entry], count: usize) -> bool {
     entries.len() == count
         && entries.iter().enumerate().all(|(place, entry)| is_entry(
@@ -70,7 +70,7 @@ fn are_issues(entries: &[Entry], count: usize) -> bool {
         ))
 }
 
-/// Runs of 0 to 64 events, and copies of the logs that they leave.
+/// Runs of 0 to 64 events, and copies of the logs that result.
 #[test]
 fn runs_and_logs_of_any_length(rt: HostRuntime) {
     for count in 0..=64usize {
@@ -85,7 +85,7 @@ fn runs_and_logs_of_any_length(rt: HostRuntime) {
 
 const LETTERS: [u8; 2_000] = [b'x'; 2_000];
 
-/// Lines that begin so, with 0 to 2,000 letters behind that.
+/// Lines that begin with this, followed by 0 to 2,000 letters.
 fn lines_of_letters(alloc: Global, head: &[u8], front: &[u8]) -> Result<Vec<u8>, AllocError> {
     let mut text = Vec::from_slice(alloc, head)?;
     for count in 0..=LETTERS.len() {
@@ -105,7 +105,7 @@ fn replies_to_letters(alloc: Global, head: &[u8], reply: &[u8]) -> Result<Vec<u8
     Ok(text)
 }
 
-/// Lines of no form, of 1 to 2,001 bytes with their line feed.
+/// Malformed lines, of 1 to 2,001 bytes with their line feed.
 #[test]
 fn lines_of_no_form_of_every_length(rt: HostRuntime) -> Result<(), Fail> {
     let script = lines_of_letters(rt.alloc(), b"", b"")?;
@@ -123,7 +123,7 @@ fn noise_of_every_length(rt: HostRuntime) -> Result<(), Fail> {
     Ok(())
 }
 
-/// The report of sites of which nothing has happened yet.
+/// The report of sites at which nothing has happened yet.
 fn new_report(alloc: Global, sites: u64) -> Result<Vec<u8>, AllocError> {
     let mut text = String::from_str(alloc, "ok\n")?;
     put_sites(&mut text, sites)?;
@@ -181,7 +181,8 @@ impl Write for Counting {
     }
 }
 
-/// How many bytes of replies a script of so many reports gets on a heap of 4 MiB, with so many requests granted.
+/// How many bytes of replies a script of this number of reports gets on a heap of 4 MiB, with this number of requests
+/// granted.
 fn bytes_on_a_heap(alloc: Global, reports: usize, requests: u64) -> Option<usize> {
     let heap = LocalHeap::new(alloc, 1 << 22).ok()?;
     let memory = Refusing::new(&heap, requests);
@@ -199,7 +200,7 @@ fn bytes_on_a_heap(alloc: Global, reports: usize, requests: u64) -> Option<usize
     }
 }
 
-/// Replies of 10 MB are passed on block by block, on a heap of 4 MiB and by 1,000 requests for memory, most of which
+/// Replies of 10 MB are passed on block by block, on a heap of 4 MiB and with 1,000 memory requests, most of which
 /// make the world.
 #[test]
 fn ten_megabytes_of_replies(rt: HostRuntime) {
@@ -230,8 +231,8 @@ fn bytes_on_a_small_heap(alloc: Global) -> Option<usize> {
     Some(writer.0)
 }
 
-/// What a script takes besides its world: a block of what is read, the first bytes of a line, a block of replies, and
-/// the line of noise.
+/// What a script takes besides its world: a block of input, the first bytes of a line, a block of replies, and the
+/// line of noise.
 #[test]
 fn a_script_on_a_small_heap(rt: HostRuntime) {
     let replies = "ok\nnumber 1\nrefused 3\n".len() + 10_000 * "error BadCommand\n".len();

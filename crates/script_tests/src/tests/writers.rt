@@ -3,10 +3,10 @@ use std::alloc::{AllocError, Global};
 use test_kit::Slow;
 use transfer_world::{ScriptFault, run_script};
 
-/// So many reports are more than a run keeps before it writes.
+/// This number of reports is more than a run keeps before it writes.
 const REPORTS: usize = 25;
 
-/// A line, and another text as often as there are reports.
+/// A line, followed by another text as often as there are reports.
 fn with_reports(alloc: Global, line: &[u8], text: &[u8]) -> Result<Vec<u8>, AllocError> {
     let mut all = Vec::from_slice(alloc, line)?;
     for _ in 0..REPORTS {
@@ -15,7 +15,7 @@ fn with_reports(alloc: Global, line: &[u8], text: &[u8]) -> Result<Vec<u8>, Allo
     Ok(all)
 }
 
-/// The reply to many reports, by that to one.
+/// The reply to many reports, from that to one.
 fn many_replies(alloc: Global) -> Result<Option<Vec<u8>>, ScriptFault> {
     let mut once = Vec::new(alloc);
     run_script(alloc, &mut b"sites 16\nreport\n".as_slice(), &mut once)?;
@@ -25,7 +25,7 @@ fn many_replies(alloc: Global) -> Result<Option<Vec<u8>>, ScriptFault> {
     }
 }
 
-/// Whether a writer that takes at most so many bytes at a time gets these replies.
+/// Whether a writer that takes at most this number of bytes at a time gets these replies.
 fn is_written(alloc: Global, script: &[u8], step: usize, replies: &[u8]) -> bool {
     let mut writer = Slow {
         text: Vec::new(alloc),

@@ -1,4 +1,4 @@
-//! Appliers of all other sites at one desk, and the longest entry that goes over a lane.
+//! Appliers of all other sites at one desk, and the longest entry that passes over a lane.
 ghost use Rattle.std.specs.Prelude.{◌≡◌, ◌≤◌};
 ghost use Rattle.apply_lanes.specs.Names.{id_of, AreBlank, IsUnused};
 
@@ -37,7 +37,7 @@ const GIFTS: [&str; 15] = [
 const LONGEST: &str =
     "E 2 0 16 I:20 R:1:1 R:1:1 R:1:1 R:1:1 R:1:1 R:1:1 R:1:1 R:1:1 R:1:1 R:1:1 R:1:1 R:1:1 R:1:1 R:1:1 R:1:1\n";
 
-// What the applier of that origin told, once it has applied the entry of that line.
+// What the applier of that origin reports, once it has applied the entry of that line.
 fn applied_of<D: DeskNames, R: Wait + Clock + Abort>(
     rt: &R,
     alloc: Global,
@@ -123,7 +123,7 @@ fn the_longest<D: DeskNames, R: Wait + Clock + Abort>(
     report_of(rt, parts)
 }
 
-/// An entry of sixteen moves goes over a lane, and is applied.
+/// An entry of sixteen moves passes over a lane, and is applied.
 #[test]
 fn sixteen_moves_over_a_lane(rt: HostRuntime) {
     let desk = desk_among(&rt, rt.alloc(), 16);

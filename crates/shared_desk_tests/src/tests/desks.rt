@@ -9,7 +9,7 @@ use std::alloc::{Allocator, Global};
 use std::process::Abort;
 use std::sync::Wait;
 
-/// A desk of that site among so many, to which nothing happened.
+/// A desk of that site in a system of this many, at which nothing has happened.
 pub(crate) fn new_desk<A: Allocator + Copy>(
     alloc: A,
     me: u64,
@@ -22,7 +22,7 @@ pub(crate) fn new_desk<A: Allocator + Copy>(
     Desk::new(alloc, SiteId::known(me), sites)
 }
 
-/// The same of site 1, with ample memory.
+/// The same for site 1, with ample memory.
 pub(crate) fn desk_among<R: Abort>(rt: &R, alloc: Global, sites: u64) -> Desk
     requires { (2 ≤ sites) × (sites ≤ 16) }
     ensures { IsUnused result }
@@ -46,7 +46,7 @@ pub(crate) fn clock_seat_at<D: DeskNames, A: Allocator + Copy, R: Wait + Abort>(
     desk.clock_seat(rt).expect(rt, "the clock's seat")
 }
 
-/// Issues rights by a seat.
+/// Issues rights through a seat.
 pub(crate) fn issue<D: DeskNames, R: Wait + Abort>(
     rt: &R,
     desk: &SharedDesk<D>,

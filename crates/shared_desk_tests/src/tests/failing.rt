@@ -28,7 +28,7 @@ fn is_dead<R: Wait>(rt: &R, intake: &mut Intake) -> bool
         && intake.finish(rt).is_err()
 }
 
-// What comes to an applier that is gone.
+// The intake of an applier that is gone.
 fn an_intake<D: DeskNames, R: Wait + Abort>(rt: &R, alloc: Global, desk: &SharedDesk<D>) -> Intake
     ensures { result.finished ≡ false }
 {
@@ -59,7 +59,7 @@ fn a_dropped_applier<D: DeskNames, R: Wait + Abort>(
     desk.lock(rt).view()
 }
 
-/// Once its applier is gone an intake is dead, and the desk goes on as it was.
+/// Once its applier is gone an intake is dead, and the desk continues unchanged.
 #[test]
 fn an_intake_without_its_applier(rt: HostRuntime) {
     let desk = desk_among(&rt, rt.alloc(), 3);

@@ -17,7 +17,7 @@ use std::thread;
 use std::thread::Threads;
 use std::time::{Clock, Duration};
 
-/// A gate that waits for another one, and notes that it waited too long.
+/// A gate that waits for another one, and records that it waited too long.
 #[derive(Drop)]
 struct Meeting {
     come: Arc<AtomicU64>,
@@ -56,7 +56,7 @@ fn gate<R: Abort>(rt: &R, come: &Arc<AtomicU64>, late: &Arc<AtomicU64>) -> Meeti
     }
 }
 
-// The applier of that origin's log, and what comes to it: the entry of that line, and then End.
+// The applier of that origin's log, and its intake: with the entry of that line, and then End.
 fn fed_applier<D: DeskNames, R: Wait + Abort>(
     rt: &R,
     alloc: Global,
@@ -102,7 +102,7 @@ fn apply_both<D: DeskNames + Send + Sync, R: Threads + Wait + Clock + Abort + Sy
     )
 }
 
-// What both told, once they have met at their gates.
+// What both report, once they have met at their gates.
 fn applied_at<D: DeskNames + Send + Sync, R: Threads + Wait + Clock + Abort + Sync>(
     rt: &R,
     alloc: Global,
@@ -118,7 +118,7 @@ fn applied_at<D: DeskNames + Send + Sync, R: Threads + Wait + Clock + Abort + Sy
     pushed(rt, pushed(rt, Vec::new(alloc), one), other)
 }
 
-// The same at gates that wait for each other.
+// The same with gates that wait for each other.
 fn met_at<D: DeskNames + Send + Sync, R: Threads + Wait + Clock + Abort + Sync>(
     rt: &R,
     alloc: Global,
@@ -161,7 +161,7 @@ fn is_of_both(report: &Report) -> bool {
     all && report.issued == 0 && report.spent == 0 && report.given == 0 && report.back == 0
 }
 
-/// Each of two appliers comes to its gate before either has passed: none holds the lock there.
+/// Each of two appliers reaches its gate before either has passed: neither holds the lock there.
 #[test]
 fn two_appliers_meet(rt: HostRuntime) {
     let desk = desk_among(&rt, rt.alloc(), 3);

@@ -1,4 +1,4 @@
-//! Calls of a shared desk with each growth refused.
+//! Calls of a shared desk with each memory request refused.
 ghost use Rattle.std.specs.Prelude.{◌≡◌};
 ghost use Rattle.apply_lanes.specs.Names.{id_of, AreBlank, IsUnused};
 
@@ -18,7 +18,7 @@ use std::sync::Wait;
 use std::time::Clock;
 use test_kit::requests_of;
 
-/// A call of a desk of site 1 of two, where 2 is the peer.
+/// A call of a desk of site 1 of two, with 2 as the peer.
 #[derive(Clone, Copy)]
 enum Call {
     Issue(u64),
@@ -29,16 +29,16 @@ enum Call {
     AskLine,
     Publish,
     Beat,
-    /// The peer asks for the first entry.
+    /// The peer queries the first entry.
     Query,
-    /// The peer asks for so many rights, by the ask of that number.
+    /// The peer asks for this number of rights, with the ask of that number.
     Asked(u64, u64),
     /// The next entry of the peer is applied.
     Apply,
     Close,
 }
 
-/// What a call came to.
+/// The result of a call.
 #[derive(Clone, Copy, PartialEq, Eq)]
 enum Outcome {
     Done,
@@ -109,7 +109,7 @@ fn query<D: DeskNames>(kept: &Kept<D, Refused>) -> Outcome {
     }
 }
 
-// The ask of the peer, of that number and amount.
+// The ask of the peer, with that number and amount.
 fn an_ask(number: u64, amount: u64) -> Option<Ask> {
     let number = AskNumber::new(number).ok()?;
     let amount = Amount::new(amount).ok()?;
@@ -175,7 +175,7 @@ fn made<D: DeskNames, R: Wait + Clock>(
     }
 }
 
-// What the desk looks like, and what the seat was told.
+// The state of the desk, and what the seat's calls reported.
 fn seen<D: DeskNames, R: Wait>(
     rt: &R,
     desk: &SharedDesk<D, Refused>,
@@ -185,7 +185,7 @@ fn seen<D: DeskNames, R: Wait>(
     (desk.lock(rt).view(), told)
 }
 
-// Makes the call. Where it finds no memory it has changed nothing, and succeeds when it is made again.
+// Makes the call. If it runs out of memory it has changed nothing, and succeeds when it is made again.
 fn is_made<D: DeskNames, R: Wait + Clock>(
     rt: &R,
     desk: &SharedDesk<D, Refused>,
@@ -224,7 +224,7 @@ const CALLS: [Call; 18] = [
     Call::Publish,
 ];
 
-// Makes all calls, which leave the desk and the seat as is known.
+// Makes all calls, whose effect on the desk and the seat is known.
 fn make_all<D: DeskNames, R: Wait + Clock + Abort>(
     rt: &R,
     desk: &SharedDesk<D, Refused>,
@@ -238,7 +238,7 @@ fn make_all<D: DeskNames, R: Wait + Clock + Abort>(
     assert!(rt; told == [40, 1, 20] && is_final(&view));
 }
 
-// What comes from the peer, and its applier.
+// The intake for the peer, and its applier.
 fn fed_applier<D: DeskNames, R: Wait + Abort>(
     rt: &R,
     alloc: Global,
@@ -249,7 +249,7 @@ fn fed_applier<D: DeskNames, R: Wait + Abort>(
     (intake, applier_at(rt, desk, 2, outlet, Free))
 }
 
-// Each call does what it should, or changes nothing for want of memory and does it then.
+// Each call does what it should, or changes nothing for lack of memory and then does it.
 fn make_each_call<D: DeskNames, R: Wait + Clock + Abort>(
     rt: &R,
     alloc: Global,
@@ -282,7 +282,7 @@ fn tried<R: Wait + Clock + Abort>(rt: &R, alloc: Global, memory: Refused) -> boo
     }
 }
 
-/// A call that finds no memory leaves the desk, and what its seat was told, as they were, and may be made
+/// A call that runs out of memory leaves the desk, and what its seat's calls reported, unchanged, and may be made
 /// again.
 #[test]
 fn each_growth_refused(rt: HostRuntime) {

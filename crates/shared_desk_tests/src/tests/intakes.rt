@@ -1,4 +1,4 @@
-//! An intake with each growth refused.
+//! An intake with each memory request refused.
 ghost use Rattle.std.specs.Prelude.{◌≡◌, false};
 
 use crate::tests::links::link_in;
@@ -22,7 +22,7 @@ fn is_want_of_memory(error: IntakeError) -> bool {
     )
 }
 
-// Takes the line in. Where it finds no memory it has changed nothing, and it is taken in when it comes again.
+// Takes the line in. If it runs out of memory it has changed nothing, and it is taken in when it arrives again.
 fn heard<R: Wait>(rt: &R, intake: &mut Intake<Refused>, line: &str) -> Option<Arrived>
     requires { intake.old.finished ≡ false }
     ensures { intake.new.finished ≡ false }
@@ -49,7 +49,7 @@ fn counts(ready: usize, held: usize) -> Option<Arrived> {
     }))
 }
 
-// The query for the gap. Where its line finds no memory the gap counts as asked for.
+// The query for the gap. If there is no memory for its line, the gap counts as queried.
 fn asks_once(intake: &mut Intake<Refused>) -> bool
     ensures { intake.new.finished ≡ intake.old.finished }
 {
@@ -69,7 +69,7 @@ fn asks_again(intake: &mut Intake<Refused>) -> bool
     }
 }
 
-// Each line does what it should, the second time where it found no memory.
+// Each line does what it should, the second time if it ran out of memory.
 fn hear_each_line<R: Wait + Abort>(rt: &R, intake: &mut Intake<Refused>)
     requires { intake.old.finished ≡ false }
 {
@@ -101,8 +101,8 @@ fn tried<R: Wait + Abort>(rt: &R, memory: Refused) -> bool {
     }
 }
 
-/// A line that finds no memory has changed nothing, and is taken in when it comes again. A query that finds
-/// none has asked.
+/// A line that runs out of memory has changed nothing, and is taken in when it arrives again. A query that runs
+/// out of memory counts as made.
 #[test]
 fn each_growth_of_an_intake_refused(rt: HostRuntime) {
     let requests = requests_of(rt.alloc(), |memory| tried(&rt, memory));

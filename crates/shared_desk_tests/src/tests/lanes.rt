@@ -1,4 +1,4 @@
-//! Lanes and counters, by one thread and by two.
+//! Lanes and counters, with one thread and with two.
 ghost use Rattle.std.specs.Prelude.{◌≡◌, ◌+◌, ◌≤◌, [], false, true, IfSome};
 ghost use Rattle.rights_types.specs.Entries.{EntryValue, IsEntry, own, closes};
 ghost use Rattle.thread_parts.specs.Items.{Continues, IsOpen, MayBeFirst, Precedes};
@@ -15,7 +15,7 @@ use std::thread;
 use std::thread::Threads;
 use test_kit::requests_of;
 
-/// The ends of a new lane of so many places.
+/// The ends of a new lane with this capacity.
 fn lane_of<R: Abort>(rt: &R, alloc: Global, places: usize) -> (Inlet, Outlet)
     requires { (1 ≤ places) × (places ≤ 32) }
     ensures lane { result.1.lane ≡ result.0.lane }
@@ -89,7 +89,7 @@ fn put_log<R: Wait + Abort>(
     end(rt, inlet)
 }
 
-/// Puts so many entries, and then End.
+/// Puts this number of entries, and then End.
 fn put_all<R: Wait + Abort>(rt: &R, alloc: Global, mut inlet: Inlet, count: u64) -> Inlet
     requires { inlet.put ≡ [] }
     ensures { result.lane ≡ inlet.lane }
@@ -101,7 +101,7 @@ fn put_all<R: Wait + Abort>(rt: &R, alloc: Global, mut inlet: Inlet, count: u64)
     end(rt, inlet)
 }
 
-/// The entry that comes back, where the lane is closed.
+/// The entry that is returned if the lane is closed.
 fn refused<R: Wait>(rt: &R, inlet: &mut Inlet, entry: Entry) -> Option<Entry>
     requires { Continues inlet.old.put entry }
     ensures { IfSome result (λ back. (back ≡ entry) × (inlet.new.put ≡ inlet.old.put)) }
@@ -149,7 +149,7 @@ fn takes_end<R: Wait>(rt: &R, outlet: &mut Outlet) -> bool
     matches!(outlet.take(rt), Ok(Item::End))
 }
 
-/// Takes all items to End: how many entries came, and whether each came after the one before it.
+/// Takes all items up to End: how many entries were taken, and whether each came after the one before it.
 fn take_all<R: Wait>(rt: &R, mut outlet: Outlet) -> (Outlet, u64, bool)
     requires { outlet.taken ≡ [] }
     ensures { result.0.lane ≡ outlet.lane }
@@ -174,7 +174,7 @@ fn take_all<R: Wait>(rt: &R, mut outlet: Outlet) -> (Outlet, u64, bool)
     (outlet, count, in_order)
 }
 
-/// A thousand entries pass through a lane of one place between two threads, in order.
+/// A thousand entries pass through a lane of capacity one between two threads, in order.
 #[test]
 fn a_thousand_entries_between_two_threads(rt: HostRuntime) {
     let alloc = rt.alloc();
@@ -205,7 +205,7 @@ fn an_entry_and_end(rt: HostRuntime) {
     let _outlet = ends_taken_in(inlet, outlet);
 }
 
-/// An entry of two moves and the one that closes the log come as they were put, and then End.
+/// An entry of two moves and the one that closes the log are taken as they were put, and then End.
 #[test]
 fn a_log_to_its_closing_entry(rt: HostRuntime) {
     let gift = [
@@ -225,7 +225,7 @@ fn a_log_to_its_closing_entry(rt: HostRuntime) {
     let _outlet = ends_taken_in(inlet, outlet);
 }
 
-// Whether the entry comes back, and again where it is put once more.
+// Whether the entry is returned, and again if it is put once more.
 fn is_refused_twice<R: Wait>(rt: &R, inlet: &mut Inlet, entry: Entry) -> bool
     requires { Continues inlet.old.put entry }
     ensures { result ≡ true → inlet.new.put ≡ inlet.old.put }
@@ -236,7 +236,7 @@ fn is_refused_twice<R: Wait>(rt: &R, inlet: &mut Inlet, entry: Entry) -> bool
     entry.own() == 1 && refused(rt, inlet, entry).is_some_and(|back| back.own() == 1)
 }
 
-/// Once the outlet is gone, an entry comes back, and so it is with each later call.
+/// Once the outlet is gone, an entry is returned, in each later call too.
 #[test]
 fn no_outlet(rt: HostRuntime) {
     let (mut inlet, outlet) = lane_of(&rt, rt.alloc(), 1);
@@ -255,7 +255,7 @@ fn no_inlet(rt: HostRuntime) {
     assert!(rt; outlet.take(&rt).is_err());
 }
 
-/// Each growth that a lane needs is refused in turn, until it is made.
+/// Each memory request of a lane is refused in turn, until the lane is made.
 #[test]
 fn each_growth_of_a_lane_refused(rt: HostRuntime) {
     let requests = requests_of(
@@ -265,7 +265,7 @@ fn each_growth_of_a_lane_refused(rt: HostRuntime) {
     assert!(rt; requests.is_some_and(|count| count > 0));
 }
 
-/// Adds one so many times, and answers the shard.
+/// Adds one this number of times, and returns the shard.
 fn add_ones<L: Ledger, R: Wait>(
     rt: &R,
     counter: &Mutex<ShardedCounter<L>>,
@@ -281,7 +281,7 @@ fn add_ones<L: Ledger, R: Wait>(
     shard
 }
 
-/// Two threads add to one sum, each with its shard: when both are back, the sum is what they told.
+/// Two threads add to one sum, each with its shard: when both are back, the sum is what they report.
 fn two_shards<L: Ledger + Send + Sync, R: Threads + Wait + Abort + Sync>(rt: &R, blank: Blank)
     requires name { blank.name ≡ L.name }
     requires parts { (blank.parts ≡ L.parts) × (L.parts ≡ 3) }

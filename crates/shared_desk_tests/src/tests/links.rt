@@ -1,4 +1,4 @@
-//! What other sites send: lines into an intake, and their lanes.
+//! The input from other sites: lines into an intake, and their lanes.
 ghost use Rattle.std.specs.Prelude.{◌≡◌, ◌≤◌, [], false, IfOk};
 
 use apply_lanes::{Intake, Outlet, lane};
@@ -8,7 +8,7 @@ use std::alloc::{Allocator, Global};
 use std::process::Abort;
 use std::sync::Wait;
 
-/// What comes to site 1 from that origin, and the end of its lane.
+/// The intake of site 1 for that origin, and the outlet of its lane.
 pub(crate) fn link_in<A: Allocator + Copy>(
     alloc: A,
     origin: u64,

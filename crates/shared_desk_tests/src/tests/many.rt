@@ -1,4 +1,4 @@
-//! Many calls at once: eight seats and three appliers at one desk, in an order that no hand wrote.
+//! Many concurrent calls: eight seats and three appliers at one desk, in a random order.
 ghost use Rattle.std.specs.Prelude.{◌≡◌, ◌≤◌, false};
 ghost use Rattle.apply_lanes.specs.Names.{id_of, AreBlank, IsUnused};
 
@@ -19,13 +19,13 @@ use std::thread::Threads;
 use std::time::Clock;
 use test_kit::Dice;
 
-// Calls of each of eight seats.
+// The number of calls of each of eight seats.
 const CALLS: u64 = 12_500;
 
-// Entries of each of three origins. Each gives two rights to the desk's site.
+// The number of entries of each of three origins. Each gives two rights to the desk's site.
 const ENTRIES: u64 = 1_000;
 
-/// The rights that a holder of a seat was told.
+/// The rights that were reported to the holder of a seat.
 #[derive(Clone, Copy)]
 struct Confirmed {
     issued: u64,
@@ -41,7 +41,7 @@ const NOTHING: Confirmed = Confirmed {
     given: 0,
 };
 
-/// A seat, and what its holder was told.
+/// A seat, and what was reported to its holder.
 #[derive(Drop)]
 struct Player<D: DeskNames> {
     seat: Seat<D>,
@@ -49,7 +49,7 @@ struct Player<D: DeskNames> {
     confirmed: Confirmed,
 }
 
-// Calls under the lock, and what they told: in functions of their own, as a check of many together takes long.
+// Calls under the lock, and what they reported: in functions of their own, as a check of many together takes long.
 
 fn issued<D: DeskNames>(kept: &mut Kept<D>, seat: &mut Seat<D>, amount: u64) -> u64 {
     match kept.issue(seat, amount) {
@@ -68,7 +68,7 @@ fn spent<D: DeskNames>(kept: &mut Kept<D>, seat: &mut Seat<D>, amount: u64) -> u
 fn served<D: DeskNames>(kept: &mut Kept<D>, seat: &mut Seat<D>) -> u64 {
     match kept.serve(seat) {
         Ok(Some((ticket, number, amount))) => {
-            // Its slot is free again once its outcome is told.
+            // Its slot is free again once its outcome is read.
             let outcome = kept.status(ticket);
             if outcome == Status::Spent(number) {
                 amount
@@ -115,7 +115,7 @@ impl<D: DeskNames> Player<D> {
     }
 }
 
-/// What comes from an origin.
+/// The input from an origin.
 #[derive(Drop)]
 struct Feeder {
     intake: Intake,
@@ -129,7 +129,7 @@ fn make_feeder(intake: Intake, origin: u64) -> Feeder
     Feeder { intake, origin }
 }
 
-// The line of the origin's entry behind that number.
+// The line of the origin's entry after that number.
 fn line_of<R: Abort>(rt: &R, alloc: Global, origin: u64, number: u64) -> String {
     let own = number.wrapping_add(1);
     format!(in alloc; "E {origin} {number} {own} R:1:2\n").expect(rt, "memory")
@@ -153,7 +153,7 @@ impl Feeder {
     }
 }
 
-// What the applier told, once it has applied its log.
+// What the applier reports, once it has applied its log.
 fn apply_all<D: DeskNames, R: Wait + Clock + Abort>(
     rt: &R,
     desk: &SharedDesk<D>,
@@ -182,7 +182,7 @@ fn players_at<D: DeskNames, R: Wait + Abort>(
 
 type Links<D> = (Vec<Feeder>, Vec<Applier<D, Free>>);
 
-// What comes from that origin, and its applier.
+// The input from that origin, and its applier.
 fn link_of<D: DeskNames, R: Wait + Abort>(
     rt: &R,
     alloc: Global,
@@ -196,7 +196,7 @@ fn link_of<D: DeskNames, R: Wait + Abort>(
     (feeder, applier_at(rt, desk, origin, outlet, Free))
 }
 
-// What comes from each of three origins, and their appliers.
+// The input from each of three origins, and their appliers.
 fn links_of<D: DeskNames, R: Wait + Abort>(
     rt: &R,
     alloc: Global,
@@ -212,7 +212,7 @@ fn links_of<D: DeskNames, R: Wait + Abort>(
     (feeders, appliers)
 }
 
-// Their seats, and what all of them were told.
+// Their seats, and what was reported to all of them.
 fn seats_of<D: DeskNames, R: Abort>(
     rt: &R,
     alloc: Global,
@@ -249,7 +249,7 @@ fn feed_all<R: Threads + Wait + Abort + Sync>(rt: &R, alloc: Global, feeders: Ve
     thread::map_vec(rt, feeders, &|feeder: Feeder| feeder.feed(rt, alloc)).expect(rt, "memory");
 }
 
-// What all appliers told, once each has applied its log on a thread of its own.
+// What all appliers report, once each has applied its log on a thread of its own.
 fn applied<D: DeskNames + Send + Sync, R: Threads + Wait + Clock + Abort + Sync>(
     rt: &R,
     desk: &SharedDesk<D>,
@@ -265,7 +265,7 @@ fn applied<D: DeskNames + Send + Sync, R: Threads + Wait + Clock + Abort + Sync>
 
 type Played<D> = (Vec<Player<D>>, Vec<Applied<D>>);
 
-// All players and what all appliers told, once all calls are made and all logs applied at once.
+// All players and what all appliers report, once all calls are made and all logs applied concurrently.
 fn play_all<D: DeskNames + Send + Sync, R: Threads + Wait + Clock + Abort + Sync>(
     rt: &R,
     alloc: Global,
@@ -311,7 +311,7 @@ fn a_game<D: DeskNames + Send + Sync, R: Threads + Wait + Clock + Abort + Sync>(
     (report_of(rt, parts), confirmed)
 }
 
-// Whether the report is what the holders of the seats were told.
+// Whether the report equals what was reported to the holders of the seats.
 fn is_confirmed(report: &Report, confirmed: &Confirmed) -> bool {
     report.told_issued == confirmed.issued
         && report.told_spent == confirmed.spent
@@ -321,7 +321,7 @@ fn is_confirmed(report: &Report, confirmed: &Confirmed) -> bool {
         && report.spent == confirmed.spent.wrapping_add(confirmed.served)
 }
 
-// Whether all entries were applied, and what came in went out or is held.
+// Whether all entries were applied, and what was received was spent or given, or is held.
 fn is_even(report: &Report) -> bool {
     let out = report
         .held
@@ -332,7 +332,7 @@ fn is_even(report: &Report) -> bool {
         && out == report.issued.wrapping_add(report.received)
 }
 
-/// A hundred thousand calls of eight seats, beside three appliers: the desk's report is what they were told.
+/// A hundred thousand calls of eight seats, besides three appliers: the desk's report is what their calls reported.
 #[test]
 fn a_hundred_thousand_calls(rt: HostRuntime) {
     let desk = desk_among(&rt, rt.alloc(), 4);

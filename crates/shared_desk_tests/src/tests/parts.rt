@@ -1,4 +1,4 @@
-//! Appliers and the end of a desk: what is refused, and that it comes back.
+//! Appliers and the end of a desk: what is refused, and that the parts are returned.
 ghost use Rattle.std.specs.Prelude.{◌≡◌, ◌≤◌};
 ghost use Rattle.apply_lanes.specs.Names.{id_of, AreBlank, IsUnused};
 
@@ -14,7 +14,7 @@ use std::marker::Brand;
 use std::process::Abort;
 use std::sync::Wait;
 
-/// The parts again, where a seat is missing among them.
+/// The parts that are returned, if a seat is missing among them.
 pub(crate) fn without_a_seat<D: DeskNames, R: Abort>(rt: &R, parts: Parts<D>) -> Parts<D> {
     match stop(parts) {
         Err(StopError::SeatMissing(parts)) => parts,
@@ -22,7 +22,7 @@ pub(crate) fn without_a_seat<D: DeskNames, R: Abort>(rt: &R, parts: Parts<D>) ->
     }
 }
 
-// The parts again, where all seats are there and an applier is missing among them.
+// The parts that are returned, if all seats are there and an applier is missing among them.
 fn without_an_applier<D: DeskNames, R: Abort>(rt: &R, parts: Parts<D>) -> Parts<D> {
     match stop(parts) {
         Err(StopError::ApplierMissing(parts)) => parts,
@@ -80,7 +80,7 @@ fn a_missing_seat<D: DeskNames, R: Wait + Abort>(
     report_of(rt, parts)
 }
 
-/// A desk stops once all seats are back, and goes on until then.
+/// A desk stops once all seats are back, and continues until then.
 #[test]
 fn no_stop_without_a_seat(rt: HostRuntime) {
     let desk = desk_among(&rt, rt.alloc(), 2);
@@ -89,7 +89,7 @@ fn no_stop_without_a_seat(rt: HostRuntime) {
     assert!(rt; report.given == 3 && report.held == 12);
 }
 
-/// Why an applier of that origin is refused, and that its lane comes back.
+/// Why an applier of that origin is refused, and that its lane is returned.
 pub(crate) fn refusal<D: DeskNames, R: Wait + Abort>(
     rt: &R,
     alloc: Global,
@@ -105,7 +105,7 @@ pub(crate) fn refusal<D: DeskNames, R: Wait + Abort>(
     }
 }
 
-// An applier of site 2, beside which there is no other of it, and none of a site that is no peer.
+// An applier of site 2; there is no second one for it, and none for a site that is not a peer.
 fn an_applier<D: DeskNames, R: Wait + Abort>(
     rt: &R,
     alloc: Global,
@@ -149,7 +149,7 @@ fn a_missing_applier<D: DeskNames, R: Wait + Abort>(
     report_of(rt, parts)
 }
 
-/// An origin has one applier at most, and the desk stops once it is done.
+/// An origin has at most one applier, and the desk stops once it is done.
 #[test]
 fn no_stop_without_an_applier(rt: HostRuntime) {
     let desk = desk_among(&rt, rt.alloc(), 3);

@@ -45,7 +45,7 @@ fn replay<D: DeskNames, E: DeskNames, R: Wait + Clock + Abort>(
     }
 }
 
-// The script comes as bytes, since a call that picks names passes no text.
+// The script is passed as bytes, since a call that picks names passes no text.
 fn play_on_two<D: DeskNames, E: DeskNames, R: Wait + Clock + Abort>(
     rt: &R,
     alloc: Global,
@@ -68,7 +68,7 @@ fn play_on_two<D: DeskNames, E: DeskNames, R: Wait + Clock + Abort>(
     replay(rt, alloc, script, &mut one, &mut two);
 }
 
-// A site of two, to which nothing happened.
+// A site of two, at which nothing has happened.
 fn one_of_two<R: Abort>(rt: &R, alloc: Global, me: u64) -> Desk
     requires { (1 ≤ me) × (me ≤ 2) }
     ensures { IsUnused result }
@@ -90,7 +90,7 @@ fn plays<R: Wait + Clock + Abort + AllocGlobal>(rt: &R, script: &str) {
     );
 }
 
-/// A beat of an empty log leaves nothing to ask for.
+/// A beat of an empty log leaves nothing to query.
 #[test]
 fn a_beat(rt: HostRuntime) {
     plays(
@@ -161,7 +161,7 @@ fn a_closing(rt: HostRuntime) {
     );
 }
 
-/// An ask that cannot be met is denied, and denied again, until a newer one has come.
+/// An ask that cannot be met is denied, and denied again, until a newer one has arrived.
 #[test]
 fn a_denial(rt: HostRuntime) {
     plays(
@@ -186,7 +186,7 @@ fn a_denial(rt: HostRuntime) {
     );
 }
 
-/// Refusals of gifts and spends, and what expires.
+/// Refusals of gifts and spends, and expiry.
 #[test]
 fn refusals(rt: HostRuntime) {
     plays(
@@ -229,7 +229,7 @@ fn a_full_queue(rt: HostRuntime) {
     plays(&rt, script.as_str());
 }
 
-/// What a closed site never applied comes back.
+/// What a closed site never applied is taken back.
 #[test]
 fn a_taking_back(rt: HostRuntime) {
     plays(
@@ -255,7 +255,7 @@ fn a_taking_back(rt: HostRuntime) {
     );
 }
 
-/// Lines of a log that come out of order, and the queries for what is missing.
+/// Lines of a log that arrive out of order, and the queries for what is missing.
 #[test]
 fn a_gap(rt: HostRuntime) {
     plays(

@@ -1,4 +1,4 @@
-//! Seats on threads of their own, how many a desk gives, and the one of its site's clock.
+//! Seats on threads of their own, how many a desk gives out, and the one of its site's clock.
 ghost use Rattle.std.specs.Prelude.{◌≡◌};
 ghost use Rattle.apply_lanes.specs.Names.{id_of, AreBlank, IsUnused};
 
@@ -13,7 +13,7 @@ use std::sync::Wait;
 use std::thread;
 use std::thread::Threads;
 
-// Spends one right so many times, and counts what was spent and what waits.
+// Spends one right this number of times, and counts what was spent and what waits.
 fn spends<D: DeskNames, R: Wait>(
     rt: &R,
     desk: &SharedDesk<D>,
@@ -84,7 +84,7 @@ fn twenty_spends<D: DeskNames + Send + Sync, R: Threads + Wait + Abort + Sync>(
     report_of(rt, parts)
 }
 
-/// Twenty spends of one right from two threads, where ten rights are held: ten are spent, and ten wait.
+/// Twenty spends of one right from two threads, with ten rights held: ten are spent, and ten wait.
 #[test]
 fn twenty_spends_of_ten_rights(rt: HostRuntime) {
     let desk = desk_among(&rt, rt.alloc(), 3);
@@ -102,7 +102,7 @@ fn take_all_seats<D: DeskNames, R: Wait + Abort>(rt: &R, desk: &SharedDesk<D>) {
     assert!(rt; desk.seat(rt).is_err());
 }
 
-// The clock's seat, which is given once.
+// The clock's seat, which is given out once.
 fn take_the_clock_seat<D: DeskNames, R: Wait + Abort>(rt: &R, desk: &SharedDesk<D>) {
     let _ = clock_seat_at(rt, desk);
     assert!(rt; desk.clock_seat(rt).is_err());
@@ -119,7 +119,7 @@ fn take_the_clock_seat_last<D: DeskNames, R: Wait + Abort>(rt: &R, desk: Desk, b
     assert!(rt; desk.seat(rt).is_err());
 }
 
-/// Sixty-four seats are given, and no more; the clock's is one besides.
+/// Sixty-four seats are given out, and no more, besides the clock's.
 #[test]
 fn sixty_four_seats(rt: HostRuntime) {
     let desk = desk_among(&rt, rt.alloc(), 2);
@@ -137,7 +137,7 @@ fn take_the_clock_seat_first<D: DeskNames, R: Wait + Abort>(rt: &R, desk: Desk, 
     assert!(rt; desk.clock_seat(rt).is_err());
 }
 
-/// The clock's seat takes none of the sixty-four others.
+/// The clock's seat is not one of the sixty-four others.
 #[test]
 fn sixty_four_seats_after_the_clock(rt: HostRuntime) {
     let desk = desk_among(&rt, rt.alloc(), 2);
@@ -192,7 +192,7 @@ fn a_missing_clock_seat<D: DeskNames, R: Wait + Abort>(
     report_of(rt, parts)
 }
 
-/// A desk stops once the clock's seat is back too, and what it served counts.
+/// A desk stops once the clock's seat is back too, and what that seat served counts.
 #[test]
 fn no_stop_without_the_clock_seat(rt: HostRuntime) {
     let desk = desk_among(&rt, rt.alloc(), 2);

@@ -1,4 +1,4 @@
-//! Two sites whose desks are shared, by commands and replies as text.
+//! Two sites whose desks are shared, with commands and replies as text.
 ghost use Rattle.std.specs.Prelude.{◌≡◌, ◌≤◌, [], false};
 ghost use Rattle.apply_lanes.specs.Names.{id_of, AreBlank, IsUnused};
 
@@ -16,7 +16,7 @@ use std::sync::Wait;
 use std::time::Clock;
 use transfer_manager::AskAnswer;
 
-/// One of two sites, with what comes to it from the other one.
+/// One of two sites, with its input from the other one.
 #[derive(Drop)]
 pub(crate) struct Site<D: DeskNames> {
     desk: SharedDesk<D>,
@@ -28,7 +28,7 @@ pub(crate) struct Site<D: DeskNames> {
 
 type Reply = Result<String, AllocError>;
 
-// What comes to a site from its peer, and the end of its lane.
+// The intake for its peer, and the outlet of its lane.
 fn link_between<R: Abort>(
     rt: &R,
     alloc: Global,
@@ -264,7 +264,7 @@ fn totals<D: DeskNames>(alloc: Global, kept: &Kept<D>) -> Reply {
 }
 
 impl<D: DeskNames> Site<D> {
-    /// What the site answers to a command.
+    /// The site's reply to a command.
     pub(crate) fn plays<R: Wait + Clock + Abort>(
         &mut self,
         rt: &R,
@@ -302,7 +302,7 @@ impl<D: DeskNames> Site<D> {
     }
 }
 
-// What the desk says to what a line brought.
+// The desk's reply to the content of a line.
 fn answered<D: DeskNames, R: Abort>(
     rt: &R,
     alloc: Global,

@@ -1,4 +1,4 @@
-//! Whether rights are kept: those of each site, and those of all.
+//! Whether rights are conserved: those of each site, and those of all.
 use crate::tests::calls::Counted;
 use crate::tests::readers::{closed, peer_numbers, site_numbers};
 use rights_types::SiteId;
@@ -16,8 +16,8 @@ pub(crate) struct Totals {
 }
 
 impl Totals {
-    /// The sums, if each site's rights are those of its log and of what it applied, each gift is received
-    /// once at most, and what comes back is what sites that are known to have closed did not receive.
+    /// The sums, if each site's rights are those of its log and of what it applied, each gift is received at most
+    /// once, and what is taken back is what sites that are known to be closed did not receive.
     pub(crate) fn of(desks: &[Counted]) -> Option<Totals> {
         let mut totals = Totals {
             issued: 0,
@@ -33,7 +33,7 @@ impl Totals {
         Some(totals)
     }
 
-    // No sum of a test comes near the end of the numbers.
+    // No sum of a test comes close to the greatest number.
     fn add_site(&mut self, desks: &[Counted], desk: &Counted) -> Option<()> {
         let [_, issued, spent, given, back, received, held, _] = site_numbers(desk);
         let gained = issued.saturating_add(received).saturating_add(back);
@@ -50,7 +50,7 @@ impl Totals {
         Some(())
     }
 
-    /// Whether nothing was lost or made on the way.
+    /// Whether nothing was lost or created in transit.
     pub(crate) fn are_even(&self) -> bool {
         self.held
             .saturating_add(self.spent)
@@ -60,7 +60,7 @@ impl Totals {
 }
 
 // What the site gave to others that did not receive it: to those that it knows as open, and to those that it
-// knows to have closed.
+// knows as closed.
 fn on_the_way(desks: &[Counted], desk: &Counted) -> Option<(u64, u64)> {
     let me = desk.site();
     let (mut way, mut lost) = (0u64, 0u64);

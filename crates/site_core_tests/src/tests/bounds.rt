@@ -27,7 +27,7 @@ site 1 > number 8 issued 2000000002 spent 1000000001 given 1000000001 back 0 rec
     let _ = plays(&rt, 2, script);
 }
 
-/// Held of exactly 10^9 goes to an heir; more does not, and stays with the closed site where no heir is
+/// Exactly 10^9 held goes to an heir; more does not, and stays with the closed site if no heir is
 /// named.
 #[test]
 fn held_of_a_closing_site(rt: HostRuntime) {
@@ -72,7 +72,7 @@ site 1 > number 35 issued 17000000000 spent 0 given 17000000000 back 16000000000
     )
 }
 
-/// Sixteen greatest moves in one entry: issued, given, received, granted on and taken back whole.
+/// Sixteen greatest moves in one entry: issued, given, received, granted on and taken back in full.
 #[test]
 fn sixteen_greatest_moves(rt: HostRuntime) {
     let script = script_of_greatest_moves(rt.alloc()).expect(&rt, "memory");

@@ -1,5 +1,5 @@
-//! Calls of desks, made only where they may be, and what they answer as text. They have no clauses, so that
-//! tests which make many of them are checked at little cost.
+//! Calls of desks, made only if they are permitted, and their results as text. They have no clauses, so that
+//! tests that make many of them are checked at little cost.
 
 use entry_codec::{read_line, read_move};
 use origin_log::ReadError;
@@ -12,15 +12,15 @@ use std::process::Abort;
 use std::str;
 use transfer_manager::AskAnswer;
 
-/// A desk whose requests for memory may be refused.
+/// A desk whose memory requests may be refused.
 pub(crate) type Counted<'a> = Desk<&'a Refusing<Global>>;
 
-/// What a call answers, as text. The text's own memory comes from the host.
+/// The result of a call, as text. The text's own memory comes from the host.
 pub(crate) type Reply = Result<String, AllocError>;
 
 pub(crate) const NO_MEMORY: &str = "error OutOfMemory";
 
-/// The desk of a site among so many, or None for want of memory.
+/// The desk of a site in a system of this many, or `None` for lack of memory.
 pub(crate) fn new_desk<'a>(
     rt: &impl Abort,
     memory: &'a Refusing<Global>,
@@ -32,7 +32,7 @@ pub(crate) fn new_desk<'a>(
     Desk::new(memory, SiteId::known(me), sites).ok()
 }
 
-/// Posts the moves that these words spell. A word that spells none is left out.
+/// Posts the moves that these words spell. A word that spells none is omitted.
 pub(crate) fn post(alloc: Global, desk: &mut Counted, words: &str) -> Reply {
     let mut moves: Vec<Move> = Vec::new(alloc);
     for word in words.split(' ') {
@@ -63,7 +63,7 @@ pub(crate) fn plan(desk: &mut Counted) -> Result<u64, DeskError> {
     Ok(desk.plan())
 }
 
-/// A number behind a word, or why there is none.
+/// A number after a word, or why there is none.
 pub(crate) fn numbered(alloc: Global, word: &str, answer: Result<u64, DeskError>) -> Reply {
     match answer {
         Ok(number) => format!(in alloc; "{word} {number}"),
@@ -125,7 +125,7 @@ pub(crate) fn beat_line(alloc: Global, desk: &Counted, peer: SiteId) -> Reply {
     }
 }
 
-/// The desk hears the message that the text spells.
+/// The desk receives the message that the text spells.
 pub(crate) fn hear(rt: &impl Abort, alloc: Global, desk: &mut Counted, text: &str) -> Reply {
     let mut line = Vec::from_slice(alloc, text.as_bytes())?;
     line.push(b'\n')?;
@@ -147,7 +147,7 @@ fn on_message(rt: &impl Abort, alloc: Global, desk: &mut Counted, message: Messa
     }
 }
 
-// Applies these entries as far as each is the next one.
+// Applies these entries as long as each is the next one.
 fn apply_all(alloc: Global, desk: &mut Counted, entries: &[Entry]) -> Reply {
     let mut replies = String::new(alloc);
     for entry in entries {
@@ -160,7 +160,7 @@ fn apply_all(alloc: Global, desk: &mut Counted, entries: &[Entry]) -> Reply {
     Ok(replies)
 }
 
-// Applies the entry, if it is its origin's next one and neither that nor the site has closed.
+// Applies the entry, if it is its origin's next one and neither the origin nor the site is closed.
 fn apply(alloc: Global, desk: &mut Counted, entry: &Entry) -> Reply {
     let origin = entry.origin();
     if origin.number() > desk.sites() || origin == desk.site() {
@@ -175,7 +175,7 @@ fn apply(alloc: Global, desk: &mut Counted, entry: &Entry) -> Reply {
     taken(alloc, entry.own(), desk.apply(origin, entry))
 }
 
-// What applying the entry of a number is answered.
+// The result of applying the entry with a number.
 fn taken(alloc: Global, number: u64, answer: Result<Option<u64>, OutOfMemory>) -> Reply {
     match answer {
         Ok(None) => format!(in alloc; "taken {number}"),

@@ -21,7 +21,7 @@ peer 2 1 > applied 3 received 3 given 0 published 0 known 3 open
     let _ = plays(&rt, 2, script);
 }
 
-/// Asks of two sites in turn: a grant, its repeat, a denial for want of rights, and one by a closed site.
+/// Asks of two sites in turn: a grant, its repeat, a denial for lack of rights, and one by a closed site.
 #[test]
 fn asks_both_ways(rt: HostRuntime) {
     let script = "\
@@ -72,7 +72,7 @@ peer 1 2 > applied 1 received 0 given 6 published 2 known 0 open
     let _ = plays(&rt, 2, script);
 }
 
-/// Two peers are asked for all that each is known to have, and each but once.
+/// Two peers are asked for all that each is known to have, and each only once.
 #[test]
 fn two_peers_are_asked(rt: HostRuntime) {
     let script = "\
@@ -90,7 +90,7 @@ ask 2 1 > W 2 1 1 4
     let _ = plays(&rt, 3, script);
 }
 
-/// A peer that is known to have spent what it was not yet known to have has less than nothing, and is not
+/// A peer that is known to have spent rights before it was known to have them has less than nothing, and is not
 /// asked.
 #[test]
 fn a_peer_with_less_than_nothing(rt: HostRuntime) {
@@ -129,7 +129,7 @@ site 1 > number 0 issued 0 spent 0 given 0 back 0 received 0 held 0 queued 0 ope
     let _ = plays(&rt, 2, script);
 }
 
-/// An ask is denied once and again, then as an old one, and the denied site is asked anew.
+/// An ask is denied twice, then as an old one, and the denied site is asked again.
 #[test]
 fn denials(rt: HostRuntime) {
     let script = "\
@@ -154,7 +154,7 @@ hear 1 W 2 1 1 6 > old
     let _ = plays(&rt, 2, script);
 }
 
-/// A gap of twenty entries is answered by sixteen of them, and then by the rest.
+/// A gap of twenty entries is answered with sixteen of them, and then with the rest.
 #[test]
 fn a_gap_of_twenty_entries(rt: HostRuntime) {
     let script = "\
@@ -188,7 +188,7 @@ hear 1 Q 2 1 21 29 > A 1 2
     let _ = plays(&rt, 2, script);
 }
 
-/// Gifts and spends in a system of two sites, and what each is refused for.
+/// Gifts and spends in a system of two sites, and the causes for which each is refused.
 #[test]
 fn gifts_and_spends(rt: HostRuntime) {
     let script = "\

@@ -1,4 +1,4 @@
-//! Worked examples of lines that come in, lines of every size, and growths that are refused.
+//! Worked examples of lines that arrive, lines of every size, and memory requests that are refused.
 mod arrivals;
 mod examples;
 mod memory;

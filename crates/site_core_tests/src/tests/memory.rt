@@ -1,4 +1,4 @@
-//! Which calls ask for memory. Each script of these tests is played with each request refused in turn: the
+//! Which calls request memory. Each script of these tests is played with each request refused in turn: the
 //! call that meets the refusal says so and changes nothing, and none meets one that is not listed below.
 use crate::tests::sites::plays;
 use std::alloc::AllocGlobal;
@@ -10,7 +10,7 @@ fn asks(rt: &(impl Abort + AllocGlobal), before: &str, call: &str) -> bool {
     plays(rt, 3, before) < plays(rt, 3, &whole)
 }
 
-// A fifth entry finds no room that the four before it have made.
+// A fifth entry finds no capacity that the four before it have made.
 const ISSUED: &str =
     "issue 1 2 > number 1\nissue 1 1 > number 2\nissue 1 1 > number 3\nissue 1 1 > number 4\n";
 
@@ -23,7 +23,7 @@ const DENIED: &str = "hear 1 W 2 1 1 1 > denied D 1 2 1\n";
 
 const GIVEN: &str = "issue 1 5 > number 1\ngive 1 2 3 > number 2\n";
 
-// What came before, and a call that writes an entry or a line.
+// The calls before, and a call that writes an entry or a line.
 const WRITING: [(&str, &str); 15] = [
     ("", "post 1 I:5 S:5 > number 2"),
     ("", "issue 1 5 > number 1"),
@@ -42,7 +42,7 @@ const WRITING: [(&str, &str); 15] = [
     (ISSUED, "close 1 3 > number 6"),
 ];
 
-/// Each call that writes an entry or a line asks for memory, so that its refusal was met.
+/// Each call that writes an entry or a line requests memory, so its refusal was met.
 #[test]
 fn calls_that_ask_for_memory(rt: HostRuntime) {
     for (before, call) in &WRITING {
@@ -77,7 +77,7 @@ const READING: [&str; 24] = [
     "hear 1 Q 3 1 2 1 > error BadRange",
 ];
 
-/// No call asks for memory that writes neither.
+/// No call that writes neither requests memory.
 #[test]
 fn calls_that_ask_for_none(rt: HostRuntime) {
     let before = "\
@@ -94,7 +94,7 @@ hear 1 E 3 0 1 C > taken 1
     }
 }
 
-/// The desks of 2 to 16 sites. Each is refused memory in turn, and made again.
+/// The desks of 2 to 16 sites. Memory is refused to each in turn, and it is made again.
 #[test]
 fn new_desks(rt: HostRuntime) {
     for sites in 2..=16u64 {

@@ -1,4 +1,4 @@
-//! Many calls, in an order that no hand wrote.
+//! Many calls, in a random order.
 use crate::tests::balance::Totals;
 use crate::tests::calls::Reply;
 use crate::tests::sites::Sites;
@@ -18,7 +18,7 @@ fn pair(dice: &mut Dice) -> (u64, u64) {
     (site, (next % 3).saturating_add(1))
 }
 
-// A call that concerns no line.
+// A call that involves no line.
 fn command(alloc: Global, dice: &mut Dice) -> Reply {
     let (site, peer) = pair(dice);
     let amount = dice.roll(9).saturating_add(1);
@@ -47,7 +47,7 @@ fn draw(
     Ok(())
 }
 
-// The site hears the line, or it is lost.
+// The site receives the line, or it is lost.
 fn pass(
     rt: &(impl Abort + AllocGlobal),
     sites: &mut Sites,
@@ -62,7 +62,7 @@ fn pass(
     sites.say(rt, &heard)
 }
 
-// An entry, the entries of a gap, or an ask with its denial go from one site to another.
+// An entry, the entries of a gap, or an ask with its denial goes from one site to another.
 fn exchange(
     rt: &(impl Abort + AllocGlobal),
     sites: &mut Sites,
@@ -77,7 +77,7 @@ fn exchange(
     Ok(())
 }
 
-// The peer hears the line that the site has for it, if it is not lost.
+// The peer receives the line that the site has for it, if it is not lost.
 fn send(
     rt: &(impl Abort + AllocGlobal),
     sites: &mut Sites,
@@ -90,7 +90,7 @@ fn send(
     pass(rt, sites, dice, peer, &line)
 }
 
-// The same of an ask, whose denial the site hears.
+// The same for an ask, whose denial the site receives.
 fn ask(
     rt: &(impl Abort + AllocGlobal),
     sites: &mut Sites,
@@ -104,7 +104,7 @@ fn ask(
     }
 }
 
-// Plays a game from this seed on. After each call all rights are kept.
+// Plays a game from this seed. After each call all rights are conserved.
 fn game(rt: &(impl Abort + AllocGlobal), seed: u64) -> Result<Totals, AllocError> {
     let memory = Refusing::new(rt.alloc(), u64::MAX);
     let mut sites = Sites::new(rt, &memory, 3)?;
@@ -122,7 +122,7 @@ fn game(rt: &(impl Abort + AllocGlobal), seed: u64) -> Result<Totals, AllocError
     Ok(totals)
 }
 
-/// At each moment of some games each site's rights are those of its log and of what it applied, and those of
+/// At each moment of several games each site's rights are those of its log and of what it applied, and those of
 /// all are those that were issued.
 #[test]
 fn rights_are_kept_in_random_games(rt: HostRuntime) {
@@ -133,6 +133,6 @@ fn rights_are_kept_in_random_games(rt: HostRuntime) {
         received = received.saturating_add(totals.received);
         back = back.saturating_add(totals.back);
     }
-    // Rights went both ways, so the games were not idle.
+    // Rights went in both directions, so the games were not idle.
     assert!(rt; received > 0 && back > 0);
 }

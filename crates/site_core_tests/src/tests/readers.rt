@@ -1,4 +1,4 @@
-//! What the readers of a desk tell. They take no memory of the desk's.
+//! What the readers of a desk report. They take no memory of the desk's.
 use crate::tests::calls::{Counted, Reply};
 use rights_types::{MAX_SITES, SiteId};
 use std::alloc::{AllocError, Global};
@@ -9,7 +9,7 @@ const OF_SITE: [&str; 8] = [
 
 const OF_PEER: [&str; 4] = ["applied", "received", "given", "published"];
 
-/// What they tell of the site itself, in the order of these names.
+/// What they report of the site itself, in the order of these names.
 pub(crate) fn site_numbers(desk: &Counted) -> [u64; 8] {
     [
         desk.number(),
@@ -23,7 +23,7 @@ pub(crate) fn site_numbers(desk: &Counted) -> [u64; 8] {
     ]
 }
 
-/// What they tell of another site, in the order of these names.
+/// What they report of another site, in the order of these names.
 pub(crate) fn peer_numbers(desk: &Counted, peer: SiteId) -> [u64; 4] {
     [
         desk.applied(peer),
@@ -70,7 +70,7 @@ pub(crate) fn tell_peer(alloc: Global, desk: &Counted, peer: SiteId) -> Reply {
     Ok(text)
 }
 
-/// All that the readers of some desks tell.
+/// Everything that the readers of several desks report.
 #[derive(Drop)]
 pub(crate) struct Told {
     numbers: Vec<u64>,
@@ -80,7 +80,7 @@ pub(crate) struct Told {
 }
 
 impl Told {
-    /// What these desks tell.
+    /// What these desks report.
     pub(crate) fn new(alloc: Global, desks: &[Counted]) -> Result<Told, AllocError> {
         let mut told = Told {
             numbers: Vec::new(alloc),
@@ -114,7 +114,7 @@ impl Told {
         Ok(())
     }
 
-    /// Whether both are told the same.
+    /// Whether both reports are the same.
     pub(crate) fn is(&self, other: &Told) -> bool {
         self.numbers == other.numbers
             && self.known == other.known

@@ -1,7 +1,7 @@
-//! Refusals. A call with two causes is refused for the first in its order.
+//! Refusals. A call with two causes is refused for the first in the order.
 use crate::tests::sites::plays;
 
-/// Each cause of a post stands for all moves before the next cause is looked for.
+/// Each cause of a post is checked for all moves before the next cause is.
 #[test]
 fn posts(rt: HostRuntime) {
     let script = "\
@@ -53,7 +53,7 @@ give 1 4 0 > error Closed
 }
 
 /// A full queue refuses the spends that cannot be served at once, and no others. A refused one takes no
-/// ticket, and none takes a slot that is served at once.
+/// ticket, and one that is served at once takes no slot.
 #[test]
 fn spends(rt: HostRuntime) {
     let script = "\
@@ -112,7 +112,7 @@ spend 1 1 0 > error Closed
     let _ = plays(&rt, 2, script);
 }
 
-/// Requests are served from the front alone. Posts and gifts do not wait for them, and reserve nothing.
+/// Requests are served only from the front. Posts and gifts do not wait for them, and reserve nothing.
 #[test]
 fn waiting_spends(rt: HostRuntime) {
     let script = "\
@@ -166,7 +166,7 @@ close 1 > error Closed
     let _ = plays(&rt, 3, script);
 }
 
-/// A query of another log is refused before its range is looked at.
+/// A query of another log is refused before its range is checked.
 #[test]
 fn queries(rt: HostRuntime) {
     let script = "\
@@ -180,8 +180,8 @@ hear 1 Q 16 1 1 1000000000 > A 1 16
     let _ = plays(&rt, 3, script);
 }
 
-/// What is available to an ask is held, less what waiting spends are for; nothing is to a site that has
-/// closed. Repeats and old asks are told from new ones before that, and each asker has numbers of its own.
+/// What is available to an ask is what is held, less what waiting spends ask for; nothing is for a site that has
+/// closed. Repeats and old asks are distinguished from new ones before that, and each asker has its own numbers.
 #[test]
 fn asks(rt: HostRuntime) {
     let script = "\

@@ -1,7 +1,7 @@
 //! Closing, and taking back.
 use crate::tests::sites::plays;
 
-/// A site that closes gives all that it holds to its heir, and answers for its log from then on.
+/// A site that closes gives all that it holds to its heir, and answers with its log from then on.
 #[test]
 fn a_site_closes_for_an_heir(rt: HostRuntime) {
     let script = "\
@@ -24,7 +24,7 @@ site 2 > number 0 issued 0 spent 0 given 0 back 0 received 6 held 6 queued 0 ope
     let _ = plays(&rt, 2, script);
 }
 
-/// What a closed site will never apply comes back to the site that gave it, by one entry.
+/// What a closed site will never apply is taken back by the site that gave it, with one entry.
 #[test]
 fn a_gift_comes_back(rt: HostRuntime) {
     let script = "\
@@ -63,7 +63,7 @@ site 2 > number 1 issued 0 spent 0 given 0 back 0 received 0 held 0 queued 0 clo
     let _ = plays(&rt, 2, script);
 }
 
-/// Nobody may post what closing alone writes, nor a grant.
+/// No site may post what only closing writes, nor a grant.
 #[test]
 fn no_posts_of_special_moves(rt: HostRuntime) {
     let script = "\
@@ -76,8 +76,8 @@ post 1 I:5 R:2:1 V:2:1 > error BadMove
     let _ = plays(&rt, 2, script);
 }
 
-/// Where the closing site names this one as its heir, the legacy is received, and what lies beyond the
-/// frontier comes back too: gifts and grants, of some entries, but none to another site.
+/// If the closing site names this one as its heir, the legacy is received, and what is beyond the
+/// frontier is taken back too: gifts and grants, of several entries, but none to another site.
 #[test]
 fn an_heir_takes_back_too(rt: HostRuntime) {
     let script = "\
@@ -101,7 +101,7 @@ peer 1 2 > applied 3 received 8 given 25 published 0 known 24 closed
 }
 
 /// A closing entry that says nothing of this site, or that has no frontier, takes nothing back. Nor does one
-/// whose site had applied all.
+/// whose site had applied everything.
 #[test]
 fn nothing_comes_back(rt: HostRuntime) {
     let script = "\
@@ -117,7 +117,7 @@ peer 3 4 > applied 1 received 0 given 4 published 0 known 4 closed
     let _ = plays(&rt, 4, script);
 }
 
-/// The frontier may name a number in the midst of an entry or beyond the log's end: what counts is where
+/// The frontier may name a number in the middle of an entry or beyond the log's end: what counts is where
 /// entries begin.
 #[test]
 fn frontiers_within_entries(rt: HostRuntime) {
@@ -132,7 +132,7 @@ hear 1 Q 2 1 8 9 > A 1 2;E 1 7 8 V:2:8;E 1 8 9 V:3:18
     let _ = plays(&rt, 4, script);
 }
 
-/// An heir is judged also where nothing is held, and one that closed unknown to the closing site is accepted.
+/// An heir is checked even if nothing is held, and one whose closing is unknown to the closing site is accepted.
 #[test]
 fn heirs(rt: HostRuntime) {
     let script = "\
@@ -147,7 +147,7 @@ publish 1 3 > E 1 0 1 K:0:1:0
     let _ = plays(&rt, 3, script);
 }
 
-/// A closed site keeps its asks until it plans, answers queries, and denies what it is asked. It does not
+/// A closed site keeps its asks until it plans, answers queries, and denies asks. It does not
 /// write, spend or apply.
 #[test]
 fn a_closed_site(rt: HostRuntime) {

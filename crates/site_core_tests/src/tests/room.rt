@@ -5,10 +5,10 @@ use site_core::Desk;
 use std::process::Abort;
 use test_kit::{issue, site};
 
-// What a heap may use besides the bytes of a line.
+// What a heap may use in addition to the bytes of a line.
 const SPARE: usize = 32;
 
-// Whether a line of so many bytes was made since the heap had used so much, and no more.
+// Whether a line of this number of bytes was made since the heap used this number, and no more.
 fn takes_its_bytes(heap: &LocalHeap, before: usize, length: usize) -> bool {
     length > 0 && heap.used() <= before.saturating_add(length).saturating_add(SPARE)
 }

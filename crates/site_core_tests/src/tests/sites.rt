@@ -11,19 +11,19 @@ use std::alloc::{AllocError, AllocGlobal, Global};
 use std::process::Abort;
 use test_kit::requests_of;
 
-/// The desks of a system, whose requests for memory may be refused.
+/// The desks of a system, whose memory requests may be refused.
 #[derive(Drop)]
 pub(crate) struct Sites<'a> {
     memory: &'a Refusing<Global>,
     desks: Vec<Counted<'a>>,
 }
 
-// The text before the first space, and behind it.
+// The text before the first space, and after it.
 fn cut(text: &str) -> (&str, &str) {
     text.split_once(' ').unwrap_or((text, ""))
 }
 
-// The first two numbers that these words spell, 0 where there is none.
+// The first two numbers that these words spell, 0 if there is none.
 fn numbers(words: &str) -> [u64; 2] {
     let mut numbers = [0; 2];
     for (number, word) in numbers.iter_mut().zip(words.split(' ')) {
@@ -32,7 +32,7 @@ fn numbers(words: &str) -> [u64; 2] {
     numbers
 }
 
-// Whether a command that is answered so may ask for memory: only entries, lines and frontiers do.
+// Whether a command with this reply may request memory: only entries, lines and frontiers do.
 fn may_ask_for_memory(command: &str, reply: &str) -> bool {
     let writes = ["number ", "spent ", "served ", "granted ", "denied "]
         .iter()
@@ -44,7 +44,7 @@ fn may_ask_for_memory(command: &str, reply: &str) -> bool {
 }
 
 impl<'a> Sites<'a> {
-    /// So many desks at the start. One that memory is refused to is made again.
+    /// This number of desks at the start. One for which memory is refused is made again.
     pub(crate) fn new(
         rt: &(impl Abort + AllocGlobal),
         memory: &'a Refusing<Global>,
@@ -68,8 +68,8 @@ impl<'a> Sites<'a> {
         Ok(Sites { memory, desks })
     }
 
-    /// A command that is answered so. Where its memory is refused it says so, and is answered so when it
-    /// comes again. A call that answers an error leaves all that the desks tell as it was.
+    /// A command with this reply. If its memory is refused it says so, and has this reply when it is
+    /// repeated. A call that returns an error leaves everything that the desks report unchanged.
     pub(crate) fn step(
         &mut self,
         rt: &(impl Abort + AllocGlobal),
@@ -89,7 +89,7 @@ impl<'a> Sites<'a> {
         Ok(())
     }
 
-    // What a command is answered. An error leaves all that the desks tell as it was.
+    // The reply to a command. An error leaves everything that the desks report unchanged.
     fn try_saying(&mut self, rt: &(impl Abort + AllocGlobal), command: &str) -> Reply {
         let before = Told::new(rt.alloc(), &self.desks)?;
         let reply = self.say(rt, command)?;
@@ -100,12 +100,12 @@ impl<'a> Sites<'a> {
         Ok(reply)
     }
 
-    // Whether the desks tell that.
+    // Whether the desks report that.
     fn tell(&self, alloc: Global, told: &Told) -> Result<bool, AllocError> {
         Ok(Told::new(alloc, &self.desks)?.is(told))
     }
 
-    /// The site hears the next entries of the origin's log, sixteen at most, and answers to them.
+    /// The site receives the next entries of the origin's log, at most sixteen, and replies to them.
     pub(crate) fn catch_up(
         &mut self,
         rt: &(impl Abort + AllocGlobal),
@@ -126,12 +126,12 @@ impl<'a> Sites<'a> {
         applied
     }
 
-    /// The sums over all desks, if each has kept its rights.
+    /// The sums over all desks, if each has conserved its rights.
     pub(crate) fn totals(&self) -> Option<Totals> {
         Totals::of(&self.desks)
     }
 
-    /// What a command is answered.
+    /// The reply to a command.
     pub(crate) fn say(&mut self, rt: &(impl Abort + AllocGlobal), command: &str) -> Reply {
         let alloc = rt.alloc();
         let (verb, rest) = cut(command);
@@ -160,7 +160,7 @@ impl<'a> Sites<'a> {
     }
 }
 
-// What a command that concerns a peer is answered.
+// The reply to a command that concerns a peer.
 fn say_of_peer(alloc: Global, desk: &mut Counted, verb: &str, peer: SiteId, amount: u64) -> Reply {
     match verb {
         "give" => numbered(alloc, "number", give(desk, peer, amount)),
@@ -172,14 +172,14 @@ fn say_of_peer(alloc: Global, desk: &mut Counted, verb: &str, peer: SiteId, amou
     }
 }
 
-/// Plays a script with each request for memory refused in turn, and then with none refused. Answers how many
+/// Plays a script with each memory request refused in turn, and then with none refused. Returns how many
 /// requests the desks make.
 pub(crate) fn plays(rt: &(impl Abort + AllocGlobal), sites: u64, script: &str) -> u64 {
     let requests = requests_of(rt.alloc(), |memory| play(rt, memory, sites, script).is_ok());
     requests.expect(rt, "a script")
 }
 
-// Each line of a script is a command, and behind ` > ` what it is answered.
+// Each line of a script is a command, followed by ` > ` and the reply to it.
 fn play(
     rt: &(impl Abort + AllocGlobal),
     memory: &Refusing<Global>,

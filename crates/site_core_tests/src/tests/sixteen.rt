@@ -1,4 +1,4 @@
-//! Sixteen sites that close one after the other.
+//! Sixteen sites that close one after another.
 use crate::tests::sites::Sites;
 use refusing_allocator::Refusing;
 use std::alloc::{AllocError, AllocGlobal};
@@ -47,7 +47,7 @@ fn close(rt: &(impl Abort + AllocGlobal), sites: &mut Sites, site: u64) -> Resul
     Ok(())
 }
 
-// The site closes, and every other one applies its whole log, if it has not closed itself.
+// The site closes, and every other one applies its whole log, if it is not closed itself.
 fn retire(rt: &(impl Abort + AllocGlobal), sites: &mut Sites, site: u64) -> Result<(), AllocError> {
     close(rt, sites, site)?;
     for _ in 0..4u8 {
@@ -60,8 +60,8 @@ fn retire(rt: &(impl Abort + AllocGlobal), sites: &mut Sites, site: u64) -> Resu
     Ok(())
 }
 
-// Whether the rights are those issued at the start. Each gift to a site that closes arrived before, or comes
-// back.
+// Whether the rights are those issued at the start. Each gift to a site that closes arrived before, or is
+// taken back.
 fn are_kept(sites: &Sites) -> bool {
     match sites.totals() {
         Some(totals) => {
@@ -72,7 +72,7 @@ fn are_kept(sites: &Sites) -> bool {
 }
 
 /// Each gives what it holds to the next one, or keeps it, and the others take back what it did not receive.
-/// At each moment rights held, spent and on the way are those issued.
+/// At each moment rights held, spent and in transit are those issued.
 #[test]
 fn sixteen_sites_close_in_turn(rt: HostRuntime) {
     let memory = Refusing::new(rt.alloc(), u64::MAX);

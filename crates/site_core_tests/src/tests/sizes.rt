@@ -2,7 +2,7 @@
 use crate::tests::sites::plays;
 use std::alloc::{AllocError, Global};
 
-// The number before the entry of so many moves, where those of fewer stand before it.
+// The number before the entry of this number of moves, if those of fewer come before it.
 fn prev(count: u64) -> u64 {
     count.saturating_mul(count.saturating_sub(1)) / 2
 }
@@ -41,7 +41,7 @@ fn put_posts(script: &mut String) -> Result<(), AllocError> {
     Ok(())
 }
 
-// Asks for the first so many entries, or for what lies behind all.
+// Queries the first entries, as many as this, or what comes after all.
 fn put_query(script: &mut String, count: u64) -> Result<(), AllocError> {
     let last = prev(count).saturating_add(count);
     if count == 0 {
@@ -65,7 +65,7 @@ fn script(alloc: Global) -> Result<String, AllocError> {
 }
 
 /// Entries of 1 to 16 moves are posted, published and applied, and answers have 0 to 16 of them: with ample
-/// memory none wants more, and with each request refused in turn each comes when it is called for again.
+/// memory none runs out, and with each request refused in turn each succeeds when it is repeated.
 #[test]
 fn entries_and_answers_of_every_size(rt: HostRuntime) {
     let script = script(rt.alloc()).expect(&rt, "memory");

@@ -1,5 +1,5 @@
-//! Calls of desks over many sizes with ample memory. A call that gives up on one of them is proved, since it may
-//! always want memory, and is found here.
+//! Calls of desks over many sizes with ample memory. A call that gives up at one of them can be proved, since it may
+//! always run out of memory; it is found here.
 use crate::tests::calls::{Counted, beat_line, hear, new_desk, post, publish, status};
 use crate::tests::sites::Sites;
 use refusing_allocator::Refusing;
@@ -9,7 +9,7 @@ use std::process::Abort;
 use std::test::Fail;
 use test_kit::{issue, site};
 
-// Says the command to the sites, which answer so.
+// Passes the command to the sites, which must have this reply.
 fn says(
     rt: &(impl Abort + AllocGlobal),
     sites: &mut Sites,
@@ -83,7 +83,7 @@ fn apply_many(rt: &(impl Abort + AllocGlobal), desk: &mut Counted) -> Result<(),
     Ok(())
 }
 
-// The closing line of a site that applied so much.
+// The closing line of a site that applied this much.
 const LONG_CLOSE: &str =
     "E 1 1 3 R:16:1000000000 K:0:10000:10000:10000:10000:10000:10000:10000:10000:10000:10000:\
 10000:10000:10000:10000:10000";
@@ -116,7 +116,7 @@ fn the_longest_closing_entry_is_published(rt: HostRuntime) -> Result<(), Fail> {
     Ok(())
 }
 
-// Each site of a system issues 5, and tells each other site of it in every way.
+// Each site of a system issues 5, and reports it to each other site in every way.
 fn publish_all_round(
     rt: &(impl Abort + AllocGlobal),
     sites: &mut Sites,
@@ -164,7 +164,7 @@ fn publish_all_round(
     Ok(())
 }
 
-// Each site waits for all rights of all others, and asks for them. Nobody has any to spare.
+// Each site waits for all rights of all others, and asks for them. No site has any to spare.
 fn ask_all_round(
     rt: &(impl Abort + AllocGlobal),
     sites: &mut Sites,
@@ -265,7 +265,7 @@ fn serves_a_request(
     )
 }
 
-/// Tickets go on beyond the number of slots, and each outcome is told.
+/// Tickets continue beyond the number of slots, and each outcome is reported.
 #[test]
 fn two_hundred_tickets(rt: HostRuntime) -> Result<(), Fail> {
     let memory = Refusing::new(rt.alloc(), u64::MAX);
@@ -276,8 +276,8 @@ fn two_hundred_tickets(rt: HostRuntime) -> Result<(), Fail> {
     Ok(())
 }
 
-// Whether the desk's log ends at that number, tells so to peers, and writes entries of 1 to 16 moves behind it, which it
-// answers with.
+// Whether the desk's log ends at that number, says so in beats, and accepts entries of 1 to 16 moves after it, with
+// which it answers.
 fn goes_on_at(
     rt: &(impl Abort + AllocGlobal),
     desk: &mut Counted,
@@ -301,7 +301,7 @@ fn goes_on_at(
     Ok(right)
 }
 
-// Entries of 16 moves up to a number that 16 divides.
+// Entries of 16 moves up to a number that is a multiple of 16.
 fn grow_to(rt: &impl Abort, desk: &mut Counted, end: u64) {
     let entries = end.saturating_sub(desk.number()) / 16;
     for _ in 0..entries {
@@ -309,7 +309,8 @@ fn grow_to(rt: &impl Abort, desk: &mut Counted, end: u64) {
     }
 }
 
-// What a desk says at a log's end of about 10^4, 10^5 and 10^6. The entries that are written on the way have 136 moves.
+// The lines of a desk at a log's end of about 10^4, 10^5 and 10^6. The 16 entries that are added there have
+// 136 moves in all.
 fn go_on_at_each_size(
     rt: &(impl Abort + AllocGlobal),
     desk: &mut Counted,

@@ -5,8 +5,8 @@ use std::alloc::{AllocError, AllocGlobal, Global};
 use std::process::Abort;
 use std::test::Fail;
 
-// Whether so many requests serve site 1, which gives a right to site 2 by each of its entries, and hears at
-// last that it closed, if it does.
+// Whether this number of requests suffices for site 1, which gives a right to site 2 with each of its entries, and
+// then receives site 2's closing entry, if one is passed.
 fn serve(
     rt: &(impl Abort + AllocGlobal),
     requests: u64,
@@ -34,7 +34,7 @@ fn serve_in(
     Ok(())
 }
 
-// How many requests serve it, which are fewer than 8,192.
+// How many requests suffice for it; fewer than 8,192.
 fn requests_for(
     rt: &(impl Abort + AllocGlobal),
     entries: u64,
@@ -56,8 +56,8 @@ fn requests_for(
     Ok(least)
 }
 
-/// A site reads the entries beyond the frontier and one more, each by one request for memory, however many
-/// stand before. The entry that takes back fits where others were written.
+/// A site reads the entries beyond the frontier and one more, each with one memory request, however many come
+/// before. The entry that takes back fits into memory that the others have made.
 #[test]
 fn only_what_lies_beyond_is_read(rt: HostRuntime) -> Result<(), Fail> {
     for entries in [5u64, 1000] {

@@ -1,4 +1,4 @@
-//! A client that counts what it carries out.
+//! A client that counts the lines that it carries out.
 ghost use Rattle.std.specs.Prelude.{◌≡◌, ◌+◌, ◌≤◌, ◌⊎◌, ⊤, ℕ, List, length, OnOk, OnErr};
 ghost use Rattle.line_streams.specs.Waiting.{IsEmpty, AddsReply};
 ghost use Rattle.site_http.specs.declared.client.TheConstants.{LONGEST_REPLY};
@@ -8,12 +8,12 @@ use rights_types::OutOfMemory;
 use site_http::Client;
 use std::alloc::Global;
 
-/// Carries out each line, and replies how many it had carried out before. A line that is too long, or that begins with
-/// `error`, it refuses.
+/// Carries out each line, and replies how many it had carried out before. It refuses a line that is too long, or that
+/// begins with `error`.
 #[derive(Drop)]
 pub struct Counter {
     pub count: u8,
-    /// At this count it finds no memory.
+    /// The count at which it runs out of memory.
     pub last: u8,
     pub closed: bool,
 }

@@ -6,7 +6,8 @@ use site_http::{Busy, ClientService};
 use std::alloc::{AllocError, Global};
 use std::test::Fail;
 
-/// Method and target, further headers and body of a request; status, further headers and body of its response in plain text.
+/// Method and target, further headers and body of a request; status, further headers and body of its response in
+/// plain text.
 type Case = (
     &'static str,
     &'static str,
@@ -167,7 +168,7 @@ fn is_answered(rt: &HostRuntime, case: &Case, step: usize) -> Result<bool, Fail>
 
 const PLAIN: &str = "text/plain; charset=utf-8";
 
-/// The first case that is answered otherwise.
+/// The first case with another response.
 fn first_wrong(rt: &HostRuntime, step: usize) -> Result<Option<&'static str>, Fail> {
     for case in CASES.iter() {
         if !is_answered(rt, case, step)? {

@@ -5,7 +5,7 @@ use super::talk::{request, said};
 use site_http::ClientService;
 use std::test::Fail;
 
-/// The status of the response to a `POST /` of a line of so many bytes, with no line feed.
+/// The status of the response to a `POST /` of a line with this number of bytes and no line feed.
 fn status_of(rt: &HostRuntime, length: usize) -> Result<Vec<u8>, Fail> {
     let alloc = rt.alloc();
     let mut asked = format!(in alloc;
@@ -44,7 +44,7 @@ fn a_line_has_a_limit(rt: HostRuntime) -> Result<(), Fail> {
     Ok(())
 }
 
-/// The status of the response to a request with a header of so many bytes.
+/// The status of the response to a request with a header of this number of bytes.
 fn status_with_header(rt: &HostRuntime, length: usize) -> Result<Vec<u8>, Fail> {
     let alloc = rt.alloc();
     let mut asked = b"GET /healthz HTTP/1.1\r\nHost: h\r\nX: ".to_vec(alloc)?;

@@ -1,11 +1,12 @@
-//! A client that finds no memory in the middle of a body.
+//! A client that runs out of memory in the middle of a body.
 
 use super::counter::Counter;
 use super::talk::{request, response, said};
 use site_http::ClientService;
 use std::test::Fail;
 
-/// Whether a body of three lines, of which a client has memory for so many, gets these replies, and so many were carried out.
+/// Whether a body of three lines, of which the client has memory for the first `last`, gets these replies, and only
+/// those lines were carried out.
 fn is_cut(rt: &HostRuntime, last: u8, status: &str, replies: &str) -> Result<bool, Fail> {
     let alloc = rt.alloc();
     let asked = request(alloc, "POST /", "", "a\nb\nc")?;
@@ -15,7 +16,7 @@ fn is_cut(rt: &HostRuntime, last: u8, status: &str, replies: &str) -> Result<boo
     Ok(sent.as_slice() == expected.as_bytes() && service.into_client().count == last.min(3))
 }
 
-/// Of how many lines there is memory, the status, and the replies.
+/// The number of lines for which there is memory, the status, and the replies.
 const CUT: [(u8, &str, &str); 4] = [
     (0, "503 Service Unavailable", "error OutOfMemory\n"),
     (

@@ -29,7 +29,7 @@ pub fn response(
     )
 }
 
-/// What is sent for these bytes, which are read and written so many at a time.
+/// The response to these bytes, which are read and written this number at a time.
 pub fn said<S: Service>(
     rt: &HostRuntime,
     service: &mut S,

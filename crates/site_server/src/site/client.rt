@@ -1,5 +1,5 @@
-//! What a client of a site is answered. The node decides what is done and replied; this decides under which hold of the
-//! desk's lock it is done.
+//! The replies to a client of a site. site_node decides what is done and replied; this module decides under which
+//! lock of the desk it is done.
 ghost use Rattle.std.specs.Prelude.{◌≡◌, ◌++◌, ◌+◌, ◌≤◌, ◌⊎◌, List, ℕ, [], length, IfOk, OnOk, OnErr, Result, Ok};
 ghost use Rattle.std.specs.List.{All};
 ghost use Rattle.std.specs.Io.KnownBytes.{IsAtEnd};
@@ -29,7 +29,7 @@ use std::io::{Read, Write};
 use std::marker::Model;
 use std::sync::{Arc, Wait};
 
-/// A client of a site: a seat at its desk, its peers, and what tells of its ticks.
+/// A client of a site: a seat at its desk, its peers, and what notifies it of ticks.
 #[derive(Drop)]
 pub(crate) struct SiteClient<'a, D: DeskNames, R: Wait, P: Peers + Drop, B: TickSignal + Drop> {
     pub(crate) rt: &'a R,
@@ -50,7 +50,7 @@ impl<'a, D: DeskNames, R: Wait, P: Peers + Drop, B: TickSignal + Drop> Model
     ghost view = { λ c. record { seat = c.seat; peers = c.peers; signal = c.signal } };
 }
 
-/// A client of a site that runs.
+/// A client of a running site.
 pub(crate) type ClientOf<'a, D, R> = SiteClient<
     'a,
     D,
@@ -59,7 +59,7 @@ pub(crate) type ClientOf<'a, D, R> = SiteClient<
     SiteTickSignal<'a, R>,
 >;
 
-/// A client with the seat of this place. None where that seat is taken, or there is no memory; then no seat is taken.
+/// A client with the seat at this index. `None` if that seat is taken, or memory was refused; then no seat is taken.
 pub(crate) fn client_at<'a, D: DeskNames, R: Wait + AllocGlobal>(
     rt: &'a R,
     site: &'a Site,
@@ -73,14 +73,15 @@ pub(crate) fn client_at<'a, D: DeskNames, R: Wait + AllocGlobal>(
     Some(SiteClient::new(rt, rt.alloc(), site, desk, seat, peers, signal))
 }
 
-/// The command that a line spells, given without its line feed; `None` stands for a line that is too long.
+/// The command that a line spells, which is passed without its line feed; `None` is passed for a line that is too
+/// long.
 pub(crate) fn command_in(text: Option<&[u8]>) -> Option<SiteCommand>
     ensures { (line : List ℕ) → IsGiven line text.entry → result ≡ asked line }
 {
     read_command(text?)
 }
 
-/// Adds that a line is no command.
+/// Adds the reply to a line that is no command.
 pub(crate) fn refuse<A: Allocator>(replies: &mut Replies<A>) -> Result<(), OutOfMemory>
     requires { replies.old.part ≡ [] }
     ensures ok { OnOk result (AddsReply replies.old replies.new bad_command) }
@@ -130,7 +131,7 @@ impl<'a, D: DeskNames, R: Wait, P: Peers + Drop, B: TickSignal + Drop> SiteClien
         }
     }
 
-    /// The seat, of which the client is taken apart.
+    /// Takes the client apart, and returns its seat.
     pub(crate) fn into_seat(self) -> Seat<D>
         ensures { result ≡ self.entry.seat }
     {
@@ -138,8 +139,8 @@ impl<'a, D: DeskNames, R: Wait, P: Peers + Drop, B: TickSignal + Drop> SiteClien
         seat
     }
 
-    /// Answers each line of the input till `quit` or its end. Whatever ends it, what the client was told as issued and as
-    /// spent is what the seat counts.
+    /// Answers each line of the input until `quit` or its end. However it ends, what the replies reported to the
+    /// client as issued and as spent is what the seat counts.
     pub(crate) fn answer_all<I: Read, W: Write>(
         &mut self,
         reader: &mut I,
@@ -165,7 +166,7 @@ impl<'a, D: DeskNames, R: Wait, P: Peers + Drop, B: TickSignal + Drop> SiteClien
         ensures err { OnErr result ((self.new ≡ self.old) × (replies.new.whole ≡ replies.old.whole)) }
         ensures rest { self.new ≡ record self.old { seat = self.new.seat } }
     {
-        // First, so that no command is carried out whose reply finds no room.
+        // Reserved first, so that a command is carried out only if its reply has room.
         replies.reserve(REPLY_ROOM)?;
         let reply = self.act(command);
         answer_reply(replies, reply);
@@ -184,29 +185,29 @@ impl<'a, D: DeskNames, R: Wait, P: Peers + Drop, B: TickSignal + Drop> SiteClien
         act(kept, &mut self.seat, command)
     }
 
-    /// Does all that is due at this time, and adds the reply.
+    /// Does everything due at this time, and adds the reply.
     fn tick<A: Allocator>(&mut self, time: u64, replies: &mut Replies<A>) -> Result<(), OutOfMemory>
         requires { replies.old.part ≡ [] }
         ensures ok { OnOk result ((text : List ℕ) × DoesDue P.size P.sends D.id self.old.seat self.old.peers time text self.new.seat self.new.peers × AddsReply replies.old replies.new text) }
         ensures short { OnOk result (length replies.new.whole ≤ length replies.old.whole + TICK_ROOM) }
         ensures err { OnErr result ((self.new ≡ self.old) × (replies.new.whole ≡ replies.old.whole)) }
     {
-        // First, so that no tick is done whose reply finds no room.
+        // Reserved first, so that a tick is done only if its reply has room.
         replies.reserve(TICK_ROOM)?;
         let outcome = self.tick_and_send(time);
         answer_tick(replies, outcome);
         Ok(())
     }
 
-    /// Does what is due at this time, which is the wall clock's, and tells nobody.
+    /// Does everything due at this time, which is the wall clock's, with no reply.
     pub(crate) fn tick_alone(&mut self, time: u64)
         ensures { (outcome : Result (Ticked × ℕ) DeskError) × TicksAndSends P.size P.sends D.id self.old.seat self.old.peers time outcome self.new.seat self.new.peers }
     {
         let _ = self.tick_and_send(time);
     }
 
-    /// Does what is due at the desk under its lock, and then sends to each peer what is due to it. In between, entries of
-    /// peers may be applied.
+    /// Does what is due at the desk under its lock, and then sends each peer what is due to it. In between, entries
+    /// of peers may be applied.
     fn tick_and_send(&mut self, time: u64) -> Result<(Ticked, u64), DeskError>
         ensures { TicksAndSends P.size P.sends D.id self.old.seat self.old.peers time result self.new.seat self.new.peers }
     {
@@ -251,7 +252,7 @@ impl<'a, D: DeskNames, R: Wait, P: Peers + Drop, B: TickSignal + Drop> SiteClien
         Ok((kept.view(), peers))
     }
 
-    /// Of each peer, how far the desk has applied its log, and what its reading thread noted last.
+    /// For each peer, how far the desk has applied its log, and what its reading thread recorded last.
     fn peer_views(&self, desk: &Desk) -> Result<Vec<PeerView>, OutOfMemory>
         ensures { IfOk result (λ peers. All (IsApplied desk.now) peers.items) }
     {
@@ -267,7 +268,7 @@ impl<'a, D: DeskNames, R: Wait, P: Peers + Drop, B: TickSignal + Drop> SiteClien
         self.site.commands.note_reply(reply);
     }
 
-    /// Answers what a line asks for; `None` is no command.
+    /// Answers a line, by its command; `None` is not a command.
     pub(crate) fn answer_command<A: Allocator>(
         &mut self,
         command: Option<SiteCommand>,
@@ -295,10 +296,10 @@ impl<D: DeskNames, R: Wait, P: Peers + Drop, B: TickSignal + Drop> LineHandler
 
     ghost answers = { λ before line text after. Gets P.size P.sends D.id (asked line) before.seat before.peers text after.seat after.peers };
 
-    // No command was carried out whose reply found no room.
+    // No command was carried out whose reply had no room.
     ghost fails = { λ before after. (after.seat ≡ before.seat) × (after.peers ≡ before.peers) };
 
-    /// False once an applier found no memory for an entry.
+    /// `false` once an applier ran out of memory for an entry.
     fn can_go_on(&self) -> bool {
         !self.site.has_failed()
     }

@@ -15,8 +15,8 @@ use std::alloc::Global;
 use std::sync::Wait;
 
 impl<D: DeskNames, R: Wait, P: Peers + Drop, B: TickSignal + Drop> SiteClient<'_, D, R, P, B> {
-    /// Answers what a line asks for. Nothing ends the site: `quit` is no command here. Once nobody gets a reply any more,
-    /// the rest of a request is not carried out, as for want of memory.
+    /// Answers a line, by its command. No command ends the site: `quit` is not a command here. Once no client can
+    /// receive replies, the rest of a request is not carried out, as if there were no memory.
     fn tell(
         &mut self,
         command: Option<SiteCommand>,
@@ -39,7 +39,7 @@ impl<D: DeskNames, R: Wait, P: Peers + Drop, B: TickSignal + Drop> SiteClient<'_
         }
     }
 
-    /// The same where the client waits for what becomes of a spend.
+    /// The same for a client that waits for the outcome of a spend.
     fn tell_settled(
         &mut self,
         command: Option<SiteCommand>,

@@ -1,4 +1,4 @@
-//! The end of a site: its desk stops, and says what it did and what its clients were told.
+//! The end of a site: its desk stops, and reports what it did and what was reported to its clients.
 ghost use Rattle.std.specs.Prelude.{IfOk};
 ghost use Rattle.site_server.specs.Ending.{StopsDesk};
 
@@ -12,9 +12,9 @@ use std::sync::Arc;
 /// Why there is no report of a desk.
 #[derive(Clone, Copy)]
 pub(crate) enum NoReport {
-    /// A thread still has the desk, or a seat or what an applier told did not come back.
+    /// A thread still uses the desk, or a seat or what an applier reports was not returned.
     Missing,
-    /// A request for memory was refused.
+    /// A memory request was refused.
     OutOfMemory,
 }
 
@@ -24,7 +24,7 @@ impl From<OutOfMemory> for NoReport {
     }
 }
 
-/// Stops the desk, whose seats and appliers have all come back.
+/// Stops the desk, whose seats and appliers have all been returned.
 pub(crate) fn stop_desk<D: DeskNames>(
     alloc: Global,
     shared: Arc<Shared<D>>,
@@ -50,7 +50,7 @@ pub(crate) fn stop_desk<D: DeskNames>(
     }
 }
 
-/// Says what the site did, as one line.
+/// Writes what the site did, as one line.
 pub(crate) fn say_report<R: Eprint>(rt: &R, report: &Report) {
     let _ = eprintln!(rt;
         "rights-site: ended: issued {} spent {} given {} received {} held {}; told issued {} spent {} served {}",
@@ -65,7 +65,7 @@ pub(crate) fn say_report<R: Eprint>(rt: &R, report: &Report) {
     );
 }
 
-/// Says why there is no report.
+/// Writes why there is no report.
 pub(crate) fn say_no_report<R: Eprint>(rt: &R, why: NoReport) {
     let _ = match why {
         NoReport::Missing => eprintln!(rt; "rights-site: ended: a seat or an applier is missing"),

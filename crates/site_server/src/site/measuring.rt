@@ -16,16 +16,16 @@ use site_sockets::{PeerState, Site};
 use std::alloc::Allocator;
 use std::sync::Wait;
 
-/// What is read of a desk at one moment.
+/// What is read from a desk at one moment.
 #[derive(Drop)]
 struct DeskValues {
     view: DeskView,
-    /// The slots of its queue that spends take which wait, and those of outcomes that nobody has read.
+    /// The slots of its queue that are taken by waiting spends, and those taken by outcomes that no client has read.
     waiting: usize,
     unread: usize,
 }
 
-/// The values of a site whose desk looks so.
+/// The metrics of a site with these values of its desk.
 fn metrics_of<R: Wait>(rt: &R, site: &Site, values: DeskValues) -> Metrics
     ensures { HasValues values result }
 {
@@ -48,7 +48,7 @@ fn metrics_of<R: Wait>(rt: &R, site: &Site, values: DeskValues) -> Metrics
     }
 }
 
-/// The values of a peer of whose log so much was applied.
+/// The metrics of a peer of whose log this much was applied.
 fn peer_metrics_of<R: Wait>(rt: &R, peer: &PeerState, applied: u64) -> PeerMetrics
     ensures site { result.site ≡ peer.now.site }
     ensures applied { result.applied ≡ applied }
@@ -83,7 +83,7 @@ impl<D: DeskNames, R: Wait, P: Peers + Drop, B: TickSignal + Drop> SiteClient<'_
         put_metrics(&metrics, peers.as_slice(), replies)
     }
 
-    /// The values of the site and of its peers. Those of its desk are of one moment.
+    /// The metrics of the site and of its peers. Those of its desk are of one moment.
     fn metrics(&self) -> Result<(Metrics, Vec<PeerMetrics>), OutOfMemory>
         ensures { IfOk result (λ values. AreMetrics D.id values.0 values.1.items) }
     {
@@ -91,7 +91,7 @@ impl<D: DeskNames, R: Wait, P: Peers + Drop, B: TickSignal + Drop> SiteClient<'_
         Ok((metrics_of(self.rt, self.site, desk), peers))
     }
 
-    /// The values of the desk and of its peers.
+    /// The values of the desk, and the metrics of its peers.
     fn desk_values(&self) -> Result<(DeskValues, Vec<PeerMetrics>), OutOfMemory>
         ensures { IfOk result (λ values. AreValues D.id values.0 values.1.items) }
     {
@@ -106,7 +106,7 @@ impl<D: DeskNames, R: Wait, P: Peers + Drop, B: TickSignal + Drop> SiteClient<'_
         Ok((values, peers))
     }
 
-    /// Of each peer, how far the desk has applied its log, and what was counted of it.
+    /// For each peer, how far the desk has applied its log, and what was counted.
     fn peer_metrics(&self, desk: &Desk) -> Result<Vec<PeerMetrics>, OutOfMemory>
         ensures { IfOk result (λ peers. All (HasApplied desk.now) peers.items) }
     {
@@ -117,7 +117,7 @@ impl<D: DeskNames, R: Wait, P: Peers + Drop, B: TickSignal + Drop> SiteClient<'_
         Ok(peers)
     }
 
-    /// Whether the desk has closed.
+    /// Whether the desk is closed.
     pub(crate) fn closed(&self) -> bool
         ensures { TellsClosed D.id result }
     {

@@ -1,4 +1,4 @@
-//! The outboxes of the peers, as the node puts lines into them.
+//! The outboxes of the peers, as site_node puts lines into them.
 ghost use Rattle.std.specs.Prelude.{◌≡◌, ◌+◌, ◌<◌, ◌≤◌, length, IfOk};
 ghost use Rattle.rights_types.specs.declared.limits.TheConstants.{MAX_NUMBER, MAX_SITES};
 ghost use Rattle.site_server.specs.Outboxes.{SendsDue, SendsToPeer};
@@ -11,7 +11,7 @@ use site_node::{Peers, Sink, send_due};
 use site_sockets::PeerState;
 use std::sync::{Arc, Wait};
 
-/// The outbox of one peer. Its lock hides the lines in it.
+/// The outbox of one peer. Its lock hides its lines.
 #[derive(Drop)]
 pub(crate) struct PeerOutbox<'a, R: Wait> {
     rt: &'a R,
@@ -44,7 +44,7 @@ pub(crate) struct Outboxes<'a, D: DeskNames, R: Wait> {
 }
 
 impl<'a, D: DeskNames, R: Wait> Outboxes<'a, D, R> {
-    /// None where there are more peers than a system has sites.
+    /// `None` if there are more peers than a system can have sites.
     pub(crate) fn new(
         rt: &'a R,
         shared: Arc<Shared<D>>,
@@ -56,7 +56,7 @@ impl<'a, D: DeskNames, R: Wait> Outboxes<'a, D, R> {
         Some(Outboxes { rt, shared, peers })
     }
 
-    /// Offers all that is due to this site to the sink, under the desk's lock, and answers how many lines found room.
+    /// Offers everything due to this site to the sink, under the desk's lock, and returns how many lines it accepted.
     fn send_by<S: Sink>(&self, site: SiteId, sink: &mut S) -> Result<u64, OutOfMemory>
         ensures sends { IfOk result (λ sent. SendsDue S.takes D.id site sink.old sent sink.new) }
         ensures range { IfOk result (λ sent. sent ≤ MAX_NUMBER + 2) }
@@ -68,7 +68,7 @@ impl<'a, D: DeskNames, R: Wait> Outboxes<'a, D, R> {
         send_due(kept, site, sink)
     }
 
-    /// The same for the outbox of the peer at this place.
+    /// The same for the outbox of the peer at this index.
     fn send_to(&self, place: usize) -> Result<u64, OutOfMemory>
         requires { place < length self.now.peers.now }
         ensures sends { IfOk result (λ sent. SendsToPeer (PeerOutbox R) D.id self.now.peers.now place sent) }
@@ -89,7 +89,7 @@ impl<D: DeskNames, R: Wait> Peers for Outboxes<'_, D, R> {
 
     ghost sends = { λ before place sent after. SendsToPeer (PeerOutbox R) D.id before.peers.now place sent };
 
-    // How far it came stands in no view of the outboxes: their locks hide it.
+    // No view of the outboxes says how many peers were served: their locks hide it.
     ghost stops = { λ _ _ _. Unit {0} };
 
     fn count(&self) -> usize {

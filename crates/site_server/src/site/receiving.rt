@@ -1,4 +1,4 @@
-//! Taking in what the peers have to say.
+//! Taking in the lines of the peers.
 ghost use Rattle.std.specs.Prelude.{◌≡◌, ◌≢◌, ◌≤◌, false, [], IfOk};
 ghost use Rattle.site_server.specs.Hearing.{IsBufferAt, IsForDesk, HandlesAtDesk};
 
@@ -19,7 +19,7 @@ use std::sync::{Arc, Wait};
 use std::time::Clock;
 use sub_buffer::State;
 
-/// What comes in from one peer, and what applies it.
+/// What takes in the lines of one peer, and what applies its entries.
 #[derive(Drop)]
 pub(crate) struct PeerLink<D: DeskNames> {
     pub(crate) origin: SiteId,
@@ -73,7 +73,7 @@ pub(crate) fn links_of<D: DeskNames, R: Wait>(
     Ok(links)
 }
 
-/// The link from this site. None where it is no peer of the configuration.
+/// The link from this site. `None` if it is not a peer in the configuration.
 fn link_of<D: DeskNames, R: Wait>(
     rt: &R,
     alloc: Global,
@@ -94,7 +94,7 @@ fn link_of<D: DeskNames, R: Wait>(
     }))
 }
 
-/// What comes in from a peer, and the end of its lane.
+/// The intake for a peer, and the outlet of its lane.
 fn intake_of(
     alloc: Global,
     config: &Config,
@@ -120,7 +120,7 @@ impl<D: DeskNames> LaneEnd<D> {
         requires { outlet.taken ≡ [] }
     {
         let Ok(applier) = shared.desk.applier(rt, origin, outlet, Free) else {
-            // Each peer is another site, and gets its one applier, so it does not come to this.
+            // Each peer is another site, and gets its only applier here, so this is not reached.
             return Err(OutOfMemory);
         };
         Ok(LaneEnd {
@@ -130,8 +130,8 @@ impl<D: DeskNames> LaneEnd<D> {
         })
     }
 
-    /// Applies what comes, to its end, and leaves what it told for the end of the site. Any refusal ends the link: its
-    /// lines are then skipped.
+    /// Applies the entries until the end of the lane, and keeps what the applier reports until the site ends. An
+    /// error ends the link: its lines are then skipped.
     pub(crate) fn apply_all<R: Wait + Clock>(mut self, rt: &R, site: &Site) {
         if let Err(StepError::OutOfMemory) = self.applier.run(rt, &self.shared.desk) {
             site.fail();
@@ -156,7 +156,7 @@ impl<D: DeskNames> Receiver<D> {
         })
     }
 
-    /// Reads the connections of this peer, one after another, till the connection slot is closed.
+    /// Reads the connections of this peer, one after another, until the connection slot is closed.
     pub(crate) fn receive_all<R: Wait + Eprint>(mut self, rt: &R, peer: &PeerState) {
         for _ in rt.forever() {
             let Some(connection) = peer.connection_slot.take(rt) else {
@@ -174,7 +174,7 @@ impl<D: DeskNames> Receiver<D> {
         let _ = intake.finish(rt);
     }
 
-    /// Reads one connection to its end, or to a fault, which ends it just as well.
+    /// Reads one connection to its end, or until an error, which has the same effect.
     fn receive<R: Wait + Eprint>(&mut self, rt: &R, peer: &PeerState, connection: Connection) {
         let Connection {
             mut stream,
@@ -190,8 +190,8 @@ impl<D: DeskNames> Receiver<D> {
     }
 }
 
-/// What a reading thread does with what is not for its buffer. Messages go to the desk, under its lock, and what is answered
-/// into the peer's outbox.
+/// What a reading thread does with messages that are not for its buffer. They go to the desk, under its lock, and the
+/// answers go into the peer's outbox.
 #[derive(Drop)]
 struct SitePort<'a, D: DeskNames, E, S: Sink + Drop> {
     rt: &'a E,
@@ -219,14 +219,14 @@ impl<D: DeskNames, E: Wait + Eprint, S: Sink + Drop> SitePort<'_, D, E, S> {
         }
     }
 
-    /// Notes which entries a query asks for.
+    /// Records which entries a query requests.
     fn note_query(&self, line: &[u8]) {
         if let Some((first, last)) = gap_in(line) {
             self.peer.events.lacks(self.rt, first, last);
         }
     }
 
-    /// Notes a beat below what was applied of the peer's log.
+    /// Records a beat with a number below what was applied of the peer's log.
     fn note_beat(&self, line: &[u8]) {
         let Some(number) = end_in(line) else {
             return;
@@ -238,7 +238,7 @@ impl<D: DeskNames, E: Wait + Eprint, S: Sink + Drop> SitePort<'_, D, E, S> {
     }
 }
 
-/// The first and the last number that a query asks for, by its line.
+/// The first and the last number that a query requests, from its line. `None` if the line is not a query.
 fn gap_in(line: &[u8]) -> Option<(u64, u64)> {
     let (_, words) = split_word(line.strip_suffix(b"\n")?);
     let (_, words) = first_number(words)?;
@@ -248,7 +248,7 @@ fn gap_in(line: &[u8]) -> Option<(u64, u64)> {
     Some((first, last))
 }
 
-/// The end of the log that a beat tells, by its line.
+/// The end of the log in a beat, from its line. `None` if the line is not a beat.
 fn end_in(line: &[u8]) -> Option<u64> {
     let (_, words) = split_word(line.strip_suffix(b"\n")?);
     let (_, words) = first_number(words)?;

@@ -22,7 +22,7 @@ use std::thread;
 use std::thread::{Scope, Threads};
 use std::time::Clock;
 
-/// Answers the requests of a connection, to its end.
+/// Answers the requests of a connection, until its end.
 fn converse<C: Client + Drop, I: Read, W: Write>(
     alloc: Global,
     keys: RandomState,
@@ -39,8 +39,8 @@ fn converse<C: Client + Drop, I: Read, W: Write>(
     service.into_client()
 }
 
-/// The same for a client with a seat. Whatever ends the connection, what the client was told as issued and as spent is what
-/// the seat counts more.
+/// The same for a client with a seat. However the connection ends, what the responses reported to the client as
+/// issued and as spent is what the seat counts in addition.
 fn answer_requests<
     'a,
     D: DeskNames,
@@ -63,8 +63,8 @@ fn answer_requests<
     converse(alloc, keys, client, reader, writer)
 }
 
-/// Answers the requests of a connection with the seat of its place, which is put back. Where there is no memory to begin
-/// with, no seat is taken.
+/// Answers the requests of a connection with the seat at its index, which is put back afterwards. If there is no
+/// memory to begin with, no seat is taken.
 fn seat_client<D: DeskNames, R: Wait + Clock + RandomSource + AllocGlobal>(
     rt: &R,
     site: &Site,
@@ -85,7 +85,7 @@ fn seat_client<D: DeskNames, R: Wait + Clock + RandomSource + AllocGlobal>(
     shared.seats.put(rt, place, client.into_seat());
 }
 
-/// Deals with the client that has this place, till it goes.
+/// Serves the client that has this place, until it disconnects.
 fn serve_client<D: DeskNames, R: Wait + Clock + RandomSource + AllocGlobal>(
     rt: &R,
     site: &Site,
@@ -99,7 +99,7 @@ fn serve_client<D: DeskNames, R: Wait + Clock + RandomSource + AllocGlobal>(
     clients.leave(rt, place);
 }
 
-/// Tells a client that all places are taken. It has a second to ask.
+/// Responds to a client that all places are taken. The client has a second to send its request.
 fn turn_away<R: Wait + Clock + RandomSource + AllocGlobal>(
     rt: &R,
     clients: &Clients,
@@ -122,7 +122,7 @@ fn answer_busy<R: Wait + Clock + RandomSource + AllocGlobal>(
     serve(&mut connection, &mut Busy, &mut reader, &mut writer).ok()
 }
 
-/// Starts the thread that deals with a client. Where it could not be started the connection is closed.
+/// Starts the thread that serves a client. If it cannot be started, the connection is closed.
 fn begin_client<
     's,
     E,
@@ -148,7 +148,7 @@ fn begin_client<
     }
 }
 
-/// Starts the thread that turns a client away. Where it could not be started the connection is closed.
+/// Starts the thread that turns a client away. If it cannot be started, the connection is closed.
 fn begin_turning_away<'s, E, R: Wait + Clock + RandomSource + AllocGlobal + Sync>(
     scope: &Scope<'s, E>,
     rt: &'s R,
@@ -164,7 +164,7 @@ fn begin_turning_away<'s, E, R: Wait + Clock + RandomSource + AllocGlobal + Sync
     }
 }
 
-/// Starts the thread that deals with who connected.
+/// Starts the thread for a new connection.
 fn begin_accepted<
     's,
     E,
@@ -188,7 +188,7 @@ fn begin_accepted<
     }
 }
 
-/// Lets in who connects, each with a thread of its own, till the site ends.
+/// Accepts connections of clients, each with a thread of its own, until the site ends.
 fn accept_clients<
     's,
     E,
@@ -203,7 +203,7 @@ fn accept_clients<
     }
 }
 
-/// The same, and waits for all of them.
+/// The same, and waits for all these threads.
 fn run_client_acceptor<
     D: DeskNames + Send + Sync,
     R: Threads + Wait + Clock + RandomSource + AllocGlobal + Eprint + Sync,
@@ -213,7 +213,7 @@ fn run_client_acceptor<
     })
 }
 
-/// Starts the thread that lets clients in, where any may connect. False where it could not be started.
+/// Starts the thread that accepts clients, if any may connect. `false` if it could not be started.
 pub(crate) fn begin_clients<
     's,
     E,

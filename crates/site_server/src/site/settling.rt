@@ -1,4 +1,4 @@
-//! What a client is answered that waits for what becomes of its spend.
+//! The reply to a client that waits for the outcome of its spend.
 ghost use Rattle.std.specs.Prelude.{◌≡◌, ◌+◌, ◌≤◌, [], List, ℕ, length, OnOk, OnErr};
 ghost use Rattle.line_streams.specs.Waiting.{AddsReply};
 ghost use Rattle.site_node.specs.declared.reply.Reply.TheVariants.{Spending as Spends};
@@ -19,7 +19,7 @@ use std::alloc::Allocator;
 use std::sync::Wait;
 
 impl<D: DeskNames, R: Wait, P: Peers + Drop, B: TickSignal + Drop> SiteClient<'_, D, R, P, B> {
-    /// Carries out a command, waits for what becomes of a spend that is queued, and adds the reply.
+    /// Carries out a command, waits for the outcome of a spend that is queued, and adds the reply.
     pub(crate) fn settle_command<A: Allocator>(
         &mut self,
         command: DeskCommand,
@@ -31,9 +31,9 @@ impl<D: DeskNames, R: Wait, P: Peers + Drop, B: TickSignal + Drop> SiteClient<'_
         ensures err { OnErr result (self.new ≡ self.old) }
         ensures rest { self.new ≡ record self.old { seat = self.new.seat } }
     {
-        // First, so that no command is carried out whose reply finds no room.
+        // Reserved first, so that a command is carried out only if its reply has room.
         replies.reserve(REPLY_ROOM)?;
-        // Before the command, so that no tick behind it is missed.
+        // Read before the command, so that no tick after it is missed.
         let seen = self.signal.count();
         let reply = self.act(command);
         let settled = self.settled(reply, seen);
@@ -41,7 +41,7 @@ impl<D: DeskNames, R: Wait, P: Peers + Drop, B: TickSignal + Drop> SiteClient<'_
         Ok(())
     }
 
-    /// What becomes of a spend that was queued when so many ticks were seen; else the reply itself.
+    /// The outcome of a spend that was queued after this number of ticks was seen; otherwise the reply itself.
     fn settled(&mut self, reply: Reply, seen: u64) -> Reply
         ensures settles { Settles (B.has_ended self.old.signal) D.id self.old.seat reply result }
         ensures same { self.new ≡ self.old }
@@ -52,8 +52,8 @@ impl<D: DeskNames, R: Wait, P: Peers + Drop, B: TickSignal + Drop> SiteClient<'_
         }
     }
 
-    /// Waits, tick by tick, for what becomes of the spend of this ticket, and reads it, which frees its slot. At the end
-    /// of the site it is told as queued.
+    /// Waits, tick by tick, for the outcome of the spend with this ticket, and reads it, which frees its slot. At the
+    /// end of the site the reply is that it is queued.
     #[tactic(auto, using(crate::proofs::SettleLaws::tells_outcome, crate::proofs::SettleLaws::keeps_seat))]
     fn outcome(&mut self, ticket: u64, mut seen: u64) -> Reply
         ensures settles { Settles (B.has_ended self.old.signal) D.id self.old.seat (Spends (IsQueued ticket)) result }
@@ -73,7 +73,7 @@ impl<D: DeskNames, R: Wait, P: Peers + Drop, B: TickSignal + Drop> SiteClient<'_
     }
 }
 
-/// Whether a spend still waits, by what was told of it.
+/// Whether a spend still waits, according to this reply.
 fn is_waiting(reply: Reply) -> bool
     ensures { result ≡ still_waits reply }
 {

@@ -1,4 +1,4 @@
-//! The desk of a site with all that is given out of it.
+//! The desk of a site with everything that was given out for it.
 ghost use Rattle.std.specs.Prelude.{◌≡◌, ◌≤◌, length, IfOk};
 ghost use Rattle.apply_lanes.specs.Names.{id_of, AreBlank, IsUnused};
 
@@ -10,25 +10,25 @@ use site_sockets::CLIENTS;
 use std::alloc::Global;
 use std::sync::{MutexGuard, Wait};
 
-/// The place of the seat of who writes to the site's input. Those before it are of clients that connect.
+/// The index of the seat of the client that writes to the site's input. Those before it are for clients that connect.
 pub(crate) const COMMANDS: usize = CLIENTS;
 
-/// The place of the seat of the site's own ticks.
+/// The index of the seat of the site's own ticks.
 pub(crate) const TICKS: usize = COMMANDS + 1;
 
 const PLACES: usize = TICKS + 1;
 
-/// The desk of a site under its lock, the seats that no thread has, and what appliers told that are done.
+/// The desk of a site under its lock, the seats that no thread has, and the reports of appliers that are done.
 #[derive(Drop)]
 pub(crate) struct Shared<D: DeskNames> {
     pub(crate) desk: SharedDesk<D>,
     pub(crate) seats: Slots<Seat<D>>,
-    /// For each site that a system may have.
+    /// One slot for each site that a system may have.
     pub(crate) applied: Slots<Applied<D>>,
 }
 
 impl<D: DeskNames> Shared<D> {
-    /// Shares a desk that is not used yet, with no seat.
+    /// Shares a desk that was not used yet, with no seats.
     pub(crate) fn new(alloc: Global, desk: Desk, blanks: Blanks) -> Result<Shared<D>, OutOfMemory>
         requires id { D.id ≡ id_of desk blanks }
         requires blanks { AreBlank blanks }
@@ -41,12 +41,12 @@ impl<D: DeskNames> Shared<D> {
         })
     }
 
-    /// Waits until no other thread has the desk, and gives it until the guard is dropped.
+    /// Waits until no other thread holds the desk, and holds it until the guard is dropped.
     pub(crate) fn lock<'a, R: Wait>(&'a self, rt: &R) -> MutexGuard<'a, Kept<D>> {
         self.desk.lock(rt)
     }
 
-    /// Puts a seat at each place. The desk has as many.
+    /// Puts a seat at each index. The desk has as many.
     pub(crate) fn give_seats<R: Wait>(&self, rt: &R) {
         for place in 0..TICKS {
             if let Ok(seat) = self.desk.seat(rt) {
@@ -58,7 +58,7 @@ impl<D: DeskNames> Shared<D> {
         }
     }
 
-    /// Keeps what the applier of this origin told.
+    /// Keeps what the applier of this origin reports.
     pub(crate) fn put_applied<R: Wait>(&self, rt: &R, origin: SiteId, applied: Applied<D>) {
         self.applied.put(rt, origin.number() as usize - 1, applied);
     }

@@ -1,10 +1,10 @@
-//! That a site starts once.
+//! A site is started once only.
 
 use site_words::SiteFault;
 use std::fs::{File, Files};
 use std::io::ErrorKind;
 
-/// Creates the file that tells that the site was started, where the configuration names one.
+/// Creates the file that records that the site was started, if the configuration names one.
 pub(crate) fn start_once<R: Files>(rt: &R, path: Option<&str>) -> Result<(), SiteFault> {
     let Some(path) = path else {
         return Ok(());

@@ -1,21 +1,21 @@
-//! What tells threads that a tick was done.
+//! Notifies threads that a tick was done.
 ghost use Rattle.std.specs.Prelude.{◌≡◌, IfNone};
 
 use site_sockets::TickNotifier;
 use std::sync::Wait;
 
-/// Tells who waits that a tick was done, at which spends that wait are decided.
+/// Notifies the threads that wait that a tick was done. A tick decides spends that wait.
 pub(crate) trait TickSignal {
-    /// The site has ended: no tick is waited for any more.
+    /// The site has ended: no thread waits for a tick any more.
     ghost has_ended: { Self → Type 0 };
 
-    /// How many ticks there were, from which `next` waits on.
+    /// How many ticks were done; passed to `next`.
     fn count(&self) -> u64;
 
-    /// A tick was done.
+    /// Notifies that a tick was done.
     fn notify(&self);
 
-    /// Waits until there were other than so many ticks, and answers how many. None at the end of the site.
+    /// Waits until the number of ticks is not `seen`, and returns it. `None` at the end of the site.
     fn next(&self, seen: u64) -> Option<u64>
         ensures { IfNone result (has_ended self.now) };
 }

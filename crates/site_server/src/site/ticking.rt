@@ -10,7 +10,7 @@ use std::sync::{Arc, Wait};
 use std::thread::Scope;
 use std::time::{Clock, Duration, SystemTime, UNIX_EPOCH};
 
-/// The milliseconds since 1970, where the clock can be read.
+/// The milliseconds since 1970. `None` if the clock cannot be read.
 fn milliseconds<R: Clock>(rt: &R) -> Option<u64> {
     let now = SystemTime::now(rt).ok()?;
     let since = now.duration_since(UNIX_EPOCH).ok()?;
@@ -24,8 +24,8 @@ impl<D: DeskNames, R: Wait + Clock, P: Peers + Drop, B: TickSignal + Drop> SiteC
     P,
     B,
 > {
-    /// Does every so many milliseconds what a `tick` with the time since 1970 does, till the site ends. A time that the
-    /// desk refuses, as one that went back, does nothing.
+    /// Every `every` milliseconds, does what a `tick` with the time since 1970 does, until the site ends. A time that
+    /// the desk refuses, because it went back, has no effect.
     pub(crate) fn tick_all(&mut self, rt: &R, site: &Site, every: u64) {
         let time = Duration::from_millis(every);
         for _ in rt.forever() {
@@ -39,7 +39,7 @@ impl<D: DeskNames, R: Wait + Clock, P: Peers + Drop, B: TickSignal + Drop> SiteC
     }
 }
 
-/// Does what is due every so many milliseconds, with a seat that is put back.
+/// Does what is due every `every` milliseconds, with a seat that is put back.
 fn keep_time<D: DeskNames, R: Wait + Clock + AllocGlobal>(
     rt: &R,
     site: &Site,
@@ -52,7 +52,7 @@ fn keep_time<D: DeskNames, R: Wait + Clock + AllocGlobal>(
     }
 }
 
-/// Starts the thread that ticks, where the site ticks itself. False where it could not be started.
+/// Starts the thread that ticks, if the site ticks by itself. `false` if it could not be started.
 pub(crate) fn begin_ticks<
     's,
     E,

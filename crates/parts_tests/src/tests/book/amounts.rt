@@ -45,7 +45,7 @@ fn greatest_moves(rt: HostRuntime) {
     assert!(rt; reported_of(&book, 2) == reported);
 }
 
-/// The greatest gifts of another site, in one entry, are received whole.
+/// The greatest gifts of another site, in one entry, are received in full.
 #[test]
 fn greatest_gifts(rt: HostRuntime) {
     let mut book = new_book(&rt, 1, 2);
@@ -65,7 +65,7 @@ fn greatest_gifts(rt: HostRuntime) {
     assert!(rt; known(&book, 1) == 16_000_000_000 && reported_of(&book, 2) == reported);
 }
 
-/// A test of many moves counts past 64 bits.
+/// A check of many moves counts beyond 64 bits.
 #[test]
 fn many_moves_do_not_wrap(rt: HostRuntime) {
     let book = new_book(&rt, 1, 2);
@@ -76,7 +76,7 @@ fn many_moves_do_not_wrap(rt: HostRuntime) {
     assert!(rt; refusal(&book, &[spend(MAX_AMOUNT)]) == Some(BookError::Short));
 }
 
-/// What another site took back may pass 64 bits.
+/// What another site took back may exceed 64 bits.
 #[test]
 fn known_passes_64_bits(rt: HostRuntime) {
     let backs = [take_back(1, MAX_TOTAL); 16];
@@ -89,7 +89,7 @@ fn known_passes_64_bits(rt: HostRuntime) {
     assert!(rt; held(&book) == 0);
 }
 
-/// Rights go round many times, each time whole.
+/// Rights go round many times, in full each time.
 #[test]
 fn many_entries(rt: HostRuntime) {
     let mut book = new_book(&rt, 1, 2);

@@ -1,4 +1,4 @@
-//! Calls of a book that are made only where its own answers allow them.
+//! Calls of a book that are made only if its own readers allow them.
 ghost use Rattle.std.specs.Prelude.{◌≡◌, ◌≤◌, length};
 ghost use Rattle.rights_types.specs.Moves.{take_back_from};
 ghost use Rattle.rights_types.specs.Ranges.{IsSite};
@@ -46,7 +46,7 @@ fn apply<A: Allocator, B: Allocator>(book: &mut Book<A>, origin: SiteId, entry: 
     true
 }
 
-/// Applies the entry of these moves behind a number as the origin's next one, if it is.
+/// Applies the entry of these moves after a number as the origin's next one, if it is.
 pub(crate) fn applies<A: Allocator>(
     rt: &impl AllocGlobal,
     book: &mut Book<A>,

@@ -6,7 +6,7 @@ use rights_types::Move;
 use std::alloc::Global;
 use test_kit::{give, issue, spend, take_back};
 
-/// Each test goes over all moves before the next one begins.
+/// Each check goes over all moves before the next one begins.
 #[test]
 fn refuses_in_order(rt: HostRuntime) {
     let mut book = new_book(&rt, 1, 2);
@@ -30,7 +30,7 @@ fn is_short(book: &Book<Global>, moves: &[Move]) -> bool {
     refusal(book, moves) == Some(BookError::Short)
 }
 
-// Whether three rights do not cover four, whatever comes beside or after.
+// Whether three rights do not cover four, whatever comes with it or after it.
 fn all_are_short(book: &Book<Global>) -> bool {
     is_short(book, &[spend(4)])
         && is_short(book, &[spend(2), give(2, 2)])
@@ -50,7 +50,7 @@ fn counts_rights_in_order(rt: HostRuntime) {
     assert!(rt; held(&book) == 3);
 }
 
-/// Of a site that the system does not have nothing is known.
+/// Nothing is known of a site that the system does not have.
 #[test]
 fn knows_nothing_of_other_systems(rt: HostRuntime) {
     let mut book = new_book(&rt, 1, 2);

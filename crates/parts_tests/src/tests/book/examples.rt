@@ -8,7 +8,7 @@ use rights_types::TypeError;
 use std::alloc::Global;
 use test_kit::{close_at, give, grant, issue, spend, take_back};
 
-/// A site's spend may come before the gift that it used.
+/// A site's spend may arrive before the gift that it used.
 #[test]
 fn known_of_gifts_not_yet_applied(rt: HostRuntime) {
     let mut book = new_book(&rt, 3, 3);
@@ -70,7 +70,7 @@ fn gives_what_is_held(rt: HostRuntime) {
     assert!(rt; reported_of(&second, 1) == reported);
 }
 
-/// A site asks, is granted, and spends.
+/// A site asks, gets a grant, and spends.
 #[test]
 fn spends_what_was_granted(rt: HostRuntime) {
     let mut second = new_book(&rt, 2, 2);
@@ -121,7 +121,7 @@ fn knows_what_others_hold(rt: HostRuntime) {
     assert!(rt; held(&book) == 0);
 }
 
-/// A site closes with an heir: its log takes nothing more.
+/// A site closes with an heir: its log accepts nothing more.
 #[test]
 fn closes_with_an_heir(rt: HostRuntime) -> Result<(), TypeError> {
     let last = [give(2, 3), close_at(&[0, 0])?];
@@ -147,13 +147,13 @@ fn closes_with_an_heir(rt: HostRuntime) -> Result<(), TypeError> {
     Ok(())
 }
 
-// Whether site 1 may be given nothing, and what it was given may be taken back.
+// Whether site 1 may not be given anything, and what it was given may be taken back.
 fn gets_nothing(book: &Book<Global>) -> bool {
     refusal(book, &[give(1, 1)]) == Some(BookError::PeerClosed)
         && refusal(book, &[take_back(1, 1)]).is_none()
 }
 
-/// Nothing more is applied of a site that closed, and nothing is given to it.
+/// Nothing more is applied from a site that closed, and nothing is given to it.
 #[test]
 fn nothing_is_given_to_a_closed_site(rt: HostRuntime) -> Result<(), TypeError> {
     let last = [give(2, 3), close_at(&[0, 0])?];
@@ -194,7 +194,7 @@ fn takes_back_from_a_closed_site(rt: HostRuntime) -> Result<(), TypeError> {
     };
     assert!(rt; totals_of(&first) == totals);
     assert!(rt; known(&first, 1) == 10);
-    // What was given to it counts still, though it was taken back.
+    // What was given to it still counts, although it was taken back.
     let reported = Reported {
         known: 4,
         applied: 1,

@@ -1,4 +1,4 @@
-//! The book takes its memory once.
+//! The book requests its memory once.
 ghost use Rattle.std.specs.Prelude.{◌≤◌};
 
 use crate::tests::book::calls::{applies, write};
@@ -11,7 +11,7 @@ use std::alloc::{AllocError, AllocGlobal, Allocator};
 use std::test::Fail;
 use test_kit::{give, issue, site};
 
-// Whether no book is made where the first request for memory is refused.
+// Whether no book is made if the first memory request is refused.
 fn is_refused(rt: &impl AllocGlobal, me: SiteId, sites: u64) -> bool
     requires system { (MIN_SITES ≤ sites) × (sites ≤ MAX_SITES) }
     requires member { me ≤ sites }
@@ -21,7 +21,7 @@ fn is_refused(rt: &impl AllocGlobal, me: SiteId, sites: u64) -> bool
     made.is_err() && refusing.refused()
 }
 
-// Whether one request makes a book where nothing is booked.
+// Whether one request makes a book in which nothing is booked.
 fn is_made_by_one_request(rt: &impl AllocGlobal, me: SiteId, sites: u64) -> bool
     requires system { (MIN_SITES ≤ sites) × (sites ≤ MAX_SITES) }
     requires member { me ≤ sites }
@@ -33,7 +33,7 @@ fn is_made_by_one_request(rt: &impl AllocGlobal, me: SiteId, sites: u64) -> bool
     !once.refused() && book.me() == me && book.sites() == sites && nothing_booked(&book)
 }
 
-// All that the book tells of its own log and of each site's is 0, and no site has closed.
+// Everything that the book reports of its own log and of each site's is 0, and no site has closed.
 fn nothing_booked<A: Allocator>(book: &Book<A>) -> bool {
     for index in 0..MAX_SITES {
         if reported_of(book, index + 1) != UNREPORTED {
@@ -43,8 +43,8 @@ fn nothing_booked<A: Allocator>(book: &Book<A>) -> bool {
     totals_of(book) == NO_TOTALS
 }
 
-/// In a system of each size, each site's book is made by one request for memory, and is refused
-/// where that is.
+/// In a system of each size, each site's book is made with one memory request, and is refused
+/// if that is.
 #[test]
 fn each_new_book(rt: HostRuntime) {
     for sites in MIN_SITES..=MAX_SITES {
@@ -64,7 +64,7 @@ fn writes_and_applies<A: Allocator>(rt: &impl AllocGlobal, book: &mut Book<A>) -
         && known(book, 2) == 3
 }
 
-/// A new book asks for memory once, and nothing else does.
+/// A new book requests memory once, and nothing else does.
 #[test]
 fn asks_for_memory_once(rt: HostRuntime) -> Result<(), OutOfMemory> {
     let once = Refusing::new(rt.alloc(), 1);
@@ -74,7 +74,7 @@ fn asks_for_memory_once(rt: HostRuntime) -> Result<(), OutOfMemory> {
     Ok(())
 }
 
-// The bytes that 96 for each of so many sites take.
+// The bytes of 96 for each of this number of sites.
 fn bytes_of_sites(heap: &LocalHeap, sites: u64) -> Result<usize, AllocError> {
     let _rows: Vec<[u64; 12], &LocalHeap> = Vec::with_capacity(heap, sites as usize)?;
     Ok(heap.used())

@@ -1,4 +1,4 @@
-//! All that a book tells, to be compared whole.
+//! Everything that a book reports, to be compared whole.
 ghost use Rattle.std.specs.Prelude.{◌≤◌};
 ghost use Rattle.rights_types.specs.Ranges.{IsSite};
 
@@ -8,7 +8,7 @@ use std::alloc::{AllocGlobal, Allocator, Global};
 use std::process::Abort;
 use test_kit::site;
 
-/// What a book tells of its own site: of its log, and what it received and holds.
+/// What a book reports of its own site: of its log, and what it received and holds.
 #[derive(Clone, Copy, PartialEq)]
 pub(crate) struct Totals {
     pub(crate) number: u64,
@@ -31,7 +31,7 @@ pub(crate) const NO_TOTALS: Totals = Totals {
     held: 0,
 };
 
-/// What a book tells of a site.
+/// What a book reports of a site.
 #[derive(Clone, Copy, PartialEq)]
 pub(crate) struct Reported {
     pub(crate) known: i128,
@@ -52,7 +52,7 @@ pub(crate) const UNREPORTED: Reported = Reported {
     closed: false,
 };
 
-/// The book of site `me` among so many, where nothing is booked.
+/// The book of site `me` in a system of this many sites, in which nothing is booked.
 pub(crate) fn new_book(rt: &(impl Abort + AllocGlobal), me: u64, sites: u64) -> Book<Global>
     requires me { IsSite me }
     requires system { (MIN_SITES ≤ sites) × (sites ≤ MAX_SITES) }

@@ -21,7 +21,7 @@ fn gifts<A: Allocator>(alloc: A, from: SiteId) -> Result<Vec<Move, A>, AllocErro
     Ok(moves)
 }
 
-// Whether the book knows that each site has 20, and of the others one gift each way.
+// Whether the book knows that each site has 20, and of the others one gift in each direction.
 fn knows_all<A: Allocator>(book: &Book<A>, me: SiteId) -> bool {
     for index in 0..MAX_SITES {
         let gift = if index + 1 == me.number() { 0 } else { 1 };

@@ -1,8 +1,8 @@
-//! Entries that arrive, each with all that it frees.
+//! Entries that arrive, each with all entries that it frees.
 use crate::tests::buffer::steps::{Step, first_wrong};
 use std::test::Fail;
 
-/// Windows that come backwards, each entry three times: each is delivered once, in order.
+/// Windows that arrive backwards, each entry three times: each is delivered once, in order.
 #[test]
 fn windows_backwards(rt: HostRuntime) -> Result<(), Fail> {
     let mut steps = Vec::new(rt.alloc());
@@ -55,7 +55,7 @@ fn most_verdicts_on_an_answer(rt: HostRuntime) {
     assert_eq!(rt; wrong, None);
 }
 
-/// Entries of no common chain, a closing entry, and what comes after it.
+/// Entries of no common chain, a closing entry, and what arrives after it.
 #[test]
 fn lying_origin_arrives(rt: HostRuntime) {
     let wrong = first_wrong(

@@ -1,4 +1,4 @@
-//! The buffer takes its memory once.
+//! The buffer requests its memory once.
 use crate::tests::buffer::steps::{Step, first_wrong};
 use linked_list_allocator::LocalHeap;
 use refusing_allocator::Refusing;
@@ -8,7 +8,7 @@ use std::test::Fail;
 use sub_buffer::{State, SubBuffer};
 use test_kit::requests_of;
 
-// Whether a buffer of these sites is made, and nothing has come to it, unless memory was refused.
+// Whether a buffer of these sites is made, at which nothing has arrived, unless memory was refused.
 fn makes<A: Allocator>(memory: &Refusing<A>, me: SiteId, origin: SiteId) -> bool {
     if me == origin {
         return false;
@@ -22,7 +22,7 @@ fn makes<A: Allocator>(memory: &Refusing<A>, me: SiteId, origin: SiteId) -> bool
     }
 }
 
-/// For any two sites `new` makes a buffer with one request for memory, and where that is refused it says so.
+/// For any two sites `new` makes a buffer with one memory request, and reports if that is refused.
 #[test]
 fn one_request_for_any_two_sites(rt: HostRuntime) {
     for me in 1..=16u64 {
@@ -54,8 +54,8 @@ fn memory_of_64_entries(rt: HostRuntime) -> Result<(), Fail> {
     Ok(())
 }
 
-/// No call but `new` asks for memory: 66 entries come, are held and delivered, and each took its one
-/// request when it was made.
+/// No call except `new` requests memory: 66 entries arrive, are held and delivered, and each made its one
+/// request when it was built.
 #[test]
 fn no_growth_after_new(rt: HostRuntime) {
     let steps = [

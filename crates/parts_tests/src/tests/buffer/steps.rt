@@ -1,4 +1,4 @@
-//! Runs of one buffer, told step by step.
+//! Runs of one buffer, described step by step.
 ghost use Rattle.std.specs.Prelude.{◌≡◌, IfOk};
 ghost use Rattle.std.specs.List.{All};
 ghost use Rattle.rights_types.specs.Entries.{EntryValue};
@@ -8,7 +8,7 @@ use std::alloc::Allocator;
 use sub_buffer::{BufferError, MAX_VERDICTS, State, SubBuffer, Verdict};
 use test_kit::{close, issue};
 
-/// A call of a buffer of site 2 for the log of site 1, and what it comes to. Entries are told by the number
+/// A call of a buffer of site 2 for the log of site 1, and its result. Entries are described by the number
 /// before them and their count of moves, verdicts by a word.
 #[derive(Clone, Copy)]
 pub(crate) enum Step {
@@ -20,11 +20,11 @@ pub(crate) enum Step {
     OfferForeign(u64),
     /// A closing entry is offered.
     OfferClosing(u64, &'static str),
-    /// All that has become next: so many entries of one move, the first after the number.
+    /// All that is delivered next: this number of entries of one move, the first after the number.
     Pop(u64, u64),
-    /// An entry arrives, and frees so many.
+    /// An entry arrives, and frees this number of entries.
     Arrive(u64, usize, &'static str, usize),
-    /// An answer arrives, of entries of one move after these numbers: so many verdicts.
+    /// An answer arrives, with entries of one move after these numbers: this number of verdicts.
     Answer(&'static [u64], usize),
     Beat(u64),
     Gap(Option<(u64, u64)>),
@@ -34,7 +34,7 @@ pub(crate) enum Step {
     Is(State),
 }
 
-/// The first step that does not come out as told, if there is one.
+/// The first step with another result than expected, if there is one.
 pub(crate) fn first_wrong<A: Allocator + Copy>(
     alloc: A,
     steps: &[Step],
@@ -81,7 +81,7 @@ fn is_right<A: Allocator + Copy>(
     }
 }
 
-// Whether the entry, if it was made, has that verdict.
+// Whether the entry, if it was built, has that verdict.
 fn offers<A: Allocator>(
     buffer: &mut SubBuffer<A>,
     entry: Result<Entry<A>, OutOfMemory>,
@@ -90,7 +90,7 @@ fn offers<A: Allocator>(
     Ok(word_of(buffer, entry?) == word)
 }
 
-// Of the steps with no entry.
+// The steps with no entry.
 fn is_right_alone<A: Allocator>(buffer: &mut SubBuffer<A>, step: Step) -> bool {
     match step {
         Step::Pop(prev, count) => pops(buffer, prev, count),
@@ -139,7 +139,7 @@ fn pops<A: Allocator>(buffer: &mut SubBuffer<A>, prev: u64, count: u64) -> bool 
     buffer.pop_ready().is_none()
 }
 
-// Whether the entry has that verdict and frees so many entries, each after the one before it.
+// Whether the entry has that verdict and frees this number of entries, each after the one before it.
 fn arrives<A: Allocator + Copy>(
     alloc: A,
     buffer: &mut SubBuffer<A>,
@@ -151,7 +151,7 @@ fn arrives<A: Allocator + Copy>(
     if entry.origin() != buffer.origin() {
         return Ok(false);
     }
-    // The buffer is settled: nothing more is next.
+    // The buffer is settled: nothing more is ready.
     let None = buffer.pop_ready() else {
         return Ok(false);
     };
@@ -221,7 +221,7 @@ fn issues<A: Allocator>(
     entry(alloc, origin, prev, &moves[..count.min(MAX_MOVES)])
 }
 
-// What is no entry fails a test as want of memory does.
+// An entry that cannot be built fails a test, as lack of memory does.
 fn entry<A: Allocator>(
     alloc: A,
     origin: SiteId,
@@ -254,7 +254,7 @@ fn verdict_word<A: Allocator>(verdict: &Verdict<A>) -> &'static str {
     }
 }
 
-// The first and the last number that a query asks for.
+// The first and the last number that a query requests.
 fn numbers_of(query: Option<Query>) -> Option<(u64, u64)> {
     match query {
         Some(query) => Some((query.first(), query.last())),

@@ -1,4 +1,4 @@
-//! Verdicts, gaps and what comes out of a buffer.
+//! Verdicts, gaps and what a buffer delivers.
 use crate::tests::buffer::steps::{Step, first_wrong};
 use std::test::Fail;
 use sub_buffer::State;
@@ -61,7 +61,7 @@ fn closed(rt: HostRuntime) {
     assert_eq!(rt; wrong, None);
 }
 
-/// Entries that a lying origin sends beyond its closing entry stay held.
+/// Entries that a faulty origin sends after its closing entry remain held.
 #[test]
 fn held_beyond_the_end(rt: HostRuntime) {
     let wrong = first_wrong(
@@ -105,7 +105,7 @@ fn answer_frees_later_entry(rt: HostRuntime) {
     assert_eq!(rt; wrong, None);
 }
 
-/// A beat tells of an entry that was lost, and the gap is asked for once, or again.
+/// A beat reveals an entry that was lost, and the gap is queried once, or again.
 #[test]
 fn beat_tells_of_a_loss(rt: HostRuntime) {
     let wrong = first_wrong(
@@ -132,7 +132,7 @@ fn beat_tells_of_a_loss(rt: HostRuntime) {
     assert_eq!(rt; wrong, None);
 }
 
-/// The first 16 of 20 entries come, and the other four are asked for.
+/// The first 16 of 20 entries arrive, and the other four are queried.
 #[test]
 fn answer_is_too_short(rt: HostRuntime) {
     let wrong = first_wrong(
@@ -148,7 +148,7 @@ fn answer_is_too_short(rt: HostRuntime) {
     assert_eq!(rt; wrong, None);
 }
 
-/// Entries of no common chain: what is delivered is a chain all the same.
+/// Entries of no common chain: what is delivered is a chain nevertheless.
 #[test]
 fn lying_origin(rt: HostRuntime) {
     let wrong = first_wrong(
@@ -172,7 +172,7 @@ fn lying_origin(rt: HostRuntime) {
     assert_eq!(rt; wrong, None);
 }
 
-/// Sixty-four entries, held in many orders, all come out in their own order.
+/// Sixty-four entries, held in many orders, are all delivered in their own order.
 #[test]
 fn held_in_many_orders(rt: HostRuntime) -> Result<(), Fail> {
     for stride in 1..=64u64 {

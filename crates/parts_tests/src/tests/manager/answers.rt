@@ -1,4 +1,4 @@
-//! What a site answers to asks.
+//! How a site answers asks.
 ghost use Rattle.std.specs.Prelude.{◌≡◌, ◌≤◌};
 ghost use Rattle.rights_types.specs.Ranges.{IsAmount};
 ghost use Rattle.transfer_manager.specs.Managers.{sites};
@@ -6,7 +6,7 @@ ghost use Rattle.transfer_manager.specs.Managers.{sites};
 use rights_types::{Amount, Ask, AskNumber, SiteId};
 use transfer_manager::{AskAnswer, Manager};
 
-/// An ask to site 1 of three for six rights, and what it is to be answered.
+/// An ask to site 1 of three for six rights, and the expected answer.
 #[derive(Clone, Copy)]
 struct Case {
     asker: u64,
@@ -23,7 +23,7 @@ fn ask(case: Case) -> Option<Ask> {
     Ask::new(asker, SiteId::known(1), number, Amount::known(6)).ok()
 }
 
-// The answer to an ask, which is noted where it should be.
+// The answer to an ask, which is noted if it should be.
 fn answer(manager: &mut Manager, ask: &Ask, available: u64, noted: bool) -> AskAnswer
     requires { ask.now.asker ≤ sites manager.old }
     ensures { sites manager.new ≡ sites manager.old }
@@ -49,7 +49,7 @@ fn is_answered(manager: &mut Manager, case: Case) -> bool
     }
 }
 
-// How many asks in turn are answered as they should be, before the first that is not.
+// How many asks in turn are answered as expected, before the first that is not.
 fn cases_answered(cases: &[Case]) -> usize {
     let mut manager = Manager::new(SiteId::known(1), 3);
     for (place, case) in cases.iter().enumerate() {
@@ -88,7 +88,7 @@ fn unnoted(asker: u64, number: u64, available: u64, answer: AskAnswer) -> Case {
     }
 }
 
-/// Three asks of one site. Nothing is noted by the answer itself, and each number is answered once.
+/// Three asks of one site. Answering alone notes nothing, and each number is answered once.
 #[test]
 fn each_number_is_answered_once(rt: HostRuntime) {
     let cases = [
@@ -103,7 +103,7 @@ fn each_number_is_answered_once(rt: HostRuntime) {
     assert_eq!(rt; cases_answered(&cases), cases.len());
 }
 
-/// A repeat is a repeat whatever is available, and a denied number is not granted later.
+/// A repeat is a repeat however much is available, and a denied number is not granted later.
 #[test]
 fn repeats_come_before_availability(rt: HostRuntime) {
     let cases = [
@@ -116,7 +116,7 @@ fn repeats_come_before_availability(rt: HostRuntime) {
     assert_eq!(rt; cases_answered(&cases), cases.len());
 }
 
-/// A denial is repeated until a later ask is answered, by a denial too.
+/// A denial is repeated until a later ask is answered, even with a denial.
 #[test]
 fn denials_in_turn(rt: HostRuntime) {
     let cases = [
@@ -128,7 +128,7 @@ fn denials_in_turn(rt: HostRuntime) {
     assert_eq!(rt; cases_answered(&cases), cases.len());
 }
 
-/// Each asker has numbers of its own, and numbers may be passed over.
+/// Each asker has its own numbers, and numbers may be skipped.
 #[test]
 fn askers_count_apart(rt: HostRuntime) {
     let cases = [

@@ -1,4 +1,4 @@
-//! Managers, and asks that come to them: calls that are made only where they may be, and answer what came of them.
+//! Managers, and asks that reach them: calls that are made only if they are permitted, and that return their results.
 ghost use Rattle.std.specs.Prelude.{◌≡◌, ◌≤◌};
 ghost use Rattle.transfer_manager.specs.Managers.{sites};
 
@@ -8,7 +8,7 @@ use rights_types::{Ask, AskNumber, Entry, Move, SiteId};
 use std::alloc::Global;
 use transfer_manager::Manager;
 
-/// A manager, and what it plans by.
+/// A manager, and the book and queue by which it plans.
 #[derive(Drop)]
 pub(crate) struct Planner {
     me: u64,
@@ -19,28 +19,28 @@ pub(crate) struct Planner {
     ghost same: { sites manager ≡ count },
 }
 
-/// What is done with a manager, or seen of it. Peers go by their numbers.
+/// A step at a manager, or an observation of it. Peers are given by their numbers.
 #[derive(Clone, Copy)]
 pub(crate) enum Step {
-    /// The next entry of that peer is applied, of this move so many times.
+    /// The next entry of that peer is applied, with this move repeated.
     Applies(u64, Move, usize),
-    /// That peer is known to have so many rights.
+    /// That peer is known to have this number of rights.
     Knows(u64, i128),
-    /// A request for so many rights waits till that deadline, as this ticket.
+    /// A request for this number of rights waits until that deadline, with this ticket.
     Waits(u64, u64, u64),
-    /// So many peers are asked.
+    /// This number of peers is asked.
     Plans(u64),
     /// The ask of this number and amount to that peer is outstanding.
     Asks(u64, u64, u64),
     /// No ask to that peer is outstanding.
     AsksNothing(u64),
-    /// That peer grants the ask of this number.
+    /// That peer grants the ask with this number.
     Granted(u64, u64),
-    /// That peer denies the ask of this number.
+    /// That peer denies the ask with this number.
     Denied(u64, u64),
 }
 
-// Applies the moves as the next entry of that site. `false` where they may not be.
+// Applies the moves as the next entry of that site. `false` if that is not permitted.
 fn apply(book: &mut Book, origin: SiteId, moves: Vec<Move>) -> bool {
     let me = book.me();
     if origin.number() > book.sites() || origin == me || book.closed(origin) {
@@ -63,7 +63,7 @@ fn is_ask(ask: &Ask, asker: u64, asked: u64, number: u64, amount: u64) -> bool {
 }
 
 impl Planner {
-    /// The manager of that site among so many, with a book and a queue.
+    /// The manager of that site in a system of this many sites, with a book and a queue.
     pub(crate) fn new(alloc: Global, me: u64, count: u64) -> Option<Planner>
         requires count { (2 ≤ count) × (count ≤ 16) }
         requires me { (1 ≤ me) × (me ≤ count) }
@@ -141,7 +141,7 @@ impl Planner {
         true
     }
 
-    // Whether the step goes as it says.
+    // Whether the step has the stated result.
     fn goes(&mut self, alloc: Global, step: Step) -> bool {
         match step {
             Step::Applies(peer, m, times) => self.applies(alloc, peer, m, times),
@@ -156,7 +156,7 @@ impl Planner {
     }
 }
 
-/// How many steps go as they say, before the first that does not, at that site among so many.
+/// How many steps have the stated results, before the first that does not, at that site in a system of this many.
 pub(crate) fn steps_gone(alloc: Global, me: u64, count: u64, steps: &[Step]) -> usize
     requires count { (2 ≤ count) × (count ≤ 16) }
     requires me { (1 ≤ me) × (me ≤ count) }

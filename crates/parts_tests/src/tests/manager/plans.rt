@@ -3,7 +3,7 @@ use crate::tests::manager::calls::{Step, steps_gone};
 use rights_types::{MAX_AMOUNT, Move};
 use test_kit::{grant, issue, spend};
 
-/// Both peers are asked for all that they are known to have, and then no more.
+/// Both peers are asked for all that they are known to have, and then for no more.
 #[test]
 fn two_peers_are_asked(rt: HostRuntime) {
     let steps = [
@@ -37,7 +37,7 @@ fn a_grant_ends_its_ask(rt: HostRuntime) {
     assert_eq!(rt; steps_gone(rt.alloc(), 2, 2, &steps), steps.len());
 }
 
-/// After a denial the peer is asked again, under the next number. A late denial ends nothing.
+/// After a denial the peer is asked again, with the next number. A late denial ends nothing.
 #[test]
 fn a_denied_peer_is_asked_again(rt: HostRuntime) {
     let steps = [
@@ -53,7 +53,7 @@ fn a_denied_peer_is_asked_again(rt: HostRuntime) {
     assert_eq!(rt; steps_gone(rt.alloc(), 2, 2, &steps), steps.len());
 }
 
-/// Nobody is asked who is known to lack rights or to have none.
+/// No peer is asked that is known to lack rights or to have none.
 #[test]
 fn no_peer_with_rights(rt: HostRuntime) {
     let steps = [
@@ -68,7 +68,7 @@ fn no_peer_with_rights(rt: HostRuntime) {
     assert_eq!(rt; steps_gone(rt.alloc(), 3, 3, &steps), steps.len());
 }
 
-/// A peer is asked for 10^9 at most, and the next one for what the first is known to leave.
+/// A peer is asked for at most 10^9, and then the next one for what the first is known to leave.
 #[test]
 fn an_ask_has_a_greatest_amount(rt: HostRuntime) {
     let steps = [

@@ -8,7 +8,7 @@ use std::alloc::Global;
 /// A peer, and how many rights it is asked for.
 type Asked = (u64, u64);
 
-// Whether so many rights of each of sixteen sites are applied, but for the planner's own.
+// Whether these numbers of rights of the sixteen sites are applied, except for the planner's own.
 fn applies_all(planner: &mut Planner, alloc: Global, me: u64, rights: &[u64; 16]) -> bool {
     for (index, issued) in rights.iter().enumerate() {
         let Ok(amount) = Amount::new(*issued) else {
@@ -22,7 +22,7 @@ fn applies_all(planner: &mut Planner, alloc: Global, me: u64, rights: &[u64; 16]
     true
 }
 
-// Whether these peers were asked, each by its first ask, and no others.
+// Whether these peers were asked, each with its first ask, and no others.
 fn asks_only(planner: &Planner, asked: &[Asked; 3]) -> bool {
     (1..=16u64).all(|peer| match asked.iter().find(|one| one.0 == peer) {
         Some((_, amount)) => planner.asks(peer, 1, *amount),
@@ -30,7 +30,8 @@ fn asks_only(planner: &Planner, asked: &[Asked; 3]) -> bool {
     })
 }
 
-// Whether a site that lacks so many rights, and knows of these of sixteen sites, asks those peers and no more.
+// Whether a site that lacks this number of rights, and knows of these at the sixteen sites, asks those peers and no
+// more.
 fn asks(alloc: Global, me: u64, rights: &[u64; 16], lacking: u64, asked: &[Asked; 3]) -> bool
     requires { (1 ≤ me) × (me ≤ 16) }
 {
@@ -44,14 +45,14 @@ fn asks(alloc: Global, me: u64, rights: &[u64; 16], lacking: u64, asked: &[Asked
         && planner.plans(0)
 }
 
-/// Of peers that are known to have as much, those with smaller numbers are asked first.
+/// Of peers that are known to have equal amounts, those with smaller numbers are asked first.
 #[test]
 fn equal_peers_by_number(rt: HostRuntime) {
     let asked = [(1, 5), (3, 5), (4, 2)];
     assert!(rt; asks(rt.alloc(), 2, &[5; 16], 12, &asked));
 }
 
-/// Of peers that are known to have more or less, those with more are asked first.
+/// Of peers that are known to have different amounts, those with more are asked first.
 #[test]
 fn unequal_peers_by_rights(rt: HostRuntime) {
     let rights = [1, 2, 3, 4, 5, 6, 7, 8, 9, 10, 11, 12, 13, 14, 15, 16];

@@ -1,4 +1,4 @@
-//! The queue takes its memory once.
+//! The queue requests its memory once.
 use linked_list_allocator::LocalHeap;
 use refusing_allocator::Refusing;
 use request_queue::{QueueError, RequestQueue, SLOTS, Status};
@@ -7,10 +7,10 @@ use std::alloc::Allocator;
 use std::test::Fail;
 use test_kit::requests_of;
 
-// A new queue asks for the room of its waiting requests, and for that of its outcomes.
+// A new queue requests memory for its waiting requests, and for its outcomes.
 const REQUESTS: u64 = 2;
 
-/// Each growth that a new queue needs is refused in turn, and then none is.
+/// Each memory request of a new queue is refused in turn, and then none is.
 #[test]
 fn each_growth_of_a_new_queue_refused(rt: HostRuntime) {
     let requests = requests_of(rt.alloc(), |memory| {
@@ -27,8 +27,8 @@ fn each_growth_of_a_new_queue_refused(rt: HostRuntime) {
     assert!(rt; requests == Some(REQUESTS));
 }
 
-/// A queue takes room for as many requests as it has slots, and for as many outcomes: each has three
-/// numbers at most.
+/// A queue takes memory for as many requests as it has slots, and for as many outcomes: each has at most three
+/// numbers.
 #[test]
 fn room_of_the_slots(rt: HostRuntime) -> Result<(), Fail> {
     let heap = LocalHeap::new(rt.alloc(), 1 << 16)?;
@@ -40,7 +40,7 @@ fn room_of_the_slots(rt: HostRuntime) -> Result<(), Fail> {
     Ok(())
 }
 
-// Whether all slots fill, by requests that expire.
+// Whether all slots fill, with requests that expire.
 fn fills<A: Allocator>(queue: &mut RequestQueue<A>) -> bool {
     for ticket in 1..=SLOTS as u64 {
         if queue.put(1, ticket) != Ok(ticket) {
@@ -55,7 +55,7 @@ fn fills<A: Allocator>(queue: &mut RequestQueue<A>) -> bool {
     true
 }
 
-// Whether they empty again, as the outcomes are told.
+// Whether they empty again, as the outcomes are read.
 fn empties<A: Allocator>(queue: &mut RequestQueue<A>) -> bool {
     for ticket in 1..=SLOTS as u64 {
         if queue.status(ticket) != Status::Expired {
@@ -65,7 +65,7 @@ fn empties<A: Allocator>(queue: &mut RequestQueue<A>) -> bool {
     true
 }
 
-// Whether the request of that ticket is served by an entry of number 1.
+// Whether the request with that ticket is served by an entry with number 1.
 fn serves<A: Allocator>(queue: &mut RequestQueue<A>, ticket: u64) -> bool {
     if queue.waiting() == 0 {
         return false;
@@ -74,7 +74,7 @@ fn serves<A: Allocator>(queue: &mut RequestQueue<A>, ticket: u64) -> bool {
     queue.status(ticket) == Status::Spent(1)
 }
 
-/// After `new` no call asks for memory: all slots fill, empty and fill again with none to be had.
+/// After `new` no call requests memory: all slots fill, empty and fill again with none available.
 #[test]
 fn no_call_after_new_takes_memory(rt: HostRuntime) -> Result<(), Fail> {
     let refusing = Refusing::new(rt.alloc(), REQUESTS);

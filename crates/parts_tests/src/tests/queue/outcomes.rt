@@ -4,7 +4,7 @@ use rights_types::{MAX_AMOUNT, OutOfMemory};
 use std::alloc::Global;
 use std::process::Abort;
 
-/// A call of a queue, and what it answers.
+/// A call of a queue, and its result.
 #[derive(Clone, Copy)]
 enum Call {
     /// Amount and deadline of a request.
@@ -22,7 +22,7 @@ enum Call {
     NoFront,
 }
 
-// Whether the request of that ticket, for so many rights until that deadline, is the front.
+// Whether the request with that ticket, for this number of rights until that deadline, is at the front.
 fn is_at_front(queue: &RequestQueue, ticket: u64, amount: u64, deadline: u64) -> bool {
     match queue.front() {
         Some(front) => front.0 == ticket && front.1.value() == amount && front.2 == deadline,
@@ -57,13 +57,13 @@ fn answers_all(rt: &impl Abort, queue: &mut RequestQueue, calls: &[Call]) {
     }
 }
 
-// The same of a new queue.
+// The same for a new queue.
 fn a_new_queue_answers(rt: &impl Abort, alloc: Global, calls: &[Call]) -> Result<(), OutOfMemory> {
     answers_all(rt, &mut RequestQueue::new(alloc)?, calls);
     Ok(())
 }
 
-// The same of a queue of 32 requests of this amount, with the deadline 0 and the tickets 1 to 32.
+// The same for a queue of 32 requests of this amount, with the deadline 0 and the tickets 1 to 32.
 fn a_full_queue_answers(
     rt: &impl Abort,
     alloc: Global,
@@ -92,7 +92,7 @@ const FIRST_SERVED: [Call; 11] = [
     Call::Status(1, Status::Unknown),
 ];
 
-/// Of two requests the second expires, and the first is served. Each outcome is told once.
+/// Of two requests the second expires, and the first is served. Each outcome is reported once.
 #[test]
 fn requests_expire_or_are_served(rt: HostRuntime) -> Result<(), OutOfMemory> {
     a_new_queue_answers(&rt, rt.alloc(), &FIRST_SERVED)
@@ -122,7 +122,7 @@ const SERVED_READ: [Call; 7] = [
     Call::Put(1, 0, Ok(33)),
 ];
 
-/// A served request keeps its slot too, and an amount is judged before the slots are.
+/// A served request keeps its slot too, and an amount is checked before the slots are.
 #[test]
 fn a_served_request_keeps_its_slot(rt: HostRuntime) -> Result<(), OutOfMemory> {
     a_full_queue_answers(&rt, rt.alloc(), MAX_AMOUNT, &SERVED_READ)
@@ -137,7 +137,7 @@ const EQUAL_DEADLINE: [Call; 6] = [
     Call::Status(1, Status::Unknown),
 ];
 
-/// A deadline that is the time has not passed.
+/// A deadline equal to the time has not passed.
 #[test]
 fn an_equal_deadline_waits(rt: HostRuntime) -> Result<(), OutOfMemory> {
     a_new_queue_answers(&rt, rt.alloc(), &EQUAL_DEADLINE)
@@ -172,7 +172,7 @@ const LATE_IN_ORDER: [Call; 8] = [
     Call::Total(1),
 ];
 
-/// Of several late requests the oldest expires first, and none that is not late.
+/// Of several late requests the oldest expires first, and none expires that is not late.
 #[test]
 fn late_requests_expire_in_order(rt: HostRuntime) -> Result<(), OutOfMemory> {
     a_new_queue_answers(&rt, rt.alloc(), &LATE_IN_ORDER)

@@ -4,7 +4,7 @@ use std::alloc::{AllocGlobal, Global};
 use std::test::Fail;
 use test_kit::{entry, is_entry, longest_close, move_of_kind, requests_of};
 
-// So many moves, of each kind in turn.
+// This number of moves, of each kind in turn.
 fn moves_of_each_kind(alloc: Global, count: usize) -> Result<Vec<Move>, Fail> {
     let mut moves = Vec::new(alloc);
     for kind in 0..count as u64 {
@@ -13,7 +13,7 @@ fn moves_of_each_kind(alloc: Global, count: usize) -> Result<Vec<Move>, Fail> {
     Ok(moves)
 }
 
-// The same with a closing move in the place of the last.
+// The same with a closing move as the last one.
 fn closing_moves(alloc: Global, count: usize) -> Result<Vec<Move>, Fail> {
     let mut moves = moves_of_each_kind(alloc, count)?;
     moves.pop();
@@ -21,8 +21,7 @@ fn closing_moves(alloc: Global, count: usize) -> Result<Vec<Move>, Fail> {
     Ok(moves)
 }
 
-// Whether a copy is the entry again, made with one request for memory, and where that is refused it is
-// want of memory.
+// Whether a copy equals the entry, made with one memory request, and lacks memory if that is refused.
 fn copies_with_one_request(rt: &impl AllocGlobal, entry: &Entry) -> bool {
     let copied = requests_of(rt.alloc(), |memory| {
         match entry.clone_in(memory) {
@@ -33,7 +32,7 @@ fn copies_with_one_request(rt: &impl AllocGlobal, entry: &Entry) -> bool {
     copied == Some(1)
 }
 
-/// Entries of 1 to 16 moves, and each with a closing move in the place of its last.
+/// Entries of 1 to 16 moves, and each with a closing move as its last.
 #[test]
 fn copies_of_every_size(rt: HostRuntime) -> Result<(), Fail> {
     for count in 1..=MAX_MOVES {

@@ -1,5 +1,5 @@
-//! The limits of values, at and just past them. Contracts say which values are refused, and why; here each
-//! maker is called.
+//! The limits of values, at and just beyond them. Contracts say which values are refused, and why; here each
+//! constructor is called.
 use rights_types::{
     Amount, Answer, Ask, AskNumber, Beat, Deny, Entry, Frontier, MAX_AMOUNT, MAX_ANSWER, MAX_ASK,
     MAX_NUMBER, MAX_SITES, MAX_TOTAL, Move, Query, SiteId, Total, TypeError,
@@ -61,7 +61,7 @@ fn frontiers(rt: HostRuntime) -> Result<(), Fail> {
     Ok(())
 }
 
-// Whether an entry of site 2 after a number, with these moves, is refused for the cause, or is made where
+// Whether an entry of site 2 after a number, with these moves, is refused for the cause, or is built if
 // there is none.
 fn comes_to(alloc: Global, prev: u64, moves: &[Move], cause: Option<TypeError>) -> bool {
     match Vec::from_slice(alloc, moves) {
@@ -70,7 +70,7 @@ fn comes_to(alloc: Global, prev: u64, moves: &[Move], cause: Option<TypeError>) 
     }
 }
 
-// Whether counts of moves at and past the limits come to what they should, and so the last number.
+// Whether counts of moves at and beyond the limits have the expected results, and the last number too.
 fn are_counted(alloc: Global) -> bool {
     comes_to(alloc, 0, &[], Some(TypeError::BadCount))
         && comes_to(alloc, 0, &[issue(5); 17], Some(TypeError::BadCount))
@@ -120,7 +120,7 @@ fn messages_between_two_sites(rt: HostRuntime) -> Result<(), Fail> {
     Ok(())
 }
 
-// Why an answer of site 1 to another, with so many entries of an origin, is refused.
+// Why an answer of site 1 to another site, with this number of entries of an origin, is refused.
 fn refused_answer(
     alloc: Global,
     asker: u64,

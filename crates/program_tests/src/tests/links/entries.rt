@@ -1,4 +1,4 @@
-//! Entries of every length, from an outbox to the end of a lane.
+//! Entries of every length, from an outbox to the outlet of a lane.
 ghost use Rattle.std.specs.Prelude.{IfOk, IfSome};
 ghost use Rattle.entry_codec.specs.Pieces.{IsLine};
 
@@ -25,18 +25,18 @@ const LEAST: [u64; 10] = [
     1_000_000_000,
 ];
 
-/// A number of so many digits, 1 to 10.
+/// A number with this number of digits, 1 to 10.
 fn number_of(digits: usize) -> Option<u64> {
     LEAST.get(digits.checked_sub(1)?).copied()
 }
 
-/// An issue whose text has so many bytes with the space before it, 4 to 13.
+/// An issue whose text has this number of bytes, 4 to 13, the space before it included.
 fn issue_in(bytes: usize) -> Option<Move> {
     let amount = number_of(bytes.checked_sub(3)?)?;
     Some(Move::Issue(Amount::new(amount).ok()?))
 }
 
-/// A grant to site 2 whose text has so many bytes with the space before it, 8 to 26.
+/// A grant to site 2 whose text has this number of bytes, 8 to 26, the space before it included.
 fn grant_in(bytes: usize) -> Option<Move> {
     let digits = bytes.checked_sub(6)?;
     let amount = number_of(digits / 2)?;
@@ -48,7 +48,7 @@ fn grant_in(bytes: usize) -> Option<Move> {
     })
 }
 
-/// So many moves whose texts have so many bytes together, with the space before each.
+/// This number of moves whose texts have this number of bytes in all, the space before each included.
 fn moves_in(alloc: Global, bytes: usize, count: usize) -> Option<Vec<Move>> {
     let mut moves = Vec::new(alloc);
     let mut left = bytes;
@@ -73,7 +73,7 @@ fn line_of_entry(alloc: Global, entry: Entry) -> Result<Vec<u8>, OutOfMemory>
     write_line(alloc, &message)
 }
 
-/// The line of an entry of site 1 with so many moves, which have so many bytes.
+/// The line of an entry of site 1 with this number of moves, which have this number of bytes.
 fn line_with(alloc: Global, bytes: usize, count: usize) -> Option<Vec<u8>>
     ensures { IfSome result (λ line. IsLine line.items) }
 {
@@ -81,7 +81,7 @@ fn line_with(alloc: Global, bytes: usize, count: usize) -> Option<Vec<u8>>
     line_of_entry(alloc, entry).ok()
 }
 
-/// The line of an entry of site 1 that has so many bytes, 20 to 400: of three moves, or of sixteen.
+/// The line of an entry of site 1 that has this number of bytes, 20 to 400: with three moves, or with sixteen.
 fn line_of(alloc: Global, length: usize) -> Option<Vec<u8>>
     ensures { IfSome result (λ line. IsLine line.items) }
 {
@@ -92,7 +92,7 @@ fn line_of(alloc: Global, length: usize) -> Option<Vec<u8>>
     }
 }
 
-/// What goes over a link of which the line is put into the outbox. `None` where it finds no room.
+/// What is sent over a link whose outbox gets the line. `None` if it has no room.
 fn sent<R: Wait>(rt: &R, alloc: Global, line: Vec<u8>) -> Option<Vec<u8>>
     requires { IsLine line.items }
 {
@@ -107,7 +107,7 @@ fn sent<R: Wait>(rt: &R, alloc: Global, line: Vec<u8>) -> Option<Vec<u8>>
     Some(writer.text)
 }
 
-/// Whether an entry comes out of the lane for which this text was read.
+/// Whether the entry for which this text was read leaves the lane.
 fn comes_out<R: Wait>(rt: &R, alloc: Global, text: &[u8]) -> bool {
     let Ok((mut intake, mut outlet)) = link_in(alloc) else {
         return false;
@@ -115,7 +115,7 @@ fn comes_out<R: Wait>(rt: &R, alloc: Global, text: &[u8]) -> bool {
     is_told(rt, alloc, &mut intake, text, 150, b"n0\n") && take_own(rt, &mut outlet).is_some()
 }
 
-/// Whether an entry of so many bytes goes over a link, and comes out of the lane.
+/// Whether an entry of this number of bytes passes over a link, and leaves the lane.
 fn is_carried<R: Wait>(rt: &R, alloc: Global, length: usize) -> bool {
     let Some(line) = line_of(alloc, length) else {
         return false;

@@ -8,13 +8,13 @@ use std::alloc::Global;
 use std::io::Read;
 use test_kit::{FewAtATime, requests_of};
 
-/// Who speaks, as the first line from this reader says.
+/// The site that the first line from this reader names.
 pub(crate) fn first_line<I: Read>(alloc: Global, reader: &mut I) -> Result<SiteId, LinkFault> {
     let mut cutter = LineCutter::new(alloc)?;
     read_hello(reader, &mut cutter)
 }
 
-/// Whether the first line of this text says that the site speaks, and the rest of the text is left, all of it
+/// Whether the first line of this text names the site, and the rest of the text is left, all of it
 /// in the reader.
 fn says(alloc: Global, text: &[u8], site: u64, rest: &[u8]) -> bool {
     let mut reader = FewAtATime {
@@ -30,7 +30,7 @@ fn says(alloc: Global, text: &[u8], site: u64, rest: &[u8]) -> bool {
     speaker.number() == site && reader.rest == rest && !cutter.unfinished()
 }
 
-/// Whether the first line of this site says so.
+/// Whether the first line of this site names it.
 fn is_said(alloc: Global, site: u64) -> bool {
     match format!(in alloc; "H {site}\nB 1 5\n") {
         Ok(text) => says(alloc, text.as_bytes(), site, b"B 1 5\n"),
@@ -45,8 +45,8 @@ fn a_first_line_says_who_speaks(rt: HostRuntime) {
     }
 }
 
-/// How many bytes are left behind a first line that does not say who speaks, where each read gives at most
-/// `step` bytes. `None` where it comes to anything else.
+/// How many bytes are left after a first line that names no site, if each read returns at most
+/// `step` bytes. `None` for any other result.
 pub(crate) fn left_without_hello(alloc: Global, text: &[u8], step: usize) -> Option<usize> {
     let mut reader = FewAtATime { rest: text, step };
     match first_line(alloc, &mut reader) {
@@ -100,7 +100,7 @@ fn a_first_read_that_is_interrupted(rt: HostRuntime) {
     assert_eq!(rt; read, Ok(SiteId::known(2)));
 }
 
-/// Whether the first line is read, or refused for want of memory alone.
+/// Whether the first line is read, or refused for lack of memory only.
 fn hello_is_read(alloc: &Refusing<Global>) -> bool {
     let mut reader = FewAtATime {
         rest: b"H 2\n",

@@ -1,5 +1,5 @@
-//! Lines of every length, with ample memory, and those that want memory where it is refused. A body that
-//! gives up on some length is proved, since it may always want memory, and is found here.
+//! Lines of every length, with ample memory, and those that need memory when it is refused. A body that gives up at
+//! some length can be proved, since it may always run out of memory; it is found here.
 use crate::tests::links::hello::left_without_hello;
 use crate::tests::outbox::long_line;
 use entry_codec::LineCutter;
@@ -9,10 +9,10 @@ use rights_types::{MAX_LINE, OutOfMemory};
 use std::alloc::{Allocator, Global};
 use test_kit::requests_of;
 
-/// So many lengths of lines are tried, up to one byte more than a line may have.
+/// How many lengths of lines are tried, up to one byte more than a line may have.
 const LENGTHS: usize = MAX_LINE + 1;
 
-/// Whether a whole line was given, and it is this one.
+/// Whether a whole line was returned, and it is this one.
 fn is_line<A: Allocator>(piece: &Piece<'_, A>, line: &[u8]) -> bool {
     match piece {
         Piece::Borrowed(text) => *text == line,
@@ -21,7 +21,7 @@ fn is_line<A: Allocator>(piece: &Piece<'_, A>, line: &[u8]) -> bool {
     }
 }
 
-/// Whether these bytes end a piece, all of them, and it is this line, or too long where there is none.
+/// Whether these bytes end a piece, all of them, and it is this line, or is too long if there is none.
 fn ends_piece(cutter: &mut LineCutter, bytes: &[u8], line: Option<&[u8]>) -> bool {
     let Ok((piece, taken)) = next_piece(cutter, bytes) else {
         return false;
@@ -44,7 +44,7 @@ fn ends_none(cutter: &mut LineCutter, bytes: &[u8]) -> bool {
     piece.is_none() && taken == bytes.len()
 }
 
-/// Whether a line is given whole, or is too long: where it comes by one read, and by two.
+/// Whether a line is returned whole, or is too long: if it arrives with one read, and with two.
 fn is_given(cutter: &mut LineCutter, bytes: &[u8]) -> bool {
     let line = if bytes.len() <= MAX_LINE {
         Some(bytes)
@@ -67,7 +67,7 @@ fn pieces_are_given_whole(rt: HostRuntime) {
     }
 }
 
-/// Whether a line that comes by two reads is given, or refused for want of memory alone.
+/// Whether a line that arrives with two reads is returned, or refused for lack of memory only.
 fn line_is_given(alloc: &Refusing<Global>) -> bool {
     let Ok(mut cutter) = LineCutter::new(alloc) else {
         return alloc.refused();
@@ -89,7 +89,7 @@ fn each_growth_for_a_piece_refused(rt: HostRuntime) {
     assert_eq!(rt; requests, Some(2));
 }
 
-/// Lengths of lines: the short ones, and of the others those about the multiples of 128.
+/// Lengths of lines: the short ones, and of the others those near the multiples of 128.
 fn is_tried(length: usize) -> bool {
     length < 256 || length % 128 < 2
 }

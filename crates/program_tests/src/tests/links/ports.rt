@@ -1,4 +1,4 @@
-//! Ports that note what they are told, and intakes of site 2.
+//! Ports that record what they receive, and intakes of site 2.
 ghost use Rattle.std.specs.Prelude.{◌≡◌, [], false, IfOk};
 ghost use Rattle.entry_codec.specs.Pieces.{IsLine};
 
@@ -10,7 +10,7 @@ use std::alloc::Global;
 use std::sync::Wait;
 use sub_buffer::State;
 
-/// A port that notes what it is told: the letter of a message, a line, and after each line `n` or `b`,
+/// A port that records what it receives: the letter of a message, a line, and after each line `n` or `b`,
 /// for normal or buffering, with the count of entries held.
 #[derive(Drop)]
 pub(crate) struct Noting {
@@ -72,7 +72,7 @@ impl Port for Lacking {
     fn seen<R: Wait>(&mut self, _rt: &R, _state: State, _held: usize) {}
 }
 
-/// What comes to site 2 from site 1, and the end of its lane.
+/// The intake of site 2 for site 1, and the outlet of its lane.
 pub(crate) fn link_in(alloc: Global) -> Result<(Intake, Outlet), OutOfMemory>
     ensures { IfOk result (λ r. (r.0.finished ≡ false) × (r.1.taken ≡ [])) }
 {

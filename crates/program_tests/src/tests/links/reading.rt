@@ -1,4 +1,4 @@
-//! Lines that come, over connections that are cut.
+//! Incoming lines, over connections that are cut.
 ghost use Rattle.std.specs.Prelude.{◌≡◌, false, IfSome};
 ghost use Rattle.thread_parts.specs.Items.{IsOpen};
 ghost use Rattle.peer_links.specs.declared.link.DeskMessage.{DeskMessage};
@@ -16,7 +16,7 @@ use std::io::Read;
 use std::sync::Wait;
 use test_kit::FewAtATime;
 
-/// What a connection over this reader comes to.
+/// The result of a connection over this reader.
 fn connect<R: Wait, I: Read, P: Port>(
     rt: &R,
     alloc: Global,
@@ -32,7 +32,7 @@ fn connect<R: Wait, I: Read, P: Port>(
     read_link(rt, reader, &mut cutter, intake, port)
 }
 
-/// Whether a connection over this reader comes to that, and the port is told that.
+/// Whether a connection over this reader has that result, and the port receives that.
 fn comes<R: Wait, I: Read>(
     rt: &R,
     alloc: Global,
@@ -50,8 +50,8 @@ fn comes<R: Wait, I: Read>(
     connect(rt, alloc, intake, reader, &mut port) == came && port.text.as_slice() == told
 }
 
-/// Whether a connection with this text, of which each read gives at most `step` bytes, is read to its end, and
-/// the port is told that.
+/// Whether a connection with this text, of which each read returns at most `step` bytes, is read to its end, and the
+/// port receives that.
 pub(crate) fn is_told<R: Wait>(
     rt: &R,
     alloc: Global,
@@ -67,7 +67,7 @@ pub(crate) fn is_told<R: Wait>(
     comes(rt, alloc, intake, &mut reader, Ok(()), told)
 }
 
-/// `comes`, of a first connection.
+/// `comes`, for a first connection.
 fn comes_first<R: Wait, I: Read>(
     rt: &R,
     alloc: Global,
@@ -81,7 +81,7 @@ fn comes_first<R: Wait, I: Read>(
     comes(rt, alloc, &mut intake, reader, came, told)
 }
 
-/// `is_told`, of a first connection.
+/// `is_told`, for a first connection.
 pub(crate) fn is_told_first<R: Wait>(
     rt: &R,
     alloc: Global,
@@ -143,7 +143,7 @@ fn an_answer_comes_over_another_connection(rt: HostRuntime) {
     assert_eq!(rt; take_three(&rt, &mut outlet), Some([1, 4, 5]));
 }
 
-/// All kinds of lines, and what a port is told of them.
+/// All kinds of lines, and what a port receives for them.
 const LINES: &[u8] = b"H 1\n\
 E 1 0 1 I:5\n\
 x\n\
@@ -221,7 +221,7 @@ fn a_message_that_finds_no_memory_ends_the_connection(rt: HostRuntime) {
     assert_eq!(rt; read, Err(LinkFault::OutOfMemory));
 }
 
-/// Whether a connection with entries comes to an end since nobody takes them.
+/// Whether a connection with entries ends because no applier takes them.
 fn finds_lane_closed<R: Wait>(rt: &R, alloc: Global, intake: &mut Intake) -> bool
     requires { intake.old.finished ≡ false }
     ensures { intake.new.finished ≡ false }

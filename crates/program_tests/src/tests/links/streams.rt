@@ -1,4 +1,4 @@
-//! Readers and writers that break.
+//! Readers and writers that fail.
 use crate::tests::outbox::put_beats;
 use peer_links::Outbox;
 use std::alloc::{Allocator, Global};
@@ -6,12 +6,12 @@ use std::io;
 use std::io::{ErrorKind, Read, Write};
 use std::sync::Wait;
 
-/// A writer that takes so many bytes in all, and then fails.
+/// A writer that accepts this number of bytes in all, and then fails.
 #[derive(Drop)]
 pub(crate) struct Torn<A: Allocator> {
     /// What was written.
     pub(crate) text: Vec<u8, A>,
-    /// How many bytes it still takes.
+    /// How many bytes it still accepts.
     pub(crate) room: usize,
 }
 
@@ -33,12 +33,12 @@ impl<A: Allocator> Write for Torn<A> {
     }
 }
 
-/// A writer that is interrupted before each write that takes bytes, and counts these.
+/// A writer that is interrupted before each write that takes bytes, and counts these writes.
 #[derive(Drop)]
 pub(crate) struct Counting<A: Allocator> {
     /// What was written.
     pub(crate) text: Vec<u8, A>,
-    /// The most bytes that one write takes.
+    /// The greatest number of bytes of one write.
     pub(crate) step: usize,
     /// How many writes took bytes.
     pub(crate) writes: u64,
@@ -65,12 +65,12 @@ impl<A: Allocator> Write for Counting<A> {
     }
 }
 
-/// A reader that gives its bytes, at most so many at a time, and then fails.
+/// A reader that returns its bytes, at most this number at a time, and then fails.
 #[derive(Drop)]
 pub(crate) struct Failing<'a> {
-    /// What is still to be read.
+    /// The bytes that are still to be read.
     pub(crate) rest: &'a [u8],
-    /// The most bytes that one read gives.
+    /// The greatest number of bytes of one read.
     pub(crate) step: usize,
 }
 
@@ -89,9 +89,9 @@ impl Read for Failing<'_> {
 /// A reader that is interrupted before each read.
 #[derive(Drop)]
 pub(crate) struct Interrupted<'a> {
-    /// What is still to be read.
+    /// The bytes that are still to be read.
     pub(crate) rest: &'a [u8],
-    /// The most bytes that one read gives.
+    /// The greatest number of bytes of one read.
     pub(crate) step: usize,
     pub(crate) interrupted: bool,
 }
@@ -111,7 +111,7 @@ impl Read for Interrupted<'_> {
 }
 
 /// A writer that puts the next beat into the outbox at each write, so that each write is of one line, and
-/// ends the outbox behind the last one.
+/// ends the outbox after the last one.
 #[derive(Drop)]
 pub(crate) struct Feeding<'a, R: Wait> {
     pub(crate) rt: &'a R,
@@ -119,7 +119,7 @@ pub(crate) struct Feeding<'a, R: Wait> {
     pub(crate) outbox: &'a Outbox,
     /// The number of the next beat.
     pub(crate) next: u64,
-    /// The number behind that of the last one.
+    /// The number after that of the last one.
     pub(crate) end: u64,
     /// What was written.
     pub(crate) text: Vec<u8>,

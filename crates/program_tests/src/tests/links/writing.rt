@@ -1,4 +1,4 @@
-//! Lines that go, to writers that are slow, full or broken.
+//! Outgoing lines, to writers that are slow, full or fail.
 ghost use Rattle.std.specs.Prelude.{◌≤◌};
 
 use crate::tests::links::streams::{Counting, Feeding, Torn};
@@ -10,7 +10,7 @@ use std::alloc::{Allocator, Global};
 use std::sync::Wait;
 use test_kit::Slow;
 
-/// An outbox that has ended, with the beats 0 to 4. `None` where they find no room.
+/// An outbox that has ended, with the beats 0 to 4. `None` if it has no room for them.
 fn five_beats<R: Wait>(rt: &R, alloc: Global) -> Option<Outbox> {
     let outbox = Outbox::new(alloc).ok()?;
     if !put_beats(rt, alloc, &outbox, 0, 5) {
@@ -22,7 +22,7 @@ fn five_beats<R: Wait>(rt: &R, alloc: Global) -> Option<Outbox> {
 
 const FIVE_BEATS: &[u8] = b"B 1 0\nB 1 1\nB 1 2\nB 1 3\nB 1 4\n";
 
-/// Whether a writer that takes at most `step` bytes at a time gets this text to the outbox's end.
+/// Whether a writer that takes at most `step` bytes at a time gets this text until the outbox's end.
 fn gives<R: Wait>(rt: &R, alloc: Global, outbox: &Outbox, step: usize, text: &[u8]) -> bool {
     let mut writer = Slow {
         text: Vec::new(alloc),
@@ -31,7 +31,7 @@ fn gives<R: Wait>(rt: &R, alloc: Global, outbox: &Outbox, step: usize, text: &[u
     write_link(rt, &mut writer, &mut &*outbox).is_ok() && writer.text.as_slice() == text
 }
 
-/// Whether a writer that fails behind so many bytes gets this text, and the failure is told.
+/// Whether a writer that fails after this number of bytes gets this text, and the failure is reported.
 fn is_torn<R: Wait>(rt: &R, alloc: Global, outbox: &Outbox, room: usize, text: &[u8]) -> bool {
     let mut torn = Torn {
         text: Vec::new(alloc),
@@ -41,8 +41,8 @@ fn is_torn<R: Wait>(rt: &R, alloc: Global, outbox: &Outbox, room: usize, text: &
         && torn.text.as_slice() == text
 }
 
-/// How many writes of at most `step` bytes give this text to the outbox's end, where each is interrupted
-/// first. `None` where another text is given.
+/// How many writes of at most `step` bytes write this text until the outbox's end, if each is interrupted
+/// first. `None` if another text is written.
 fn writes_of<R: Wait>(
     rt: &R,
     alloc: Global,
@@ -155,7 +155,7 @@ fn many_writes_over_one_link(rt: HostRuntime) {
     assert!(rt; written == wanted);
 }
 
-/// Puts a line of so many bytes, adds it to the text, and answers whether there was room for it.
+/// Puts a line of this number of bytes, adds it to the text, and returns whether there was room for it.
 fn put_long<R: Wait>(
     rt: &R,
     alloc: Global,
@@ -185,7 +185,7 @@ fn lines_of_any_length_go(rt: HostRuntime) {
     assert_eq!(rt; writes, Some(8));
 }
 
-/// An outbox that has ended, with a line of 40,000 bytes and one of 3. `None` where they find no room.
+/// An outbox that has ended, with a line of 40,000 bytes and one of 3. `None` if it has no room for them.
 fn long_and_short<R: Wait>(rt: &R, alloc: Global) -> Option<Outbox> {
     let outbox = Outbox::new(alloc).ok()?;
     outbox.put(rt, long_line(alloc, 40_000).ok()?).ok()?;
@@ -202,7 +202,7 @@ fn a_torn_line_without_room_is_lost(rt: HostRuntime) {
     assert!(rt; gives(&rt, rt.alloc(), &outbox, 100, b"xx\n"));
 }
 
-/// Whether all that waits in an outbox is written to its end.
+/// Whether everything that waits in an outbox is written.
 fn is_emptied<R: Wait, A: Allocator>(rt: &R, alloc: Global, outbox: &Outbox<A>) -> bool {
     let mut writer = Slow {
         text: Vec::new(alloc),
@@ -211,7 +211,7 @@ fn is_emptied<R: Wait, A: Allocator>(rt: &R, alloc: Global, outbox: &Outbox<A>) 
     write_link(rt, &mut writer, &mut &*outbox).is_ok()
 }
 
-/// Whether 200 beats are put and written, where the beats and the outbox take this memory.
+/// Whether 200 beats are put and written, if the beats and the outbox take this memory.
 fn are_written<R: Wait>(rt: &R, alloc: Global, memory: &Refusing<Global>) -> bool {
     let Ok(outbox) = Outbox::new(memory) else {
         return false;

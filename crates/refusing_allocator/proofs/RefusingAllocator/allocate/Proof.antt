@@ -1,4 +1,4 @@
--- It asks `refuses_next`, and on `false` answers what the inner allocator answers.
+-- It calls `refuses_next`, and on `false` returns what the inner allocator returns.
 use Rattle.std.proofs.Common.{◌≡◌, Bool, true, false, [], ◌∷◌, Ok, Err, refl, w64}
 use Rattle.std.proofs.VecSteps.Shapes.{after}
 use Rattle.std.proofs.raw_atomic.Walks.{proved}
@@ -52,7 +52,7 @@ allocate_spec 𝓤 𝓛 𝓜 𝓡 wired Y L g d d' met _ =
     let y : W.Ghost = ((κs, qs, bounds, (r, (bytes, (aligned, tt))), (shr_vals r, (vint w64 bytes ∷ [], (vint w64 aligned ∷ [], tt)))), τ) in
     let Next = Asked 𝓛 𝓜.mem 𝓡.returns in let next = asking 𝓛 𝓜.mem 𝓡.returns κ qs.0 (left_at Z p) r.now.left in
     let Taken = Takes Z 𝓛 𝓜.mem 𝓡.returns in let taking = at_takes Z 𝓛 𝓜.mem 𝓡.returns κ qs.0 (inner_at Z p) h bytes aligned τ in
-    -- the end of both paths that answer `Err`, from the two tokens
+    -- the end of both paths that return `Err`, from the two tokens
     let none : Sq 𝓛 (‵ (flft κ qs.0) ∷ (‵ (flft κs.1.0 qs.1.0) ⊛ ‵ ftrue) ∷ []) (prop (W.post y (answer_val false 0 0))) =
     suffices ! _ (ends_at 𝓛 (ended Z) (stayed Z) c y (answer_val false 0 0) (Err (record {})) (tt, (tt, (tt, tt))) (tt, (tt, (tt, tt)))) $
     join ! $ nothing ! $ use0 𝓛 (‵ (Answer.own_val (Err (record {})) (answer_val false 0 0 ∷ []))) (Answer-err 𝓛) $

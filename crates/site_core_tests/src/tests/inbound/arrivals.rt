@@ -1,4 +1,4 @@
-//! Many entries that come to one inbound.
+//! Many entries that arrive at one inbound.
 
 use crate::tests::inbound::steps::{Came, Said, at_site_2, comes, readers};
 use crate::tests::inbound::texts::{add_entry, entry_line};
@@ -6,7 +6,7 @@ use site_core::Inbound;
 use std::alloc::{AllocError, Global};
 use sub_buffer::State;
 
-// The answer of entries of one move: after 0, and after 79 down to 65.
+// The answer with entries of one move: after 0, and after 79 down to 65.
 fn answer_backwards(alloc: Global) -> Result<Vec<u8>, AllocError> {
     let mut line = Vec::from_slice(alloc, b"A 1 2;")?;
     add_entry(&mut line, 0, 1, "", " I:1")?;
@@ -30,7 +30,7 @@ fn most_verdicts() -> [Said; 94] {
     said
 }
 
-// Whether the entry of one move after this number comes to that.
+// Whether the entry of one move after this number has that result.
 fn entry_comes(alloc: Global, inbound: &mut Inbound<Global>, prev: u16, said: Said) -> bool {
     match entry_line(alloc, prev, 1, "", " I:1") {
         Ok(line) => comes(inbound, &line, Came::Entries(&[said])),
@@ -38,7 +38,7 @@ fn entry_comes(alloc: Global, inbound: &mut Inbound<Global>, prev: u16, said: Sa
     }
 }
 
-// Whether the answer brings the most verdicts.
+// Whether the answer has the most verdicts.
 fn answer_comes(alloc: Global, inbound: &mut Inbound<Global>) -> bool {
     match answer_backwards(alloc) {
         Ok(line) => comes(inbound, &line, Came::Entries(&most_verdicts())),
@@ -46,7 +46,7 @@ fn answer_comes(alloc: Global, inbound: &mut Inbound<Global>) -> bool {
     }
 }
 
-/// Sixty-four entries are held and one more is not; then one line brings 94 verdicts, the most.
+/// Sixty-four entries are held and one more is not; then one line has 94 verdicts, the most possible.
 #[test]
 fn most_verdicts_on_a_line(rt: HostRuntime) {
     let mut inbound = at_site_2(rt.alloc()).expect(&rt, "memory");

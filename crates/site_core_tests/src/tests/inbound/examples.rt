@@ -6,7 +6,7 @@ use site_core::InboundError;
 use std::alloc::Global;
 use sub_buffer::State;
 
-/// The three entries of one log: the later one comes first, and an answer brings the two before it.
+/// The three entries of one log: the later one arrives first, and an answer brings the two before it.
 const LATER_FIRST: [Step; 9] = [
     Step::Line("E 1 4 5 S:2\n", Came::Entries(&[Said::Held])),
     Step::Is(State::Buffering),
@@ -22,7 +22,7 @@ const LATER_FIRST: [Step; 9] = [
     Step::Numbers { last: 5, held: 0 },
 ];
 
-/// A beat tells of an entry that was lost, which is asked for once, and again.
+/// A beat reveals an entry that was lost, which is queried once, and again.
 const LOST: [Step; 9] = [
     Step::Line("E 1 0 1 I:10\n", Came::Entries(&[Said::Ready(1)])),
     Step::Line("E 1 1 4 S:1 S:1 S:1\n", Came::Entries(&[Said::Ready(4)])),
@@ -60,7 +60,7 @@ const LYING: [Step; 7] = [
     Step::Is(State::Normal),
 ];
 
-// The first step that does not come out as told of a fresh inbound, if there is one.
+// The first step with another result than expected of a new inbound, if there is one.
 fn first_wrong_of_new(alloc: Global, steps: &[Step]) -> Result<Option<usize>, OutOfMemory> {
     let mut inbound = at_site_2(alloc)?;
     Ok(first_wrong(&mut inbound, steps))
@@ -70,7 +70,7 @@ fn are_right(alloc: Global, steps: &[Step]) -> bool {
     matches!(first_wrong_of_new(alloc, steps), Ok(None))
 }
 
-/// Each of these is for a fresh inbound.
+/// Each of these is for a new inbound.
 #[test]
 fn lines_of_one_origin(rt: HostRuntime) {
     let alloc = rt.alloc();
@@ -80,7 +80,7 @@ fn lines_of_one_origin(rt: HostRuntime) {
     assert!(rt; are_right(alloc, &LYING));
 }
 
-/// Messages of each kind, of the origin and of others.
+/// Messages of each kind, from the origin and from others.
 const MESSAGES: [Step; 9] = [
     Step::Line("Q 2 1 1 4\n", Came::Query(1, 4)),
     Step::Line("H 2\n", Came::Hello),

@@ -1,4 +1,4 @@
-//! Want of memory, and how much memory lines take.
+//! Lack of memory, and how much memory lines take.
 
 use crate::tests::inbound::steps::{
     Came, Said, at_site_2, at_site_2_of_16, comes, is_outcome, is_query, readers,
@@ -12,7 +12,7 @@ use std::alloc::{AllocError, Allocator};
 use sub_buffer::{MAX_VERDICTS, Verdict};
 use test_kit::{longest_grant, requests_of};
 
-// Whether the line comes to that, unless it finds no memory.
+// Whether the line has that result, unless it runs out of memory.
 fn tries_line<A: Allocator + Copy>(
     inbound: &mut Inbound<A>,
     line: &[u8],
@@ -25,8 +25,8 @@ fn tries_line<A: Allocator + Copy>(
     Ok(is_outcome(&outcome, came))
 }
 
-/// Whether the line comes to that. Where memory is refused to it, it says so and changes nothing, and comes
-/// to that when it is sent again.
+/// Whether the line has that result. If memory is refused for it, it says so and changes nothing, and has
+/// that result when it is sent again.
 pub(crate) fn comes_at_last<A: Allocator + Copy>(
     inbound: &mut Inbound<&Refusing<A>>,
     memory: &Refusing<A>,
@@ -44,7 +44,7 @@ pub(crate) fn comes_at_last<A: Allocator + Copy>(
 
 const HELD: Came = Came::Entries(&[Said::Held]);
 
-/// Lines that come in this order, and what they come to.
+/// Lines that arrive in this order, and their results.
 const LINES: [(&str, Came); 12] = [
     ("E 1 4 5 S:2\n", HELD),
     ("B 1 9\n", Came::Beat),
@@ -58,7 +58,7 @@ const LINES: [(&str, Came); 12] = [
     ),
     ("A 1 2\n", Came::Entries(&[])),
     ("E 1 0 1 I:10\n", Came::Entries(&[Said::Repeat])),
-    // What refuses these is looked for behind their own memory, and before room for verdicts.
+    // The causes that refuse these are checked after their own memory is requested, and before that for verdicts.
     ("E 2 0 1 I:1\n", Came::Refused(InboundError::WrongOrigin)),
     ("E 1 5 6 R:3:1\n", Came::Refused(InboundError::BadSite)),
     ("E 1 5 7 I:1 K:0:0\n", Came::Entries(&[Said::Ready(7)])),
@@ -77,7 +77,7 @@ fn all_come<A: Allocator + Copy>(memory: &Refusing<A>) -> bool {
 }
 
 /// Lines of each kind, with each of their requests refused in turn. `new` makes one, each entry one, an
-/// answer that has any one more, and each line of entries that is not refused one for its verdicts.
+/// answer with entries one more, and each line of entries that is not refused one for its verdicts.
 #[test]
 fn lines_with_each_growth_refused(rt: HostRuntime) {
     let made = requests_of(rt.alloc(), |memory| all_come(memory));
@@ -90,7 +90,7 @@ fn asks_nothing<A: Allocator + Copy>(inbound: &mut Inbound<A>) -> bool {
 
 const QUERY: Option<&str> = Some("Q 2 1 1 4\n");
 
-// Whether the line asks for the numbers 1 to 4, unless it finds no memory.
+// Whether the line queries the numbers 1 to 4, unless it runs out of memory.
 fn asks<A: Allocator + Copy>(inbound: &mut Inbound<A>, again: bool) -> Result<bool, OutOfMemory> {
     match inbound.query_line(again) {
         Err(OutOfMemory) => Err(OutOfMemory),
@@ -98,8 +98,8 @@ fn asks<A: Allocator + Copy>(inbound: &mut Inbound<A>, again: bool) -> Result<bo
     }
 }
 
-// Whether the line asks for the numbers 1 to 4. Where memory is refused to it, that is told, the gap counts
-// as asked for and nothing else has changed, and the line can be asked for again.
+// Whether the line queries the numbers 1 to 4. If memory is refused for it, that is reported, the gap counts
+// as queried and nothing else has changed, and the line can be requested again.
 fn asks_at_last<A: Allocator + Copy>(
     inbound: &mut Inbound<&Refusing<A>>,
     memory: &Refusing<A>,
@@ -128,7 +128,7 @@ fn asks_for_a_gap<A: Allocator + Copy>(memory: &Refusing<A>) -> bool {
         && asks_nothing(&mut inbound)
 }
 
-/// A query's line makes one request, and its gap counts as asked for where that is refused. Three more are
+/// A query's line makes one request, and its gap counts as queried if that is refused. Three more are
 /// those of `new` and of the entry.
 #[test]
 fn queries_with_each_growth_refused(rt: HostRuntime) {
@@ -136,7 +136,7 @@ fn queries_with_each_growth_refused(rt: HostRuntime) {
     assert_eq!(rt; made, Some(3 + 2));
 }
 
-// How many bytes so many verdicts take, and so many moves.
+// How many bytes this number of verdicts takes, and this number of moves.
 fn room_of(heap: &LocalHeap, verdicts: usize, moves: usize) -> Result<usize, AllocError> {
     let before = heap.used();
     let verdicts: Vec<Verdict<&LocalHeap>, &LocalHeap> = Vec::with_capacity(heap, verdicts)?;
@@ -160,7 +160,7 @@ fn bytes_of_verdicts(
     }
 }
 
-// Whether the answer of the numbers up to 256 takes that room, and gives it back.
+// Whether the answer of the numbers up to 256 takes this much memory, and gives it back.
 fn answer_takes(heap: &LocalHeap, line: &[u8], room: usize) -> bool {
     let Ok(mut inbound) = at_site_2_of_16(heap) else {
         return false;
@@ -171,7 +171,7 @@ fn answer_takes(heap: &LocalHeap, line: &[u8], room: usize) -> bool {
         && heap.used() == fresh
 }
 
-/// The longest answer takes the room of 94 verdicts and of its moves, and gives it back. While it is read, it
+/// The longest answer takes the memory of 94 verdicts and of its moves, and gives it back. While it is read, it
 /// takes little more.
 #[test]
 fn bytes_of_the_longest_answer(rt: HostRuntime) {
@@ -181,7 +181,7 @@ fn bytes_of_the_longest_answer(rt: HostRuntime) {
     assert!(rt; answer_takes(&heap, &line, room));
 }
 
-/// An entry takes room for its verdict, and for those on the entries that are held.
+/// An entry takes memory for its verdict, and for those on the entries that are held.
 #[test]
 fn bytes_of_an_entry(rt: HostRuntime) {
     let heap = LocalHeap::new(rt.alloc(), 1 << 16).expect(&rt, "memory");
@@ -194,7 +194,7 @@ fn bytes_of_an_entry(rt: HostRuntime) {
     assert!(rt; inbound.held_count() == 0);
 }
 
-/// Lines, what they come to, and how many entries are held then.
+/// Lines, their results, and how many entries are held then.
 const KEPT: [(&str, Came, usize); 7] = [
     ("E 2 0 1 I:1\n", Came::Refused(InboundError::WrongOrigin), 0),
     (
@@ -218,7 +218,7 @@ const KEPT: [(&str, Came, usize); 7] = [
     ("E 1 0 1 I:1\n", Came::Entries(&[Said::Repeat]), 0),
 ];
 
-// Whether the line comes to that, so many entries are held then, and their moves alone are kept.
+// Whether the line has that result, this number of entries is held then, and only their moves are kept.
 fn keeps(
     heap: &LocalHeap,
     inbound: &mut Inbound<&LocalHeap>,
@@ -235,7 +235,7 @@ fn keeps(
     used >= fresh && used <= most && inbound.held_count() == held
 }
 
-/// Entries that are held keep their moves alone, and all others nothing.
+/// Entries that are held keep only their moves, and all others nothing.
 #[test]
 fn bytes_that_are_kept(rt: HostRuntime) {
     let heap = LocalHeap::new(rt.alloc(), 1 << 16).expect(&rt, "memory");
@@ -247,14 +247,14 @@ fn bytes_that_are_kept(rt: HostRuntime) {
     }
 }
 
-// Whether the longest query takes that room at most.
+// Whether the longest query takes at most this much memory.
 fn query_takes(heap: &LocalHeap, inbound: &mut Inbound<&LocalHeap>, most: usize) -> bool {
     let fresh = heap.used();
     let query = inbound.query_line(false);
     is_query(&query, Some("Q 2 1 1 1000000000\n")) && heap.used() <= fresh.saturating_add(most)
 }
 
-/// A query's line takes the room of its bytes, to the heap's next 16.
+/// A query's line takes the memory of its bytes, to the heap's next 16.
 #[test]
 fn bytes_of_a_query(rt: HostRuntime) {
     let heap = LocalHeap::new(rt.alloc(), 1 << 16).expect(&rt, "memory");

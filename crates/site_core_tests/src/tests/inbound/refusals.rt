@@ -6,7 +6,7 @@ use site_core::InboundError;
 use sub_buffer::State;
 
 const LINES: [(&str, InboundError); 25] = [
-    // Of another site than the origin, whomever they are for and whatever they name.
+    // From another site than the origin, for any site and naming anything.
     ("H 2\n", InboundError::WrongOrigin),
     ("B 3 1\n", InboundError::WrongOrigin),
     ("E 3 0 1 I:1\n", InboundError::WrongOrigin),
@@ -16,13 +16,13 @@ const LINES: [(&str, InboundError); 25] = [
     ("Q 3 2 1 4\n", InboundError::WrongOrigin),
     ("W 3 1 1 6\n", InboundError::WrongOrigin),
     ("D 2 1 1\n", InboundError::WrongOrigin),
-    // Of the origin, for another site.
+    // From the origin, for another site.
     ("Q 1 3 1 4\n", InboundError::BadSite),
     ("A 1 3\n", InboundError::BadSite),
     ("A 1 3;E 1 0 1 I:1\n", InboundError::BadSite),
     ("W 1 3 1 6\n", InboundError::BadSite),
     ("D 1 3 1\n", InboundError::BadSite),
-    // Of the origin, with entries of a system of more sites.
+    // From the origin, with entries of a system of more sites.
     ("E 1 0 1 R:3:1\n", InboundError::BadSite),
     ("E 1 0 1 G:16:1:1\n", InboundError::BadSite),
     ("E 1 0 2 I:1 V:3:1\n", InboundError::BadSite),
@@ -30,7 +30,7 @@ const LINES: [(&str, InboundError); 25] = [
     ("E 1 0 3 I:1 R:2:1 K:0:1:2\n", InboundError::BadSite),
     ("A 1 2;E 1 0 1 I:1;E 1 1 2 R:3:1\n", InboundError::BadSite),
     ("A 1 2;E 1 0 1 I:1;E 1 1 2 K:0:0:0\n", InboundError::BadSite),
-    // Of no message, whoever sends them.
+    // Not a message, from any site.
     (
         "B 1 05\n",
         InboundError::Line(LineError::BadField(Place { part: 0, field: 2 })),

@@ -1,5 +1,5 @@
-//! Entries and answers of every size, with ample memory and with each request for it refused in turn. An
-//! inbound that gives up on some size is proved, since it may always want memory, and is found here.
+//! Entries and answers of every size, with ample memory and with each memory request refused in turn. An inbound that
+//! gives up at some size can be proved, since it may always run out of memory; it is found here.
 
 use crate::tests::inbound::memory::comes_at_last;
 use crate::tests::inbound::steps::{Came, Said, at_site_2_of_16, comes, is_query, readers};
@@ -12,7 +12,7 @@ use std::test::Fail;
 use sub_buffer::State;
 use test_kit::requests_of;
 
-// How many requests for memory an inbound and its first line make, each of which may be refused.
+// How many memory requests an inbound and its first line make, each of which may be refused.
 fn requests_of_line(alloc: Global, line: &[u8], said: &[Said]) -> Option<u64> {
     requests_of(alloc, |memory| comes_first(memory, line, said))
 }
@@ -24,7 +24,7 @@ fn comes_first<A: Allocator + Copy>(memory: &Refusing<A>, line: &[u8], said: &[S
     comes_at_last(&mut inbound, memory, line, Came::Entries(said))
 }
 
-// Moves that any entry may have anywhere, and those that close.
+// Moves that may be anywhere in any entry, and those that close.
 const MOVES: [&str; 6] = [" I:10", " S:9", " G:2:8:7", " R:3:6", " V:4:5", LONG_GRANT];
 
 const CLOSES: [&str; 2] = [" C", " K:0:1:2:3:4:5:6:7:8:9:10:11:12:13:14:1000000000"];
@@ -35,7 +35,7 @@ fn requests_of_entry(alloc: Global, count: u16, each: &str, last: &str) -> Optio
     requests_of_line(alloc, &line, &[Said::Ready(u64::from(count))])
 }
 
-/// Entries of 1 to 16 moves of each kind, of which the last closes or not.
+/// Entries of 1 to 16 moves of each kind, the last of which closes or not.
 #[test]
 fn entries_of_every_size(rt: HostRuntime) {
     for count in 1..=16u16 {
@@ -48,7 +48,7 @@ fn entries_of_every_size(rt: HostRuntime) {
     }
 }
 
-// The own numbers of entries, of which the first has so many moves, and each further one so many more.
+// The own numbers of entries, the first of which has this number of moves, and each further one this many more.
 fn all_ready(alloc: Global, entries: u16, first: u16, more: u16) -> Result<Vec<Said>, AllocError> {
     let mut said = Vec::new(alloc);
     let mut own = 0u64;
@@ -61,7 +61,7 @@ fn all_ready(alloc: Global, entries: u16, first: u16, more: u16) -> Result<Vec<S
     Ok(said)
 }
 
-// How many requests an answer makes, of which the first entry has so many moves, and each further one so many
+// How many requests an answer makes whose first entry has this number of moves, and each further one this many
 // more.
 fn requests_of_answer(alloc: Global, entries: u16, first: u16, more: u16) -> Option<u64> {
     let line = answer_line(alloc, entries, first, more, LONG_GRANT).ok()?;
@@ -69,11 +69,11 @@ fn requests_of_answer(alloc: Global, entries: u16, first: u16, more: u16) -> Opt
     requests_of_line(alloc, &line, &said)
 }
 
-/// Answers of 0 to 16 entries: of 1, of 16, and of 1 to 16 moves.
+/// Answers with 0 to 16 entries: of 1, of 16, and of 1 to 16 moves.
 #[test]
 fn answers_of_every_size(rt: HostRuntime) {
     for entries in 0..=16u16 {
-        // The inbound and the verdicts take one request each, the list one, and each entry one.
+        // The inbound and the verdicts make one request each, the list one, and each entry one.
         let wanted = if entries == 0 {
             2
         } else {
@@ -165,7 +165,7 @@ fn requests_of_pair(
     ))
 }
 
-/// Any two sites of 2 to 16: an inbound is made, and asks for what is missing.
+/// Any two sites of 2 to 16: an inbound is made, and queries what is missing.
 #[test]
 fn inbounds_of_any_two_sites(rt: HostRuntime) -> Result<(), Fail> {
     for sites in 2..=16u64 {

@@ -1,4 +1,4 @@
-//! Lines that come to an inbound, and what they come to.
+//! Lines that arrive at an inbound, and their results.
 
 use rights_types::OutOfMemory;
 use site_core::{Arrival, Inbound, InboundError};
@@ -6,7 +6,7 @@ use std::alloc::Allocator;
 use sub_buffer::{State, Verdict};
 use test_kit::site;
 
-/// A verdict. Of an entry that is ready it has the own number.
+/// A verdict. For an entry that is ready it has the own number.
 #[derive(Clone, Copy, PartialEq, Eq)]
 pub(crate) enum Said {
     Ready(u64),
@@ -16,12 +16,12 @@ pub(crate) enum Said {
     Full,
 }
 
-/// What a line comes to.
+/// The result of a line.
 #[derive(Clone, Copy)]
 pub(crate) enum Came<'a> {
     Entries(&'a [Said]),
     Beat,
-    /// The first and the last number that are asked for.
+    /// The first and the last number that are queried.
     Query(u64, u64),
     /// The number of the ask, and its amount.
     Ask(u64, u64),
@@ -31,12 +31,12 @@ pub(crate) enum Came<'a> {
     Refused(InboundError),
 }
 
-/// A call of an inbound, and what it comes to.
+/// A call of an inbound, and its result.
 #[derive(Clone, Copy)]
 pub(crate) enum Step<'a> {
-    /// A line comes.
+    /// A line arrives.
     Line(&'a str, Came<'a>),
-    /// The line that asks for the gap, if there is one.
+    /// The line that queries the gap, if there is one.
     Asks(Option<&'a str>),
     AsksAgain(Option<&'a str>),
     Is(State),
@@ -58,12 +58,12 @@ pub(crate) fn at_site_2_of_16<A: Allocator + Copy>(alloc: A) -> Result<Inbound<A
     Inbound::new(alloc, site(2), site(1), 16)
 }
 
-/// What an inbound says of itself: its state, its last number, and how many entries it holds.
+/// What an inbound reports of itself: its state, its last number, and how many entries it holds.
 pub(crate) fn readers<A: Allocator + Copy>(inbound: &Inbound<A>) -> (State, u64, usize) {
     (inbound.state(), inbound.last(), inbound.held_count())
 }
 
-/// The first step that does not come out as told, if there is one.
+/// The first step with another result than expected, if there is one.
 pub(crate) fn first_wrong<A: Allocator + Copy>(
     inbound: &mut Inbound<A>,
     steps: &[Step],
@@ -86,7 +86,7 @@ fn is_right<A: Allocator + Copy>(inbound: &mut Inbound<A>, step: Step) -> bool {
     }
 }
 
-/// Whether the line comes to that.
+/// Whether the line has that result.
 pub(crate) fn comes<A: Allocator + Copy>(
     inbound: &mut Inbound<A>,
     line: &[u8],
@@ -95,7 +95,7 @@ pub(crate) fn comes<A: Allocator + Copy>(
     is_outcome(&inbound.on_line(line), came)
 }
 
-/// Whether that is what a line came to.
+/// Whether that is the result of a line.
 pub(crate) fn is_outcome<A: Allocator>(
     outcome: &Result<Arrival<A>, InboundError>,
     came: Came,
@@ -157,7 +157,7 @@ fn asks<A: Allocator + Copy>(
     is_query(&inbound.query_line(again), expected)
 }
 
-/// Whether that is the line that was asked for.
+/// Whether that is the line that was requested.
 pub(crate) fn is_query<A: Allocator>(
     query: &Result<Option<Vec<u8, A>>, OutOfMemory>,
     expected: Option<&str>,

@@ -1,4 +1,4 @@
-//! Lines that come to an inbound, over many sizes with ample memory.
+//! Lines that arrive at an inbound, over many sizes with ample memory.
 
 use crate::tests::inbound::steps::{Came, Said, at_site_2, comes, is_query, readers};
 use crate::tests::inbound::texts::{answer_line, entry_line};
@@ -18,7 +18,7 @@ fn all_ready(alloc: Global, last: u16) -> Result<Vec<Said>, AllocError> {
     Ok(said)
 }
 
-// An inbound that holds so many entries of one move behind this number.
+// An inbound that holds this number of entries of one move after this number.
 fn holding(
     rt: &(impl Abort + AllocGlobal),
     prev: u16,
@@ -32,7 +32,7 @@ fn holding(
     Ok(inbound)
 }
 
-// Whether an answer of so many entries frees all that are held behind it.
+// Whether an answer with this number of entries frees all that are held after it.
 fn frees_all(rt: &(impl Abort + AllocGlobal), entries: u16, held: u16) -> Result<bool, AllocError> {
     let mut inbound = holding(rt, entries, held)?;
     let last = entries.saturating_add(held);
@@ -44,7 +44,7 @@ fn frees_all(rt: &(impl Abort + AllocGlobal), entries: u16, held: u16) -> Result
     )
 }
 
-// Whether an answer of so many entries leaves those held that stand behind a gap.
+// Whether an answer with this number of entries leaves those held that are after a gap.
 fn frees_none(
     rt: &(impl Abort + AllocGlobal),
     entries: u16,
@@ -60,7 +60,7 @@ fn frees_none(
     )
 }
 
-/// Answers of 0 to 16 entries come where 0 to 64 are held, which they free or not.
+/// Answers with 0 to 16 entries arrive when 0 to 64 are held, which they free or not.
 #[test]
 fn answers_by_what_is_held(rt: HostRuntime) -> Result<(), Fail> {
     for held in 0..=MAX_HELD as u16 {
@@ -75,7 +75,7 @@ fn answers_by_what_is_held(rt: HostRuntime) -> Result<(), Fail> {
     Ok(())
 }
 
-// Whether the entry of 16 moves behind this number comes next.
+// Whether the entry of 16 moves after this number is delivered next.
 fn comes_next(alloc: Global, inbound: &mut Inbound<Global>, prev: u64) -> Result<bool, AllocError> {
     let own = prev.saturating_add(16);
     let line = format!(in alloc;
@@ -84,7 +84,7 @@ fn comes_next(alloc: Global, inbound: &mut Inbound<Global>, prev: u64) -> Result
     Ok(comes(inbound, line.as_bytes(), Came::Entries(&[Said::Ready(own)])))
 }
 
-// Whether a beat of so much comes, and leads to that query.
+// Whether a beat with this number arrives, and leads to that query.
 fn beat_leads_to(
     alloc: Global,
     inbound: &mut Inbound<Global>,
@@ -95,7 +95,7 @@ fn beat_leads_to(
     Ok(comes(inbound, beat.as_bytes(), Came::Beat) && is_query(&inbound.query_line(false), query))
 }
 
-// Whether beats of the end of the log and of one more come where all up to the end came.
+// Whether beats with the end of the log and with one more arrive after all up to the end has arrived.
 fn beats_come_at(
     alloc: Global,
     inbound: &mut Inbound<Global>,
@@ -110,7 +110,7 @@ fn beats_come_at(
     )
 }
 
-/// Beats come at logs of 10^4, 10^5 and 10^6.
+/// Beats arrive at logs of 10^4, 10^5 and 10^6.
 #[test]
 fn beats_at_long_logs(rt: HostRuntime) -> Result<(), Fail> {
     let mut inbound = at_site_2(rt.alloc()).expect(&rt, "memory");

@@ -23,7 +23,7 @@ fn add_number<A: Allocator>(text: &mut Vec<u8, A>, number: u16) -> Result<(), Al
     text.extend_from_slice(&digits[zeros..])
 }
 
-/// Adds an entry after a number: so many moves, of which the last is another one.
+/// Adds an entry after a number: with this number of moves, of which the last is another one.
 pub(crate) fn add_entry<A: Allocator>(
     text: &mut Vec<u8, A>,
     prev: u16,
@@ -54,8 +54,8 @@ pub(crate) fn entry_line(
     Ok(line)
 }
 
-/// The line that answers site 2 with entries of one log: the first has so many moves, and each further one
-/// so many more.
+/// The line that answers site 2 with entries of one log: the first has this number of moves, and each further one
+/// this many more.
 pub(crate) fn answer_line(
     alloc: Global,
     entries: u16,

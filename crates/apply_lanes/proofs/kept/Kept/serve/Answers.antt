@@ -10,7 +10,7 @@ use Rattle.apply_lanes.specs.Steps.{StepsBy, serve_change}
 use Rattle.apply_lanes.proofs.StepLaws.{seen, steps_serve}
 use Rattle.apply_lanes.proofs.kept.Kept.serve.Goals as goal
 
--- the amount of the front request is what the desk spent by it
+-- the amount of the request at the front is what the desk spent with it
 amount_is : (old new : DeskValue) (ticket number before after : ℕ) → (s : ServesFront old ticket number new)
     → EntryKeeps old.ledger (Spend s.amount ∷ []) new.ledger → before ≡ old.ledger.book.own.spent
     → after ≡ new.ledger.book.own.spent → s.amount ≡ after - before

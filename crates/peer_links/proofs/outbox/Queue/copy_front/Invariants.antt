@@ -3,7 +3,7 @@ use Rattle.peer_links.specs.Outboxes.{front_in}
 use Rattle.peer_links.specs.Sources.{joined}
 use Rattle.peer_links.proofs.outbox.Queue.copy_front.Given as goal
 
--- the front of the lines is what was copied, and what of the others finds room
+-- the longest prefix that fits is what was copied, and as many of the other lines as fit into the rest
 abbrev pub invariant-lines : goal.invariant-lines
 invariant-lines g l =
     (length l.room ≡ length l.fn.room) × (l.filled ≤ length l.room) × (l.count ≤ length l.self.lines)
