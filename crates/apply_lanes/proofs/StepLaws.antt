@@ -149,8 +149,10 @@ steps_serve id k new ticket number amount is w keeps = steps_write id k new (Spe
 
 -- ---- what the lock's value preserves
 
-pub protocol_of : (id : DeskId) (k : KeptValue) → IsKept id k
-    → (applied : ℕ → List EntryValue) × HasApplied applied k.desk.ledger × SiteKept id.sites id.site k.desk.ledger.log.entries applied
+abbrev pub HasProtocol : DeskId → KeptValue → Type 0
+HasProtocol id k = (applied : ℕ → List EntryValue) × HasApplied applied k.desk.ledger × SiteKept id.sites id.site k.desk.ledger.log.entries applied
+
+pub protocol_of : (id : DeskId) (k : KeptValue) → IsKept id k → HasProtocol id k
 protocol_of id k is =
     let p = is.protocol in
     (p.0, p.1, subst (λ (x : ℕ × ℕ). SiteKept x.0 x.1 k.desk.ledger.log.entries p.0) (λ i. (is.same_sites i, is.site i)) p.1.kept)

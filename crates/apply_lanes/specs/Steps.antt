@@ -10,7 +10,7 @@ use Rattle.rights_protocol.specs.Lists.{IsSiteOf}
 use Rattle.rights_protocol.specs.Schedules.{SiteLists, LocalChange, LocalStep, Turn, AllPromised, together}
 use Rattle.rights_protocol.specs.Schedules.LocalChange.{Write, Apply, Retire, Other}
 use Rattle.transfer_manager.specs.declared.answer.AskAnswer.{AskAnswer}
-use Rattle.transfer_manager.specs.declared.answer.AskAnswer.TheVariants.{Grant as Granted, Deny, RepeatedDeny, Repeated, OldAsk}
+use Rattle.transfer_manager.specs.declared.answer.AskAnswer.TheVariants.{Grant as Granted}
 use Rattle.site_core.specs.Ledgers.{HasApplied}
 use Rattle.site_core.specs.Desks.{DeskValue}
 use Rattle.site_core.specs.declared.desk.requests.Spending.{Spending}

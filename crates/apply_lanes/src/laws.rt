@@ -1,6 +1,8 @@
-//! What the two ends of one lane say about each other, and what follows for the calls at all desks of a system.
-ghost use Rattle.std.specs.Prelude.{◌≡◌, true, false};
+//! What the two ends of one lane say of each other, and what the calls at all desks of a system add up to.
+ghost use Rattle.std.specs.Prelude.{◌≡◌, true, List};
+ghost use Rattle.rights_types.specs.Entries.{EntryValue};
 ghost use Rattle.thread_parts.specs.Items.{StartsWith};
+ghost use Rattle.link_intake.specs.Intakes.{Sends, IsIntake};
 ghost use Rattle.apply_lanes.specs.Between.{IsBetween};
 ghost use Rattle.apply_lanes.specs.Steps.{EverySchedule};
 
@@ -11,10 +13,10 @@ use link_intake::Intake;
 use std::alloc::Allocator;
 pub use thread_parts::ends_taken_in;
 
-/// Given the intake and the applier of one lane, what the applier took is a prefix of what the intake put, and equal
-/// to it if End was taken. The applier is returned unchanged. In every schedule of their threads, between two calls
-/// of each: what the buffer delivered is what was applied, was dropped, is in hand, and waits on the lane, in this
-/// order.
+/// Given the intake and the applier of one lane, what the applier took is a prefix of what the intake put,
+/// and all of it where End was taken. The applier comes back as it was. In whatever schedule of their threads, between
+/// two calls of each: what the buffer delivered is what was applied, dropped, is in hand, waits on the lane, and is still
+/// to be sent, in this order.
 pub fn taken_in<D: DeskNames, G: Gate, A: Allocator>(
     intake: Intake<A>,
     mut applier: Applier<D, G, A>,
@@ -23,7 +25,8 @@ pub fn taken_in<D: DeskNames, G: Gate, A: Allocator>(
     ensures same { result ≡ applier }
     ensures prefix { StartsWith intake.inlet.put applier.outlet.taken }
     ensures whole { applier.ended ≡ true → applier.outlet.taken ≡ intake.inlet.put }
-    ensures between { intake.inlet.dead ≡ false → intake.finished ≡ false → IsBetween D.id intake applier }
+    ensures sent { IsIntake intake }
+    ensures between { (delivered : List EntryValue) → Sends delivered intake → IsBetween D.id delivered intake applier }
 {
     applier.outlet = ends_taken_in(intake.into_inlet(), applier.outlet);
     applier

@@ -1,10 +1,10 @@
--- What an intake puts follows from what arrived in order.
-use Rattle.std.proofs.Common.{◌≡◌, ℕ, suc, ◌+◌, ◌<◌, ◌≤◌, Bool, true, false, true≢false, cond, List, [], ◌∷◌, ◌++◌, length, take, get_or, refl, sym, ap, ◌∙◌, subst, append-nil, append_assoc, arith}
+-- What an intake puts follows what came in order.
+use Rattle.std.proofs.Common.{◌≡◌, ℕ, ◌+◌, ◌<◌, ◌≤◌, Bool, true, false, true≢false, cond, List, [], ◌∷◌, ◌++◌, length, take, get_or, refl, sym, ap, ◌∙◌, subst, append-nil, append_assoc, arith}
 use Rattle.std.specs.Prelude.{count_by}
 use Rattle.std.proofs.lemmas.List.{map-append, length-take-le}
 use Rattle.std.proofs.lemmas.List.Sums.{sum_by_more, sum_by-cons}
 use Rattle.rights_types.specs.Entries.{EntryValue, closes}
-use Rattle.rights_types.specs.Chains.{is_closed, closed_from, IsChain, ChainFrom}
+use Rattle.rights_types.specs.Chains.{is_closed, closed_from, IsChain}
 use Rattle.rights_types.proofs.Chains.{chain_left, chain_right}
 use Rattle.sub_buffer.specs.declared.verdict.Verdict.{Verdict}
 use Rattle.sub_buffer.specs.declared.verdict.Verdict.TheVariants.{Ready, Held, Repeat, AfterClose, Full}
@@ -25,7 +25,7 @@ use Rattle.thread_parts.specs.Ends.{InletValue}
 use Rattle.thread_parts.specs.Items.{items_of, end_if, IsOpen, Continues}
 use Rattle.thread_parts.proofs.Items.{open_push}
 use Rattle.link_intake.specs.declared.intake.VerdictCounts.{VerdictCounts}
-use Rattle.link_intake.specs.Intakes.{IntakeValue, IsInStep, IsIntake, Brings, FindsClosed, LineLeaves, verdicts_of, arrived_of, ready_of, sent, CanPut, PutsAll, PutsFront, is_ready, is_held, is_repeat, is_after_close, is_full, counts_of, with_verdict, all_counts}
+use Rattle.link_intake.specs.Intakes.{IntakeValue, Sends, IsIntake, Brings, FindsClosed, LineLeaves, verdicts_of, arrived_of, ready_of, sent, CanPut, PutsAll, PutsFront, is_ready, is_held, is_repeat, is_after_close, is_full, counts_of, with_verdict, all_counts}
 use Rattle.link_intake.specs.declared.intake.Arrived.{Arrived}
 use Rattle.link_intake.specs.declared.intake.IntakeError.{IntakeError}
 use Rattle.link_intake.specs.declared.intake.IntakeError.TheVariants.{Inbound, LaneClosed}
@@ -271,6 +271,32 @@ heard : (put : List EntryValue) (b : BufferValue) (n : ℕ) → HasPut put b →
 heard put b n h = either_put put b.closed b _ h (record { chain = h.chain; last = h.last; closed = h.closed })
 
 module _ {A : Type 0} where
+  -- items that begin with these entries, and are entries alone
+  opens : (es xs : List EntryValue) (d : Bool) (rest : List (Item A)) → items_of es ≡ (items_of xs ++ end_if d) ++ rest
+      → (more : List EntryValue) × (es ≡ xs ++ more) × (rest ≡ items_of more)
+  opens es [] false rest h = (es, refl, sym h)
+  opens [] [] true rest h = absurd cc
+  opens (e ∷ es) [] true rest h = absurd cc
+  opens [] (x ∷ xs) true rest h = absurd cc
+  opens [] (x ∷ xs) false rest h = absurd cc
+  opens (e ∷ es) (x ∷ xs) d rest h =
+      let same : e ≡ x = cc in
+      let tail : items_of {A = A} es ≡ (items_of xs ++ end_if d) ++ rest = cc in
+      let later = opens es xs d rest tail in
+      (later.0, ap (λ (y : EntryValue). y ∷ es) same ∙ ap (λ (ys : List EntryValue). x ∷ ys) later.1, later.2)
+
+  -- entries that begin those that are put, with End or without: the others are left
+  pub left_of : (es xs : List EntryValue) (c d : Bool) (rest : List (Item A)) → items_of {A = A} es ++ end_if c ≡ (items_of xs ++ end_if d) ++ rest
+      → (more : List EntryValue) × (es ≡ xs ++ more)
+  left_of es [] c d rest h = (es, refl)
+  left_of [] (x ∷ xs) true d rest h = absurd cc
+  left_of [] (x ∷ xs) false d rest h = absurd cc
+  left_of (e ∷ es) (x ∷ xs) c d rest h =
+      let same : e ≡ x = cc in
+      let tail : items_of {A = A} es ++ end_if c ≡ (items_of xs ++ end_if d) ++ rest = cc in
+      let later = left_of es xs c d rest tail in
+      (later.0, ap (λ (y : EntryValue). y ∷ es) same ∙ ap (λ (ys : List EntryValue). x ∷ ys) later.1)
+
   brought : (old : InboundValue) (put es : List EntryValue) (a : Arrival A) (new : InboundValue) → HasPut put old.buffer → BringsEntries old es a new
       → HasPut (put ++ ready_of a) new.buffer
   brought old put es (Entries vs) new h x = x.chain put h
@@ -296,35 +322,94 @@ module _ {A : Type 0} where
   delivers old put (ADenial d) a new h x = no_more put a (Deny d) new.buffer x.0 refl (subst (λ (i : InboundValue). HasPut put i.buffer) (sym x.1) h)
   delivers old put (AHello s) a new h x = no_more put a Hello new.buffer x.0 refl (subst (λ (i : InboundValue). HasPut put i.buffer) (sym x.1) h)
 
-  -- what became ready may be put
-  pub can_take : (i : IntakeValue A) (m : MessageValue) (a : Arrival A) (new : InboundValue) → IsInStep i → Arrives i.inbound m a new
-      → CanPut i.ended i.inlet.put (ready_of a)
-  can_take i m a new s x =
-      let h = delivers i.inbound s.entries m a new s.delivered x in
-      (new.buffer.origin, s.entries, h.chain, s.put, s.ended)
+  -- of an intake that goes on, on a lane that was not found closed: all that was delivered was put
+  pub record IsInStep (delivered : List EntryValue) (i : IntakeValue A) : Type 0 where
+    put : i.inlet.put ≡ sent delivered
+    ended : i.ended ≡ is_closed delivered
 
-  -- once it was put, all that arrived in order was put
-  in_step_after : (i j : IntakeValue A) (m : MessageValue) (a : Arrival A) → IsInStep i → Arrives i.inbound m a j.inbound
-      → PutsAll i.inlet.put i.ended (ready_of a) j.ended j.inlet → IsInStep j
-  in_step_after i j m a s x p =
-      let h = delivers i.inbound s.entries m a j.inbound s.delivered x in
-      let free = open_to j.inbound.buffer.origin s.entries (ready_of a) h.chain in
+  in_step : (d : List EntryValue) (i : IntakeValue A) → Sends d i → i.inlet.dead ≡ false → i.finished ≡ false → IsInStep d i
+  in_step d i s live going =
+      let all : s.gone ≡ d = sym (append-nil s.gone) ∙ ap (λ l. s.gone ++ l) (sym (s.all_gone live)) ∙ sym s.whole in
+      let closed = s.ended live going in
       record {
-        entries = s.entries ++ ready_of a;
-        delivered = h;
-        put = p.0 ∙ ap (λ l. l ++ sent (ready_of a)) s.put ∙ sym (sent-append s.entries (ready_of a) free);
-        ended = p.1 ∙ ap (λ b. closed_from b (ready_of a)) s.ended ∙ sym (closed_from-append false s.entries (ready_of a));
+        put = s.put ∙ ap (λ b. items_of s.gone ++ end_if b) closed ∙ ap sent all;
+        ended = closed ∙ ap is_closed all;
       }
 
-  is_intake : (i : IntakeValue A) → IsInStep i → IsIntake i
-  is_intake i s = record {
-    no_end = λ free. (
-      s.entries,
-      s.put ∙ ap (λ b. items_of s.entries ++ end_if b) (sym s.ended ∙ free) ∙ append-nil (items_of s.entries),
-    );
-    at_end = λ ended. (items_of s.entries, s.put ∙ ap (λ b. items_of s.entries ++ end_if b) (sym s.ended ∙ ended));
-    in_step = λ _ _. s;
+  -- what became ready can be put
+  pub can_take : (i : IntakeValue A) (m : MessageValue) (a : Arrival A) (new : InboundValue) → IsIntake i → i.inlet.dead ≡ false → i.finished ≡ false
+      → Arrives i.inbound m a new → CanPut i.ended i.inlet.put (ready_of a)
+  can_take i m a new is live going x =
+      let h = delivers i.inbound is.delivered m a new is.of_buffer x in
+      let s = in_step is.delivered i is.sends live going in
+      (new.buffer.origin, is.delivered, h.chain, s.put, s.ended)
+
+  sends_all : (d : List EntryValue) (i : IntakeValue A) → IsInStep d i → Sends d i
+  sends_all d i s = record {
+    gone = d;
+    unsent = [];
+    whole = sym (append-nil d);
+    put = s.put ∙ ap (λ b. items_of d ++ end_if b) (sym s.ended);
+    all_gone = λ _. refl;
+    ended = λ _ _. s.ended;
   }
+
+  -- before End entries alone were put
+  pub open_before_end : (i : IntakeValue A) → IsIntake i → i.ended ≡ false → IsOpen i.inlet.put
+  open_before_end i is free =
+      let s = is.sends in
+      (s.gone, s.put ∙ ap (λ b. items_of s.gone ++ end_if b) free ∙ append-nil (items_of s.gone))
+
+  -- what became ready for a closed lane is still to be sent
+  pub sends_none : (d ready : List EntryValue) (i : IntakeValue A) (new : InboundValue) → Sends d i → i.inlet.dead ≡ true
+      → Sends (d ++ ready) (record i { inbound = new })
+  sends_none d ready i new s dead = record {
+    gone = s.gone;
+    unsent = s.unsent ++ ready;
+    whole = ap (λ l. l ++ ready) s.whole ∙ append_assoc s.gone s.unsent ready;
+    put = s.put;
+    all_gone = λ live. absurd (true≢false (sym dead ∙ live));
+    ended = λ live _. absurd (true≢false (sym dead ∙ live));
+  }
+
+  -- a front of what became ready was put, and the rest is still to be sent
+  sends_front : (d ready : List EntryValue) (i j : IntakeValue A) → IsInStep d i → PutsFront i.inlet.put ready j.ended j.inlet → Sends (d ++ ready) j
+  sends_front d ready i j s f =
+      let front = f.0 in
+      let rest = f.1 in
+      let entries = opens f.6.0 d (is_closed d) front (sym f.6.1 ∙ f.3 ∙ ap (λ (l : List (Item A)). l ++ front) s.put) in
+      let more = entries.0 in
+      let left = left_of ready more (is_closed ready) false rest
+      (sym f.2 ∙ ap (λ (l : List (Item A)). l ++ rest) (entries.2 ∙ sym (append-nil (items_of more)))) in
+      record {
+        gone = d ++ more;
+        unsent = left.0;
+        whole = ap (λ l. d ++ l) left.1 ∙ sym (append_assoc d more left.0);
+        put =
+            f.6.1 ∙ ap items_of entries.1 ∙ sym (append-nil (items_of (d ++ more)))
+            ∙ ap (λ b. items_of (d ++ more) ++ end_if b) (sym f.5);
+        all_gone = λ live. absurd (true≢false (sym f.4 ∙ live));
+        ended = λ live _. absurd (true≢false (sym f.4 ∙ live));
+      }
+
+  -- all that became ready was put
+  in_step_after : (o : ℕ) (d ready : List EntryValue) (i j : IntakeValue A) → IsInStep d i → IsChain o (d ++ ready)
+      → PutsAll i.inlet.put i.ended ready j.ended j.inlet → IsInStep (d ++ ready) j
+  in_step_after o d ready i j s chain p =
+      let free = open_to o d ready chain in
+      record {
+        put = p.0 ∙ ap (λ l. l ++ sent ready) s.put ∙ sym (sent-append d ready free);
+        ended = p.1 ∙ ap (λ b. closed_from b ready) s.ended ∙ sym (closed_from-append false d ready);
+      }
+
+  -- an arrival was taken in, all of it or a front
+  pub sends_arrival : (o : ℕ) (d : List EntryValue) (i j : IntakeValue A) (a : Arrival A) (r : Result Arrived IntakeError) → Sends d i
+      → i.inlet.dead ≡ false → i.finished ≡ false → IsChain o (d ++ ready_of a)
+      → IfOk r (λ arrived. (arrived ≡ arrived_of a) × PutsAll i.inlet.put i.ended (ready_of a) j.ended j.inlet)
+      → IfErr r (λ fault. (fault ≡ LaneClosed) × PutsFront i.inlet.put (ready_of a) j.ended j.inlet) → Sends (d ++ ready_of a) j
+  sends_arrival o d i j a (Ok arrived) s live going chain ok err =
+      sends_all (d ++ ready_of a) j (in_step_after o d (ready_of a) i j (in_step d i s live going) chain ok.1)
+  sends_arrival o d i j a (Err fault) s live going chain ok err = sends_front d (ready_of a) i j (in_step d i s live going) err.1
 
   -- a dead intake puts nothing
   pub finds_closed : (i : IntakeValue A) (read : Result MessageValue LineError) (m : MessageValue) (arrival : Arrival A) (new : InboundValue)
@@ -339,24 +424,35 @@ module _ {A : Type 0} where
     dead,
   )
 
-  -- if nothing has arrived yet
-  pub new_intake : (i : IntakeValue A) → HasPut [] i.inbound.buffer → i.inlet.put ≡ [] → i.ended ≡ false → IsIntake i
-  new_intake i h empty free = is_intake i (record { entries = []; delivered = h; put = empty; ended = free })
+  -- where nothing came yet
+  pub none_sent : (i : IntakeValue A) → i.inlet.put ≡ [] → i.ended ≡ false → Sends [] i
+  none_sent i empty free = sends_all [] i (record { put = empty; ended = free })
 
-  -- after an arrival was taken in, all of it or a prefix
-  pub still_intake : (i j : IntakeValue A) (m : MessageValue) (a : Arrival A) (r : Result Arrived IntakeError) → IsInStep i → Arrives i.inbound m a j.inbound
+  pub new_intake : (i : IntakeValue A) → HasPut [] i.inbound.buffer → i.inlet.put ≡ [] → i.ended ≡ false → IsIntake i
+  new_intake i h empty free = record { delivered = []; of_buffer = h; sends = none_sent i empty free }
+
+  -- what is left of it
+  pub still_intake : (i j : IntakeValue A) (m : MessageValue) (a : Arrival A) (r : Result Arrived IntakeError) → IsIntake i → i.inlet.dead ≡ false
+      → i.finished ≡ false → Arrives i.inbound m a j.inbound
       → IfOk r (λ arrived. (arrived ≡ arrived_of a) × PutsAll i.inlet.put i.ended (ready_of a) j.ended j.inlet)
       → IfErr r (λ fault. (fault ≡ LaneClosed) × PutsFront i.inlet.put (ready_of a) j.ended j.inlet) → IsIntake j
-  still_intake i j m a (Ok arrived) s x ok err = is_intake j (in_step_after i j m a s x ok.1)
-  still_intake i j m a (Err fault) s x ok err =
-      let f = err.1 in
+  still_intake i j m a r is live going x ok err =
+      let h = delivers i.inbound is.delivered m a j.inbound is.of_buffer x in
       record {
-        no_end = λ _. f.6;
-        at_end = λ ended. absurd (true≢false (sym ended ∙ f.5));
-        in_step = λ live. absurd (true≢false (sym f.4 ∙ live));
+        delivered = is.delivered ++ ready_of a;
+        of_buffer = h;
+        sends = sends_arrival j.inbound.buffer.origin is.delivered i j a r is.sends live going h.chain ok err;
       }
 
-  -- what that says about the line
+  pub dead_intake : (i : IntakeValue A) (m : MessageValue) (a : Arrival A) (new : InboundValue) → IsIntake i → Arrives i.inbound m a new
+      → i.inlet.dead ≡ true → IsIntake (record i { inbound = new })
+  dead_intake i m a new is x dead = record {
+    delivered = is.delivered ++ ready_of a;
+    of_buffer = delivers i.inbound is.delivered m a new is.of_buffer x;
+    sends = sends_none is.delivered (ready_of a) i new is.sends dead;
+  }
+
+  -- what that says of the line
   pub line_leaves : (i j : IntakeValue A) (read : Result MessageValue LineError) (a : Arrival A) (r : Result Arrived IntakeError) → Brings i read a j
       → IfOk r (λ arrived. (arrived ≡ arrived_of a) × PutsAll i.inlet.put i.ended (ready_of a) j.ended j.inlet)
       → IfErr r (λ fault. (fault ≡ LaneClosed) × PutsFront i.inlet.put (ready_of a) j.ended j.inlet) → LineLeaves i read r j

@@ -1,1 +1,2 @@
 pub mod IntakeLaws
+pub mod LineLaws

@@ -1,14 +1,14 @@
 -- An intake: the lines of one other site, whose entries go to a lane as they become ready.
-use Rattle.std.specs.Prelude.{◌≡◌, ℕ, ◌+◌, Bool, true, false, List, [], ◌∷◌, ◌++◌, count_by, Option, Some, None, Result, Ok, Err}
+use Rattle.std.specs.Prelude.{◌≡◌, ℕ, ◌+◌, Bool, true, false, List, [], ◌∷◌, ◌++◌, count_by, None, Result, Ok, Err}
+use Rattle.std.specs.List.{All, Contains}
 use Rattle.rights_types.specs.Entries.{EntryValue}
-use Rattle.rights_types.specs.Chains.{is_closed, closed_from, IsChain}
+use Rattle.rights_types.specs.Chains.{is_closed, closed_from, IsChain, IsLongest}
 use Rattle.rights_types.specs.Messages.{MessageValue}
 use Rattle.entry_codec.specs.declared.fault.LineError.{LineError}
-use Rattle.sub_buffer.specs.Follows.{HasPut}
+use Rattle.sub_buffer.specs.Follows.{HasPut, Follows}
 use Rattle.sub_buffer.specs.declared.verdict.Verdict.{Verdict}
 use Rattle.sub_buffer.specs.declared.verdict.Verdict.TheVariants.{Ready, Held, Repeat, AfterClose, Full}
-use Rattle.site_core.specs.Inbounds.{InboundValue, line_fault, InboundRefuses, ready_in, Arrives}
-use Rattle.site_core.specs.declared.fault.InboundError.{InboundError}
+use Rattle.site_core.specs.Inbounds.{InboundValue, entries_of, line_fault, InboundRefuses, ready_in, Arrives}
 use Rattle.site_core.specs.declared.inbound.Arrival.{Arrival}
 use Rattle.site_core.specs.declared.inbound.Arrival.TheVariants.{Entries as ComesEntries, Beat as ComesBeat, Query as ComesQuery, Ask as ComesAsk, Deny as ComesDeny, Hello as ComesHello}
 use Rattle.thread_parts.specs.declared.item.Item.{Item}
@@ -19,7 +19,7 @@ use Rattle.link_intake.specs.declared.intake.Arrived.TheVariants.{Entries, Beat,
 use Rattle.link_intake.specs.declared.intake.IntakeError.{IntakeError}
 use Rattle.link_intake.specs.declared.intake.IntakeError.TheVariants.{Inbound, LaneClosed}
 use Rattle.thread_parts.specs.Ends.{InletValue}
-use Rattle.thread_parts.specs.Items.{items_of, end_if, IsOpen, IsEnded, StartsWith}
+use Rattle.thread_parts.specs.Items.{items_of, end_if, IsOpen}
 
 -- ---- the verdicts of a line
 
@@ -84,7 +84,12 @@ abbrev pub ready_of : {A : Type 0} → Arrival A → List EntryValue
 ready_of (ComesEntries vs) = ready_in vs
 ready_of arrival = []
 
--- a line is refused for the inbound's cause, or else because the lane is closed
+-- the entries of a line, none where it can't be read
+abbrev pub entries_read : Result MessageValue LineError → List EntryValue
+entries_read (Ok m) = entries_of m
+entries_read (Err fault) = []
+
+-- a line is refused by the inbound's cause, or else since the lane is closed
 abbrev pub IntakeRefuses : {X : Type 0} → InboundValue → Result MessageValue LineError → Result X IntakeError → Type 0
 IntakeRefuses i read (Ok x) = line_fault i read ≡ None
 IntakeRefuses i read (Err (Inbound fault)) = InboundRefuses {X = Unit {0}} i read (Err fault)
@@ -102,18 +107,34 @@ module _ {A : Type 0} where
   abbrev pub sent : List EntryValue → List (Item A)
   sent es = items_of es ++ end_if (is_closed es)
 
-  -- all entries that arrived in order were put
-  pub record IsInStep (i : IntakeValue A) : Type 0 where
-    pub entries : List EntryValue
-    pub delivered : HasPut entries i.inbound.buffer
-    pub put : i.inlet.put ≡ sent entries
-    pub ended : i.ended ≡ is_closed entries
+  -- of what was delivered: what went onto the lane, in order, and what is still to be sent, which is nothing unless the
+  -- lane was found closed
+  pub record Sends (delivered : List EntryValue) (i : IntakeValue A) : Type 0 where
+    pub gone : List EntryValue
+    pub unsent : List EntryValue
+    pub whole : delivered ≡ gone ++ unsent
+    pub put : i.inlet.put ≡ items_of gone ++ end_if i.ended
+    pub all_gone : i.inlet.dead ≡ false → unsent ≡ []
+    pub ended : i.inlet.dead ≡ false → i.finished ≡ false → i.ended ≡ is_closed gone
 
   -- the invariant of every intake
   pub record IsIntake (i : IntakeValue A) : Type 0 where
-    pub no_end : i.ended ≡ false → IsOpen i.inlet.put
-    pub at_end : i.ended ≡ true → IsEnded i.inlet.put
-    pub in_step : i.inlet.dead ≡ false → i.finished ≡ false → IsInStep i
+    pub delivered : List EntryValue
+    pub of_buffer : HasPut delivered i.inbound.buffer
+    pub sends : Sends delivered i
+
+  -- where es is the origin's log: these entries of it reached the intake, and the longest prefix of es among them was
+  -- delivered
+  pub record Receives (es reached : List EntryValue) (i : IntakeValue A) : Type 0 where
+    pub delivered : List EntryValue
+    pub follows : Follows es reached delivered i.inbound.buffer
+    pub longest : IsLongest reached es delivered
+    pub sends : Sends delivered i
+
+  -- more of the log reached it, all by these entries that came
+  abbrev pub ReceivesMore : List EntryValue → List EntryValue → List EntryValue → IntakeValue A → Type 0
+  ReceivesMore es reached came new =
+      (more : List EntryValue) × All (Contains came) more × Receives es (reached ++ more) new
 
   -- ---- a line
 

@@ -1,6 +1,7 @@
 //! The input from one other site: lines arrive, and entries leave on a lane.
 ghost use Rattle.std.specs.Prelude.{◌≡◌, ◌≤◌, ◌<◌, ◌++◌, [], ◌∷◌, true, false, List, Option, Ok, IfOk, IfErr, OnOk, OnErr, IsErr, MatchResult, IsSome, length};
 ghost use Rattle.std.specs.Option.{option_map};
+ghost use Rattle.std.specs.List.{All, Contains};
 ghost use Rattle.rights_types.specs.Entries.{EntryValue};
 ghost use Rattle.rights_types.specs.Chains.{IsChain, is_closed};
 ghost use Rattle.rights_types.specs.Messages.{QueryValue, MessageValue};
@@ -81,13 +82,13 @@ impl<A: Allocator> Model for Intake<A> {
 }
 
 impl<A: Allocator> Intake<A> {
-    ghost use Rattle.link_intake.specs.Intakes.{IsInStep};
+    ghost use Rattle.link_intake.specs.Intakes.{IsIntake};
 
-    /// Takes the intake apart, and returns the inlet of its lane. Unless the lane was found closed or `finish` put
-    /// End, all entries that the buffer delivered were put on the lane.
+    /// The end of its lane, which it is taken apart for. What the buffer delivered went onto it, but for what was
+    /// still to be sent when the lane was found closed.
     pub fn into_inlet(self) -> Inlet<A>
         ensures inlet { result ≡ self.inlet }
-        ensures in_step { self.inlet.dead ≡ false → self.finished ≡ false → IsInStep self }
+        ensures sent { IsIntake self }
     {
         let Intake {
             inbound: _,
@@ -100,12 +101,14 @@ impl<A: Allocator> Intake<A> {
 }
 
 impl<A: Allocator + Copy> Intake<A> {
-    ghost use Rattle.link_intake.specs.Intakes.{IntakeValue, IntakeRefuses, LineLeaves};
-    /// The intake of an inbound at which nothing has arrived, with a new lane.
+    ghost use Rattle.link_intake.specs.Intakes.{IntakeValue, IntakeRefuses, LineLeaves, entries_read, Receives, ReceivesMore};
+
+    /// What comes in to an inbound to which nothing came, by a new lane.
     pub fn new(inbound: Inbound<A>, inlet: Inlet<A>) -> Intake<A>
         requires inbound { HasPut [] inbound.buffer }
         requires inlet { (inlet.put ≡ []) × (inlet.dead ≡ false) }
-        ensures { result ≡ record { inbound = inbound; inlet = inlet; ended = false; finished = false } }
+        ensures value { result ≡ record { inbound = inbound; inlet = inlet; ended = false; finished = false } }
+        ensures log { (es : List EntryValue) → Follows es [] [] inbound.buffer → Receives es [] result }
     {
         Intake {
             inbound,
@@ -125,7 +128,10 @@ impl<A: Allocator + Copy> Intake<A> {
         ensures dead { self.old.inlet.dead ≡ true → IsErr result × (self.new.inlet ≡ self.old.inlet) }
         ensures lane { self.new.inlet.lane ≡ self.old.inlet.lane }
         ensures unfinished { self.new.finished ≡ false }
-        // Only entries request memory.
+        // Where the entries that come are of the origin's log es.
+        ensures log { (es reached : List EntryValue) → All (Contains es) (entries_read (reading line.now)) → Receives es reached self.old
+            → ReceivesMore es reached (entries_read (reading line.now)) self.new }
+        // Only entries take memory.
         ensures memory { IfErr result (λ fault. fault ≡ BadLine NoMemory → (m : MessageValue) × (reading line.now ≡ Ok m) × (has_entries m ≡ true)) }
     {
         let arrival = match self.inbound.on_line(line) {
@@ -145,6 +151,7 @@ impl<A: Allocator + Copy> Intake<A> {
         ensures query { (q : Option QueryValue) × QueryOf self.old.inbound again q self.new.inbound
             × MatchResult result (λ line. LineOf (λ l. l.items) (option_map (λ x. AQuery x) q) line) (λ _. IsSome q) }
         ensures rest { self.new ≡ record self.old { inbound = self.new.inbound } }
+        ensures log { (es reached : List EntryValue) → Receives es reached self.old → Receives es reached self.new }
     {
         self.inbound.query_line(again)
     }
@@ -155,6 +162,7 @@ impl<A: Allocator + Copy> Intake<A> {
         ensures err { OnErr result ((self.old.ended ≡ false) × (self.new ≡ record self.old { inlet = record self.old.inlet { dead = true } })) }
         ensures dead { self.old.ended ≡ false → self.old.inlet.dead ≡ true → IsErr result }
         ensures rest { (self.new.inbound ≡ self.old.inbound) × (self.new.inlet.lane ≡ self.old.inlet.lane) }
+        ensures log { (es reached : List EntryValue) → Receives es reached self.old → Receives es reached self.new }
     {
         if !self.ended {
             self.inlet.end(rt)?;

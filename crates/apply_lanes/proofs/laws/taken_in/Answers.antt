@@ -1,15 +1,14 @@
 use Rattle.std.proofs.Common.{subst}
 use Rattle.thread_parts.specs.Ends.{InletValue}
 use Rattle.thread_parts.specs.Items.{StartsWith}
-use Rattle.link_intake.specs.Intakes.{IsInStep}
 use Rattle.apply_lanes.specs.Appliers.{ApplierValue}
 use Rattle.apply_lanes.specs.Between.{IsBetween}
 use Rattle.apply_lanes.proofs.BetweenLaws as lemmas
 use Rattle.apply_lanes.proofs.laws.taken_in.Goals as goal
 
 pub returns-clause-between : goal.returns-clause-between
-returns-clause-between g c = λ live going.
-    (let id = g.D.DeskNames.id in
+returns-clause-between g c delivered sends =
+    let id = g.D.DeskNames.id in
     let inside : ApplierValue g.row.G.Denot g.row.A.Denot = record {
       origin = c.applier.inside.origin;
       outlet = c.applier.inside.outlet;
@@ -20,8 +19,7 @@ returns-clause-between g c = λ live going.
       number = c.applier.inside.number;
       received = c.applier.inside.received;
     } in
-    let put : IsInStep c.args.intake = c.into_inlet.ensures.in_step live going in
     let prefix : StartsWith c.args.intake.inlet.put inside.outlet.taken =
     subst (λ (i : InletValue g.row.A.Denot). StartsWith i.put inside.outlet.taken) c.into_inlet.ensures.inlet c.ends_taken_in.ensures.prefix in
-    subst (λ (a : ApplierValue g.row.G.Denot g.row.A.Denot). IsBetween id c.args.intake a) c.applier.view_is
-    (lemmas.between id c.args.intake inside put c.applier.invariant.counted prefix))
+    subst (λ (a : ApplierValue g.row.G.Denot g.row.A.Denot). IsBetween id delivered c.args.intake a) c.applier.view_is
+    (lemmas.between id delivered c.args.intake inside sends c.applier.invariant.counted prefix)

@@ -1,4 +1,4 @@
-use Rattle.std.proofs.Common.{◌≡◌, ◌∷◌, ◌++◌, [], sym, subst, ◌∙◌, rules}
+use Rattle.std.proofs.Common.{◌∷◌, ◌++◌, [], sym, subst, ◌∙◌, rules}
 use Rattle.std.specs.Vec.Iter.{into_iter_items}
 use Rattle.site_core.specs.Inbounds.{ready_in}
 use Rattle.link_intake.specs.Intakes.{CanPut, PutsAll, PutsFront}

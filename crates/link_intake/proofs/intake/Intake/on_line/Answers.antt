@@ -1,7 +1,8 @@
-use Rattle.std.proofs.Common.{◌≡◌, true, false, subst, ap, ◌∙◌, rules}
+use Rattle.std.proofs.Common.{◌≡◌, true, false, sym, subst, ap, ◌∙◌, rules}
 use Rattle.entry_codec.specs.Reading.{reading}
-use Rattle.link_intake.specs.Intakes.{IntakeValue, IsInStep, FindsClosed, LineLeaves}
-use Rattle.link_intake.proofs.IntakeLaws.{few_come, can_take, still_intake, line_leaves, finds_closed}
+use Rattle.link_intake.specs.Intakes.{IntakeValue, Receives, FindsClosed, LineLeaves}
+use Rattle.link_intake.proofs.IntakeLaws.{few_come, dead_intake, can_take, still_intake, line_leaves, finds_closed}
+use Rattle.link_intake.proofs.LineLaws.{receives_arrival, receives_dead}
 use Rattle.link_intake.proofs.intake.Intake.on_line.Goals as goal
 
 pub returns-then-is_dead-clause-leaves : goal.returns-then-is_dead-clause-leaves
@@ -30,9 +31,8 @@ take_in-requires-clause-entries g c =
     } in
     let dead : c.self.inside.inlet.dead ≡ false = search rules in
     let finished : c.self.inside.finished ≡ false = ap (λ (i : IntakeValue _). i.finished) c.self.view_is ∙ c.requires in
-    let step : IsInStep old = c.self.invariant.in_step dead finished in
     let came = c.in-Ok.ensures.ok in
-    can_take old came.0 _ _ step came.2
+    can_take old came.0 _ _ c.self.invariant dead finished came.2
 
 pub invariant_of-self-2 : goal.invariant_of-self-2
 invariant_of-self-2 g c =
@@ -44,10 +44,9 @@ invariant_of-self-2 g c =
     } in
     let dead : c.self.inside.inlet.dead ≡ false = search rules in
     let finished : c.self.inside.finished ≡ false = ap (λ (i : IntakeValue _). i.finished) c.self.view_is ∙ c.requires in
-    let step : IsInStep old = c.self.invariant.in_step dead finished in
     let came = c.in-Ok.ensures.ok in
     still_intake old (record old { inbound = c.on_line.new.self; inlet = c.take_in.new.inlet; ended = c.take_in.new.ended }) came.0 c.in-Ok.arrival
-    c.take_in.result step came.2 c.take_in.ensures.ok c.take_in.ensures.err
+    c.take_in.result c.self.invariant dead finished came.2 c.take_in.ensures.ok c.take_in.ensures.err
 
 pub returns-clause-leaves : goal.returns-clause-leaves
 returns-clause-leaves g c =
@@ -82,7 +81,16 @@ pub returns-in-Err-clause-unfinished : goal.returns-in-Err-clause-unfinished
 returns-in-Err-clause-unfinished g c = search rules
 
 pub invariant_of-self-then-is_dead : goal.invariant_of-self-then-is_dead
-invariant_of-self-then-is_dead g c = search rules
+invariant_of-self-then-is_dead g c =
+    let old : IntakeValue g.row.A.Denot = record {
+      inbound = c.self.inside.inbound;
+      inlet = c.self.inside.inlet;
+      ended = c.self.inside.ended;
+      finished = c.self.inside.finished;
+    } in
+    let dead : c.self.inside.inlet.dead ≡ true = search rules in
+    let came = c.in-Ok.ensures.ok in
+    dead_intake old came.0 c.in-Ok.arrival c.on_line.new.self c.self.invariant came.2 dead
 
 pub returns-then-is_dead-clause-refused : goal.returns-then-is_dead-clause-refused
 returns-then-is_dead-clause-refused g c = search rules
@@ -110,3 +118,32 @@ returns-clause-lane g c = search rules
 
 pub returns-clause-unfinished : goal.returns-clause-unfinished
 returns-clause-unfinished g c = search rules
+
+pub returns-then-is_dead-clause-log : goal.returns-then-is_dead-clause-log
+returns-then-is_dead-clause-log g c es reached of_log h =
+    let old : IntakeValue g.row.A.Denot = record {
+      inbound = c.self.inside.inbound;
+      inlet = c.self.inside.inlet;
+      ended = c.self.inside.ended;
+      finished = c.self.inside.finished;
+    } in
+    let dead : c.self.inside.inlet.dead ≡ true = search rules in
+    let came = c.in-Ok.ensures.ok in
+    let receives = subst (λ (i : IntakeValue g.row.A.Denot). Receives es reached i) (sym c.self.view_is) h in
+    receives_dead es reached old (reading c.args.line.now) came.0 c.in-Ok.arrival c.on_line.new.self receives of_log came.1 came.2 dead
+
+pub returns-clause-log : goal.returns-clause-log
+returns-clause-log g c es reached of_log h =
+    let old : IntakeValue g.row.A.Denot = record {
+      inbound = c.self.inside.inbound;
+      inlet = c.self.inside.inlet;
+      ended = c.self.inside.ended;
+      finished = c.self.inside.finished;
+    } in
+    let new : IntakeValue g.row.A.Denot = record old { inbound = c.on_line.new.self; inlet = c.take_in.new.inlet; ended = c.take_in.new.ended } in
+    let dead : c.self.inside.inlet.dead ≡ false = search rules in
+    let finished : c.self.inside.finished ≡ false = ap (λ (i : IntakeValue _). i.finished) c.self.view_is ∙ c.requires in
+    let came = c.in-Ok.ensures.ok in
+    let receives = subst (λ (i : IntakeValue g.row.A.Denot). Receives es reached i) (sym c.self.view_is) h in
+    receives_arrival es reached old new (reading c.args.line.now) came.0 c.in-Ok.arrival c.take_in.result receives of_log came.1 dead finished came.2
+    c.take_in.ensures.ok c.take_in.ensures.err
