@@ -1,5 +1,5 @@
 //! Lines of every length, with ample memory, and those that want memory where it is refused. A body that
-//! gives up on some length is proved, since it may always want memory, and is found here.
+//! gives up on some length is proved where it may want memory, and is found here.
 use crate::tests::links::hello::left_without_hello;
 use crate::tests::outbox::long_line;
 use entry_codec::LineCutter;
