@@ -1,11 +1,14 @@
 -- What was offered to the outbox of a peer, and the status of a site.
-use Rattle.std.proofs.Common.{◌≡◌, ℕ, ◌<◌, List, [], ◌++◌, length, Result, Ok, Err, OnOk, IfOk, refl}
+use Rattle.std.proofs.Common.{◌≡◌, ℕ, ◌<◌, List, [], ◌++◌, length, Result, Ok, Err, OnOk, OnErr, IfOk, refl}
 use Rattle.std.proofs.Math.ListN.{get_or}
 use Rattle.std.proofs.lemmas.Option.{slice_get-get_or}
 use Rattle.rights_types.specs.declared.fault.OutOfMemory.{OutOfMemory}
 use Rattle.thread_parts.specs.declared.view.DeskView.{DeskView}
 use Rattle.line_streams.specs.Waiting.{Waiting, AddsReply}
 use Rattle.apply_lanes.specs.Names.{DeskId}
+use Rattle.apply_lanes.specs.Kepts.{KeptValue, IsKept}
+use Rattle.peer_links.specs.Outboxes.{Waiting as Lines, PutsIf}
+use Rattle.site_node.specs.Sending.{OffersDue, StopsShort}
 use Rattle.site_sockets.specs.declared.peer.PeerState.{PeerState}
 use Rattle.site_words.specs.Status.{status_text}
 use Rattle.site_words.specs.declared.status_object.PeerView.{PeerView}
@@ -13,15 +16,33 @@ use Rattle.site_metrics.specs.Table.{metrics_text}
 use Rattle.site_metrics.specs.declared.metrics.Metrics.{Metrics}
 use Rattle.site_metrics.specs.declared.metrics.PeerMetrics.{PeerMetrics}
 use Rattle.site_server.specs.Measuring.{AreMetrics, TellsMetrics}
-use Rattle.site_server.specs.Outboxes.{SendsDue, SendsToPeer, TakesAny}
+use Rattle.site_server.specs.Outboxes.{HoldsBoth, SendsToPeer, StopsAtOutbox}
 use Rattle.site_server.specs.Replying.{AreViews, TellsStatus}
 
-pub sends_to_peer : (Outbox : Type 0) (id : DeskId) (peers : List PeerState) (place : ℕ) (other : PeerState) (before after : Outbox) (result : Result ℕ OutOfMemory)
-    → place < length peers → IfOk result (λ sent. SendsDue {S = Outbox} TakesAny id (get_or peers place other).site before sent after)
-    → IfOk result (λ sent. SendsToPeer Outbox id peers place sent)
-sends_to_peer Outbox id peers place other before after (Ok sent) within sends =
-    record { peer = get_or peers place other; listed = slice_get-get_or peers place other within; before = before; after = after; sends = sends }
-sends_to_peer Outbox id peers place other before after (Err fault) within sends = tt
+module _ (id : DeskId) (peers : List PeerState) (place : ℕ) (other : PeerState) (old new : KeptValue) (before after : Lines) (within : place < length peers)
+    (valid : IsKept id old) where
+  abbrev held : HoldsBoth id peers place
+  held = record {
+    peer = get_or peers place other;
+    listed = slice_get-get_or peers place other within;
+    old = old;
+    new = new;
+    before = before;
+    after = after;
+    valid = valid;
+  }
+
+  pub sends_to_peer : (result : Result ℕ OutOfMemory)
+      → IfOk result (λ sent. OffersDue PutsIf old (get_or peers place other).site before sent new after)
+      → IfOk result (λ sent. SendsToPeer id peers place sent)
+  sends_to_peer (Ok sent) offers = (held, offers)
+  sends_to_peer (Err fault) offers = tt
+
+  pub stops_at_outbox : (result : Result ℕ OutOfMemory)
+      → OnErr result (StopsShort PutsIf old (get_or peers place other).site before new after)
+      → OnErr result (StopsAtOutbox id peers place)
+  stops_at_outbox (Ok sent) stops = tt
+  stops_at_outbox (Err fault) stops = (held, stops)
 
 pub tells_status : (id : DeskId) (view : DeskView) (peers slice : List PeerView) (old new : Waiting) (result : Result (Unit {0}) OutOfMemory)
     → AreViews id view peers → slice ≡ peers → OnOk result (AddsReply old new (status_text view slice))

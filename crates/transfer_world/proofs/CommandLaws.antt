@@ -1,5 +1,5 @@
 -- The values of a line's words, and lines that are too long.
-use Rattle.std.proofs.Common.{◌≡◌, ◌==◌, ℕ, ◌<◌, List, [], ◌∷◌, ◌++◌, length, Option, Some, None, refl, sym, ap, ◌∙◌, arith, inl, inr, take, ◌-◌, ◌≤◌, length-append, length-take-le, append_assoc, append-nil}
+use Rattle.std.proofs.Common.{◌≡◌, ◌==◌, ℕ, ◌<◌, List, [], ◌∷◌, ◌++◌, length, true, Option, Some, None, Result, Ok, Err, OnErr, refl, sym, ap, ◌∙◌, arith, inl, inr, take, ◌-◌, ◌≤◌, length-append, length-take-le, append_assoc, append-nil}
 use Rattle.std.proofs.lemmas.Bool.{le-leb, lt-leb, cases_lt}
 use Rattle.std.proofs.lemmas.List.{take_at, take_all}
 use Rattle.std.specs.Option.{option_map}
@@ -10,7 +10,8 @@ use Rattle.std.specs.List.{join_with_byte}
 use Rattle.std.proofs.lemmas.List.Splits.{join_with_byte-slice_split}
 use Rattle.line_streams.specs.Words.{words_of, words_left}
 use Rattle.line_streams.proofs.WordLaws.{split_some}
-use Rattle.transfer_world.specs.Commands.{moves_in, text_of, command_in, command_of}
+use Rattle.transfer_world.specs.Commands.{word_in, moves_in, text_of, takes_memory, TakeMemory, command_in, command_of}
+use Rattle.transfer_world.specs.declared.script.word.Word.{Word}
 
 -- these moves, and then those
 abbrev pub after_moves : List Move → Option (List Move) → Option (List Move)
@@ -48,6 +49,12 @@ pub text_whole : (text : Bor (List ℕ)) → text_of (words_of text.now) ≡ Som
 text_whole text =
     let words = split_some (λ (b : ℕ). b == 32) text.now in
     rw words.2 (ap Some (ap (join_with_byte 32) (sym words.2) ∙ join_with_byte-slice_split 32 text.now))
+
+-- what takes memory by its word
+pub take_memory : {X E : Type 0} (word : Word) (rest words : List (List ℕ)) (r : Result X E) → word_in words ≡ Some (word, rest) → OnErr r (takes_memory word ≡ true)
+    → OnErr r (TakeMemory words)
+take_memory word rest words (Ok x) is h = tt
+take_memory word rest words (Err e) is h = ((word, rest), is, h)
 
 module _ {A : Type 0} (line : List ℕ) where
   pub short_line : (text : List ℕ) → line ≡ text ++ 10 ∷ [] → length line ≤ 16384 → command_of {A = A} line ≡ command_in text

@@ -1,5 +1,5 @@
--- The command of a line: its words, separated by single spaces, and what they spell.
-use Rattle.std.specs.Prelude.{◌≡◌, ℕ, ◌-◌, true, false, nat_le, List, [], ◌∷◌, ◌++◌, length, take, Option, Some, None, if◌then◌else◌, codes}
+-- The command of a line: its words, parted at each single space, and what they spell.
+use Rattle.std.specs.Prelude.{◌≡◌, ℕ, ◌-◌, Bool, true, false, nat_le, List, [], ◌∷◌, ◌++◌, length, take, Option, Some, None, if◌then◌else◌, codes}
 use Rattle.std.specs.List.{join_with_byte}
 use Rattle.std.specs.Option.{option_map}
 use Rattle.std.specs.Borrow.{Bor}
@@ -185,6 +185,16 @@ command_by (AtSite word) words = act (site_event word words)
 command_by (OnLink word) words = act (event_on_link word words)
 command_by SaysNoise words = act (noise_of words)
 command_by SaysReport words = alone Report words
+
+-- only the moves of a post and the bytes of noise take memory
+abbrev pub takes_memory : Word → Bool
+takes_memory SaysPost = true
+takes_memory SaysNoise = true
+takes_memory word = false
+
+-- .. of these words
+abbrev pub TakeMemory : List (List ℕ) → Type 0
+TakeMemory words = (v : Word × List (List ℕ)) × (word_in words ≡ Some v) × (takes_memory v.0 ≡ true)
 
 -- the command of these words
 abbrev pub command_with : {A : Type 0} → List (List ℕ) → Option (ScriptCommand A)

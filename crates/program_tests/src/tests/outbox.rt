@@ -184,8 +184,32 @@ fn a_put_wakes_a_taker(rt: HostRuntime) {
     assert!(rt; taken);
 }
 
-/// Whether an outbox is made, or refused for lack of memory only; if it is made, no later call
-/// requests memory.
+/// Puts two beats under one lock once another thread has had time to wait for them, and answers whether both found
+/// room.
+fn put_two_late<R: Wait + Clock>(rt: &R, alloc: Global, outbox: &Outbox) -> bool {
+    thread::sleep(rt, Duration::from_millis(50));
+    let (Ok(one), Ok(other)) = (beat(alloc, 7), beat(alloc, 8)) else {
+        return false;
+    };
+    let mut lines = outbox.lock(rt);
+    lines.put(one).is_ok() && lines.put(other).is_ok()
+}
+
+#[test]
+fn lines_put_under_one_lock_wake_a_taker(rt: HostRuntime) {
+    let outbox = Outbox::new(rt.alloc()).expect(&rt, "memory");
+    let alloc = rt.alloc();
+    let (put, taken) = thread::join(
+        &rt,
+        || put_two_late(&rt, alloc, &outbox),
+        || takes_beats(&rt, alloc, &outbox, 7, 9),
+    );
+    assert!(rt; put);
+    assert!(rt; taken);
+}
+
+/// Whether an outbox is made, or refused for want of memory alone; where it is made, nothing that it is
+/// asked takes memory.
 fn is_made<R: Wait>(rt: &R, alloc: &Refusing<Global>) -> bool {
     match Outbox::new(alloc) {
         Ok(outbox) => {

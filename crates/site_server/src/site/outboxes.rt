@@ -1,17 +1,49 @@
-//! The outboxes of the peers, as site_node puts lines into them.
-ghost use Rattle.std.specs.Prelude.{◌≡◌, ◌+◌, ◌<◌, ◌≤◌, length, IfOk};
+//! The outboxes of the peers, as the node puts lines into them.
+ghost use Rattle.std.specs.Prelude.{◌≡◌, ◌+◌, ◌<◌, ◌≤◌, length, IfOk, OnErr};
 ghost use Rattle.rights_types.specs.declared.limits.TheConstants.{MAX_NUMBER, MAX_SITES};
-ghost use Rattle.site_server.specs.Outboxes.{SendsDue, SendsToPeer};
-ghost use Rattle.site_server.specs.declared.site.outboxes.PeerOutbox.{PeerOutbox};
+ghost use Rattle.site_server.specs.Outboxes.{SendsToPeer, StopsAtOutbox};
 
 use crate::site::shared::Shared;
 use apply_lanes::DeskNames;
 use rights_types::{MAX_SITES, OutOfMemory, SiteId};
 use site_node::{Peers, Sink, send_due};
-use site_sockets::PeerState;
+use site_sockets::{PeerLines, PeerState};
+use std::marker::Model;
 use std::sync::{Arc, Wait};
 
-/// The outbox of one peer. Its lock hides its lines.
+/// The lines that wait for one peer, under the lock of its outbox.
+#[derive(Drop)]
+struct LockedOutbox<'a> {
+    lines: PeerLines<'a>,
+}
+
+impl<'a> Model for LockedOutbox<'a> {
+    ghost use Rattle.peer_links.specs.Outboxes.{Waiting};
+
+    ghost Value = { Waiting };
+
+    ghost view = { λ outbox. outbox.lines };
+}
+
+impl<'a> LockedOutbox<'a> {
+    fn new<R: Wait>(rt: &R, peer: &'a PeerState) -> LockedOutbox<'a> {
+        LockedOutbox {
+            lines: peer.lines(rt),
+        }
+    }
+}
+
+impl Sink for LockedOutbox<'_> {
+    ghost use Rattle.peer_links.specs.Outboxes.{PutsIf};
+
+    ghost takes = { PutsIf };
+
+    fn offer(&mut self, line: Vec<u8>) -> bool {
+        self.lines.put(line)
+    }
+}
+
+/// The outbox of one peer, whose lock is taken for each line. In between other threads put lines too, and one takes them.
 #[derive(Drop)]
 pub(crate) struct PeerOutbox<'a, R: Wait> {
     rt: &'a R,
@@ -56,41 +88,33 @@ impl<'a, D: DeskNames, R: Wait> Outboxes<'a, D, R> {
         Some(Outboxes { rt, shared, peers })
     }
 
-    /// Offers everything due to this site to the sink, under the desk's lock, and returns how many lines it accepted.
-    fn send_by<S: Sink>(&self, site: SiteId, sink: &mut S) -> Result<u64, OutOfMemory>
-        ensures sends { IfOk result (λ sent. SendsDue S.takes D.id site sink.old sent sink.new) }
+    /// Offers all that is due to the peer at this place, under the desk's lock and that of the peer's outbox, and answers
+    /// how many lines found room.
+    fn send_to(&self, place: usize) -> Result<u64, OutOfMemory>
+        requires { place < length self.now.peers.now }
+        ensures sends { IfOk result (λ sent. SendsToPeer D.id self.now.peers.now place sent) }
+        ensures stops { OnErr result (StopsAtOutbox D.id self.now.peers.now place) }
         ensures range { IfOk result (λ sent. sent ≤ MAX_NUMBER + 2) }
     {
+        let peer = &self.peers[place];
         let mut kept = self.shared.lock(self.rt);
         let kept = &mut *kept;
         // For the proof: what holds whenever the lock is free.
         let _ = kept.desk();
-        send_due(kept, site, sink)
-    }
-
-    /// The same for the outbox of the peer at this index.
-    fn send_to(&self, place: usize) -> Result<u64, OutOfMemory>
-        requires { place < length self.now.peers.now }
-        ensures sends { IfOk result (λ sent. SendsToPeer (PeerOutbox R) D.id self.now.peers.now place sent) }
-        ensures range { IfOk result (λ sent. sent ≤ MAX_NUMBER + 2) }
-    {
-        let peer = &self.peers[place];
-        let mut outbox = PeerOutbox::new(self.rt, peer);
-        self.send_by(peer.site, &mut outbox)
+        let mut outbox = LockedOutbox::new(self.rt, peer);
+        send_due(kept, peer.site, &mut outbox)
     }
 }
 
 impl<D: DeskNames, R: Wait> Peers for Outboxes<'_, D, R> {
     ghost use Rattle.std.specs.Prelude.{length};
-    ghost use Rattle.site_server.specs.Outboxes.{SendsToPeer};
-    ghost use Rattle.site_server.specs.declared.site.outboxes.PeerOutbox.{PeerOutbox};
+    ghost use Rattle.site_server.specs.Outboxes.{SendsToPeer, StopsAtOutbox};
 
     ghost size = { λ outboxes. length outboxes.peers.now };
 
-    ghost sends = { λ before place sent after. SendsToPeer (PeerOutbox R) D.id before.peers.now place sent };
+    ghost sends = { λ before place sent after. SendsToPeer D.id before.peers.now place sent };
 
-    // No view of the outboxes says how many peers were served: their locks hide it.
-    ghost stops = { λ _ _ _. Unit {0} };
+    ghost stops = { λ before place after. StopsAtOutbox D.id before.peers.now place };
 
     fn count(&self) -> usize {
         self.peers.len()

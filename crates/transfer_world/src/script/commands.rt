@@ -1,9 +1,9 @@
-//! The commands of a script's lines.
-ghost use Rattle.std.specs.Prelude.{◌≡◌, ℕ, List, [], ◌≤◌, length, vec_capacity, IfOk};
+//! What the lines of a script ask for.
+ghost use Rattle.std.specs.Prelude.{◌≡◌, ℕ, List, [], ◌≤◌, length, vec_capacity, true, IfOk, OnErr};
 ghost use Rattle.entry_codec.specs.Parts.{Finds};
 ghost use Rattle.line_streams.specs.Words.{words_of, words_left};
 ghost use Rattle.line_streams.specs.Handling.{IsGiven};
-ghost use Rattle.transfer_world.specs.Commands.{moves_in, two_sites, site_event, link_event, event_on_link, post_of, noise_parts, noise_of, sites_of, act, command_by, command_in, command_of};
+ghost use Rattle.transfer_world.specs.Commands.{moves_in, two_sites, site_event, link_event, event_on_link, post_of, noise_parts, noise_of, sites_of, act, command_by, command_in, command_of, takes_memory, TakeMemory};
 
 use crate::script::word::{LinkWord, SiteWord, Word, first_word};
 use entry_codec::read_move;
@@ -250,7 +250,8 @@ fn read_values<A: Allocator>(
     word: Word,
     values: Option<&[u8]>,
 ) -> Result<Option<ScriptCommand<A>>, OutOfMemory>
-    ensures { IfOk result (λ command. command ≡ command_by word (words_left values.entry)) }
+    ensures means { IfOk result (λ command. command ≡ command_by word (words_left values.entry)) }
+    ensures memory { OnErr result (takes_memory word ≡ true) }
 {
     Ok(match word {
         Word::Sites => read_sites(values),
@@ -265,7 +266,8 @@ fn read_values<A: Allocator>(
 /// The command of a line that is not too long.
 #[tactic(auto, unfolding(crate::specs::Commands::command_in))]
 fn parse_line<A: Allocator>(alloc: A, text: &[u8]) -> Result<Option<ScriptCommand<A>>, OutOfMemory>
-    ensures { IfOk result (λ command. command ≡ command_in text.now) }
+    ensures means { IfOk result (λ command. command ≡ command_in text.now) }
+    ensures memory { OnErr result (TakeMemory (words_of text.now)) }
 {
     match first_word(text) {
         Some((word, values)) => read_values(alloc, word, values),
@@ -278,7 +280,8 @@ pub(crate) fn read_command<A: Allocator>(
     alloc: A,
     text: Option<&[u8]>,
 ) -> Result<Option<ScriptCommand<A>>, OutOfMemory>
-    ensures { (line : List ℕ) → IsGiven line text.entry → IfOk result (λ command. command ≡ command_of line) }
+    ensures means { (line : List ℕ) → IsGiven line text.entry → IfOk result (λ command. command ≡ command_of line) }
+    ensures memory { OnErr result (TakeMemory (words_left text.entry)) }
 {
     match text {
         Some(text) => parse_line(alloc, text),

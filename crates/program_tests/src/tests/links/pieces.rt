@@ -1,5 +1,5 @@
-//! Lines of every length, with ample memory, and those that need memory when it is refused. A body that gives up at
-//! some length can be proved, since it may always run out of memory; it is found here.
+//! Lines of every length, with ample memory, and those that want memory where it is refused. A body that
+//! gives up on some length is proved where it may want memory, and is found here.
 use crate::tests::links::hello::left_without_hello;
 use crate::tests::outbox::long_line;
 use entry_codec::LineCutter;
