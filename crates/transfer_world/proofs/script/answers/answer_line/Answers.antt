@@ -7,7 +7,7 @@ returns-clause-ok g c =
     let answer = c.in_ok-answer.ensures.ok in
     on_ok_weaker c.finish.result (λ ended line given. (
       answer.0,
-      rw (c.in_ok-command.ensures line given) at answer.1,
+      rw (c.in_ok-command.ensures.means line given) at answer.1,
       record {
         whole = ended.whole ∙ rw (c.in_ok-answer.ensures.kept, answer.2, c.requires.ready) refl;
         part = ended.part;
