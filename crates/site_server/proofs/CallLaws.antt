@@ -65,7 +65,7 @@ module _ {S : Type 0} (seat : S → SeatValue) (is_turn : Option SiteCommand →
           parted = some.parted;
           replies = stop.given;
           are_turns = found.1;
-          replied = inr (body ∙ ap text_of stop.replied);
+          replied = inr (body ∙ ap text_of stop.told);
         },
         found.2,
       )

@@ -6,7 +6,7 @@ ghost use Rattle.site_server.specs.declared.site.outboxes.PeerOutbox.{PeerOutbox
 
 use crate::site::shared::Shared;
 use apply_lanes::DeskNames;
-use rights_types::{MAX_SITES, OutOfMemory, SiteId};
+use rights_types::{MAX_SITES, OutOfMemory};
 use site_node::{Peers, Sink, send_due};
 use site_sockets::PeerState;
 use std::sync::{Arc, Wait};
@@ -56,16 +56,17 @@ impl<'a, D: DeskNames, R: Wait> Outboxes<'a, D, R> {
         Some(Outboxes { rt, shared, peers })
     }
 
-    /// Offers all that is due to this site to the sink, under the desk's lock, and answers how many lines found room.
-    fn send_by<S: Sink>(&self, site: SiteId, sink: &mut S) -> Result<u64, OutOfMemory>
-        ensures sends { IfOk result (λ sent. SendsDue S.takes D.id site sink.old sent sink.new) }
+    /// Offers all that is due to this peer to the sink, under the desk's lock, and answers how many lines found room.
+    fn send_by<S: Sink>(&self, peer: &PeerState, sink: &mut S) -> Result<u64, OutOfMemory>
+        ensures sends { IfOk result (λ sent. SendsDue S.takes D.id peer.now.site sink.old sent sink.new) }
         ensures range { IfOk result (λ sent. sent ≤ MAX_NUMBER + 2) }
     {
         let mut kept = self.shared.lock(self.rt);
         let kept = &mut *kept;
-        // For the proof: what holds whenever the lock is free.
-        let _ = kept.desk();
-        send_due(kept, site, sink)
+        // Also for the proof: what holds whenever the lock is free.
+        let end = kept.desk().number();
+        peer.events.offers(end);
+        send_due(kept, peer.site, sink)
     }
 
     /// The same for the outbox of the peer at this place.
@@ -76,7 +77,7 @@ impl<'a, D: DeskNames, R: Wait> Outboxes<'a, D, R> {
     {
         let peer = &self.peers[place];
         let mut outbox = PeerOutbox::new(self.rt, peer);
-        self.send_by(peer.site, &mut outbox)
+        self.send_by(peer, &mut outbox)
     }
 }
 
