@@ -9,11 +9,16 @@ BUGS = {}
 # Who has bugs to plant.
 MODULES = ["site_bugs", "text_bugs", "rule_bugs", "link_bugs"]
 
+# The module that has a bug, by the bug's name.
+MODULE_OF = {}
+
 
 def all_bugs():
     """All of them, by their names."""
     for module in MODULES:
         import_module(module)
+        for name in BUGS:
+            MODULE_OF.setdefault(name, module)
     return BUGS
 
 

@@ -4,13 +4,16 @@ tests/bugs.py [WORD].
 
 With a WORD, only the bugs whose names contain it. The inputs of the checks are first given to the model with the bug in it,
 in this process: where what it says differs from what the model says, the check finds it. Bugs that no such check finds, as
-those of connections, are tried by ./conformance itself, on tests/model_site.py. Each bug that no check finds is listed. The
-last line is 'N passed, M failed': how many were found, and how many were not.
+those of connections, are tried by ./conformance itself, on tests/model_site.py. A line for each bug names the check that
+finds it. Then comes a table by the files in which the bugs are. The last line is 'N passed, M failed': how many were found,
+and how many were not.
 """
 
 import os
 import subprocess
 import sys
+import time
+from collections import Counter
 from concurrent.futures import ThreadPoolExecutor
 from contextlib import suppress
 from multiprocessing import get_context
@@ -19,13 +22,16 @@ HERE = os.path.dirname(os.path.abspath(__file__))
 sys.path.insert(0, HERE)
 
 import site_checks  # noqa: E402
-from bug_kit import all_bugs  # noqa: E402
+from bug_kit import MODULE_OF, all_bugs  # noqa: E402
 from model_process import Limits  # noqa: E402
 from site_model import RunningSite  # noqa: E402
 from site_trial import Trial  # noqa: E402
 
 AT_ONCE = 6
 SECONDS = 30
+
+# How a bug is found.
+WAYS = IN_PROCESS, BY_CONFORMANCE, NOT_FOUND = "in process", "by ./conformance", "not found"
 
 
 class Recorder:
@@ -74,25 +80,46 @@ def by_conformance(name):
     words = [os.path.join(HERE, "..", "conformance"), "run", "--ours", "none", "--fail-fast", f"--seconds={SECONDS}"]
     ended = subprocess.run([*words, os.path.join(HERE, "model_site.py"), "--bug", name], capture_output=True, text=True)
     lines = [line for line in ended.stdout.splitlines() if ": FAILED: " in line]
-    return lines[0].split(": FAILED", 1)[0] if lines else None if ended.returncode == 0 else ended.stderr
+    if not lines and ended.returncode != 0:
+        raise RuntimeError(f"{name}: ./conformance ended with status {ended.returncode}: {ended.stderr}")
+    return lines[0].split(": FAILED", 1)[0] if lines else None
 
 
 def found_by(name, right, fork):
-    """The check that finds the bug, or None."""
+    """How the bug is found, and by which check."""
     # A planted bug stays in its process.
     with fork.Pool(1) as pool:
         said = pool.apply(said_by_check, (name,))
-    return next((check for check in right if said[check] != right[check]), None) or by_conformance(name)
+    check = next((check for check in right if said[check] != right[check]), None)
+    if check is not None:
+        return IN_PROCESS, check
+    check = by_conformance(name)
+    return (NOT_FOUND, None) if check is None else (BY_CONFORMANCE, check)
+
+
+def print_table(names, ways):
+    """How many bugs of each file were found, and how."""
+    files = [MODULE_OF[name] for name in names]
+    rows = [("in", "bugs", *WAYS)]
+    for shown in [*sorted(set(files)), "all"]:
+        count = Counter(way for file, way in zip(files, ways) if shown in (file, "all"))
+        rows.append((shown, count.total(), *(count[way] for way in WAYS)))
+    for first, *others in rows:
+        print(f"{first:<10}" + "".join(f"{other:>{len(title) + 3}}" for other, title in zip(others, rows[0][1:])))
 
 
 def main(words):
+    begun = time.monotonic()
     right, fork = said_by_check(), get_context("fork")
     names = [name for name in all_bugs() if not words or words[0] in name]
-    missed = 0
+    ways = []
     with ThreadPoolExecutor(AT_ONCE) as pool:
-        for name, check in zip(names, pool.map(lambda name: found_by(name, right, fork), names)):
-            missed += check is None
-            print(f"{name}: {'NOT FOUND' if check is None else check}", flush=True)
+        for name, (way, check) in zip(names, pool.map(lambda name: found_by(name, right, fork), names)):
+            ways.append(way)
+            print(f"{name}: {check or 'NOT FOUND'}", flush=True)
+    print_table(names, ways)
+    print(f"{time.monotonic() - begun:.0f} seconds")
+    missed = ways.count(NOT_FOUND)
     print(f"{len(names) - missed} passed, {missed} failed")
     return 1 if missed else 0
 

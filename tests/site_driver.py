@@ -142,9 +142,11 @@ class Node:
         routes = {other: peer.address for other, peer in self.peers.items()}
         for _ in range(5):
             self.port = free_ports(1)[0]
-            with suppress(SiteEnded):
+            try:
                 return Site(self.number, self.count, at(self.port), routes, program)
-        raise OSError("no port is free for the site")
+            except SiteEnded as error:
+                ended = error
+        raise ended
 
     def close(self):
         self.watch.cancel()

@@ -27,7 +27,9 @@ def own_words(words):
         path = os.path.abspath(words[place + 1])
         del words[place : place + 2]
     else:
-        subprocess.run([os.path.join(TOP, "rights-site"), "--version"], stdout=subprocess.DEVNULL, check=True)
+        # It says itself what is missing.
+        if subprocess.run([os.path.join(TOP, "rights-site"), "--version"], stdout=subprocess.DEVNULL).returncode != 0:
+            sys.exit("tests/suite.py: there is no program; --program PATH tries another build")
         path = os.path.join(TOP, "crates", "rights_site", "out", "rights_site")
     os.environ["RIGHTS_SITE"] = path
     return words

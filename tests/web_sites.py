@@ -321,6 +321,34 @@ def a_peer_that_is_started_anew():
         wait_for("site 1 says it", lambda: wanted in sites[1].said().splitlines())
 
 
+def unsent_at_the_end(site):
+    """Ends a site, and answers what it says of entries that no peer was sent."""
+    expect(site.end(timeout=10), 0)
+    return [line for line in site.said().splitlines() if line.endswith(" of its log were sent to no peer")]
+
+
+def entries_that_no_peer_was_sent():
+    with WebCluster(3, started=[1], log=True) as sites:
+        sites[1].ask_all(["issue 5", "give 2 3"])
+        expect(unsent_at_the_end(sites[1]), ["rights-site: ended: 1 to 2 of its log were sent to no peer"], "with no tick")
+    with WebCluster(3, started=[1], log=True) as sites:
+        sites[1].ask_all(["issue 5", "give 2 3", "tick 1"])
+        expect(unsent_at_the_end(sites[1]), ["rights-site: ended: 1 to 2 of its log were sent to no peer"], "with no peer")
+    for late, wanted in ([], []), (["spend 1 0"], ["rights-site: ended: 3 to 3 of its log were sent to no peer"]):
+        with ExitStack() as stack:
+            ear = Ear(stack, log=True)
+            ear.site.ask_all(["issue 5", "give 2 3", "tick 1"])
+            lines = stack.enter_context(stack.enter_context(ear.listener.accept()[0]).makefile("rb"))
+            expect([line for line in iter(lines.readline, b"B 1 2\n")][-1], b"E 1 1 2 R:2:3\n")
+            ear.site.ask_all(late)
+            expect(unsent_at_the_end(ear.site), wanted, f"one peer was sent all but {late}")
+    with WebCluster(2, started=[1], log=True) as sites:
+        expect(unsent_at_the_end(sites[1]), [], "an empty log")
+    with WebCluster(2, started=[1]) as sites:
+        sites[1].ask("issue 5")
+        expect(unsent_at_the_end(sites[1]), [], "without --log")
+
+
 # ---- options
 
 
@@ -359,6 +387,17 @@ def a_site_is_started_once():
         path = os.path.join(room, "other")
         expect(run("--once", path, listen=address)[2], b"rights-site: cannot listen\n")
         expect(run("--once", path), refused)
+
+
+def addresses_of_peers_that_cannot_be_resolved():
+    own, other = free_ports(2)
+    words = [Cluster.program, "run", "--id", "1", "--sites", "3", "--listen", at(own), f"3={at(other)}", "2=notaport"]
+    # It is said at the start, with no line to send, and once.
+    for text in (b"", b"tick 1\ntick 2\ntick 3\n"):
+        said = subprocess.run([*words, "--log"], input=text, capture_output=True, timeout=30).stderr.splitlines()
+        found = [line for line in said if b": its address cannot be resolved" in line]
+        expect(found, [b"rights-site: peer 2: its address cannot be resolved: notaport"], said)
+    expect(subprocess.run(words, input=b"tick 1\n", capture_output=True, timeout=30).stderr, b"")
 
 
 def addresses_that_cannot_be_listened_on():
@@ -498,7 +537,7 @@ TESTS = [
     wait_that_is_answered_at_once, wait_that_is_served_by_a_tick, wait_that_expires, waits_that_fill_the_queue,
     waits_whose_clients_have_gone, waits_at_the_end, the_form_of_metrics, metrics_are_the_status,
     lines_of_a_peer_are_counted, what_is_said_of_a_peer, nothing_is_said_unless_asked_for, a_peer_that_is_started_anew,
-    a_site_is_started_once, addresses_that_cannot_be_listened_on, words_that_are_refused, a_site_without_http,
+    entries_that_no_peer_was_sent, addresses_of_peers_that_cannot_be_resolved, a_site_is_started_once, addresses_that_cannot_be_listened_on, words_that_are_refused, a_site_without_http,
     a_site_that_ticks_by_itself, requests_that_have_begun_are_answered, the_end_with_clients_that_never_end,
     the_report_adds_up, a_service_that_is_stopped,
 ]

@@ -2,3 +2,4 @@ pub mod Refusals
 pub mod Format
 pub mod Table
 pub mod PeerValues
+pub mod Unsent

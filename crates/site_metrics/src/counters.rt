@@ -50,6 +50,10 @@ pub struct PeerCounters {
     refused: AtomicU64,
     dropped: AtomicU64,
     went_back: AtomicU64,
+    /// Where the log ended when lines for the peer were last made of it.
+    offered: AtomicU64,
+    /// Where the log ended, as far as lines that were begun to be written to the peer can tell.
+    sent: AtomicU64,
     receiving: AtomicBool,
     sending: AtomicBool,
 }
@@ -61,6 +65,8 @@ impl PeerCounters {
             refused: AtomicU64::new(0),
             dropped: AtomicU64::new(0),
             went_back: AtomicU64::new(0),
+            offered: AtomicU64::new(0),
+            sent: AtomicU64::new(0),
             receiving: AtomicBool::new(false),
             sending: AtomicBool::new(false),
         }
@@ -80,6 +86,17 @@ impl PeerCounters {
     /// Counts a beat with a number below what was applied of the peer's log.
     pub fn note_went_back(&self) {
         add(&self.went_back, 1);
+    }
+
+    /// Notes the end of the log for which lines to the peer are about to be made.
+    pub fn note_offered(&self, end: u64) {
+        self.offered.store(end, Ordering::SeqCst);
+    }
+
+    /// Notes that lines made for the peer are about to be written.
+    pub fn note_sent(&self) {
+        let offered = self.offered.load(Ordering::SeqCst);
+        self.sent.store(offered, Ordering::SeqCst);
     }
 
     /// Notes whether a connection that the peer made is open.
@@ -106,6 +123,11 @@ impl PeerCounters {
 
     pub fn went_back(&self) -> u64 {
         self.went_back.load(Ordering::SeqCst)
+    }
+
+    /// No line that was written to the peer told of the log beyond this number.
+    pub fn sent(&self) -> u64 {
+        self.sent.load(Ordering::SeqCst)
     }
 
     pub fn is_receiving(&self) -> bool {

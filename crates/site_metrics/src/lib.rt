@@ -12,8 +12,10 @@ mod peer_value;
 mod refusals;
 mod samples;
 mod text;
+mod unsent;
 
 pub use counters::{Counters, PeerCounters};
 pub use metrics::{Metrics, PeerMetrics};
 pub use refusals::{REFUSAL_COUNT, REFUSALS, refusal_place};
 pub use text::{PEER_ROOM, SITE_ROOM, put_metrics};
+pub use unsent::unsent_numbers;

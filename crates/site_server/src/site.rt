@@ -19,7 +19,7 @@ mod tick_signal;
 mod ticking;
 
 use crate::site::client::client_at;
-use crate::site::ending::{say_no_report, say_report, stop_desk};
+use crate::site::ending::{say_no_report, say_report, say_unsent, stop_desk};
 use crate::site::receiving::{PeerLink, links_of};
 use crate::site::serving::begin_clients;
 use crate::site::shared::{COMMANDS, Shared};
@@ -96,12 +96,21 @@ fn serve<
     shared.give_seats(rt);
     let links = links_of(rt, rt.alloc(), config, &shared)?;
     let ended = run_threads(rt, site, config.tick(), &shared, links, reader, writer);
-    stop_site(rt, site, shared);
+    stop_site(rt, site, config.log(), shared);
     Ok(ended?)
 }
 
-/// Stops the desk of a site whose threads have ended, and reports what it did, if clients could connect.
-fn stop_site<D: DeskNames, R: Eprint + AllocGlobal>(rt: &R, site: &Site, shared: Arc<Shared<D>>) {
+/// Stops the desk of a site whose threads have ended, and reports what it did, if clients could connect. Before that it
+/// logs which entries were sent to no peer, if events are logged.
+fn stop_site<D: DeskNames, R: Wait + Eprint + AllocGlobal>(
+    rt: &R,
+    site: &Site,
+    log: bool,
+    shared: Arc<Shared<D>>,
+) {
+    if log {
+        say_unsent(rt, site, &shared);
+    }
     let stopped = stop_desk(rt.alloc(), shared);
     if site.clients.is_none() {
         return;

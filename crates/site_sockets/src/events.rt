@@ -73,6 +73,22 @@ impl LinkEvents {
         &self.counters
     }
 
+    /// Whether events are written to standard error.
+    pub(crate) fn are_logged(&self) -> bool {
+        self.log
+    }
+
+    /// The peer's address cannot be resolved.
+    pub(crate) fn has_no_address<R: Eprint>(&self, rt: &R, address: &str) {
+        if self.log {
+            let site = self.site.number();
+            let _ = eprintln!(rt;
+                "rights-site: peer {}: its address cannot be resolved: {}",
+                site, address
+            );
+        }
+    }
+
     /// A connection is being read on which the peer sends lines.
     pub fn receives<R: Eprint>(&self, rt: &R) {
         let is_new = !self.counters.is_receiving();
@@ -117,6 +133,16 @@ impl LinkEvents {
                 site, cause
             );
         }
+    }
+
+    /// Lines for the peer are about to be made of a log that ends at this number.
+    pub fn offers(&self, end: u64) {
+        self.counters.note_offered(end);
+    }
+
+    /// Lines for the peer are about to be written to it.
+    pub(crate) fn writes(&self) {
+        self.counters.note_sent();
     }
 
     /// A line for the peer was lost.

@@ -4,7 +4,7 @@ use crate::peer::PeerState;
 use crate::site::{CONNECT_SECONDS, Site};
 use entry_codec::write_line;
 use line_streams::write_whole;
-use peer_links::write_link;
+use peer_links::{Batch, LineSource, write_link};
 use rights_types::{Message, SiteId};
 use std::alloc::Global;
 use std::io::Eprint;
@@ -47,6 +47,37 @@ impl Senders {
     }
 }
 
+/// The lines of a peer's outbox, which notes when some are about to be written.
+#[derive(Drop)]
+struct Noted<'a> {
+    peer: &'a PeerState,
+}
+
+impl LineSource for Noted<'_> {
+    ghost use Rattle.std.specs.List.{All};
+    ghost use Rattle.entry_codec.specs.Pieces.{IsLine};
+
+    type Memory = Global;
+
+    ghost waits = { λ _ lines. All IsLine lines };
+
+    ghost takes = { λ _ line _. IsLine line };
+
+    ghost is_over = { λ _. Unit {0} };
+
+    fn next_batch<R: Wait>(&mut self, rt: &R, room: &mut [u8]) -> Batch<Global> {
+        let batch = (&self.peer.outbox).next_batch(rt, room);
+        if !matches!(batch, Batch::Over) {
+            self.peer.events.writes();
+        }
+        batch
+    }
+
+    fn take_front<R: Wait>(&mut self, rt: &R, count: usize) {
+        (&self.peer.outbox).take_front(rt, count);
+    }
+}
+
 /// Sends the lines that wait for this peer, until its outbox has ended and is empty. A line taken while there is no
 /// connection causes one attempt to connect, and is lost if that fails.
 fn send_to<R: Net<Stream = TcpStream> + Wait + Clock + AllocGlobal + Eprint>(
@@ -54,6 +85,7 @@ fn send_to<R: Net<Stream = TcpStream> + Wait + Clock + AllocGlobal + Eprint>(
     site: &Site,
     peer: &PeerState,
 ) {
+    try_address(rt, peer);
     for _ in rt.forever() {
         let Some(line) = peer.outbox.take(rt) else {
             break;
@@ -69,6 +101,15 @@ fn send_to<R: Net<Stream = TcpStream> + Wait + Clock + AllocGlobal + Eprint>(
     site.senders.finish(rt);
 }
 
+/// Logs it if the peer's address cannot be resolved. If events are not logged, the address is not looked up before a line
+/// is sent.
+fn try_address<R: Net + Eprint>(rt: &R, peer: &PeerState) {
+    let address = peer.address.as_str();
+    if peer.events.are_logged() && address.to_socket_addrs(rt).is_err() {
+        peer.events.has_no_address(rt, address);
+    }
+}
+
 /// Sends this line and all that wait after it on a connection. `false` if that failed, or the site has ended.
 fn send_by<R: Wait + AllocGlobal + Eprint>(
     rt: &R,
@@ -81,8 +122,9 @@ fn send_by<R: Wait + AllocGlobal + Eprint>(
         return false;
     }
     peer.events.sends(rt);
+    peer.events.writes();
     let is_sent = send_hello(rt.alloc(), site.id, &mut stream, line.as_slice())
-        && write_link(rt, &mut stream, &mut &peer.outbox).is_ok();
+        && write_link(rt, &mut stream, &mut Noted { peer }).is_ok();
     peer.sending.release(rt);
     if !is_sent {
         peer.events.sends_no_more(rt, "a write failed");

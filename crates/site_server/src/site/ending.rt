@@ -1,13 +1,15 @@
 //! The end of a site: its desk stops, and reports what it did and what was reported to its clients.
 ghost use Rattle.std.specs.Prelude.{IfOk};
-ghost use Rattle.site_server.specs.Ending.{StopsDesk};
+ghost use Rattle.site_server.specs.Ending.{StopsDesk, TellsUnsent};
 
 use crate::site::shared::Shared;
 use apply_lanes::{DeskNames, Parts, Report, stop};
 use rights_types::OutOfMemory;
+use site_metrics::unsent_numbers;
+use site_sockets::Site;
 use std::alloc::Global;
 use std::io::Eprint;
-use std::sync::Arc;
+use std::sync::{Arc, Wait};
 
 /// Why there is no report of a desk.
 #[derive(Clone, Copy)]
@@ -47,6 +49,41 @@ pub(crate) fn stop_desk<D: DeskNames>(
     match stop(parts) {
         Ok(report) => Ok(report),
         Err(_) => Err(NoReport::Missing),
+    }
+}
+
+/// How far the log was sent to each peer.
+fn sent_to_peers(alloc: Global, site: &Site) -> Result<Vec<u64>, OutOfMemory> {
+    let mut sent = Vec::with_capacity(alloc, site.peers().len())?;
+    for peer in site.peers() {
+        sent.push(peer.events.counters().sent())?;
+    }
+    Ok(sent)
+}
+
+/// The first and the last number of the log that was sent to no peer, by how far it was sent to each.
+fn unsent<D: DeskNames, R: Wait>(rt: &R, shared: &Shared<D>, sent: &[u64]) -> Option<(u64, u64)>
+    ensures { TellsUnsent D.id sent.now result }
+{
+    let kept = shared.lock(rt);
+    let kept = &*kept;
+    unsent_numbers(kept.desk().number(), sent)
+}
+
+/// Logs which entries of the log no peer can have applied, if there are any.
+pub(crate) fn say_unsent<D: DeskNames, R: Wait + Eprint + AllocGlobal>(
+    rt: &R,
+    site: &Site,
+    shared: &Shared<D>,
+) {
+    let Ok(sent) = sent_to_peers(rt.alloc(), site) else {
+        return;
+    };
+    if let Some((first, last)) = unsent(rt, shared, sent.as_slice()) {
+        let _ = eprintln!(rt;
+            "rights-site: ended: {} to {} of its log were sent to no peer",
+            first, last
+        );
     }
 }
 

@@ -5,7 +5,7 @@ ghost use Rattle.site_server.specs.Outboxes.{SendsToPeer, StopsAtOutbox};
 
 use crate::site::shared::Shared;
 use apply_lanes::DeskNames;
-use rights_types::{MAX_SITES, OutOfMemory, SiteId};
+use rights_types::{MAX_SITES, OutOfMemory};
 use site_node::{Peers, Sink, send_due};
 use site_sockets::{PeerLines, PeerState};
 use std::marker::Model;
@@ -88,8 +88,8 @@ impl<'a, D: DeskNames, R: Wait> Outboxes<'a, D, R> {
         Some(Outboxes { rt, shared, peers })
     }
 
-    /// Offers all that is due to the peer at this place, under the desk's lock and that of the peer's outbox, and answers
-    /// how many lines found room.
+    /// Offers everything due to the peer at this index to its outbox, under the desk's lock and the outbox's, and returns
+    /// how many lines it accepted.
     fn send_to(&self, place: usize) -> Result<u64, OutOfMemory>
         requires { place < length self.now.peers.now }
         ensures sends { IfOk result (λ sent. SendsToPeer D.id self.now.peers.now place sent) }
@@ -99,8 +99,9 @@ impl<'a, D: DeskNames, R: Wait> Outboxes<'a, D, R> {
         let peer = &self.peers[place];
         let mut kept = self.shared.lock(self.rt);
         let kept = &mut *kept;
-        // For the proof: what holds whenever the lock is free.
-        let _ = kept.desk();
+        // Also for the proof: what holds whenever the lock is free.
+        let end = kept.desk().number();
+        peer.events.offers(end);
         let mut outbox = LockedOutbox::new(self.rt, peer);
         send_due(kept, peer.site, &mut outbox)
     }

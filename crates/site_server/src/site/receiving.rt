@@ -207,10 +207,13 @@ impl<D: DeskNames, E: Wait + Eprint, S: Sink + Drop> SitePort<'_, D, E, S> {
     {
         let mut kept = self.shared.lock(self.rt);
         let kept = &mut *kept;
-        // For the proof: what holds whenever the lock is free.
-        let _ = kept.desk();
+        // Also for the proof: what holds whenever the lock is free.
+        let end = kept.desk().number();
         match message {
-            DeskMessage::Query(query) => answer_query(kept, &query, &mut self.outbox),
+            DeskMessage::Query(query) => {
+                self.peer.events.offers(end);
+                answer_query(kept, &query, &mut self.outbox)
+            }
             DeskMessage::Ask(ask) => answer_ask(kept, &ask, &mut self.outbox),
             DeskMessage::Deny(denial) => {
                 note_denial(kept, &denial);
