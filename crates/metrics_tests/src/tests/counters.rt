@@ -1,5 +1,5 @@
 //! What counters count.
-use site_metrics::{Counters, PeerCounters};
+use site_metrics::{Counters, PeerCounters, unsent_numbers};
 
 const REPLIES: [&[u8]; 11] = [
     b"number 1\n",
@@ -42,4 +42,26 @@ fn peers_are_counted(rt: HostRuntime) {
     assert!(rt; peer.lines() == 6 && peer.refused() == 2);
     assert!(rt; peer.dropped() == 7 && peer.went_back() == 1);
     assert!(rt; peer.is_sending() && !peer.is_receiving());
+}
+
+/// How far the log was sent is where it ended when the lines that were written last were made.
+#[test]
+fn what_is_written_was_sent(rt: HostRuntime) {
+    let peer = PeerCounters::new();
+    peer.note_offered(4);
+    assert!(rt; peer.sent() == 0);
+    peer.note_sent();
+    peer.note_offered(9);
+    assert!(rt; peer.sent() == 4);
+    peer.note_sent();
+    assert!(rt; peer.sent() == 9);
+}
+
+/// For logs that end at 9 and at 0.
+#[test]
+fn numbers_that_no_peer_was_sent(rt: HostRuntime) {
+    assert!(rt; unsent_numbers(9, &[]) == Some((1, 9)));
+    assert!(rt; unsent_numbers(9, &[4, 7, 0]) == Some((8, 9)));
+    assert!(rt; unsent_numbers(9, &[3, 9]) == None);
+    assert!(rt; unsent_numbers(0, &[0, 0]) == None);
 }

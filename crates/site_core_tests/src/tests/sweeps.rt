@@ -3,6 +3,7 @@
 use crate::tests::calls::{Counted, beat_line, hear, new_desk, post, publish, status};
 use crate::tests::sites::Sites;
 use refusing_allocator::Refusing;
+use request_queue::SLOTS;
 use rights_types::{Move, SiteId};
 use std::alloc::{AllocError, AllocGlobal, Global};
 use std::process::Abort;
@@ -273,6 +274,45 @@ fn two_hundred_tickets(rt: HostRuntime) -> Result<(), Fail> {
     for ticket in 1..=200u64 {
         serves_a_request(&rt, &mut sites, ticket)?;
     }
+    Ok(())
+}
+
+// With this number of unread outcomes, one spend is served at once, and the next one waits and expires.
+fn spends_behind(
+    rt: &(impl Abort + AllocGlobal),
+    sites: &mut Sites,
+    unread: u64,
+) -> Result<(), AllocError> {
+    let spent = unread.saturating_add(2);
+    let ticket = unread.saturating_add(1);
+    says(
+        rt,
+        sites,
+        "spend 1 1 0",
+        &format!(in rt.alloc(); "spent {spent}")?,
+    )?;
+    says(
+        rt,
+        sites,
+        "spend 1 99 0",
+        &format!(in rt.alloc(); "queued {ticket}")?,
+    )?;
+    says(rt, sites, "expire 1 1", "expired 1")
+}
+
+/// Unread outcomes take slots from spends that wait, but not from spends that are served at once.
+#[test]
+fn spends_behind_unread_outcomes(rt: HostRuntime) -> Result<(), Fail> {
+    let memory = Refusing::new(rt.alloc(), u64::MAX);
+    let mut sites = Sites::new(&rt, &memory, 2)?;
+    says(&rt, &mut sites, "issue 1 50", "number 1")?;
+    for unread in 0..SLOTS as u64 {
+        spends_behind(&rt, &mut sites, unread)?;
+    }
+    says(&rt, &mut sites, "spend 1 1 0", "spent 34")?;
+    says(&rt, &mut sites, "spend 1 99 0", "error QueueFull")?;
+    says(&rt, &mut sites, "status 1 20", "expired")?;
+    says(&rt, &mut sites, "spend 1 99 0", "queued 33")?;
     Ok(())
 }
 
