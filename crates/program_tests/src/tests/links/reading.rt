@@ -132,15 +132,25 @@ fn a_line_that_is_cut_is_dropped(rt: HostRuntime) {
     assert_eq!(rt; read, Ok(SiteId::known(1)));
 }
 
+/// The own numbers of three entries: one connection asks for a gap, and the answer over the next one fills it.
+fn take_answered<R: Wait>(rt: &R, alloc: Global) -> Option<[u64; 3]> {
+    let Ok((mut intake, mut outlet)) = link_in(alloc) else {
+        return None;
+    };
+    let later = b"E 1 4 5 S:2\nA 1 2;E 1";
+    if !is_told(rt, alloc, &mut intake, later, 100, b"Q 2 1 1 4\nb1\n") {
+        return None;
+    }
+    let answer = b"A 1 2;E 1 0 1 I:10;E 1 1 4 S:1 S:1 S:1\n";
+    if !is_told(rt, alloc, &mut intake, answer, 7, b"n0\n") {
+        return None;
+    }
+    take_three(rt, &mut outlet)
+}
+
 #[test]
 fn an_answer_comes_over_another_connection(rt: HostRuntime) {
-    let (mut intake, mut outlet) = link_in(rt.alloc()).expect(&rt, "memory");
-    let later = b"E 1 4 5 S:2\nA 1 2;E 1";
-    let told = b"Q 2 1 1 4\nb1\n";
-    assert!(rt; is_told(&rt, rt.alloc(), &mut intake, later, 100, told));
-    let answer = b"A 1 2;E 1 0 1 I:10;E 1 1 4 S:1 S:1 S:1\n";
-    assert!(rt; is_told(&rt, rt.alloc(), &mut intake, answer, 7, b"n0\n"));
-    assert_eq!(rt; take_three(&rt, &mut outlet), Some([1, 4, 5]));
+    assert_eq!(rt; take_answered(&rt, rt.alloc()), Some([1, 4, 5]));
 }
 
 /// All kinds of lines, and what a port receives for them.
@@ -242,15 +252,23 @@ fn a_lane_that_is_closed_ends_the_connection(rt: HostRuntime) {
     assert!(rt; finds_lane_closed(&rt, rt.alloc(), &mut intake));
 }
 
+/// The own number of an entry of which a beat told: the link asks for it, and takes the answer.
+fn take_asked_for<R: Wait>(rt: &R, alloc: Global) -> Option<u64> {
+    let Ok((mut intake, mut outlet)) = link_in(alloc) else {
+        return None;
+    };
+    if !is_told(rt, alloc, &mut intake, b"B 1 1\n", 100, b"Q 2 1 1 1\nb0\n") {
+        return None;
+    }
+    if !is_told(rt, alloc, &mut intake, b"A 1 2;E 1 0 1 I:5\n", 100, b"n0\n") {
+        return None;
+    }
+    take_own(rt, &mut outlet)
+}
+
 #[test]
 fn a_line_that_found_no_room_is_asked_for(rt: HostRuntime) {
     // The push of entry 1 would have been this line.
     assert!(rt; finds_no_room(&rt, rt.alloc(), 1));
-    let (mut intake, mut outlet) = link_in(rt.alloc()).expect(&rt, "memory");
-    let asked = b"Q 2 1 1 1\nb0\n";
-    assert!(rt; is_told(&rt, rt.alloc(), &mut intake, b"B 1 1\n", 100, asked));
-    let answer = b"A 1 2;E 1 0 1 I:5\n";
-    assert!(rt; is_told(&rt, rt.alloc(), &mut intake, answer, 100, b"n0\n"));
-    let own = take_own(&rt, &mut outlet);
-    assert_eq!(rt; own, Some(1));
+    assert_eq!(rt; take_asked_for(&rt, rt.alloc()), Some(1));
 }
