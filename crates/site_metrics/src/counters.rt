@@ -3,34 +3,48 @@
 use crate::refusals::{REFUSAL_COUNT, refusal_place};
 use std::sync::atomic::{AtomicBool, AtomicU64, Ordering};
 
+/// How many threads may count replies: one for each of 63 connections of clients, and one for standard input.
+pub const WRITERS: usize = 64;
+
 /// The commands that were answered, of all clients and of standard input, and how many of them were refused.
 #[derive(Drop)]
 pub struct Counters {
-    commands: AtomicU64,
+    /// One for each writer, which no other thread changes: an atomic addition for each command would be a tenth of what
+    /// a spend costs.
+    commands: [AtomicU64; WRITERS],
     refused: [AtomicU64; REFUSAL_COUNT],
 }
 
 impl Counters {
     pub fn new() -> Counters {
         Counters {
-            commands: AtomicU64::new(0),
+            commands: std::array::from_fn(|_| AtomicU64::new(0)),
             refused: std::array::from_fn(|_| AtomicU64::new(0)),
         }
     }
 
-    /// Counts a reply, given with its line feed. Any other text is not counted.
-    pub fn note_reply(&self, line: &[u8]) {
+    /// Counts a reply of this writer, from 0 to `WRITERS` - 1, given with its line feed. Any other text is not counted.
+    /// Only one thread at a time may count for a writer.
+    pub fn note_reply(&self, writer: usize, line: &[u8]) {
         let [reply @ .., b'\n'] = line else {
             return;
         };
-        add(&self.commands, 1);
+        if let Some(commands) = self.commands.get(writer) {
+            let count = commands.load(Ordering::Relaxed).wrapping_add(1);
+            commands.store(count, Ordering::Release);
+        }
         if let Some(place) = refusal_place(reply) {
             add(&self.refused[place], 1);
         }
     }
 
+    /// How many commands were answered.
     pub fn commands(&self) -> u64 {
-        self.commands.load(Ordering::SeqCst)
+        let mut sum: u64 = 0;
+        for writer in 0..WRITERS {
+            sum = sum.wrapping_add(self.commands[writer].load(Ordering::SeqCst));
+        }
+        sum
     }
 
     /// How many commands were refused, by the index of the refusal's name in `REFUSALS`.

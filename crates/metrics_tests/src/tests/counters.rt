@@ -1,5 +1,5 @@
 //! What counters count.
-use site_metrics::{Counters, PeerCounters, unsent_numbers};
+use site_metrics::{Counters, PeerCounters, WRITERS, unsent_numbers};
 
 const REPLIES: [&[u8]; 11] = [
     b"number 1\n",
@@ -20,13 +20,15 @@ const REPLIES: [&[u8]; 11] = [
 fn replies_add_up(rt: HostRuntime) {
     let counters = Counters::new();
     note_all(&counters);
-    assert!(rt; counters.commands() == 8);
+    counters.note_reply(WRITERS - 1, b"spent 4\n");
+    counters.note_reply(WRITERS - 1, b"spent 5\n");
+    assert!(rt; counters.commands() == 10);
     assert!(rt; counters.refused() == [1, 0, 0, 0, 0, 0, 0, 0, 2, 0, 0, 0, 0, 0, 1]);
 }
 
 fn note_all(counters: &Counters) {
     for reply in REPLIES {
-        counters.note_reply(reply);
+        counters.note_reply(0, reply);
     }
 }
 

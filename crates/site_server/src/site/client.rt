@@ -36,6 +36,8 @@ pub(crate) struct SiteClient<'a, D: DeskNames, R: Wait, P: Peers + Drop, B: Tick
     pub(crate) alloc: Global,
     pub(crate) site: &'a Site,
     pub(crate) shared: Arc<Shared<D>>,
+    /// The index of its seat, under which its replies are counted.
+    pub(crate) place: usize,
     pub(crate) seat: Seat<D>,
     pub(crate) peers: P,
     pub(crate) signal: B,
@@ -70,7 +72,7 @@ pub(crate) fn client_at<'a, D: DeskNames, R: Wait + AllocGlobal>(
     let signal = SiteTickSignal::new(rt, &site.tick_notifier);
     let desk = shared.clone().ok()?;
     let seat = shared.seats.take(rt, place)?;
-    Some(SiteClient::new(rt, rt.alloc(), site, desk, seat, peers, signal))
+    Some(SiteClient::new(rt, rt.alloc(), site, desk, place, seat, peers, signal))
 }
 
 /// The command that a line spells, which is passed without its line feed; `None` is passed for a line that is too
@@ -114,6 +116,7 @@ impl<'a, D: DeskNames, R: Wait, P: Peers + Drop, B: TickSignal + Drop> SiteClien
         alloc: Global,
         site: &'a Site,
         shared: Arc<Shared<D>>,
+        place: usize,
         seat: Seat<D>,
         peers: P,
         signal: B,
@@ -125,6 +128,7 @@ impl<'a, D: DeskNames, R: Wait, P: Peers + Drop, B: TickSignal + Drop> SiteClien
             alloc,
             site,
             shared,
+            place,
             seat,
             peers,
             signal,
@@ -265,7 +269,7 @@ impl<'a, D: DeskNames, R: Wait, P: Peers + Drop, B: TickSignal + Drop> SiteClien
 
     /// Counts a reply, given with its line feed.
     pub(crate) fn count_reply(&self, reply: &[u8]) {
-        self.site.commands.note_reply(reply);
+        self.site.commands.note_reply(self.place, reply);
     }
 
     /// Answers a line, by its command; `None` is not a command.
