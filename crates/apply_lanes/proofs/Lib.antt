@@ -1,5 +1,6 @@
 pub mod KeptLaws
 pub mod StepLaws
+pub mod BatchLaws
 pub mod ScheduleLaws
 pub mod ApplierLaws
 pub mod StopLaws

@@ -4,5 +4,6 @@ pub mod Views
 pub mod Admissions
 pub mod Appliers
 pub mod Steps
+pub mod Batches
 pub mod Stops
 pub mod Between

@@ -8,7 +8,7 @@ use Rattle.rights_types.specs.declared.limits.TheConstants.{MIN_SITES, MAX_SITES
 use Rattle.rights_types.specs.declared.moves.Move.TheVariants.{Spend, Grant}
 use Rattle.rights_protocol.specs.Lists.{IsSiteOf}
 use Rattle.rights_protocol.specs.Schedules.{SiteLists, LocalChange, LocalStep, Turn, AllPromised, together}
-use Rattle.rights_protocol.specs.Schedules.LocalChange.{Write, Apply, Retire, Other}
+use Rattle.rights_protocol.specs.Schedules.LocalChange.{Write, Apply, Other}
 use Rattle.transfer_manager.specs.declared.answer.AskAnswer.{AskAnswer}
 use Rattle.transfer_manager.specs.declared.answer.AskAnswer.TheVariants.{Grant as Granted}
 use Rattle.site_core.specs.Ledgers.{HasApplied}

@@ -5,10 +5,13 @@ ghost use Rattle.rights_protocol.specs.Retiring.{numbers_in};
 ghost use Rattle.apply_lanes.specs.Appliers.{IsApplier, new_applier};
 ghost use Rattle.apply_lanes.specs.declared.applier.StepError.TheVariants.{OutOfMemory as NoMemory, LaneClosed as NothingCame};
 
+mod batch;
+
 use crate::gate::Gate;
 use crate::kept::Kept;
 use crate::names::{DeskNames, NumberOf, ReceivedBy};
 use crate::shared_desk::SharedDesk;
+pub use batch::MAX_BATCH;
 use rights_types::{Entry, SiteId};
 use std::alloc::{Allocator, Global};
 use std::marker::Model;

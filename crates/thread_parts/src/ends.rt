@@ -1,5 +1,5 @@
 //! The two ends of a lane.
-ghost use Rattle.std.specs.Prelude.{◌≡◌, ◌≤◌, [], ◌∷◌, ◌++◌, true, false, Some, None, IfOk, OnOk, OnErr, IsErr, IsNone, IfSome, IfNone, MatchResult, IfErr};
+ghost use Rattle.std.specs.Prelude.{◌≡◌, ◌≤◌, [], ◌∷◌, ◌++◌, true, false, Some, None, IfOk, OnOk, OnErr, IsErr, IsNone, IfSome, IfNone, OnSome, MatchResult, IfErr};
 ghost use Rattle.rights_types.specs.Entries.{EntryValue};
 ghost use Rattle.thread_parts.specs.Items.{MayBeFirst, Continues, Precedes, MayCome, IsOpen, IsItemChain, IsEnded, Leaves};
 ghost use Rattle.thread_parts.specs.declared.item.Item.{Item};
@@ -177,6 +177,23 @@ impl<A: Allocator> Outlet<A> {
         }
     }
 
+    /// Takes the next item if one waits on the lane, and never blocks. `None` does not say whether the inlet is gone.
+    pub fn take_ready<R: Wait>(&mut self, rt: &R) -> Option<Item<A>>
+        requires { IsOpen self.old.taken }
+        ensures lane { self.new.lane ≡ self.old.lane }
+        ensures some { IfSome result (λ x. (self.new.taken ≡ self.old.taken ++ x ∷ []) × (self.new.dead ≡ false)) }
+        ensures chain { OnSome result (IsItemChain self.new.taken) }
+        ensures continues { IfSome result (λ x. MayCome x self.old.taken) }
+        ensures next { IfSome result (λ x. Leaves x self.new.taken) }
+        ensures none { IfNone result (self.new ≡ self.old) }
+        ensures dead { self.old.dead ≡ true → IsNone result }
+    {
+        match self.receive_ready(rt) {
+            Some(item) => Some(item),
+            None => None,
+        }
+    }
+
     // `None` once the inlet is gone and no item waits: then this end is dead.
     fn receive<R: Wait>(&mut self, rt: &R) -> Option<Item<A>>
         ensures lane { self.new.lane ≡ self.old.lane }
@@ -195,5 +212,22 @@ impl<A: Allocator> Outlet<A> {
                 None
             }
         }
+    }
+
+    // `None` if no item waits.
+    fn receive_ready<R: Wait>(&mut self, rt: &R) -> Option<Item<A>>
+        ensures lane { self.new.lane ≡ self.old.lane }
+        ensures some { IfSome result (λ x. (self.new.taken ≡ self.old.taken ++ x ∷ []) × (self.new.dead ≡ false)) }
+        ensures chain { IsItemChain self.new.taken }
+        ensures none { IfNone result (self.new ≡ self.old) }
+        ensures dead { self.old.dead ≡ true → IsNone result }
+    {
+        if self.dead {
+            return None;
+        }
+        let Ok(item) = self.receiver.try_recv_as::<Taken, R>(rt, &mut self.pass) else {
+            return None;
+        };
+        Some(item)
     }
 }
