@@ -37,6 +37,9 @@ const GIFTS: [&str; 15] = [
 const LONGEST: &str =
     "E 2 0 16 I:20 R:1:1 R:1:1 R:1:1 R:1:1 R:1:1 R:1:1 R:1:1 R:1:1 R:1:1 R:1:1 R:1:1 R:1:1 R:1:1 R:1:1 R:1:1\n";
 
+// An answer of three entries, two of which give to site 1.
+const THREE: &str = "A 2 1;E 2 0 1 I:20;E 2 1 2 R:1:5;E 2 2 3 R:1:4\n";
+
 // What the applier of that origin reports, once it has applied the entry of that line.
 fn applied_of<D: DeskNames, R: Wait + Clock + Abort>(
     rt: &R,
@@ -129,4 +132,46 @@ fn sixteen_moves_over_a_lane(rt: HostRuntime) {
     let desk = desk_among(&rt, rt.alloc(), 16);
     let report = the_longest::<Brand, HostRuntime>(&rt, rt.alloc(), desk, Blanks::new());
     assert!(rt; (report.received, report.held, report.applied) == (15, 15, 16));
+}
+
+// What the applier of site 2 reports, once it has applied three entries under one hold of the lock.
+fn applied_at_once<D: DeskNames, R: Wait + Abort>(
+    rt: &R,
+    alloc: Global,
+    desk: &SharedDesk<D>,
+) -> Applied<D> {
+    let (intake, outlet) = link(rt, alloc, 2, 2);
+    let intake = feed(rt, intake, THREE);
+    let mut applier = applier_at(rt, desk, 2, outlet, Free);
+    assert!(rt; applier.step_ready(rt, desk) == Ok((3, false)));
+    assert!(rt; applier.step_ready(rt, desk) == Ok((0, false)));
+    taken_in(intake, applier).done()
+}
+
+fn three_at_once<D: DeskNames, R: Wait + Abort>(
+    rt: &R,
+    alloc: Global,
+    desk: Desk,
+    blanks: Blanks,
+) -> Report
+    requires id { D.id ≡ id_of desk blanks }
+    requires blanks { AreBlank blanks }
+    requires unused { IsUnused desk }
+{
+    let desk = SharedDesk::<D>::new(desk, blanks);
+    let applied = pushed(rt, Vec::new(alloc), applied_at_once(rt, alloc, &desk));
+    let parts = Parts {
+        desk,
+        seats: Vec::new(alloc),
+        applied,
+    };
+    report_of(rt, parts)
+}
+
+/// All entries that wait on a lane are applied at once, and then End is taken.
+#[test]
+fn all_that_wait_at_once(rt: HostRuntime) {
+    let desk = desk_among(&rt, rt.alloc(), 2);
+    let report = three_at_once::<Brand, HostRuntime>(&rt, rt.alloc(), desk, Blanks::new());
+    assert!(rt; (report.received, report.held, report.applied) == (9, 9, 3));
 }

@@ -16,7 +16,6 @@ use std::alloc::Global;
 use std::io::Eprint;
 use std::marker::Model;
 use std::sync::{Arc, Wait};
-use std::time::Clock;
 use sub_buffer::State;
 
 /// What takes in the lines of one peer, and what applies its entries.
@@ -130,10 +129,10 @@ impl<D: DeskNames> LaneEnd<D> {
         })
     }
 
-    /// Applies the entries until the end of the lane, and keeps what the applier reports until the site ends. An
-    /// error ends the link: its lines are then skipped.
-    pub(crate) fn apply_all<R: Wait + Clock>(mut self, rt: &R, site: &Site) {
-        if let Err(StepError::OutOfMemory) = self.applier.run(rt, &self.shared.desk) {
+    /// Applies the entries until the end of the lane, all that wait under one hold of the desk's lock, and keeps what
+    /// the applier reports until the site ends. An error ends the link: its lines are then skipped.
+    pub(crate) fn apply_all<R: Wait>(mut self, rt: &R, site: &Site) {
+        if let Err(StepError::OutOfMemory) = self.applier.run_ready(rt, &self.shared.desk) {
             site.fail();
         }
         let LaneEnd {
