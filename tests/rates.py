@@ -14,10 +14,10 @@ from cluster import Cluster, at, free_ports  # noqa: E402
 
 RUNS = 3
 SPENDS = 2_000_000
-ENTRIES = 200_000
+ENTRIES = 1_000_000
 MISSED = 100_000
 GIVES = 1_000
-# After so many spends comes a tick. An outbox has room for their entries.
+# After so many spends comes a tick. An outbox has room for their entries, if the earlier ones were sent.
 TICK_AFTER = 200
 # After so many seconds without what is waited for, one tick more.
 PATIENCE = 0.02
@@ -34,31 +34,37 @@ def local_spends():
     words = [Cluster.program, "run", "--id", "1", "--sites", "2", "--listen", at(own), f"2={at(other)}"]
     site = subprocess.Popen(words, stdin=subprocess.PIPE, stdout=subprocess.PIPE)
     begun = time.perf_counter()
-    feeder = threading.Thread(target=lambda: (site.stdin.write(commands), site.stdin.close()))
-    feeder.start()
-    lines = 0
-    while block := site.stdout.read1(1 << 16):
-        lines += block.count(b"\n")
+    exchange(site, commands, SPENDS + 1)
     took = time.perf_counter() - begun
-    feeder.join()
     site.wait()
-    assert lines == SPENDS + 1, lines
     return SPENDS / took
 
 
+def exchange(process, commands, replies):
+    """Writes commands as fast as they are read, and reads this number of replies."""
+    feeder = threading.Thread(target=lambda: (process.stdin.write(commands), process.stdin.flush()))
+    feeder.start()
+    lines = 0
+    while lines < replies:
+        block = process.stdout.read1(1 << 16)
+        assert block, lines
+        lines += block.count(b"\n")
+    feeder.join()
+    assert lines == replies, lines
+
+
 def carried_entries():
-    """Entries a second from one process's spends to the book of another one."""
+    """Entries a second from one process's spends to the book of another one. The commands are written as fast as the
+    site reads them."""
     with Cluster(2) as sites:
         sites[1].ask(f"issue {ENTRIES}")
-        batch = ["spend 1 0"] * TICK_AFTER + ["tick 1"]
+        sites[1].ask("tick 1")
+        wait_for_applied(sites, 1)
+        batch = b"spend 1 0\n" * TICK_AFTER + b"tick 1\n"
         begun = time.perf_counter()
-        written = 1
-        while written <= ENTRIES:
-            sites[1].ask_all(batch)
-            written += TICK_AFTER
-            # The next lines find room once most of these are gone.
-            wait_for_applied(sites, written - 40)
-        wait_for_applied(sites, written)
+        count = ENTRIES // TICK_AFTER
+        exchange(sites[1].process, batch * count, (TICK_AFTER + 1) * count)
+        wait_for_applied(sites, ENTRIES + 1)
         return ENTRIES / (time.perf_counter() - begun)
 
 

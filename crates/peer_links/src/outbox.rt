@@ -10,7 +10,8 @@ use circular_buffer::HeapCircularBuffer;
 use rights_types::OutOfMemory;
 use std::alloc::{Allocator, Global};
 use std::marker::Model;
-use std::sync::{Condvar, Mutex, MutexGuard, Wait};
+use std::sync::{Condvar, CondvarTimeouts, Mutex, MutexGuard, Wait};
+use std::time::{Clock, Duration};
 
 /// The greatest number of lines that wait in an outbox.
 pub const OUTBOX_LINES: usize = 256;
@@ -57,11 +58,17 @@ impl<A: Allocator> Queue<A> {
         })
     }
 
+    fn is_empty(&self) -> bool
+        ensures { result ≡ (length self.now.lines == 0) }
+    {
+        self.lines.is_empty()
+    }
+
     /// Whether no line waits and the outbox has not ended.
     fn is_idle(&self) -> bool
         ensures { result ≡ (length self.now.lines == 0 && not self.now.ended) }
     {
-        self.lines.is_empty() && !self.ended
+        self.is_empty() && !self.ended
     }
 
     fn len(&self) -> usize
@@ -186,6 +193,8 @@ pub struct Outbox<A: Allocator = Global> {
     queue: Mutex<Queue<A>>,
     /// Notified when lines were put, and of the end.
     changed: Condvar,
+    /// Notified when lines were taken.
+    taken: Condvar,
 }
 
 /// The lines that wait in an outbox, under its lock, for putting more. When it is dropped, the thread that takes
@@ -227,6 +236,7 @@ impl<A: Allocator> Outbox<A> {
         Ok(Outbox {
             queue: Mutex::new(Queue::new(alloc)?),
             changed: Condvar::new(),
+            taken: Condvar::new(),
         })
     }
 
@@ -250,7 +260,17 @@ impl<A: Allocator> Outbox<A> {
     pub fn take<R: Wait>(&self, rt: &R) -> Option<Vec<u8, A>>
         ensures { IfSome result (λ line. IsLine line.items) }
     {
-        self.ready(rt).take()
+        let line = self.ready(rt).take();
+        self.taken.notify_all();
+        line
+    }
+
+    /// Blocks until no line waits, but not longer than this time. `false` if some wait then.
+    pub fn wait_until_empty<R: Wait + Clock>(&self, rt: &R, time: Duration) -> bool {
+        let (_queue, waited) = self
+            .taken
+            .wait_timeout_while(rt, self.queue.lock(rt), time, |queue| !queue.is_empty());
+        !waited.timed_out()
     }
 
     /// How many lines wait, 0 to `OUTBOX_LINES`.
@@ -273,6 +293,7 @@ impl<A: Allocator> Outbox<A> {
         queue.clear();
         drop(queue);
         self.changed.notify_all();
+        self.taken.notify_all();
     }
 
     /// Locks the queue once a line waits or the outbox has ended.
@@ -294,10 +315,13 @@ impl<A: Allocator> LineSource for &Outbox<A> {
     ghost is_over = { λ _. Unit {0} };
 
     fn next_batch<R: Wait>(&mut self, rt: &R, room: &mut [u8]) -> Batch<A> {
-        LineSource::next_batch(&mut *self.ready(rt), rt, room)
+        let batch = LineSource::next_batch(&mut *self.ready(rt), rt, room);
+        self.taken.notify_all();
+        batch
     }
 
     fn take_front<R: Wait>(&mut self, rt: &R, count: usize) {
         self.queue.lock(rt).take_front(rt, count);
+        self.taken.notify_all();
     }
 }

@@ -155,7 +155,7 @@ fn run_threads<
 }
 
 /// Answers the commands, with their seat, which is put back afterwards.
-fn answer_commands<D: DeskNames, R: Wait + AllocGlobal, I: Read, W: Write>(
+fn answer_commands<D: DeskNames, R: Wait + Clock + AllocGlobal, I: Read, W: Write>(
     rt: &R,
     site: &Site,
     shared: &Arc<Shared<D>>,

@@ -1,25 +1,24 @@
 //! What a site keeps for each other site.
-ghost use Rattle.std.specs.Prelude.{◌≡◌};
+ghost use Rattle.std.specs.Prelude.{◌≡◌, ◌≤◌};
+ghost use Rattle.peer_links.specs.declared.outbox.TheConstants.{OUTBOX_LINES};
 ghost use Rattle.entry_codec.specs.Pieces.{IsLine};
 ghost use Rattle.peer_links.specs.Outboxes.{PutsIf};
 
 use crate::connection_slot::ConnectionSlot;
 use crate::events::LinkEvents;
 use crate::shutdown_handle::ShutdownHandle;
-use peer_links::{Outbox, OutboxLines};
-use rights_types::{OutOfMemory, SiteId};
+use peer_links::{OUTBOX_LINES, Outbox, OutboxLines};
+use rights_types::{MAX_HELD, OutOfMemory, SiteId};
 use site_words::{Config, PeerView};
 use std::alloc::Global;
 use std::marker::Model;
-use std::sync::{Mutex, Wait};
+use std::sync::Wait;
+use std::sync::atomic::{AtomicBool, AtomicU64, Ordering};
+use std::time::{Clock, Duration};
 use sub_buffer::State;
 
-/// The state of the buffer, as the reading thread recorded it after the last line.
-#[derive(Clone, Copy)]
-struct Seen {
-    buffering: bool,
-    held: usize,
-}
+/// The longest time that a tick waits for a peer to take the lines of earlier ticks, in milliseconds.
+const MAX_STALL: u64 = 5;
 
 /// Another site, shared by the threads that serve it.
 #[derive(Drop)]
@@ -34,7 +33,11 @@ pub struct PeerState {
     pub connection_slot: ConnectionSlot,
     /// What happened on the links with it.
     pub events: LinkEvents,
-    seen: Mutex<Seen>,
+    /// The state of the buffer after the last line, in one word, since the reading thread records it after each line:
+    /// twice the number of held entries, and 1 more if entries are missing.
+    buffer: AtomicU64,
+    /// Whether a tick waited in vain until the lines in the outbox are sent, and they were not sent since.
+    stalled: AtomicBool,
 }
 
 impl PeerState {
@@ -51,10 +54,8 @@ impl PeerState {
             sending: ShutdownHandle::new(),
             connection_slot: ConnectionSlot::new(),
             events: LinkEvents::new(site, log),
-            seen: Mutex::new(Seen {
-                buffering: false,
-                held: 0,
-            }),
+            buffer: AtomicU64::new(0),
+            stalled: AtomicBool::new(false),
         })
     }
 
@@ -73,18 +74,31 @@ impl PeerState {
         self.lines(rt).put(line)
     }
 
+    /// Makes room for so many lines in the outbox, if the peer takes those that wait there: blocks until they are sent,
+    /// for `MAX_STALL` milliseconds at most. Does not block again until they are.
+    pub fn make_room<R: Wait + Clock>(&self, rt: &R, lines: usize) {
+        let waiting = self.waiting(rt);
+        if waiting == 0 || lines <= OUTBOX_LINES - waiting {
+            self.stalled.store(false, Ordering::Relaxed);
+        } else if !self.stalled.load(Ordering::Relaxed) {
+            let time = Duration::from_millis(MAX_STALL);
+            let is_sent = self.outbox.wait_until_empty(rt, time);
+            self.stalled.store(!is_sent, Ordering::Relaxed);
+        }
+    }
+
     /// How many lines wait to be sent, 0 to `OUTBOX_LINES`.
-    pub fn waiting<R: Wait>(&self, rt: &R) -> usize {
+    pub fn waiting<R: Wait>(&self, rt: &R) -> usize
+        ensures { result ≤ OUTBOX_LINES }
+    {
         self.outbox.len(rt)
     }
 
     /// Records the state of the buffer after a line.
-    pub fn note<R: Wait>(&self, rt: &R, state: State, held: usize) {
-        let mut seen = self.seen.lock(rt);
-        *seen = Seen {
-            buffering: state == State::Buffering,
-            held,
-        };
+    pub fn note(&self, state: State, held: usize) {
+        let held = held.min(MAX_HELD) as u64;
+        let missing = (state == State::Buffering) as u64;
+        self.buffer.store(2 * held + missing, Ordering::Relaxed);
     }
 
     /// Closes every stream, and lets no other be opened.
@@ -95,16 +109,16 @@ impl PeerState {
     }
 
     /// What the status says of this peer, of whose log this much was applied.
-    pub fn view<R: Wait>(&self, rt: &R, applied: u64) -> PeerView
+    pub fn view(&self, applied: u64) -> PeerView
         ensures site { result.site ≡ self.now.site }
         ensures applied { result.applied ≡ applied }
     {
-        let seen = *self.seen.lock(rt);
+        let buffer = self.buffer.load(Ordering::Relaxed);
         PeerView {
             site: self.site,
             applied,
-            buffering: seen.buffering,
-            held: seen.held,
+            buffering: buffer % 2 == 1,
+            held: (buffer / 2) as usize,
         }
     }
 }

@@ -28,6 +28,7 @@ use std::alloc::{Allocator, Global};
 use std::io::{Read, Write};
 use std::marker::Model;
 use std::sync::{Arc, Wait};
+use std::time::Clock;
 
 /// A client of a site: a seat at its desk, its peers, and what notifies it of ticks.
 #[derive(Drop)]
@@ -62,7 +63,7 @@ pub(crate) type ClientOf<'a, D, R> = SiteClient<
 >;
 
 /// A client with the seat at this index. `None` if that seat is taken, or memory was refused; then no seat is taken.
-pub(crate) fn client_at<'a, D: DeskNames, R: Wait + AllocGlobal>(
+pub(crate) fn client_at<'a, D: DeskNames, R: Wait + Clock + AllocGlobal>(
     rt: &'a R,
     site: &'a Site,
     shared: &Arc<Shared<D>>,
@@ -262,7 +263,7 @@ impl<'a, D: DeskNames, R: Wait, P: Peers + Drop, B: TickSignal + Drop> SiteClien
     {
         let mut peers = Vec::with_capacity(self.alloc, self.site.peers().len())?;
         for peer in self.site.peers() {
-            peers.push(peer.view(self.rt, desk.applied(peer.site)))?;
+            peers.push(peer.view(desk.applied(peer.site)))?;
         }
         Ok(peers)
     }

@@ -53,7 +53,7 @@ fn peer_metrics_of<R: Wait>(rt: &R, peer: &PeerState, applied: u64) -> PeerMetri
     ensures site { result.site ≡ peer.now.site }
     ensures applied { result.applied ≡ applied }
 {
-    let view = peer.view(rt, applied);
+    let view = peer.view(applied);
     let counters = peer.events.counters();
     PeerMetrics {
         site: peer.site,

@@ -5,11 +5,12 @@ ghost use Rattle.site_server.specs.Outboxes.{SendsToPeer, StopsAtOutbox};
 
 use crate::site::shared::Shared;
 use apply_lanes::DeskNames;
-use rights_types::{MAX_SITES, OutOfMemory};
+use rights_types::{MAX_SITES, OutOfMemory, SiteId};
 use site_node::{Peers, Sink, send_due};
 use site_sockets::{PeerLines, PeerState};
 use std::marker::Model;
 use std::sync::{Arc, Wait};
+use std::time::Clock;
 
 /// The lines that wait for one peer, under the lock of its outbox.
 #[derive(Drop)]
@@ -75,7 +76,7 @@ pub(crate) struct Outboxes<'a, D: DeskNames, R: Wait> {
     ghost few: { length peers.now ≤ MAX_SITES },
 }
 
-impl<'a, D: DeskNames, R: Wait> Outboxes<'a, D, R> {
+impl<'a, D: DeskNames, R: Wait + Clock> Outboxes<'a, D, R> {
     /// `None` if there are more peers than a system can have sites.
     pub(crate) fn new(
         rt: &'a R,
@@ -88,6 +89,13 @@ impl<'a, D: DeskNames, R: Wait> Outboxes<'a, D, R> {
         Some(Outboxes { rt, shared, peers })
     }
 
+    /// How many lines are due to this peer at most: its entries, an ask and a beat.
+    fn lines_due(&self, peer: SiteId) -> usize {
+        let kept = self.shared.lock(self.rt);
+        let log = kept.desk().log();
+        log.len().saturating_sub(log.cursor(peer)) + 2
+    }
+
     /// Offers everything due to the peer at this index to its outbox, under the desk's lock and the outbox's, and returns
     /// how many lines it accepted.
     fn send_to(&self, place: usize) -> Result<u64, OutOfMemory>
@@ -97,6 +105,7 @@ impl<'a, D: DeskNames, R: Wait> Outboxes<'a, D, R> {
         ensures range { IfOk result (λ sent. sent ≤ MAX_NUMBER + 2) }
     {
         let peer = &self.peers[place];
+        peer.make_room(self.rt, self.lines_due(peer.site));
         let mut kept = self.shared.lock(self.rt);
         let kept = &mut *kept;
         // Also for the proof: what holds whenever the lock is free.
@@ -107,7 +116,7 @@ impl<'a, D: DeskNames, R: Wait> Outboxes<'a, D, R> {
     }
 }
 
-impl<D: DeskNames, R: Wait> Peers for Outboxes<'_, D, R> {
+impl<D: DeskNames, R: Wait + Clock> Peers for Outboxes<'_, D, R> {
     ghost use Rattle.std.specs.Prelude.{length};
     ghost use Rattle.site_server.specs.Outboxes.{SendsToPeer, StopsAtOutbox};
 

@@ -283,11 +283,11 @@ impl<D: DeskNames, E: Wait + Eprint, S: Sink + Drop> Port for SitePort<'_, D, E,
         self.outbox.offer(line);
     }
 
-    fn seen<R: Wait>(&mut self, rt: &R, state: State, held: usize) {
+    fn seen<R: Wait>(&mut self, _rt: &R, state: State, held: usize) {
         if state != State::Buffering {
             self.peer.events.lacks_nothing(self.rt);
         }
-        self.peer.note(rt, state, held);
+        self.peer.note(state, held);
     }
 
     fn skipped<R: Wait>(&self, _rt: &R, why: Skipped) {

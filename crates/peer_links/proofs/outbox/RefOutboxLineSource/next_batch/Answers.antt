@@ -2,4 +2,5 @@ use Rattle.peer_links.proofs.QueueLaws.{outbox_batch}
 use Rattle.peer_links.proofs.outbox.RefOutboxLineSource.next_batch.Goals as goal
 
 pub returns-clause-batch : goal.returns-clause-batch
-returns-clause-batch g c = outbox_batch _ _ _ c.next_batch.result c.next_batch.new.room c.next_batch.ensures.batch
+returns-clause-batch g c =
+    outbox_batch _ _ _ c.next_batch-batch.result c.next_batch-batch.new.room c.next_batch-batch.ensures.batch
