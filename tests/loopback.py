@@ -397,12 +397,41 @@ def a_peer_that_reads_nothing():
             full = full or not replies[-1].endswith("sent 201")
             if time_now == 0:
                 stream, _ = deaf.accept()
+        # A tick waits 5 ms for such a peer, but not each tick.
+        start = time.monotonic()
+        sites[1].ask_all(["tick 400"] * 4000)
+        if time.monotonic() - start > 10:
+            raise AssertionError("each tick waited")
         start = time.monotonic()
         expect(sites[1].end(timeout=5), 0)
         if time.monotonic() - start > 3.5:
             raise AssertionError("the end took too long")
         stream.close()
     deaf.close()
+
+
+def ticks_in_a_row_wait_for_space():
+    """Ten ticks at once, each with more lines than fit beside those of the one before: the site waits until those are
+    sent. On a busy machine that may take longer than it waits, but not each time."""
+    with Sites(2) as sites:
+        sites[1].ask("issue 1000000")
+        sites[1].ask("tick 1")
+        written = 1
+        for _ in range(50):
+            replies = sites[1].ask_all((["spend 1 0"] * 200 + ["tick 1"]) * 10)
+            written += 2000
+            wait_for("all are applied", lambda: ticked(sites[1]) and applied_by(sites[2]) == written, 30)
+            if all(reply.endswith("sent 201") for reply in replies[200::201]):
+                return
+        raise AssertionError("each time lines were lost")
+
+
+def ticked(site):
+    return site.ask("tick 1")
+
+
+def applied_by(site):
+    return site.status()["peers"][0]["applied"]
 
 
 # ---- memory that is refused
@@ -604,6 +633,7 @@ CASES = [case("Loopback", [
     bad_lines_are_skipped,
     a_flood_grows_nothing,
     a_peer_that_reads_nothing,
+    ticks_in_a_row_wait_for_space,
     a_start_without_memory,
     memory_runs_out,
     an_applier_without_memory,
