@@ -3,8 +3,11 @@
 use crate::refusals::{REFUSAL_COUNT, refusal_place};
 use std::sync::atomic::{AtomicBool, AtomicU64, Ordering};
 
-/// How many threads may count replies: one for each of 63 connections of clients, and one for standard input.
-pub const WRITERS: usize = 64;
+/// How many clients may be connected at a time, each with a thread that counts its replies.
+pub const CLIENTS: usize = 63;
+
+/// How many threads may count replies: one for each client, and one for standard input.
+pub const WRITERS: usize = CLIENTS + 1;
 
 /// The commands that were answered, of all clients and of standard input, and how many of them were refused.
 #[derive(Drop)]

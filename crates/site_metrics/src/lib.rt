@@ -14,7 +14,7 @@ mod samples;
 mod text;
 mod unsent;
 
-pub use counters::{Counters, PeerCounters, WRITERS};
+pub use counters::{CLIENTS, Counters, PeerCounters, WRITERS};
 pub use metrics::{Metrics, PeerMetrics};
 pub use refusals::{REFUSAL_COUNT, REFUSALS, refusal_place};
 pub use text::{PEER_ROOM, SITE_ROOM, put_metrics};

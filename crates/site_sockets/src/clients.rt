@@ -4,6 +4,7 @@ use crate::connection_pool::ConnectionPool;
 use crate::deadline_reader::DeadlineReader;
 use line_streams::{read_some, write_some};
 use rights_types::OutOfMemory;
+use site_metrics::CLIENTS;
 use std::alloc::Global;
 use std::io::{Eprint, ErrorKind, Read, Write};
 use std::net::{Net, Shutdown, TcpListener, TcpStream};
@@ -11,9 +12,6 @@ use std::sync::Wait;
 use std::sync::atomic::{AtomicBool, Ordering};
 use std::time::{Clock, Duration};
 use std::{io, thread};
-
-/// How many clients may be connected at a time. A further client is turned away.
-pub const CLIENTS: usize = 63;
 
 /// How many clients may be in the process of being turned away at a time. A further one is closed.
 const TURNED_AWAY: usize = 8;

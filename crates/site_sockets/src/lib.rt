@@ -15,7 +15,7 @@ mod site;
 mod tick_notifier;
 
 pub use acceptor::begin_acceptor;
-pub use clients::{Accepted, CLIENTS, ClientStream, Clients, bounded_reader, close_gracefully};
+pub use clients::{Accepted, ClientStream, Clients, bounded_reader, close_gracefully};
 pub use connection_slot::{Connection, ConnectionSlot};
 pub use deadline_reader::DeadlineReader;
 pub use events::{LinkEvents, SkipCause};

@@ -9,13 +9,12 @@ use crate::events::LinkEvents;
 use crate::shutdown_handle::ShutdownHandle;
 use peer_links::{OUTBOX_LINES, Outbox, OutboxLines};
 use rights_types::{MAX_HELD, OutOfMemory, SiteId};
-use site_words::{Config, PeerView};
+use site_words::Config;
 use std::alloc::Global;
 use std::marker::Model;
 use std::sync::Wait;
 use std::sync::atomic::{AtomicBool, AtomicU64, Ordering};
 use std::time::{Clock, Duration};
-use sub_buffer::State;
 
 /// The longest time that a tick waits for a peer to take the lines of earlier ticks, in milliseconds.
 const MAX_STALL: u64 = 5;
@@ -94,11 +93,17 @@ impl PeerState {
         self.outbox.len(rt)
     }
 
-    /// Records the state of the buffer after a line.
-    pub fn note(&self, state: State, held: usize) {
+    /// Records the state of the peer's buffer after a line: whether entries are missing, and how many are held.
+    pub fn note_buffer(&self, missing: bool, held: usize) {
         let held = held.min(MAX_HELD) as u64;
-        let missing = (state == State::Buffering) as u64;
-        self.buffer.store(2 * held + missing, Ordering::Relaxed);
+        self.buffer
+            .store(2 * held + missing as u64, Ordering::Relaxed);
+    }
+
+    /// The state of the peer's buffer after the last line: whether entries are missing, and how many are held.
+    pub fn buffer(&self) -> (bool, usize) {
+        let word = self.buffer.load(Ordering::Relaxed);
+        (word % 2 == 1, (word / 2) as usize)
     }
 
     /// Closes every stream, and lets no other be opened.
@@ -106,20 +111,6 @@ impl PeerState {
         self.outbox.abandon(rt);
         self.sending.close(rt);
         self.connection_slot.close(rt);
-    }
-
-    /// What the status says of this peer, of whose log this much was applied.
-    pub fn view(&self, applied: u64) -> PeerView
-        ensures site { result.site ≡ self.now.site }
-        ensures applied { result.applied ≡ applied }
-    {
-        let buffer = self.buffer.load(Ordering::Relaxed);
-        PeerView {
-            site: self.site,
-            applied,
-            buffering: buffer % 2 == 1,
-            held: (buffer / 2) as usize,
-        }
     }
 }
 

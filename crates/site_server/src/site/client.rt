@@ -263,7 +263,13 @@ impl<'a, D: DeskNames, R: Wait, P: Peers + Drop, B: TickSignal + Drop> SiteClien
     {
         let mut peers = Vec::with_capacity(self.alloc, self.site.peers().len())?;
         for peer in self.site.peers() {
-            peers.push(peer.view(desk.applied(peer.site)))?;
+            let (buffering, held) = peer.buffer();
+            peers.push(PeerView {
+                site: peer.site,
+                applied: desk.applied(peer.site),
+                buffering,
+                held,
+            })?;
         }
         Ok(peers)
     }

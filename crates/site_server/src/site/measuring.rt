@@ -53,13 +53,13 @@ fn peer_metrics_of<R: Wait>(rt: &R, peer: &PeerState, applied: u64) -> PeerMetri
     ensures site { result.site ≡ peer.now.site }
     ensures applied { result.applied ≡ applied }
 {
-    let view = peer.view(applied);
+    let (buffering, held) = peer.buffer();
     let counters = peer.events.counters();
     PeerMetrics {
         site: peer.site,
         applied,
-        buffering: view.buffering,
-        held: view.held as u64,
+        buffering,
+        held: held as u64,
         receiving: counters.is_receiving(),
         sending: counters.is_sending(),
         lines: counters.lines(),

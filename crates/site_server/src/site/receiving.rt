@@ -284,10 +284,11 @@ impl<D: DeskNames, E: Wait + Eprint, S: Sink + Drop> Port for SitePort<'_, D, E,
     }
 
     fn seen<R: Wait>(&mut self, _rt: &R, state: State, held: usize) {
-        if state != State::Buffering {
+        let missing = state == State::Buffering;
+        if !missing {
             self.peer.events.lacks_nothing(self.rt);
         }
-        self.peer.note(state, held);
+        self.peer.note_buffer(missing, held);
     }
 
     fn skipped<R: Wait>(&self, _rt: &R, why: Skipped) {

@@ -6,7 +6,7 @@ use crate::site::slots::Slots;
 use apply_lanes::{Applied, Blanks, DeskNames, Kept, Seat, SharedDesk};
 use rights_types::{MAX_SITES, OutOfMemory, SiteId};
 use site_core::Desk;
-use site_sockets::CLIENTS;
+use site_metrics::CLIENTS;
 use std::alloc::Global;
 use std::sync::{MutexGuard, Wait};
 
