@@ -1,12 +1,12 @@
 //! Client connections: accepting them, and what ends them.
 
+use crate::client_stream::ClientStream;
 use crate::connection_pool::ConnectionPool;
 use crate::deadline_reader::DeadlineReader;
-use line_streams::{read_some, write_some};
 use rights_types::OutOfMemory;
 use site_metrics::CLIENTS;
 use std::alloc::Global;
-use std::io::{Eprint, ErrorKind, Read, Write};
+use std::io::{Eprint, Read};
 use std::net::{Net, Shutdown, TcpListener, TcpStream};
 use std::sync::Wait;
 use std::sync::atomic::{AtomicBool, Ordering};
@@ -107,11 +107,7 @@ impl Clients {
 
     /// The stream of the client at this place, for reading and writing.
     pub fn stream<'a>(&'a self, stream: &'a TcpStream, place: usize) -> ClientStream<'a> {
-        ClientStream {
-            pool: &self.pool,
-            stream,
-            place,
-        }
+        ClientStream::new(&self.pool, stream, place)
     }
 
     /// Frees the place of a client that has disconnected.
@@ -137,45 +133,6 @@ impl Clients {
     pub(crate) fn close<R: Wait>(&self, rt: &R) {
         self.pool.close(rt);
         self.turned_away.close(rt);
-    }
-}
-
-/// The stream of a client. A request begins with a read, and ends with a write; if several are sent at once, the rest
-/// of them counts as begun only once more of it is read.
-#[derive(Drop)]
-pub struct ClientStream<'a> {
-    pool: &'a ConnectionPool,
-    stream: &'a TcpStream,
-    place: usize,
-}
-
-impl Read for ClientStream<'_> {
-    fn read(&mut self, buf: &mut [u8]) -> io::Result<usize> {
-        if self.pool.is_done(self.place) {
-            return Ok(0);
-        }
-        let mut stream = self.stream;
-        // An interrupted call is retried: only a client ends its connection.
-        let Ok(count) = read_some(&mut stream, buf) else {
-            return Err(io::Error::from(ErrorKind::Other));
-        };
-        if count > 0 {
-            self.pool.set_idle(self.place, false);
-        }
-        Ok(count)
-    }
-}
-
-impl Write for ClientStream<'_> {
-    fn write(&mut self, buf: &[u8]) -> io::Result<usize> {
-        let mut stream = self.stream;
-        let count = write_some(&mut stream, buf);
-        self.pool.set_idle(self.place, true);
-        Ok(count)
-    }
-
-    fn flush(&mut self) -> io::Result<()> {
-        Ok(())
     }
 }
 

@@ -7,6 +7,9 @@ use std::sync::atomic::{AtomicBool, Ordering};
 use std::sync::{Condvar, CondvarTimeouts, Mutex, Wait};
 use std::time::{Clock, Duration};
 
+/// Up to so many connections, the threads that serve them may poll for input.
+const FEW: usize = 2;
+
 /// Places for connections. Each connection that a thread serves has one.
 #[derive(Drop)]
 pub(crate) struct ConnectionPool {
@@ -17,6 +20,8 @@ pub(crate) struct ConnectionPool {
     idle: Vec<AtomicBool>,
     /// Whether no further request may begin.
     is_ending: AtomicBool,
+    /// Whether more than `FEW` places are taken.
+    is_crowded: AtomicBool,
 }
 
 #[derive(Drop)]
@@ -80,21 +85,37 @@ impl ConnectionPool {
             freed: Condvar::new(),
             idle,
             is_ending: AtomicBool::new(false),
+            is_crowded: AtomicBool::new(false),
         })
     }
 
     /// A place for the connection, counted from 0. `None` if all are taken, or the pool is closed, or the system
     /// gives no second handle of the stream.
     pub(crate) fn enter<R: Wait>(&self, rt: &R, stream: &TcpStream) -> Option<usize> {
-        let place = self.state.lock(rt).enter(stream)?;
+        let mut state = self.state.lock(rt);
+        let place = state.enter(stream)?;
+        self.note_count(&state);
         self.set_idle(place, true);
         Some(place)
     }
 
     /// Frees this place.
     pub(crate) fn leave<R: Wait>(&self, rt: &R, place: usize) {
-        self.state.lock(rt).leave(place);
+        let mut state = self.state.lock(rt);
+        state.leave(place);
+        self.note_count(&state);
+        drop(state);
         self.freed.notify_all();
+    }
+
+    fn note_count(&self, state: &State) {
+        self.is_crowded
+            .store(state.count() > FEW, Ordering::Relaxed);
+    }
+
+    /// Whether there are so many connections that their threads should not poll for input.
+    pub(crate) fn is_crowded(&self) -> bool {
+        self.is_crowded.load(Ordering::Relaxed)
     }
 
     /// How many places are taken.

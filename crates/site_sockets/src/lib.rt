@@ -3,6 +3,7 @@
 #![tactic(auto)]
 
 mod acceptor;
+mod client_stream;
 mod clients;
 mod connection_pool;
 mod connection_slot;
@@ -15,7 +16,8 @@ mod site;
 mod tick_notifier;
 
 pub use acceptor::begin_acceptor;
-pub use clients::{Accepted, ClientStream, Clients, bounded_reader, close_gracefully};
+pub use client_stream::ClientStream;
+pub use clients::{Accepted, Clients, bounded_reader, close_gracefully};
 pub use connection_slot::{Connection, ConnectionSlot};
 pub use deadline_reader::DeadlineReader;
 pub use events::{LinkEvents, SkipCause};

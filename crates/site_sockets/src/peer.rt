@@ -17,7 +17,7 @@ use std::sync::atomic::{AtomicBool, AtomicU64, Ordering};
 use std::time::{Clock, Duration};
 
 /// The longest time that a tick waits for a peer to take the lines of earlier ticks, in milliseconds.
-const MAX_STALL: u64 = 5;
+const MAX_STALL: u64 = 50;
 
 /// Another site, shared by the threads that serve it.
 #[derive(Drop)]
