@@ -112,6 +112,21 @@ account_either false a b p q = q
 pub account_kept : (b : BookValue) → IsBook b → (j : ℕ) → IsAccount (account b j)
 account_kept b is j = account_either (eqb j b.me) b.own (peer b j).log is.own_account (is.accounts j)
 
+-- what a site is known to have gained, and what it is known to have given and spent
+abbrev pub gained : BookValue → ℕ → ℕ
+gained b j = (account b j).issued + (peer b j).gifts + (peer b j).given + (account b j).back
+
+abbrev pub parted : BookValue → ℕ → ℕ
+parted b j = (account b j).given + (account b j).spent
+
+pub known_bounds : (b : BookValue) → IsBook b → (j : ℕ) → (gained b j ≤ 1000000017000000000000000000) × (parted b j ≤ 2000000000000000000)
+known_bounds b is j =
+    let kept = account_kept b is j in
+    let bounds = bounded b is in (
+      omega (arith, kept.in_range, kept.issues, kept.takes_back, is.gifts_within j, bounds.applies, bounds.gives_to j),
+      omega (arith, kept.in_range, kept.gives, kept.spends),
+    )
+
 -- ---- moves of the book's own site
 
 -- the effect of the code: on the site's account, and on each peer
