@@ -1,6 +1,6 @@
 -- What an applier reports, from item to item.
 use Rattle.std.proofs.Common.{◌≡◌, ◌≢◌, ℕ, ◌+◌, ◌≤◌, Bool, true, false, true≢false, ◌==◌, List, [], ◌∷◌, ◌++◌, Option, Some, None, Result, Ok, Err, IfOk, IsSome, cond, nat_lt, refl, sym, ap, ◌∙◌, subst, arith, append-nil, append_assoc}
-use Rattle.std.proofs.lemmas.Bool.{eq-eqb, ltb-false}
+use Rattle.std.proofs.lemmas.Bool.{eq-eqb, ltb-false, or_parts}
 use Rattle.rights_types.specs.Entries.{EntryValue, own}
 use Rattle.rights_types.specs.Chains.{moves_of, IsChain}
 use Rattle.rights_types.specs.Rights.{to}
@@ -11,6 +11,7 @@ use Rattle.rights_protocol.specs.Retiring.{numbers_in}
 use Rattle.rights_book.specs.Books.{BookValue, peer}
 use Rattle.site_core.specs.Ledgers.{owed_by, TakingLeaves, ApplyKeeps}
 use Rattle.site_core.specs.Desks.{DeskValue}
+use Rattle.site_core.specs.Faults.{has_closed}
 use Rattle.site_core.specs.Calls.{DeskApplies}
 use Rattle.thread_parts.specs.declared.item.Item.TheVariants.{Entry, End}
 use Rattle.thread_parts.specs.Ends.{OutletValue}
@@ -69,7 +70,20 @@ module _ {G A : Type 0} where
       let last = chain_right chain.0 false 0 c.applied (e ∷ []) all in
       subst (λ o. IsChain o (c.applied ++ e ∷ [])) (sym last.1 ∙ same) all
 
-  -- it was applied
+  -- an applier that is not late drops nothing
+  pub not_dropping : (a : ApplierValue G A) (d : DeskValue) → is_late a d ≡ false → a.dropping ≡ false
+  not_dropping a d late = (or_parts a.dropping (has_closed d) late).0
+
+  abbrev pub moved_on : ApplierValue G A → ℕ → ℕ → ApplierValue G A
+  moved_on a n r = record a { hand = None; number = n; received = r }
+
+  -- the entry in hand was applied
+  pub applied_is : (id : DeskId) (a : ApplierValue G A) (e f : EntryValue) (n r : ℕ) → IsCounted id a → a.hand ≡ Some e → n ≡ own e → r ≡ a.received + to id.site e.moves
+      → a.hand ≡ Some f → moved_on a n r ≡ applied id a f
+  applied_is id a e f n r counted is number received held =
+      let of_entry : moved_on a n r ≡ applied id a e = λ i. record a { hand = None; number = number i; received = received i } in
+      of_entry ∙ ap (applied id a) (same_some e f (sym is ∙ held))
+
   pub counted_apply : (id : DeskId) (a : ApplierValue G A) (e : EntryValue) (n r : ℕ) → IsCounted id a → a.hand ≡ Some e → a.dropping ≡ false
       → e.origin ≡ a.origin → n ≡ own e → r ≡ a.received + to id.site e.moves → IsCounted id (record a { hand = None; number = n; received = r })
   counted_apply id a e n r c is free same last gift = record {

@@ -23,8 +23,8 @@ use Rattle.rights_book.specs.Leaves.{OwnLeaves, ApplyLeaves}
 use Rattle.rights_book.specs.declared.account.Account.{Account}
 use Rattle.transfer_manager.specs.declared.answer.AskAnswer.{AskAnswer}
 use Rattle.transfer_manager.specs.declared.answer.AskAnswer.TheVariants.{Grant as Granted, Deny, RepeatedDeny, Repeated, OldAsk}
-use Rattle.site_core.specs.Calls.{DeskAnswers, AnswerKeeps, next_push, published_if, after_publish, after_skip}
-use Rattle.site_core.specs.Ledgers.{LedgerValue, HasApplied, SameApplied, MoreApplied, owed_by, frontier_of, TakingLeaves, AppliesEntry, ApplyKeeps, closing_by}
+use Rattle.site_core.specs.Calls.{DeskServes, ServesFront, ServeKeeps, DeskAnswers, AnswerKeeps, next_push, published_if, after_publish, after_skip}
+use Rattle.site_core.specs.Ledgers.{LedgerValue, EntryKeeps, HasApplied, SameApplied, MoreApplied, owed_by, frontier_of, TakingLeaves, AppliesEntry, ApplyKeeps, closing_by}
 use Rattle.site_core.proofs.Protocol.{none_applied}
 use Rattle.site_core.specs.Desks.{DeskValue}
 use Rattle.thread_parts.specs.ShardedCounters.{ShardedCounterValue}
@@ -410,3 +410,17 @@ kept_answer id k d ask Deny number is a keeps = same_ledger id k d is (ap (λ (x
 kept_answer id k d ask RepeatedDeny number is a keeps = same_ledger id k d is (ap (λ (x : DeskValue). x.ledger) a.1)
 kept_answer id k d ask Repeated number is a keeps = same_ledger id k d is (ap (λ (x : DeskValue). x.ledger) a.1)
 kept_answer id k d ask OldAsk number is a keeps = same_ledger id k d is (ap (λ (x : DeskValue). x.ledger) a.1)
+
+-- the request at the front was served: its amount is what the desk spent with it
+pub record IsServed (old : DeskValue) (ticket number spent : ℕ) (new : DeskValue) : Type 0 where
+  pub serves : ServesFront old ticket number new
+  pub keeps : EntryKeeps old.ledger (Spend serves.amount ∷ []) new.ledger
+  pub amount : serves.amount ≡ spent
+
+pub served : (old new : DeskValue) (answer : Option (ℕ × ℕ)) (ticket number before after : ℕ) → DeskServes old answer new → ServeKeeps old answer new
+    → answer ≡ Some (ticket, number) → before ≡ old.ledger.book.own.spent → after ≡ new.ledger.book.own.spent → IsServed old ticket number (after - before) new
+served old new answer ticket number before after ok kept is b a =
+    let serves : ServesFront old ticket number new = subst (λ s. DeskServes old s new) is ok in
+    let all : ServeKeeps old (Some (ticket, number)) new = subst (λ s. ServeKeeps old s new) is kept in
+    let keeps = all serves.amount serves.deadline serves.front in
+    record { serves = serves; keeps = keeps; amount = omega (arith, keeps.leaves.spends, spent-spend serves.amount, b, a) }

@@ -17,8 +17,8 @@ use Rattle.entry_codec.specs.Spelling.{entry_fields}
 use Rattle.entry_codec.specs.Reading.{◌>>=◌, place, fault_if, value_at, other_site_at, listed_entry_of, entries_of, answer_sites_of, answer_entries_of, answer_of, has_entries}
 use Rattle.entry_codec.proofs.Cuts.{few_parts}
 use Rattle.entry_codec.proofs.MoveFields.{both_are}
-use Rattle.entry_codec.proofs.Entries.{bind_ok, ok_is, past, IsNoWant, bind_no_want, test_no_want, number_at_is, number_at_again, number_no_want, IsOf, entries_are, entries_again, entries_no_want}
-use Rattle.entry_codec.proofs.ShortMessages.{AreParts, alone, other_site_is, other_site_again, other_site_no_want}
+use Rattle.entry_codec.proofs.Entries.{bind_ok, ok_is, past, IsNoWant, bind_no_want, test_no_want, number_read, number_at_again, number_no_want, IsOf, entries_are, entries_again, entries_no_want}
+use Rattle.entry_codec.proofs.ShortMessages.{AreParts, alone, other_read, other_site_again, other_site_no_want}
 
 pub record AreSites (fields : List (List ℕ)) (sites : ℕ × ℕ) : Type 0 where
   pub fields-are : fields ≡ decimal sites.0 ∷ decimal sites.1 ∷ []
@@ -29,12 +29,15 @@ pub record AreSites (fields : List (List ℕ)) (sites : ℕ × ℕ) : Type 0 whe
 pub sites_are : (fields : List (List ℕ)) (sites : ℕ × ℕ) → answer_sites_of fields ≡ Ok sites → AreSites fields sites
 unfolding answer_sites_of
 sites_are fields sites h =
-    let a = bind_ok (value_at 1 16 (place 0 1) fields) _ sites h in
-    let b = bind_ok (other_site_at a.0.0 (place 0 2) a.0.1) _ sites a.2 in
-    let k = past TrailingBytes (not (length b.0.1 == 0)) _ sites b.2 in
-    let o = number_at_is 1 16 (place 0 1) fields a.0 a.1 in
-    let s = other_site_is a.0.0 (place 0 2) a.0.1 b.0 b.1 in
-    subst (AreSites fields) (ok_is (a.0.0, b.0.0) sites k.1) (record { fields-are = o.0 ∙ both_are refl (s.0 ∙ both_are refl (alone b.0.1 k.0)); origin = (o.1, o.2); asker = s.1; differ = s.2 })
+    let origin = number_read 1 16 (place 0 1) fields _ sites h in
+    let asker = other_read origin.number (place 0 2) origin.rest _ sites origin.later in
+    let k = past TrailingBytes (not (length asker.rest == 0)) _ sites asker.later in
+    subst (AreSites fields) (ok_is (origin.number, asker.number) sites k.1) (record {
+      fields-are = origin.is ∙ both_are refl (asker.is ∙ both_are refl (alone asker.rest k.0));
+      origin = origin.range;
+      asker = asker.range;
+      differ = asker.differ;
+    })
 
 pub record AreEntries (origin : ℕ) (parts : List (List (List ℕ))) (es : List EntryValue) : Type 0 where
   pub parts-are : parts ≡ map entry_fields es

@@ -14,7 +14,7 @@ use Rattle.rights_types.specs.Messages.{MessageValue, IsMessage}
 use Rattle.rights_types.specs.Messages.MessageValue.{AnEntry, AQuery, AnAnswer, ABeat, AnAsk, ADenial, AHello}
 use Rattle.entry_codec.specs.declared.fault.LineError.{LineError}
 use Rattle.entry_codec.specs.declared.fault.LineError.TheVariants.{TooLong, NoEnd, BadKind, BadField, BadMove, CountWrong, TrailingBytes, OutOfMemory}
-use Rattle.entry_codec.specs.Parts.{split_at, parts_in, left, ReadsAs, Gives}
+use Rattle.entry_codec.specs.Parts.{split_at, parts_in, left, parts_left, ReadsAs, Gives}
 use Rattle.entry_codec.specs.Spelling.{parts_of, part_text, text_of, line, Spells}
 use Rattle.entry_codec.specs.Pieces.{pieces, IsLine}
 use Rattle.entry_codec.specs.Reading.{fault_if, entry_of, push_of, answer_of, short_of, message_of, is_ended, reading, has_entries, WantsRoom}
@@ -81,6 +81,11 @@ message_again (AHello s) h = hello_short s h
 pub message_short : (letter : List ℕ) (fields : List (List ℕ)) (others : List (List (List ℕ))) → bytes_eq letter (codes "E") ≡ false → bytes_eq letter (codes "A") ≡ false → message_of ((letter ∷ fields) ∷ others) ≡ short_of letter fields others
 unfolding message_of
 message_short letter fields others a b = rw (a, b) refl
+
+-- the first part of a line, and its letter
+pub letter_first : (text first letter : List ℕ) (more rest : Option (Bor (List ℕ))) → split_at 59 text ≡ first ∷ left 59 more → split_at 32 first ≡ letter ∷ left 32 rest
+    → parts_in text ≡ (letter ∷ left 32 rest) ∷ parts_left more
+letter_first text first letter more rest whole part = ap (map (split_at 32)) whole ∙ both_are part refl
 
 pub message_push : (letter : List ℕ) (fields : List (List ℕ)) (others : List (List (List ℕ))) → bytes_eq letter (codes "E") ≡ true → message_of ((letter ∷ fields) ∷ others) ≡ push_of fields others
 unfolding message_of

@@ -53,6 +53,34 @@ only_is low high texts n h =
     let none : a.0.1 ≡ [] = nil_from_length a.0.1 (eqb-true (length a.0.1) 0 b.0) in
     (x.0 ∙ both_are (ap decimal b.1) none, omega (arith, x.1, b.1), omega (arith, x.2, b.1))
 
+-- a number was read, and then the rest
+record IsFirstRead (low high : ℕ) (texts : List (List ℕ)) (f : ℕ × List (List ℕ) → Option Move) (m : Move) : Type 0 where
+  number : ℕ
+  rest : List (List ℕ)
+  is : texts ≡ decimal number ∷ rest
+  range : (low ≤ number) × (number ≤ high)
+  later : f (number, rest) ≡ Some m
+
+first_read : (low high : ℕ) (texts : List (List ℕ)) (f : ℕ × List (List ℕ) → Option Move) (m : Move) → (first_number low high texts >>= f) ≡ Some m
+    → IsFirstRead low high texts f m
+first_read low high texts f m h =
+    let a = bind_some (first_number low high texts) f m h in
+    let n = first_is low high texts a.0 a.1 in
+    record { number = a.0.0; rest = a.0.1; is = n.0; range = (n.1, n.2); later = a.2 }
+
+-- the last number was read
+record IsLastRead (low high : ℕ) (texts : List (List ℕ)) (f : ℕ → Option Move) (m : Move) : Type 0 where
+  number : ℕ
+  is : texts ≡ decimal number ∷ []
+  range : (low ≤ number) × (number ≤ high)
+  later : f number ≡ Some m
+
+only_read : (low high : ℕ) (texts : List (List ℕ)) (f : ℕ → Option Move) (m : Move) → (only_number low high texts >>= f) ≡ Some m → IsLastRead low high texts f m
+only_read low high texts f m h =
+    let a = bind_some (only_number low high texts) f m h in
+    let n = only_is low high texts a.0 a.1 in
+    record { number = a.0; is = n.0; range = (n.1, n.2); later = a.2 }
+
 pub all_numbers_are : (texts : List (List ℕ)) (ns : List ℕ) → all_numbers texts ≡ Some ns → (texts ≡ map decimal ns) × All IsNumber ns
 unfolding all_numbers
 all_numbers_are [] ns h = subst (λ (ms : List ℕ). ([] ≡ map decimal ms) × All IsNumber ms) (same_Some [] ns h) (refl, All-nil IsNumber)
@@ -117,44 +145,35 @@ Spelled texts m = (texts ≡ move_values m) × IsMove m
 grant_is : (values : List (List ℕ)) (m : Move) → grant_in values ≡ Some m → Spelled (codes "G" ∷ values) m
 unfolding grant_in
 grant_is values m h =
-    let a = bind_some (first_number 1 16 values) _ m h in
-    let b = bind_some (first_number 1 1000000000 a.0.1) _ m a.2 in
-    let c = bind_some (only_number 1 1000000000 b.0.1) _ m b.2 in
-    let j = first_is 1 16 values a.0 a.1 in
-    let n = first_is 1 1000000000 a.0.1 b.0 b.1 in
-    let k = only_is 1 1000000000 b.0.1 c.0 c.1 in
-    subst (Spelled (codes "G" ∷ values)) (same_Some (Grant a.0.0 b.0.0 c.0) m c.2)
-    (both_are refl (j.0 ∙ both_are refl (n.0 ∙ both_are refl k.0)), ((j.1, j.2), (n.1, n.2), (k.1, k.2)))
+    let j = first_read 1 16 values _ m h in
+    let n = first_read 1 1000000000 j.rest _ m j.later in
+    let k = only_read 1 1000000000 n.rest _ m n.later in
+    subst (Spelled (codes "G" ∷ values)) (same_Some (Grant j.number n.number k.number) m k.later)
+    (both_are refl (j.is ∙ both_are refl (n.is ∙ both_are refl k.is)), (j.range, n.range, k.range))
 
 give_is : (values : List (List ℕ)) (m : Move) → give_in values ≡ Some m → Spelled (codes "R" ∷ values) m
 unfolding give_in
 give_is values m h =
-    let a = bind_some (first_number 1 16 values) _ m h in
-    let b = bind_some (only_number 1 1000000000 a.0.1) _ m a.2 in
-    let j = first_is 1 16 values a.0 a.1 in
-    let n = only_is 1 1000000000 a.0.1 b.0 b.1 in
-    subst (Spelled (codes "R" ∷ values)) (same_Some (Give a.0.0 b.0) m b.2) (both_are refl (j.0 ∙ both_are refl n.0), ((j.1, j.2), (n.1, n.2)))
+    let j = first_read 1 16 values _ m h in
+    let n = only_read 1 1000000000 j.rest _ m j.later in
+    subst (Spelled (codes "R" ∷ values)) (same_Some (Give j.number n.number) m n.later) (both_are refl (j.is ∙ both_are refl n.is), (j.range, n.range))
 
 take_back_is : (values : List (List ℕ)) (m : Move) → take_back_in values ≡ Some m → Spelled (codes "V" ∷ values) m
 unfolding take_back_in
 take_back_is values m h =
-    let a = bind_some (first_number 1 16 values) _ m h in
-    let b = bind_some (only_number 1 1000000000000000000 a.0.1) _ m a.2 in
-    let j = first_is 1 16 values a.0 a.1 in
-    let n = only_is 1 1000000000000000000 a.0.1 b.0 b.1 in
-    subst (Spelled (codes "V" ∷ values)) (same_Some (TakeBack a.0.0 b.0) m b.2) (both_are refl (j.0 ∙ both_are refl n.0), ((j.1, j.2), (n.1, n.2)))
+    let j = first_read 1 16 values _ m h in
+    let n = only_read 1 1000000000000000000 j.rest _ m j.later in
+    subst (Spelled (codes "V" ∷ values)) (same_Some (TakeBack j.number n.number) m n.later) (both_are refl (j.is ∙ both_are refl n.is), (j.range, n.range))
 
 issue_is : (values : List (List ℕ)) (m : Move) → (only_number 1 1000000000 values >>= λ n. Some (Issue n)) ≡ Some m → Spelled (codes "I" ∷ values) m
 issue_is values m h =
-    let a = bind_some (only_number 1 1000000000 values) (λ n. Some (Issue n)) m h in
-    let n = only_is 1 1000000000 values a.0 a.1 in
-    subst (Spelled (codes "I" ∷ values)) (same_Some (Issue a.0) m a.2) (both_are refl n.0, (n.1, n.2))
+    let n = only_read 1 1000000000 values (λ n. Some (Issue n)) m h in
+    subst (Spelled (codes "I" ∷ values)) (same_Some (Issue n.number) m n.later) (both_are refl n.is, n.range)
 
 spend_is : (values : List (List ℕ)) (m : Move) → (only_number 1 1000000000 values >>= λ n. Some (Spend n)) ≡ Some m → Spelled (codes "S" ∷ values) m
 spend_is values m h =
-    let a = bind_some (only_number 1 1000000000 values) (λ n. Some (Spend n)) m h in
-    let n = only_is 1 1000000000 values a.0 a.1 in
-    subst (Spelled (codes "S" ∷ values)) (same_Some (Spend a.0) m a.2) (both_are refl n.0, (n.1, n.2))
+    let n = only_read 1 1000000000 values (λ n. Some (Spend n)) m h in
+    subst (Spelled (codes "S" ∷ values)) (same_Some (Spend n.number) m n.later) (both_are refl n.is, n.range)
 
 close_is : (values : List (List ℕ)) (m : Move) → cond (length values == 0) (Some Close) None ≡ Some m → Spelled (codes "C" ∷ values) m
 close_is values m h =

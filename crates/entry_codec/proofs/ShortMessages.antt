@@ -14,9 +14,9 @@ use Rattle.entry_codec.specs.declared.fault.Place.{Place}
 use Rattle.entry_codec.specs.declared.fault.LineError.{LineError}
 use Rattle.entry_codec.specs.declared.fault.LineError.TheVariants.{BadField, TrailingBytes}
 use Rattle.entry_codec.specs.Spelling.{parts_of}
-use Rattle.entry_codec.specs.Reading.{place, fault_if, value_at, other_site_at, trails, query_of, beat_of, ask_of, denial_of, hello_of, short_of}
+use Rattle.entry_codec.specs.Reading.{◌>>=◌, place, fault_if, value_at, other_site_at, trails, query_of, beat_of, ask_of, denial_of, hello_of, short_of}
 use Rattle.entry_codec.proofs.MoveFields.{both_are, which}
-use Rattle.entry_codec.proofs.Entries.{bind_ok, ok_is, past, IsNoWant, bind_no_want, test_no_want, number_at_is, number_at_again, number_no_want}
+use Rattle.entry_codec.proofs.Entries.{bind_ok, ok_is, past, IsNoWant, bind_no_want, test_no_want, number_read, number_at_again, number_no_want}
 
 -- the parts are those of the message, which is within its limits
 abbrev pub AreParts : List (List (List ℕ)) → MessageValue → Type 0
@@ -29,6 +29,14 @@ none_left : (fields : List (List ℕ)) (others : List (List (List ℕ))) → tra
 none_left fields others h =
     let parts = or_parts (not (length fields == 0)) (not (length others == 0)) h in
     (alone fields parts.0, alone others parts.1)
+
+-- nothing was left
+end_read : {B : Type 0} (fields : List (List ℕ)) (others : List (List (List ℕ))) (f : Unit {0} → Result B LineError) (y : B)
+    → (fault_if TrailingBytes (trails fields others) >>= f) ≡ Ok y → (fields ≡ []) × (others ≡ []) × (f tt ≡ Ok y)
+end_read fields others f y h =
+    let k = past TrailingBytes (trails fields others) f y h in
+    let none = none_left fields others k.0 in
+    (none.0, none.1, k.1)
 
 trails_no_want : (fields : List (List ℕ)) (others : List (List (List ℕ))) → IsNoWant (fault_if TrailingBytes (trails fields others))
 trails_no_want fields others = test_no_want TrailingBytes (trails fields others) (λ same. absurd cc)
@@ -45,14 +53,30 @@ some_others (Some text) r h =
 
 -- ---- two sites that differ
 
-pub other_site_is : (other : ℕ) (at : Place) (fields : List (List ℕ)) (x : ℕ × List (List ℕ)) → other_site_at other at fields ≡ Ok x
+other_site_is : (other : ℕ) (at : Place) (fields : List (List ℕ)) (x : ℕ × List (List ℕ)) → other_site_at other at fields ≡ Ok x
     → (fields ≡ decimal x.0 ∷ x.1) × ((1 ≤ x.0) × (x.0 ≤ 16)) × (x.0 ≡ other → ⊥)
 unfolding other_site_at
 other_site_is other at fields x h =
-    let a = bind_ok (value_at 1 16 at fields) _ x h in
-    let b = past (BadField at) (a.0.0 == other) _ x a.2 in
-    let n = number_at_is 1 16 at fields a.0 a.1 in
-    subst (λ (y : ℕ × List (List ℕ)). (fields ≡ decimal y.0 ∷ y.1) × ((1 ≤ y.0) × (y.0 ≤ 16)) × (y.0 ≡ other → ⊥)) (ok_is a.0 x b.1) (n.0, (n.1, n.2), eqb-false a.0.0 other b.0)
+    let a = number_read 1 16 at fields _ x h in
+    let b = past (BadField at) (a.number == other) _ x a.later in
+    subst (λ (y : ℕ × List (List ℕ)). (fields ≡ decimal y.0 ∷ y.1) × ((1 ≤ y.0) × (y.0 ≤ 16)) × (y.0 ≡ other → ⊥)) (ok_is (a.number, a.rest) x b.1)
+    (a.is, a.range, eqb-false a.number other b.0)
+
+-- a site other than this one was read, and then the rest
+pub record IsOtherRead {B : Type 0} (other : ℕ) (fields : List (List ℕ)) (f : ℕ × List (List ℕ) → Result B LineError) (y : B) : Type 0 where
+  pub number : ℕ
+  pub rest : List (List ℕ)
+  pub is : fields ≡ decimal number ∷ rest
+  pub range : (1 ≤ number) × (number ≤ 16)
+  pub differ : number ≡ other → ⊥
+  pub later : f (number, rest) ≡ Ok y
+
+pub other_read : {B : Type 0} (other : ℕ) (at : Place) (fields : List (List ℕ)) (f : ℕ × List (List ℕ) → Result B LineError) (y : B)
+    → (other_site_at other at fields >>= f) ≡ Ok y → IsOtherRead other fields f y
+other_read other at fields f y h =
+    let a = bind_ok (other_site_at other at fields) f y h in
+    let n = other_site_is other at fields a.0 a.1 in
+    record { number = a.0.0; rest = a.0.1; is = n.0; range = n.1; differ = n.2; later = a.2 }
 
 pub other_site_again : (other : ℕ) (at : Place) (n : ℕ) (rest : List (List ℕ)) → (1 ≤ n) × (n ≤ 16) → (n ≡ other → ⊥) → other_site_at other at (decimal n ∷ rest) ≡ Ok (n, rest)
 unfolding other_site_at
@@ -69,77 +93,61 @@ other_site_no_want other at fields =
 query_is : (fields : List (List ℕ)) (others : List (List (List ℕ))) (m : MessageValue) → query_of fields others ≡ Ok m → AreParts ((codes "Q" ∷ fields) ∷ others) m
 unfolding query_of
 query_is fields others m h =
-    let a = bind_ok (value_at 1 16 (place 0 1) fields) _ m h in
-    let b = bind_ok (other_site_at a.0.0 (place 0 2) a.0.1) _ m a.2 in
-    let c = bind_ok (value_at 0 1000000000 (place 0 3) b.0.1) _ m b.2 in
-    let d = bind_ok (value_at 0 1000000000 (place 0 4) c.0.1) _ m c.2 in
-    let k = past TrailingBytes (trails d.0.1 others) _ m d.2 in
-    let none = none_left d.0.1 others k.0 in
-    let s = number_at_is 1 16 (place 0 1) fields a.0 a.1 in
-    let o = other_site_is a.0.0 (place 0 2) a.0.1 b.0 b.1 in
-    let f = number_at_is 0 1000000000 (place 0 3) b.0.1 c.0 c.1 in
-    let l = number_at_is 0 1000000000 (place 0 4) c.0.1 d.0 d.1 in
-    let made : QueryValue = record { asker = a.0.0; origin = b.0.0; first = c.0.0; last = d.0.0 } in
-    subst (AreParts ((codes "Q" ∷ fields) ∷ others)) (ok_is (AQuery made) m k.1) (
-      both_are (both_are refl (s.0 ∙ both_are refl (o.0 ∙ both_are refl (f.0 ∙ both_are refl (l.0 ∙ both_are refl none.0))))) none.1,
-      record { asker = (s.1, s.2); origin = o.1; first = f.2; last = l.2; differ = o.2 },
+    let asker = number_read 1 16 (place 0 1) fields _ m h in
+    let origin = other_read asker.number (place 0 2) asker.rest _ m asker.later in
+    let first = number_read 0 1000000000 (place 0 3) origin.rest _ m origin.later in
+    let last = number_read 0 1000000000 (place 0 4) first.rest _ m first.later in
+    let end = end_read last.rest others _ m last.later in
+    let made : QueryValue = record { asker = asker.number; origin = origin.number; first = first.number; last = last.number } in
+    subst (AreParts ((codes "Q" ∷ fields) ∷ others)) (ok_is (AQuery made) m end.2) (
+      both_are (both_are refl (asker.is ∙ both_are refl (origin.is ∙ both_are refl (first.is ∙ both_are refl (last.is ∙ both_are refl end.0))))) end.1,
+      record { asker = asker.range; origin = origin.range; first = first.range.1; last = last.range.1; differ = origin.differ },
     )
 
 beat_is : (fields : List (List ℕ)) (others : List (List (List ℕ))) (m : MessageValue) → beat_of fields others ≡ Ok m → AreParts ((codes "B" ∷ fields) ∷ others) m
 unfolding beat_of
 beat_is fields others m h =
-    let a = bind_ok (value_at 1 16 (place 0 1) fields) _ m h in
-    let b = bind_ok (value_at 0 1000000000 (place 0 2) a.0.1) _ m a.2 in
-    let k = past TrailingBytes (trails b.0.1 others) _ m b.2 in
-    let none = none_left b.0.1 others k.0 in
-    let o = number_at_is 1 16 (place 0 1) fields a.0 a.1 in
-    let n = number_at_is 0 1000000000 (place 0 2) a.0.1 b.0 b.1 in
-    let made : BeatValue = record { origin = a.0.0; number = b.0.0 } in
-    subst (AreParts ((codes "B" ∷ fields) ∷ others)) (ok_is (ABeat made) m k.1)
-    (both_are (both_are refl (o.0 ∙ both_are refl (n.0 ∙ both_are refl none.0))) none.1, record { origin = (o.1, o.2); number = n.2 })
+    let origin = number_read 1 16 (place 0 1) fields _ m h in
+    let number = number_read 0 1000000000 (place 0 2) origin.rest _ m origin.later in
+    let end = end_read number.rest others _ m number.later in
+    let made : BeatValue = record { origin = origin.number; number = number.number } in
+    subst (AreParts ((codes "B" ∷ fields) ∷ others)) (ok_is (ABeat made) m end.2)
+    (both_are (both_are refl (origin.is ∙ both_are refl (number.is ∙ both_are refl end.0))) end.1, record { origin = origin.range; number = number.range.1 })
 
 ask_is : (fields : List (List ℕ)) (others : List (List (List ℕ))) (m : MessageValue) → ask_of fields others ≡ Ok m → AreParts ((codes "W" ∷ fields) ∷ others) m
 unfolding ask_of
 ask_is fields others m h =
-    let a = bind_ok (value_at 1 16 (place 0 1) fields) _ m h in
-    let b = bind_ok (other_site_at a.0.0 (place 0 2) a.0.1) _ m a.2 in
-    let c = bind_ok (value_at 1 1000000000 (place 0 3) b.0.1) _ m b.2 in
-    let d = bind_ok (value_at 1 1000000000 (place 0 4) c.0.1) _ m c.2 in
-    let k = past TrailingBytes (trails d.0.1 others) _ m d.2 in
-    let none = none_left d.0.1 others k.0 in
-    let o = number_at_is 1 16 (place 0 1) fields a.0 a.1 in
-    let j = other_site_is a.0.0 (place 0 2) a.0.1 b.0 b.1 in
-    let n = number_at_is 1 1000000000 (place 0 3) b.0.1 c.0 c.1 in
-    let r = number_at_is 1 1000000000 (place 0 4) c.0.1 d.0 d.1 in
-    let made : AskValue = record { asker = a.0.0; asked = b.0.0; ask = c.0.0; amount = d.0.0 } in
-    subst (AreParts ((codes "W" ∷ fields) ∷ others)) (ok_is (AnAsk made) m k.1) (
-      both_are (both_are refl (o.0 ∙ both_are refl (j.0 ∙ both_are refl (n.0 ∙ both_are refl (r.0 ∙ both_are refl none.0))))) none.1,
-      record { asker = (o.1, o.2); asked = j.1; differ = j.2; ask = (n.1, n.2); amount = (r.1, r.2) },
+    let asker = number_read 1 16 (place 0 1) fields _ m h in
+    let asked = other_read asker.number (place 0 2) asker.rest _ m asker.later in
+    let ask = number_read 1 1000000000 (place 0 3) asked.rest _ m asked.later in
+    let amount = number_read 1 1000000000 (place 0 4) ask.rest _ m ask.later in
+    let end = end_read amount.rest others _ m amount.later in
+    let made : AskValue = record { asker = asker.number; asked = asked.number; ask = ask.number; amount = amount.number } in
+    subst (AreParts ((codes "W" ∷ fields) ∷ others)) (ok_is (AnAsk made) m end.2) (
+      both_are (both_are refl (asker.is ∙ both_are refl (asked.is ∙ both_are refl (ask.is ∙ both_are refl (amount.is ∙ both_are refl end.0))))) end.1,
+      record { asker = asker.range; asked = asked.range; differ = asked.differ; ask = ask.range; amount = amount.range },
     )
 
 denial_is : (fields : List (List ℕ)) (others : List (List (List ℕ))) (m : MessageValue) → denial_of fields others ≡ Ok m → AreParts ((codes "D" ∷ fields) ∷ others) m
 unfolding denial_of
 denial_is fields others m h =
-    let a = bind_ok (value_at 1 16 (place 0 1) fields) _ m h in
-    let b = bind_ok (other_site_at a.0.0 (place 0 2) a.0.1) _ m a.2 in
-    let c = bind_ok (value_at 1 1000000000 (place 0 3) b.0.1) _ m b.2 in
-    let k = past TrailingBytes (trails c.0.1 others) _ m c.2 in
-    let none = none_left c.0.1 others k.0 in
-    let o = number_at_is 1 16 (place 0 1) fields a.0 a.1 in
-    let j = other_site_is a.0.0 (place 0 2) a.0.1 b.0 b.1 in
-    let n = number_at_is 1 1000000000 (place 0 3) b.0.1 c.0 c.1 in
-    let made : DenyValue = record { denier = a.0.0; asker = b.0.0; ask = c.0.0 } in
-    subst (AreParts ((codes "D" ∷ fields) ∷ others)) (ok_is (ADenial made) m k.1)
-    (both_are (both_are refl (o.0 ∙ both_are refl (j.0 ∙ both_are refl (n.0 ∙ both_are refl none.0)))) none.1, record { denier = (o.1, o.2); asker = j.1; differ = j.2; ask = (n.1, n.2) })
+    let denier = number_read 1 16 (place 0 1) fields _ m h in
+    let asker = other_read denier.number (place 0 2) denier.rest _ m denier.later in
+    let ask = number_read 1 1000000000 (place 0 3) asker.rest _ m asker.later in
+    let end = end_read ask.rest others _ m ask.later in
+    let made : DenyValue = record { denier = denier.number; asker = asker.number; ask = ask.number } in
+    subst (AreParts ((codes "D" ∷ fields) ∷ others)) (ok_is (ADenial made) m end.2) (
+      both_are (both_are refl (denier.is ∙ both_are refl (asker.is ∙ both_are refl (ask.is ∙ both_are refl end.0)))) end.1,
+      record { denier = denier.range; asker = asker.range; differ = asker.differ; ask = ask.range },
+    )
 
 hello_is : (fields : List (List ℕ)) (others : List (List (List ℕ))) (m : MessageValue) → hello_of fields others ≡ Ok m → AreParts ((codes "H" ∷ fields) ∷ others) m
 unfolding hello_of
 hello_is fields others m h =
-    let a = bind_ok (value_at 1 16 (place 0 1) fields) _ m h in
-    let k = past TrailingBytes (trails a.0.1 others) _ m a.2 in
-    let none = none_left a.0.1 others k.0 in
-    let s = number_at_is 1 16 (place 0 1) fields a.0 a.1 in
-    subst (AreParts ((codes "H" ∷ fields) ∷ others)) (ok_is (AHello a.0.0) m k.1) (both_are (both_are refl (s.0 ∙ both_are refl none.0)) none.1, (s.1, s.2))
+    let site = number_read 1 16 (place 0 1) fields _ m h in
+    let end = end_read site.rest others _ m site.later in
+    subst (AreParts ((codes "H" ∷ fields) ∷ others)) (ok_is (AHello site.number) m end.2)
+    (both_are (both_are refl (site.is ∙ both_are refl end.0)) end.1, site.range)
 
 -- the letter is the one that was tested
 pub with_letter : (letter text : List ℕ) (fields : List (List ℕ)) (others : List (List (List ℕ))) (m : MessageValue) → bytes_eq letter text ≡ true → AreParts ((text ∷ fields) ∷ others) m → AreParts ((letter ∷ fields) ∷ others) m

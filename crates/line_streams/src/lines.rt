@@ -47,6 +47,20 @@ fn keep<A: Allocator>(carry: &mut Vec<u8, A>, bytes: &[u8]) -> Result<(), OutOfM
     Ok(())
 }
 
+/// Counts one more. `TooManyLines` if the count reaches the limit.
+fn count_one(count: &mut u64) -> Result<(), ConversationError>
+    requires { count.old < LINE_LIMIT }
+    ensures more { count.new ≡ count.old + 1 }
+    ensures few { OnOk result (count.new < LINE_LIMIT) }
+    ensures many { IfErr result (λ fault. (fault ≡ ConversationError.TooManyLines) × (count.new ≡ LINE_LIMIT)) }
+{
+    *count += 1;
+    if *count == LINE_LIMIT {
+        return Err(ConversationError::TooManyLines);
+    }
+    Ok(())
+}
+
 /// The text of a line as a handler gets it, or None if the line is too long. `text` has at least its first `MAX_LINE`
 /// bytes.
 fn within_limit(text: &[u8]) -> Option<&[u8]>
@@ -111,18 +125,12 @@ impl<A: Allocator> Conversation<A> {
                 return Ok(Goes::Ends);
             }
             at += length + 1;
-            self.count += 1;
-            if self.count == LINE_LIMIT {
-                return Err(ConversationError::TooManyLines);
-            }
+            count_one(&mut self.count)?;
             self.replies.pass_on(writer)?;
         }
         keep(&mut self.carry, &bytes[at..])?;
         if at == 0 && !bytes.is_empty() {
-            self.count += 1;
-            if self.count == LINE_LIMIT {
-                return Err(ConversationError::TooManyLines);
-            }
+            count_one(&mut self.count)?;
         }
         Ok(Goes::On)
     }

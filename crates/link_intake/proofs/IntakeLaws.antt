@@ -402,14 +402,18 @@ module _ {A : Type 0} where
         ended = p.1 ∙ ap (λ b. closed_from b ready) s.ended ∙ sym (closed_from-append false d ready);
       }
 
-  -- an arrival was taken in, all of it or a front
+  -- an arrival was taken in: all that became ready was put, or a front of it
+  abbrev pub IsTakenIn : IntakeValue A → Arrival A → Result Arrived IntakeError → IntakeValue A → Type 0
+  IsTakenIn i a r j =
+      IfOk r (λ arrived. (arrived ≡ arrived_of a) × PutsAll i.inlet.put i.ended (ready_of a) j.ended j.inlet)
+      × IfErr r (λ fault. (fault ≡ LaneClosed) × PutsFront i.inlet.put (ready_of a) j.ended j.inlet)
+
   pub sends_arrival : (o : ℕ) (d : List EntryValue) (i j : IntakeValue A) (a : Arrival A) (r : Result Arrived IntakeError) → Sends d i
       → i.inlet.dead ≡ false → i.finished ≡ false → IsChain o (d ++ ready_of a)
-      → IfOk r (λ arrived. (arrived ≡ arrived_of a) × PutsAll i.inlet.put i.ended (ready_of a) j.ended j.inlet)
-      → IfErr r (λ fault. (fault ≡ LaneClosed) × PutsFront i.inlet.put (ready_of a) j.ended j.inlet) → Sends (d ++ ready_of a) j
-  sends_arrival o d i j a (Ok arrived) s live going chain ok err =
-      sends_all (d ++ ready_of a) j (in_step_after o d (ready_of a) i j (in_step d i s live going) chain ok.1)
-  sends_arrival o d i j a (Err fault) s live going chain ok err = sends_front d (ready_of a) i j (in_step d i s live going) err.1
+      → IsTakenIn i a r j → Sends (d ++ ready_of a) j
+  sends_arrival o d i j a (Ok arrived) s live going chain taken =
+      sends_all (d ++ ready_of a) j (in_step_after o d (ready_of a) i j (in_step d i s live going) chain taken.0.1)
+  sends_arrival o d i j a (Err fault) s live going chain taken = sends_front d (ready_of a) i j (in_step d i s live going) taken.1.1
 
   -- a dead intake puts nothing
   pub finds_closed : (i : IntakeValue A) (read : Result MessageValue LineError) (m : MessageValue) (arrival : Arrival A) (new : InboundValue)
@@ -434,14 +438,13 @@ module _ {A : Type 0} where
   -- what is left of it
   pub still_intake : (i j : IntakeValue A) (m : MessageValue) (a : Arrival A) (r : Result Arrived IntakeError) → IsIntake i → i.inlet.dead ≡ false
       → i.finished ≡ false → Arrives i.inbound m a j.inbound
-      → IfOk r (λ arrived. (arrived ≡ arrived_of a) × PutsAll i.inlet.put i.ended (ready_of a) j.ended j.inlet)
-      → IfErr r (λ fault. (fault ≡ LaneClosed) × PutsFront i.inlet.put (ready_of a) j.ended j.inlet) → IsIntake j
-  still_intake i j m a r is live going x ok err =
+      → IsTakenIn i a r j → IsIntake j
+  still_intake i j m a r is live going x taken =
       let h = delivers i.inbound is.delivered m a j.inbound is.of_buffer x in
       record {
         delivered = is.delivered ++ ready_of a;
         of_buffer = h;
-        sends = sends_arrival j.inbound.buffer.origin is.delivered i j a r is.sends live going h.chain ok err;
+        sends = sends_arrival j.inbound.buffer.origin is.delivered i j a r is.sends live going h.chain taken;
       }
 
   pub dead_intake : (i : IntakeValue A) (m : MessageValue) (a : Arrival A) (new : InboundValue) → IsIntake i → Arrives i.inbound m a new
@@ -454,8 +457,7 @@ module _ {A : Type 0} where
 
   -- what that says of the line
   pub line_leaves : (i j : IntakeValue A) (read : Result MessageValue LineError) (a : Arrival A) (r : Result Arrived IntakeError) → Brings i read a j
-      → IfOk r (λ arrived. (arrived ≡ arrived_of a) × PutsAll i.inlet.put i.ended (ready_of a) j.ended j.inlet)
-      → IfErr r (λ fault. (fault ≡ LaneClosed) × PutsFront i.inlet.put (ready_of a) j.ended j.inlet) → LineLeaves i read r j
-  line_leaves i j read a (Ok arrived) b ok err = (a, b, ok.0, ok.1.0, ok.1.2)
-  line_leaves i j read a (Err LaneClosed) b ok err = let f = err.1 in (a, b, f.0, f.1, f.2, f.3, f.4)
-  line_leaves i j read a (Err (Inbound x)) b ok err = absurd (let is = err.0 in cc)
+      → IsTakenIn i a r j → LineLeaves i read r j
+  line_leaves i j read a (Ok arrived) b taken = let all = taken.0 in (a, b, all.0, all.1.0, all.1.2)
+  line_leaves i j read a (Err LaneClosed) b taken = let f = taken.1.1 in (a, b, f.0, f.1, f.2, f.3, f.4)
+  line_leaves i j read a (Err (Inbound x)) b taken = absurd (let is = taken.1.0 in cc)

@@ -1,5 +1,5 @@
 -- What of its origin's log reached an intake, by the lines that came.
-use Rattle.std.proofs.Common.{◌≡◌, Bool, true, false, List, [], ◌∷◌, ◌++◌, Option, Result, Ok, IfOk, IfErr, refl, sym, ap, ◌∙◌, subst, append-nil, append_assoc}
+use Rattle.std.proofs.Common.{◌≡◌, Bool, true, false, List, [], ◌∷◌, ◌++◌, Option, Result, Ok, refl, sym, ap, ◌∙◌, subst, append-nil, append_assoc}
 use Rattle.std.specs.List.{All, Contains}
 use Rattle.std.proofs.lemmas.List.Elements.{All-nil, All-cons, All-head, All-tail, All-append, All-contains_itself, Contains-append_right}
 use Rattle.rights_types.specs.Entries.{EntryValue}
@@ -19,9 +19,8 @@ use Rattle.site_core.specs.declared.inbound.Arrival.{Arrival}
 use Rattle.site_core.specs.declared.inbound.Arrival.TheVariants.{Entries, Beat, Query, Ask, Deny, Hello}
 use Rattle.link_intake.specs.declared.intake.Arrived.{Arrived}
 use Rattle.link_intake.specs.declared.intake.IntakeError.{IntakeError}
-use Rattle.link_intake.specs.declared.intake.IntakeError.TheVariants.{LaneClosed}
-use Rattle.link_intake.specs.Intakes.{IntakeValue, Receives, ReceivesMore, PutsAll, PutsFront, entries_read, ready_of, arrived_of}
-use Rattle.link_intake.proofs.IntakeLaws.{ready-append, none_sent, sends_none, sends_arrival}
+use Rattle.link_intake.specs.Intakes.{IntakeValue, Receives, ReceivesMore, entries_read, ready_of}
+use Rattle.link_intake.proofs.IntakeLaws.{ready-append, none_sent, sends_none, sends_arrival, IsTakenIn}
 
 -- ---- entries that came
 
@@ -152,11 +151,9 @@ module _ {A : Type 0} where
 
   pub receives_arrival : (log reached : List EntryValue) (i j : IntakeValue A) (read : Result MessageValue LineError) (m : MessageValue) (a : Arrival A)
       (r : Result Arrived IntakeError) → Receives log reached i → All (Contains log) (entries_read read) → read ≡ Ok m → i.inlet.dead ≡ false
-      → i.finished ≡ false → Arrives i.inbound m a j.inbound
-      → IfOk r (λ arrived. (arrived ≡ arrived_of a) × PutsAll i.inlet.put i.ended (ready_of a) j.ended j.inlet)
-      → IfErr r (λ fault. (fault ≡ LaneClosed) × PutsFront i.inlet.put (ready_of a) j.ended j.inlet)
+      → i.finished ≡ false → Arrives i.inbound m a j.inbound → IsTakenIn i a r j
       → ReceivesMore log reached (entries_read read) j
-  receives_arrival log reached i j read m a r h all is live going x ok err =
+  receives_arrival log reached i j read m a r h all is live going x taken =
       let d : List EntryValue = h.delivered in
       by_read log reached j read m is all
       (λ of_log.
@@ -167,7 +164,7 @@ module _ {A : Type 0} where
           delivered = d ++ ready_of a;
           follows = goes.2.follows;
           longest = goes.2.longest;
-          sends = sends_arrival j.inbound.buffer.origin d i j a r h.sends live going goes.2.follows.has_put.chain ok err;
+          sends = sends_arrival j.inbound.buffer.origin d i j a r h.sends live going goes.2.follows.has_put.chain taken;
         },
       )))
 

@@ -1,5 +1,5 @@
 -- The pieces of a stream, returned as they end.
-use Rattle.std.proofs.Common.{◌≡◌, ℕ, ◌+◌, ◌-◌, ◌<◌, ◌≤◌, Bool, true, false, cond, List, [], ◌∷◌, ◌++◌, length, take, get_or, Option, Some, None, Result, Ok, Err, OnErr, IfSome, IfNone, IsTrue, ◌↔◌, refl, sym, ap, subst, ◌∙◌, arith, append-nil, length-append, length-take, get_or-take}
+use Rattle.std.proofs.Common.{◌≡◌, ℕ, ◌+◌, ◌-◌, ◌<◌, Bool, true, false, cond, List, [], ◌∷◌, ◌++◌, length, take, get_or, Option, Some, None, Result, Ok, Err, OnErr, IfSome, IfNone, IsTrue, ◌↔◌, refl, sym, ap, subst, ◌∙◌, arith, append-nil, length-append, length-take, get_or-take}
 use Rattle.std.specs.Io.BufRead.{take_through}
 use Rattle.std.proofs.lemmas.Bool.{eqb-true, eq-eqb}
 use Rattle.std.proofs.lemmas.List.{take_all, take_more}
@@ -80,6 +80,10 @@ fed_kept c stream text piece empty h =
     (subst (IsFed c (stream ++ text)) (sym same) h, same)
 
 -- ---- the next piece
+
+pub is_none : {X P : Type 0} (o : Option X) → ((x : X) → o ≡ Some x → ⊥) → IfNone o P → P
+is_none (Some x) other h = absurd (other x refl)
+is_none None other h = h
 
 pub none_is : {X P : Type 0} (o : Option X) → o ≡ None → IfNone o P → P
 none_is (Some x) e h = absurd cc

@@ -69,52 +69,52 @@ pub on_ok : {X E P : Type 0} (r : Result X E) → P → OnOk r P
 on_ok (Ok x) p = p
 on_ok (Err e) p = tt
 
-pub is_none : {X P : Type 0} (o : Option X) → ((x : X) → o ≡ Some x → ⊥) → IfNone o P → P
-is_none (Some x) other h = absurd (other x refl)
-is_none None other h = h
-
 one_ended : {A : Type 0} (o : Option (Piece A)) (p : Piece A) (ended : List (List ℕ)) → o ≡ Some p → IsGivenFor o ended → length ended ≡ 1
 one_ended {A} o p ended is h =
     let h' : IsGivenFor (Some p) ended = subst (λ (o : Option (Piece A)). IsGivenFor o ended) is h in
     ap length h'.2
 
-none_ended : {A : Type 0} (o : Option (Piece A)) (ended : List (List ℕ)) → ((p : Piece A) → o ≡ Some p → ⊥) → IsGivenFor o ended → length ended ≡ 0
+pub none_ended : {A : Type 0} (o : Option (Piece A)) (ended : List (List ℕ)) → ((p : Piece A) → o ≡ Some p → ⊥) → IsGivenFor o ended → ended ≡ []
 none_ended (Some p) ended other h = absurd (other p refl)
-none_ended None ended other h = ap length h
+none_ended None ended other h = h
 
 -- the bytes up to an offset were taken, and then the next ones
-module _ (bytes rest : List ℕ) (at n : ℕ) (e : rest ≡ drop at bytes) (old mid new : CutterView)
-    (before : (stream : List ℕ) → IsFedAll old stream → IsFedAll mid (stream ++ take at bytes)) where
-  more : take (at + n) bytes ≡ take at bytes ++ take n rest
-  more = take_both at n bytes ∙ ap (λ (l : List ℕ). take at bytes ++ take n l) (sym e)
+module _ (bytes rest : List ℕ) (at n : ℕ) (e : rest ≡ drop at bytes) where
+  pub next_taken : take (at + n) bytes ≡ take at bytes ++ take n rest
+  next_taken = take_both at n bytes ∙ ap (λ (l : List ℕ). take at bytes ++ take n l) (sym e)
 
-  pub fed_more : ((stream : List ℕ) → IsFedAll mid stream → IsFedAll new (stream ++ take n rest)) → (stream : List ℕ) → IsFedAll old stream → IsFedAll new (stream ++ take (at + n) bytes)
-  fed_more next stream h =
-      subst (IsFedAll new) (append_assoc stream (take at bytes) (take n rest) ∙ ap (λ (l : List ℕ). stream ++ l) (sym more)) (next (stream ++ take at bytes) (before stream h))
+  -- all of them, if no piece ended
+  pub all_taken : {A : Type 0} (o : Option (Piece A)) → ((p : Piece A) → o ≡ Some p → ⊥) → IfNone o (n ≡ length rest) → at ≤ length bytes → take (at + n) bytes ≡ bytes
+  all_taken (Some p) other all within = absurd (other p refl)
+  all_taken None other all within = take_all (at + n) bytes (omega (arith, all, ap length e, length-drop at bytes, within))
 
-  -- so all were taken
-  pub fed_all : n ≡ length rest → at ≤ length bytes → ((stream : List ℕ) → IsFedAll mid stream → IsFedAll new (stream ++ take n rest)) → (stream : List ℕ) → IsFedAll old stream → IsFedAll new (stream ++ bytes)
-  fed_all all within next stream h =
-      let whole : take (at + n) bytes ≡ bytes = take_all (at + n) bytes (omega (arith, all, ap length e, length-drop at bytes, within)) in
-      subst (λ (l : List ℕ). IsFedAll new (stream ++ l)) whole (fed_more next stream h)
+  module _ (old mid : CutterView) (before : (stream : List ℕ) → IsFedAll old stream → IsFedAll mid (stream ++ take at bytes)) where
+    pub fed_more : (new : CutterView) → ((stream : List ℕ) → IsFedAll mid stream → IsFedAll new (stream ++ take n rest)) → (stream : List ℕ) → IsFedAll old stream
+        → IsFedAll new (stream ++ take (at + n) bytes)
+    fed_more new next stream h =
+        subst (IsFedAll new) (append_assoc stream (take at bytes) (take n rest) ∙ ap (λ (l : List ℕ). stream ++ l) (sym next_taken)) (next (stream ++ take at bytes) (before stream h))
 
-  module _ {A : Type 0} (o : Option (Piece A)) (stream : List ℕ) (h : IsFedAll old stream)
-      (given : (stream : List ℕ) → IsFedAll mid stream → (ended : List (List ℕ)) × IsGivenFor o ended × (pieces (stream ++ take n rest) ≡ pieces stream ++ ended)) where
-    ended : (ended : List (List ℕ)) × IsGivenFor o ended × (length (pieces (take (at + n) bytes)) ≡ length (pieces (take at bytes)) + length ended)
-    ended =
-        let front : List ℕ = stream ++ take at bytes in
-        let g = given front (before stream h) in
-        let both = ap length g.2 in
-        let split = ap (λ (l : List ℕ). length (pieces l)) more in
-        (g.0, g.1, omega (arith, both, split, lines_both front (take n rest), lines_both (take at bytes) (take n rest), length-append (pieces front) g.0))
+    pub fed_all : {A : Type 0} (o : Option (Piece A)) → ((p : Piece A) → o ≡ Some p → ⊥) → IfNone o (n ≡ length rest) → at ≤ length bytes
+        → (new : CutterView) → ((stream : List ℕ) → IsFedAll mid stream → IsFedAll new (stream ++ take n rest)) → (stream : List ℕ) → IsFedAll old stream → IsFedAll new (stream ++ bytes)
+    fed_all o other all within new next stream h =
+        subst (λ (l : List ℕ). IsFedAll new (stream ++ l)) (all_taken o other all within) (fed_more new next stream h)
 
-    pub one_line : (p : Piece A) → o ≡ Some p → length (pieces (take (at + n) bytes)) ≡ length (pieces (take at bytes)) + 1
-    one_line p is = omega (arith, ended.2, one_ended o p ended.0 is ended.1)
+    module _ {A : Type 0} (o : Option (Piece A)) (fed : (stream : List ℕ) × IsFedAll old stream)
+        (given : (stream : List ℕ) → IsFedAll mid stream → (ended : List (List ℕ)) × IsGivenFor o ended × (pieces (stream ++ take n rest) ≡ pieces stream ++ ended)) where
+      ended : (ended : List (List ℕ)) × IsGivenFor o ended × (length (pieces (take (at + n) bytes)) ≡ length (pieces (take at bytes)) + length ended)
+      ended =
+          let front : List ℕ = fed.0 ++ take at bytes in
+          let g = given front (before fed.0 fed.1) in
+          let both = ap length g.2 in
+          let split = ap (λ (l : List ℕ). length (pieces l)) next_taken in
+          (g.0, g.1, omega (arith, both, split, lines_both front (take n rest), lines_both (take at bytes) (take n rest), length-append (pieces front) g.0))
 
-    pub no_line : ((p : Piece A) → o ≡ Some p → ⊥) → n ≡ length rest → at ≤ length bytes → length (pieces bytes) ≡ length (pieces (take at bytes))
-    no_line other all within =
-        let whole : take (at + n) bytes ≡ bytes = take_all (at + n) bytes (omega (arith, all, ap length e, length-drop at bytes, within)) in
-        omega (arith, ended.2, none_ended o ended.0 other ended.1, ap (λ (l : List ℕ). length (pieces l)) whole)
+      pub one_line : (p : Piece A) → o ≡ Some p → length (pieces (take (at + n) bytes)) ≡ length (pieces (take at bytes)) + 1
+      one_line p is = omega (arith, ended.2, one_ended o p ended.0 is ended.1)
+
+      pub no_line : ((p : Piece A) → o ≡ Some p → ⊥) → IfNone o (n ≡ length rest) → at ≤ length bytes → length (pieces bytes) ≡ length (pieces (take at bytes))
+      no_line other all within =
+          omega (arith, ended.2, ap length (none_ended o ended.0 other ended.1), ap (λ (l : List ℕ). length (pieces l)) (all_taken o other all within))
 
 -- a line that queries the gap
 asks : {X : Type 0} (q : Option QueryValue) (line : Vec ℕ X) → LineOf (λ (l : Vec ℕ X). l.items) (option_map (λ x. AQuery x) q) (Some line) → IsLine line.items

@@ -1,7 +1,7 @@
 -- The effect of the lines of a connection, one after another.
-use Rattle.std.proofs.Common.{◌≡◌, ◌≢◌, ℕ, ◌+◌, ◌≤◌, Bool, List, [], ◌∷◌, ◌++◌, length, take, drop, Vec, Option, Some, None, Result, Ok, Err, IfErr, refl, sym, ap, subst, ◌∙◌, arith, inl, inr, append-nil, append_assoc, length-append, length-drop}
+use Rattle.std.proofs.Common.{◌≡◌, ◌≢◌, ℕ, ◌+◌, ◌≤◌, Bool, List, [], ◌∷◌, ◌++◌, length, take, drop, Vec, Option, Some, None, Result, Ok, Err, IfErr, IfNone, refl, sym, ap, subst, ◌∙◌, arith, inl, inr, append-nil, append_assoc, length-append}
 use Rattle.std.specs.Prelude.{option_map, IsSome}
-use Rattle.std.proofs.lemmas.List.{append_cancel_left, take_all, take-append-drop}
+use Rattle.std.proofs.lemmas.List.{append_cancel_left, take-append-drop}
 use Rattle.rights_types.specs.Messages.{QueryValue}
 use Rattle.rights_types.specs.Messages.MessageValue.{AQuery}
 use Rattle.rights_types.specs.declared.fault.OutOfMemory.{OutOfMemory as Want}
@@ -10,13 +10,13 @@ use Rattle.memchr.specs.Find.{IsFirstByte, is_byte}
 use Rattle.entry_codec.proofs.Pieces.{pieces_append, rest_append, one_piece}
 use Rattle.entry_codec.specs.Cutter.{CutterView}
 use Rattle.line_streams.proofs.CountLaws.{lines_both}
-use Rattle.line_streams.proofs.WriteLaws.{take_both}
 use Rattle.line_streams.specs.declared.limit.TheConstants.{LINE_LIMIT}
 use Rattle.link_intake.specs.Intakes.{IntakeValue}
 use Rattle.peer_links.specs.Links.{IsFedAll, IsOfIntake}
 use Rattle.peer_links.specs.Ports.{Heard}
 use Rattle.peer_links.specs.Turns.{InTurn}
 use Rattle.peer_links.proofs.LineLaws.{found_end}
+use Rattle.peer_links.proofs.ReadLaws.{next_taken, all_taken, none_ended}
 use Rattle.peer_links.proofs.TurnLaws.{turn_one, turns_both}
 use Rattle.peer_links.specs.declared.link.DeskMessage.{DeskMessage}
 use Rattle.site_core.specs.Calls.{LineOf}
@@ -255,33 +255,30 @@ ends_piece stream bytes n found none =
       ap length front,
     )
 
-no_text : {X : Type 0} (o : Option (Piece X)) (ended : List (List ℕ)) → ((p : Piece X) → o ≡ Some p → ⊥) → IsGivenFor o ended → ended ≡ []
-no_text (Some p) ended other h = absurd (other p refl)
-no_text None ended other h = h
-
 -- the bytes up to an offset were taken, and then the next ones
-module _ (bytes rest : List ℕ) (at n : ℕ) (e : rest ≡ drop at bytes) (old mid : CutterView) (stream : List ℕ) (h : IsFedAll old stream)
-    (before : (stream : List ℕ) → IsFedAll old stream → IsFedAll mid (stream ++ take at bytes)) {X : Type 0} (o : Option (Piece X))
+module _ (bytes rest : List ℕ) (at n : ℕ) (e : rest ≡ drop at bytes) (old mid : CutterView) (before : (stream : List ℕ) → IsFedAll old stream → IsFedAll mid (stream ++ take at bytes))
+    {X : Type 0} (o : Option (Piece X)) (stream : List ℕ) (h : IsFedAll old stream)
     (given : (stream : List ℕ) → IsFedAll mid stream → (ended : List (List ℕ)) × IsGivenFor o ended × (pieces (stream ++ take n rest) ≡ pieces stream ++ ended)) where
   behind_next : (ended : List (List ℕ)) × IsGivenFor o ended × (pieces_behind stream (take (at + n) bytes) ≡ pieces_behind stream (take at bytes) ++ ended)
   behind_next =
-      let g = given (stream ++ take at bytes) (before stream h) in
-      let parts : take (at + n) bytes ≡ take at bytes ++ take n rest = take_both at n bytes ∙ ap (λ (l : List ℕ). take at bytes ++ take n l) (sym e) in (
+      let g = given (stream ++ take at bytes) (before stream h) in (
         g.0,
         g.1,
-        ap (pieces_behind stream) parts ∙ behind_both stream (take at bytes) (take n rest)
+        ap (pieces_behind stream) (next_taken bytes rest at n e) ∙ behind_both stream (take at bytes) (take n rest)
             ∙ ap (λ (l : List (List ℕ)). pieces_behind stream (take at bytes) ++ l) (behind_given (stream ++ take at bytes) (take n rest) g.0 g.2),
       )
 
+  -- a piece ended, and others follow it
   pub next_text : (p : Piece X) → o ≡ Some p
       → (text : List ℕ) × IsPiece p text × (pieces_behind stream (take (at + n) bytes) ≡ pieces_behind stream (take at bytes) ++ text ∷ [])
+      × (pieces_behind stream bytes ≡ (pieces_behind stream (take at bytes) ++ text ∷ []) ++ pieces_behind (stream ++ take (at + n) bytes) (drop (at + n) bytes))
   next_text p is =
       let one : IsGivenFor (Some p) behind_next.0 = subst (λ (o : Option (Piece X)). IsGivenFor o behind_next.0) is behind_next.1 in
-      (one.0, one.1, behind_next.2 ∙ ap (λ (l : List (List ℕ)). pieces_behind stream (take at bytes) ++ l) one.2)
+      let here = behind_next.2 ∙ ap (λ (l : List (List ℕ)). pieces_behind stream (take at bytes) ++ l) one.2 in
+      (one.0, one.1, here, front_behind stream bytes (at + n) ∙ ap (λ (l : List (List ℕ)). l ++ pieces_behind (stream ++ take (at + n) bytes) (drop (at + n) bytes)) here)
 
-  pub next_none : ((p : Piece X) → o ≡ Some p → ⊥) → n ≡ length rest → at ≤ length bytes
+  pub next_none : ((p : Piece X) → o ≡ Some p → ⊥) → IfNone o (n ≡ length rest) → at ≤ length bytes
       → pieces_behind stream (take at bytes) ≡ pieces_behind stream bytes
   next_none other all within =
-      let whole : take (at + n) bytes ≡ bytes = take_all (at + n) bytes (omega (arith, all, ap length e, length-drop at bytes, within)) in
-      sym (append-nil _) ∙ ap (λ (l : List (List ℕ)). pieces_behind stream (take at bytes) ++ l) (sym (no_text o behind_next.0 other behind_next.1))
-      ∙ sym behind_next.2 ∙ ap (pieces_behind stream) whole
+      sym (append-nil _) ∙ ap (λ (l : List (List ℕ)). pieces_behind stream (take at bytes) ++ l) (sym (none_ended o behind_next.0 other behind_next.1))
+      ∙ sym behind_next.2 ∙ ap (pieces_behind stream) (all_taken bytes rest at n e o other all within)

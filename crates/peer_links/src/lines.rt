@@ -1,9 +1,10 @@
 //! The pieces of a stream that is read a block at a time: borrowed if they lie whole in a block, and
 //! copied only if they span two blocks.
 ghost use Rattle.std.specs.Prelude.{◌≡◌, ℕ, ◌<◌, ◌≤◌, ◌++◌, List, length, take, IfOk, OnErr, IfSome, IfNone};
+ghost use Rattle.entry_codec.specs.Cuts.{IsCut};
 ghost use Rattle.entry_codec.specs.Pieces.{pieces};
 ghost use Rattle.peer_links.specs.Links.{IsFedAll};
-ghost use Rattle.peer_links.specs.Lines.{IsGivenFor};
+ghost use Rattle.peer_links.specs.Lines.{IsPiece, IsGivenFor};
 ghost use Rattle.peer_links.specs.Takes.{EndsBegun};
 
 use entry_codec::{Cut, LineCutter};
@@ -48,15 +49,24 @@ pub fn next_piece<'a, A: Allocator + Copy>(
     let count = length + 1;
     if cutter.unfinished() {
         cutter.push(bytes);
-        return match cutter.next_line()? {
-            Some(Cut::Line(line)) => Ok((Some(Piece::Owned(line)), count)),
-            Some(Cut::Long) => Ok((Some(Piece::Long), count)),
-            // The line feed ended a piece, so this arm is not reached.
-            None => Ok((None, bytes.len())),
+        let Some(cut) = cutter.next_line()? else {
+            // The line feed ended a piece, so this is not reached.
+            return Ok((None, bytes.len()));
         };
+        return Ok((Some(piece_of(cut)), count));
     }
     if count > MAX_LINE {
         return Ok((Some(Piece::Long), count));
     }
     Ok((Some(Piece::Borrowed(&bytes[..count])), count))
+}
+
+// The piece that was copied.
+fn piece_of<'a, A: Allocator>(cut: Cut<A>) -> Piece<'a, A>
+    ensures { (piece : List ℕ) → IsCut piece cut → IsPiece result piece }
+{
+    match cut {
+        Cut::Line(line) => Piece::Owned(line),
+        Cut::Long => Piece::Long,
+    }
 }

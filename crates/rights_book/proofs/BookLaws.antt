@@ -112,14 +112,46 @@ account_either false a b p q = q
 pub account_kept : (b : BookValue) → IsBook b → (j : ℕ) → IsAccount (account b j)
 account_kept b is j = account_either (eqb j b.me) b.own (peer b j).log is.own_account (is.accounts j)
 
+-- what a site is known to have gained, and what it is known to have given and spent
+abbrev pub gained : BookValue → ℕ → ℕ
+gained b j = (account b j).issued + (peer b j).gifts + (peer b j).given + (account b j).back
+
+abbrev pub parted : BookValue → ℕ → ℕ
+parted b j = (account b j).given + (account b j).spent
+
+pub known_bounds : (b : BookValue) → IsBook b → (j : ℕ) → (gained b j ≤ 1000000017000000000000000000) × (parted b j ≤ 2000000000000000000)
+known_bounds b is j =
+    let kept = account_kept b is j in
+    let bounds = bounded b is in (
+      omega (arith, kept.in_range, kept.issues, kept.takes_back, is.gifts_within j, bounds.applies, bounds.gives_to j),
+      omega (arith, kept.in_range, kept.gives, kept.spends),
+    )
+
 -- ---- moves of the book's own site
+
+-- the effect of the code: on the site's account, and on each peer
+pub own_wrote : (old new : BookValue) (ms : List Move) (ps : List Peer) → ps ≡ old.peers → new.me ≡ old.me → new.own ≡ with_moves old.own ms → sites new ≡ length ps
+    → ((j : ℕ) → peer new j ≡ with_own (at_site ps j no_peer) j ms) → Writes old ms new
+own_wrote old new ms ps is me own same each = record {
+  same_me = me;
+  same_sites = same ∙ ap length is;
+  writes = own;
+  each = λ j. each j ∙ ap (λ (ps : List Peer). with_own (at_site ps j no_peer) j ms) is;
+}
+
+own_peer : (old new : BookValue) (ms : List Move) → Writes old ms new → peer new new.me ≡ with_own (peer old old.me) old.me ms
+own_peer old new ms w = w.each new.me ∙ ap (λ k. with_own (peer old k) k ms) w.same_me
+
+-- they leave what was received
+pub received_kept : (old new : BookValue) (ms : List Move) → Writes old ms new → received_by new ≡ received_by old
+received_kept old new ms w = ap (λ (p : Peer). p.gifts) (own_peer old new ms w)
 
 pub written_book : (old new : BookValue) (ms : List Move) → IsBook old → IsChecked old ms → All IsMove ms → ((j : ℕ) → back j ms ≤ (peer old j).given - (peer old j).back)
     → IsAccount new.own → Writes old ms new → IsBook new
 written_book old new ms is checked ranges backs kept w =
     let n : ℕ = sites old in
     let named : All (NamesWithin n) ms = named_within n ms ranges checked.within in
-    let at_me : peer new new.me ≡ with_own (peer old old.me) old.me ms = w.each new.me ∙ ap (λ k. with_own (peer old k) k ms) w.same_me in
+    let at_me = own_peer old new ms w in
     let same : (f : ℕ → ℕ) → sum_sites (sites new) f ≡ sum_sites n f = λ f. ap (λ k. sum_sites k f) w.same_sites in
     let given_sum : sum_sites n (λ j. (peer new j).given) ≡ sum_sites n (λ j. (peer old j).given) + out ms =
     sum_same n (λ j. (peer new j).given) (λ j. (peer old j).given + to j ms) (λ j low high. ap (λ (p : Peer). p.given) (w.each j))
@@ -131,7 +163,7 @@ written_book old new ms is checked ranges backs kept w =
     sum_same n (λ o. (peer new o).received) (λ o. (peer old o).received) (λ o low high. ap (λ (p : Peer). p.received) (w.each o)) in
     let end_sum : sum_sites n (λ o. (peer new o).log.end) ≡ sum_sites n (λ o. (peer old o).log.end) =
     sum_same n (λ o. (peer new o).log.end) (λ o. (peer old o).log.end) (λ o low high. ap (λ (p : Peer). p.log.end) (w.each o)) in
-    let received : received_by new ≡ received_by old = ap (λ (p : Peer). p.gifts) at_me in
+    let received = received_kept old new ms w in
     record {
       some = omega (arith, is.some, w.same_sites);
       few = omega (arith, is.few, w.same_sites);
@@ -295,7 +327,7 @@ pub record IsBooked (x : BookValue) (o : ℕ) (ms : List Move) (log : Account) (
 abbrev pub with_peer : BookValue → List Peer → ℕ → Peer → BookValue
 with_peer x gs i p = record { me = x.me; own = x.own; peers = set gs i p }
 
-pub booked : (x : BookValue) (o i : ℕ) (ms : List Move) (gs : List Peer) (it : Peer) (log : Account) (gift : ℕ) → i + 1 ≡ o → o ≤ sites x → length gs ≡ sites x
+booked : (x : BookValue) (o i : ℕ) (ms : List Move) (gs : List Peer) (it : Peer) (log : Account) (gift : ℕ) → i + 1 ≡ o → o ≤ sites x → length gs ≡ sites x
     → ((j : ℕ) → 1 ≤ j → j ≤ sites x → at_site gs j no_peer ≡ with_gifts (peer x j) o j ms) → it ≡ get_or gs i it → log ≡ with_moves it.log ms → gift ≡ to x.me ms
     → IsBooked x o ms log (with_peer x gs i (record it { log = log; received = it.received + gift }))
 booked x o i ms gs it log gift at high same gifts read logs gave =
@@ -319,3 +351,11 @@ booked x o i ms gs it log gift at high same gifts read logs gave =
       };
       kept = λ is. subst (λ (q : Peer). IsAccount (with_moves q.log ms)) found (subst IsAccount logs is);
     }
+
+-- .. by the entry's moves and the book's peers, as the code read them
+pub booked_by : (x : BookValue) (o i : ℕ) (ms read_moves : List Move) (ps gs : List Peer) (it : Peer) (log : Account) (gift : ℕ) → i + 1 ≡ o → o ≤ sites x
+    → read_moves ≡ ms → ps ≡ x.peers → length gs ≡ length ps
+    → ((j : ℕ) → 1 ≤ j → j ≤ length ps → at_site gs j no_peer ≡ with_gifts (at_site ps j no_peer) o j read_moves) → it ≡ get_or gs i it
+    → log ≡ with_moves it.log read_moves → gift ≡ to x.me read_moves → IsBooked x o ms log (with_peer x gs i (record it { log = log; received = it.received + gift }))
+booked_by x o i ms read_moves ps gs it log gift at high moves peers same gifts read logs gave =
+    booked x o i ms gs it log gift at high (same ∙ ap length peers) (rw (peers, moves) at gifts) read (logs ∙ ap (with_moves it.log) moves) (gave ∙ ap (to x.me) moves)

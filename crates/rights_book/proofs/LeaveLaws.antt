@@ -5,18 +5,17 @@ use Rattle.rights_types.specs.Entries.{EntryValue}
 use Rattle.rights_types.specs.Rights.{to}
 use Rattle.rights_types.specs.declared.moves.Move.{Move}
 use Rattle.rights_types.proofs.Sums.{rights_after_is}
-use Rattle.rights_book.specs.Peers.{with_own}
 use Rattle.rights_book.specs.Books.{BookValue, peer, account, received_by, held_by, Writes, Applies, IsBook}
 use Rattle.rights_book.specs.Leaves.{OwnLeaves, ApplyLeaves}
 use Rattle.rights_book.specs.declared.account.Account.{Account}
 use Rattle.rights_book.specs.declared.peer.Peer.{Peer}
 use Rattle.rights_book.proofs.CallLaws.{other_account}
 use Rattle.rights_book.proofs.CheckLaws.{IsChecked}
-use Rattle.rights_book.proofs.BookLaws.{IsApplied, received_risen}
+use Rattle.rights_book.proofs.BookLaws.{IsApplied, received_kept, received_risen}
 
 pub own_leaves : (old new : BookValue) (ms : List Move) → IsBook old → IsChecked old ms → old.own.closed ≡ false → Writes old ms new → OwnLeaves old ms new
 own_leaves old new ms is checked unclosed w =
-    let received : received_by new ≡ received_by old = ap (λ (p : Peer). p.gifts) (w.each new.me ∙ ap (λ k. with_own (peer old k) k ms) w.same_me) in
+    let received = received_kept old new ms w in
     record {
       same_me = w.same_me;
       same_sites = w.same_sites;

@@ -304,16 +304,20 @@ one_gift n Close h = sum_zero n
 one_gift n (CloseAt f) h = sum_zero n
 one_gift n (TakeBack j a) h = sum_zero n
 
+-- a sum over moves by the site that each names, and the sum over those sites
+by_sites : (n : ℕ) (part : ℕ → Move → ℕ) (whole : Move → ℕ) → ((m : Move) → NamesWithin n m → sum_sites n (λ s. part s m) ≡ whole m)
+    → (ms : List Move) → All (NamesWithin n) ms → sum_sites n (λ s. sum_by (part s) ms) ≡ sum_by whole ms
+by_sites n part whole one [] h = sum_zero n
+by_sites n part whole one (m ∷ ms) h =
+    sum_same n (λ s. sum_by (part s) (m ∷ ms)) (λ s. part s m + sum_by (part s) ms) (λ s low high. sum_by-cons (part s) m ms)
+    ∙ sum_add n (λ s. part s m) (λ s. sum_by (part s) ms)
+    ∙ ap (λ k. sum_sites n (λ s. part s m) + k) (by_sites n part whole one ms (All-tail (NamesWithin n) m ms h))
+    ∙ ap (λ k. k + sum_by whole ms) (one m (All-head (NamesWithin n) m ms h)) ∙ sym (sum_by-cons whole m ms)
+
 -- moves that name only the sites 1 to n give away the sum of what they give to each of them
 pub out_is : (n : ℕ) (ms : List Move) → All (NamesWithin n) ms → sum_sites n (λ s. to s ms) ≡ out ms
 unfolding to out
-out_is n [] h = sum_zero n
-out_is n (m ∷ ms) h =
-    sum_same n (λ s. sum_by (gift_to s) (m ∷ ms)) (λ s. gift_to s m + sum_by (gift_to s) ms) (λ s low high. sum_by-cons (gift_to s) m ms)
-    ∙ sum_add n (λ s. gift_to s m) (λ s. sum_by (gift_to s) ms)
-    ∙ ap (λ k. sum_sites n (λ s. gift_to s m) + k) (out_is n ms (All-tail (NamesWithin n) m ms h))
-    ∙ ap (λ k. k + sum_by gift_of ms) (one_gift n m (All-head (NamesWithin n) m ms h))
-    ∙ sym (sum_by-cons gift_of m ms)
+out_is n = by_sites n gift_to gift_of (one_gift n)
 
 one_back : (n : ℕ) (m : Move) → NamesWithin n m → sum_sites n (λ s. take_back_from s m) ≡ take_back_of m
 one_back n (Issue a) h = sum_zero n
@@ -326,13 +330,7 @@ one_back n (TakeBack j a) h = sum_one n j a h.0 h.1
 
 pub taken_back_is : (n : ℕ) (ms : List Move) → All (NamesWithin n) ms → sum_sites n (λ s. back s ms) ≡ taken_back ms
 unfolding back taken_back
-taken_back_is n [] h = sum_zero n
-taken_back_is n (m ∷ ms) h =
-    sum_same n (λ s. sum_by (take_back_from s) (m ∷ ms)) (λ s. take_back_from s m + sum_by (take_back_from s) ms) (λ s low high. sum_by-cons (take_back_from s) m ms)
-    ∙ sum_add n (λ s. take_back_from s m) (λ s. sum_by (take_back_from s) ms)
-    ∙ ap (λ k. sum_sites n (λ s. take_back_from s m) + k) (taken_back_is n ms (All-tail (NamesWithin n) m ms h))
-    ∙ ap (λ k. k + sum_by take_back_of ms) (one_back n m (All-head (NamesWithin n) m ms h))
-    ∙ sym (sum_by-cons take_back_of m ms)
+taken_back_is n = by_sites n take_back_from take_back_of (one_back n)
 
 -- no prefix of covered moves overspends
 pub never_short : (n r : ℕ) (ms : List Move) → covers r ms ≡ true → All (NamesWithin n) ms → IsNeverShort n r ms

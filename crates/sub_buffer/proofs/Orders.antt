@@ -193,7 +193,7 @@ onward_settled n (x ∷ xs) e order is le =
     onward_all n (x ∷ xs) (All-cons (λ y. n ≤ y.prev) x xs (omega arith) (λ k d lt. omega (arith, order_head x xs order k d lt)))
 
 -- if the first begins before n, it is not among those from n onward
-pub onward_dropped : (n : ℕ) (es : List EntryValue) (e : EntryValue) → e ≡ get_or es 0 e → e.prev < n → onward n (drop 1 es) ≡ onward n es
+onward_dropped : (n : ℕ) (es : List EntryValue) (e : EntryValue) → e ≡ get_or es 0 e → e.prev < n → onward n (drop 1 es) ≡ onward n es
 onward_dropped n [] e is lt = refl
 onward_dropped n (x ∷ xs) e is lt =
     let at : e.prev ≡ x.prev = ap (λ (y : EntryValue). y.prev) is in
@@ -202,6 +202,11 @@ onward_dropped n (x ∷ xs) e is lt =
 pub order_drop : (es : List EntryValue) → InOrder es → InOrder (drop 1 es)
 order_drop [] order = order
 order_drop (x ∷ xs) order = order_tail x xs order
+
+-- .. and once it was dropped, those from n onward are still the same
+pub dropped_first : (n : ℕ) (es rest onwards : List EntryValue) (e : EntryValue) → rest ≡ drop 1 es → e ≡ get_or es 0 e → e.prev < n → InOrder es → onward n es ≡ onwards
+    → (onward n rest ≡ onwards) × InOrder rest
+dropped_first n es rest onwards e is first lt order same = (ap (onward n) is ∙ onward_dropped n es e first lt ∙ same, subst InOrder (sym is) (order_drop es order))
 
 -- the first of entries in order has the least previous number
 pub first_least : (es : List EntryValue) (e : EntryValue) → InOrder es → e ≡ get_or es 0 e → All (λ f. e.prev ≤ f.prev) es

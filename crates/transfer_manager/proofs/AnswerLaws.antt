@@ -10,7 +10,7 @@ use Rattle.transfer_manager.specs.declared.answer.AskAnswer.{AskAnswer}
 use Rattle.transfer_manager.specs.declared.answer.AskAnswer.TheVariants.{Grant, Deny, RepeatedDeny, Repeated, OldAsk}
 use Rattle.transfer_manager.specs.Managers.{ManagerValue, sites, asks, no_asks, with_ask, with_asks, with_ended, ended}
 use Rattle.transfer_manager.specs.Plans.{Knowledge, planned, Plans}
-use Rattle.transfer_manager.specs.AskAnswers.{grant_of, IsLate, IsAnswered}
+use Rattle.transfer_manager.specs.AskAnswers.{grant_of, with_answer, IsLate, IsAnswered}
 use Rattle.transfer_manager.proofs.ManagerLaws.{answered}
 
 -- the answer by the last number that was answered, and whether it was granted
@@ -51,8 +51,9 @@ ended_keeps m j ask low high k =
       | inr q ↦ answered_as_is (asks m k) (asks (ended m j ask) k) q.1
     ]
 
-pub ended_answered : (m : ManagerValue) (j ask : ℕ) → 1 ≤ j → j ≤ sites m → (past : AskValue) → IsAnswered m past → IsAnswered (ended m j ask) past
-ended_answered m j ask low high = still_answered m (ended m j ask) (ended_keeps m j ask low high)
+pub ended_answered : (m new : ManagerValue) (j ask : ℕ) → new ≡ ended m j ask → 1 ≤ j → j ≤ sites m → (past : AskValue) → IsAnswered m past
+    → IsAnswered new past
+ended_answered m new j ask same low high = rw same (still_answered m (ended m j ask) (ended_keeps m j ask low high))
 
 -- a plan
 
@@ -97,9 +98,9 @@ older_late : (last : ℕ) (granted : Bool) (ask : AskValue) (available : ℕ) �
 older_late last granted ask available h = subst (λ (t : Bool). IsLate (cond t OldAsk (cond (eqb ask.ask last) (cond granted Repeated RepeatedDeny)
     (grant_of (min ask.amount available))))) (sym (lt-ltb ask.ask last h)) tt
 
-pub noted_answered : (m : ManagerValue) (ask : AskValue) (granted : Bool) → 1 ≤ ask.asker → ask.asker ≤ sites m → (asks m ask.asker).last_answered < ask.ask
+first_answered : (m : ManagerValue) (ask : AskValue) (granted : Bool) → 1 ≤ ask.asker → ask.asker ≤ sites m → (asks m ask.asker).last_answered < ask.ask
     → (past : AskValue) → IsAnswered m past → IsAnswered (with_asks m ask.asker (answered (asks m ask.asker) ask.ask granted)) past
-noted_answered m ask granted low high above past was_answered again available of_asker most =
+first_answered m ask granted low high above past was_answered again available of_asker most =
     let j = ask.asker in
     let p : PeerAsks = answered (asks m j) ask.ask granted in
     let new : ManagerValue = with_asks m j p in
@@ -113,3 +114,7 @@ noted_answered m ask granted low high above past was_answered again available of
           same_answer (asks m again.asker) (asks new again.asker) again available (answered_as_is (asks m again.asker) (asks new again.asker) q.1)
           (was_answered again available of_asker most)
     ]
+
+pub noted_answered : (m new : ManagerValue) (ask : AskValue) (granted : Bool) → new ≡ with_answer m ask granted → 1 ≤ ask.asker → ask.asker ≤ sites m
+    → (asks m ask.asker).last_answered < ask.ask → (past : AskValue) → IsAnswered m past → IsAnswered new past
+noted_answered m new ask granted same low high above = rw same (first_answered m ask granted low high above)

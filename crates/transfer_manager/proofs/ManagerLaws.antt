@@ -56,11 +56,11 @@ ends_none true p h = refl
 ends_none false p h = h
 
 -- an ask that ended
-pub ended_is : (m : ManagerValue) (j ask : ℕ) → IsManager m → 1 ≤ j → j ≤ sites m → IsManager (ended m j ask)
-ended_is m j ask is low high =
+pub ended_is : (m new : ManagerValue) (j ask : ℕ) → new ≡ ended m j ask → IsManager m → 1 ≤ j → j ≤ sites m → IsManager new
+ended_is m new j ask same is low high =
     let p : PeerAsks = asks m j in
-    with_asks_is m j (with_ended p ask) is low high (ends_is (eqb p.last_ask ask) p (is.each j)) (λ e.
-    ends_none (eqb p.last_ask ask) p (subst (λ k. (asks m k).outstanding ≡ None) (sym e) is.none_own))
+    rw same (with_asks_is m j (with_ended p ask) is low high (ends_is (eqb p.last_ask ask) p (is.each j)) (λ e.
+    ends_none (eqb p.last_ask ask) p (subst (λ k. (asks m k).outstanding ≡ None) (sym e) is.none_own)))
 
 -- the first sites' items of a list that has one for each site that a system can have
 abbrev front : ℕ → ℕ → List PeerAsks → ManagerValue
@@ -100,11 +100,12 @@ answered_set me n i j number k g ps d at high same =
     asks_set me n i j ps (answered (get_or ps i d) number g) (answered old k g) at high (ap (λ (p : PeerAsks). answered p number g) (asks_read me n i j ps d at high)
     ∙ ap (λ (l : ℕ). answered old l g) same)
 
-pub answered_is : (m : ManagerValue) (j n : ℕ) (g : Bool) → IsManager m → 1 ≤ j → j ≤ sites m → IsManager (with_asks m j (answered (asks m j) n g))
-answered_is m j n g is low high =
+pub answered_is : (m new : ManagerValue) (j n : ℕ) (g : Bool) → new ≡ with_asks m j (answered (asks m j) n g) → IsManager m → 1 ≤ j → j ≤ sites m
+    → IsManager new
+answered_is m new j n g same is low high =
     let p : PeerAsks = asks m j in
-    with_asks_is m j (answered p n g) is low high (record { numbers = (is.each j).numbers; asked = (is.each j).asked })
-    (λ e. subst (λ k. (asks m k).outstanding ≡ None) (sym e) is.none_own)
+    rw same (with_asks_is m j (answered p n g) is low high (record { numbers = (is.each j).numbers; asked = (is.each j).asked })
+    (λ e. subst (λ k. (asks m k).outstanding ≡ None) (sym e) is.none_own))
 
 pub with_asked_none : (p : PeerAsks) (n : ℕ) → n ≡ 0 → with_asked p n ≡ p
 with_asked_none p n h = rw h refl

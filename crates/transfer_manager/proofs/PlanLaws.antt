@@ -73,10 +73,10 @@ pub record IsOpened (m : ManagerValue) (k : Knowledge) (opened : List PeerAsks) 
   pub enough : sites m ≤ length rights
   pub has : (j : ℕ) → 1 ≤ j → j ≤ length opened → at_site rights j 0 ≡ eligible_rights m.me k j (at_site opened j no_asks)
 
-pub is_opened : (m : ManagerValue) (k : Knowledge) (opened : List PeerAsks) (rights : List ℕ) → sites m ≤ 16 → length opened ≡ sites m
+pub is_opened : (m : ManagerValue) (k : Knowledge) (opened : List PeerAsks) (rights : List ℕ) → IsManager m → length opened ≡ sites m
     → ((j : ℕ) → 1 ≤ j → j ≤ sites m → at_site opened j no_asks ≡ open_asks m k j) → length rights ≡ 16
     → ((j : ℕ) → 1 ≤ j → j ≤ length opened → at_site rights j 0 ≡ eligible_rights m.me k j (at_site opened j no_asks)) → IsOpened m k opened rights
-is_opened m k opened rights few same opens whole has = record { same = same; opens = opens; enough = omega (arith, whole, few); has = has }
+is_opened m k opened rights is same opens whole has = record { same = same; opens = opens; enough = omega (arith, whole, is.few); has = has }
 
 -- the rights of the sites of the system
 abbrev pub in_front : ManagerValue → List ℕ → ℕ → ℕ
@@ -144,9 +144,27 @@ planned_few m k queued count new is p = omega (arith, p.counted, asks_few (sites
 
 -- ---- a manager after its plan
 
+-- what was asked of each, and how many were asked, once the asks to closed peers have ended
+pub opened_plans : (m : ManagerValue) (k : Knowledge) (queued : ℕ) (opened asked : List PeerAsks) (rights : List ℕ) (lack count : ℕ)
+    → IsOpened m k opened rights → length asked ≡ length opened
+    → lack ≡ (queued - k.held) - sum_sites (length opened) (λ j. amount_of (at_site opened j no_asks).outstanding)
+    → ((j : ℕ) → 1 ≤ j → j ≤ length opened
+    → at_site asked j no_asks ≡ with_asked (at_site opened j no_asks) (amount_asked (length opened) (λ i. at_site (take (length opened) rights) i 0) lack j))
+    → count ≡ count_asked (length opened) (amount_asked (length opened) (λ i. at_site (take (length opened) rights) i 0) lack)
+    → Plans m k queued count (record { me = m.me; peers = asked })
+opened_plans m k queued opened asked rights lack count begun whole lacks each counted =
+    plans m k queued opened asked rights lack count (record {
+      begun = begun;
+      whole = whole ∙ begun.same;
+      lacks = lacks;
+      asks_each = rw begun.same at each;
+      counted = rw begun.same at counted;
+    })
+
 -- the items of the prefix, once they were written
-pub front_written : (n : ℕ) (ps new : List PeerAsks) → n ≤ length ps → length new ≡ length (take n ps) → take n (new ++ drop n ps) ≡ new
-front_written n ps new fit same = take_at new (drop n ps) n (same ∙ length-take-le n ps fit)
+pub front_written : (n : ℕ) (ps new : List PeerAsks) → 16 ≤ length ps → n ≤ 16 → length new ≡ length (take n ps) → take n (new ++ drop n ps) ≡ new
+front_written n ps new whole few same =
+    let fit : n ≤ length ps = omega (arith, whole, few) in take_at new (drop n ps) n (same ∙ length-take-le n ps fit)
 
 closed_is : (t : Bool) (p : PeerAsks) → IsPeerAsks p → IsPeerAsks (cond t (record p { outstanding = None }) p)
 closed_is true p is = record { numbers = is.numbers; asked = tt }

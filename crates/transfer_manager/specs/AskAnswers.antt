@@ -1,5 +1,5 @@
 -- What a site answers to the asks of others.
-use Rattle.std.specs.Prelude.{◌≡◌, ℕ, ◌≤◌, true, false, min, nat_lt, ◌==◌, if◌then◌else◌}
+use Rattle.std.specs.Prelude.{◌≡◌, ℕ, ◌≤◌, Bool, true, false, min, nat_lt, ◌==◌, if◌then◌else◌}
 use Rattle.rights_types.specs.Messages.{AskValue}
 use Rattle.transfer_manager.specs.declared.answer.AskAnswer.{AskAnswer}
 use Rattle.transfer_manager.specs.declared.answer.AskAnswer.TheVariants.{Grant, Deny, RepeatedDeny, Repeated, OldAsk}
@@ -17,10 +17,14 @@ answer_to m ask available =
     else (if ask.ask == p.last_answered then (if p.granted then Repeated else RepeatedDeny)
     else grant_of (min ask.amount available))
 
+-- the asks once this ask was answered, by a grant or not
+abbrev pub with_answer : ManagerValue → AskValue → Bool → ManagerValue
+with_answer m ask granted = with_asks m ask.asker (record (asks m ask.asker) { last_answered = ask.ask; granted = granted })
+
 -- the asks after this answer was recorded
 abbrev pub noted : ManagerValue → AskValue → AskAnswer → ManagerValue
-noted m ask (Grant n) = with_asks m ask.asker (record (asks m ask.asker) { last_answered = ask.ask; granted = true })
-noted m ask Deny = with_asks m ask.asker (record (asks m ask.asker) { last_answered = ask.ask; granted = false })
+noted m ask (Grant n) = with_answer m ask true
+noted m ask Deny = with_answer m ask false
 noted m ask _ = m
 
 -- the fact holds if the answer is a grant or a first denial

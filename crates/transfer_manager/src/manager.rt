@@ -40,7 +40,7 @@ impl Manager {
     ghost use Rattle.request_queue.specs.Queues.{total_of};
     ghost use Rattle.transfer_manager.specs.Managers.{sites, asks, SameSystem, new_manager, outstanding_ask, ended};
     ghost use Rattle.transfer_manager.specs.Plans.{of_book, of_logs, Plans};
-    ghost use Rattle.transfer_manager.specs.AskAnswers.{answer_to, noted, IfNew, IsWithin, IsAnswered};
+    ghost use Rattle.transfer_manager.specs.AskAnswers.{answer_to, with_answer, noted, IfNew, IsWithin, IsAnswered};
 
     /// The manager of site `me` in a system of `sites` sites, 2 to 16, before any ask.
     pub fn new(me: SiteId, sites: u64) -> Manager
@@ -124,14 +124,11 @@ impl Manager {
         ensures once { IfNew answer (IsAnswered self.new ask.now) }
         ensures answered { (past : AskValue) → IsAnswered self.old past → IsAnswered self.new past }
     {
-        let granted = match answer {
-            AskAnswer::Grant(_) => true,
-            AskAnswer::Deny => false,
-            _ => return,
-        };
-        let asks = &mut self.peers[ask.asker().index()];
-        asks.last_answered = ask.ask().value();
-        asks.granted = granted;
+        match answer {
+            AskAnswer::Grant(_) => self.note(ask, true),
+            AskAnswer::Deny => self.note(ask, false),
+            _ => {}
+        }
     }
 
     /// A grant of that peer for this ask was applied. The ask ends if it is the outstanding one.
@@ -141,8 +138,7 @@ impl Manager {
         ensures same { SameSystem self.old self.new }
         ensures answered { (past : AskValue) → IsAnswered self.old past → IsAnswered self.new past }
     {
-        let granter = &mut self.peers[peer.index()];
-        granter.end(ask);
+        self.end(peer, ask);
     }
 
     /// That peer denied the ask of this number. The ask ends if it is the outstanding one.
@@ -152,8 +148,30 @@ impl Manager {
         ensures same { SameSystem self.old self.new }
         ensures answered { (past : AskValue) → IsAnswered self.old past → IsAnswered self.new past }
     {
-        let denier = &mut self.peers[peer.index()];
-        denier.end(ask);
+        self.end(peer, ask);
+    }
+
+    // Records the first answer to this ask.
+    fn note(&mut self, ask: &Ask, granted: bool)
+        requires site { ask.now.asker ≤ sites self.old }
+        requires new { (asks self.old ask.now.asker).last_answered < ask.now.ask }
+        ensures noted { self.new ≡ with_answer self.old ask.now granted }
+        ensures once { IsAnswered self.new ask.now }
+        ensures answered { (past : AskValue) → IsAnswered self.old past → IsAnswered self.new past }
+    {
+        let asks = &mut self.peers[ask.asker().index()];
+        asks.last_answered = ask.ask().value();
+        asks.granted = granted;
+    }
+
+    // The ask of this number to that peer ends, if it is outstanding.
+    fn end(&mut self, peer: SiteId, ask: AskNumber)
+        requires { peer ≤ sites self.old }
+        ensures ended { self.new ≡ ended self.old peer ask }
+        ensures answered { (past : AskValue) → IsAnswered self.old past → IsAnswered self.new past }
+    {
+        let asked = &mut self.peers[peer.index()];
+        asked.end(ask);
     }
 
     fn asks(&self, peer: SiteId) -> PeerAsks

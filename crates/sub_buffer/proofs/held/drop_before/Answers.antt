@@ -1,9 +1,9 @@
-use Rattle.std.proofs.Common.{◌≡◌, [], length, true, false, inl, inr, List, arith, refl, sym, ap, subst, ◌∙◌}
+use Rattle.std.proofs.Common.{◌≡◌, [], length, true, false, inl, inr, List, arith, refl, sym, ap, ◌∙◌}
 use Rattle.std.proofs.lemmas.Bool.{cases_lt}
 use Rattle.std.proofs.lemmas.List.{nil_from_length}
 use Rattle.rights_types.specs.Entries.{EntryValue}
-use Rattle.sub_buffer.specs.Buffers.{InOrder, onward}
-use Rattle.sub_buffer.proofs.Orders.{onward_settled, onward_dropped, order_drop}
+use Rattle.sub_buffer.specs.Buffers.{onward}
+use Rattle.sub_buffer.proofs.Orders.{onward_settled, dropped_first}
 use Rattle.sub_buffer.proofs.held.drop_before.Goals as goal
 
 pub loop-first-init : goal.loop-first-init
@@ -11,25 +11,15 @@ loop-first-init g c = record { items = refl; order = c.requires; capacity = refl
 
 pub loop-first-preserved-else-prev-number : goal.loop-first-preserved-else-prev-number
 loop-first-preserved-else-prev-number g c =
-    let es : List EntryValue = c.loop-first.held.items in
-    record {
-      items = ap (onward c.args.number) c.pop_front.ensures.rest
-          ∙ onward_dropped c.args.number es c.in-Some.first.now c.in-Some.ensures.lookup (omega (arith, c.prev.ensures.value))
-          ∙ c.loop-first.invariant.items;
-      order = subst InOrder (sym c.pop_front.ensures.rest) (order_drop es c.loop-first.invariant.order);
-      capacity = c.pop_front.ensures.capacity ∙ c.loop-first.invariant.capacity;
-    }
+    let i = c.loop-first.invariant in
+    let next = dropped_first c.args.number _ _ _ c.in-Some.first.now c.pop_front.ensures.rest c.in-Some.ensures.lookup (omega (arith, c.prev.ensures.value)) i.order i.items in
+    record { items = next.0; order = next.1; capacity = c.pop_front.ensures.capacity ∙ i.capacity }
 
 pub loop-first-preserved : goal.loop-first-preserved
 loop-first-preserved g c =
-    let es : List EntryValue = c.loop-first.held.items in
-    record {
-      items = ap (onward c.args.number) c.pop_front.ensures.rest
-          ∙ onward_dropped c.args.number es c.in-Some.first.now c.in-Some.ensures.lookup (omega (arith, c.prev.ensures.value))
-          ∙ c.loop-first.invariant.items;
-      order = subst InOrder (sym c.pop_front.ensures.rest) (order_drop es c.loop-first.invariant.order);
-      capacity = c.pop_front.ensures.capacity ∙ c.loop-first.invariant.capacity;
-    }
+    let i = c.loop-first.invariant in
+    let next = dropped_first c.args.number _ _ _ c.in-Some.first.now c.pop_front.ensures.rest c.in-Some.ensures.lookup (omega (arith, c.prev.ensures.value)) i.order i.items in
+    record { items = next.0; order = next.1; capacity = c.pop_front.ensures.capacity ∙ i.capacity }
 
 pub returns-then-prev-number-clause-items : goal.returns-then-prev-number-clause-items
 returns-then-prev-number-clause-items g c =

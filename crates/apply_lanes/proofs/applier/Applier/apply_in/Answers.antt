@@ -1,16 +1,14 @@
-use Rattle.std.proofs.Common.{◌≡◌, false, Some, None, arith, rules, sym, ap, ◌∙◌, subst}
-use Rattle.std.proofs.lemmas.Bool.{or_parts}
+use Rattle.std.proofs.Common.{◌≡◌, false, arith, rules, sym, ap, ◌∙◌, subst}
 use Rattle.rights_types.specs.Entries.{EntryValue, own}
 use Rattle.rights_book.specs.Books.{peer}
-use Rattle.site_core.specs.Faults.{has_closed}
 use Rattle.site_core.specs.Ledgers.{ApplyKeeps}
 use Rattle.site_core.specs.Calls.{DeskApplies}
 use Rattle.apply_lanes.specs.Kepts.{KeptValue}
-use Rattle.apply_lanes.specs.Appliers.{ApplierValue, is_late, applied, MovesOn, counted_on}
+use Rattle.apply_lanes.specs.Appliers.{ApplierValue, is_late, MovesOn, counted_on}
 use Rattle.rights_protocol.specs.Schedules.LocalChange.{Apply}
 use Rattle.apply_lanes.specs.Steps.{StepsBy}
 use Rattle.apply_lanes.proofs.StepLaws.{steps_late, steps_in_time}
-use Rattle.apply_lanes.proofs.ApplierLaws.{same_some, hand_follows, counted_apply, counted_drop, moves_on}
+use Rattle.apply_lanes.proofs.ApplierLaws.{same_some, not_dropping, applied_is, hand_follows, counted_apply, counted_drop, moves_on}
 use Rattle.apply_lanes.proofs.applier.Applier.apply_in.Goals as goal
 
 pub invariant_of-self : goal.invariant_of-self
@@ -25,43 +23,16 @@ pub invariant_of-self-in-Ok : goal.invariant_of-self-in-Ok
 invariant_of-self-in-Ok g c =
     let i = c.self.invariant in
     let late : is_late c.args.self.now c.args.kept.now.desk ≡ false = sym c.is_late-is_late.ensures ∙ c.if-is_late.false in
-    let now : c.args.self.now.dropping ≡ false = (or_parts c.args.self.now.dropping (has_closed c.args.kept.now.desk) late).0 in
-    let free = subst (λ (a : ApplierValue _ _). a.dropping ≡ false) (sym c.self.view_is) now in
+    let free = ap (λ (a : ApplierValue _ _). a.dropping) c.self.view_is ∙ not_dropping c.args.self.now c.args.kept.now.desk late in
     let number : c.apply.new.number ≡ own c.in-Some.entry = omega (arith, c.in-Ok.ensures.added.0, hand_follows _ _ _ i.counted c.in-Some.is free) in
     let of_origin : c.in-Some.entry.origin ≡ c.self.inside.origin = search rules in
     record { site = i.site; other = i.other; counted = counted_apply _ _ _ _ _ i.counted c.in-Some.is free of_origin number c.in-Ok.ensures.added.1 }
 
 pub returns-in-Ok-clause-applied : goal.returns-in-Ok-clause-applied
 returns-in-Ok-clause-applied g c late =
-    let i = c.self.invariant in
-    let entry : EntryValue = c.in-Some.entry in
-    let id = g.D.DeskNames.id in
-    let now : c.args.self.now.dropping ≡ false = (or_parts c.args.self.now.dropping (has_closed c.args.kept.now.desk) late).0 in
-    let free = subst (λ (a : ApplierValue _ _). a.dropping ≡ false) (sym c.self.view_is) now in
-    let number : c.apply.new.number ≡ own entry = omega (arith, c.in-Ok.ensures.added.0, hand_follows _ _ _ i.counted c.in-Some.is free) in
-    let new : ApplierValue g.row.G.Denot g.row.A.Denot = record {
-      origin = c.self.inside.origin;
-      outlet = c.self.inside.outlet;
-      gate = c.self.inside.gate;
-      hand = None;
-      ended = c.self.inside.ended;
-      dropping = c.self.inside.dropping;
-      number = c.apply.new.number;
-      received = c.apply.new.received;
-    } in
-    let old : ApplierValue g.row.G.Denot g.row.A.Denot = record {
-      origin = c.self.inside.origin;
-      outlet = c.self.inside.outlet;
-      gate = c.self.inside.gate;
-      hand = c.self.inside.hand;
-      ended = c.self.inside.ended;
-      dropping = c.self.inside.dropping;
-      number = c.self.inside.number;
-      received = c.self.inside.received;
-    } in
-    let of_entry : new ≡ applied id old entry = λ i. record old { hand = None; number = number i; received = c.in-Ok.ensures.added.1 i } in
-    subst (λ (a : ApplierValue g.row.G.Denot g.row.A.Denot). (e : EntryValue) → a.hand ≡ Some e → new ≡ applied id a e) c.self.view_is
-    (λ e held. of_entry ∙ ap (applied id old) (same_some entry e (sym c.in-Some.is ∙ held)))
+    let free = ap (λ (a : ApplierValue _ _). a.dropping) c.self.view_is ∙ not_dropping c.args.self.now c.args.kept.now.desk late in
+    let number : c.apply.new.number ≡ own c.in-Some.entry = omega (arith, c.in-Ok.ensures.added.0, hand_follows _ _ _ c.self.invariant.counted c.in-Some.is free) in
+    rw (← c.self.view_is) (λ e held. applied_is _ _ _ e _ _ c.self.invariant.counted c.in-Some.is number c.in-Ok.ensures.added.1 held)
 
 pub returns-in-Ok-clause-desk : goal.returns-in-Ok-clause-desk
 returns-in-Ok-clause-desk g c late e held =

@@ -1,12 +1,10 @@
 use Rattle.rights_protocol.specs.Schedules.LocalChange.{Apply}
-use Rattle.std.proofs.Common.{◌≡◌, ◌-◌, false, arith, sym, subst, length, rules}
+use Rattle.std.proofs.Common.{◌≡◌, ◌-◌, arith, subst, length, rules}
 use Rattle.rights_types.specs.Rights.{to}
-use Rattle.rights_book.specs.Books.{peer}
 use Rattle.site_core.specs.Ledgers.{ApplyKeeps}
 use Rattle.site_core.specs.Calls.{DeskApplies}
 use Rattle.apply_lanes.specs.Kepts.{KeptValue, raised}
 use Rattle.apply_lanes.proofs.KeptLaws.{kept_apply, gift_is, numbers_bound}
-use Rattle.site_core.specs.Faults.{has_closed}
 use Rattle.apply_lanes.proofs.StepLaws.{seen, steps_apply}
 use Rattle.apply_lanes.proofs.kept.Kept.apply.Goals as goal
 
@@ -22,8 +20,8 @@ invariant_of-self-2 g c =
     let e = c.args.entry.now in
     let applies = c.in_ok-apply.ensures.ok.entry in
     let keeps = c.in_ok-apply.ensures.keeps c.in_ok-apply.ensures.ok in
-    let next = subst (λ (k : KeptValue). e.prev ≡ (peer k.desk.ledger.book c.args.origin).log.end) (sym c.self.view_is) c.requires.next in
-    let live = subst (λ (k : KeptValue). (peer k.desk.ledger.book c.args.origin).log.closed ≡ false) (sym c.self.view_is) c.requires.unclosed in
+    let next = rw (← c.self.view_is) at c.requires.next in
+    let live = rw (← c.self.view_is) at c.requires.unclosed in
     let count : c.own.result - c.prev.result ≡ length e.moves = omega (arith, c.own.ensures.value, c.prev.ensures.value) in
     let gift : c.received.result - c.received-before.result ≡ to g.D.DeskNames.id.site e.moves =
     omega (arith, c.received.ensures.value, c.received-before.ensures.value, gift_is _ _ c.apply.new.self _ _ i applies keeps) in
@@ -52,9 +50,9 @@ returns-clause-step g c =
     let i = c.self.invariant in
     let applies = c.in_ok-apply.ensures.ok.entry in
     let keeps = c.in_ok-apply.ensures.keeps c.in_ok-apply.ensures.ok in
-    let next = subst (λ (k : KeptValue). c.args.entry.now.prev ≡ (peer k.desk.ledger.book c.args.origin).log.end) (sym c.self.view_is) c.requires.next in
-    let live = subst (λ (k : KeptValue). (peer k.desk.ledger.book c.args.origin).log.closed ≡ false) (sym c.self.view_is) c.requires.unclosed in
-    let unclosed = subst (λ (k : KeptValue). has_closed k.desk ≡ false) (sym c.self.view_is) c.requires.open in
+    let next = rw (← c.self.view_is) at c.requires.next in
+    let live = rw (← c.self.view_is) at c.requires.unclosed in
+    let unclosed = rw (← c.self.view_is) at c.requires.open in
     let id = g.D.DeskNames.id in
     seen id _ _ (Apply c.args.origin c.args.entry.now) c.apply.new.self c.self.view_is
     (steps_apply id _ c.apply.new.self c.args.origin c.args.entry.now i applies keeps c.number.ensures.range.0 c.requires.site c.requires.other unclosed

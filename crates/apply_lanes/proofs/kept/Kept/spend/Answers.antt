@@ -38,14 +38,10 @@ returns-in_default-clause-told g c = search rules
 
 pub returns-in-Spent-clause-step : goal.returns-in-Spent-clause-step
 returns-in-Spent-clause-step g c =
-    let id = g.D.DeskNames.id in
-    let answer = c.in_ok-spending.spending in
-    seen id _ _ (spend_change c.args.amount answer) c.spend.new.self c.self.view_is
-    (steps_spend id _ c.spend.new.self c.args.amount c.args.deadline answer c.self.invariant c.in_ok-spending.ensures.ok c.in_ok-spending.ensures.keeps)
+    seen g.D.DeskNames.id _ _ (spend_change c.args.amount c.in_ok-spending.spending) c.spend.new.self c.self.view_is
+    (steps_spend _ _ _ _ c.args.deadline _ c.self.invariant c.in_ok-spending.ensures.ok c.in_ok-spending.ensures.keeps)
 
 pub returns-in_default-clause-step : goal.returns-in_default-clause-step
 returns-in_default-clause-step g c =
-    let id = g.D.DeskNames.id in
-    let answer = c.in_ok-spending.spending in
-    seen id _ _ (spend_change c.args.amount answer) c.spend.new.self c.self.view_is
-    (steps_spend id _ c.spend.new.self c.args.amount c.args.deadline answer c.self.invariant c.in_ok-spending.ensures.ok c.in_ok-spending.ensures.keeps)
+    seen g.D.DeskNames.id _ _ (spend_change c.args.amount c.in_ok-spending.spending) c.spend.new.self c.self.view_is
+    (steps_spend _ _ _ _ c.args.deadline _ c.self.invariant c.in_ok-spending.ensures.ok c.in_ok-spending.ensures.keeps)

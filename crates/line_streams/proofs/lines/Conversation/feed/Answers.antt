@@ -41,8 +41,8 @@ loop-length-preserved g c =
       ready = write.ready;
       room = write.room;
       short = omega (arith, ap length line.ended);
-      few = omega (arith, inv.few, line.count, c.if-self-eq-LINE_LIMIT.false);
-      counted = omega (arith, inv.counted, line.count, more);
+      few = c.in_ok-count_one.ensures.few;
+      counted = omega (arith, inv.counted, line.count, c.in_ok-count_one.ensures.more, more);
       moves = λ some. omega (arith, more);
       going = λ start input held h.
           let next = going_next g.H.LineHandler.answers start input bytes at _ held _ _ _ (inv.going start input held h) n _ _ _ inv.within c.in-Some.ensures (rw on at line.line) line.ended in
@@ -59,13 +59,14 @@ returns-in_err-keep-clause-fed g c = λ start input held h.
     let p = err_from_is_err_and c.from_residual-in_err-keep.result c.from_residual-in_err-keep.ensures.1 in
     rw (p.1, p.2) (stopped_in g.H.LineHandler.answers start input c.args.bytes.now c.loop-length.at _ held _ _ _ (c.loop-length.invariant.going start input held h) (Fails g.H.LineHandler.fails c.loop-length.handler) (inl refl) _ refl)
 
-pub returns-then-self-eq-LINE_LIMIT-clause-fed : goal.returns-then-self-eq-LINE_LIMIT-clause-fed
-returns-then-self-eq-LINE_LIMIT-clause-fed g c = λ start input held h.
+pub returns-in_err-count_one-clause-fed : goal.returns-in_err-count_one-clause-fed
+returns-in_err-count_one-clause-fed g c = λ start input held h.
+    let p = err_from_is_err_and c.from_residual-in_err-count_one.result c.from_residual-in_err-count_one.ensures.1 in
     let inv = c.loop-length.invariant in
     let line = c.in_ok-end_line.ensures in
     let on = goes_on _ c.in_default-2.not-Ends in
     let next = going_next g.H.LineHandler.answers start input c.args.bytes.now c.loop-length.at _ held _ _ _ (inv.going start input held h) c.in-Some.length _ _ _ inv.within c.in-Some.ensures (rw on at line.line) line.ended in
-    stopped_in g.H.LineHandler.answers start input c.args.bytes.now (c.loop-length.at + (c.in-Some.length + 1)) _ held _ _ _ next (λ state. c.end_line.new.handler ≡ state) refl _ refl
+    rw (p.1, p.2, c.in_err-count_one.ensures.many.0) (stopped_in g.H.LineHandler.answers start input c.args.bytes.now (c.loop-length.at + (c.in-Some.length + 1)) _ held _ _ _ next (λ state. c.end_line.new.handler ≡ state) refl _ refl)
 
 pub returns-in_err-pass_on-clause-fed : goal.returns-in_err-pass_on-clause-fed
 returns-in_err-pass_on-clause-fed g c = λ start input held h.
@@ -77,15 +78,17 @@ returns-in_err-pass_on-clause-fed g c = λ start input held h.
     let part = c.in_err-pass_on.ensures.front in
     rw (p.1, p.2) (stopped_in_write g.H.LineHandler.answers start input c.args.bytes.now (c.loop-length.at + (c.in-Some.length + 1)) _ held _ _ _ next (λ state. c.end_line.new.handler ≡ state) refl _ part.0 part.2)
 
-pub returns-then-self-eq-LINE_LIMIT-2-clause-fed : goal.returns-then-self-eq-LINE_LIMIT-2-clause-fed
-returns-then-self-eq-LINE_LIMIT-2-clause-fed g c = λ start input held h.
-    stopped_in g.H.LineHandler.answers start input c.args.bytes.now c.loop-length.at _ held _ _ _ (c.loop-length.invariant.going start input held h) (λ state. c.loop-length.handler ≡ state) refl _ refl
+pub returns-in_err-count_one-2-clause-fed : goal.returns-in_err-count_one-2-clause-fed
+returns-in_err-count_one-2-clause-fed g c = λ start input held h.
+    let p = err_from_is_err_and c.from_residual-in_err-count_one-2.result c.from_residual-in_err-count_one-2.ensures.1 in
+    rw (p.1, p.2, c.in_err-count_one-2.ensures.many.0)
+    (stopped_in g.H.LineHandler.answers start input c.args.bytes.now c.loop-length.at _ held _ _ _ (c.loop-length.invariant.going start input held h) (λ state. c.loop-length.handler ≡ state) refl _ refl)
 
-pub returns-else-self-eq-LINE_LIMIT-2-clause-short : goal.returns-else-self-eq-LINE_LIMIT-2-clause-short
-returns-else-self-eq-LINE_LIMIT-2-clause-short g c = rw (c.in_ok-keep.ensures) (short_front _)
+pub returns-in_ok-count_one-2-clause-short : goal.returns-in_ok-count_one-2-clause-short
+returns-in_ok-count_one-2-clause-short g c = rw (c.in_ok-keep.ensures) (short_front _)
 
-pub returns-else-self-eq-LINE_LIMIT-2-clause-fed : goal.returns-else-self-eq-LINE_LIMIT-2-clause-fed
-returns-else-self-eq-LINE_LIMIT-2-clause-fed g c = λ start input held h.
+pub returns-in_ok-count_one-2-clause-fed : goal.returns-in_ok-count_one-2-clause-fed
+returns-in_ok-count_one-2-clause-fed g c = λ start input held h.
     going_end g.H.LineHandler.answers start input c.args.bytes.now c.loop-length.at _ held _ _ _ (c.loop-length.invariant.going start input held h) c.memchr.result _ c.in_default.not-Some c.memchr.ensures c.in_ok-keep.ensures
 
 pub returns-else-at-eq0-clause-short : goal.returns-else-at-eq0-clause-short
@@ -95,33 +98,34 @@ pub returns-else-at-eq0-clause-fed : goal.returns-else-at-eq0-clause-fed
 returns-else-at-eq0-clause-fed g c = λ start input held h.
     going_end g.H.LineHandler.answers start input c.args.bytes.now c.loop-length.at _ held _ _ _ (c.loop-length.invariant.going start input held h) c.memchr.result _ c.in_default.not-Some c.memchr.ensures c.in_ok-keep.ensures
 
-pub returns-then-self-eq-LINE_LIMIT-clause-many : goal.returns-then-self-eq-LINE_LIMIT-clause-many
-returns-then-self-eq-LINE_LIMIT-clause-many g c = λ e.
+pub returns-in_err-count_one-clause-many : goal.returns-in_err-count_one-clause-many
+returns-in_err-count_one-clause-many g c = λ e.
+    let full = c.in_err-count_one.ensures in
     let inv = c.loop-length.invariant in
     let at = c.loop-length.at in
     let n = c.in-Some.length in
     let bytes = c.args.bytes.now in
     let cut = cut_found bytes at n inv.within c.in-Some.ensures in
     let more = line_more (take at bytes) _ (take (at + (n + 1)) bytes) cut.1 cut.2 in
-    omega (arith, inv.counted, c.in_ok-end_line.ensures.count, more, line_some bytes (at + (n + 1)), counts_within bytes, c.if-self-eq-LINE_LIMIT.true)
+    omega (arith, inv.counted, c.in_ok-end_line.ensures.count, more, line_some bytes (at + (n + 1)), counts_within bytes, full.more, full.many.1)
 
-pub returns-then-self-eq-LINE_LIMIT-2-clause-many : goal.returns-then-self-eq-LINE_LIMIT-2-clause-many
-returns-then-self-eq-LINE_LIMIT-2-clause-many g c = λ e.
+pub returns-in_err-count_one-2-clause-many : goal.returns-in_err-count_one-2-clause-many
+returns-in_err-count_one-2-clause-many g c = λ e.
     let inv = c.loop-length.invariant in
     let bytes = c.args.bytes.now in
     let none = cut_none bytes c.loop-length.at c.memchr.result c.in_default.not-Some c.memchr.ensures in
     let start = ap (λ (n : ℕ). length (pieces (take n bytes))) c.if-at-eq0.true in
     let still = counts_still bytes (omega (arith, line_none bytes c.loop-length.at none, start)) in
-    omega (arith, inv.counted, start, still, c.if-self-eq-LINE_LIMIT-2.true)
+    omega (arith, inv.counted, start, still, c.in_err-count_one-2.ensures.more, c.in_err-count_one-2.ensures.many.1)
 
-pub returns-else-self-eq-LINE_LIMIT-2-clause-counts : goal.returns-else-self-eq-LINE_LIMIT-2-clause-counts
-returns-else-self-eq-LINE_LIMIT-2-clause-counts g c = λ on some.
+pub returns-in_ok-count_one-2-clause-counts : goal.returns-in_ok-count_one-2-clause-counts
+returns-in_ok-count_one-2-clause-counts g c = λ on some.
     let inv = c.loop-length.invariant in
     let bytes = c.args.bytes.now in
     let none = cut_none bytes c.loop-length.at c.memchr.result c.in_default.not-Some c.memchr.ensures in
     let start = ap (λ (n : ℕ). length (pieces (take n bytes))) c.if-at-eq0.true in
     let still = counts_still bytes (omega (arith, line_none bytes c.loop-length.at none, start)) in
-    omega (arith, inv.counted, start, still)
+    omega (arith, inv.counted, start, still, c.in_ok-count_one-2.ensures.more)
 
 pub returns-else-at-eq0-clause-counts : goal.returns-else-at-eq0-clause-counts
 returns-else-at-eq0-clause-counts g c = λ on some.

@@ -1,66 +1,33 @@
-use Rattle.std.proofs.Common.{◌≡◌, true, false, sym, subst, ap, ◌∙◌, rules}
-use Rattle.entry_codec.specs.Reading.{reading}
-use Rattle.link_intake.specs.Intakes.{IntakeValue, Receives, FindsClosed, LineLeaves}
+use Rattle.std.proofs.Common.{sym, subst, ap, ◌∙◌, rules}
+use Rattle.link_intake.specs.Intakes.{IntakeValue, Receives}
 use Rattle.link_intake.proofs.IntakeLaws.{few_come, dead_intake, can_take, still_intake, line_leaves, finds_closed}
 use Rattle.link_intake.proofs.LineLaws.{receives_arrival, receives_dead}
 use Rattle.link_intake.proofs.intake.Intake.on_line.Goals as goal
 
 pub returns-then-is_dead-clause-leaves : goal.returns-then-is_dead-clause-leaves
 returns-then-is_dead-clause-leaves g c =
-    let old : IntakeValue g.row.A.Denot = record {
-      inbound = c.self.inside.inbound;
-      inlet = c.self.inside.inlet;
-      ended = c.self.inside.ended;
-      finished = c.self.inside.finished;
-    } in
-    let dead : c.self.inside.inlet.dead ≡ true = search rules in
     let came = c.in-Ok.ensures.ok in
-    subst (λ (i : IntakeValue g.row.A.Denot). FindsClosed i (reading c.args.line.now) (record old { inbound = c.on_line.new.self })) c.self.view_is
-    (finds_closed old _ came.0 c.in-Ok.arrival c.on_line.new.self came.1 came.2 dead)
+    rw (← c.self.view_is) (finds_closed _ _ came.0 c.in-Ok.arrival _ came.1 came.2 (search rules))
 
 pub take_in-requires-clause-few : goal.take_in-requires-clause-few
 take_in-requires-clause-few g c = let came = c.in-Ok.ensures.ok in few_come _ came.0 _ _ came.2
 
 pub take_in-requires-clause-entries : goal.take_in-requires-clause-entries
 take_in-requires-clause-entries g c =
-    let old : IntakeValue g.row.A.Denot = record {
-      inbound = c.self.inside.inbound;
-      inlet = c.self.inside.inlet;
-      ended = c.self.inside.ended;
-      finished = c.self.inside.finished;
-    } in
-    let dead : c.self.inside.inlet.dead ≡ false = search rules in
-    let finished : c.self.inside.finished ≡ false = ap (λ (i : IntakeValue _). i.finished) c.self.view_is ∙ c.requires in
     let came = c.in-Ok.ensures.ok in
-    can_take old came.0 _ _ c.self.invariant dead finished came.2
+    can_take _ came.0 _ _ c.self.invariant (search rules) (ap (λ (i : IntakeValue _). i.finished) c.self.view_is ∙ c.requires) came.2
 
 pub invariant_of-self-2 : goal.invariant_of-self-2
 invariant_of-self-2 g c =
-    let old : IntakeValue g.row.A.Denot = record {
-      inbound = c.self.inside.inbound;
-      inlet = c.self.inside.inlet;
-      ended = c.self.inside.ended;
-      finished = c.self.inside.finished;
-    } in
-    let dead : c.self.inside.inlet.dead ≡ false = search rules in
-    let finished : c.self.inside.finished ≡ false = ap (λ (i : IntakeValue _). i.finished) c.self.view_is ∙ c.requires in
     let came = c.in-Ok.ensures.ok in
-    still_intake old (record old { inbound = c.on_line.new.self; inlet = c.take_in.new.inlet; ended = c.take_in.new.ended }) came.0 c.in-Ok.arrival
-    c.take_in.result c.self.invariant dead finished came.2 c.take_in.ensures.ok c.take_in.ensures.err
+    still_intake _ _ came.0 c.in-Ok.arrival c.take_in.result c.self.invariant (search rules) (ap (λ (i : IntakeValue _). i.finished) c.self.view_is ∙ c.requires) came.2
+    (c.take_in.ensures.ok, c.take_in.ensures.err)
 
 pub returns-clause-leaves : goal.returns-clause-leaves
 returns-clause-leaves g c =
-    let old : IntakeValue g.row.A.Denot = record {
-      inbound = c.self.inside.inbound;
-      inlet = c.self.inside.inlet;
-      ended = c.self.inside.ended;
-      finished = c.self.inside.finished;
-    } in
-    let new : IntakeValue g.row.A.Denot = record old { inbound = c.on_line.new.self; inlet = c.take_in.new.inlet; ended = c.take_in.new.ended } in
     let came = c.in-Ok.ensures.ok in
-    subst (λ (i : IntakeValue g.row.A.Denot). LineLeaves i (reading c.args.line.now) c.take_in.result new) c.self.view_is
-    (line_leaves old new _ c.in-Ok.arrival c.take_in.result
-    (record { message = came.0; read_as = came.1; arrives = came.2; lane = c.take_in.ensures.lane }) c.take_in.ensures.ok c.take_in.ensures.err)
+    rw (← c.self.view_is) (line_leaves _ _ _ c.in-Ok.arrival c.take_in.result
+    (record { message = came.0; read_as = came.1; arrives = came.2; lane = c.take_in.ensures.lane }) (c.take_in.ensures.ok, c.take_in.ensures.err))
 
 pub invariant_of-self : goal.invariant_of-self
 invariant_of-self g c = search rules
@@ -82,15 +49,8 @@ returns-in-Err-clause-unfinished g c = search rules
 
 pub invariant_of-self-then-is_dead : goal.invariant_of-self-then-is_dead
 invariant_of-self-then-is_dead g c =
-    let old : IntakeValue g.row.A.Denot = record {
-      inbound = c.self.inside.inbound;
-      inlet = c.self.inside.inlet;
-      ended = c.self.inside.ended;
-      finished = c.self.inside.finished;
-    } in
-    let dead : c.self.inside.inlet.dead ≡ true = search rules in
     let came = c.in-Ok.ensures.ok in
-    dead_intake old came.0 c.in-Ok.arrival c.on_line.new.self c.self.invariant came.2 dead
+    dead_intake _ came.0 c.in-Ok.arrival _ c.self.invariant came.2 (search rules)
 
 pub returns-then-is_dead-clause-refused : goal.returns-then-is_dead-clause-refused
 returns-then-is_dead-clause-refused g c = search rules
@@ -121,29 +81,13 @@ returns-clause-unfinished g c = search rules
 
 pub returns-then-is_dead-clause-log : goal.returns-then-is_dead-clause-log
 returns-then-is_dead-clause-log g c es reached of_log h =
-    let old : IntakeValue g.row.A.Denot = record {
-      inbound = c.self.inside.inbound;
-      inlet = c.self.inside.inlet;
-      ended = c.self.inside.ended;
-      finished = c.self.inside.finished;
-    } in
-    let dead : c.self.inside.inlet.dead ≡ true = search rules in
     let came = c.in-Ok.ensures.ok in
-    let receives = subst (λ (i : IntakeValue g.row.A.Denot). Receives es reached i) (sym c.self.view_is) h in
-    receives_dead es reached old (reading c.args.line.now) came.0 c.in-Ok.arrival c.on_line.new.self receives of_log came.1 came.2 dead
+    let receives = subst (Receives es reached) (sym c.self.view_is) h in
+    receives_dead es reached _ _ came.0 c.in-Ok.arrival _ receives of_log came.1 came.2 (search rules)
 
 pub returns-clause-log : goal.returns-clause-log
 returns-clause-log g c es reached of_log h =
-    let old : IntakeValue g.row.A.Denot = record {
-      inbound = c.self.inside.inbound;
-      inlet = c.self.inside.inlet;
-      ended = c.self.inside.ended;
-      finished = c.self.inside.finished;
-    } in
-    let new : IntakeValue g.row.A.Denot = record old { inbound = c.on_line.new.self; inlet = c.take_in.new.inlet; ended = c.take_in.new.ended } in
-    let dead : c.self.inside.inlet.dead ≡ false = search rules in
-    let finished : c.self.inside.finished ≡ false = ap (λ (i : IntakeValue _). i.finished) c.self.view_is ∙ c.requires in
     let came = c.in-Ok.ensures.ok in
-    let receives = subst (λ (i : IntakeValue g.row.A.Denot). Receives es reached i) (sym c.self.view_is) h in
-    receives_arrival es reached old new (reading c.args.line.now) came.0 c.in-Ok.arrival c.take_in.result receives of_log came.1 dead finished came.2
-    c.take_in.ensures.ok c.take_in.ensures.err
+    let receives = subst (Receives es reached) (sym c.self.view_is) h in
+    receives_arrival es reached _ _ _ came.0 c.in-Ok.arrival c.take_in.result receives of_log came.1 (search rules) (ap (λ (i : IntakeValue _). i.finished) c.self.view_is ∙ c.requires)
+    came.2 (c.take_in.ensures.ok, c.take_in.ensures.err)

@@ -1,10 +1,10 @@
-use Rattle.std.proofs.Common.{◌≡◌, ◌≢◌, ℕ, ◌+◌, ◌<◌, List, [], ◌∷◌, ◌++◌, length, take, drop, inl, sym, ap, subst, ◌∙◌, arith, length-drop}
+use Rattle.std.proofs.Common.{◌≡◌, ◌≢◌, ℕ, ◌+◌, ◌<◌, List, [], ◌∷◌, ◌++◌, length, take, inl, sym, ap, subst, ◌∙◌, arith, length-drop}
 use Rattle.std.proofs.lemmas.List.{take_all, take_rest}
 use Rattle.entry_codec.specs.Pieces.{pieces}
 use Rattle.line_streams.proofs.CountLaws.{counts_lines, counts_still, counts_within, line_some}
 use Rattle.line_streams.specs.Counting.{still}
 use Rattle.peer_links.specs.Links.{IsFedAll}
-use Rattle.peer_links.proofs.ReadLaws.{on_ok, is_none, fed_more, fed_all, one_line, no_line}
+use Rattle.peer_links.proofs.ReadLaws.{on_ok, fed_more, fed_all, one_line, no_line}
 use Rattle.std.proofs.lemmas.Result.{err_from_is_err_and}
 use Rattle.peer_links.specs.Takes.{pieces_behind}
 use Rattle.peer_links.specs.declared.link.LinkFault.TheVariants.{TooManyLines, OutOfMemory}
@@ -17,16 +17,14 @@ returns-then-at-eq0-clause-fed g c =
     let inv = c.pieces.invariant in
     let next = c.in_ok-piece.ensures in
     let bytes = c.args.bytes.now in
-    let all = is_none c.in_ok-piece.piece c.in_default.not-Some next.none in
-    on_ok c.count_one.result (fed_all bytes _ c.pieces.at c.in_ok-piece.taken (take_rest bytes c.pieces.at) c.args.cutter.now c.pieces.cutter c.next_piece.new.cutter inv.6 all inv.0 next.fed)
+    on_ok c.count_one.result (fed_all _ _ _ _ (take_rest bytes c.pieces.at) _ _ inv.6 _ c.in_default.not-Some next.none inv.0 _ next.fed)
 
 pub returns-then-at-eq0-clause-counts : goal.returns-then-at-eq0-clause-counts
 returns-then-at-eq0-clause-counts g c =
     let inv = c.pieces.invariant in
     let next = c.in_ok-piece.ensures in
     let bytes = c.args.bytes.now in
-    let all = is_none c.in_ok-piece.piece c.in_default.not-Some next.none in
-    let same = no_line bytes _ c.pieces.at c.in_ok-piece.taken (take_rest bytes c.pieces.at) c.args.cutter.now c.pieces.cutter c.next_piece.new.cutter inv.6 c.in_ok-piece.piece c.requires.cutter.0 c.requires.cutter.1 next.piece c.in_default.not-Some all inv.0 in
+    let same = no_line _ _ _ _ (take_rest bytes c.pieces.at) _ _ inv.6 _ c.requires.cutter next.piece c.in_default.not-Some next.none inv.0 in
     let none : length (pieces (take c.pieces.at bytes)) ≡ 0 = ap (λ (n : ℕ). length (pieces (take n bytes))) c.if-at-eq0.true in
     on_ok c.count_one.result (omega (arith, c.count_one.ensures.more, inv.2, none, counts_still bytes (same ∙ none)))
 
@@ -35,16 +33,14 @@ returns-else-at-eq0-clause-fed g c =
     let inv = c.pieces.invariant in
     let next = c.in_ok-piece.ensures in
     let bytes = c.args.bytes.now in
-    let all = is_none c.in_ok-piece.piece c.in_default.not-Some next.none in
-    fed_all bytes _ c.pieces.at c.in_ok-piece.taken (take_rest bytes c.pieces.at) c.args.cutter.now c.pieces.cutter c.next_piece.new.cutter inv.6 all inv.0 next.fed
+    fed_all _ _ _ _ (take_rest bytes c.pieces.at) _ _ inv.6 _ c.in_default.not-Some next.none inv.0 _ next.fed
 
 pub returns-else-at-eq0-clause-counts : goal.returns-else-at-eq0-clause-counts
 returns-else-at-eq0-clause-counts g c =
     let inv = c.pieces.invariant in
     let next = c.in_ok-piece.ensures in
     let bytes = c.args.bytes.now in
-    let all = is_none c.in_ok-piece.piece c.in_default.not-Some next.none in
-    let same = no_line bytes _ c.pieces.at c.in_ok-piece.taken (take_rest bytes c.pieces.at) c.args.cutter.now c.pieces.cutter c.next_piece.new.cutter inv.6 c.in_ok-piece.piece c.requires.cutter.0 c.requires.cutter.1 next.piece c.in_default.not-Some all inv.0 in
+    let same = no_line _ _ _ _ (take_rest bytes c.pieces.at) _ _ inv.6 _ c.requires.cutter next.piece c.in_default.not-Some next.none inv.0 in
     let moved : 0 < c.pieces.at = omega (arith, c.if-at-eq0.false) in
     let some : 0 < length (pieces bytes) = omega (arith, inv.3 moved, same) in
     omega (arith, inv.2, same, counts_lines bytes some)
@@ -54,7 +50,7 @@ returns-in_err-count_one-clause-many g c = λ _.
     let inv = c.pieces.invariant in
     let next = c.in_ok-piece.ensures in
     let bytes = c.args.bytes.now in
-    let one = one_line bytes _ c.pieces.at c.in_ok-piece.taken (take_rest bytes c.pieces.at) c.args.cutter.now c.pieces.cutter c.next_piece.new.cutter inv.6 c.in_ok-piece.piece c.requires.cutter.0 c.requires.cutter.1 next.piece c.in-Some.piece c.in-Some.is in
+    let one = one_line _ _ _ _ (take_rest bytes c.pieces.at) _ _ inv.6 _ c.requires.cutter next.piece _ c.in-Some.is in
     let full = c.in_err-count_one.ensures in
     omega (arith, full.more, full.many.1, inv.2, one, line_some bytes (c.pieces.at + c.in_ok-piece.taken), counts_within bytes)
 
@@ -72,9 +68,8 @@ returns-then-at-eq0-clause-takes g c = λ stream h.
     let next = c.in_ok-piece.ensures in
     let bytes = c.args.bytes.now in
     let t = inv.7 stream h in
-    let all = is_none c.in_ok-piece.piece c.in_default.not-Some next.none in
-    let whole = next_none bytes _ c.pieces.at c.in_ok-piece.taken (take_rest bytes c.pieces.at) c.args.cutter.now c.pieces.cutter stream h inv.6 c.in_ok-piece.piece next.piece c.in_default.not-Some all inv.0 in
-    let same = no_line bytes _ c.pieces.at c.in_ok-piece.taken (take_rest bytes c.pieces.at) c.args.cutter.now c.pieces.cutter c.next_piece.new.cutter inv.6 c.in_ok-piece.piece c.requires.cutter.0 c.requires.cutter.1 next.piece c.in_default.not-Some all inv.0 in
+    let whole = next_none _ _ _ _ (take_rest bytes c.pieces.at) _ _ inv.6 _ stream h next.piece c.in_default.not-Some next.none inv.0 in
+    let same = no_line _ _ _ _ (take_rest bytes c.pieces.at) _ _ inv.6 _ c.requires.cutter next.piece c.in_default.not-Some next.none inv.0 in
     let none : length (pieces (take c.pieces.at bytes)) ≡ 0 = ap (λ (n : ℕ). length (pieces (take n bytes))) c.if-at-eq0.true in
     let sum : (c.args.count.now + still (c.args.bytes.now ∷ [])) + length (pieces_behind stream bytes) ≡ c.count_one.new.count = omega (arith, c.count_one.ensures.more, inv.2, none, same, counts_still bytes (same ∙ none), behind_count stream bytes) in
     (t.0, to_count (c.args.count.now + still (c.args.bytes.now ∷ [])) c.count_one.new.count _ _ _ c.count_one.result t.0 c.count_one.ensures.many sum (rw (sym whole) t.1), t.2)
@@ -85,8 +80,7 @@ returns-else-at-eq0-clause-takes g c = λ stream h.
     let next = c.in_ok-piece.ensures in
     let bytes = c.args.bytes.now in
     let t = inv.7 stream h in
-    let all = is_none c.in_ok-piece.piece c.in_default.not-Some next.none in
-    let whole = next_none bytes _ c.pieces.at c.in_ok-piece.taken (take_rest bytes c.pieces.at) c.args.cutter.now c.pieces.cutter stream h inv.6 c.in_ok-piece.piece next.piece c.in_default.not-Some all inv.0 in
+    let whole = next_none _ _ _ _ (take_rest bytes c.pieces.at) _ _ inv.6 _ stream h next.piece c.in_default.not-Some next.none inv.0 in
     (t.0, rw (sym whole) t.1, t.2)
 
 pub returns-in_err-take_piece-clause-takes : goal.returns-in_err-take_piece-clause-takes
@@ -95,9 +89,8 @@ returns-in_err-take_piece-clause-takes g c = λ stream h.
     let inv = c.pieces.invariant in
     let bytes = c.args.bytes.now in
     let piece = c.in_err-take_piece.ensures in
-    let text = next_text bytes _ c.pieces.at c.in_ok-piece.taken (take_rest bytes c.pieces.at) c.args.cutter.now c.pieces.cutter stream h inv.6 c.in_ok-piece.piece c.in_ok-piece.ensures.piece c.in-Some.piece c.in-Some.is in
-    let cut = front_behind stream bytes (c.pieces.at + c.in_ok-piece.taken) ∙ ap (λ (l : List (List ℕ)). l ++ pieces_behind (stream ++ take (c.pieces.at + c.in_ok-piece.taken) bytes) (drop (c.pieces.at + c.in_ok-piece.taken) bytes)) text.2 in
-    rw (p.1, p.2) (one_breaks g.P.Port.hears _ _ _ _ _ _ _ (inv.7 stream h) (c.args.count.now + still (c.args.bytes.now ∷ [])) text.0 _ _ _ piece.may cut (piece.takes text.0 text.1))
+    let text = next_text _ _ _ _ (take_rest bytes c.pieces.at) _ _ inv.6 _ stream h c.in_ok-piece.ensures.piece _ c.in-Some.is in
+    rw (p.1, p.2) (one_breaks g.P.Port.hears _ _ _ _ _ _ _ (inv.7 stream h) (c.args.count.now + still (c.args.bytes.now ∷ [])) text.0 _ _ _ piece.may text.3 (piece.takes text.0 text.1))
 
 pub returns-in_err-count_one-clause-takes : goal.returns-in_err-count_one-clause-takes
 returns-in_err-count_one-clause-takes g c = λ stream h.
@@ -105,15 +98,14 @@ returns-in_err-count_one-clause-takes g c = λ stream h.
     let inv = c.pieces.invariant in
     let bytes = c.args.bytes.now in
     let piece = c.in_ok-take_piece.ensures in
-    let text = next_text bytes _ c.pieces.at c.in_ok-piece.taken (take_rest bytes c.pieces.at) c.args.cutter.now c.pieces.cutter stream h inv.6 c.in_ok-piece.piece c.in_ok-piece.ensures.piece c.in-Some.piece c.in-Some.is in
+    let text = next_text _ _ _ _ (take_rest bytes c.pieces.at) _ _ inv.6 _ stream h c.in_ok-piece.ensures.piece _ c.in-Some.is in
     let more = more_taken g.P.Port.hears _ _ _ _ _ _ _ (inv.7 stream h) text.0 _ (piece.takes text.0 text.1) in
-    let cut = front_behind stream bytes (c.pieces.at + c.in_ok-piece.taken) ∙ ap (λ (l : List (List ℕ)). l ++ pieces_behind (stream ++ take (c.pieces.at + c.in_ok-piece.taken) bytes) (drop (c.pieces.at + c.in_ok-piece.taken) bytes)) text.2 in
     let next = c.in_ok-piece.ensures in
-    let one = one_line bytes _ c.pieces.at c.in_ok-piece.taken (take_rest bytes c.pieces.at) c.args.cutter.now c.pieces.cutter c.next_piece.new.cutter inv.6 c.in_ok-piece.piece c.requires.cutter.0 c.requires.cutter.1 next.piece c.in-Some.piece c.in-Some.is in
+    let one = one_line _ _ _ _ (take_rest bytes c.pieces.at) _ _ inv.6 _ c.requires.cutter next.piece _ c.in-Some.is in
     let some : 0 < length (pieces bytes) = omega (arith, one, line_some bytes (c.pieces.at + c.in_ok-piece.taken)) in
     let full = c.in_err-count_one.ensures in
     let sum : (c.args.count.now + still (c.args.bytes.now ∷ [])) + length (pieces_behind stream (take c.pieces.at bytes) ++ text.0 ∷ []) ≡ 1000000000 = omega (arith, full.more, full.many.1, inv.2, one, counts_lines bytes some, ap length text.2, behind_count stream (take (c.pieces.at + c.in_ok-piece.taken) bytes)) in
-    rw (p.1, p.2, full.many.0) (more.0, to_stop (c.args.count.now + still (c.args.bytes.now ∷ [])) _ _ _ _ _ TooManyLines more.0 cut (more.1, sum), more.2)
+    rw (p.1, p.2, full.many.0) (more.0, to_stop (c.args.count.now + still (c.args.bytes.now ∷ [])) _ _ _ _ _ TooManyLines more.0 text.3 (more.1, sum), more.2)
 
 pub pieces-preserved : goal.pieces-preserved
 pieces-preserved g c =
@@ -121,7 +113,7 @@ pieces-preserved g c =
     let next = c.in_ok-piece.ensures in
     let bytes = c.args.bytes.now in
     let rest = take_rest bytes c.pieces.at in
-    let one = one_line bytes _ c.pieces.at c.in_ok-piece.taken rest c.args.cutter.now c.pieces.cutter c.next_piece.new.cutter inv.6 c.in_ok-piece.piece c.requires.cutter.0 c.requires.cutter.1 next.piece c.in-Some.piece c.in-Some.is in
+    let one = one_line _ _ _ _ rest _ _ inv.6 _ c.requires.cutter next.piece _ c.in-Some.is in
     let count = c.in_ok-count_one.ensures in
     let piece = c.in_ok-take_piece.ensures in (
       omega (arith, inv.0, next.within, ap length rest, length-drop c.pieces.at bytes),
@@ -130,9 +122,9 @@ pieces-preserved g c =
       λ _. omega (arith, one),
       piece.unfinished,
       piece.lane ∙ inv.5,
-      fed_more bytes _ c.pieces.at c.in_ok-piece.taken rest c.args.cutter.now c.pieces.cutter c.next_piece.new.cutter inv.6 next.fed,
+      fed_more _ _ _ _ rest _ _ inv.6 _ next.fed,
       λ stream h.
-          let text = next_text bytes _ c.pieces.at c.in_ok-piece.taken rest c.args.cutter.now c.pieces.cutter stream h inv.6 c.in_ok-piece.piece next.piece c.in-Some.piece c.in-Some.is in
+          let text = next_text _ _ _ _ rest _ _ inv.6 _ stream h next.piece _ c.in-Some.is in
           let more = more_taken g.P.Port.hears _ _ _ _ _ _ _ (inv.7 stream h) text.0 _ (piece.takes text.0 text.1) in
           rw text.2 more,
       pairs_both _ _ _ inv.8 piece.pair,

@@ -1,13 +1,9 @@
-use Rattle.std.proofs.Common.{◌≡◌, ◌≤◌, ◌+◌, ℕ, List, length, get_or, ap, ◌∙◌, arith}
+use Rattle.std.proofs.Common.{◌≡◌, ◌≤◌, ◌+◌, ℕ, List, length, get_or, arith}
 use Rattle.std.proofs.lemmas.List.{with_items_is}
-use Rattle.rights_types.specs.Places.{at_site}
-use Rattle.rights_types.specs.Rights.{to}
 use Rattle.rights_types.specs.declared.moves.Move.{Move}
-use Rattle.rights_book.specs.Accounts.{with_moves}
-use Rattle.rights_book.specs.Peers.{no_peer, with_gifts}
-use Rattle.rights_book.specs.Books.{BookValue, sites, peer}
+use Rattle.rights_book.specs.Books.{BookValue, sites}
 use Rattle.rights_book.specs.declared.peer.Peer.{Peer}
-use Rattle.rights_book.proofs.BookLaws.{bounded, applied_book, applied_facts, with_peer, booked}
+use Rattle.rights_book.proofs.BookLaws.{bounded, applied_book, applied_facts, with_peer, booked_by}
 use Rattle.rights_book.proofs.LeaveLaws.{apply_leaves}
 use Rattle.rights_book.proofs.StandLaws.{own_applied, applied_applied}
 use Rattle.rights_book.proofs.book.Book.apply.Goals as goal
@@ -25,14 +21,11 @@ invariant_of-self g c =
     let o : ℕ = c.args.origin in
     let ms : List Move = c.args.entry.now.moves in
     let whole : length gs ≡ c.self.inside.peers.len = omega (arith, c.add_gifts.auto.peers, c.deref_mut.ensures.len) in
-    let same : length gs ≡ sites x = c.add_gifts.auto.peers ∙ ap length c.deref_mut.ensures.value in
     let high : o ≤ sites x = rw (← c.self.view_is) at c.requires.site in
     let other = rw (← c.self.view_is) at c.requires.other in
-    let gifts : (j : ℕ) → 1 ≤ j → j ≤ sites x → at_site gs j no_peer ≡ with_gifts (peer x j) o j ms = rw (c.deref_mut.ensures.value, c.moves-moves.ensures.value) at c.add_gifts.ensures in
     let read : it ≡ get_or gs c.index.result it = rw (with_items_is c.self.inside.peers gs whole) at c.index_mut-peer.ensures.value in
-    let logs : c.add.new.self ≡ with_moves it.log ms = c.add.ensures.added ∙ ap (with_moves it.log) c.moves-moves.ensures.value in
-    let gave : c.gifts_to.result ≡ to x.me ms = c.gifts_to.ensures.value ∙ ap (to x.me) c.moves-moves.ensures.value in
-    let b = booked x o c.index.result ms gs it c.add.new.self c.gifts_to.result c.index.ensures.value high same gifts read logs gave in
+    let b = booked_by x o c.index.result ms _ _ gs it _ _ c.index.ensures.value high c.moves-moves.ensures.value c.deref_mut.ensures.value c.add_gifts.auto.peers c.add_gifts.ensures
+    read c.add.ensures.added c.gifts_to.ensures.value in
     rw (with_items_is c.self.inside.peers gs whole)
     (applied_book x _ o ms c.self.invariant (omega (arith, c.index.ensures.value)) high other c.moves-moves.ensures.valid.moves (b.kept c.add.ensures.valid) b.applies)
 
@@ -44,16 +37,13 @@ returns g c =
     let o : ℕ = c.args.origin in
     let ms : List Move = c.args.entry.now.moves in
     let whole : length gs ≡ c.self.inside.peers.len = omega (arith, c.add_gifts.auto.peers, c.deref_mut.ensures.len) in
-    let same : length gs ≡ sites x = c.add_gifts.auto.peers ∙ ap length c.deref_mut.ensures.value in
     let low : 1 ≤ o = omega (arith, c.index.ensures.value) in
     let high : o ≤ sites x = rw (← c.self.view_is) at c.requires.site in
     let other = rw (← c.self.view_is) at c.requires.other in
-    let gifts : (j : ℕ) → 1 ≤ j → j ≤ sites x → at_site gs j no_peer ≡ with_gifts (peer x j) o j ms = rw (c.deref_mut.ensures.value, c.moves-moves.ensures.value) at c.add_gifts.ensures in
     let read : it ≡ get_or gs c.index.result it = rw (with_items_is c.self.inside.peers gs whole) at c.index_mut-peer.ensures.value in
-    let logs : c.add.new.self ≡ with_moves it.log ms = c.add.ensures.added ∙ ap (with_moves it.log) c.moves-moves.ensures.value in
-    let gave : c.gifts_to.result ≡ to x.me ms = c.gifts_to.ensures.value ∙ ap (to x.me) c.moves-moves.ensures.value in
     let y : BookValue = with_peer x gs c.index.result (record it { log = c.add.new.self; received = it.received + c.gifts_to.result }) in
-    let b = booked x o c.index.result ms gs it c.add.new.self c.gifts_to.result c.index.ensures.value high same gifts read logs gave in
+    let b = booked_by x o c.index.result ms _ _ gs it _ _ c.index.ensures.value high c.moves-moves.ensures.value c.deref_mut.ensures.value c.add_gifts.auto.peers c.add_gifts.ensures
+    read c.add.ensures.added c.gifts_to.ensures.value in
     let facts = applied_facts x y o ms low high b.applies in
     let unclosed = rw (← c.self.view_is) at c.requires.unclosed in
     let next = rw (← c.self.view_is) at c.requires.next in
