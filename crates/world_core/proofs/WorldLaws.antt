@@ -74,6 +74,12 @@ run_goes_on old new (event ∷ events) (outcome ∷ outcomes) is h =
 run_goes_on old new [] (outcome ∷ outcomes) is h = absurd h
 run_goes_on old new (event ∷ events) [] is h = absurd h
 
+-- .. from a world in a struct whose invariant holds
+pub runs_from : {A : Type 0} (inside old new : WorldValue) (events : List (Event A))
+    (outcomes : List (Result (Reply A) WorldError)) → inside ≡ old → IsWorld inside → Runs old events outcomes new
+    → WorldGoesOn old new
+runs_from inside old new events outcomes same is h = run_goes_on old new events outcomes (subst IsWorld same is) h
+
 -- one more event
 pub runs-push : {A : Type 0} (old mid new : WorldValue) (events : List (Event A)) (event : Event A)
     (outcomes : List (Result (Reply A) WorldError)) (outcome : Result (Reply A) WorldError)
