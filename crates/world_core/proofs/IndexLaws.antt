@@ -39,25 +39,21 @@ desk_found w i s (Some d) e at =
     let lt : i < count w = at.3.0 in
     record { some = at_place w.desks i s d.now (new_desk 0 0) e lt at.1; site = (omega arith, omega arith); none = tt; past = tt }
 
-pub desk_at : (w : WorldValue) (i s : ℕ) (d : DeskValue) → i + 1 ≡ s → IsSiteOf (count w) s → d ≡ get_or w.desks i d → d ≡ desk w s
-desk_at w i s d e among is = at_place w.desks i s d (new_desk 0 0) e (omega (arith, among.1)) is
-
--- it is of its site, in this system
-pub desk_of : (w : WorldValue) (i s : ℕ) (d : DeskValue) → IsWorld w → i + 1 ≡ s → IsSiteOf (count w) s → d ≡ get_or w.desks i d → (sites d.ledger.book ≡ count w) × (d.ledger.log.site ≡ s)
-desk_of w i s d is e among read =
-    let same : d ≡ desk w s = desk_at w i s d e among read in
-    let sound : SiteSound w s = is.sites s among in
-    (ap (λ (x : DeskValue). sites x.ledger.book) same ∙ sound.system, ap (λ (x : DeskValue). x.ledger.log.site) same ∙ sound.me)
+-- the desk of a site is of that site, in this system
+pub desk_of : (w : WorldValue) (s : ℕ) (d : DeskValue) → IsWorld w → IsSiteOf (count w) s → d ≡ desk w s
+    → (sites d.ledger.book ≡ count w) × (d.ledger.log.site ≡ s)
+desk_of w s d is among same =
+    let sound : SiteSound w s = is.sites s among in (
+      ap (λ (x : DeskValue). sites x.ledger.book) same ∙ sound.system,
+      ap (λ (x : DeskValue). x.ledger.log.site) same ∙ sound.me,
+    )
 
 -- ---- links
 
-pub row_at : (w : WorldValue) (i s : ℕ) (r : List (Option LinkValue)) → IsWorld w → i + 1 ≡ s → IsSiteOf (count w) s → r ≡ get_or w.links i r → r ≡ row w s
-row_at w i s r is e among read = at_place w.links i s r [] e (omega (arith, among.1, is.rows)) read
-
--- the link that is read in a row
-pub link_at : (w : WorldValue) (i s o from : ℕ) (r : List (Option LinkValue)) (found : Option LinkValue) → IsWorld w → IsSiteOf (count w) s
-    → i + 1 ≡ s → r ≡ get_or w.links i r → from ≡ o → found ≡ at_site r from None → found ≡ link w s o
-link_at w i s o from r found is among e read same at = at ∙ ap (λ k. at_site r k None) same ∙ ap (λ x. at_site x o None) (row_at w i s r is e among read)
+-- the link that is read in the row of a site
+pub link_at : (w : WorldValue) (s o from : ℕ) (r : List (Option LinkValue)) (found : Option LinkValue) → r ≡ row w s
+    → from ≡ o → found ≡ at_site r from None → found ≡ link w s o
+link_at w s o from r found is same at = at ∙ ap (λ k. at_site r k None) same ∙ ap (λ x. at_site x o None) is
 
 pub row_found : (w : WorldValue) (i s : ℕ) (r : Bor (List (Option LinkValue))) → i + 1 ≡ s → IsItemAt w.links i (Some r) → r.now ≡ row w s
 row_found w i s r e at = at_place w.links i s r.now [] e at.3.0 at.1

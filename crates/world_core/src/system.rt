@@ -3,7 +3,7 @@
 ghost use Rattle.std.specs.Prelude.{◌≡◌, ◌≤◌, None, IfOk};
 ghost use Rattle.rights_types.specs.declared.limits.TheConstants.{MIN_SITES, MAX_SITES};
 ghost use Rattle.world_core.specs.Worlds.{start, ended};
-ghost use Rattle.world_core.specs.Faults.{is_site, site_fault, link_fault, arrive_fault, fault_of};
+ghost use Rattle.world_core.specs.Faults.{is_site, site_fault, link_fault, arrive_fault, place_fault, fault_of};
 ghost use Rattle.world_core.specs.Step.{wants_memory, Attempts, Step};
 ghost use Rattle.world_core.specs.Sound.{IsWorld};
 
@@ -35,10 +35,11 @@ pub(crate) struct System<A: Allocator, K: Keeping> {
 
 impl<A: Allocator, K: Keeping> Model for System<A, K> {
     ghost use Rattle.world_core.specs.Values.{WorldValue};
+    ghost use Rattle.world_core.specs.Bodies.{world_of};
 
     ghost Value = { WorldValue };
 
-    ghost view = { λ w. record { desks = w.desks.items; links = w.links.items; packets = w.packets.items; ended = w.ended } };
+    ghost view = { λ w. world_of w };
 }
 
 impl<A: Allocator + Copy, K: Keeping> System<A, K> {
@@ -93,7 +94,7 @@ impl<A: Allocator + Copy, K: Keeping> System<A, K> {
     // An event that is not refused because of its sites or its packet.
     fn attempt(&mut self, event: &Event<A>) -> Result<Reply<A>, WorldError>
         requires kept { IsWorld self.old }
-        requires none { fault_of self.old event.now ≡ None }
+        requires place { place_fault self.old event.now ≡ None }
         ensures { Attempts self.old event.now result self.new }
     {
         match event {

@@ -1,38 +1,42 @@
-use Rattle.std.proofs.Common.{◌≡◌, [], ◌∷◌, Ok, get_or, sym, subst, ◌∙◌}
+use Rattle.std.proofs.Common.{◌≡◌, [], ◌∷◌}
 use Rattle.std.specs.List.{Contains}
 use Rattle.std.proofs.lemmas.List.Elements.{All-nil, All-cons, All-head}
 use Rattle.rights_types.specs.Entries.{EntryValue}
-use Rattle.rights_protocol.specs.Lists.{IsSiteOf}
-use Rattle.world_core.specs.Values.{WorldValue}
-use Rattle.world_core.specs.Worlds.{count, log}
-use Rattle.world_core.specs.LinkEvents.{EntriesCome}
-use Rattle.world_core.specs.Sound.{IsWorld}
-use Rattle.world_core.specs.declared.reply.Reply.TheVariants.{Verdicts}
-use Rattle.world_core.proofs.MessageLaws.{with_row_at, row_same, entries_fit, entries_arrive, entries_want}
+use Rattle.world_core.specs.Bodies.{world_of}
+use Rattle.world_core.specs.Worlds.{log}
+use Rattle.world_core.proofs.EventPlaces.{LentRow, lent_row, row_unchanged}
+use Rattle.world_core.proofs.MessageLaws.{entries_fit, entries_arrive, entries_want}
+use Rattle.world_core.proofs.system.System.entry_comes.Given as given
 use Rattle.world_core.proofs.system.System.entry_comes.Goals as goal
+use Rattle.world_core.proofs.system.System.entry_comes.Goals.{After-index_mut}
+
+-- the links that are borrowed are those of the site
+lent_links : (g : given.Over) (c : goal.After-index_mut g)
+    → LentRow (world_of c.self.inside) c.args.self.now c.index.result c.args.site c.index_mut.result.now
+lent_links g c =
+    lent_row _ c.args.self.now _ _ _ c.self.view_is c.index.ensures.value c.requires.site c.requires.kept.rows
+    c.index_mut.ensures.value
 
 pub take_entry-requires : goal.take_entry-requires
 take_entry-requires g c =
-    let read = subst (λ (w : WorldValue). c.index_mut.result.now ≡ get_or w.links c.index.result c.index_mut.result.now) c.self.view_is c.index_mut.ensures.value in
-    let logged = All-cons (Contains (log c.args.self.now c.args.from)) c.args.entry [] c.requires.logged (All-nil (Contains (log c.args.self.now c.args.from))) in
-    let fit = entries_fit c.args.self.now c.index.result c.args.site c.args.from c.index_mut.result.now (c.args.entry ∷ []) c.requires.kept c.requires.site c.requires.from c.requires.differ
-    c.index.ensures.value read logged in
+    let at = lent_links g (goal.at.take_entry-requires g c).After-index_mut in
+    let is_logged = Contains (log c.args.self.now c.args.from) in
+    let logged = All-cons is_logged c.args.entry [] c.requires.logged (All-nil is_logged) in
+    let fit =
+    entries_fit _ c.args.self.now _ _ c.args.from _ (c.args.entry ∷ []) c.requires.kept c.requires.site c.requires.from
+    c.requires.differ at logged in
     record { there = (fit.0, fit.1, All-head (λ (e : EntryValue). e.origin ≡ fit.0.inbound.buffer.origin) c.args.entry [] fit.2) }
 
 pub returns-in_err-verdicts : goal.returns-in_err-verdicts
 returns-in_err-verdicts g c =
-    let v : WorldValue = record { desks = c.self.inside.desks.items; links = c.self.inside.links.items; packets = c.self.inside.packets.items; ended = c.self.inside.ended } in
-    let same : with_row_at v c.index.result c.take_entry.new.self ≡ v = row_same v c.index.result c.index_mut.result.now c.take_entry.new.self c.index_mut.ensures.value c.in_err-verdicts.ensures.err in
-    entries_want g.row.A.Denot c.args.self.now c.args.site c.args.from (c.args.entry ∷ []) c.from_residual.result _ c.from_residual.ensures.1 (same ∙ c.self.view_is)
+    let at = lent_links g (goal.at.returns-in_err-verdicts g c).After-index_mut in
+    entries_want g.row.A.Denot c.args.self.now c.args.site c.args.from (c.args.entry ∷ []) _ _ c.from_residual.ensures.1
+    (row_unchanged _ _ _ _ _ c.take_entry.new.self at c.in_err-verdicts.ensures.err)
 
 pub returns : goal.returns
 returns g c =
-    let v : WorldValue = record { desks = c.self.inside.desks.items; links = c.self.inside.links.items; packets = c.self.inside.packets.items; ended = c.self.inside.ended } in
-    let is = subst IsWorld (sym c.self.view_is) c.requires.kept in
-    let among = subst (λ (w : WorldValue). IsSiteOf (count w) c.args.site) (sym c.self.view_is) c.requires.site in
-    let logged = subst (λ (w : WorldValue). Contains (log w c.args.from) c.args.entry) (sym c.self.view_is) c.requires.logged in
+    let at = lent_links g (goal.at.returns g c).After-index_mut in
+    let w = c.args.self.now in
     let t = c.in_ok-verdicts.ensures.ok in
-    let come = entries_arrive g.row.A.Denot v c.index.result c.args.site c.args.from c.index_mut.result.now c.take_entry.new.self t.0 t.1 (c.args.entry ∷ []) c.in_ok-verdicts.verdicts is
-    among c.index.ensures.value c.index_mut.ensures.value t.2 t.3 (t.4 (log v c.args.from) logged) in
-    subst (λ (w : WorldValue). EntriesCome {A = g.row.A.Denot} w c.args.site c.args.from (c.args.entry ∷ []) (Ok (Verdicts c.in_ok-verdicts.verdicts)) (with_row_at v c.index.result c.take_entry.new.self))
-    c.self.view_is come
+    entries_arrive g.row.A.Denot _ w _ _ c.args.from _ c.take_entry.new.self t.0 t.1 (c.args.entry ∷ [])
+    c.in_ok-verdicts.verdicts c.requires.kept at t.2 t.3 (t.4 (log w c.args.from) c.requires.logged)
