@@ -65,7 +65,8 @@ entries_arrive A there w i s o was now before after es verdicts is at found left
     }
 
 -- only memory was lacking
-pub entries_want : (A : Type 0) (old : WorldValue) (s o : ℕ) (es : List EntryValue) (outcome : Result (Reply A) WorldError)
+pub entries_want : (A : Type 0) (old : WorldValue) (s o : ℕ) (es : List EntryValue)
+    (outcome : Result (Reply A) WorldError)
     (new : WorldValue) → IsErrAnd outcome (λ e. e ≡ OutOfMemory) → new ≡ old
     → EntriesCome {A = A} old s o es outcome new
 entries_want A old s o es (Ok reply) new is h = absurd is
@@ -80,7 +81,8 @@ pub beat_comes : (A : Type 0) (there w : WorldValue) (i s o number told : ℕ) (
 beat_comes A there w i s o number told was now before at same found left = (
   before,
   sym (ap (λ r. at_site r o None) at.is) ∙ found,
-  relinked there w i s o was now (heard before number) at (left ∙ ap (λ n. set_site was o (Some (heard before n))) same),
+  relinked there w i s o was now (heard before number) at
+      (left ∙ ap (λ n. set_site was o (Some (heard before n))) same),
 )
 
 -- ---- denials
@@ -151,7 +153,8 @@ pub wants_memory : (A : Type 0) (old : WorldValue) (s : ℕ) (ask : AskValue) (o
     → AskComes {A = A} old s ask outcome new
 wants_memory A old s ask (Ok reply) new is h = absurd is
 wants_memory A old s ask (Err e) new is h =
-    subst (λ x. AskComes {A = A} old s ask (Err x) new) (sym is) (wants_by A old s ask (answer_of (desk old s) ask) new h)
+    subst (λ x. AskComes {A = A} old s ask (Err x) new) (sym is)
+    (wants_by A old s ask (answer_of (desk old s) ask) new h)
 
 -- ---- queries
 

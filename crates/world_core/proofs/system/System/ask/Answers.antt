@@ -18,4 +18,5 @@ returns-in-Some g c =
     (outstanding_ask d.manager c.args.peer)) (Some line)) at.is (rw c.in-Some.is
     at c.in_ok-ask_line.ensures.line) in
     sends_line g.row.A.Denot (λ l. l.items) _ c.args.self.now _ _ _ _ line _ _ _ _ c.self.view_is spelled
-    c.new.ensures refl c.in_ok-reserve_line.ensures.items c.add_line-number.ensures.number c.add_line-number.ensures.added
+    c.new.ensures refl c.in_ok-reserve_line.ensures.items c.add_line-number.ensures.number
+    c.add_line-number.ensures.added

@@ -1,18 +1,22 @@
-use Rattle.std.proofs.Common.{◌≡◌, ℕ, List, Ok, sym, ap, refl, subst, ◌∙◌, arith}
+use Rattle.std.proofs.Common.{◌≡◌, ℕ, List, Result, Ok, sym, ap, refl, subst, ◌∙◌, arith}
+use Rattle.transfer_manager.specs.declared.answer.AskAnswer.{AskAnswer}
 use Rattle.transfer_manager.specs.declared.answer.AskAnswer.TheVariants.{Grant, Repeated, OldAsk}
 use Rattle.site_core.specs.Calls.{denial_of, LineOf, DeskAnswers}
-use Rattle.world_core.specs.Values.{PacketValue}
+use Rattle.world_core.specs.Values.{PacketValue, WorldValue}
 use Rattle.world_core.specs.Values.BodyValue.{Text}
 use Rattle.world_core.specs.Worlds.{with_desk}
 use Rattle.world_core.specs.Bodies.{world_of}
+use Rattle.world_core.specs.LinkEvents.{AskComesBy, AskComes}
+use Rattle.world_core.specs.declared.fault.WorldError.{WorldError}
+use Rattle.world_core.specs.declared.reply.Reply.{Reply}
 use Rattle.world_core.specs.declared.reply.Reply.TheVariants.{Granted, Denied, GrantedBefore, Old}
 use Rattle.world_core.proofs.EventPlaces.{Lent, lent, with_at}
 use Rattle.world_core.proofs.IndexLaws.{desk_of}
 use Rattle.world_core.proofs.LinkCalls.{sends_line}
-use Rattle.world_core.proofs.MessageLaws.{desk_same, answered, grants, denies, wants_memory}
+use Rattle.world_core.proofs.MessageLaws.{with_desk_at, desk_same, answered, grants, denies, wants_memory}
 use Rattle.world_core.proofs.system.System.ask_comes.Given as given
 use Rattle.world_core.proofs.system.System.ask_comes.Goals as goal
-use Rattle.world_core.proofs.system.System.ask_comes.Goals.{After-index_mut}
+use Rattle.world_core.proofs.system.System.ask_comes.Goals.{After-index_mut, In_ok-reply}
 
 -- the desk that is borrowed is that of the site
 lent_desk : (g : given.Over) (c : goal.After-index_mut g)
@@ -66,7 +70,8 @@ returns-in-Deny-default-Some g c =
     let made : packet ≡ record { from = site; to = ask.asker; body = Text text } =
     ap (λ (k : ℕ). record { from = site; to = k; body = Text text }) c.asker.ensures.value in
     let sent =
-    sends_line g.row.A.Denot (λ (t : List ℕ). t) (with_at (world_of c.self.inside) c.index.result d) (with_desk w site d)
+    sends_line g.row.A.Denot (λ (t : List ℕ). t) (with_at (world_of c.self.inside) c.index.result d)
+    (with_desk w site d)
     site ask.asker c.add_line-number.result (denial_of ask answer) text text packet c.reserve_line.new.self.items
     c.add_line-number.new.self.items (at.changed d) line refl made c.in_ok-reserve_line.ensures.items
     c.add_line-number.ensures.number c.add_line-number.ensures.added in
@@ -74,24 +79,30 @@ returns-in-Deny-default-Some g c =
     c.in_ok-reply.ensures.answer
     (denies g.row.A.Denot _ w _ _ _ d ask answer c.in_ok-reply.reply.number _ _ at c.in_ok-reply.ensures.ok sent)
 
+-- an answer that leaves the desk as it was
+answers_again : (g : given.Over) (c : goal.In_ok-reply g) (answer : AskAnswer)
+    (outcome : Result (Reply g.row.A.Denot) WorldError)
+    → ((new : WorldValue) → new ≡ c.args.self.now
+    → AskComesBy answer c.args.self.now c.args.site c.args.ask.now outcome new)
+    → c.in_ok-reply.reply.answer ≡ answer → c.on_ask.new.self ≡ c.index_mut.result.now
+    → Lent (world_of c.self.inside) c.args.self.now c.index.result c.args.site c.index_mut.result.now
+    → AskComes c.args.self.now c.args.site c.args.ask.now outcome
+    (with_desk_at (world_of c.self.inside) c.index.result c.on_ask.new.self c.reserve_line.new.self.items)
+answers_again g c answer outcome comes is same at =
+    answered g.row.A.Denot _ c.args.self.now _ _ _ c.args.ask.now answer outcome _ at
+    (sym is ∙ c.in_ok-reply.ensures.answer)
+    (comes _ (desk_same _ _ _ _ _ c.on_ask.new.self _ at same c.in_ok-reserve_line.ensures.items))
+
 pub returns-in-Repeated-default-default : goal.returns-in-Repeated-default-default
 returns-in-Repeated-default-default g c =
-    let at = lent_desk g (goal.at.returns-in-Repeated-default-default g c).After-index_mut in
+    let at = goal.at.returns-in-Repeated-default-default g c in
     let is = c.in-Repeated-default-default.is-0 in
-    let left =
-    subst (λ x. DeskAnswers c.index_mut.result.now c.args.ask.now x c.in_ok-reply.reply.number c.on_ask.new.self) is
-    c.in_ok-reply.ensures.ok in
-    answered g.row.A.Denot _ c.args.self.now _ _ _ c.args.ask.now Repeated (Ok GrantedBefore) _ at
-    (sym is ∙ c.in_ok-reply.ensures.answer)
-    (desk_same _ _ _ _ _ c.on_ask.new.self _ at left.1 c.in_ok-reserve_line.ensures.items)
+    let left = rw is at c.in_ok-reply.ensures.ok in
+    answers_again g at.In_ok-reply Repeated (Ok GrantedBefore) (λ _ h. h) is left.1 (lent_desk g at.After-index_mut)
 
 pub returns-in-OldAsk-default-default : goal.returns-in-OldAsk-default-default
 returns-in-OldAsk-default-default g c =
-    let at = lent_desk g (goal.at.returns-in-OldAsk-default-default g c).After-index_mut in
+    let at = goal.at.returns-in-OldAsk-default-default g c in
     let is = c.in-OldAsk-default-default.is-0 in
-    let left =
-    subst (λ x. DeskAnswers c.index_mut.result.now c.args.ask.now x c.in_ok-reply.reply.number c.on_ask.new.self) is
-    c.in_ok-reply.ensures.ok in
-    answered g.row.A.Denot _ c.args.self.now _ _ _ c.args.ask.now OldAsk (Ok Old) _ at
-    (sym is ∙ c.in_ok-reply.ensures.answer)
-    (desk_same _ _ _ _ _ c.on_ask.new.self _ at left.1 c.in_ok-reserve_line.ensures.items)
+    let left = rw is at c.in_ok-reply.ensures.ok in
+    answers_again g at.In_ok-reply OldAsk (Ok Old) (λ _ h. h) is left.1 (lent_desk g at.After-index_mut)

@@ -18,7 +18,9 @@ returns g c =
     (link_known c.args.self.now _ _ c.requires).0 c.index-2.ensures in
     let line = c.in_ok-line.line in
     let spelled =
-    subst (λ (d : DeskValue). LineOf (λ l. l.items) (Some (beat_of d.ledger.log)) (Some line)) at.is c.in_ok-line.ensures in
+    subst (λ (d : DeskValue). LineOf (λ l. l.items) (Some (beat_of d.ledger.log)) (Some line)) at.is
+    c.in_ok-line.ensures in
     sends_line g.row.A.Denot (λ l. l.items) _ c.args.self.now _ _ _
     (Some (beat_of (desk c.args.self.now c.args.site).ledger.log)) line _ _ _ _ c.self.view_is spelled
-    c.new.ensures refl c.in_ok-reserve_line.ensures.items c.add_line-number.ensures.number c.add_line-number.ensures.added
+    c.new.ensures refl c.in_ok-reserve_line.ensures.items c.add_line-number.ensures.number
+    c.add_line-number.ensures.added

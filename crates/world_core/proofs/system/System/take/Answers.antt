@@ -48,36 +48,22 @@ is_next g c links = sym (rw (c.in-Some.is, links.is) at c.next.ensures)
 is_open : (g : given.Over) (c : goal.After-own-number g) → has_closed c.index_mut-desk.result.now ≡ false
 is_open g c = ap (λ (l : LogValue). is_closed l.entries) (sym c.log.ensures.value) ∙ sym c.if-closed.ensures
 
--- it can apply the entry
-is_ready : (g : given.Over) (c : goal.After-own-number g)
-    → Lent (world_of c.self.inside) c.args.self.now c.index.result c.args.site c.index_mut-desk.result.now
-    → LentRow (world_of c.self.inside) c.args.self.now c.index-2.result c.args.site c.index-3.result.now
-    → CanApply c.index_mut-desk.result.now c.args.origin c.in-Some.entry.now
-is_ready g c desk links =
+pub apply-requires : goal.apply-requires
+apply-requires g c =
+    let at = goal.at.apply-requires g c in
     let w = c.args.self.now in
     let known = link_known w c.args.site c.args.origin c.requires.place in
-    subst (λ d. CanApply d c.args.origin c.in-Some.entry.now) (sym desk.is)
-    (can_apply w _ _ _ c.requires.kept known.0 known.1 known.2 (is_next g c links))
-
-pub apply-requires-clause-site : goal.apply-requires-clause-site
-apply-requires-clause-site g c =
-    let at = goal.at.apply-requires-clause-site g c in
-    (is_ready g c (lent_desk g at.After-index_mut-desk) (lent_links g at.After-index-3)).site
-
-pub apply-requires-clause-other : goal.apply-requires-clause-other
-apply-requires-clause-other g c =
-    let at = goal.at.apply-requires-clause-other g c in
-    (is_ready g c (lent_desk g at.After-index_mut-desk) (lent_links g at.After-index-3)).other
-
-pub apply-requires-clause-unclosed : goal.apply-requires-clause-unclosed
-apply-requires-clause-unclosed g c =
-    let at = goal.at.apply-requires-clause-unclosed g c in
-    (is_ready g c (lent_desk g at.After-index_mut-desk) (lent_links g at.After-index-3)).unclosed
-
-pub apply-requires-clause-next : goal.apply-requires-clause-next
-apply-requires-clause-next g c =
-    let at = goal.at.apply-requires-clause-next g c in
-    (is_ready g c (lent_desk g at.After-index_mut-desk) (lent_links g at.After-index-3)).next
+    let next = is_next g at.After-own-number (lent_links g at.After-index-3) in
+    let ready : CanApply c.index_mut-desk.result.now c.args.origin c.in-Some.entry.now =
+    subst (λ d. CanApply d c.args.origin c.in-Some.entry.now) (sym (lent_desk g at.After-index_mut-desk).is)
+    (can_apply w _ _ _ c.requires.kept known.0 known.1 known.2 next) in
+    record {
+      site = ready.site;
+      other = ready.other;
+      unclosed = ready.unclosed;
+      next = ready.next;
+      «open» = is_open g at.After-own-number;
+    }
 
 pub returns-in_err-back : goal.returns-in_err-back
 returns-in_err-back g c =
@@ -87,8 +73,13 @@ returns-in_err-back g c =
     let next = is_next g at.After-own-number (lent_links g at.After-index-3) in
     let opened : is_closed (log w c.args.site) ≡ false =
     subst (λ d. has_closed d ≡ false) desk.is (is_open g at.After-own-number) in
-    let closing : TakesClosing w c.args.site c.args.origin =
-    (opened, c.in-Some.entry.now, next, λ none. (let bad : false ≡ true = c.in_err-back.ensures.memory none in absurd cc)) in
+    let closing : TakesClosing w c.args.site c.args.origin = (
+      opened,
+      c.in-Some.entry.now,
+      next,
+      λ none. (let bad : false ≡ true = c.in_err-back.ensures.memory none in
+          absurd cc),
+    ) in
     let err = err_from_is_err_and c.from_residual.result c.from_residual.ensures.1 in
     rw (err.1, err.2) (closing, unchanged _ w _ _ _ c.apply.new.self desk c.in_err-back.ensures.err)
 
