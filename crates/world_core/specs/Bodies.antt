@@ -1,4 +1,4 @@
--- Values that are stored in one of several forms, as plain data.
+-- Values that are stored in one of several forms, and the fields of a system, as plain data.
 use Rattle.std.specs.Prelude.{List}
 use Rattle.world_core.specs.Values.{BodyValue, WorldValue}
 use Rattle.world_core.specs.Values.BodyValue.{EntryAt, Text}

@@ -1,5 +1,4 @@
-//! The desks and links of all sites, and all packets: the effect of each event on them. The world has their invariant,
-//! and passes it to each event.
+//! The desks and links of all sites, and all packets: the effect of each event on them.
 ghost use Rattle.std.specs.Prelude.{◌≡◌, ◌≤◌, None, IfOk};
 ghost use Rattle.rights_types.specs.declared.limits.TheConstants.{MIN_SITES, MAX_SITES};
 ghost use Rattle.world_core.specs.Worlds.{start, ended};
@@ -23,7 +22,8 @@ use site_core::Desk;
 use std::alloc::Allocator;
 use std::marker::Model;
 
-/// All sites, and all packets ever sent. Once the system has ended, no event happens.
+/// All sites, and all packets ever sent. Once the system has ended, no event happens. It is apart from `World`, which
+/// has the invariant: so a call changes one field after another, and the invariant is proved once, of the whole event.
 #[derive(Drop)]
 pub(crate) struct System<A: Allocator, K: Keeping> {
     pub(crate) desks: Vec<Desk<A>, A>,
@@ -91,7 +91,8 @@ impl<A: Allocator + Copy, K: Keeping> System<A, K> {
         self.ended = true;
     }
 
-    // An event that is not refused because of its sites or its packet.
+    // An event that is not refused because of its sites or its packet. It is apart from `happen`, so that each arm is
+    // proved where it returns: after the match all outcomes would be one, of which only lack of memory matters.
     fn attempt(&mut self, event: &Event<A>) -> Result<Reply<A>, WorldError>
         requires kept { IsWorld self.old }
         requires place { place_fault self.old event.now ≡ None }

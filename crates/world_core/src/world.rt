@@ -56,6 +56,7 @@ impl<A: Allocator + Copy> World<A, ForReplies> {
 }
 
 impl<A: Allocator + Copy, K: Keeping> World<A, K> {
+    // Both of the above, which differ only in what the links keep.
     fn start(alloc: A, sites: u64) -> Result<World<A, K>, OutOfMemory>
         requires { (MIN_SITES ≤ sites) × (sites ≤ MAX_SITES) }
         ensures { IfOk result (λ world. world ≡ start sites) }
