@@ -34,7 +34,8 @@ use Rattle.world_core.specs.Sound.{LinkSound, IsSaid, MayCome, IsBody, IsSent, I
 -- ---- the message of a packet
 
 -- an entry of a log, by its index
-entry_at : (o : ℕ) (es : List EntryValue) (place : ℕ) → IsChain o es → place < length es → (e : EntryValue) × (slice_get es place ≡ Some e) × Contains es e × IsEntry e
+entry_at : (o : ℕ) (es : List EntryValue) (place : ℕ) → IsChain o es → place < length es
+    → (e : EntryValue) × (slice_get es place ≡ Some e) × Contains es e × IsEntry e
 entry_at o es place chain lt =
     elim (slice_get_cases es place).1 [
       | inl f ↦ (f.0, f.2, (place, f.1, f.3), (is_entry o false 0 es f.0 chain (place, f.1, f.3)).0)
@@ -50,7 +51,8 @@ may_come w s p (AnAsk a) h = h
 may_come w s p (ADenial d) h = h
 may_come w s p (AHello site) h = h
 
-body_brings : (w : WorldValue) (s p : ℕ) (b : BodyValue) → IsChain s (log w s) → IsBody w s p b → (m : MessageValue) × Spells m (body_text (log w s) b) × MayCome w s p m
+body_brings : (w : WorldValue) (s p : ℕ) (b : BodyValue) → IsChain s (log w s) → IsBody w s p b
+    → (m : MessageValue) × Spells m (body_text (log w s) b) × MayCome w s p m
 body_brings w s p (EntryAt place) chain lt =
     let e = entry_at s (log w s) place chain lt in
     (AnEntry e.0, (e.3, ap line_of e.1), e.2)
@@ -59,35 +61,48 @@ body_brings w s p (Text text) chain h = (h.0, h.1, may_come w s p h.0 h.2)
 -- ---- nothing refuses it
 
 -- what holds of all moves of a log holds of those of each entry
-of_entry : (P : Move → Type 0) (es : List EntryValue) (e : EntryValue) → All P (moves_of es) → Contains es e → All P e.moves
+of_entry : (P : Move → Type 0) (es : List EntryValue) (e : EntryValue) → All P (moves_of es) → Contains es e
+    → All P e.moves
 unfolding moves_of
 of_entry P [] e all there = absurd (not_in_nil e there)
 of_entry P (x ∷ es) e all there =
     elim (contains_cases x es e there) [
-      | inl same ↦ subst (λ (y : EntryValue). All P y.moves) same (subst (All P) (take_at x.moves (moves_of es) (length x.moves) refl) (All-take P (length x.moves) _ all))
-      | inr later ↦ of_entry P es e (subst (All P) (drop_at x.moves (moves_of es) (length x.moves) refl) (All-drop P (length x.moves) _ all)) later
+      | inl same ↦ subst (λ (y : EntryValue). All P y.moves) same
+          (subst (All P) (take_at x.moves (moves_of es) (length x.moves) refl) (All-take P (length x.moves) _ all))
+      | inr later ↦ of_entry P es e (subst (All P) (drop_at x.moves (moves_of es) (length x.moves) refl)
+          (All-drop P (length x.moves) _ all)) later
     ]
 
 -- entries of a log of this system fit this system
-none_foreign : (n : ℕ) (es some : List EntryValue) → All (λ (m : Move). is_foreign n m ≡ false) (moves_of es) → All (Contains es) some → has_foreign n some ≡ false
+none_foreign : (n : ℕ) (es some : List EntryValue) → All (λ (m : Move). is_foreign n m ≡ false) (moves_of es)
+    → All (Contains es) some → has_foreign n some ≡ false
 none_foreign n es some native all =
-    list_any_none _ some (λ k d lt. list_any_none (is_foreign n) _ (of_entry (λ m. is_foreign n m ≡ false) es _ native (all k d lt)))
+    list_any_none _ some (λ k d lt. list_any_none (is_foreign n) _
+    (of_entry (λ m. is_foreign n m ≡ false) es _ native (all k d lt)))
 
-passes : (i : InboundValue) (m : MessageValue) → sender m ≡ i.buffer.origin → is_for i.buffer.me m ≡ true → has_foreign i.sites (entries_of m) ≡ false → message_fault i m ≡ None
+passes : (i : InboundValue) (m : MessageValue) → sender m ≡ i.buffer.origin → is_for i.buffer.me m ≡ true
+    → has_foreign i.sites (entries_of m) ≡ false → message_fault i m ≡ None
 passes i m from here ours = rw (eq-eqb (sender m) i.buffer.origin from, here, ours) refl
 
 -- what may arrive is the origin's, is for this site, and fits this system
-not_faulty : (w : WorldValue) (s p : ℕ) (l : LinkValue) (m : MessageValue) → IsNative w s → IsChain s (log w s) → LinkSound w p s l → MayCome w s p m → message_fault l.inbound m ≡ None
+not_faulty : (w : WorldValue) (s p : ℕ) (l : LinkValue) (m : MessageValue) → IsNative w s → IsChain s (log w s)
+    → LinkSound w p s l → MayCome w s p m → message_fault l.inbound m ≡ None
 not_faulty w s p l (AnEntry e) native chain sound h =
     let is = is_entry s false 0 (log w s) e chain h in
-    let ours = none_foreign (count w) (log w s) (e ∷ []) native (All-cons (Contains (log w s)) e [] h (All-nil (Contains (log w s)))) in
+    let ours =
+    none_foreign (count w) (log w s) (e ∷ []) native
+    (All-cons (Contains (log w s)) e [] h (All-nil (Contains (log w s)))) in
     passes l.inbound (AnEntry e) (is.1 ∙ sym sound.origin) refl (rw sound.system ours)
-not_faulty w s p l (AQuery q) native chain sound h = passes l.inbound (AQuery q) (h.0 ∙ sym sound.origin) (eq-eqb q.origin l.inbound.buffer.me (h.1 ∙ sym sound.me)) refl
+not_faulty w s p l (AQuery q) native chain sound h =
+    passes l.inbound (AQuery q) (h.0 ∙ sym sound.origin) (eq-eqb q.origin l.inbound.buffer.me (h.1 ∙ sym sound.me)) refl
 not_faulty w s p l (AnAnswer a) native chain sound h =
-    passes l.inbound (AnAnswer a) (h.0 ∙ sym sound.origin) (eq-eqb a.asker l.inbound.buffer.me (h.1 ∙ sym sound.me)) (rw sound.system (none_foreign (count w) (log w s) a.entries native h.2))
+    passes l.inbound (AnAnswer a) (h.0 ∙ sym sound.origin) (eq-eqb a.asker l.inbound.buffer.me (h.1 ∙ sym sound.me))
+    (rw sound.system (none_foreign (count w) (log w s) a.entries native h.2))
 not_faulty w s p l (ABeat b) native chain sound h = passes l.inbound (ABeat b) (h.0 ∙ sym sound.origin) refl refl
-not_faulty w s p l (AnAsk a) native chain sound h = passes l.inbound (AnAsk a) (h.0 ∙ sym sound.origin) (eq-eqb a.asked l.inbound.buffer.me (h.1 ∙ sym sound.me)) refl
-not_faulty w s p l (ADenial d) native chain sound h = passes l.inbound (ADenial d) (h.0 ∙ sym sound.origin) (eq-eqb d.asker l.inbound.buffer.me (h.1 ∙ sym sound.me)) refl
+not_faulty w s p l (AnAsk a) native chain sound h =
+    passes l.inbound (AnAsk a) (h.0 ∙ sym sound.origin) (eq-eqb a.asked l.inbound.buffer.me (h.1 ∙ sym sound.me)) refl
+not_faulty w s p l (ADenial d) native chain sound h =
+    passes l.inbound (ADenial d) (h.0 ∙ sym sound.origin) (eq-eqb d.asker l.inbound.buffer.me (h.1 ∙ sym sound.me)) refl
 not_faulty w s p l (AHello site) native chain sound h = absurd h
 
 -- the message of a packet's line
@@ -102,7 +117,8 @@ said w p is sent =
     (b.0, record { spelled = b.1; may = b.2; read = ap reading b.1.1 ∙ reading_again b.0 b.1.0 })
 
 -- reading it gives that message
-pub is_said : (w : WorldValue) (p : PacketValue) (m : MessageValue) → IsWorld w → IsSent w p → reading (packet_text w p) ≡ Ok m → Said w p m
+pub is_said : (w : WorldValue) (p : PacketValue) (m : MessageValue) → IsWorld w → IsSent w p
+    → reading (packet_text w p) ≡ Ok m → Said w p m
 is_said w p m is sent read =
     let all = said w p is sent in
     let says : reading (packet_text w p) ≡ Ok all.0 = all.1.read in
@@ -110,13 +126,16 @@ is_said w p m is sent read =
     subst (Said w p) same all.1
 
 -- and the link that it arrives at does not refuse it
-pub no_fault : (w : WorldValue) (p : PacketValue) (l : LinkValue) → IsWorld w → IsSent w p → link w p.to p.from ≡ Some l → line_fault l.inbound (reading (packet_text w p)) ≡ None
+pub no_fault : (w : WorldValue) (p : PacketValue) (l : LinkValue) → IsWorld w → IsSent w p → link w p.to p.from ≡ Some l
+    → line_fault l.inbound (reading (packet_text w p)) ≡ None
 no_fault w p l is sent there =
     let all = said w p is sent in
-    ap (line_fault l.inbound) all.1.read ∙ not_faulty w p.from p.to l all.0 (is.native p.from) (is.kept.sites p.from).chain (is.links p.to p.from l there) all.1.may
+    ap (line_fault l.inbound) all.1.read ∙ not_faulty w p.from p.to l all.0 (is.native p.from)
+    (is.kept.sites p.from).chain (is.links p.to p.from l there) all.1.may
 
 -- so only memory can be lacking
-pub not_refused : (X : Type 0) (i : InboundValue) (read : Result MessageValue LineError) (fault : InboundError) → line_fault i read ≡ None → InboundRefuses {X = X} i read (Err fault) → fault ≢ OutOfMemory → ⊥
+pub not_refused : (X : Type 0) (i : InboundValue) (read : Result MessageValue LineError) (fault : InboundError)
+    → line_fault i read ≡ None → InboundRefuses {X = X} i read (Err fault) → fault ≢ OutOfMemory → ⊥
 not_refused X i read OutOfMemory none refused other = other refl
 not_refused X i read WrongOrigin none refused other = absurd cc
 not_refused X i read BadSite none refused other = absurd cc
@@ -124,10 +143,12 @@ not_refused X i read (Line e) none refused other = absurd cc
 
 -- ---- if a packet is to arrive
 
-delivered : (w : WorldValue) (s number : ℕ) → arrive_fault w s number ≡ None → (p : PacketValue) × (packet w number ≡ Some p) × (p.to ≡ s)
+delivered : (w : WorldValue) (s number : ℕ) → arrive_fault w s number ≡ None
+    → (p : PacketValue) × (packet w number ≡ Some p) × (p.to ≡ s)
 delivered w s number h = at_site_of (is_site w s) (packet w number) h
   where
-    for_site : (found : Option PacketValue) → delivery_fault s found ≡ None → (p : PacketValue) × (found ≡ Some p) × (p.to ≡ s)
+    for_site : (found : Option PacketValue) → delivery_fault s found ≡ None
+        → (p : PacketValue) × (found ≡ Some p) × (p.to ≡ s)
     for_site None h = absurd cc
     for_site (Some p) h = (p, refl, to_site (eqb p.to s) refl h)
       where
@@ -135,23 +156,29 @@ delivered w s number h = at_site_of (is_site w s) (packet w number) h
         to_site true e h = eqb-true p.to s e
         to_site false e h = absurd cc
 
-    at_site_of : (b : Bool) (found : Option PacketValue) → (if b then delivery_fault s found else Some NoSuchSite) ≡ None → (p : PacketValue) × (found ≡ Some p) × (p.to ≡ s)
+    at_site_of : (b : Bool) (found : Option PacketValue)
+        → (if b then delivery_fault s found else Some NoSuchSite) ≡ None
+        → (p : PacketValue) × (found ≡ Some p) × (p.to ≡ s)
     at_site_of true found h = for_site found h
     at_site_of false found h = absurd cc
 
 -- a packet that was sent, by its number from 1
-at_number : (w : WorldValue) (number : ℕ) (p : PacketValue) → packet w number ≡ Some p → slice_get w.packets (number - 1) ≡ Some p
+at_number : (w : WorldValue) (number : ℕ) (p : PacketValue) → packet w number ≡ Some p
+    → slice_get w.packets (number - 1) ≡ Some p
 at_number w zero p h = absurd cc
-at_number w (suc k) p h = past_first (eqb (suc k) 0) (slice_get w.packets (suc k - 1)) (ne_eqb (suc k) 0 (λ z. omega (arith, z))) h
+at_number w (suc k) p h =
+    past_first (eqb (suc k) 0) (slice_get w.packets (suc k - 1)) (ne_eqb (suc k) 0 (λ z. omega (arith, z))) h
   where
-    past_first : (b : Bool) (found : Option PacketValue) → b ≡ false → (if b then None else found) ≡ Some p → found ≡ Some p
+    past_first : (b : Bool) (found : Option PacketValue) → b ≡ false → (if b then None else found) ≡ Some p
+        → found ≡ Some p
     past_first true found e h = absurd cc
     past_first false found e h = h
 
 -- ---- memory
 
 -- only entries may lack it
-entries_may : (A : Type 0) (w : WorldValue) (s o : ℕ) (m : MessageValue) → has_entries m ≡ true → MessageComes {A = A} w s o m (Err NoMemory) w
+entries_may : (A : Type 0) (w : WorldValue) (s o : ℕ) (m : MessageValue) → has_entries m ≡ true
+    → MessageComes {A = A} w s o m (Err NoMemory) w
 entries_may A w s o (AnEntry e) has = refl
 entries_may A w s o (AnAnswer a) has = refl
 entries_may A w s o (AQuery q) has = absurd cc
@@ -160,7 +187,8 @@ entries_may A w s o (AnAsk a) has = absurd cc
 entries_may A w s o (ADenial d) has = absurd cc
 entries_may A w s o (AHello site) has = absurd cc
 
-pub lacks_memory : (A : Type 0) (w : WorldValue) (s : ℕ) (p : PacketValue) (m : MessageValue) (found : Option PacketValue) (outcome : Result (Reply A) WorldError) → IsErrAnd outcome (λ e. e ≡ NoMemory)
+pub lacks_memory : (A : Type 0) (w : WorldValue) (s : ℕ) (p : PacketValue) (m : MessageValue)
+    (found : Option PacketValue) (outcome : Result (Reply A) WorldError) → IsErrAnd outcome (λ e. e ≡ NoMemory)
     → found ≡ Some p → Spells m (packet_text w p) → has_entries m ≡ true → PacketComes {A = A} w s found outcome w
 lacks_memory A w s p m found (Ok reply) is there spelled has = absurd is
 lacks_memory A w s p m found (Err e) is there spelled has =
@@ -175,10 +203,12 @@ pub record Arriving (w : WorldValue) (s number : ℕ) (p : PacketValue) : Type 0
   pub sent : IsSent w p
   pub to : p.to ≡ s
 
-pub arriving : (w : WorldValue) (s number : ℕ) (p : PacketValue) → IsWorld w → arrive_fault w s number ≡ None → p ≡ get_or w.packets (number - 1) p → Arriving w s number p
+pub arriving : (w : WorldValue) (s number : ℕ) (p : PacketValue) → IsWorld w → arrive_fault w s number ≡ None
+    → p ≡ get_or w.packets (number - 1) p → Arriving w s number p
 arriving w s number p is h read =
     let d = delivered w s number h in
     let at = at_number w number d.0 d.1 in
     let same : d.0 ≡ p = sym (read ∙ get_or_from_slice_get w.packets (number - 1) d.0 p at) in
-    let sent : IsSent w p = subst (IsSent w) (sym read) (is.sent (number - 1) p (slice_get_within w.packets (number - 1) d.0 at)) in
+    let sent : IsSent w p =
+    subst (IsSent w) (sym read) (is.sent (number - 1) p (slice_get_within w.packets (number - 1) d.0 at)) in
     record { there = d.1 ∙ ap (λ x. Some x) same; sent = sent; to = ap (λ (x : PacketValue). x.to) (sym same) ∙ d.2 }

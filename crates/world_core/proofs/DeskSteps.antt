@@ -25,7 +25,7 @@ use Rattle.world_core.specs.declared.fault.WorldError.{WorldError}
 use Rattle.world_core.specs.declared.fault.WorldError.TheVariants.{Desk, OutOfMemory}
 use Rattle.world_core.proofs.WorldGoesOn.{WorldGoesOn, unchanged}
 use Rattle.world_core.proofs.DeskKeeps.{wrote, closed, same_ledger, same_requests}
-use Rattle.world_core.proofs.SendKeeps.{site_known}
+use Rattle.world_core.proofs.EventPlaces.{site_known}
 
 -- whatever a desk that refuses nothing may leave with a reply preserves the invariant, so the event does, whatever its
 -- result
@@ -35,7 +35,8 @@ pub at_desk : {A : Type 0} (old new : WorldValue) (s : ℕ) (fault : Option Desk
     → AtDesk old s fault Wants Leaves outcome new → WorldGoesOn old new
 at_desk old new s fault Wants Leaves (Ok reply) is keeps h =
     subst (WorldGoesOn old) (sym h.1.2) (keeps h.0 reply h.1.0 h.1.1)
-at_desk old new s fault Wants Leaves (Err (Desk cause)) is keeps h = subst (WorldGoesOn old) (sym h.1) (unchanged old is)
+at_desk old new s fault Wants Leaves (Err (Desk cause)) is keeps h =
+    subst (WorldGoesOn old) (sym h.1) (unchanged old is)
 at_desk old new s fault Wants Leaves (Err OutOfMemory) is keeps h = subst (WorldGoesOn old) (sym h.2) (unchanged old is)
 at_desk old new s fault Wants Leaves (Err other) is keeps h = absurd h
 

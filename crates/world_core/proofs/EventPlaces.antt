@@ -1,35 +1,34 @@
 -- What is known of an event's sites, if the world does not refuse it, and what the code reads and writes there.
-use Rattle.std.proofs.Common.{◌≡◌, ◌≢◌, ℕ, ◌+◌, Bool, true, false, cond, not, ◌&&◌, eqb, leb, List, get_or, set, Option, Some, None, arith, refl, sym, ap, ◌∙◌, subst}
+use Rattle.std.proofs.Common.{◌≡◌, ◌≢◌, ℕ, ◌+◌, Bool, true, false, cond, not, ◌&&◌, eqb, leb, List, [], length, get_or, set, Option, Some, None, arith, refl, sym, ap, ◌∙◌, subst}
 use Rattle.std.proofs.lemmas.List.{get_or_read}
 use Rattle.std.proofs.lemmas.Bool.{and_parts, leb-true, eq-eqb}
+use Rattle.rights_types.specs.Places.{set_site}
 use Rattle.rights_types.proofs.Places.{at_site-index, set_site-index, set_site-at_site}
 use Rattle.rights_protocol.specs.Lists.{IsSiteOf}
+use Rattle.site_core.proofs.LedgerLaws.{no_cause}
 use Rattle.site_core.specs.Desks.{DeskValue, new_desk}
-use Rattle.world_core.specs.Values.{WorldValue}
-use Rattle.world_core.specs.Worlds.{count, desk, with_desk}
+use Rattle.world_core.specs.Values.{LinkValue, WorldValue}
+use Rattle.world_core.specs.Worlds.{count, desk, with_desk, row, with_link}
 use Rattle.world_core.specs.Faults.{is_site, site_fault, link_fault, place_fault, fault_of}
 use Rattle.world_core.specs.declared.event.Event.{Event}
 use Rattle.world_core.specs.declared.fault.WorldError.TheVariants.{Ended, NoSuchSite}
 
 -- ---- places
 
-no_cause : {E : Type 0} (b : Bool) (x : E) (others : Option E) → cond b (Some x) others ≡ None
-    → (b ≡ false) × (others ≡ None)
-no_cause true x others h = absurd cc
-no_cause false x others h = (refl, h)
-
-no_other : {E : Type 0} (b : Bool) (x : E) (others : Option E) → cond b others (Some x) ≡ None → b ≡ true
-no_other true x others h = refl
+-- no cause was found: neither this one nor one of the others
+pub no_other : {E : Type 0} (b : Bool) (x : E) (others : Option E) → cond b others (Some x) ≡ None
+    → (b ≡ true) × (others ≡ None)
+no_other true x others h = (refl, h)
 no_other false x others h = absurd cc
 
-site_is : (w : WorldValue) (s : ℕ) → is_site w s ≡ true → IsSiteOf (count w) s
+pub site_is : (w : WorldValue) (s : ℕ) → is_site w s ≡ true → IsSiteOf (count w) s
 site_is w s h =
     let p = and_parts (leb 1 s) (leb s (count w)) h in
     (leb-true 1 s p.0, leb-true s (count w) p.1)
 
 -- the site of an event is one of the world
 pub site_known : (w : WorldValue) (s : ℕ) → site_fault w s ≡ None → IsSiteOf (count w) s
-site_known w s h = site_is w s (no_other (is_site w s) NoSuchSite None h)
+site_known w s h = site_is w s (no_other (is_site w s) NoSuchSite None h).0
 
 not_equal : (s o : ℕ) → not (eqb s o) ≡ true → s ≢ o
 not_equal s o h e =
@@ -41,8 +40,8 @@ not_equal s o h e =
 pub link_known : (w : WorldValue) (s o : ℕ) → link_fault w s o ≡ None
     → IsSiteOf (count w) s × IsSiteOf (count w) o × (s ≢ o)
 link_known w s o h =
-    let a = and_parts (is_site w s && is_site w o) (not (eqb s o)) (no_other (is_site w s && is_site w o && not
-    (eqb s o)) NoSuchSite None h) in
+    let known = (no_other (is_site w s && is_site w o && not (eqb s o)) NoSuchSite None h).0 in
+    let a = and_parts (is_site w s && is_site w o) (not (eqb s o)) known in
     let b = and_parts (is_site w s) (is_site w o) a.0 in
     (site_is w s b.0, site_is w o b.1, not_equal s o a.1)
 
@@ -80,3 +79,41 @@ pub unchanged : (there w : WorldValue) (i s : ℕ) (was d : DeskValue) → Lent 
 unchanged there w i s was d at same =
     at.changed d ∙ ap (λ x. with_desk w s x) (same ∙ at.is)
     ∙ ap (λ (ds : List DeskValue). record w { desks = ds }) (set_site-at_site w.desks s (new_desk 0 0))
+
+-- ---- the links of an event
+
+-- the world as the code leaves it, with another row of links at an index
+abbrev pub with_row_at : WorldValue → ℕ → List (Option LinkValue) → WorldValue
+with_row_at w i r = record w { links = set w.links i r }
+
+-- a row that is borrowed at an index of the world is that of the site, and a change of it is a change of the site's row
+pub record LentRow (there w : WorldValue) (i s : ℕ) (was : List (Option LinkValue)) : Type 0 where
+  pub is : was ≡ row w s
+  pub changed : (r : List (Option LinkValue)) → with_row_at there i r ≡ record w { links = set_site w.links s r }
+
+pub lent_row : (there w : WorldValue) (i s : ℕ) (was : List (Option LinkValue)) → there ≡ w → i + 1 ≡ s
+    → IsSiteOf (count w) s → length w.links ≡ count w → was ≡ get_or there.links i was → LentRow there w i s was
+lent_row there w i s was same at known rows read =
+    let here : was ≡ get_or w.links i was = subst (λ (v : WorldValue). was ≡ get_or v.links i was) same read in
+    record {
+      is = get_or_read w.links i was (omega (arith, known.1, rows)) here [] ∙ sym (at_site-index w.links i s [] at);
+      changed = λ r. ap (λ v. with_row_at v i r) same
+          ∙ ap (λ (ls : List (List (Option LinkValue))). record w { links = ls })
+          (sym (set_site-index w.links i s r at));
+    }
+
+-- a row with another link
+pub relinked : (there w : WorldValue) (i s o : ℕ) (was r : List (Option LinkValue)) (l : LinkValue)
+    → LentRow there w i s was → r ≡ set_site was o (Some l) → with_row_at there i r ≡ with_link w s o l
+relinked there w i s o was r l at change =
+    let with_row : List (Option LinkValue) → WorldValue = λ x. record w { links = set_site w.links s x } in
+    at.changed r ∙ ap with_row (change ∙ ap (λ x. set_site x o (Some l)) at.is)
+
+-- a row that is as it was
+pub row_unchanged : (there w : WorldValue) (i s : ℕ) (was r : List (Option LinkValue)) → LentRow there w i s was
+    → r ≡ was
+    → with_row_at there i r ≡ w
+row_unchanged there w i s was r at same =
+    let with_row : List (Option LinkValue) → WorldValue = λ x. record w { links = set_site w.links s x } in
+    at.changed r ∙ ap with_row (same ∙ at.is)
+    ∙ ap (λ (ls : List (List (Option LinkValue))). record w { links = ls }) (set_site-at_site w.links s [])

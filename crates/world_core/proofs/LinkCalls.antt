@@ -1,14 +1,13 @@
 -- The results of a desk's and a link's calls, as events between two sites.
-use Rattle.std.proofs.Common.{◌≡◌, ◌≢◌, inl, inr, ℕ, ◌+◌, ◌≤◌, Bool, false, List, [], ◌∷◌, ◌++◌, length, get_or, set, Option, Some, None, Ok, arith, refl, sym, ap, ◌∙◌, subst}
+use Rattle.std.proofs.Common.{◌≡◌, ◌≢◌, inl, inr, ℕ, ◌+◌, ◌≤◌, Bool, false, List, [], ◌∷◌, ◌++◌, length, set, Option, Some, None, Ok, arith, refl, sym, ap, ◌∙◌, subst}
 use Rattle.std.specs.List.{slice_get}
-use Rattle.std.proofs.lemmas.List.{append-nil, length-append, get_or_read}
+use Rattle.std.proofs.lemmas.List.{append-nil, length-append}
 use Rattle.std.proofs.lemmas.Option.{slice_get_cases}
 use Rattle.rights_types.specs.Entries.{EntryValue, own}
 use Rattle.rights_types.specs.Chains.{IsChain, IsPrefix}
 use Rattle.rights_types.specs.Messages.{MessageValue, QueryValue}
 use Rattle.rights_types.specs.Places.{at_site, set_site}
 use Rattle.rights_types.proofs.Chains.{chain_right, prefix_chain}
-use Rattle.rights_types.proofs.Places.{at_site-index, set_site-index}
 use Rattle.rights_protocol.specs.Lists.{IsSiteOf}
 use Rattle.rights_protocol.proofs.Links.{link_applies}
 use Rattle.rights_book.specs.declared.account.Account.{Account}
@@ -24,7 +23,7 @@ use Rattle.world_core.specs.Worlds.{count, desk, log, row, link, with_packet, pu
 use Rattle.world_core.specs.LinkEvents.{SendsIf, Asked, with_applied, TakesNext}
 use Rattle.world_core.specs.Sound.{IsWorld, SiteSound}
 use Rattle.world_core.specs.declared.reply.Reply.TheVariants.{Packet, Nothing}
-use Rattle.world_core.proofs.EventPlaces.{Lent}
+use Rattle.world_core.proofs.EventPlaces.{Lent, with_at, LentRow, with_row_at, relinked}
 
 -- ---- lines that are sent
 
@@ -55,36 +54,18 @@ sends_none A bytes w s p (Some m) none = absurd none
 
 -- ---- entries that are taken
 
--- the links that are borrowed at an index of the world are those of the site
-pub row_is : (there w : WorldValue) (i s : ℕ) (was : List (Option LinkValue)) → there ≡ w → i + 1 ≡ s
-    → IsSiteOf (count w) s → length w.links ≡ count w → was ≡ get_or there.links i was → was ≡ row w s
-row_is there w i s was same at known rows read =
-    let here : was ≡ get_or w.links i was = subst (λ (v : WorldValue). was ≡ get_or v.links i was) same read in
-    get_or_read w.links i was (omega (arith, known.1, rows)) here [] ∙ sym (at_site-index w.links i s [] at)
-
--- another link among them
-relinked : (there w : WorldValue) (j s o : ℕ) (links left : List (Option LinkValue)) (l : LinkValue) → there ≡ w
-    → j + 1 ≡ s → links ≡ row w s → left ≡ set_site links o (Some l)
-    → (record there { links = set there.links j left }) ≡ with_link w s o l
-relinked there w j s o links left l same index row_was change =
-    let with_row : List (Option LinkValue) → WorldValue = λ r. record w { links = set_site w.links s r } in
-    ap (λ (v : WorldValue). record v { links = set v.links j left }) same
-    ∙ ap (λ ls. record w { links = ls }) (sym (set_site-index w.links j s left index))
-    ∙ ap with_row (change ∙ ap (λ r. set_site r o (Some l)) row_was)
-
 -- the gap counts as asked for
 pub asked : (there w : WorldValue) (j s o : ℕ) (again : Bool) (links left : List (Option LinkValue))
     (before after : LinkValue) (q : Option QueryValue)
-    → there ≡ w → j + 1 ≡ s → links ≡ row w s → at_site links o None ≡ Some before
-    → QueryOf before.inbound again q after.inbound
+    → LentRow there w j s links → at_site links o None ≡ Some before → QueryOf before.inbound again q after.inbound
     → after ≡ record before { inbound = after.inbound } → left ≡ set_site links o (Some after)
-    → Asked w s o again q (record there { links = set there.links j left })
-asked there w j s o again links left before after q same index row_was is asks rest change = record {
+    → Asked w s o again q (with_row_at there j left)
+asked there w j s o again links left before after q at is asks rest change = record {
   before = before;
-  there = subst (λ r. at_site r o None ≡ Some before) row_was is;
+  there = subst (λ r. at_site r o None ≡ Some before) at.is is;
   after = after.inbound;
   asks = asks;
-  left = relinked there w j s o links left after same index row_was change ∙ ap (λ l. with_link w s o l) rest;
+  left = relinked there w j s o links left after at change ∙ ap (λ l. with_link w s o l) rest;
 }
 
 -- if no entry is next, all that was delivered was applied
@@ -126,20 +107,20 @@ can_apply w s o e is here there other next =
 -- s takes the next entry of o: its desk applied it, and the link counts it
 pub takes : (there w : WorldValue) (i j s o n : ℕ) (was d : DeskValue) (links left : List (Option LinkValue))
     (e : EntryValue) (back : Option ℕ)
-    → Lent there w i s was → there ≡ w → j + 1 ≡ s → links ≡ row w s
+    → Lent there w i s was → LentRow there w j s links
     → (before : LinkValue) × (at_site links o None ≡ Some before)
     × ((x : EntryValue) → slice_get before.put (length before.applied) ≡ Some x
     → left ≡ set_site links o (Some (with_applied before x)))
     → slice_get (put w s o) (length (applied w s o)) ≡ Some e → has_closed was ≡ false → n ≡ own e
     → DeskApplies was o e d
     → back ≡ number_of_taking (owed_by was.ledger o e) d.ledger.log
-    → TakesNext w s o n back (record there { desks = set there.desks i d; links = set there.links j left })
-takes there w i j s o n was d links left e back at same index row_was counted next unclosed number applies taken =
+    → TakesNext w s o n back (record (with_at there i d) { links = set there.links j left })
+takes there w i j s o n was d links left e back at row counted next unclosed number applies taken =
     let before = counted.0 in
-    let is : link w s o ≡ Some before = subst (λ r. at_site r o None ≡ Some before) row_was counted.1 in
+    let is : link w s o ≡ Some before = subst (λ r. at_site r o None ≡ Some before) row.is counted.1 in
     let is_next : slice_get before.put (length before.applied) ≡ Some e = rw is at next in
     let change : WorldValue → WorldValue → WorldValue = λ ls v. record v { links = ls.links } in
-    let counts = relinked there w j s o links left (with_applied before e) same index row_was (counted.2 e is_next) in
+    let counts = relinked there w j s o links left (with_applied before e) row (counted.2 e is_next) in
     record {
       before = before;
       there = is;
@@ -150,6 +131,6 @@ takes there w i j s o n was d links left e back at same index row_was counted ne
       after = d;
       applies = subst (λ x. DeskApplies x o e d) at.is applies;
       back_is = subst (λ (x : DeskValue). back ≡ number_of_taking (owed_by x.ledger o e) d.ledger.log) at.is taken;
-      left = ap (λ v. change (record there { links = set there.links j left }) v) (at.changed d)
+      left = ap (λ v. change (with_row_at there j left) v) (at.changed d)
           ∙ ap (λ ls. change ls (with_desk w s d)) counts;
     }

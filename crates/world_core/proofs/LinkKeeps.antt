@@ -375,7 +375,8 @@ all_taken A w s o old new (e ∷ rest) verdicts is site from differ has (v, free
     all_taken A w s o mid new rest more is site from differ (All-tail (Contains (log w o)) e rest has) later now in
     (all.0, all.1 ∙ ap (λ (l : LinkValue). l.applied) takes.rest)
 
-pub entries_keep : (A : Type 0) (w new : WorldValue) (s o : ℕ) (entries : List EntryValue) (verdicts : List EntryVerdict)
+pub entries_keep : (A : Type 0) (w new : WorldValue) (s o : ℕ) (entries : List EntryValue)
+    (verdicts : List EntryVerdict)
     → IsWorld w → IsSiteOf (count w) s → IsSiteOf (count w) o
     → All (Contains (log w o)) entries → EntriesArrive A w s o entries verdicts new → WorldGoesOn w new
 entries_keep A w new s o entries verdicts is site from has h =
@@ -384,4 +385,5 @@ entries_keep A w new s o entries verdicts is site from has h =
       sound = is.links s o h.before h.there;
       by = subst (Leads w) (sym (link_again w s o h.before h.there)) (leads_nowhere w is);
     }) in
-    subst (WorldGoesOn w) (sym h.left) (link_keeps w s o h.before h.after is site from h.there all.0.sound all.1 all.0.by)
+    subst (WorldGoesOn w) (sym h.left) (link_keeps w s o h.before h.after is site from h.there all.0.sound all.1
+    all.0.by)

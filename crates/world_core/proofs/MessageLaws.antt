@@ -1,17 +1,14 @@
 -- The effect of an arriving message on the world, by what the call that took it did to a desk or to a row of links.
-use Rattle.std.proofs.Common.{◌≡◌, ℕ, ◌+◌, false, List, [], ◌∷◌, ◌++◌, length, get_or, set, Option, Some, None, Result, Ok, Err, refl, sym, ap, subst, ◌∙◌}
+use Rattle.std.proofs.Common.{◌≡◌, ℕ, false, List, Option, Some, None, Result, Ok, Err, refl, sym, ap, subst, ◌∙◌}
 use Rattle.std.specs.Prelude.{◌≢◌, IsSome}
 use Rattle.std.specs.Result.{IsErrAnd}
-use Rattle.std.proofs.lemmas.List.{set-get_or}
 use Rattle.std.specs.List.{All, Contains}
 use Rattle.rights_types.specs.Entries.{EntryValue}
 use Rattle.rights_types.specs.Messages.{QueryValue, AskValue, DenyValue}
 use Rattle.rights_types.specs.Messages.MessageValue.{AnAnswer}
 use Rattle.rights_types.specs.Places.{at_site, set_site}
 use Rattle.rights_types.proofs.Chains.{is_entry}
-use Rattle.rights_types.proofs.Places.{set_site-index}
 use Rattle.rights_protocol.specs.Lists.{IsSiteOf}
-use Rattle.entry_codec.specs.Spelling.{Spells}
 use Rattle.origin_log.specs.Answering.{answer_to_query}
 use Rattle.origin_log.specs.Faults.{query_fault}
 use Rattle.sub_buffer.specs.Follows.{Follows}
@@ -19,203 +16,156 @@ use Rattle.transfer_manager.specs.Managers.{ended}
 use Rattle.transfer_manager.specs.declared.answer.AskAnswer.{AskAnswer}
 use Rattle.transfer_manager.specs.declared.answer.AskAnswer.TheVariants.{Grant, Deny, RepeatedDeny, Repeated, OldAsk}
 use Rattle.site_core.specs.Desks.{DeskValue}
-use Rattle.site_core.specs.Calls.{answer_of, denial_of, LineOf, DeskAnswers}
+use Rattle.site_core.specs.Calls.{answer_of, denial_of, DeskAnswers}
 use Rattle.world_core.specs.Values.{LinkValue, PacketValue, WorldValue}
-use Rattle.world_core.specs.Values.BodyValue.{Text}
-use Rattle.world_core.specs.Worlds.{count, desk, with_desk, log, row, link, with_link, with_packet}
-use Rattle.world_core.specs.LinkEvents.{Sends, LinkTakesAll, EntriesArrive, EntriesCome, heard, BeatComes, DenialComes, QueryComes, AskComesBy, AskComes}
+use Rattle.world_core.specs.Worlds.{count, desk, with_desk, log, link}
+use Rattle.world_core.specs.LinkEvents.{SendsIf, LinkTakesAll, EntriesArrive, EntriesCome, heard, BeatComes, DenialComes, QueryComes, AskComesBy, AskComes}
 use Rattle.world_core.specs.Sound.{LinkSound, IsWorld}
 use Rattle.world_core.specs.declared.reply.EntryVerdict.{EntryVerdict}
 use Rattle.world_core.specs.declared.reply.Reply.{Reply}
 use Rattle.world_core.specs.declared.fault.WorldError.{WorldError}
 use Rattle.world_core.specs.declared.fault.WorldError.TheVariants.{OutOfMemory}
-use Rattle.world_core.specs.declared.reply.Reply.TheVariants.{Packet, HeardBeat, Granted, Denied, GrantedBefore, Old, Noted}
-use Rattle.world_core.proofs.IndexLaws.{desk_at, row_at, link_at}
-
--- ---- what is left
-
--- the world with another item at an index, and other packets
-abbrev pub with_desk_at : WorldValue → ℕ → DeskValue → List PacketValue → WorldValue
-with_desk_at w i d ps = record { desks = set w.desks i d; links = w.links; packets = ps; ended = w.ended }
-
-abbrev pub with_row_at : WorldValue → ℕ → List (Option LinkValue) → WorldValue
-with_row_at w i r = record { desks = w.desks; links = set w.links i r; packets = w.packets; ended = w.ended }
-
-pub desk_left : (w : WorldValue) (i s : ℕ) (d : DeskValue) (ps : List PacketValue) → i + 1 ≡ s → ps ≡ w.packets → with_desk_at w i d ps ≡ with_desk w s d
-desk_left w i s d ps e same =
-    ap (λ qs. with_desk_at w i d qs) same ∙ ap (λ ds. record { desks = ds; links = w.links; packets = w.packets; ended = w.ended }) (sym (set_site-index w.desks i s d e))
-
--- a desk that did not change
-pub desk_same : (w : WorldValue) (i : ℕ) (was d : DeskValue) (ps : List PacketValue) → was ≡ get_or w.desks i was → d ≡ was → ps ≡ w.packets → with_desk_at w i d ps ≡ w
-desk_same w i was d ps read kept same =
-    ap (λ qs. with_desk_at w i d qs) same ∙ ap (λ x. with_desk_at w i x w.packets) (kept ∙ read)
-    ∙ ap (λ ds. record { desks = ds; links = w.links; packets = w.packets; ended = w.ended }) (set-get_or w.desks i was)
-
-link_left : (w : WorldValue) (i s o : ℕ) (was now : List (Option LinkValue)) (l : LinkValue) → IsWorld w → IsSiteOf (count w) s → i + 1 ≡ s → was ≡ get_or w.links i was
-    → now ≡ set_site was o (Some l) → with_row_at w i now ≡ with_link w s o l
-link_left w i s o was now l is among e read after =
-    let row_is : now ≡ set_site (row w s) o (Some l) = after ∙ ap (λ r. set_site r o (Some l)) (row_at w i s was is e among read) in
-    ap (λ ls. record { desks = w.desks; links = ls; packets = w.packets; ended = w.ended }) (sym (set_site-index w.links i s now e) ∙ ap (λ r. set_site w.links s r) row_is)
+use Rattle.world_core.specs.declared.reply.Reply.TheVariants.{Packet, HeardBeat, Granted, Denied, Noted}
+use Rattle.world_core.proofs.EventPlaces.{Lent, with_at, unchanged, LentRow, with_row_at, relinked}
 
 -- ---- entries
 
 -- the link that the entries of o arrive at exists, and they are of its origin
-pub entries_fit : (w : WorldValue) (i s o : ℕ) (was : List (Option LinkValue)) (es : List EntryValue) → IsWorld w → IsSiteOf (count w) s → IsSiteOf (count w) o → s ≢ o
-    → i + 1 ≡ s → was ≡ get_or w.links i was → All (Contains (log w o)) es → (l : LinkValue) × (at_site was o None ≡ Some l) × All (λ (e : EntryValue). e.origin ≡ l.inbound.buffer.origin) es
-entries_fit w i s o was es is a b differ e read all =
+pub entries_fit : (there w : WorldValue) (i s o : ℕ) (was : List (Option LinkValue)) (es : List EntryValue) → IsWorld w
+    → IsSiteOf (count w) s → IsSiteOf (count w) o → s ≢ o → LentRow there w i s was → All (Contains (log w o)) es
+    → (l : LinkValue) × (at_site was o None ≡ Some l) × All (λ (e : EntryValue). e.origin ≡ l.inbound.buffer.origin) es
+entries_fit there w i s o was es is a b differ at all =
     let l = (is.sites s a).others o b differ in
-    let there : at_site was o None ≡ Some l.0 = link_at w i s o o was (at_site was o None) is a e read refl refl ∙ l.1 in
-    let sound : LinkSound w s o l.0 = is.links s o l.0 l.1 in
-    (l.0, there, λ k d lt. (is_entry o false 0 (log w o) _ (is.kept.sites o).chain (all k d lt)).1 ∙ sym sound.origin)
+    let sound : LinkSound w s o l.0 = is.links s o l.0 l.1 in (
+      l.0,
+      ap (λ r. at_site r o None) at.is ∙ l.1,
+      λ k d lt. (is_entry o false 0 (log w o) _ (is.kept.sites o).chain (all k d lt)).1 ∙ sym sound.origin,
+    )
 
-pub link_there : (w : WorldValue) (i s o : ℕ) (was : List (Option LinkValue)) → IsWorld w → IsSiteOf (count w) s → IsSiteOf (count w) o → s ≢ o
-    → i + 1 ≡ s → was ≡ get_or w.links i was → IsSome (at_site was o None)
-link_there w i s o was is a b differ e read =
+pub link_there : (there w : WorldValue) (i s o : ℕ) (was : List (Option LinkValue)) → IsWorld w → IsSiteOf (count w) s
+    → IsSiteOf (count w) o → s ≢ o → LentRow there w i s was → IsSome (at_site was o None)
+link_there there w i s o was is a b differ at =
     let l = (is.sites s a).others o b differ in
-    subst (λ x. IsSome x) (sym (link_at w i s o o was (at_site was o None) is a e read refl refl ∙ l.1)) refl
+    subst (λ x. IsSome x) (sym (ap (λ r. at_site r o None) at.is ∙ l.1)) refl
 
-pub entries_arrive : (A : Type 0) (w : WorldValue) (i s o : ℕ) (was now : List (Option LinkValue)) (before after : LinkValue) (es : List EntryValue) (verdicts : List EntryVerdict) → IsWorld w
-    → IsSiteOf (count w) s → i + 1 ≡ s → was ≡ get_or w.links i was → at_site was o None ≡ Some before → now ≡ set_site was o (Some after)
-    → (Follows (log w o) before.reached before.put before.inbound.buffer → LinkTakesAll A (log w o) before es verdicts after)
-    → EntriesArrive A w s o es verdicts (with_row_at w i now)
-entries_arrive A w i s o was now before after es verdicts is among e read at left takes =
-    let there : link w s o ≡ Some before = sym (link_at w i s o o was (at_site was o None) is among e read refl refl) ∙ at in
+pub entries_arrive : (A : Type 0) (there w : WorldValue) (i s o : ℕ) (was now : List (Option LinkValue))
+    (before after : LinkValue) (es : List EntryValue) (verdicts : List EntryVerdict) → IsWorld w
+    → LentRow there w i s was → at_site was o None ≡ Some before → now ≡ set_site was o (Some after)
+    → (Follows (log w o) before.reached before.put before.inbound.buffer
+    → LinkTakesAll A (log w o) before es verdicts after)
+    → EntriesArrive A w s o es verdicts (with_row_at there i now)
+entries_arrive A there w i s o was now before after es verdicts is at found left takes =
+    let is_there : link w s o ≡ Some before = sym (ap (λ r. at_site r o None) at.is) ∙ found in
     record {
       before = before;
-      there = there;
+      there = is_there;
       after = after;
-      takes = takes (is.links s o before there).follows;
-      left = link_left w i s o was now after is among e read left;
+      takes = takes (is.links s o before is_there).follows;
+      left = relinked there w i s o was now after at left;
     }
 
--- a row that did not change
-pub row_same : (w : WorldValue) (i : ℕ) (was now : List (Option LinkValue)) → was ≡ get_or w.links i was → now ≡ was → with_row_at w i now ≡ w
-row_same w i was now read kept =
-    ap (λ x. with_row_at w i x) (kept ∙ read) ∙ ap (λ ls. record { desks = w.desks; links = ls; packets = w.packets; ended = w.ended }) (set-get_or w.links i was)
-
 -- only memory was lacking
-pub entries_want : (A : Type 0) (old : WorldValue) (s o : ℕ) (es : List EntryValue) (outcome : Result (Reply A) WorldError) (new : WorldValue) → IsErrAnd outcome (λ e. e ≡ OutOfMemory) → new ≡ old
+pub entries_want : (A : Type 0) (old : WorldValue) (s o : ℕ) (es : List EntryValue)
+    (outcome : Result (Reply A) WorldError)
+    (new : WorldValue) → IsErrAnd outcome (λ e. e ≡ OutOfMemory) → new ≡ old
     → EntriesCome {A = A} old s o es outcome new
 entries_want A old s o es (Ok reply) new is h = absurd is
 entries_want A old s o es (Err e) new is h = subst (λ x. EntriesCome {A = A} old s o es (Err x) new) (sym is) h
 
 -- ---- beats
 
-pub beat_comes : (A : Type 0) (w : WorldValue) (i s o number told : ℕ) (was now : List (Option LinkValue)) (before : LinkValue) → IsWorld w → IsSiteOf (count w) s → i + 1 ≡ s
-    → was ≡ get_or w.links i was → told ≡ number → at_site was o None ≡ Some before → now ≡ set_site was o (Some (heard before told)) → BeatComes {A = A} w s o number (Ok HeardBeat) (with_row_at w i now)
-beat_comes A w i s o number told was now before is among e read same at left =
-    let there : link w s o ≡ Some before = sym (link_at w i s o o was (at_site was o None) is among e read refl refl) ∙ at in
-    (before, there, link_left w i s o was now (heard before number) is among e read (left ∙ ap (λ n. set_site was o (Some (heard before n))) same))
+pub beat_comes : (A : Type 0) (there w : WorldValue) (i s o number told : ℕ) (was now : List (Option LinkValue))
+    (before : LinkValue) → LentRow there w i s was → told ≡ number → at_site was o None ≡ Some before
+    → now ≡ set_site was o (Some (heard before told))
+    → BeatComes {A = A} w s o number (Ok HeardBeat) (with_row_at there i now)
+beat_comes A there w i s o number told was now before at same found left = (
+  before,
+  sym (ap (λ r. at_site r o None) at.is) ∙ found,
+  relinked there w i s o was now (heard before number) at
+      (left ∙ ap (λ n. set_site was o (Some (heard before n))) same),
+)
 
 -- ---- denials
 
-pub denial_comes : (A : Type 0) (w : WorldValue) (i s peer ask : ℕ) (was now : DeskValue) (d : DenyValue) → IsSiteOf (count w) s → i + 1 ≡ s → was ≡ get_or w.desks i was
-    → peer ≡ d.denier → ask ≡ d.ask → now ≡ record was { manager = ended was.manager peer ask } → DenialComes {A = A} w s d (Ok Noted) (with_desk_at w i now w.packets)
-denial_comes A w i s peer ask was now d among e read by of left =
-    let is : was ≡ desk w s = desk_at w i s was e among read in
+pub denial_comes : (A : Type 0) (there w : WorldValue) (i s peer ask : ℕ) (was now : DeskValue) (d : DenyValue)
+    → Lent there w i s was → peer ≡ d.denier → ask ≡ d.ask
+    → now ≡ record was { manager = ended was.manager peer ask }
+    → DenialComes {A = A} w s d (Ok Noted) (with_at there i now)
+denial_comes A there w i s peer ask was now d at by of left =
     let noted : now ≡ record (desk w s) { manager = ended (desk w s).manager d.denier d.ask } =
-    left ∙ ap (λ k. record was { manager = ended was.manager k ask }) by ∙ ap (λ k. record was { manager = ended was.manager d.denier k }) of
-    ∙ ap (λ (x : DeskValue). record x { manager = ended x.manager d.denier d.ask }) is in
-    desk_left w i s now w.packets e refl ∙ ap (with_desk w s) noted
+    left ∙ ap (λ k. record was { manager = ended was.manager k ask }) by
+    ∙ ap (λ k. record was { manager = ended was.manager d.denier k }) of
+    ∙ ap (λ (x : DeskValue). record x { manager = ended x.manager d.denier d.ask }) at.is in
+    at.changed now ∙ ap (with_desk w s) noted
 
 -- ---- asks
 
-sends : (w : WorldValue) (i s : ℕ) (d : DeskValue) (before ps : List PacketValue) (p : PacketValue) (q : PacketValue) → i + 1 ≡ s → before ≡ w.packets → ps ≡ before ++ p ∷ [] → p ≡ q
-    → with_desk_at w i d ps ≡ with_packet (with_desk w s d) q
-sends w i s d before ps p q e same added is =
-    ap (λ qs. with_desk_at w i d qs) (added ∙ ap (λ xs. xs ++ p ∷ []) same ∙ ap (λ x. w.packets ++ x ∷ []) is)
-    ∙ ap (λ ds. record { desks = ds; links = w.links; packets = w.packets ++ q ∷ []; ended = w.ended }) (sym (set_site-index w.desks i s d e))
+-- the world as the code leaves it, with another desk at an index, and other packets
+abbrev pub with_desk_at : WorldValue → ℕ → DeskValue → List PacketValue → WorldValue
+with_desk_at w i d ps = record (with_at w i d) { packets = ps }
 
-pub grants : (A : Type 0) (w : WorldValue) (i s : ℕ) (was d : DeskValue) (ask : AskValue) (n number : ℕ) (ps : List PacketValue) → IsSiteOf (count w) s → i + 1 ≡ s → was ≡ get_or w.desks i was
-    → Grant n ≡ answer_of was ask → DeskAnswers was ask (Grant n) (Some number) d → ps ≡ w.packets → AskComes {A = A} w s ask (Ok (Granted number)) (with_desk_at w i d ps)
-grants A w i s was d ask n number ps among e read answer h same =
-    let is : was ≡ desk w s = desk_at w i s was e among read in
-    subst (λ x. AskComesBy {A = A} x w s ask (Ok (Granted number)) (with_desk_at w i d ps)) (answer ∙ ap (λ x. answer_of x ask) is)
-    (d, subst (λ x. DeskAnswers x ask (Grant n) (Some number) d) is h, desk_left w i s d ps e same)
+-- a desk that did not change, and no packet
+pub desk_same : (there w : WorldValue) (i s : ℕ) (was d : DeskValue) (ps : List PacketValue) → Lent there w i s was
+    → d ≡ was → ps ≡ there.packets → with_desk_at there i d ps ≡ w
+desk_same there w i s was d ps at kept same =
+    ap (λ qs. with_desk_at there i d qs) same ∙ unchanged there w i s was d at kept
 
-pub repeated : (A : Type 0) (w : WorldValue) (i s : ℕ) (was d : DeskValue) (ask : AskValue) (number : Option ℕ) (ps : List PacketValue) → IsSiteOf (count w) s → i + 1 ≡ s → was ≡ get_or w.desks i was
-    → Repeated ≡ answer_of was ask → DeskAnswers was ask Repeated number d → ps ≡ w.packets → AskComes {A = A} w s ask (Ok GrantedBefore) (with_desk_at w i d ps)
-repeated A w i s was d ask number ps among e read answer h same =
-    let is : was ≡ desk w s = desk_at w i s was e among read in
-    subst (λ x. AskComesBy {A = A} x w s ask (Ok GrantedBefore) (with_desk_at w i d ps)) (answer ∙ ap (λ x. answer_of x ask) is) (desk_same w i was d ps read h.1 same)
+-- the desk of s answers as the desk that was lent
+pub answered : (A : Type 0) (there w : WorldValue) (i s : ℕ) (was : DeskValue) (ask : AskValue) (answer : AskAnswer)
+    (outcome : Result (Reply A) WorldError) (new : WorldValue) → Lent there w i s was → answer ≡ answer_of was ask
+    → AskComesBy {A = A} answer w s ask outcome new → AskComes {A = A} w s ask outcome new
+answered A there w i s was ask answer outcome new at is h =
+    subst (λ x. AskComesBy {A = A} x w s ask outcome new) (is ∙ ap (λ x. answer_of x ask) at.is) h
 
-pub too_old : (A : Type 0) (w : WorldValue) (i s : ℕ) (was d : DeskValue) (ask : AskValue) (number : Option ℕ) (ps : List PacketValue) → IsSiteOf (count w) s → i + 1 ≡ s → was ≡ get_or w.desks i was
-    → OldAsk ≡ answer_of was ask → DeskAnswers was ask OldAsk number d → ps ≡ w.packets → AskComes {A = A} w s ask (Ok Old) (with_desk_at w i d ps)
-too_old A w i s was d ask number ps among e read answer h same =
-    let is : was ≡ desk w s = desk_at w i s was e among read in
-    subst (λ x. AskComesBy {A = A} x w s ask (Ok Old) (with_desk_at w i d ps)) (answer ∙ ap (λ x. answer_of x ask) is) (desk_same w i was d ps read h.1 same)
+pub grants : (A : Type 0) (there w : WorldValue) (i s : ℕ) (was d : DeskValue) (ask : AskValue) (n number : ℕ)
+    (ps : List PacketValue) → Lent there w i s was → DeskAnswers was ask (Grant n) (Some number) d → ps ≡ there.packets
+    → AskComesBy {A = A} (Grant n) w s ask (Ok (Granted number)) (with_desk_at there i d ps)
+grants A there w i s was d ask n number ps at h same = (
+  d,
+  subst (λ x. DeskAnswers x ask (Grant n) (Some number) d) at.is h,
+  ap (λ qs. with_desk_at there i d qs) same ∙ at.changed d,
+)
+
+-- a packet with the denial was added
+pub denies : (A : Type 0) (there w : WorldValue) (i s : ℕ) (was d : DeskValue) (ask : AskValue) (answer : AskAnswer)
+    (told : Option ℕ) (number : ℕ) (new : WorldValue) → Lent there w i s was → DeskAnswers was ask answer told d
+    → SendsIf {A = A} (with_desk w s d) s ask.asker (denial_of ask answer) (Ok (Packet number)) new
+    → AskComesBy {A = A} answer w s ask (Ok (Denied number)) new
+denies A there w i s was d ask (Grant n) told number new at h sent = absurd sent
+denies A there w i s was d ask Repeated told number new at h sent = absurd sent
+denies A there w i s was d ask OldAsk told number new at h sent = absurd sent
+denies A there w i s was d ask Deny told number new at h sent =
+    (d, subst (λ x. DeskAnswers x ask Deny None d) at.is (refl, h.1), sent)
+denies A there w i s was d ask RepeatedDeny told number new at h sent =
+    (d, subst (λ x. DeskAnswers x ask RepeatedDeny None d) at.is (refl, h.1), sent)
 
 -- only memory was lacking
-wants_by : (A : Type 0) (old : WorldValue) (s : ℕ) (ask : AskValue) (answer : AskAnswer) (new : WorldValue) → new ≡ old → AskComesBy {A = A} answer old s ask (Err OutOfMemory) new
+wants_by : (A : Type 0) (old : WorldValue) (s : ℕ) (ask : AskValue) (answer : AskAnswer) (new : WorldValue) → new ≡ old
+    → AskComesBy {A = A} answer old s ask (Err OutOfMemory) new
 wants_by A old s ask (Grant n) new h = h
 wants_by A old s ask Deny new h = h
 wants_by A old s ask RepeatedDeny new h = h
 wants_by A old s ask Repeated new h = h
 wants_by A old s ask OldAsk new h = h
 
-pub wants_memory : (A : Type 0) (old : WorldValue) (s : ℕ) (ask : AskValue) (outcome : Result (Reply A) WorldError) (new : WorldValue) → IsErrAnd outcome (λ e. e ≡ OutOfMemory) → new ≡ old
+pub wants_memory : (A : Type 0) (old : WorldValue) (s : ℕ) (ask : AskValue) (outcome : Result (Reply A) WorldError)
+    (new : WorldValue) → IsErrAnd outcome (λ e. e ≡ OutOfMemory) → new ≡ old
     → AskComes {A = A} old s ask outcome new
 wants_memory A old s ask (Ok reply) new is h = absurd is
 wants_memory A old s ask (Err e) new is h =
-    subst (λ x. AskComes {A = A} old s ask (Err x) new) (sym is) (wants_by A old s ask (answer_of (desk old s) ask) new h)
-
--- a packet with a denial was added
-pub record DenialSent (w : WorldValue) (s : ℕ) (ask : AskValue) (text : List ℕ) (number : ℕ) (ps : List PacketValue) : Type 0 where
-  pub before : List PacketValue
-  pub same : before ≡ w.packets
-  pub packet : PacketValue
-  pub is : packet ≡ record { from = s; to = ask.asker; body = Text text }
-  pub added : ps ≡ before ++ packet ∷ []
-  pub number_is : number ≡ length before + 1
-
-denies : (A : Type 0) (w : WorldValue) (i s : ℕ) (was d : DeskValue) (ask : AskValue) (answer : AskAnswer) (told : Option ℕ) (text : List ℕ) (number : ℕ) (ps : List PacketValue)
-    → was ≡ desk w s → i + 1 ≡ s → DeskAnswers was ask answer told d → LineOf (λ (l : List ℕ). l) (denial_of ask answer) (Some text) → DenialSent w s ask text number ps
-    → AskComesBy {A = A} answer w s ask (Ok (Denied number)) (with_desk_at w i d ps)
-denies A w i s was d ask (Grant n) told text number ps is e h line sent = absurd line
-denies A w i s was d ask Repeated told text number ps is e h line sent = absurd line
-denies A w i s was d ask OldAsk told text number ps is e h line sent = absurd line
-denies A w i s was d ask Deny told text number ps is e h line sent = (
-  d,
-  subst (λ x. DeskAnswers x ask Deny None d) is (refl, h.1),
-  record {
-    text = text;
-    spelled = line;
-    last = sent.number_is ∙ ap (λ xs. length xs + 1) sent.same;
-    left = sends w i s d sent.before ps sent.packet _ e sent.same sent.added sent.is;
-  },
-)
-denies A w i s was d ask RepeatedDeny told text number ps is e h line sent = (
-  d,
-  subst (λ x. DeskAnswers x ask RepeatedDeny None d) is (refl, h.1),
-  record {
-    text = text;
-    spelled = line;
-    last = sent.number_is ∙ ap (λ xs. length xs + 1) sent.same;
-    left = sends w i s d sent.before ps sent.packet _ e sent.same sent.added sent.is;
-  },
-)
-
-pub denied : (A : Type 0) (w : WorldValue) (i s : ℕ) (was d : DeskValue) (ask : AskValue) (answer : AskAnswer) (told : Option ℕ) (text : List ℕ) (number : ℕ) (ps : List PacketValue)
-    → IsSiteOf (count w) s → i + 1 ≡ s → was ≡ get_or w.desks i was → answer ≡ answer_of was ask → DeskAnswers was ask answer told d
-    → LineOf (λ (l : List ℕ). l) (denial_of ask answer) (Some text) → DenialSent w s ask text number ps → AskComes {A = A} w s ask (Ok (Denied number)) (with_desk_at w i d ps)
-denied A w i s was d ask answer told text number ps among e read same h line sent =
-    let is : was ≡ desk w s = desk_at w i s was e among read in
-    subst (λ x. AskComesBy {A = A} x w s ask (Ok (Denied number)) (with_desk_at w i d ps)) (same ∙ ap (λ x. answer_of x ask) is) (denies A w i s was d ask answer told text number ps is e h line sent)
+    subst (λ x. AskComes {A = A} old s ask (Err x) new) (sym is)
+    (wants_by A old s ask (answer_of (desk old s) ask) new h)
 
 -- ---- queries
 
-pub answers : (A : Type 0) (w : WorldValue) (i s : ℕ) (was : DeskValue) (q : QueryValue) (text : List ℕ) (number : ℕ) (before ps : List PacketValue) (p : PacketValue)
-    → IsSiteOf (count w) s → i + 1 ≡ s → was ≡ get_or w.desks i was → query_fault was.ledger.log q ≡ None → Spells (AnAnswer (answer_to_query q was.ledger.log)) text
-    → before ≡ w.packets → ps ≡ before ++ p ∷ [] → p ≡ record { from = s; to = q.asker; body = Text text } → number ≡ length before + 1
-    → QueryComes {A = A} w s q (Ok (Packet number)) (record { desks = w.desks; links = w.links; packets = ps; ended = w.ended })
-answers A w i s was q text number before ps p among e read none spelled same added is last =
-    let is_desk : was ≡ desk w s = desk_at w i s was e among read in
-    let new : WorldValue = record { desks = w.desks; links = w.links; packets = ps; ended = w.ended } in
-    let sent : Sends w s q.asker (AnAnswer (answer_to_query q (desk w s).ledger.log)) number new = record {
-      text = text;
-      spelled = subst (λ (x : DeskValue). Spells (AnAnswer (answer_to_query q x.ledger.log)) text) is_desk spelled;
-      last = last ∙ ap (λ xs. length xs + 1) same;
-      left = ap (λ xs. record { desks = w.desks; links = w.links; packets = xs; ended = w.ended }) (added ∙ ap (λ xs. xs ++ p ∷ []) same ∙ ap (λ x. w.packets ++ x ∷ []) is);
-    } in
-    let clear : query_fault (desk w s).ledger.log q ≡ None = subst (λ (x : DeskValue). query_fault x.ledger.log q ≡ None) is_desk none in
-    rw clear sent
+-- the desk of s answers the query as the desk that was lent, and a packet with the answer was added
+pub answers : (A : Type 0) (there w : WorldValue) (i s : ℕ) (was : DeskValue) (q : QueryValue) (number : ℕ)
+    (new : WorldValue) → Lent there w i s was → query_fault was.ledger.log q ≡ None
+    → SendsIf {A = A} w s q.asker (Some (AnAnswer (answer_to_query q was.ledger.log))) (Ok (Packet number)) new
+    → QueryComes {A = A} w s q (Ok (Packet number)) new
+answers A there w i s was q number new at none sent =
+    let sends : DeskValue → Type 0 =
+    λ d. SendsIf {A = A} w s q.asker (Some (AnAnswer (answer_to_query q d.ledger.log))) (Ok (Packet number)) new in
+    let clear : query_fault (desk w s).ledger.log q ≡ None =
+    subst (λ (d : DeskValue). query_fault d.ledger.log q ≡ None) at.is none in
+    rw clear (subst sends at.is sent)

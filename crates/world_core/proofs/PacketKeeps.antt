@@ -32,7 +32,8 @@ use Rattle.world_core.specs.declared.fault.WorldError.TheVariants.{NotForSite, N
 use Rattle.world_core.proofs.WorldGoesOn.{WorldGoesOn, unchanged, goes_then}
 use Rattle.world_core.proofs.DeskKeeps.{same_count, answered, ask_denied}
 use Rattle.world_core.proofs.LinkKeeps.{beat_keeps, entries_keep}
-use Rattle.world_core.proofs.SendKeeps.{Ends, among, no_other, sends_keep, sends_if_keeps}
+use Rattle.world_core.proofs.EventPlaces.{site_is, no_other}
+use Rattle.world_core.proofs.SendKeeps.{Ends, sends_keep, sends_if_keeps}
 
 -- ---- what a message brings
 
@@ -185,4 +186,4 @@ pub packet_keeps : {A : Type 0} (w new : WorldValue) (s number : ℕ) (outcome :
     → PacketComes w s (packet w number) outcome new → WorldGoesOn w new
 packet_keeps w new s number outcome is known h =
     let p = no_other (is_site w s) NoSuchSite (delivery_fault s (packet w number)) known in
-    delivered w new s (packet w number) outcome is (among w s p.0) (λ q at. packet_sent w number q is at) p.1 h
+    delivered w new s (packet w number) outcome is (site_is w s p.0) (λ q at. packet_sent w number q is at) p.1 h

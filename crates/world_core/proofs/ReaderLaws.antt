@@ -25,8 +25,11 @@ use Rattle.world_core.proofs.IndexLaws.{none_at}
 -- ---- what a desk says
 
 -- a desk has applied what its site has
-pub stands : (w : WorldValue) (s : ℕ) (d : DeskValue) → IsWorld w → IsSiteOf (count w) s → d ≡ desk w s → StandsForApplied (applied w s) d.ledger.book
-stands w s d is among same = subst (λ (x : DeskValue). StandsForApplied (applied w s) x.ledger.book) (sym same) (is.sites s among).applied.in_book
+pub stands : (w : WorldValue) (s : ℕ) (d : DeskValue) → IsWorld w → IsSiteOf (count w) s → d ≡ desk w s
+    → StandsForApplied (applied w s) d.ledger.book
+stands w s d is among same =
+    subst (λ (x : DeskValue). StandsForApplied (applied w s) x.ledger.book) (sym same)
+    (is.sites s among).applied.in_book
 
 -- and so it holds the rights of its site
 pub held_value : (w : WorldValue) (s : ℕ) (d : DeskValue) → IsWorld w → IsSiteOf (count w) s → d ≡ desk w s
@@ -40,7 +43,8 @@ held_value w s d is among same =
 pub received_value : (w : WorldValue) (s o : ℕ) (d : DeskValue) → IsWorld w → IsSiteOf (count w) s → d ≡ desk w s
     → to d.ledger.log.site (moves_of (applied w s o)) ≡ to s (moves_of (applied w s o))
 received_value w s o d is among same =
-    ap (λ (x : DeskValue). to x.ledger.log.site (moves_of (applied w s o))) same ∙ ap (λ k. to k (moves_of (applied w s o))) (is.sites s among).me
+    ap (λ (x : DeskValue). to x.ledger.log.site (moves_of (applied w s o))) same
+    ∙ ap (λ k. to k (moves_of (applied w s o))) (is.sites s among).me
 
 -- ---- a site that is not there
 
@@ -62,21 +66,31 @@ none_applied w s o is past =
 none_received : (w : WorldValue) (s : ℕ) → IsWorld w → count w < s → received_at (lists_of w) s ≡ 0
 unfolding received
 none_received w s is past =
-    sum_same (count w) (λ o. to s (moves_of (applied w s o))) (λ o. 0) (λ o low high. ap (λ es. to s (moves_of es)) (none_applied w s o is past) ∙ none_to s)
+    sum_same (count w) (λ o. to s (moves_of (applied w s o))) (λ o. 0)
+    (λ o low high. ap (λ es. to s (moves_of es)) (none_applied w s o is past) ∙ none_to s)
     ∙ sum_zero (count w)
 
 pub none_held : (w : WorldValue) (s : ℕ) → IsWorld w → count w < s → desk w s ≡ new_desk 0 0 → held_by w s ≡ 0
 none_held w s is past none =
     let empty : moves_of (log w s) ≡ [] = ap (λ (d : DeskValue). moves_of d.ledger.log.entries) none ∙ moves_of-nil in
-    omega (arith, held_sum (lists_of w) s is.kept, none_received w s is past, ap issued empty ∙ issued-nil, ap taken_back empty ∙ taken_back-nil)
+    omega (
+      arith,
+      held_sum (lists_of w) s is.kept,
+      none_received w s is past,
+      ap issued empty
+          ∙ issued-nil,
+      ap taken_back empty ∙ taken_back-nil,
+    )
 
 -- ---- rights in transit
 
 -- what the desk of o gave to s was applied there, is in transit, or was reclaimed
 pub way_left : (w : WorldValue) (o s : ℕ) (d : DeskValue) → IsWorld w → IsSiteOf (count w) o → d ≡ desk w o
-    → to s (moves_of d.ledger.log.entries) ≡ (to s (moves_of (applied w s o)) + on_way w o s) + back s (moves_of d.ledger.log.entries)
+    → to s (moves_of d.ledger.log.entries) ≡ (to s (moves_of (applied w s o)) + on_way w o s) + back s
+    (moves_of d.ledger.log.entries)
 way_left w o s d is among same =
-    subst (λ (x : DeskValue). to s (moves_of x.ledger.log.entries) ≡ (to s (moves_of (applied w s o)) + on_way w o s) + back s (moves_of x.ledger.log.entries)) (sym same)
+    subst (λ (x : DeskValue). to s (moves_of x.ledger.log.entries) ≡ (to s (moves_of (applied w s o)) + on_way w o s) +
+    back s (moves_of x.ledger.log.entries)) (sym same)
     (way_is (lists_of w) o s is.kept among)
 
 pub none_on_way : (w : WorldValue) (o s : ℕ) → desk w o ≡ new_desk 0 0 → on_way w o s ≡ 0
@@ -84,7 +98,9 @@ unfolding way
 none_on_way w o s none =
     let k : ℕ = length (applied w s o) in
     let empty : log w o ≡ [] = ap (λ (d : DeskValue). d.ledger.log.entries) none in
-    let given : to s (moves_of (drop k (log w o))) ≡ 0 = ap (λ (es : List EntryValue). to s (moves_of (drop k es))) empty ∙ ap (λ es. to s (moves_of es)) (drop-nil {A = EntryValue} k) ∙ none_to s in
+    let given : to s (moves_of (drop k (log w o))) ≡ 0 =
+    ap (λ (es : List EntryValue). to s (moves_of (drop k es))) empty
+    ∙ ap (λ es. to s (moves_of es)) (drop-nil {A = EntryValue} k) ∙ none_to s in
     omega (arith, given)
 
 -- ---- sums
@@ -94,11 +110,16 @@ one_issued w s is =
     let chain : IsChain s (log w s) = (is.kept.sites s).chain in
     omega (arith, log-issued s (log w s) chain, end_from-bound s false 0 (log w s) chain (omega arith))
 
-all_issued : (w : WorldValue) → IsWorld w → sum_sites (count w) (λ s. issued (moves_of (log w s))) ≤ 16000000000000000000
+all_issued : (w : WorldValue) → IsWorld w → sum_sites (count w)
+    (λ s. issued (moves_of (log w s))) ≤ 16000000000000000000
 all_issued w is =
     let few : count w ≤ 16 = is.kept.few in
     let most : count w * 1000000000000000000 ≤ 16000000000000000000 = omega arith in
-    omega (arith, sum_bound (count w) 1000000000000000000 (λ s. issued (moves_of (log w s))) (λ s. one_issued w s is), most)
+    omega (
+      arith,
+      sum_bound (count w) 1000000000000000000 (λ s. issued (moves_of (log w s))) (λ s. one_issued w s is),
+      most,
+    )
 
 -- the next term of a sum of at most m fits
 more_fits : (n k m : ℕ) (f : ℕ → ℕ) → k < n → sum_sites n f ≤ m → sum_sites k f + f (k + 1) ≤ m
@@ -107,10 +128,13 @@ more_fits n k m f lt le =
     rw add-one (omega (arith, part))
 
 pub record SumsFit (w : WorldValue) (k : ℕ) : Type 0 where
-  pub issued_fit : sum_sites k (λ s. issued (moves_of (log w s))) + issued (moves_of (log w (k + 1))) ≤ 16000000000000000000
-  pub spent_fit : sum_sites k (λ s. spent (moves_of (log w s))) + spent (moves_of (log w (k + 1))) ≤ 16000000000000000000
+  pub issued_fit : sum_sites k (λ s. issued (moves_of (log w s))) + issued
+      (moves_of (log w (k + 1))) ≤ 16000000000000000000
+  pub spent_fit : sum_sites k (λ s. spent (moves_of (log w s))) + spent
+      (moves_of (log w (k + 1))) ≤ 16000000000000000000
   pub held_fit : sum_sites k (held_by w) + held_by w (k + 1) ≤ 16000000000000000000
-  pub way_fit : sum_sites k (λ o. sum_sites (count w) (λ s. on_way w o s)) + sum_sites (count w) (λ s. on_way w (k + 1) s) ≤ 16000000000000000000
+  pub way_fit : sum_sites k (λ o. sum_sites (count w) (λ s. on_way w o s)) + sum_sites (count w)
+      (λ s. on_way w (k + 1) s) ≤ 16000000000000000000
 
 -- rights held, spent and in transit are the rights issued, so that no sum over the sites wraps
 pub sums_fit : (w : WorldValue) (k : ℕ) → IsWorld w → k < count w → SumsFit w k
@@ -123,15 +147,18 @@ sums_fit w k is lt =
       issued_fit = more_fits n k 16000000000000000000 (λ s. issued (moves_of (log w s))) lt most;
       spent_fit = more_fits n k 16000000000000000000 (λ s. spent (moves_of (log w s))) lt (omega (arith, equal, most));
       held_fit = more_fits n k 16000000000000000000 (held_by w) lt (omega (arith, equal, most));
-      way_fit = more_fits n k 16000000000000000000 (λ o. sum_sites n (λ s. on_way w o s)) lt (omega (arith, equal, most));
+      way_fit = more_fits n k 16000000000000000000 (λ o. sum_sites n (λ s. on_way w o s)) lt
+          (omega (arith, equal, most));
     }
 
-pub row_fits : (w : WorldValue) (o k : ℕ) → IsWorld w → IsSiteOf (count w) o → k < count w → sum_sites k (λ s. on_way w o s) + on_way w o (k + 1) ≤ 16000000000000000000
+pub row_fits : (w : WorldValue) (o k : ℕ) → IsWorld w → IsSiteOf (count w) o → k < count w
+    → sum_sites k (λ s. on_way w o s) + on_way w o (k + 1) ≤ 16000000000000000000
 row_fits w o k is among lt =
     let n : ℕ = count w in
     let whole : Promised (lists_of w) = kept_promises (lists_of w) is.kept in
     let part = sum_term n o (λ j. sum_sites n (λ s. on_way w j s)) among.0 among.1 in
-    more_fits n k 16000000000000000000 (λ s. on_way w o s) lt (omega (arith, part, whole.headline.conserved, all_issued w is))
+    more_fits n k 16000000000000000000 (λ s. on_way w o s) lt
+    (omega (arith, part, whole.headline.conserved, all_issued w is))
 
 -- ---- packets
 
@@ -139,4 +166,5 @@ row_fits w o k is among lt =
 pub packet_read : (w : WorldValue) (number : ℕ) (p : PacketValue) → (number ≡ 0 → ⊥) → number ≤ length w.packets
     → p ≡ get_or w.packets (number - 1) p → packet w number ≡ Some p
 packet_read w number p counted lt read =
-    rw (ne_eqb number 0 counted) (slice_get_read w.packets (length w.packets) (number - 1) p refl (omega (arith, counted)) read)
+    rw (ne_eqb number 0 counted) (slice_get_read w.packets (length w.packets) (number - 1) p refl
+    (omega (arith, counted)) read)

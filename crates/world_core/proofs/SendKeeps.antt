@@ -1,9 +1,8 @@
 -- Lines that are sent preserve the invariant of the world.
-use Rattle.std.proofs.Common.{◌≡◌, ◌≢◌, ℕ, ◌<◌, inl, inr, Bool, true, false, cond, not, eqb, List, [], ◌∷◌, ◌++◌, length, arith, refl, sym, ap, ◌∙◌, subst, Option, Some, None, Result, Ok, Err}
+use Rattle.std.proofs.Common.{◌≡◌, ◌≢◌, ℕ, ◌<◌, inl, inr, Bool, true, false, List, [], ◌∷◌, ◌++◌, length, arith, refl, sym, ap, ◌∙◌, subst, Option, Some, None, Result, Ok, Err}
 use Rattle.std.specs.Prelude.{IfSome}
 use Rattle.std.specs.List.{All, slice_get}
 use Rattle.std.specs.Option.{option_map}
-use Rattle.std.proofs.lemmas.Bool.{and_parts, leb-true, eqb-false}
 use Rattle.std.proofs.lemmas.List.Elements.{All-push}
 use Rattle.std.proofs.lemmas.Option.{slice_get_within}
 use Rattle.rights_types.specs.Entries.{EntryValue}
@@ -20,30 +19,19 @@ use Rattle.site_core.specs.Inbounds.{Asks}
 use Rattle.world_core.specs.Values.{PacketValue, WorldValue}
 use Rattle.world_core.specs.Values.BodyValue.{EntryAt, Text}
 use Rattle.world_core.specs.Worlds.{count, desk, with_desk, log, lists_of, with_packet, ended}
-use Rattle.world_core.specs.Faults.{is_site, site_fault, link_fault}
+use Rattle.world_core.specs.Faults.{link_fault}
 use Rattle.world_core.specs.LinkEvents.{Sends, SendsIf, AskHappens, BeatHappens, Publishes, PublishHappens, Asked, QueryHappens}
 use Rattle.world_core.specs.Sound.{SiteSound, LinkSound, IsSaid, IsSent, IsWorld}
 use Rattle.world_core.specs.declared.reply.Reply.{Reply}
 use Rattle.world_core.specs.declared.reply.Reply.TheVariants.{Packet, Nothing}
 use Rattle.world_core.specs.declared.fault.WorldError.{WorldError}
-use Rattle.world_core.specs.declared.fault.WorldError.TheVariants.{OutOfMemory, NoSuchSite}
+use Rattle.world_core.specs.declared.fault.WorldError.TheVariants.{OutOfMemory}
 use Rattle.world_core.proofs.WorldGoesOn.{stay, WorldGoesOn, unchanged, goes_then}
+use Rattle.world_core.proofs.EventPlaces.{link_known}
 use Rattle.world_core.proofs.DeskKeeps.{LogsGoOn, link_goes_on, all_sent_go_on, desk_there, same_count, published}
 use Rattle.world_core.proofs.LinkKeeps.{logs_stay, asked_keeps}
 
 -- ---- places
-
-pub among : (w : WorldValue) (s : ℕ) → is_site w s ≡ true → IsSiteOf (count w) s
-among w s h = let p = and_parts _ _ h in (leb-true 1 s p.0, leb-true s (count w) p.1)
-
--- no cause was found: neither this one nor one of the others
-pub no_other : {E : Type 0} (b : Bool) (x : E) (others : Option E) → cond b others (Some x) ≡ None
-    → (b ≡ true) × (others ≡ None)
-no_other true x others h = (refl, h)
-no_other false x others h = absurd cc
-
-pub site_known : (w : WorldValue) (s : ℕ) → site_fault w s ≡ None → IsSiteOf (count w) s
-site_known w s h = among w s (no_other (is_site w s) NoSuchSite None h).0
 
 -- both ends of a link
 pub record Ends (w : WorldValue) (s o : ℕ) : Type 0 where
@@ -51,16 +39,10 @@ pub record Ends (w : WorldValue) (s o : ℕ) : Type 0 where
   pub from : IsSiteOf (count w) o
   pub differ : o ≢ s
 
-not_true : (b : Bool) → not b ≡ true → b ≡ false
-not_true true h = absurd cc
-not_true false h = refl
-
 pub ends_known : (w : WorldValue) (s o : ℕ) → link_fault w s o ≡ None → Ends w s o
 ends_known w s o h =
-    let p = and_parts _ _ (no_other _ NoSuchSite None h).0 in
-    let q = and_parts _ _ p.0 in
-    let ne : s ≢ o = eqb-false s o (not_true (eqb s o) p.1) in
-    record { site = among w s q.0; from = among w o q.1; differ = λ e. ne (sym e) }
+    let known = link_known w s o h in
+    record { site = known.0; from = known.1; differ = λ e. known.2 (sym e) }
 
 -- ---- packets
 
@@ -211,7 +193,8 @@ publishes_keep w new s p place number is ends h =
     let longer : length (log mid s) ≡ length (log w s) = ap length entries in
     let packet : PacketValue = record { from = s; to = p; body = EntryAt place } in
     let by : WorldGoesOn w mid = published w s p is ends.site in
-    subst (WorldGoesOn w) (sym h.left) (goes_then w mid (with_packet mid packet) by (sent_keeps mid packet by.is (record {
+    subst (WorldGoesOn w) (sym h.left) (goes_then w mid (with_packet mid packet) by
+    (sent_keeps mid packet by.is (record {
       from = subst (λ n. IsSiteOf n s) (sym sites) ends.site;
       to = subst (λ n. IsSiteOf n p) (sym sites) ends.from;
       differ = ends.differ;

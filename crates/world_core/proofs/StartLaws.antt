@@ -143,7 +143,8 @@ new_link_sound n s o = record {
 to_sound : (n s o : ℕ) (l : LinkValue) (itself : Bool) → cond itself None (Some (new_link n s o)) ≡ Some l
     → LinkSound (start n) s o l
 to_sound n s o l true at = absurd cc
-to_sound n s o l false at = let same : new_link n s o ≡ l = cc in subst (LinkSound (start n) s o) same (new_link_sound n s o)
+to_sound n s o l false at = let same : new_link n s o ≡ l =
+    cc in subst (LinkSound (start n) s o) same (new_link_sound n s o)
 
 start_link : (n s o : ℕ) (l : LinkValue) → link (start n) s o ≡ Some l → LinkSound (start n) s o l
 start_link n s o l at = elim (link_cases n s o) [

@@ -161,7 +161,8 @@ is_next : (w : WorldValue) (s o : ℕ) (l : LinkValue) (e : EntryValue) (d : Des
 is_next w s o l e d is h kept =
     let here : SiteSound w s = is.sites s h.ends.site in
     let before : List EntryValue = applied w s o in
-    let longer : IsChain o (before ++ e ∷ []) = subst (IsChain o) (adds w s o l e d is h).there ((kept.sites s).chains o) in
+    let longer : IsChain o (before ++ e ∷ []) =
+    subst (IsChain o) (adds w s o l e d is h).there ((kept.sites s).chains o) in
     let last = chain_right o false 0 before (e ∷ []) longer in
     let account = here.applied.in_book.sums o in
     let me : (desk w s).ledger.book.me ≡ s = here.sound.ledger.same_site ∙ here.me in
@@ -181,7 +182,8 @@ desk_after : (w : WorldValue) (s o : ℕ) (l : LinkValue) (e : EntryValue) (d : 
     → ApplyKept (desk w s).ledger o e h.desk.entry.between d.ledger
 desk_after w s o l e d is h kept =
     let here : SiteSound w s = is.sites s h.ends.site in
-    apply_kept (desk w s).ledger d.ledger o e here.sound.ledger here.sound.book (is_next w s o l e d is h kept) h.unclosed
+    apply_kept (desk w s).ledger d.ledger o e here.sound.ledger here.sound.book (is_next w s o l e d is h kept)
+    h.unclosed
     h.desk.entry
 
 sound_after : (w : WorldValue) (s o : ℕ) (l : LinkValue) (e : EntryValue) (d : DeskValue) → IsWorld w
@@ -204,7 +206,8 @@ site_after w s o l e d is h kept k among =
     let own : IsDeskOf (count w) k (desk new k) =
     desks_still w s d is site (desk_applies w s o e d is h.ends h.desk sound) k among in
     let here : HasApplied (applied new s) d.ledger =
-    (desk_after w s o l e d is h kept).keeps.applied.all (applied w s) (applied new s) (is.sites s site).applied (adds w s o l e d is h)
+    (desk_after w s o l e d is h kept).keeps.applied.all (applied w s) (applied new s) (is.sites s site).applied
+    (adds w s o l e d is h)
     ((kept.sites s).chains o) in
     let others : (i : ℕ) → i ≢ s → IsSiteOf (count w) i → HasApplied (applied new i) (desk w i).ledger = λ i ne a.
     let same : applied new i ≡ applied w i =
@@ -215,7 +218,8 @@ site_after w s o l e d is h kept k among =
       me = own.me;
       manager = own.manager;
       system = own.system ∙ sym (same_count w s d);
-      sound = each_desk (λ i x. IsSiteOf (count w) i → DeskSound x) w s d site (λ _. sound) (λ i _ a. (is.sites i a).sound) k among;
+      sound = each_desk (λ i x. IsSiteOf (count w) i → DeskSound x) w s d site (λ _. sound)
+          (λ i _ a. (is.sites i a).sound) k among;
       applied = each_desk (λ i x. IsSiteOf (count w) i → HasApplied (applied new i) x.ledger) w s d site (λ _. here)
           others k among;
       width = width_kept w s o k later is site ∙ old.width ∙ sym (same_count w s d);

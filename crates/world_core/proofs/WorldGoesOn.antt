@@ -15,7 +15,11 @@ use Rattle.world_core.specs.Refinement.{Refines}
 -- lists that are the same stay
 pub stay : (w : Lists) → Stays w w
 stay w =
-    record { count = refl; sites = λ k. record { log = refl; links = λ o. record { reached = refl; put = refl; applied = refl } } }
+    record {
+      count = refl;
+      sites = λ k. record
+          { log = refl; links = λ o. record { reached = refl; put = refl; applied = refl } };
+    }
 
 -- where one run leads, another continues
 joined : (old mid new : Lists) (first more : List Change) → Runs old first mid → Runs mid more new

@@ -2,7 +2,6 @@
 use Rattle.std.proofs.Common.{◌≡◌, ℕ, ◌≤◌, List, [], ◌∷◌, ◌++◌, refl, sym, subst, Option, Some, None, Result, Err}
 use Rattle.std.specs.Prelude.{MatchOption}
 use Rattle.rights_protocol.proofs.Promises.{kept_promises}
-use Rattle.site_core.proofs.LedgerLaws.{no_cause}
 use Rattle.world_core.specs.Values.{WorldValue}
 use Rattle.world_core.specs.Worlds.{start, ended, lists_of}
 use Rattle.world_core.specs.Faults.{place_fault, fault_of}
@@ -13,7 +12,8 @@ use Rattle.world_core.specs.declared.event.Event.{Event}
 use Rattle.world_core.specs.declared.event.Event.TheVariants.{Post, Issue, Give, Spend, Serve, Expire, Status, Plan, Ask, Publish, Beat, Query, Arrive, Noise, Take, Close}
 use Rattle.world_core.specs.declared.reply.Reply.{Reply}
 use Rattle.world_core.specs.declared.fault.WorldError.{WorldError}
-use Rattle.world_core.specs.declared.fault.WorldError.TheVariants.{Ended, OutOfMemory}
+use Rattle.world_core.specs.declared.fault.WorldError.TheVariants.{OutOfMemory}
+use Rattle.world_core.proofs.EventPlaces.{place_known}
 use Rattle.world_core.proofs.WorldGoesOn.{WorldGoesOn, unchanged, goes_then}
 use Rattle.world_core.proofs.DeskSteps.{post_keeps, issue_keeps, give_keeps, spend_keeps, serve_keeps, expire_keeps, status_keeps, plan_keeps, close_keeps}
 use Rattle.world_core.proofs.SendKeeps.{ends_known, ask_keeps, publish_keeps, beat_event_keeps, query_keeps, ended_world}
@@ -55,9 +55,8 @@ happens_world old new event outcome is known h = attempt_world old new event out
 step_cases : {A : Type 0} (old new : WorldValue) (event : Event A) (outcome : Result (Reply A) WorldError)
     (fault : Option WorldError) → IsWorld old → fault_of old event ≡ fault
     → MatchOption fault (Happens old event outcome new) (λ f. (outcome ≡ Err f) × (new ≡ old)) → WorldGoesOn old new
-unfolding fault_of
 step_cases old new event outcome None is known h =
-    happens_world old new event outcome is (no_cause old.ended Ended (place_fault old event) known).1 h
+    happens_world old new event outcome is (place_known old event known) h
 step_cases old new event outcome (Some fault) is known h = subst (WorldGoesOn old) (sym h.1) (unchanged old is)
 
 pub step_goes_on : {A : Type 0} (old new : WorldValue) (event : Event A) (outcome : Result (Reply A) WorldError)
@@ -73,6 +72,12 @@ run_goes_on old new (event ∷ events) (outcome ∷ outcomes) is h =
     goes_then old h.0 new by (run_goes_on h.0 new events outcomes by.is h.2)
 run_goes_on old new [] (outcome ∷ outcomes) is h = absurd h
 run_goes_on old new (event ∷ events) [] is h = absurd h
+
+-- .. from a world in a struct whose invariant holds
+pub runs_from : {A : Type 0} (inside old new : WorldValue) (events : List (Event A))
+    (outcomes : List (Result (Reply A) WorldError)) → inside ≡ old → IsWorld inside → Runs old events outcomes new
+    → WorldGoesOn old new
+runs_from inside old new events outcomes same is h = run_goes_on old new events outcomes (subst IsWorld same is) h
 
 -- one more event
 pub runs-push : {A : Type 0} (old mid new : WorldValue) (events : List (Event A)) (event : Event A)

@@ -66,7 +66,8 @@ pub record SameLists {A K : Type 0} (old new : Incoming A K) : Type 0 where
 
 -- an entry arrived: the verdict v on it, and Ready for the held entries that it freed, are appended to the verdicts
 -- before
-pub record IncomingTakes {A K : Type 0} (old : Incoming A K) (before : List EntryVerdict) (e : EntryValue) (v : BufferVerdict A) (freed : List EntryValue) (new : Incoming A K) (after : List EntryVerdict) : Type 0 where
+pub record IncomingTakes {A K : Type 0} (old : Incoming A K) (before : List EntryVerdict) (e : EntryValue)
+    (v : BufferVerdict A) (freed : List EntryValue) (new : Incoming A K) (after : List EntryVerdict) : Type 0 where
   pub arrives : Arrives old.inbound.buffer e v freed new.inbound.buffer
   pub inbound : new.inbound ≡ record old.inbound { buffer = new.inbound.buffer }
   pub gone : new.gone.items ≡ old.gone.items

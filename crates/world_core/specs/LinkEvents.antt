@@ -45,14 +45,16 @@ pub record Sends (old : WorldValue) (s p : ℕ) (m : MessageValue) (number : ℕ
   pub left : new ≡ with_packet old (record { from = s; to = p; body = Text text })
 
 -- a packet with this message, or `nothing` if there is no message
-abbrev pub SendsIf : {A : Type 0} → WorldValue → ℕ → ℕ → Option MessageValue → Result (Reply A) WorldError → WorldValue → Type 0
+abbrev pub SendsIf : {A : Type 0} → WorldValue → ℕ → ℕ → Option MessageValue → Result (Reply A) WorldError → WorldValue
+    → Type 0
 SendsIf old s p None (Ok Nothing) new = new ≡ old
 SendsIf old s p (Some m) (Ok (Packet number)) new = Sends old s p m number new
 SendsIf old s p m (Err OutOfMemory) new = new ≡ old
 SendsIf old s p m outcome new = ⊥
 
 abbrev pub AskHappens : {A : Type 0} → WorldValue → ℕ → ℕ → Result (Reply A) WorldError → WorldValue → Type 0
-AskHappens old s p outcome new = SendsIf old s p (option_map (λ ask. AnAsk ask) (outstanding_ask (desk old s).manager p)) outcome new
+AskHappens old s p outcome new =
+    SendsIf old s p (option_map (λ ask. AnAsk ask) (outstanding_ask (desk old s).manager p)) outcome new
 
 abbrev pub BeatHappens : {A : Type 0} → WorldValue → ℕ → ℕ → Result (Reply A) WorldError → WorldValue → Type 0
 BeatHappens old s p outcome new = SendsIf old s p (Some (beat_of (desk old s).ledger.log)) outcome new
@@ -61,7 +63,8 @@ BeatHappens old s p outcome new = SendsIf old s p (Some (beat_of (desk old s).le
 pub record Publishes (old : WorldValue) (s p place number : ℕ) (new : WorldValue) : Type 0 where
   pub next : next_place (desk old s).ledger.log p ≡ Some place
   pub last : number ≡ length old.packets + 1
-  pub left : new ≡ with_packet (with_desk old s (after_publish (desk old s) p)) (record { from = s; to = p; body = EntryAt place })
+  pub left : new ≡ with_packet (with_desk old s (after_publish (desk old s) p))
+      (record { from = s; to = p; body = EntryAt place })
 
 abbrev pub PublishHappens : {A : Type 0} → WorldValue → ℕ → ℕ → Result (Reply A) WorldError → WorldValue → Type 0
 PublishHappens old s p (Ok Nothing) new = (next_place (desk old s).ledger.log p ≡ None) × (new ≡ old)
@@ -70,7 +73,8 @@ PublishHappens old s p (Err OutOfMemory) new = new ≡ old
 PublishHappens old s p outcome new = ⊥
 
 -- this query was made for the gap that s has in the log of o, and the gap counts as asked for
-pub record Asked (old : WorldValue) (s o : ℕ) (again : Bool) (query : Option QueryValue) (new : WorldValue) : Type 0 where
+pub record Asked (old : WorldValue) (s o : ℕ) (again : Bool) (query : Option QueryValue) (new : WorldValue)
+    : Type 0 where
   pub before : LinkValue
   pub there : link old s o ≡ Some before
   pub after : InboundValue
@@ -79,9 +83,11 @@ pub record Asked (old : WorldValue) (s o : ℕ) (again : Bool) (query : Option Q
 
 -- if memory runs out, the gap may count as asked for
 abbrev pub QueryHappens : {A : Type 0} → WorldValue → ℕ → ℕ → Bool → Result (Reply A) WorldError → WorldValue → Type 0
-QueryHappens old s o again (Err OutOfMemory) new = (new ≡ old) ⊎ ((query : Option QueryValue) × Asked old s o again query new)
+QueryHappens old s o again (Err OutOfMemory) new =
+    (new ≡ old) ⊎ ((query : Option QueryValue) × Asked old s o again query new)
 QueryHappens old s o again outcome new =
-    (query : Option QueryValue) × (asked : WorldValue) × Asked old s o again query asked × SendsIf asked s o (option_map (λ q. AQuery q) query) outcome new
+    (query : Option QueryValue) × (asked : WorldValue) × Asked old s o again query asked
+    × SendsIf asked s o (option_map (λ q. AQuery q) query) outcome new
 
 -- ---- entries that arrive
 
@@ -98,31 +104,40 @@ abbrev pub reported_all : {A : Type 0} → BufferVerdict A → List EntryValue �
 reported_all v freed = reported v ∷ map (λ (e : EntryValue). Ready (own e)) freed
 
 -- an entry e of the log es arrives at a link: the verdict v on it, and the held entries that it freed
-pub record LinkTakes {A : Type 0} (es : List EntryValue) (old : LinkValue) (e : EntryValue) (v : BufferVerdict A) (freed : List EntryValue) (new : LinkValue) : Type 0 where
+pub record LinkTakes {A : Type 0} (es : List EntryValue) (old : LinkValue) (e : EntryValue) (v : BufferVerdict A)
+    (freed : List EntryValue) (new : LinkValue) : Type 0 where
   pub verdict : SettledVerdict old.reached old.put e v
   pub reached : new.reached ≡ reached_after old.reached e v
   pub put : new.put ≡ put_after old.put v ++ freed
   pub longest : IsLongest new.reached es new.put
   pub told : new.inbound.buffer.told ≡ max old.inbound.buffer.told (own e)
   pub buffer : Arrives old.inbound.buffer e v freed new.inbound.buffer
-  pub rest : new ≡ record old { inbound = record old.inbound { buffer = new.inbound.buffer }; reached = new.reached; put = new.put }
+  pub rest : new
+      ≡ record old {
+        inbound = record old.inbound { buffer = new.inbound.buffer };
+        reached = new.reached;
+        put = new.put;
+      }
 
 -- entries of the log es, one after another
-abbrev pub LinkTakesAll : Type 0 → List EntryValue → LinkValue → List EntryValue → List EntryVerdict → LinkValue → Type 0
+abbrev pub LinkTakesAll : Type 0 → List EntryValue → LinkValue → List EntryValue → List EntryVerdict → LinkValue
+    → Type 0
 LinkTakesAll A es old [] verdicts new = (verdicts ≡ []) × (new ≡ old)
 LinkTakesAll A es old (e ∷ rest) verdicts new =
     (v : BufferVerdict A) × (freed : List EntryValue) × (mid : LinkValue) × (more : List EntryVerdict)
     × LinkTakes es old e v freed mid × LinkTakesAll A es mid rest more new × (verdicts ≡ reported_all v freed ++ more)
 
 -- entries of the log of o arrive at s
-pub record EntriesArrive (A : Type 0) (old : WorldValue) (s o : ℕ) (entries : List EntryValue) (verdicts : List EntryVerdict) (new : WorldValue) : Type 0 where
+pub record EntriesArrive (A : Type 0) (old : WorldValue) (s o : ℕ) (entries : List EntryValue)
+    (verdicts : List EntryVerdict) (new : WorldValue) : Type 0 where
   pub before : LinkValue
   pub there : link old s o ≡ Some before
   pub after : LinkValue
   pub takes : LinkTakesAll A (log old o) before entries verdicts after
   pub left : new ≡ with_link old s o after
 
-abbrev pub EntriesCome : {A : Type 0} → WorldValue → ℕ → ℕ → List EntryValue → Result (Reply A) WorldError → WorldValue → Type 0
+abbrev pub EntriesCome : {A : Type 0} → WorldValue → ℕ → ℕ → List EntryValue → Result (Reply A) WorldError → WorldValue
+    → Type 0
 EntriesCome {A} old s o entries (Ok (Verdicts verdicts)) new = EntriesArrive A old s o entries verdicts new
 EntriesCome old s o entries (Err OutOfMemory) new = new ≡ old
 EntriesCome old s o entries outcome new = ⊥
@@ -134,24 +149,30 @@ heard l number = record l { inbound = record l.inbound { buffer = after_beat l.i
 
 -- a beat allocates nothing
 abbrev pub BeatComes : {A : Type 0} → WorldValue → ℕ → ℕ → ℕ → Result (Reply A) WorldError → WorldValue → Type 0
-BeatComes old s o number (Ok HeardBeat) new = (before : LinkValue) × (link old s o ≡ Some before) × (new ≡ with_link old s o (heard before number))
+BeatComes old s o number (Ok HeardBeat) new =
+    (before : LinkValue) × (link old s o ≡ Some before) × (new ≡ with_link old s o (heard before number))
 BeatComes old s o number outcome new = ⊥
 
 -- the log's reader answers a query, or refuses it and nothing happens
 abbrev pub QueryComes : {A : Type 0} → WorldValue → ℕ → QueryValue → Result (Reply A) WorldError → WorldValue → Type 0
 QueryComes old s q outcome new =
     let log = (desk old s).ledger.log in
-    MatchOption (query_fault log q) (SendsIf old s q.asker (Some (AnAnswer (answer_to_query q log))) outcome new) (λ fault. (outcome ≡ Ok Nothing) × (new ≡ old))
+    MatchOption (query_fault log q) (SendsIf old s q.asker (Some (AnAnswer (answer_to_query q log))) outcome new)
+    (λ fault. (outcome ≡ Ok Nothing) × (new ≡ old))
 
 -- the desk of s grants the ask by an entry of this number
 abbrev pub Grants : WorldValue → ℕ → AskValue → AskAnswer → ℕ → WorldValue → Type 0
-Grants old s ask answer number new = (d : DeskValue) × DeskAnswers (desk old s) ask answer (Some number) d × (new ≡ with_desk old s d)
+Grants old s ask answer number new =
+    (d : DeskValue) × DeskAnswers (desk old s) ask answer (Some number) d × (new ≡ with_desk old s d)
 
 -- the desk of s denies the ask, and a packet of this number has the denial
 abbrev pub Denies : WorldValue → ℕ → AskValue → AskAnswer → ℕ → WorldValue → Type 0
-Denies old s ask answer number new = (d : DeskValue) × DeskAnswers (desk old s) ask answer None d × Sends (with_desk old s d) s ask.asker (ADenial (denial ask)) number new
+Denies old s ask answer number new =
+    (d : DeskValue) × DeskAnswers (desk old s) ask answer None d
+    × Sends (with_desk old s d) s ask.asker (ADenial (denial ask)) number new
 
-abbrev pub AskComesBy : {A : Type 0} → AskAnswer → WorldValue → ℕ → AskValue → Result (Reply A) WorldError → WorldValue → Type 0
+abbrev pub AskComesBy : {A : Type 0} → AskAnswer → WorldValue → ℕ → AskValue → Result (Reply A) WorldError → WorldValue
+    → Type 0
 AskComesBy (Grant n) old s ask (Ok (Granted number)) new = Grants old s ask (Grant n) number new
 AskComesBy Deny old s ask (Ok (Denied number)) new = Denies old s ask Deny number new
 AskComesBy RepeatedDeny old s ask (Ok (Denied number)) new = Denies old s ask RepeatedDeny number new
@@ -165,11 +186,13 @@ AskComes old s ask outcome new = AskComesBy (answer_of (desk old s) ask) old s a
 
 -- the ask that is denied ends; a denial allocates nothing
 abbrev pub DenialComes : {A : Type 0} → WorldValue → ℕ → DenyValue → Result (Reply A) WorldError → WorldValue → Type 0
-DenialComes old s d (Ok Noted) new = new ≡ with_desk old s (record (desk old s) { manager = ended (desk old s).manager d.denier d.ask })
+DenialComes old s d (Ok Noted) new =
+    new ≡ with_desk old s (record (desk old s) { manager = ended (desk old s).manager d.denier d.ask })
 DenialComes old s d outcome new = ⊥
 
 -- a message of o arrives at s; no site sends a hello in a world
-abbrev pub MessageComes : {A : Type 0} → WorldValue → ℕ → ℕ → MessageValue → Result (Reply A) WorldError → WorldValue → Type 0
+abbrev pub MessageComes : {A : Type 0} → WorldValue → ℕ → ℕ → MessageValue → Result (Reply A) WorldError → WorldValue
+    → Type 0
 MessageComes old s o (AnEntry e) outcome new = EntriesCome old s o (e ∷ []) outcome new
 MessageComes old s o (AnAnswer a) outcome new = EntriesCome old s o a.entries outcome new
 MessageComes old s o (ABeat b) outcome new = BeatComes old s o b.number outcome new
@@ -179,9 +202,11 @@ MessageComes old s o (ADenial d) outcome new = DenialComes old s d outcome new
 MessageComes old s o (AHello site) outcome new = ⊥
 
 -- a packet arrives: the message that its line spells
-abbrev pub PacketComes : {A : Type 0} → WorldValue → ℕ → Option PacketValue → Result (Reply A) WorldError → WorldValue → Type 0
+abbrev pub PacketComes : {A : Type 0} → WorldValue → ℕ → Option PacketValue → Result (Reply A) WorldError → WorldValue
+    → Type 0
 PacketComes old s None outcome new = ⊥
-PacketComes old s (Some p) outcome new = (m : MessageValue) × Spells m (packet_text old p) × MessageComes old s p.from m outcome new
+PacketComes old s (Some p) outcome new =
+    (m : MessageValue) × Spells m (packet_text old p) × MessageComes old s p.from m outcome new
 
 -- ---- noise
 
@@ -215,7 +240,9 @@ pub record TakesNext (old : WorldValue) (s o number : ℕ) (back : Option ℕ) (
 
 -- only taking a closing entry with a frontier allocates, at a site that has not closed
 abbrev pub TakesClosing : WorldValue → ℕ → ℕ → Type 0
-TakesClosing w s o = (is_closed (log w s) ≡ false) × (e : EntryValue) × (slice_get (put w s o) (length (applied w s o)) ≡ Some e) × (numbers_in e.moves ≢ None)
+TakesClosing w s o =
+    (is_closed (log w s) ≡ false) × (e : EntryValue) × (slice_get (put w s o) (length (applied w s o)) ≡ Some e)
+    × (numbers_in e.moves ≢ None)
 
 abbrev pub TakeHappens : {A : Type 0} → WorldValue → ℕ → ℕ → Result (Reply A) WorldError → WorldValue → Type 0
 TakeHappens old s o (Ok (Taken number)) new = TakesNext old s o number None new

@@ -12,7 +12,11 @@ pub record PacketsValue : Type 0 where
 
 -- the packet of a row
 abbrev pub packet_in : List (List ℕ) → Row → PacketValue
-packet_in lines row = record { from = row.from; to = row.to; body = if row.is_entry then EntryAt row.place else Text (get_or lines row.place []) }
+packet_in lines row = record {
+  from = row.from;
+  to = row.to;
+  body = if row.is_entry then EntryAt row.place else Text (get_or lines row.place []);
+}
 
 abbrev pub packets_in : List (List ℕ) → List Row → List PacketValue
 packets_in lines rows = map (packet_in lines) rows

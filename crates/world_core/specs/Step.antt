@@ -36,7 +36,8 @@ wants_memory outcome = false
 
 -- the same, except that lack of memory ends the world
 abbrev pub Happens : {A : Type 0} → WorldValue → Event A → Result (Reply A) WorldError → WorldValue → Type 0
-Happens old event (Err OutOfMemory) new = (mid : WorldValue) × Attempts old event (Err OutOfMemory) mid × (new ≡ ended mid)
+Happens old event (Err OutOfMemory) new =
+    (mid : WorldValue) × Attempts old event (Err OutOfMemory) mid × (new ≡ ended mid)
 Happens old event outcome new = Attempts old event outcome new
 
 -- from old, the event may have this outcome and lead to new; a refusal has the first cause and changes nothing
@@ -47,6 +48,7 @@ Step old event outcome new =
 -- events one after another
 abbrev pub Runs : {A : Type 0} → WorldValue → List (Event A) → List (Result (Reply A) WorldError) → WorldValue → Type 0
 Runs old [] [] new = new ≡ old
-Runs old (event ∷ events) (outcome ∷ outcomes) new = (mid : WorldValue) × Step old event outcome mid × Runs mid events outcomes new
+Runs old (event ∷ events) (outcome ∷ outcomes) new =
+    (mid : WorldValue) × Step old event outcome mid × Runs mid events outcomes new
 Runs old [] (outcome ∷ outcomes) new = ⊥
 Runs old (event ∷ events) [] new = ⊥

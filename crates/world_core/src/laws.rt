@@ -37,7 +37,8 @@ pub fn every_run_refines()
 /// Every run of a world is a run of the Bounded Counter's operations, each within its guard.
 pub fn every_run_operates()
     ensures { (n : ℕ) (w : WorldValue) → Reached n w
-        → (ops : List Operation) × ((empty : Counter) × EmptyCounter empty × CounterRun n ops empty (state_of (lists_of w))) }
+        → (ops : List Operation)
+        × ((empty : Counter) × EmptyCounter empty × CounterRun n ops empty (state_of (lists_of w))) }
 {}
 
 /// Whatever happens later, a site that is closed stays closed, and what it applied never changes.

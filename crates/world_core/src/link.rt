@@ -77,7 +77,8 @@ impl<A: Allocator + Copy, K: Keeping> Link<A, K> {
     pub(crate) fn read(&self, line: &[u8]) -> Result<Message<A>, InboundError>
         ensures refused { InboundRefuses self.now.inbound (reading line.now) result }
         ensures ok { IfOk result (λ m. reading line.now ≡ Ok (value_of m)) }
-        ensures memory { IfErr result (λ fault. fault ≡ NoMemory → (m : MessageValue) × (reading line.now ≡ Ok m) × (has_entries m ≡ true)) }
+        ensures memory { IfErr result (λ fault. fault ≡ NoMemory → (m : MessageValue) × (reading line.now ≡ Ok m)
+            × (has_entries m ≡ true)) }
     {
         self.incoming.inbound.read(line)
     }
@@ -90,7 +91,8 @@ impl<A: Allocator + Copy, K: Keeping> Link<A, K> {
     ) -> Result<EntryVerdicts<A>, OutOfMemory>
         requires origin { entry.origin ≡ self.old.inbound.buffer.origin }
         ensures ok { IfOk result (λ verdicts. (es : List EntryValue) → Contains es entry
-            → Follows es self.old.reached self.old.put self.old.inbound.buffer → LinkTakesAll A es self.old (entry ∷ []) verdicts self.new) }
+            → Follows es self.old.reached self.old.put self.old.inbound.buffer
+            → LinkTakesAll A es self.old (entry ∷ []) verdicts self.new) }
         ensures err { OnErr result (self.new ≡ self.old) }
     {
         let in_order = entry.prev() <= self.incoming.inbound.last();
@@ -109,7 +111,8 @@ impl<A: Allocator + Copy, K: Keeping> Link<A, K> {
         requires origin { All (λ (e : EntryValue). e.origin ≡ self.old.inbound.buffer.origin) entries.items }
         requires few { length entries.items ≤ MAX_ANSWER }
         ensures ok { IfOk result (λ verdicts. (es : List EntryValue) → All (Contains es) entries.items
-            → Follows es self.old.reached self.old.put self.old.inbound.buffer → LinkTakesAll A es self.old entries.items verdicts self.new) }
+            → Follows es self.old.reached self.old.put self.old.inbound.buffer
+            → LinkTakesAll A es self.old entries.items verdicts self.new) }
         ensures err { OnErr result (self.new ≡ self.old) }
     {
         let in_order = none_ahead(&entries, self.incoming.inbound.last());
@@ -148,7 +151,8 @@ impl<A: Allocator + Copy, K: Keeping> Link<A, K> {
     /// Notes that it was applied.
     pub(crate) fn apply_next(&mut self)
         requires { IsSome (slice_get self.old.put (length self.old.applied)) }
-        ensures { (e : EntryValue) → slice_get self.old.put (length self.old.applied) ≡ Some e → self.new ≡ with_applied self.old e }
+        ensures { (e : EntryValue) → slice_get self.old.put (length self.old.applied) ≡ Some e
+            → self.new ≡ with_applied self.old e }
     {
         let applied = self.applied + 1;
         if K::keeps() || self.incoming.stays(applied) {

@@ -1,4 +1,5 @@
-//! What a site has of the logs of all others.
+//! What a site has of the logs of all others. Each call here finds the link of its origin and hands itself on to it; its
+//! clauses say what becomes of the whole row, which is the part of a world that an event changes.
 ghost use Rattle.std.specs.Prelude.{◌≡◌, ◌≤◌, ◌∷◌, [], Ok, None, Some, true, IfOk, IfErr, OnErr, MatchResult, IsSome, List, Option, length};
 ghost use Rattle.std.specs.List.{All, Contains, slice_get};
 ghost use Rattle.std.specs.Option.{option_copied, option_map};
@@ -75,9 +76,12 @@ impl<A: Allocator + Copy, K: Keeping> Links<A, K> {
         entry: Entry<A>,
         scratch: &mut Scratch<A>,
     ) -> Result<EntryVerdicts<A>, OutOfMemory>
-        requires there { (l : LinkValue) × (at_site self.old origin None ≡ Some l) × (entry.origin ≡ l.inbound.buffer.origin) }
-        ensures ok { IfOk result (λ verdicts. (before : LinkValue) × (after : LinkValue) × (at_site self.old origin None ≡ Some before) × (self.new ≡ set_site self.old origin (Some after))
-            × ((es : List EntryValue) → Contains es entry → Follows es before.reached before.put before.inbound.buffer → LinkTakesAll A es before (entry ∷ []) verdicts after)) }
+        requires there { (l : LinkValue) × (at_site self.old origin None ≡ Some l)
+            × (entry.origin ≡ l.inbound.buffer.origin) }
+        ensures ok { IfOk result (λ verdicts. (before : LinkValue) × (after : LinkValue)
+            × (at_site self.old origin None ≡ Some before) × (self.new ≡ set_site self.old origin (Some after))
+            × ((es : List EntryValue) → Contains es entry → Follows es before.reached before.put before.inbound.buffer
+            → LinkTakesAll A es before (entry ∷ []) verdicts after)) }
         ensures err { OnErr result (self.new ≡ self.old) }
     {
         match &mut self.links[origin.index()] {
@@ -93,10 +97,14 @@ impl<A: Allocator + Copy, K: Keeping> Links<A, K> {
         entries: Vec<Entry<A>, A>,
         scratch: &mut Scratch<A>,
     ) -> Result<EntryVerdicts<A>, OutOfMemory>
-        requires there { (l : LinkValue) × (at_site self.old origin None ≡ Some l) × All (λ (e : EntryValue). e.origin ≡ l.inbound.buffer.origin) entries.items }
+        requires there { (l : LinkValue) × (at_site self.old origin None ≡ Some l)
+            × All (λ (e : EntryValue). e.origin ≡ l.inbound.buffer.origin) entries.items }
         requires few { length entries.items ≤ MAX_ANSWER }
-        ensures ok { IfOk result (λ verdicts. (before : LinkValue) × (after : LinkValue) × (at_site self.old origin None ≡ Some before) × (self.new ≡ set_site self.old origin (Some after))
-            × ((es : List EntryValue) → All (Contains es) entries.items → Follows es before.reached before.put before.inbound.buffer → LinkTakesAll A es before entries.items verdicts after)) }
+        ensures ok { IfOk result (λ verdicts. (before : LinkValue) × (after : LinkValue)
+            × (at_site self.old origin None ≡ Some before) × (self.new ≡ set_site self.old origin (Some after))
+            × ((es : List EntryValue) → All (Contains es) entries.items
+            → Follows es before.reached before.put before.inbound.buffer
+            → LinkTakesAll A es before entries.items verdicts after)) }
         ensures err { OnErr result (self.new ≡ self.old) }
     {
         match &mut self.links[origin.index()] {
@@ -109,7 +117,8 @@ impl<A: Allocator + Copy, K: Keeping> Links<A, K> {
     pub(crate) fn hear(&mut self, origin: SiteId, number: u64)
         requires there { IsSome (at_site self.old origin None) }
         requires number { IsNumber number }
-        ensures { (before : LinkValue) × (at_site self.old origin None ≡ Some before) × (self.new ≡ set_site self.old origin (Some (heard before number))) }
+        ensures { (before : LinkValue) × (at_site self.old origin None ≡ Some before)
+            × (self.new ≡ set_site self.old origin (Some (heard before number))) }
     {
         match &mut self.links[origin.index()] {
             Some(link) => link.hear(number),
@@ -124,7 +133,8 @@ impl<A: Allocator + Copy, K: Keeping> Links<A, K> {
         again: bool,
     ) -> Result<Option<Vec<u8, A>>, OutOfMemory>
         requires there { IsSome (at_site self.old origin None) }
-        ensures { (before : LinkValue) × (after : LinkValue) × (q : Option QueryValue) × (at_site self.old origin None ≡ Some before) × QueryOf before.inbound again q after.inbound
+        ensures { (before : LinkValue) × (after : LinkValue) × (q : Option QueryValue)
+            × (at_site self.old origin None ≡ Some before) × QueryOf before.inbound again q after.inbound
             × (after ≡ record before { inbound = after.inbound }) × (self.new ≡ set_site self.old origin (Some after))
             × MatchResult result (λ line. LineOf (λ l. l.items) (option_map (λ x. AQuery x) q) line) (λ _. IsSome q) }
     {
@@ -136,16 +146,21 @@ impl<A: Allocator + Copy, K: Keeping> Links<A, K> {
 
     /// The origin's next delivered entry, which is to be applied.
     pub(crate) fn next(&self, origin: SiteId) -> Option<&Entry<A>>
-        ensures { option_copied result ≡ slice_get (list_of (λ l. l.put) (at_site self.now origin None)) (length (list_of (λ l. l.applied) (at_site self.now origin None))) }
+        ensures { option_copied result
+            ≡ slice_get (list_of (λ l. l.put) (at_site self.now origin None))
+            (length (list_of (λ l. l.applied) (at_site self.now origin None))) }
     {
         self.get(origin)?.next()
     }
 
     /// Notes that it was applied.
     pub(crate) fn apply_next(&mut self, origin: SiteId)
-        requires { IsSome (slice_get (list_of (λ l. l.put) (at_site self.old origin None)) (length (list_of (λ l. l.applied) (at_site self.old origin None)))) }
+        requires { IsSome
+            (slice_get (list_of (λ l. l.put) (at_site self.old origin None))
+            (length (list_of (λ l. l.applied) (at_site self.old origin None)))) }
         ensures { (before : LinkValue) × (at_site self.old origin None ≡ Some before)
-            × ((e : EntryValue) → slice_get before.put (length before.applied) ≡ Some e → self.new ≡ set_site self.old origin (Some (with_applied before e))) }
+            × ((e : EntryValue) → slice_get before.put (length before.applied) ≡ Some e
+            → self.new ≡ set_site self.old origin (Some (with_applied before e))) }
     {
         match &mut self.links[origin.index()] {
             Some(link) => link.apply_next(),

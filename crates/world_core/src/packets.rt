@@ -79,7 +79,11 @@ impl<A: Allocator> Model for Packets<A> {
 
     ghost Value = { PacketsValue };
 
-    ghost view = { λ p. record { items = packets_in p.lines.items p.rows.items; room = vec_capacity p.rows - length p.rows.items; lines = vec_capacity p.lines - length p.lines.items } };
+    ghost view = { λ p. record {
+      items = packets_in p.lines.items p.rows.items;
+      room = vec_capacity p.rows - length p.rows.items;
+      lines = vec_capacity p.lines - length p.lines.items;
+    } };
 
     ghost invariant = { λ p. All (HasLine p.lines.items) p.rows.items };
 }

@@ -1,9 +1,8 @@
-//! The desks and links of all sites, and all packets: the effect of each event on them. The world has their invariant,
-//! and passes it to each event.
+//! The desks and links of all sites, and all packets: the effect of each event on them.
 ghost use Rattle.std.specs.Prelude.{◌≡◌, ◌≤◌, None, IfOk};
 ghost use Rattle.rights_types.specs.declared.limits.TheConstants.{MIN_SITES, MAX_SITES};
 ghost use Rattle.world_core.specs.Worlds.{start, ended};
-ghost use Rattle.world_core.specs.Faults.{is_site, site_fault, link_fault, arrive_fault, fault_of};
+ghost use Rattle.world_core.specs.Faults.{is_site, site_fault, link_fault, arrive_fault, place_fault, fault_of};
 ghost use Rattle.world_core.specs.Step.{wants_memory, Attempts, Step};
 ghost use Rattle.world_core.specs.Sound.{IsWorld};
 
@@ -23,7 +22,8 @@ use site_core::Desk;
 use std::alloc::Allocator;
 use std::marker::Model;
 
-/// All sites, and all packets ever sent. Once the system has ended, no event happens.
+/// All sites, and all packets ever sent. Once the system has ended, no event happens. It is apart from `World`, which
+/// has the invariant: so a call changes one field after another, and the invariant is proved once, of the whole event.
 #[derive(Drop)]
 pub(crate) struct System<A: Allocator, K: Keeping> {
     pub(crate) desks: Vec<Desk<A>, A>,
@@ -35,10 +35,11 @@ pub(crate) struct System<A: Allocator, K: Keeping> {
 
 impl<A: Allocator, K: Keeping> Model for System<A, K> {
     ghost use Rattle.world_core.specs.Values.{WorldValue};
+    ghost use Rattle.world_core.specs.Bodies.{world_of};
 
     ghost Value = { WorldValue };
 
-    ghost view = { λ w. record { desks = w.desks.items; links = w.links.items; packets = w.packets.items; ended = w.ended } };
+    ghost view = { λ w. world_of w };
 }
 
 impl<A: Allocator + Copy, K: Keeping> System<A, K> {
@@ -90,10 +91,11 @@ impl<A: Allocator + Copy, K: Keeping> System<A, K> {
         self.ended = true;
     }
 
-    // An event that is not refused because of its sites or its packet.
+    // An event that is not refused because of its sites or its packet. It is apart from `happen`, so that each arm is
+    // proved where it returns: after the match all outcomes would be one, of which only lack of memory matters.
     fn attempt(&mut self, event: &Event<A>) -> Result<Reply<A>, WorldError>
         requires kept { IsWorld self.old }
-        requires none { fault_of self.old event.now ≡ None }
+        requires place { place_fault self.old event.now ≡ None }
         ensures { Attempts self.old event.now result self.new }
     {
         match event {

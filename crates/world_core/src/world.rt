@@ -56,6 +56,7 @@ impl<A: Allocator + Copy> World<A, ForReplies> {
 }
 
 impl<A: Allocator + Copy, K: Keeping> World<A, K> {
+    // Both of the above, which differ only in what the links keep.
     fn start(alloc: A, sites: u64) -> Result<World<A, K>, OutOfMemory>
         requires { (MIN_SITES ≤ sites) × (sites ≤ MAX_SITES) }
         ensures { IfOk result (λ world. world ≡ start sites) }
@@ -70,7 +71,7 @@ impl<A: Allocator + Copy, K: Keeping> World<A, K> {
     pub fn step(&mut self, event: Event<A>) -> Result<Reply<A>, WorldError>
         ensures { Step self.old event result self.new }
     {
-        self.happen(&event)
+        self.system.happen(&event)
     }
 
     /// Lets events happen one after another, and returns their outcomes in order. If there is no memory for the
@@ -84,35 +85,16 @@ impl<A: Allocator + Copy, K: Keeping> World<A, K> {
         ensures headline { Headline self.new }
         ensures refines { Refines self.old self.new }
     {
-        let outcomes = self.run_all(events);
-        self.headline();
-        outcomes
-    }
-
-    fn run_all(
-        &mut self,
-        events: &[Event<A>],
-    ) -> Result<Vec<Result<Reply<A>, WorldError>, A>, OutOfMemory>
-        ensures runs { IfOk result (λ outcomes. Runs self.old events.now outcomes.items self.new) }
-        ensures err { OnErr result (self.new ≡ ended self.old) }
-        ensures refines { Refines self.old self.new }
-    {
         let alloc = self.system.allocator();
         let Ok(mut outcomes) = Vec::with_capacity(alloc, events.len()) else {
             self.system.end();
             return Err(OutOfMemory);
         };
         for event in events {
-            let outcome = self.happen(event);
+            let outcome = self.system.happen(event);
             outcomes.push_reserved(outcome);
         }
         Ok(outcomes)
-    }
-
-    fn happen(&mut self, event: &Event<A>) -> Result<Reply<A>, WorldError>
-        ensures { Step self.old event.now result self.new }
-    {
-        self.system.happen(event)
     }
 }
 

@@ -78,7 +78,8 @@ impl<A: Allocator + Copy, K: Keeping> Incoming<A, K> {
         requires few { entries ≤ MAX_ANSWER }
         requires held { length self.old.inbound.buffer.held ≤ MAX_HELD }
         ensures same { SameLists self.old self.new }
-        ensures ok { OnOk result ((scratch.new.verdicts.items ≡ []) × (scratch.new.reported.items ≡ []) × HasRoom entries self.new scratch.new) }
+        ensures ok { OnOk result ((scratch.new.verdicts.items ≡ []) × (scratch.new.reported.items ≡ [])
+            × HasRoom entries self.new scratch.new) }
         ensures apart { OnOk result (K.keeps ≡ true → self.new.apart ≡ None → in_order ≡ true) }
     {
         if K::keeps() && !in_order {
@@ -136,7 +137,8 @@ impl<A: Allocator + Copy, K: Keeping> Incoming<A, K> {
         requires empty { scratch.old.verdicts.items ≡ [] }
         requires room { HasRoom 1 self.old scratch.old }
         requires copy { IsSome self.old.apart → copy ≡ Some entry }
-        ensures takes { (v : AVerdict A) × (freed : List EntryValue) × IncomingTakes self.old scratch.old.reported.items entry v freed self.new scratch.new.reported.items }
+        ensures takes { (v : AVerdict A) × (freed : List EntryValue)
+            × IncomingTakes self.old scratch.old.reported.items entry v freed self.new scratch.new.reported.items }
         ensures empty { scratch.new.verdicts.items ≡ [] }
         ensures room { (n : ℕ) → HasRoom (n + 1) self.old scratch.old → HasRoom n self.new scratch.new }
     {
@@ -149,7 +151,8 @@ impl<A: Allocator + Copy, K: Keeping> Incoming<A, K> {
 
     // What was seen, with the entry that arrived, if it reaches the site by the first verdict.
     fn see(&mut self, seen: History<Entry<A>>, verdicts: &[BufferVerdict<A>])
-        ensures seen { (v : AVerdict A) (rest : List (AVerdict A)) (e : EntryValue) → verdicts.now ≡ v ∷ rest → seen.items ≡ self.old.seen.items ++ e ∷ []
+        ensures seen { (v : AVerdict A) (rest : List (AVerdict A)) (e : EntryValue) → verdicts.now ≡ v ∷ rest
+            → seen.items ≡ self.old.seen.items ++ e ∷ []
             → self.new.seen.items ≡ reached_after self.old.seen.items e v }
         ensures rest { self.new ≡ record self.old { seen = self.new.seen } }
     {
@@ -161,10 +164,12 @@ impl<A: Allocator + Copy, K: Keeping> Incoming<A, K> {
     // Adds the copy of an entry to the separate list, if the entry reaches the site by the first verdict.
     fn list(&mut self, copy: Option<Entry<A>>, verdicts: &[BufferVerdict<A>])
         requires room { IfSome self.old.apart (λ l. length l.items < vec_capacity l) }
-        ensures lists { (v : AVerdict A) (rest : List (AVerdict A)) (e : EntryValue) → verdicts.now ≡ v ∷ rest → (IsSome self.old.apart → copy ≡ Some e)
+        ensures lists { (v : AVerdict A) (rest : List (AVerdict A)) (e : EntryValue) → verdicts.now ≡ v ∷ rest
+            → (IsSome self.old.apart → copy ≡ Some e)
             → option_map (λ l. l.items) self.new.apart ≡ option_map (λ l. reached_after l.items e v) self.old.apart }
         ensures rest { self.new ≡ record self.old { apart = self.new.apart } }
-        ensures capacity { option_map (λ l. vec_capacity l) self.new.apart ≡ option_map (λ l. vec_capacity l) self.old.apart }
+        ensures capacity { option_map (λ l. vec_capacity l) self.new.apart
+            ≡ option_map (λ l. vec_capacity l) self.old.apart }
     {
         if !reaches(verdicts) {
             return;
@@ -177,9 +182,11 @@ impl<A: Allocator + Copy, K: Keeping> Incoming<A, K> {
     // Moves the verdicts to the reply; the entries that are ready are appended to what was delivered.
     fn settle(&mut self, scratch: &mut Scratch<A>)
         requires put { length self.old.put.items + length scratch.old.verdicts.items ≤ vec_capacity self.old.put }
-        requires reported { length scratch.old.reported.items + length scratch.old.verdicts.items ≤ vec_capacity scratch.old.reported }
+        requires reported { length scratch.old.reported.items + length scratch.old.verdicts.items
+            ≤ vec_capacity scratch.old.reported }
         ensures put { self.new.put.items ≡ self.old.put.items ++ ready_in scratch.old.verdicts.items }
-        ensures reported { scratch.new.reported.items ≡ scratch.old.reported.items ++ map as_reported scratch.old.verdicts.items }
+        ensures reported { scratch.new.reported.items
+            ≡ scratch.old.reported.items ++ map as_reported scratch.old.verdicts.items }
         ensures verdicts { scratch.new.verdicts.items ≡ [] }
         ensures rest { self.new ≡ record self.old { put = self.new.put } }
         ensures put_room { vec_capacity self.new.put ≡ vec_capacity self.old.put }
@@ -242,7 +249,8 @@ impl<A: Allocator + Copy, K: Keeping> Incoming<A, K> {
 
 // Whether the entry of the first verdict reaches the site.
 fn reaches<A: Allocator>(verdicts: &[BufferVerdict<A>]) -> bool
-    ensures { (v : AVerdict A) (rest : List (AVerdict A)) (set : List EntryValue) (e : EntryValue) → verdicts.now ≡ v ∷ rest → reached_after set e v ≡ (if result then set ++ e ∷ [] else set) }
+    ensures { (v : AVerdict A) (rest : List (AVerdict A)) (set : List EntryValue) (e : EntryValue)
+        → verdicts.now ≡ v ∷ rest → reached_after set e v ≡ (if result then set ++ e ∷ [] else set) }
 {
     matches!(
         verdicts.first(),

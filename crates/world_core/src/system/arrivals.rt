@@ -1,14 +1,13 @@
 //! Packets that arrive.
-ghost use Rattle.std.specs.Prelude.{◌≡◌, ◌≢◌, ◌∷◌, [], true, None, Some, IfOk, OnErr};
-ghost use Rattle.std.specs.List.{All, Contains};
+ghost use Rattle.std.specs.Prelude.{◌≡◌, ◌≢◌, true, None, IfOk, OnErr};
 ghost use Rattle.rights_types.specs.Messages.{MessageValue};
 ghost use Rattle.rights_types.specs.Values.{value_of};
 ghost use Rattle.entry_codec.specs.Reading.{has_entries};
 ghost use Rattle.entry_codec.specs.Spelling.{Spells};
 ghost use Rattle.rights_protocol.specs.Lists.{IsSiteOf};
-ghost use Rattle.world_core.specs.Worlds.{count, log, packet, packet_text};
+ghost use Rattle.world_core.specs.Worlds.{count, packet, packet_text};
 ghost use Rattle.world_core.specs.Faults.{arrive_fault};
-ghost use Rattle.world_core.specs.LinkEvents.{EntriesCome, QueryComes, AskComes, MessageComes, PacketComes};
+ghost use Rattle.world_core.specs.LinkEvents.{QueryComes, AskComes, MessageComes, PacketComes};
 ghost use Rattle.world_core.specs.Sound.{IsWorld, IsSent, MayCome};
 
 use crate::fault::WorldError;
@@ -17,7 +16,7 @@ use crate::packets::{Body, Packet};
 use crate::reply::Reply;
 use crate::system::System;
 use origin_log::ReadError;
-use rights_types::{Answer, Ask, Entry, Message, OutOfMemory, Query, SiteId};
+use rights_types::{Ask, Message, OutOfMemory, Query, SiteId};
 use site_core::{InboundError, Line};
 use std::alloc::Allocator;
 use transfer_manager::AskAnswer;
@@ -41,7 +40,8 @@ impl<A: Allocator + Copy, K: Keeping> System<A, K> {
         ensures spelled { IfOk result (λ m. Spells (value_of m) (packet_text self.now packet.now)) }
         ensures may { IfOk result (λ m. MayCome self.now packet.now.from packet.now.to (value_of m)) }
         // Only entries allocate.
-        ensures memory { OnErr result ((m : MessageValue) × Spells m (packet_text self.now packet.now) × (has_entries m ≡ true)) }
+        ensures memory { OnErr result ((m : MessageValue) × Spells m (packet_text self.now packet.now)
+            × (has_entries m ≡ true)) }
     {
         let Some(link) = self.links[packet.to().index()].get(packet.from()) else {
             unreachable!()
@@ -85,8 +85,17 @@ impl<A: Allocator + Copy, K: Keeping> System<A, K> {
         ensures { MessageComes self.old site from (value_of message) result self.new }
     {
         match message {
-            Message::Push(entry) => self.entry_comes(site, from, entry),
-            Message::Answer(answer) => self.entries_come(site, from, answer),
+            Message::Push(entry) => {
+                let links = &mut self.links[site.index()];
+                let verdicts = links.take_entry(from, entry, &mut self.scratch)?;
+                Ok(Reply::Verdicts(verdicts))
+            }
+            Message::Answer(answer) => {
+                let entries = answer.into_entries();
+                let links = &mut self.links[site.index()];
+                let verdicts = links.take_answer(from, entries, &mut self.scratch)?;
+                Ok(Reply::Verdicts(verdicts))
+            }
             Message::Beat(beat) => {
                 self.links[site.index()].hear(from, beat.number());
                 Ok(Reply::HeardBeat)
@@ -99,43 +108,6 @@ impl<A: Allocator + Copy, K: Keeping> System<A, K> {
             }
             Message::Hello(_) => unreachable!(),
         }
-    }
-
-    // An entry of another site's log.
-    fn entry_comes(
-        &mut self,
-        site: SiteId,
-        from: SiteId,
-        entry: Entry<A>,
-    ) -> Result<Reply<A>, WorldError>
-        requires kept { IsWorld self.old }
-        requires site { IsSiteOf (count self.old) site }
-        requires from { IsSiteOf (count self.old) from }
-        requires differ { site ≢ from }
-        requires logged { Contains (log self.old from) entry }
-        ensures { EntriesCome self.old site from (entry ∷ []) result self.new }
-    {
-        let verdicts = self.links[site.index()].take_entry(from, entry, &mut self.scratch)?;
-        Ok(Reply::Verdicts(verdicts))
-    }
-
-    // Entries of another site's log, in its answer.
-    fn entries_come(
-        &mut self,
-        site: SiteId,
-        from: SiteId,
-        answer: Answer<A>,
-    ) -> Result<Reply<A>, WorldError>
-        requires kept { IsWorld self.old }
-        requires site { IsSiteOf (count self.old) site }
-        requires from { IsSiteOf (count self.old) from }
-        requires differ { site ≢ from }
-        requires logged { All (Contains (log self.old from)) answer.entries }
-        ensures { EntriesCome self.old site from answer.entries result self.new }
-    {
-        let entries = answer.into_entries();
-        let verdicts = self.links[site.index()].take_answer(from, entries, &mut self.scratch)?;
-        Ok(Reply::Verdicts(verdicts))
     }
 
     fn query_comes(&mut self, site: SiteId, query: &Query) -> Result<Reply<A>, WorldError>

@@ -172,7 +172,8 @@ impl<A: Allocator + Copy, K: Keeping> World<A, K> {
         ensures issued { result.issued ≡ sum_sites (count self.now) (λ s. issued (moves_of (log self.now s))) }
         ensures spent { result.spent ≡ sum_sites (count self.now) (λ s. spent (moves_of (log self.now s))) }
         ensures held { result.held ≡ sum_sites (count self.now) (held_by self.now) }
-        ensures way { result.way ≡ sum_sites (count self.now) (λ o. sum_sites (count self.now) (λ s. on_way self.now o s)) }
+        ensures way { result.way
+            ≡ sum_sites (count self.now) (λ o. sum_sites (count self.now) (λ s. on_way self.now o s)) }
     {
         // For the proof: the invariant of the world.
         let _ = &self.system;

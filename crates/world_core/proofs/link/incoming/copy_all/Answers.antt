@@ -10,7 +10,8 @@ loop-entry-preserved g c =
     let more = take_more entries i c.entry-item.result (omega arith) in
     let item = ap (λ (e : EntryValue). take i entries ++ e ∷ []) (sym c.entry-item.is) in
     record {
-      items = c.push_reserved.ensures.items ∙ rw (c.loop-entry.invariant.items, c.in_ok-clone_in.ensures) (sym (more ∙ item));
+      items = c.push_reserved.ensures.items ∙ rw (c.loop-entry.invariant.items, c.in_ok-clone_in.ensures)
+          (sym (more ∙ item));
       room = omega (arith, c.push_reserved.ensures.capacity, c.loop-entry.invariant.room);
     }
 

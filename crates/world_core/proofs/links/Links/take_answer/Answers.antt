@@ -13,7 +13,8 @@ take_answer-requires-clause-origin g c =
     c.index_mut.ensures.value c.in-Some.is in
     let both : Some there.0 ≡ Some c.in-Some.link = sym there.1 ∙ at.is in
     let same : there.0 ≡ c.in-Some.link = cc in
-    subst (λ (l : LinkValue). All (λ (e : EntryValue). e.origin ≡ l.inbound.buffer.origin) c.args.entries.items) same there.2
+    subst (λ (l : LinkValue). All (λ (e : EntryValue). e.origin ≡ l.inbound.buffer.origin) c.args.entries.items) same
+    there.2
 
 pub returns-clause-ok : goal.returns-clause-ok
 returns-clause-ok g c =

@@ -7,6 +7,9 @@ use Rattle.world_core.proofs.packets.Packets.add_line.Goals as goal
 pub returns-clause-added : goal.returns-clause-added
 returns-clause-added g c =
     let last : c.len-place.result ≡ length c.self.inside.lines.items = omega (arith, c.len-place.ensures) in
-    (line_added c.self.inside.lines.items c.push_reserved.new.self.items c.args.line c.self.inside.rows.items c.push_reserved-2.new.self.items
-    (record { place = c.len-place.result; from = c.args.from; to = c.args.to; is_entry = false }) c.self.invariant refl last c.push_reserved.ensures.items c.push_reserved-2.ensures.items).0
-    ∙ ap (λ (p : PacketsValue). p.items ++ record { from = c.args.from; to = c.args.to; body = Text c.args.line } ∷ []) c.self.view_is
+    (line_added c.self.inside.lines.items c.push_reserved.new.self.items c.args.line c.self.inside.rows.items
+    c.push_reserved-2.new.self.items
+    (record { place = c.len-place.result; from = c.args.from; to = c.args.to; is_entry = false }) c.self.invariant refl
+    last c.push_reserved.ensures.items c.push_reserved-2.ensures.items).0
+    ∙ ap (λ (p : PacketsValue). p.items ++ record { from = c.args.from; to = c.args.to; body = Text c.args.line } ∷ [])
+    c.self.view_is

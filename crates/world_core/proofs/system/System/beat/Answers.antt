@@ -2,7 +2,6 @@ use Rattle.std.proofs.Common.{Some, refl, subst}
 use Rattle.std.proofs.lemmas.Result.{err_from_is_err_and}
 use Rattle.site_core.specs.Calls.{LineOf, beat_of}
 use Rattle.site_core.specs.Desks.{DeskValue}
-use Rattle.world_core.specs.Values.{WorldValue}
 use Rattle.world_core.specs.Worlds.{desk}
 use Rattle.world_core.proofs.EventPlaces.{link_known, lent}
 use Rattle.world_core.proofs.LinkCalls.{sends_line}
@@ -15,17 +14,13 @@ returns-in_err-line g c =
 
 pub returns : goal.returns
 returns g c =
-    let there : WorldValue = record {
-      desks = c.self.inside.desks.items;
-      links = c.self.inside.links.items;
-      packets = c.self.inside.packets.items;
-      ended = c.self.inside.ended;
-    } in
-    let at = lent there c.args.self.now _ _ _ c.self.view_is c.index.ensures.value
+    let at = lent _ c.args.self.now _ _ _ c.self.view_is c.index.ensures.value
     (link_known c.args.self.now _ _ c.requires).0 c.index-2.ensures in
     let line = c.in_ok-line.line in
     let spelled =
-    subst (λ (d : DeskValue). LineOf (λ l. l.items) (Some (beat_of d.ledger.log)) (Some line)) at.is c.in_ok-line.ensures in
-    sends_line g.row.A.Denot (λ l. l.items) there c.args.self.now _ _ _
+    subst (λ (d : DeskValue). LineOf (λ l. l.items) (Some (beat_of d.ledger.log)) (Some line)) at.is
+    c.in_ok-line.ensures in
+    sends_line g.row.A.Denot (λ l. l.items) _ c.args.self.now _ _ _
     (Some (beat_of (desk c.args.self.now c.args.site).ledger.log)) line _ _ _ _ c.self.view_is spelled
-    c.new.ensures refl c.in_ok-reserve_line.ensures.items c.add_line-number.ensures.number c.add_line-number.ensures.added
+    c.new.ensures refl c.in_ok-reserve_line.ensures.items c.add_line-number.ensures.number
+    c.add_line-number.ensures.added

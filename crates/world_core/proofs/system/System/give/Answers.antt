@@ -1,4 +1,3 @@
-use Rattle.world_core.specs.Values.{WorldValue}
 use Rattle.world_core.proofs.EventPlaces.{site_known, lent}
 use Rattle.world_core.proofs.DeskCalls.{refused, done}
 use Rattle.world_core.specs.declared.reply.Reply.TheVariants.{Number}
@@ -10,13 +9,7 @@ use Rattle.world_core.proofs.system.System.give.Goals as goal
 
 pub returns-in_err-number : goal.returns-in_err-number
 returns-in_err-number g c =
-    let there : WorldValue = record {
-      desks = c.self.inside.desks.items;
-      links = c.self.inside.links.items;
-      packets = c.self.inside.packets.items;
-      ended = c.self.inside.ended;
-    } in
-    let at = lent there c.args.self.now _ _ _ c.self.view_is c.index.ensures.value
+    let at = lent _ c.args.self.now _ _ _ c.self.view_is c.index.ensures.value
     (site_known c.args.self.now _ c.requires) c.index_mut.ensures.value in
     refused {A = g.row.A.Denot} (λ d. give_fault d c.args.peer c.args.amount) (λ d. Always) (λ d. Writes d
     (Give c.args.peer c.args.amount ∷ [])) _ _ _ _ _ _ _ _
@@ -24,13 +17,7 @@ returns-in_err-number g c =
 
 pub returns : goal.returns
 returns g c =
-    let there : WorldValue = record {
-      desks = c.self.inside.desks.items;
-      links = c.self.inside.links.items;
-      packets = c.self.inside.packets.items;
-      ended = c.self.inside.ended;
-    } in
-    let at = lent there c.args.self.now _ _ _ c.self.view_is c.index.ensures.value
+    let at = lent _ c.args.self.now _ _ _ c.self.view_is c.index.ensures.value
     (site_known c.args.self.now _ c.requires) c.index_mut.ensures.value in
     done {A = g.row.A.Denot} (λ d. give_fault d c.args.peer c.args.amount) (λ d. Always) (λ d. Writes d
     (Give c.args.peer c.args.amount ∷ [])) _ _ _ _ _ _ (Number c.in_ok-number.number)

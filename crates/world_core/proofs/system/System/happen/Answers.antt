@@ -1,8 +1,15 @@
 use Rattle.std.proofs.Common.{sym, ap, subst, ◌∙◌}
 use Rattle.world_core.specs.Worlds.{ended}
 use Rattle.world_core.specs.Step.{Step}
+use Rattle.world_core.proofs.EventPlaces.{place_known}
 use Rattle.world_core.proofs.Happenings.{step_refused, step_happens, step_ends}
 use Rattle.world_core.proofs.system.System.happen.Goals as goal
+
+pub attempt-outcome-requires : goal.attempt-outcome-requires
+attempt-outcome-requires g c = record {
+  kept = c.requires.kept;
+  place = place_known c.args.self.now c.args.event.now (sym c.fault_of.ensures ∙ c.in_default.is);
+}
 
 pub returns-in-Some : goal.returns-in-Some
 returns-in-Some g c =

@@ -1,5 +1,4 @@
 use Rattle.std.proofs.Common.{None, refl}
-use Rattle.world_core.specs.Values.{WorldValue}
 use Rattle.world_core.proofs.EventPlaces.{site_known, lent}
 use Rattle.world_core.proofs.DeskCalls.{done}
 use Rattle.world_core.specs.declared.reply.Reply.TheVariants.{Asks}
@@ -8,13 +7,7 @@ use Rattle.world_core.proofs.system.System.plan.Goals as goal
 
 pub returns : goal.returns
 returns g c =
-    let there : WorldValue = record {
-      desks = c.self.inside.desks.items;
-      links = c.self.inside.links.items;
-      packets = c.self.inside.packets.items;
-      ended = c.self.inside.ended;
-    } in
-    let at = lent there c.args.self.now _ _ _ c.self.view_is c.index.ensures.value
+    let at = lent _ c.args.self.now _ _ _ c.self.view_is c.index.ensures.value
     (site_known c.args.self.now _ c.requires) c.index_mut.ensures.value in
     done {A = g.row.A.Denot} (λ d. None) (λ d. Never) (λ d. PlansAsks d) _ _ _ _ _ _ (Asks c.plan-count.result)
     at refl c.plan-count.ensures

@@ -1,5 +1,4 @@
 use Rattle.std.proofs.Common.{◌≡◌, true}
-use Rattle.world_core.specs.Values.{WorldValue}
 use Rattle.world_core.proofs.EventPlaces.{site_known, lent}
 use Rattle.world_core.proofs.DeskCalls.{refused, done}
 use Rattle.site_core.specs.Faults.{can_spend, spend_fault}
@@ -10,13 +9,7 @@ use Rattle.world_core.proofs.system.System.spend.Goals.{in-Spent, in-Queued}
 
 pub returns-in_err-number : goal.returns-in_err-number
 returns-in_err-number g c =
-    let there : WorldValue = record {
-      desks = c.self.inside.desks.items;
-      links = c.self.inside.links.items;
-      packets = c.self.inside.packets.items;
-      ended = c.self.inside.ended;
-    } in
-    let at = lent there c.args.self.now _ _ _ c.self.view_is c.index.ensures.value
+    let at = lent _ c.args.self.now _ _ _ c.self.view_is c.index.ensures.value
     (site_known c.args.self.now _ c.requires) c.index_mut.ensures.value in
     refused {A = g.row.A.Denot} (λ d. spend_fault d c.args.amount) (λ d. can_spend d c.args.amount ≡ true)
     (λ d. Spends d c.args.amount c.args.deadline) _ _ _ _ _ _ _ _
@@ -25,13 +18,7 @@ returns-in_err-number g c =
 
 pub returns : goal.returns
 returns g c =
-    let there : WorldValue = record {
-      desks = c.self.inside.desks.items;
-      links = c.self.inside.links.items;
-      packets = c.self.inside.packets.items;
-      ended = c.self.inside.ended;
-    } in
-    let at = lent there c.args.self.now _ _ _ c.self.view_is c.index.ensures.value
+    let at = lent _ c.args.self.now _ _ _ c.self.view_is c.index.ensures.value
     (site_known c.args.self.now _ c.requires) c.index_mut.ensures.value in
     elim c.match-branch-2.branch [
       | in-Spent b ↦ rw b.result-is (done {A = g.row.A.Denot} (λ d. spend_fault d c.args.amount)

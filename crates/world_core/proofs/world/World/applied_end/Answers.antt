@@ -7,7 +7,8 @@ use Rattle.world_core.proofs.world.World.applied_end.Goals as goal
 pub returns-in-Some : goal.returns-in-Some
 returns-in-Some g c =
     let found = c.in-Some.ensures in
-    c.applied.ensures.applied (applied c.args.self.now c.args.site) (stands c.args.self.now c.args.site c.in-Some.desk.now found.kept found.site found.some)
+    c.applied.ensures.applied (applied c.args.self.now c.args.site)
+    (stands c.args.self.now c.args.site c.in-Some.desk.now found.kept found.site found.some)
 
 pub returns-in-None : goal.returns-in-None
 returns-in-None g c =

@@ -7,7 +7,8 @@ pub returns-in-Some : goal.returns-in-Some
 returns-in-Some g c =
     let w = c.args.self.now in
     let found = c.in-Some.ensures in
-    c.held.ensures.applied (applied w c.args.site) (stands w c.args.site c.in-Some.desk.now found.kept found.site found.some)
+    c.held.ensures.applied (applied w c.args.site)
+    (stands w c.args.site c.in-Some.desk.now found.kept found.site found.some)
     ∙ held_value w c.args.site c.in-Some.desk.now found.kept found.site found.some
 
 pub returns-in-None : goal.returns-in-None

@@ -6,4 +6,5 @@ use Rattle.world_core.proofs.ReaderLaws.{none_issued}
 use Rattle.world_core.proofs.world.World.issued.Goals as goal
 
 pub returns-in-None : goal.returns-in-None
-returns-in-None g c = sym (ap (λ (d : DeskValue). issued (moves_of d.ledger.log.entries)) c.in-None.ensures.none ∙ none_issued)
+returns-in-None g c =
+    sym (ap (λ (d : DeskValue). issued (moves_of d.ledger.log.entries)) c.in-None.ensures.none ∙ none_issued)

@@ -6,4 +6,5 @@ use Rattle.world_core.proofs.ReaderLaws.{none_spent}
 use Rattle.world_core.proofs.world.World.spent.Goals as goal
 
 pub returns-in-None : goal.returns-in-None
-returns-in-None g c = sym (ap (λ (d : DeskValue). spent (moves_of d.ledger.log.entries)) c.in-None.ensures.none ∙ none_spent)
+returns-in-None g c =
+    sym (ap (λ (d : DeskValue). spent (moves_of d.ledger.log.entries)) c.in-None.ensures.none ∙ none_spent)

@@ -5,8 +5,11 @@ use Rattle.std.proofs.lemmas.Option.{slice_get_cases, slice_get_within, get_or_f
 use Rattle.rights_types.specs.Entries.{EntryValue}
 use Rattle.world_core.proofs.world.readers.copy_of.Goals as goal
 
-one_more : (es : List EntryValue) (i : ℕ) (e : EntryValue) → slice_get es i ≡ Some e → take (i + 1) es ≡ take i es ++ e ∷ []
-one_more es i e at = take_more es i e (slice_get_within es i e at) ∙ ap (λ (x : EntryValue). take i es ++ x ∷ []) (get_or_from_slice_get es i e e at)
+one_more : (es : List EntryValue) (i : ℕ) (e : EntryValue) → slice_get es i ≡ Some e
+    → take (i + 1) es ≡ take i es ++ e ∷ []
+one_more es i e at =
+    take_more es i e (slice_get_within es i e at)
+    ∙ ap (λ (x : EntryValue). take i es ++ x ∷ []) (get_or_from_slice_get es i e e at)
 
 -- an entry that exists is found
 is_found : (es : List EntryValue) (i : ℕ) → i < length es → slice_get es i ≡ None → ⊥
@@ -18,11 +21,13 @@ is_found es i within none =
 
 pub unreachable-requires : goal.unreachable-requires
 unreachable-requires g c =
-    is_found c.args.log.now.entries c.loop-index.index (omega (arith, c.len-index-end.ensures.value)) (sym c.in_ok-entry.ensures.value ∙ c.in-None.is)
+    is_found c.args.log.now.entries c.loop-index.index (omega (arith, c.len-index-end.ensures.value))
+    (sym c.in_ok-entry.ensures.value ∙ c.in-None.is)
 
 pub loop-index-preserved : goal.loop-index-preserved
 loop-index-preserved g c =
-    let at : slice_get c.args.log.now.entries c.loop-index.index ≡ Some c.in-Some.entry = sym c.in_ok-entry.ensures.value ∙ c.in-Some.is in
+    let at : slice_get c.args.log.now.entries c.loop-index.index ≡ Some c.in-Some.entry =
+    sym c.in_ok-entry.ensures.value ∙ c.in-Some.is in
     let more = one_more c.args.log.now.entries c.loop-index.index c.in-Some.entry at in
     let pushed = c.in_ok-push-in-Some.ensures.items in
     cc
@@ -30,4 +35,5 @@ loop-index-preserved g c =
 pub returns : goal.returns
 returns g c =
     c.loop-index.invariant
-    ∙ take_all c.loop-index.index c.args.log.now.entries (omega (arith, c.len-index-end.ensures.value, c.loop-index-test.false))
+    ∙ take_all c.loop-index.index c.args.log.now.entries
+    (omega (arith, c.len-index-end.ensures.value, c.loop-index-test.false))
