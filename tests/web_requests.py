@@ -18,6 +18,8 @@ PAGE = os.path.join(TOP, "crates", "site_http", "src", "page.html")
 # So many connections a site has at a time.
 MOST_CLIENTS = 63
 LONGEST_BODY = 1_048_576
+# Once the replies to a body have so many bytes, the rest of it is not carried out.
+MOST_REPLIES = 16_777_216
 LONGEST_HEAD = 16_384
 MOST_FIELDS = 64
 # The server closes a connection that says nothing for so many seconds.
@@ -146,6 +148,22 @@ def the_longest_body():
         chunks = b"8\r\nissue 1\n\r\n9;a=b\r\nspend 1 0\r\n0\r\n\r\n"
         head = request("POST", "/", None, "transfer-encoding: chunked")
         expect_served(client.ask(head + chunks), 200, b"number 1\nspent 2\n", what="in chunks")
+
+
+def the_most_replies():
+    """A body ends where its replies reach their limit, as where memory runs out."""
+    with alone() as sites, sites.client() as client:
+        reply = client.ask(request("POST", "/", b"status\n")).body
+        answered = -(-MOST_REPLIES // len(reply))
+        body = b"status\n" * ((LONGEST_BODY - 8) // 7) + b"issue 1\n"
+        expect(answered < body.count(b"status\n"), True, "the body has more lines than are answered")
+        answer = client.ask(request("POST", "/", body))
+        expect(answer.status, 503)
+        expect(len(answer.body), answered * len(reply) + 18, "the bytes of the replies")
+        expect(answer.body == reply * answered + b"error OutOfMemory\n", True, "the replies")
+        expect(sites[1].status()["issued"], 0)
+        # Only that body ended: the next one begins anew.
+        expect_served(client.ask(post("issue 2", "issue 3")), 200, b"number 1\nnumber 2\n")
 
 
 def too_long(body, fields):
@@ -503,8 +521,8 @@ class Idle:
 
 TESTS = [
     each_target, the_page, other_targets_and_methods, the_status_of_one_command, bodies_of_several_lines, the_longest_line,
-    no_web_page_can_spend, the_longest_body, a_body_that_is_waited_for, the_longest_head, heads_that_are_refused,
-    connections_that_are_closed_when_asked, sixty_three_clients, two_hundred_at_once, no_thread_and_no_seat_is_left,
+    no_web_page_can_spend, the_longest_body, the_most_replies, a_body_that_is_waited_for, the_longest_head,
+    heads_that_are_refused, connections_that_are_closed_when_asked, sixty_three_clients, two_hundred_at_once, no_thread_and_no_seat_is_left,
     memory_of_connections, pipelines_of_a_hundred, one_byte_at_a_time, half_requests, slow_readers, slow_senders,
     noise, reads_that_are_interrupted,
 ]

@@ -1,11 +1,18 @@
 -- The replies to lines, one after another.
-use Rattle.std.proofs.Common.{◌≡◌, ℕ, ◌<◌, List, [], ◌∷◌, ◌++◌, length, refl, ap, ◌∙◌, subst, arith, append-nil, Result, Ok, Err, OnOk}
+use Rattle.std.proofs.Common.{◌≡◌, ◌≢◌, ℕ, ◌<◌, List, [], ◌∷◌, ◌++◌, length, refl, ap, ◌∙◌, subst, arith, append-nil, length-append, take_at, Result, Ok, Err, OnOk}
 use Rattle.std.proofs.lemmas.Grind.{flat_map-append}
-use Rattle.site_http.specs.Replying.{Answering, AnswersEach, RepliesToOne, bad_command, text_of, status_of_all}
+use Rattle.site_http.specs.Replying.{Answering, AnswersEach, RepliesToOne, WithinLimit, bad_command, but_last, text_of, status_of_all}
+use Rattle.site_http.specs.declared.replying.TheConstants.{MAX_REPLIES}
 
 pub text_more : (replies : List (List ℕ)) (reply : List ℕ) → text_of (replies ++ reply ∷ []) ≡ text_of replies ++ (reply ++ 10 ∷ [])
 text_more replies reply =
     flat_map-append (λ (r : List ℕ). r ++ 10 ∷ []) replies (reply ∷ []) ∙ ap (λ (l : List ℕ). text_of replies ++ l) (append-nil (reply ++ 10 ∷ []))
+
+-- a reply to a line that began below the limit
+pub within_more : (replies : List (List ℕ)) (reply : List ℕ) → length (text_of replies) < MAX_REPLIES → WithinLimit (replies ++ reply ∷ [])
+within_more replies reply below =
+    let before : but_last (replies ++ reply ∷ []) ≡ replies = take_at replies (reply ∷ []) _ (omega (arith, length-append replies (reply ∷ []))) in
+    rw before below
 
 module _ {S : Type 0} (answers : Answering S) where
   pub answers_more : (old mid new : S) (lines replies : List (List ℕ)) (line reply : List ℕ) → AnswersEach answers old lines replies mid → answers mid line reply new
@@ -15,17 +22,17 @@ module _ {S : Type 0} (answers : Answering S) where
   answers_more old mid new (first ∷ lines) replies line reply p a =
       (p.0, p.1, p.2 ++ reply ∷ [], p.3, answers_more p.1 mid new lines p.2 line reply p.4 a, ap (λ (l : List (List ℕ)). l ++ reply ∷ []) p.5)
 
-  -- replies to several lines are several
-  pub status_of_many : (old new : S) (lines replies : List (List ℕ)) → 1 < length lines → AnswersEach answers old lines replies new → 200 ≡ status_of_all replies
-  status_of_many old new [] replies many p = absurd (omega arith)
-  status_of_many old new (line ∷ []) replies many p = absurd (omega arith)
-  status_of_many old new (line ∷ other ∷ lines) replies many p = rw (p.5, p.4.5) refl
+  -- replies to no line or to several have the status 200
+  pub status_of_many : (old new : S) (lines replies : List (List ℕ)) → length lines ≢ 1 → AnswersEach answers old lines replies new → 200 ≡ status_of_all replies
+  status_of_many old new [] replies other p = rw p.0 refl
+  status_of_many old new (line ∷ []) replies other p = absurd (other refl)
+  status_of_many old new (line ∷ next ∷ lines) replies other p = rw (p.5, p.4.5) refl
 
-  -- several lines are refused
-  pub refused_many : (old : S) (lines : List (List ℕ)) → 1 < length lines → RepliesToOne answers old lines 400 (bad_command ∷ []) old
-  refused_many old [] many = absurd (omega arith)
-  refused_many old (line ∷ []) many = absurd (omega arith)
-  refused_many old (line ∷ other ∷ lines) many = (refl, refl, refl)
+  -- if the client waits, no line or several are refused
+  pub refused_many : (old : S) (lines : List (List ℕ)) → length lines ≢ 1 → RepliesToOne answers old lines 400 (bad_command ∷ []) old
+  refused_many old [] other = (refl, refl, refl)
+  refused_many old (line ∷ []) other = absurd (other refl)
+  refused_many old (line ∷ next ∷ lines) other = (refl, refl, refl)
 
 -- what follows if a call succeeds
 pub on_ok : {T E A B : Type 0} (r : Result T E) → (A → B) → OnOk r A → OnOk r B

@@ -1,5 +1,5 @@
 -- The first line of a body.
-use Rattle.std.proofs.Common.{◌≡◌, ℕ, suc, ◌+◌, zero, ◌<◌, Bool, true, false, cond, eqb, List, [], ◌∷◌, ◌++◌, length, get_or, take, drop, refl, ap, ◌∙◌, sym, arith, length-append, length-take, get_or-take, eq-eqb, Some, None}
+use Rattle.std.proofs.Common.{◌≡◌, ◌≢◌, ℕ, suc, ◌+◌, zero, ◌<◌, Bool, true, false, cond, eqb, List, [], ◌∷◌, ◌++◌, length, get_or, take, drop, refl, ap, ◌∙◌, sym, arith, length-append, length-take, get_or-take, eq-eqb, Some, None}
 use Rattle.std.proofs.lemmas.Bool.{eqb-true, true≢false}
 use Rattle.std.proofs.lemmas.List.{take_more, take-append-drop}
 use Rattle.memchr.specs.Find.{IsFirstByte, is_byte}
@@ -54,16 +54,12 @@ some_after front (x ∷ xs) some =
 pub lines_some : (xs : List ℕ) → 0 < length xs → 0 < length (lines_of xs)
 lines_some xs some = some_after [] xs (omega arith)
 
-nothing : (xs : List ℕ) → length xs ≡ 0 → xs ≡ []
-nothing [] none = refl
-nothing (x ∷ xs) none = absurd (omega arith)
-
--- if no bytes follow it, the first line is the only one; if some do, it is one of several
-pub lines_one : (xs rest line : List ℕ) → lines_of xs ≡ line ∷ lines_of rest → length rest ≡ 0 → lines_of xs ≡ line ∷ []
-lines_one xs rest line first none = first ∙ ap (λ (l : List ℕ). line ∷ lines_of l) (nothing rest none)
-
-pub lines_many : (xs rest line : List ℕ) → lines_of xs ≡ line ∷ lines_of rest → 0 < length rest → 1 < length (lines_of xs)
-lines_many xs rest line first some = rw first (omega (arith, lines_some rest some))
+-- if bytes follow it, the first line is not the only one
+pub lines_many : (xs rest line : List ℕ) → lines_of xs ≡ line ∷ lines_of rest → 0 < length rest → length (lines_of xs) ≢ 1
+lines_many xs rest line first some one =
+    let more = lines_some rest some in
+    let long = ap length first in
+    omega arith
 
 pub not_none : (n : ℕ) (b : Bool) → b ≡ eqb n 0 → b ≡ false → 0 < n
 not_none zero b is e = absurd (true≢false (sym is ∙ e))

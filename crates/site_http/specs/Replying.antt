@@ -1,9 +1,9 @@
 -- The replies to the lines of a body.
-use Rattle.std.specs.Prelude.{◌≡◌, ℕ, ◌≤◌, ◌⊎◌, List, [], ◌∷◌, ◌++◌, flat_map, codes, nat_eq, if◌then◌else◌, bytes_eq}
+use Rattle.std.specs.Prelude.{◌≡◌, ℕ, ◌-◌, ◌<◌, ◌≤◌, ◌⊎◌, Bool, true, false, List, [], ◌∷◌, ◌++◌, length, take, flat_map, codes, nat_eq, if◌then◌else◌, bytes_eq}
 use Rattle.std.specs.List.{starts_with}
 use Rattle.bytes.specs.Filled.{Filled}
 use Rattle.line_streams.specs.Waiting.{Waiting}
-use Rattle.site_http.specs.declared.replying.TheConstants.{LAST_ROOM}
+use Rattle.site_http.specs.declared.replying.TheConstants.{LAST_ROOM, MAX_REPLIES}
 
 -- in the first state, this line with its line feed gets this reply, without a line feed, and leads to the second state
 abbrev pub Answering : Type 0 → Type 1
@@ -34,6 +34,14 @@ status_of_all replies = 200
 abbrev pub text_of : List (List ℕ) → List ℕ
 text_of replies = flat_map (λ reply. reply ++ 10 ∷ []) replies
 
+-- all replies but the last
+abbrev pub but_last : List (List ℕ) → List (List ℕ)
+but_last replies = take (length replies - 1) replies
+
+-- each line began below the limit: the replies before the last one have fewer bytes
+abbrev pub WithinLimit : List (List ℕ) → Type 0
+WithinLimit replies = length (text_of (but_last replies)) < MAX_REPLIES
+
 module _ {S : Type 0} (answers : Answering S) where
   -- each line got its reply, in order
   abbrev pub AnswersEach : S → List (List ℕ) → List (List ℕ) → S → Type 0
@@ -45,6 +53,7 @@ module _ {S : Type 0} (answers : Answering S) where
   -- all lines were answered
   pub record AnswersAll (old : S) (lines : List (List ℕ)) (code : ℕ) (replies : List (List ℕ)) (new : S) : Type 0 where
     pub each : AnswersEach old lines replies new
+    pub within : WithinLimit replies
     pub status : code ≡ status_of_all replies
 
   -- the first lines got these replies, and at least one line is left
@@ -54,9 +63,10 @@ module _ {S : Type 0} (answers : Answering S) where
     pub left : List (List ℕ)
     pub parted : lines ≡ done ++ line ∷ left
     pub each : AnswersEach old done replies new
+    pub within : WithinLimit replies
 
-  -- memory ran out at a line: those before it were answered, its reply says so, and neither it nor those after it were
-  -- carried out
+  -- at a line memory ran out, or the replies had reached their limit: those before it were answered, its reply says so,
+  -- and neither it nor those after it were carried out
   pub record StopsAt (old : S) (lines : List (List ℕ)) (code : ℕ) (replies : List (List ℕ)) (new : S) : Type 0 where
     pub given : List (List ℕ)
     pub some : AnswersSome old lines given new
@@ -71,6 +81,11 @@ module _ {S : Type 0} (answers : Answering S) where
   abbrev pub RepliesToOne : S → List (List ℕ) → ℕ → List (List ℕ) → S → Type 0
   RepliesToOne old (line ∷ []) code replies new = RepliesTo old (line ∷ []) code replies new
   RepliesToOne old lines code replies new = (code ≡ 400) × (replies ≡ bad_command ∷ []) × (new ≡ old)
+
+-- the answer to the lines of a body, by whether its client waits for the outcome: if it does, there must be exactly one
+abbrev pub RepliesToBody : {S : Type 0} → (Bool → Answering S) → Bool → S → List (List ℕ) → ℕ → List (List ℕ) → S → Type 0
+RepliesToBody answers false = RepliesTo (answers false)
+RepliesToBody answers true = RepliesToOne (answers true)
 
 -- the reply was appended, as the whole replies have it, and there is memory for one more
 pub record IsPut (reply : List ℕ) (replies : Waiting) (old new : Filled) : Type 0 where

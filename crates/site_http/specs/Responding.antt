@@ -11,7 +11,7 @@ use Rattle.site_http.specs.declared.route.Allowed.{Allowed}
 use Rattle.site_http.specs.declared.route.Allowed.TheVariants as Only
 use Rattle.site_http.specs.declared.route.Route.{Route}
 use Rattle.site_http.specs.declared.route.Route.TheVariants.{Commands, Wait, Status, Metrics, Health, Page, Foreign, NotAllowed, NotFound}
-use Rattle.site_http.specs.Replying.{Answering, RepliesTo, RepliesToOne, text_of}
+use Rattle.site_http.specs.Replying.{Answering, RepliesToBody, text_of}
 use Rattle.site_http.specs.Routing.{Leads}
 
 -- the headers of each response
@@ -53,7 +53,7 @@ module _ {S : Type 0} where
   abbrev pub TellsLine : (S → List ℕ → Type 0) → List ℕ → S → Response → Type 0
   TellsLine says content_type old r = (text : List ℕ) × says old text × IsResponse 200 (headers_for content_type) (text ++ 10 ∷ []) r
 
-module _ {S : Type 0} (answers settles : Answering S) (status metrics : S → List ℕ → Type 0) (closed : S → Bool → Type 0) where
+module _ {S : Type 0} (answers : Bool → Answering S) (status metrics : S → List ℕ → Type 0) (closed : S → Bool → Type 0) where
   -- the response to a request that changes nothing
   abbrev pub Shows : S → Route → Response → Type 0
   Shows old Status r = TellsLine status (codes "application/json") old r
@@ -68,8 +68,8 @@ module _ {S : Type 0} (answers settles : Answering S) (status metrics : S → Li
 
   -- in the first state, a request with this route and body gets this response and leads to the second state
   abbrev pub RespondsBy : S → Route → List ℕ → Response → S → Type 0
-  RespondsBy old Commands body r new = IsReplied (RepliesTo answers) old body r new
-  RespondsBy old Wait body r new = IsReplied (RepliesToOne settles) old body r new
+  RespondsBy old Commands body r new = IsReplied (RepliesToBody answers false) old body r new
+  RespondsBy old Wait body r new = IsReplied (RepliesToBody answers true) old body r new
   RespondsBy old route body r new = Shows old route r × (new ≡ old)
 
   -- in the first state, the request gets this response and leads to the second state

@@ -14,12 +14,9 @@ pub const LONGEST_REPLY: usize = 128;
 ///
 /// A call that returns `OutOfMemory` has changed nothing.
 pub trait Client {
-    // In the first state, this line with its line feed gets this reply, without a line feed, and leads to the second
-    // state.
-    ghost answers: { Self → List ℕ → List ℕ → Self → Type 0 };
-
-    // The same, if the client waits for the outcome of the command.
-    ghost settles: { Self → List ℕ → List ℕ → Self → Type 0 };
+    // By whether the client waits for the outcome of the command: in the first state, this line with its line feed
+    // gets this reply, without a line feed, and leads to the second state.
+    ghost answers: { Bool → Self → List ℕ → List ℕ → Self → Type 0 };
 
     // The text is the site's status object.
     ghost status: { Self → List ℕ → Type 0 };
@@ -31,29 +28,19 @@ pub trait Client {
     ghost closed: { Self → Bool → Type 0 };
 
     /// Answers a line like one on standard input, except that no line ends a connection: `quit` is `error BadCommand`.
-    /// The line is given without its line feed; `None` stands for a line of more than `MAX_LINE` bytes. The reply and
-    /// a line feed are appended to the whole replies.
+    /// If the client waits, the reply to a spend is its outcome, for which this call waits, and not `queued T`. The
+    /// line is given without its line feed; `None` stands for a line of more than `MAX_LINE` bytes. The reply and a
+    /// line feed are appended to the whole replies.
     fn reply(
         &mut self,
+        waits: bool,
         text: Option<&[u8]>,
         replies: &mut Replies<Global>,
     ) -> Result<(), OutOfMemory>
         requires { IsEmpty replies.old }
         ensures ok { OnOk result ((line : List ℕ) → IsGiven line text.entry
-            → (reply : List ℕ) × answers self.old line reply self.new × AddsReply replies.old replies.new reply) }
+            → (reply : List ℕ) × answers waits self.old line reply self.new × AddsReply replies.old replies.new reply) }
         // So memory for it can be reserved before a command is carried out.
-        ensures short { OnOk result ((length replies.new.whole ≤ LONGEST_REPLY) ⊎ (self.new ≡ self.old)) }
-        ensures err { OnErr result (self.new ≡ self.old) };
-
-    /// The same, but instead of replying `queued T` it waits for the outcome of the spend.
-    fn settle(
-        &mut self,
-        text: Option<&[u8]>,
-        replies: &mut Replies<Global>,
-    ) -> Result<(), OutOfMemory>
-        requires { IsEmpty replies.old }
-        ensures ok { OnOk result ((line : List ℕ) → IsGiven line text.entry
-            → (reply : List ℕ) × settles self.old line reply self.new × AddsReply replies.old replies.new reply) }
         ensures short { OnOk result ((length replies.new.whole ≤ LONGEST_REPLY) ⊎ (self.new ≡ self.old)) }
         ensures err { OnErr result (self.new ≡ self.old) };
 

@@ -18,5 +18,6 @@ mod service;
 pub use busy::Busy;
 pub use client::{Client, LONGEST_REPLY};
 pub use config::service_config;
+pub use replying::MAX_REPLIES;
 pub use route::{Allowed, Route};
 pub use service::ClientService;

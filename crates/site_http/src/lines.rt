@@ -1,5 +1,5 @@
 //! The lines of a body.
-ghost use Rattle.std.specs.Prelude.{◌≡◌, ◌<◌, [], ◌∷◌, ◌++◌, length, IfSome, IfNone};
+ghost use Rattle.std.specs.Prelude.{◌≡◌, ◌≢◌, ◌<◌, [], ◌∷◌, ◌++◌, length, IfSome, IfNone};
 ghost use Rattle.line_streams.specs.Handling.{IsGiven};
 ghost use Rattle.line_streams.specs.Talk.{lines_of};
 
@@ -19,6 +19,15 @@ pub(crate) fn split_line(lines: &[u8]) -> Option<(&[u8], &[u8])>
         Some(at) => Some((&lines[..at], &lines[at + 1..])),
         None => Some((lines, &[])),
     }
+}
+
+/// The text of the line, if there is exactly one.
+pub(crate) fn only_line(lines: &[u8]) -> Option<&[u8]>
+    ensures one { IfSome result (λ text. lines_of lines.now ≡ (text.now ++ 10 ∷ []) ∷ []) }
+    ensures other { IfNone result (length (lines_of lines.now) ≢ 1) }
+{
+    let (text, rest) = split_line(lines)?;
+    if rest.is_empty() { Some(text) } else { None }
 }
 
 /// The text of a line, or None if the line is too long.

@@ -1,10 +1,10 @@
 //! The replies to the lines of a body. No command is carried out whose reply finds no memory.
-ghost use Rattle.std.specs.Prelude.{◌≡◌, ℕ, ◌+◌, ◌<◌, ◌≤◌, List, [], ◌∷◌, ◌++◌, length, IsOk, OnOk, OnErr};
+ghost use Rattle.std.specs.Prelude.{◌≡◌, ◌≢◌, ℕ, ◌+◌, ◌<◌, ◌≤◌, false, List, [], ◌∷◌, ◌++◌, length, nat_le, IsOk, OnOk, OnErr};
 ghost use Rattle.line_streams.specs.Talk.{lines_of};
-ghost use Rattle.site_http.specs.Replying.{bad_command, no_memory, status_of, text_of, AnswersEach, AnswersSome, RepliesTo, RepliesToOne, IsPut, KeepsRoom};
+ghost use Rattle.site_http.specs.Replying.{bad_command, no_memory, status_of, text_of, AnswersEach, AnswersSome, RepliesTo, RepliesToBody, IsPut, KeepsRoom, WithinLimit};
 
 use crate::client::{Client, LONGEST_REPLY};
-use crate::lines::{split_line, within_limit};
+use crate::lines::{only_line, split_line, within_limit};
 use bytes::BufMut;
 use http::StatusCode;
 use http_server::Rope;
@@ -15,82 +15,54 @@ use std::alloc::Global;
 /// The longest reply of this crate's own, such as that for lack of memory, with its line feed, in bytes.
 pub(crate) const LAST_ROOM: usize = 18;
 
-/// Answers the lines of a body, and returns the status of the response.
+/// Once the replies to a body have this many bytes, the rest of it is not carried out, as if there were no memory. So a
+/// response has at most one reply more, and what says that it ends there.
+pub const MAX_REPLIES: usize = 16_777_216;
+
+/// Answers the lines of a body, and returns the status of the response. If the client waits for the outcome, the body
+/// must have exactly one line.
 pub(crate) fn answer_body<C: Client>(
     client: &mut C,
+    waits: bool,
     body: &[u8],
     replies: &mut Replies<Global>,
     out: &mut Rope,
 ) -> StatusCode
     requires fresh { out.old.items ≡ [] }
     requires room { LAST_ROOM ≤ out.old.spare }
-    ensures { (told : List (List ℕ)) × RepliesTo C.answers client.old (lines_of body.now) result told client.new × (out.new.items ≡ text_of told) }
+    ensures { (told : List (List ℕ)) × RepliesToBody C.answers waits client.old (lines_of body.now) result told client.new × (out.new.items ≡ text_of told) }
 {
-    let Some((text, rest)) = split_line(body) else {
-        return StatusCode::OK;
-    };
-    if rest.is_empty() {
-        return answer_one(client, text, replies, out);
-    }
-    answer_many(client, body, replies, out)
-}
-
-/// Answers the line of a body that must have exactly one, and waits for its outcome.
-pub(crate) fn settle_body<C: Client>(
-    client: &mut C,
-    body: &[u8],
-    replies: &mut Replies<Global>,
-    out: &mut Rope,
-) -> StatusCode
-    requires fresh { out.old.items ≡ [] }
-    requires room { LAST_ROOM ≤ out.old.spare }
-    ensures { (told : List (List ℕ)) × RepliesToOne C.settles client.old (lines_of body.now) result told client.new × (out.new.items ≡ text_of told) }
-{
-    match split_line(body) {
-        None => refuse(out),
-        Some((text, rest)) => {
-            if rest.is_empty() {
-                settle_one(client, text, replies, out)
-            } else {
+    match only_line(body) {
+        Some(text) => answer_one(client, waits, text, replies, out),
+        None => {
+            if waits {
                 refuse(out)
+            } else {
+                answer_many(client, body, replies, out)
             }
         }
     }
 }
 
+/// Answers the line of a body that has only one.
 fn answer_one<C: Client>(
     client: &mut C,
+    waits: bool,
     text: &[u8],
     replies: &mut Replies<Global>,
     out: &mut Rope,
 ) -> StatusCode
     requires fresh { out.old.items ≡ [] }
     requires room { LAST_ROOM ≤ out.old.spare }
-    ensures { (told : List (List ℕ)) × RepliesTo C.answers client.old ((text.now ++ 10 ∷ []) ∷ []) result told client.new × (out.new.items ≡ text_of told) }
+    ensures { (told : List (List ℕ)) × RepliesTo (C.answers waits) client.old ((text.now ++ 10 ∷ []) ∷ []) result told client.new × (out.new.items ≡ text_of told) }
 {
-    match answer_line(client, text, replies, out) {
+    match answer_line(client, waits, text, replies, out) {
         Ok(()) => status_of_line(replies.whole()),
         Err(OutOfMemory) => stop(out),
     }
 }
 
-fn settle_one<C: Client>(
-    client: &mut C,
-    text: &[u8],
-    replies: &mut Replies<Global>,
-    out: &mut Rope,
-) -> StatusCode
-    requires fresh { out.old.items ≡ [] }
-    requires room { LAST_ROOM ≤ out.old.spare }
-    ensures { (told : List (List ℕ)) × RepliesTo C.settles client.old ((text.now ++ 10 ∷ []) ∷ []) result told client.new × (out.new.items ≡ text_of told) }
-{
-    match settle_line(client, text, replies, out) {
-        Ok(()) => status_of_line(replies.whole()),
-        Err(OutOfMemory) => stop(out),
-    }
-}
-
-/// Answers the lines of a body that has several.
+/// Answers the lines of a body that has several, or none.
 fn answer_many<C: Client>(
     client: &mut C,
     body: &[u8],
@@ -99,8 +71,8 @@ fn answer_many<C: Client>(
 ) -> StatusCode
     requires fresh { out.old.items ≡ [] }
     requires room { LAST_ROOM ≤ out.old.spare }
-    requires many { 1 < length (lines_of body.now) }
-    ensures { (told : List (List ℕ)) × RepliesTo C.answers client.old (lines_of body.now) result told client.new × (out.new.items ≡ text_of told) }
+    requires other { length (lines_of body.now) ≢ 1 }
+    ensures { (told : List (List ℕ)) × RepliesTo (C.answers false) client.old (lines_of body.now) result told client.new × (out.new.items ≡ text_of told) }
 {
     match answer_lines(client, body, replies, out) {
         Ok(()) => StatusCode::OK,
@@ -108,7 +80,7 @@ fn answer_many<C: Client>(
     }
 }
 
-/// Answers lines until memory runs out.
+/// Answers lines until memory runs out, or the replies reach their limit.
 fn answer_lines<C: Client>(
     client: &mut C,
     body: &[u8],
@@ -117,47 +89,42 @@ fn answer_lines<C: Client>(
 ) -> Result<(), OutOfMemory>
     requires fresh { out.old.items ≡ [] }
     requires room { LAST_ROOM ≤ out.old.spare }
-    ensures ok { OnOk result ((given : List (List ℕ)) × AnswersEach C.answers client.old (lines_of body.now) given client.new × (out.new.items ≡ text_of given)) }
-    ensures err { OnErr result ((given : List (List ℕ)) × AnswersSome C.answers client.old (lines_of body.now) given client.new × (out.new.items ≡ text_of given)) }
+    ensures ok { OnOk result ((given : List (List ℕ)) × AnswersEach (C.answers false) client.old (lines_of body.now) given client.new × WithinLimit given × (out.new.items ≡ text_of given)) }
+    ensures err { OnErr result ((given : List (List ℕ)) × AnswersSome (C.answers false) client.old (lines_of body.now) given client.new × (out.new.items ≡ text_of given)) }
     ensures room { LAST_ROOM ≤ out.new.spare }
 {
     let mut lines = body;
     while let Some((text, more)) = split_line(lines) {
-        answer_line(client, text, replies, out)?;
+        if is_full(out) {
+            return Err(OutOfMemory);
+        }
+        answer_line(client, false, text, replies, out)?;
         lines = more;
     }
     Ok(())
 }
 
+/// Whether no further line is answered.
+fn is_full(out: &Rope) -> bool
+    ensures { result ≡ nat_le MAX_REPLIES (length out.now.items) }
+{
+    out.len() >= MAX_REPLIES
+}
+
 /// Answers a line, or does nothing. Afterwards there is memory for one more reply.
 fn answer_line<C: Client>(
     client: &mut C,
+    waits: bool,
     text: &[u8],
     replies: &mut Replies<Global>,
     out: &mut Rope,
 ) -> Result<(), OutOfMemory>
-    ensures ok { OnOk result ((reply : List ℕ) × C.answers client.old (text.now ++ 10 ∷ []) reply client.new × IsPut reply replies.new out.old out.new) }
+    ensures ok { OnOk result ((reply : List ℕ) × C.answers waits client.old (text.now ++ 10 ∷ []) reply client.new × IsPut reply replies.new out.old out.new) }
     ensures err { OnErr result ((client.new ≡ client.old) × KeepsRoom out.old out.new) }
 {
     replies.clear();
     out.reserve(LONGEST_REPLY + LAST_ROOM)?;
-    client.reply(within_limit(text), replies)?;
-    put_reply(replies, out)
-}
-
-/// The same, and waits for the outcome of the command.
-fn settle_line<C: Client>(
-    client: &mut C,
-    text: &[u8],
-    replies: &mut Replies<Global>,
-    out: &mut Rope,
-) -> Result<(), OutOfMemory>
-    ensures ok { OnOk result ((reply : List ℕ) × C.settles client.old (text.now ++ 10 ∷ []) reply client.new × IsPut reply replies.new out.old out.new) }
-    ensures err { OnErr result ((client.new ≡ client.old) × KeepsRoom out.old out.new) }
-{
-    replies.clear();
-    out.reserve(LONGEST_REPLY + LAST_ROOM)?;
-    client.settle(within_limit(text), replies)?;
+    client.reply(waits, within_limit(text), replies)?;
     put_reply(replies, out)
 }
 

@@ -1,13 +1,13 @@
 //! The responses to requests.
 ghost use Rattle.std.specs.Prelude.{◌≡◌, ◌≤◌, ℕ, Bool, List, [], ◌∷◌, ◌++◌, codes, OnOk, OnErr};
 ghost use Rattle.http_server.specs.Response.{IsBlank, IsResponse, fields_of};
-ghost use Rattle.site_http.specs.Replying.{RepliesTo, RepliesToOne};
+ghost use Rattle.site_http.specs.Replying.{RepliesToBody};
 ghost use Rattle.site_http.specs.declared.page.TheConstants.{PAGE};
 ghost use Rattle.site_http.specs.Responding.{headers_for, plain, methods_of, IsHealth, IsReplied, Tells, TellsLine, Responds};
 
 use crate::client::{Client, LONGEST_REPLY};
 use crate::page::page;
-use crate::replying::{LAST_ROOM, answer_body, settle_body};
+use crate::replying::{LAST_ROOM, answer_body};
 use crate::route::{Allowed, Route, route_of};
 use bytes::{BufMut, Bytes};
 use http::{HeaderValue, Request, StatusCode, header};
@@ -23,13 +23,13 @@ pub(crate) fn respond<C: Client>(
     response: &mut Response,
 ) -> Result<(), AllocError>
     requires { IsBlank response.old }
-    ensures ok { OnOk result (Responds C.answers C.settles C.status C.metrics C.closed client.old request.now response.new client.new) }
+    ensures ok { OnOk result (Responds C.answers C.status C.metrics C.closed client.old request.now response.new client.new) }
     ensures err { OnErr result (client.new ≡ client.old) }
 {
     let body = request.body().as_slice();
     match route_of(request) {
-        Route::Commands => reply_to_all(client, replies, body, response),
-        Route::Wait => reply_to_one(client, replies, body, response),
+        Route::Commands => reply_to_lines(client, false, replies, body, response),
+        Route::Wait => reply_to_lines(client, true, replies, body, response),
         Route::Status => tell_status(client, replies, response),
         Route::Metrics => tell_metrics(client, replies, response),
         Route::Health => tell_health(client, response),
@@ -40,33 +40,19 @@ pub(crate) fn respond<C: Client>(
     }
 }
 
-fn reply_to_all<C: Client>(
+fn reply_to_lines<C: Client>(
     client: &mut C,
+    waits: bool,
     replies: &mut Replies<Global>,
     body: &[u8],
     response: &mut Response,
 ) -> Result<(), AllocError>
     requires { IsBlank response.old }
-    ensures ok { OnOk result (IsReplied (RepliesTo C.answers) client.old body.now response.new client.new) }
+    ensures ok { OnOk result (IsReplied (RepliesToBody C.answers waits) client.old body.now response.new client.new) }
     ensures err { OnErr result (client.new ≡ client.old) }
 {
     begin_reply(response)?;
-    response.status = answer_body(client, body, replies, &mut response.body);
-    Ok(())
-}
-
-fn reply_to_one<C: Client>(
-    client: &mut C,
-    replies: &mut Replies<Global>,
-    body: &[u8],
-    response: &mut Response,
-) -> Result<(), AllocError>
-    requires { IsBlank response.old }
-    ensures ok { OnOk result (IsReplied (RepliesToOne C.settles) client.old body.now response.new client.new) }
-    ensures err { OnErr result (client.new ≡ client.old) }
-{
-    begin_reply(response)?;
-    response.status = settle_body(client, body, replies, &mut response.body);
+    response.status = answer_body(client, waits, body, replies, &mut response.body);
     Ok(())
 }
 

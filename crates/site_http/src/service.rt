@@ -46,7 +46,7 @@ impl<C: Client> ClientService<C> {
 }
 
 impl<C: Client> Service for ClientService<C> {
-    ghost answers = { Responds C.answers C.settles C.status C.metrics C.closed };
+    ghost answers = { Responds C.answers C.status C.metrics C.closed };
 
     fn call(
         &mut self,

@@ -1,6 +1,6 @@
 //! Appending one metric. Each line has its line feed before it, so that the last line of the text is left to
 //! `Replies::finish`. On `Err` the current reply may have a part of it, and the whole replies are unchanged.
-ghost use Rattle.std.specs.Prelude.{◌≡◌, ℕ, List, ◌++◌, ◌∷◌, [], codes, drop, flat_map, length, ◌≤◌, ◌+◌, ◌*◌, OnOk, IsOk};
+ghost use Rattle.std.specs.Prelude.{◌≡◌, ℕ, List, ◌++◌, ◌∷◌, [], codes, flat_map, length, ◌≤◌, ◌+◌, ◌*◌, OnOk, IsOk};
 ghost use Rattle.std.specs.List.{zip};
 ghost use Rattle.site_metrics.specs.Format.{help_line, type_line, sample_line, led_lines};
 ghost use Rattle.site_metrics.specs.Table.{kind_word, family, alone, peer_sample, by_peer, name_sample, by_name};
@@ -24,25 +24,6 @@ pub(crate) const MAX_HELP: usize = 120;
 pub(crate) const HEAD_ROOM: usize = 226;
 
 pub(crate) const SAMPLE_ROOM: usize = 96;
-
-/// A metric with one value, at the beginning of the text, with no line feed before it.
-pub(crate) fn put_first<A: Allocator>(
-    replies: &mut Replies<A>,
-    kind: Kind,
-    name: &[u8],
-    help: &[u8],
-    value: u64,
-) -> Result<(), OutOfMemory>
-    requires name { length name.now ≤ MAX_NAME }
-    requires help { length help.now ≤ MAX_HELP }
-    ensures ok { OnOk result (replies.new.part ≡ replies.old.part ++ drop 1 (led_lines (family kind name.now help.now (alone value)))) }
-    ensures kept { replies.new.whole ≡ replies.old.whole }
-    ensures room { HEAD_ROOM + SAMPLE_ROOM ≤ replies.old.room → IsOk result }
-    ensures left { replies.old.room ≤ replies.new.room + (HEAD_ROOM + SAMPLE_ROOM) }
-{
-    put_head(replies, kind, name, help)?;
-    put_value(replies, name, value)
-}
 
 /// A metric with one value.
 pub(crate) fn put_alone<A: Allocator>(
@@ -119,7 +100,8 @@ fn put_led_head<A: Allocator>(
     put_head(replies, kind, name, help)
 }
 
-fn put_head<A: Allocator>(
+/// The two lines that a metric begins with, with no line feed before them.
+pub(crate) fn put_head<A: Allocator>(
     replies: &mut Replies<A>,
     kind: Kind,
     name: &[u8],
@@ -153,7 +135,8 @@ fn put_words<A: Allocator>(
     replies.put(text)
 }
 
-fn put_value<A: Allocator>(
+/// The line of a value that has no labels.
+pub(crate) fn put_value<A: Allocator>(
     replies: &mut Replies<A>,
     name: &[u8],
     value: u64,

@@ -8,7 +8,9 @@ use crate::kind::Kind;
 use crate::metrics::{Metrics, PeerMetrics};
 use crate::peer_value::PeerValue;
 use crate::refusals::REFUSAL_COUNT;
-use crate::samples::{HEAD_ROOM, SAMPLE_ROOM, put_alone, put_by_name, put_by_peer, put_first};
+use crate::samples::{
+    HEAD_ROOM, SAMPLE_ROOM, put_alone, put_by_name, put_by_peer, put_head, put_value,
+};
 use line_streams::Replies;
 use rights_types::OutOfMemory;
 use std::alloc::Allocator;
@@ -77,6 +79,9 @@ fn put_all<A: Allocator>(
     put_lines(peers, replies)
 }
 
+/// The name of the first metric.
+const HELD: &[u8] = b"rights_held";
+
 /// The first metrics, with no line feed before them.
 fn put_rights<A: Allocator>(metrics: &Metrics, replies: &mut Replies<A>) -> Result<(), OutOfMemory>
     ensures ok { OnOk result (replies.new.part ≡ replies.old.part ++ drop 1 (flat_map led_lines (rights_metrics metrics.now))) }
@@ -84,13 +89,8 @@ fn put_rights<A: Allocator>(metrics: &Metrics, replies: &mut Replies<A>) -> Resu
     ensures room { 7 * (HEAD_ROOM + SAMPLE_ROOM) ≤ replies.old.room → IsOk result }
     ensures left { replies.old.room ≤ replies.new.room + (7 * (HEAD_ROOM + SAMPLE_ROOM)) }
 {
-    put_first(
-        replies,
-        Kind::Gauge,
-        b"rights_held",
-        b"Rights that the site holds.",
-        metrics.held,
-    )?;
+    put_head(replies, Kind::Gauge, HELD, b"Rights that the site holds.")?;
+    put_value(replies, HELD, metrics.held)?;
     put_alone(
         replies,
         Kind::Gauge,

@@ -1,5 +1,5 @@
 -- What the responses to a client's requests report to it is what its seat counts.
-use Rattle.std.proofs.Common.{◌≡◌, ◌∙◌, ◌⊎◌, ℕ, List, [], ◌∷◌, ◌++◌, append-nil, Bool, Option, Some, None, inl, inr, refl, ap, sym, subst}
+use Rattle.std.proofs.Common.{◌≡◌, ◌∙◌, ◌⊎◌, ℕ, List, [], ◌∷◌, ◌++◌, append-nil, Bool, true, false, Option, Some, None, inl, inr, refl, ap, sym, subst}
 use Rattle.http.specs.declared.request.Request.{Request}
 use Rattle.http.specs.Request.{body_of}
 use Rattle.std.specs.Io.KnownBytes.{Appends, Consumes}
@@ -25,7 +25,7 @@ use Rattle.site_http.specs.declared.route.Route.TheVariants.{Commands, Wait, Sta
 use Rattle.site_server.specs.Replying.{asked, Says, TellsStatus}
 use Rattle.site_server.specs.Measuring.{TellsMetrics, TellsClosed}
 use Rattle.site_server.specs.Settling.{Settles, SettlesCommand}
-use Rattle.site_server.specs.Connections.{ClientValue, Tells, TellsSettled, Answers, Settled, Responded}
+use Rattle.site_server.specs.Connections.{ClientValue, Tells, TellsSettled, Answers, Responded}
 use Rattle.site_server.specs.Conversations.{IsTurn}
 use Rattle.site_server.specs.Requests.{IsSettledTurn, IsQueued, AreTurnsOf, AreBodyTurns, AreRouteTurns, AreCallTurns, AreCallsTurns, Conversed, CountsCalls}
 use Rattle.site_server.proofs.ConfirmedLaws.{turns_of_line, both}
@@ -112,22 +112,22 @@ module _ {P : Type 0} (size : P → ℕ) (sends : P → ℕ → ℕ → P → Ty
   settled_turns HasEnded (Some Quit) was before text now after h = tells_turns (Some Quit) was before text now after h
 
   module _ {B : Type 0} (has_ended : B → Type 0) where
-    one : (old : ClientValue P B) (line reply : List ℕ) (new : ClientValue P B) → Answers size sends has_ended id old line reply new
+    one : (old : ClientValue P B) (line reply : List ℕ) (new : ClientValue P B) → Answers size sends has_ended id false old line reply new
         → (turns : List Turn) × IsTurn (asked line) reply turns × HasTurns old.seat turns new.seat
     one old line reply new h = tells_turns (asked line) old.seat old.peers reply new.seat new.peers h
 
-    one_settled : (old : ClientValue P B) (line reply : List ℕ) (new : ClientValue P B) → Settled size sends has_ended id old line reply new
+    one_settled : (old : ClientValue P B) (line reply : List ℕ) (new : ClientValue P B) → Answers size sends has_ended id true old line reply new
         → (turns : List Turn) × IsSettledTurn (asked line) reply turns × HasTurns old.seat turns new.seat
     one_settled old line reply new h =
         settled_turns (has_ended old.signal) (asked line) old.seat old.peers reply new.seat new.peers h
 
     turns_of_route : (old : ClientValue P B) (route : Route) (body : List ℕ) (r : Response) (new : ClientValue P B)
-        → RespondsBy (Answers size sends has_ended id) (Settled size sends has_ended id) (λ client text. TellsStatus id text) (λ client text. TellsMetrics id text) (λ client is_closed. TellsClosed id is_closed) old route body r new
+        → RespondsBy (Answers size sends has_ended id) (λ client text. TellsStatus id text) (λ client text. TellsMetrics id text) (λ client is_closed. TellsClosed id is_closed) old route body r new
         → (turns : List Turn) × AreRouteTurns route body r turns × HasTurns old.seat turns new.seat
     turns_of_route old Commands body r new h =
-        turns_of_body (λ c. c.seat) IsTurn (Answers size sends has_ended id) one old (lines_of body) h.replies h.code r new h.replied h.response.body
+        turns_of_body (λ c. c.seat) IsTurn (Answers size sends has_ended id false) one old (lines_of body) h.replies h.code r new h.replied h.response.body
     turns_of_route old Wait body r new h =
-        turns_of_one (λ c. c.seat) IsSettledTurn (Settled size sends has_ended id) one_settled old (lines_of body) h.replies h.code r new h.replied h.response.body
+        turns_of_one (λ c. c.seat) IsSettledTurn (Answers size sends has_ended id true) one_settled old (lines_of body) h.replies h.code r new h.replied h.response.body
     turns_of_route old Shows body r new h = ([], refl, ap (λ (c : ClientValue P B). c.seat) h.1)
     turns_of_route old Metrics body r new h = ([], refl, ap (λ (c : ClientValue P B). c.seat) h.1)
     turns_of_route old Health body r new h = ([], refl, ap (λ (c : ClientValue P B). c.seat) h.1)

@@ -1,5 +1,5 @@
 -- The reply to each line of a client over a connection, and its effect on the client.
-use Rattle.std.specs.Prelude.{◌≡◌, ℕ, List, Option, Some, None}
+use Rattle.std.specs.Prelude.{◌≡◌, ℕ, Bool, true, false, List, Option, Some, None}
 use Rattle.http.specs.declared.request.Request.{Request}
 use Rattle.http_server.specs.declared.response.Response.{Response}
 use Rattle.apply_lanes.specs.Names.{DeskId}
@@ -30,13 +30,17 @@ module _ {P : Type 0} (size : P → ℕ) (sends : P → ℕ → ℕ → P → Ty
       SettlesCommand HasEnded id was command text now × (after ≡ before)
   TellsSettled HasEnded id command was before text now after = Tells id command was before text now after
 
-  -- the response to a request of a client over a connection
+  -- the one or the other, by whether the client waits
+  abbrev pub TellsBy : Bool → Type 0 → DeskId → Option SiteCommand → SeatValue → P → List ℕ → SeatValue → P → Type 0
+  TellsBy false HasEnded = Tells
+  TellsBy true HasEnded = TellsSettled HasEnded
+
   module _ {B : Type 0} (has_ended : B → Type 0) (id : DeskId) where
-    abbrev pub Answers : Answering (ClientValue P B)
-    Answers before line text after = Tells id (asked line) before.seat before.peers text after.seat after.peers
+    -- the reply to a line, by whether the client waits
+    abbrev pub Answers : Bool → Answering (ClientValue P B)
+    Answers waits before line text after =
+        TellsBy waits (has_ended before.signal) id (asked line) before.seat before.peers text after.seat after.peers
 
-    abbrev pub Settled : Answering (ClientValue P B)
-    Settled before line text after = TellsSettled (has_ended before.signal) id (asked line) before.seat before.peers text after.seat after.peers
-
+    -- the response to a request of a client over a connection
     abbrev pub Responded : ClientValue P B → Request (List ℕ) → Response → ClientValue P B → Type 0
-    Responded = Responds Answers Settled (λ client text. TellsStatus id text) (λ client text. TellsMetrics id text) (λ client is_closed. TellsClosed id is_closed)
+    Responded = Responds Answers (λ client text. TellsStatus id text) (λ client text. TellsMetrics id text) (λ client is_closed. TellsClosed id is_closed)

@@ -9,7 +9,7 @@ use site_http::Client;
 use std::alloc::Global;
 
 /// Carries out each line, and replies how many it had carried out before. It refuses a line that is too long, or that
-/// begins with `error`.
+/// begins with `error`, and tells a long text for the line `tell`.
 #[derive(Drop)]
 pub struct Counter {
     pub count: u8,
@@ -48,11 +48,18 @@ impl Counter {
         if text.starts_with(b"error ") {
             return put_line(replies, text);
         }
+        if text == b"tell".as_slice() {
+            return put_line(replies, LONG.as_bytes());
+        }
         put_counted(replies, word, self.count)?;
         self.count += 1;
         Ok(())
     }
 }
+
+/// The reply to `tell`, which has a hundred bytes with its line feed.
+pub const LONG: &str =
+    "A reply of a hundred bytes, with its line feed: so that a body of many lines reaches its limit here";
 
 fn put_line(replies: &mut Replies<Global>, text: &[u8]) -> Result<(), OutOfMemory>
     requires { IsEmpty replies.old }
@@ -73,9 +80,7 @@ fn put_counted(replies: &mut Replies<Global>, word: &[u8], count: u8) -> Result<
 }
 
 impl Client for Counter {
-    ghost answers = { λ old line reply new. ⊤ };
-
-    ghost settles = { λ old line reply new. ⊤ };
+    ghost answers = { λ waits old line reply new. ⊤ };
 
     ghost status = { λ client text. ⊤ };
 
@@ -85,18 +90,15 @@ impl Client for Counter {
 
     fn reply(
         &mut self,
+        waits: bool,
         text: Option<&[u8]>,
         replies: &mut Replies<Global>,
     ) -> Result<(), OutOfMemory> {
-        self.answer(text, b"number ", replies)
-    }
-
-    fn settle(
-        &mut self,
-        text: Option<&[u8]>,
-        replies: &mut Replies<Global>,
-    ) -> Result<(), OutOfMemory> {
-        self.answer(text, b"spent ", replies)
+        if waits {
+            self.answer(text, b"spent ", replies)
+        } else {
+            self.answer(text, b"number ", replies)
+        }
     }
 
     fn put_status(&self, replies: &mut Replies<Global>) -> Result<(), OutOfMemory> {

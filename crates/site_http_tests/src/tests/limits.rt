@@ -1,8 +1,9 @@
 //! Bodies and heads at their limits, and lines that are too long.
 
-use super::counter::Counter;
-use super::talk::{request, said};
+use super::counter::{Counter, LONG};
+use super::talk::{request, response, said};
 use site_http::ClientService;
+use std::alloc::{AllocError, Global};
 use std::test::Fail;
 
 /// The status of the response to a `POST /` of a line with this number of bytes and no line feed.
@@ -27,6 +28,50 @@ fn a_body_has_a_limit(rt: HostRuntime) -> Result<(), Fail> {
     assert_eq!(rt;
         status_of(&rt, 1_048_577)?.as_slice(),
         b"HTTP/1.1 413".as_slice()
+    );
+    Ok(())
+}
+
+fn repeated(alloc: Global, text: &str, count: usize) -> Result<String, AllocError> {
+    let mut all = String::new(alloc);
+    for _ in 0..count {
+        all.push_str(text)?;
+    }
+    Ok(all)
+}
+
+/// Whether a body of this many lines with replies of a hundred bytes, and one line more, gets those replies, then this
+/// one.
+fn is_told(rt: &HostRuntime, lines: usize, status: &str, last: &str) -> Result<bool, Fail> {
+    let alloc = rt.alloc();
+    let mut body = repeated(alloc, "tell\n", lines)?;
+    body.push_str("a\n")?;
+    let long = LONG;
+    let mut told = repeated(alloc, format!(in alloc; "{long}\n")?.as_str(), lines)?;
+    told.push_str(last)?;
+    let asked = request(alloc, "POST /", "", body.as_str())?;
+    let expected = response(
+        alloc,
+        status,
+        "text/plain; charset=utf-8",
+        "",
+        told.as_str(),
+    )?;
+    let mut service = ClientService::new(alloc, Counter::new(u8::MAX));
+    let sent = said(rt, &mut service, asked.as_bytes(), 1_000_000)?;
+    Ok(sent.as_slice() == expected.as_bytes())
+}
+
+#[test]
+fn the_replies_to_a_body_have_a_limit(rt: HostRuntime) -> Result<(), Fail> {
+    assert!(rt; is_told(&rt, 167_772, "200 OK", "number 0\n")?);
+    assert!(rt;
+        is_told(
+            &rt,
+            167_773,
+            "503 Service Unavailable",
+            "error OutOfMemory\n"
+        )?
     );
     Ok(())
 }

@@ -1,7 +1,7 @@
 //! A client of a site over a connection.
 ghost use Rattle.std.specs.Prelude.{◌≡◌, ◌+◌, ◌≤◌, ◌⊎◌, [], List, ℕ, length, OnOk, OnErr};
 ghost use Rattle.line_streams.specs.Waiting.{AddsReply};
-ghost use Rattle.site_server.specs.Connections.{Tells, TellsSettled};
+ghost use Rattle.site_server.specs.Connections.{Tells, TellsSettled, TellsBy};
 
 use crate::site::client::{SiteClient, command_in, refuse};
 use crate::site::tick_signal::TickSignal;
@@ -55,17 +55,34 @@ impl<D: DeskNames, R: Wait, P: Peers + Drop, B: TickSignal + Drop> SiteClient<'_
             _ => self.tell(command, replies),
         }
     }
+
+    /// One of the two, by whether the client waits.
+    fn tell_by(
+        &mut self,
+        waits: bool,
+        command: Option<SiteCommand>,
+        replies: &mut Replies<Global>,
+    ) -> Result<(), OutOfMemory>
+        requires { replies.old.part ≡ [] }
+        ensures ok { OnOk result ((text : List ℕ) × TellsBy P.size P.sends waits (B.has_ended self.old.signal) D.id command self.old.seat self.old.peers text self.new.seat self.new.peers × AddsReply replies.old replies.new text) }
+        ensures short { OnOk result ((length replies.new.whole ≤ length replies.old.whole + TICK_ROOM) ⊎ (self.new ≡ self.old)) }
+        ensures err { OnErr result (self.new ≡ self.old) }
+    {
+        if waits {
+            self.tell_settled(command, replies)
+        } else {
+            self.tell(command, replies)
+        }
+    }
 }
 
 impl<D: DeskNames, R: Wait, P: Peers + Drop, B: TickSignal + Drop> Client
     for SiteClient<'_, D, R, P, B> {
     ghost use Rattle.site_server.specs.Replying.{TellsStatus};
-    ghost use Rattle.site_server.specs.Connections.{Answers, Settled};
+    ghost use Rattle.site_server.specs.Connections.{Answers};
     ghost use Rattle.site_server.specs.Measuring.{TellsMetrics, TellsClosed};
 
     ghost answers = { Answers P.size P.sends B.has_ended D.id };
-
-    ghost settles = { Settled P.size P.sends B.has_ended D.id };
 
     ghost status = { λ _ text. TellsStatus D.id text };
 
@@ -75,20 +92,11 @@ impl<D: DeskNames, R: Wait, P: Peers + Drop, B: TickSignal + Drop> Client
 
     fn reply(
         &mut self,
+        waits: bool,
         text: Option<&[u8]>,
         replies: &mut Replies<Global>,
     ) -> Result<(), OutOfMemory> {
-        self.tell(command_in(text), replies)?;
-        self.count_reply(replies.whole());
-        Ok(())
-    }
-
-    fn settle(
-        &mut self,
-        text: Option<&[u8]>,
-        replies: &mut Replies<Global>,
-    ) -> Result<(), OutOfMemory> {
-        self.tell_settled(command_in(text), replies)?;
+        self.tell_by(waits, command_in(text), replies)?;
         self.count_reply(replies.whole());
         Ok(())
     }

@@ -30,7 +30,7 @@ fn converse<C: Client + Drop, I: Read, W: Write>(
     reader: &mut I,
     writer: &mut W,
 ) -> C
-    ensures { Conversed (Responds C.answers C.settles C.status C.metrics C.closed)
+    ensures { Conversed (Responds C.answers C.status C.metrics C.closed)
         (I.remaining reader.old) (I.remaining reader.new) (W.contents writer.old) (W.contents writer.new) client result }
 {
     let mut connection = Connection::new(alloc, keys, service_config());

@@ -1,6 +1,12 @@
-use Rattle.site_http.proofs.FirstLine.{lines_many, not_none}
+use Rattle.std.proofs.Common.{ℕ, true, List, [], ◌∷◌, ◌++◌, ap, sym, ◌∙◌, append-nil}
+use Rattle.site_http.specs.Replying.{bad_command}
+use Rattle.site_http.proofs.Answered.{refused_many}
 use Rattle.site_http.proofs.replying.answer_body.Goals as goal
 
-pub answer_many-requires-clause-many : goal.answer_many-requires-clause-many
-answer_many-requires-clause-many g c =
-    lines_many c.args.body.now c.in-Some.rest.now _ c.in-Some.ensures.first (not_none _ _ c.is_empty.ensures c.if-is_empty.false)
+pub returns-then-waits : goal.returns-then-waits
+returns-then-waits g c =
+    let line = bad_command ++ 10 ∷ [] in (
+      bad_command ∷ [],
+      rw (c.if-waits.true, c.refuse.ensures.status) (refused_many (g.C.Client.answers true) c.args.client.now _ c.in-None.ensures.other),
+      c.refuse.ensures.text ∙ ap (λ (l : List ℕ). l ++ line) c.requires.fresh ∙ sym (append-nil line),
+    )

@@ -1,4 +1,4 @@
-use Rattle.std.proofs.Common.{ℕ, List, [], ◌∷◌, ◌++◌, inl, inr, refl, ap, sym, ◌∙◌}
+use Rattle.std.proofs.Common.{ℕ, false, List, [], ◌∷◌, ◌++◌, inl, inr, refl, ap, sym, ◌∙◌}
 use Rattle.site_http.specs.Replying.{no_memory}
 use Rattle.site_http.proofs.Answered.{text_more, status_of_many}
 use Rattle.site_http.proofs.replying.answer_many.Goals as goal
@@ -6,7 +6,7 @@ use Rattle.site_http.proofs.replying.answer_many.Goals as goal
 pub returns-in-Ok : goal.returns-in-Ok
 returns-in-Ok g c =
     let ok = c.in-Ok.ensures.ok in
-    (ok.0, inl (record { each = ok.1; status = status_of_many g.C.Client.answers _ _ _ ok.0 c.requires.many ok.1 }), ok.2)
+    (ok.0, inl (record { each = ok.1; within = ok.2; status = status_of_many (g.C.Client.answers false) _ _ _ ok.0 c.requires.other ok.1 }), ok.3)
 
 pub returns-in-Err : goal.returns-in-Err
 returns-in-Err g c =

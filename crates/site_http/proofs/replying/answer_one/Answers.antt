@@ -1,4 +1,4 @@
-use Rattle.std.proofs.Common.{ℕ, List, [], ◌∷◌, ◌++◌, inl, inr, refl, ap, sym, ◌∙◌, append-nil}
+use Rattle.std.proofs.Common.{ℕ, List, [], ◌∷◌, ◌++◌, inl, inr, refl, ap, sym, ◌∙◌, arith, append-nil}
 use Rattle.site_http.specs.Replying.{no_memory}
 use Rattle.site_http.proofs.replying.answer_one.Goals as goal
 
@@ -9,6 +9,7 @@ returns-in-Ok g c =
       ok.0 ∷ [],
       inl (record {
         each = (ok.0, c.answer_line.new.client, [], ok.1, (refl, refl), refl);
+        within = omega arith;
         status = c.status_of_line.ensures ok.0 (c.whole.ensures ∙ ok.2.whole);
       }),
       ok.2.text ∙ ap (λ (l : List ℕ). l ++ line) c.requires.fresh ∙ sym (append-nil line),
@@ -27,6 +28,7 @@ returns-in-Err g c =
           left = [];
           parted = refl;
           each = (refl, err.0);
+          within = omega arith;
         };
         told = refl;
         status = c.stop.ensures.status;
