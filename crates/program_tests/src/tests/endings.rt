@@ -55,23 +55,26 @@ fn has_text(alloc: Global, fault: SiteFault, text: &str) -> bool {
     }
 }
 
+/// Each fault of a site, and its text.
+const FAULTS: [(SiteFault, &str); 7] = [
+    (SiteFault::StartedBefore, "was started before"),
+    (
+        SiteFault::CannotCreateStartFile,
+        "cannot create the start file",
+    ),
+    (SiteFault::CannotListen, "cannot listen"),
+    (SiteFault::ReadFailed, "read failed"),
+    (SiteFault::WriteFailed, "write failed"),
+    (SiteFault::OutOfMemory, "out of memory"),
+    (SiteFault::TooManyLines, "too many lines"),
+];
+
 /// Each fault of a site has its text.
 #[test]
 fn faults_have_their_texts(rt: HostRuntime) {
-    let alloc = rt.alloc();
-    assert!(rt; has_text(alloc, SiteFault::StartedBefore, "was started before"));
-    assert!(rt;
-        has_text(
-            alloc,
-            SiteFault::CannotCreateStartFile,
-            "cannot create the start file"
-        )
-    );
-    assert!(rt; has_text(alloc, SiteFault::CannotListen, "cannot listen"));
-    assert!(rt; has_text(alloc, SiteFault::ReadFailed, "read failed"));
-    assert!(rt; has_text(alloc, SiteFault::WriteFailed, "write failed"));
-    assert!(rt; has_text(alloc, SiteFault::OutOfMemory, "out of memory"));
-    assert!(rt; has_text(alloc, SiteFault::TooManyLines, "too many lines"));
+    for (fault, text) in FAULTS {
+        assert!(rt; has_text(rt.alloc(), fault, text), "for {text:?}");
+    }
 }
 
 const REFUSED: &str = "rights-site: bad command line\n";
@@ -102,60 +105,21 @@ fn ends_with(alloc: Global, of_site: Result<(), SiteFault>, status: u8, line: &s
     answer.status == status && errors.as_slice() == line.as_bytes()
 }
 
+/// Whether the program ends with status 1 and a line of this text if its site ends with this fault.
+fn ends_with_fault(alloc: Global, fault: SiteFault, text: &str) -> bool {
+    match format!(in alloc; "rights-site: {text}\n") {
+        Ok(line) => ends_with(alloc, Err(fault), 1, line.as_str()),
+        Err(_) => false,
+    }
+}
+
 /// The program ends as its site does.
 #[test]
 fn the_program_ends_as_its_site(rt: HostRuntime) {
-    let alloc = rt.alloc();
-    assert!(rt; ends_with(alloc, Ok(()), 0, ""));
-    assert!(rt;
-        ends_with(
-            alloc,
-            Err(SiteFault::StartedBefore),
-            1,
-            "rights-site: was started before\n"
-        )
-    );
-    assert!(rt;
-        ends_with(
-            alloc,
-            Err(SiteFault::CannotCreateStartFile),
-            1,
-            "rights-site: cannot create the start file\n"
-        )
-    );
-    assert!(rt;
-        ends_with(
-            alloc,
-            Err(SiteFault::CannotListen),
-            1,
-            "rights-site: cannot listen\n"
-        )
-    );
-    assert!(rt;
-        ends_with(
-            alloc,
-            Err(SiteFault::ReadFailed),
-            1,
-            "rights-site: read failed\n"
-        )
-    );
-    assert!(rt;
-        ends_with(
-            alloc,
-            Err(SiteFault::WriteFailed),
-            1,
-            "rights-site: write failed\n"
-        )
-    );
-    assert!(rt; ends_with(alloc, Err(SiteFault::OutOfMemory), 1, OUT_OF_MEMORY));
-    assert!(rt;
-        ends_with(
-            alloc,
-            Err(SiteFault::TooManyLines),
-            1,
-            "rights-site: too many lines\n"
-        )
-    );
+    assert!(rt; ends_with(rt.alloc(), Ok(()), 0, ""));
+    for (fault, text) in FAULTS {
+        assert!(rt; ends_with_fault(rt.alloc(), fault, text), "for {text:?}");
+    }
 }
 
 /// Stands for a site that the words do not ask for: with it, the program would end with its fault.

@@ -112,26 +112,29 @@ fn no_words_are_refused(rt: HostRuntime) {
     assert!(rt; matches!(read, Err(WordsFault::Refused)));
 }
 
+/// Words that are no command.
+const OTHER_WORDS: [&str; 16] = [
+    "",
+    "sim x",
+    "sim sim",
+    "sim -- x",
+    "-- sim",
+    "sim run",
+    "run",
+    "run --id 1",
+    "run sim",
+    "-- run --id 1 --sites 2 --listen a 2=b",
+    "help",
+    "--help=sim",
+    "--version=1",
+    "-v",
+    "sim --version",
+    "run --version",
+];
+
 #[test]
 fn other_words_are_refused(rt: HostRuntime) {
-    for line in [
-        "",
-        "sim x",
-        "sim sim",
-        "sim -- x",
-        "-- sim",
-        "sim run",
-        "run",
-        "run --id 1",
-        "run sim",
-        "-- run --id 1 --sites 2 --listen a 2=b",
-        "help",
-        "--help=sim",
-        "--version=1",
-        "-v",
-        "sim --version",
-        "run --version",
-    ] {
+    for line in OTHER_WORDS {
         assert!(rt; is_refused(rt.alloc(), line), "at {line:?}");
     }
 }
@@ -186,21 +189,23 @@ fn runs_site(alloc: Global, line: &str, own: (u64, u64, &str), peers: &[(u64, &s
     }
 }
 
+/// The words of site 2 of 4: peers by number, and with options after them and among them.
+const ORDERS: [&str; 5] = [
+    "run --id 2 --sites 4 --listen b:2 1=a 3=c:3 4=",
+    "run 4= 1=a 3=c:3 --sites 4 --id 2 --listen b:2",
+    "run 3=c:3 --listen b:2 4= --sites=4 1=a --id=2",
+    "run --listen b:2 --sites 4 --id 2 -- 4= 3=c:3 1=a",
+    // Numbers of options are as clap reads them.
+    "run --id 02 --sites +4 --listen b:2 1=a 3=c:3 4=",
+];
+
 #[test]
 fn a_config_has_the_values_of_the_words(rt: HostRuntime) {
     let line = "run --id 1 --sites 2 --listen 127.0.0.1:7001 2=127.0.0.1:7002";
     let own = (1, 2, "127.0.0.1:7001");
     assert!(rt; runs_site(rt.alloc(), line, own, &[(2, "127.0.0.1:7002")]));
-    // Peers by number, with options after them and among them.
     let peers = [(1, "a"), (3, "c:3"), (4, "")];
-    for line in [
-        "run --id 2 --sites 4 --listen b:2 1=a 3=c:3 4=",
-        "run 4= 1=a 3=c:3 --sites 4 --id 2 --listen b:2",
-        "run 3=c:3 --listen b:2 4= --sites=4 1=a --id=2",
-        "run --listen b:2 --sites 4 --id 2 -- 4= 3=c:3 1=a",
-        // Numbers of options are as clap reads them.
-        "run --id 02 --sites +4 --listen b:2 1=a 3=c:3 4=",
-    ] {
+    for line in ORDERS {
         assert!(rt;
             runs_site(rt.alloc(), line, (2, 4, "b:2"), &peers),
             "at {line:?}"
@@ -341,38 +346,41 @@ fn are_refused(alloc: Global, words: &str) -> bool {
     }
 }
 
+/// Words that are no options of a site.
+const OTHER_OPTIONS: [&str; 25] = [
+    "--tick 0",
+    "--tick=0",
+    "--tick 60001",
+    "--tick 18446744073709551617",
+    "--tick -1",
+    "--tick 1.5",
+    "--tick 5ms",
+    "--tick x",
+    "--tick=",
+    "--tick --log",
+    "--tick 5 6",
+    "--http --tick 5",
+    "--once --log",
+    // A flag has no value.
+    "--log=true",
+    "--log=false",
+    "--log=",
+    "--log 3=c",
+    // Each at most once.
+    "--tick 5 --tick 5",
+    "--http h --http i",
+    "--once f --once=f",
+    "--log --log",
+    // No other name.
+    "--ticks 5",
+    "--htt h",
+    "--Log",
+    "-l",
+];
+
 #[test]
 fn other_forms_of_options_are_refused(rt: HostRuntime) {
-    for words in [
-        "--tick 0",
-        "--tick=0",
-        "--tick 60001",
-        "--tick 18446744073709551617",
-        "--tick -1",
-        "--tick 1.5",
-        "--tick 5ms",
-        "--tick x",
-        "--tick=",
-        "--tick --log",
-        "--tick 5 6",
-        "--http --tick 5",
-        "--once --log",
-        // A flag has no value.
-        "--log=true",
-        "--log=false",
-        "--log=",
-        "--log 3=c",
-        // Each at most once.
-        "--tick 5 --tick 5",
-        "--http h --http i",
-        "--once f --once=f",
-        "--log --log",
-        // No other name.
-        "--ticks 5",
-        "--htt h",
-        "--Log",
-        "-l",
-    ] {
+    for words in OTHER_OPTIONS {
         assert!(rt; are_refused(rt.alloc(), words), "at {words:?}");
     }
 }
@@ -384,71 +392,79 @@ fn options_with_no_value_are_refused(rt: HostRuntime) {
     }
 }
 
+/// Options that are not behind `run`.
+const OPTIONS_ELSEWHERE: [&str; 6] = [
+    "sim --log",
+    "sim --tick 5",
+    "sim --http a",
+    "sim --once f",
+    "--log sim",
+    "--log run --id 1 --sites 2 --listen a 2=b",
+];
+
 /// They are options of `run` only.
 #[test]
 fn a_script_has_no_options(rt: HostRuntime) {
-    for line in [
-        "sim --log",
-        "sim --tick 5",
-        "sim --http a",
-        "sim --once f",
-        "--log sim",
-        "--log run --id 1 --sites 2 --listen a 2=b",
-    ] {
+    for line in OPTIONS_ELSEWHERE {
         assert!(rt; is_refused(rt.alloc(), line), "at {line:?}");
     }
 }
+
+/// The peers of site 16 of 16.
+const FIFTEEN_PEERS: [(u64, &str); 15] = [
+    (1, "a"),
+    (2, "b"),
+    (3, "c"),
+    (4, "d"),
+    (5, "e"),
+    (6, "f"),
+    (7, "g"),
+    (8, "h"),
+    (9, "i"),
+    (10, "j"),
+    (11, "k"),
+    (12, "l"),
+    (13, "m"),
+    (14, "n"),
+    (15, "o"),
+];
 
 #[test]
 fn sixteen_sites_are_read(rt: HostRuntime) {
     let line =
         "run --id 16 --sites 16 --listen x 15=o 14=n 13=m 12=l 11=k 10=j 9=i 8=h 7=g 6=f 5=e \
         4=d 3=c 2=b 1=a";
-    let peers = [
-        (1, "a"),
-        (2, "b"),
-        (3, "c"),
-        (4, "d"),
-        (5, "e"),
-        (6, "f"),
-        (7, "g"),
-        (8, "h"),
-        (9, "i"),
-        (10, "j"),
-        (11, "k"),
-        (12, "l"),
-        (13, "m"),
-        (14, "n"),
-        (15, "o"),
-    ];
-    assert!(rt; runs_site(rt.alloc(), line, (16, 16, "x"), &peers));
+    assert!(rt; runs_site(rt.alloc(), line, (16, 16, "x"), &FIFTEEN_PEERS));
 }
+
+/// The words of a site with other values, or with options twice or missing.
+const OTHER_VALUES: [&str; 20] = [
+    "run --id 0 --sites 2 --listen a 2=b",
+    "run --id 17 --sites 16 --listen a 2=b",
+    "run --id 17 --sites 17 --listen a 2=b",
+    "run --id 1 --sites 1 --listen a 2=b",
+    "run --id 1 --sites 1 --listen a 1=b",
+    "run --id 1 --sites 0 --listen a 2=b",
+    "run --id 3 --sites 2 --listen a 1=b 2=c",
+    "run --id 3 --sites 2 --listen a 1=b",
+    "run --id 18446744073709551617 --sites 2 --listen a 2=b",
+    "run --id x --sites 2 --listen a 2=b",
+    "run --id -1 --sites 2 --listen a 2=b",
+    "run --id 1 --sites 2= --listen a 2=b",
+    // Each option once, and none missing.
+    "run --sites 2 --listen a 2=b",
+    "run --id 1 --listen a 2=b",
+    "run --id 1 --sites 2 2=b",
+    "run --id 1 --sites 2 --listen a",
+    "run --id 1 --id 1 --sites 2 --listen a 2=b",
+    "run --id 1 --sites 2 --listen a --listen a 2=b",
+    "run --id 1 --sites 2 --listen a 2=b --more",
+    "run --id 1 --sites 2 2=b --listen",
+];
 
 #[test]
 fn values_outside_their_range_are_refused(rt: HostRuntime) {
-    for line in [
-        "run --id 0 --sites 2 --listen a 2=b",
-        "run --id 17 --sites 16 --listen a 2=b",
-        "run --id 17 --sites 17 --listen a 2=b",
-        "run --id 1 --sites 1 --listen a 2=b",
-        "run --id 1 --sites 1 --listen a 1=b",
-        "run --id 1 --sites 0 --listen a 2=b",
-        "run --id 3 --sites 2 --listen a 1=b 2=c",
-        "run --id 3 --sites 2 --listen a 1=b",
-        "run --id 18446744073709551617 --sites 2 --listen a 2=b",
-        "run --id x --sites 2 --listen a 2=b",
-        "run --id -1 --sites 2 --listen a 2=b",
-        "run --id 1 --sites 2= --listen a 2=b",
-        // Each option once, and none missing.
-        "run --sites 2 --listen a 2=b",
-        "run --id 1 --listen a 2=b",
-        "run --id 1 --sites 2 2=b",
-        "run --id 1 --sites 2 --listen a",
-        "run --id 1 --id 1 --sites 2 --listen a 2=b",
-        "run --id 1 --sites 2 --listen a --listen a 2=b",
-        "run --id 1 --sites 2 --listen a 2=b --more",
-        "run --id 1 --sites 2 2=b --listen",
-    ] {
+    for line in OTHER_VALUES {
         assert!(rt; is_refused(rt.alloc(), line), "at {line:?}");
     }
 }
@@ -461,32 +477,35 @@ fn is_refused_with(alloc: Global, peers: &str) -> bool {
     }
 }
 
+/// Words that are not the peers of site 1 of 3.
+const OTHER_PEERS: [&str; 22] = [
+    "2=b",
+    "3=c",
+    "2=b 2=b",
+    "2=b 2=c",
+    "2=b 3=c 3=c",
+    "2=b 3=c 3=d",
+    "1=a 2=b",
+    "1=a 2=b 3=c",
+    "2=b 4=d",
+    "2=b 3=c 4=d",
+    "2=b 3=c x",
+    "0=a 2=b",
+    "2=b 17=c",
+    "02=b 3=c",
+    "+2=b 3=c",
+    "2 3=c",
+    "=x 3=c",
+    "=2=b 3=c",
+    "2:b 3=c",
+    "2 =b 3=c",
+    "2=b 18446744073709551619=c",
+    " 3=c",
+];
+
 #[test]
 fn peers_are_exactly_the_other_sites(rt: HostRuntime) {
-    for peers in [
-        "2=b",
-        "3=c",
-        "2=b 2=b",
-        "2=b 2=c",
-        "2=b 3=c 3=c",
-        "2=b 3=c 3=d",
-        "1=a 2=b",
-        "1=a 2=b 3=c",
-        "2=b 4=d",
-        "2=b 3=c 4=d",
-        "2=b 3=c x",
-        "0=a 2=b",
-        "2=b 17=c",
-        "02=b 3=c",
-        "+2=b 3=c",
-        "2 3=c",
-        "=x 3=c",
-        "=2=b 3=c",
-        "2:b 3=c",
-        "2 =b 3=c",
-        "2=b 18446744073709551619=c",
-        " 3=c",
-    ] {
+    for peers in OTHER_PEERS {
         assert!(rt; is_refused_with(rt.alloc(), peers), "at {peers:?}");
     }
 }
