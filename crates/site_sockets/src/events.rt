@@ -135,6 +135,11 @@ impl LinkEvents {
         }
     }
 
+    /// Whether the last connection to the peer ended, or could not be made.
+    pub(crate) fn cannot_send(&self) -> bool {
+        self.failed.load(Ordering::Relaxed)
+    }
+
     /// Lines for the peer are about to be made of a log that ends at this number.
     pub fn offers(&self, end: u64) {
         self.counters.note_offered(end);

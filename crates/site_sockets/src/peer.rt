@@ -74,12 +74,13 @@ impl PeerState {
     }
 
     /// Makes room for so many lines in the outbox, if the peer takes those that wait there: blocks until they are sent,
-    /// for `MAX_STALL` milliseconds at most. Does not block again until they are.
+    /// for `MAX_STALL` milliseconds at most. Does not block again until they are, nor while the peer cannot be connected
+    /// to.
     pub fn make_room<R: Wait + Clock>(&self, rt: &R, lines: usize) {
         let waiting = self.waiting(rt);
         if waiting == 0 || lines <= OUTBOX_LINES - waiting {
             self.stalled.store(false, Ordering::Relaxed);
-        } else if !self.stalled.load(Ordering::Relaxed) {
+        } else if !self.stalled.load(Ordering::Relaxed) && !self.events.cannot_send() {
             let time = Duration::from_millis(MAX_STALL);
             let is_sent = self.outbox.wait_until_empty(rt, time);
             self.stalled.store(!is_sent, Ordering::Relaxed);
