@@ -1,7 +1,7 @@
 -- The values of a line's words, and lines that are too long.
-use Rattle.std.proofs.Common.{◌≡◌, ◌==◌, ℕ, ◌<◌, List, [], ◌∷◌, ◌++◌, length, true, Option, Some, None, Result, Ok, Err, OnErr, refl, sym, ap, ◌∙◌, arith, inl, inr, take, ◌-◌, ◌≤◌, length-append, length-take-le, append_assoc, append-nil}
-use Rattle.std.proofs.lemmas.Bool.{le-leb, lt-leb, cases_lt}
-use Rattle.std.proofs.lemmas.List.{take_at, take_all}
+use Rattle.std.proofs.Common.{◌≡◌, ◌==◌, ℕ, ◌<◌, List, [], ◌∷◌, ◌++◌, length, true, Option, Some, None, Result, Ok, Err, OnErr, refl, sym, ap, ◌∙◌, arith, take, ◌-◌, ◌≤◌, length-append, append_assoc, append-nil}
+use Rattle.std.proofs.lemmas.Bool.{le-leb, lt-leb}
+use Rattle.std.proofs.lemmas.List.{take_at}
 use Rattle.std.specs.Option.{option_map}
 use Rattle.std.specs.Borrow.{Bor}
 use Rattle.rights_types.specs.declared.moves.Move.{Move}
@@ -21,26 +21,33 @@ pub no_moves_before : (more : Option (List Move)) → more ≡ after_moves [] mo
 no_moves_before None = refl
 no_moves_before (Some ms) = refl
 
-one_more : (done : List Move) (m : Move) (more : Option (List Move)) → after_moves done (more >>= (λ ms. Some (m ∷ ms))) ≡ after_moves (done ++ m ∷ []) more
+one_more : (done : List Move) (m : Move) (more : Option (List Move))
+    → after_moves done (more >>= (λ ms. Some (m ∷ ms))) ≡ after_moves (done ++ m ∷ []) more
 one_more done m None = refl
 one_more done m (Some ms) = ap Some (sym (append_assoc done (m ∷ []) ms))
 
 -- one more word was read
-pub moves_more : (all : Option (List Move)) (done : List Move) (left : Option (Bor (List ℕ))) (text : Bor (List ℕ)) (word : List ℕ) (rest : Option (Bor (List ℕ))) (m : Move)
-    → all ≡ after_moves done (moves_in (words_left left)) → left ≡ Some text → words_of text.now ≡ word ∷ words_left rest → Some m ≡ move_of word
+pub moves_more : (all : Option (List Move)) (done : List Move) (left : Option (Bor (List ℕ))) (text : Bor (List ℕ))
+    (word : List ℕ) (rest : Option (Bor (List ℕ))) (m : Move)
+    → all ≡ after_moves done (moves_in (words_left left)) → left ≡ Some text
+    → words_of text.now ≡ word ∷ words_left rest → Some m ≡ move_of word
     → all ≡ after_moves (done ++ m ∷ []) (moves_in (words_left rest))
 moves_more all done left text word rest m h e w r = h ∙ rw (e, w, ← r) (one_more done m (moves_in (words_left rest)))
 
 -- a word that is not a move
-pub moves_none : (all : Option (List Move)) (done : List Move) (left : Option (Bor (List ℕ))) (text : Bor (List ℕ)) (word : List ℕ) (rest : Option (Bor (List ℕ)))
-    → all ≡ after_moves done (moves_in (words_left left)) → left ≡ Some text → words_of text.now ≡ word ∷ words_left rest → None ≡ move_of word
+pub moves_none : (all : Option (List Move)) (done : List Move) (left : Option (Bor (List ℕ))) (text : Bor (List ℕ))
+    (word : List ℕ) (rest : Option (Bor (List ℕ)))
+    → all ≡ after_moves done (moves_in (words_left left)) → left ≡ Some text
+    → words_of text.now ≡ word ∷ words_left rest → None ≡ move_of word
     → None ≡ all
 moves_none all done left text word rest h e w r = sym (h ∙ rw (e, w, ← r) refl)
 
-pub moves_all : (all : Option (List Move)) (done : List Move) (left : Option (Bor (List ℕ))) → all ≡ after_moves done (moves_in (words_left left)) → left ≡ None → Some done ≡ all
+pub moves_all : (all : Option (List Move)) (done : List Move) (left : Option (Bor (List ℕ)))
+    → all ≡ after_moves done (moves_in (words_left left)) → left ≡ None → Some done ≡ all
 moves_all all done left h e = sym (h ∙ rw e (ap Some (append-nil done)))
 
-pub fewer_words : (left : Option (Bor (List ℕ))) (text : Bor (List ℕ)) (word : List ℕ) (rest : Option (Bor (List ℕ))) → left ≡ Some text → words_of text.now ≡ word ∷ words_left rest
+pub fewer_words : (left : Option (Bor (List ℕ))) (text : Bor (List ℕ)) (word : List ℕ) (rest : Option (Bor (List ℕ)))
+    → left ≡ Some text → words_of text.now ≡ word ∷ words_left rest
     → length (words_left rest) < length (words_left left)
 fewer_words left text word rest e w = rw (e, w) (omega arith)
 
@@ -51,17 +58,20 @@ text_whole text =
     rw words.2 (ap Some (ap (join_with_byte 32) (sym words.2) ∙ join_with_byte-slice_split 32 text.now))
 
 -- what takes memory by its word
-pub take_memory : {X E : Type 0} (word : Word) (rest words : List (List ℕ)) (r : Result X E) → word_in words ≡ Some (word, rest) → OnErr r (takes_memory word ≡ true)
+pub take_memory : {X E : Type 0} (word : Word) (rest words : List (List ℕ)) (r : Result X E)
+    → word_in words ≡ Some (word, rest) → OnErr r (takes_memory word ≡ true)
     → OnErr r (TakeMemory words)
 take_memory word rest words (Ok x) is h = tt
 take_memory word rest words (Err e) is h = ((word, rest), is, h)
 
 module _ {A : Type 0} (line : List ℕ) where
-  pub short_line : (text : List ℕ) → line ≡ text ++ 10 ∷ [] → length line ≤ 16384 → command_of {A = A} line ≡ command_in text
+  pub short_line : (text : List ℕ) → line ≡ text ++ 10 ∷ [] → length line ≤ 16384
+      → command_of {A = A} line ≡ command_in text
   unfolding command_of
   short_line text ended short =
       let front : take (length line - 1) line ≡ text =
-      ap (λ (l : List ℕ). take (length line - 1) l) ended ∙ take_at text (10 ∷ []) (length line - 1) (omega (arith, ap length ended, length-append text (10 ∷ []))) in
+      ap (λ (l : List ℕ). take (length line - 1) l) ended
+      ∙ take_at text (10 ∷ []) (length line - 1) (omega (arith, ap length ended, length-append text (10 ∷ []))) in
       rw (le-leb (length line) 16384 short, front) refl
 
   pub long_line : 16384 < length line → command_of {A = A} line ≡ None

@@ -13,10 +13,12 @@ abbrev pub lines_below : (ℕ → List ℕ) → ℕ → List ℕ
 lines_below f n = flat_map f (range_with_len 1 (n - 1))
 
 -- one more site
-pub lines_next : (f : ℕ → List ℕ) (n : ℕ) (old now next : List ℕ) → 1 ≤ n → now ≡ old ++ lines_below f n → next ≡ now ++ f n → next ≡ old ++ lines_below f (n + 1)
+pub lines_next : (f : ℕ → List ℕ) (n : ℕ) (old now next : List ℕ) → 1 ≤ n → now ≡ old ++ lines_below f n
+    → next ≡ now ++ f n → next ≡ old ++ lines_below f (n + 1)
 lines_next f n old now next some h e =
     let more : (n + 1) - 1 ≡ (n - 1) + 1 = omega arith in
     let last : (n - 1) + 1 ≡ n = omega arith in
     let lines : lines_below f (n + 1) ≡ lines_below f n ++ f n =
-    rw (more, range_more (n - 1), flat_map-append, last) (ap (λ (l : List ℕ). lines_below f n ++ l) (append-nil (f n))) in
+    rw (more, range_more (n - 1), flat_map-append, last)
+    (ap (λ (l : List ℕ). lines_below f n ++ l) (append-nil (f n))) in
     e ∙ rw (h, lines) (append_assoc old (lines_below f n) (f n))

@@ -17,7 +17,8 @@ abbrev pub Talk : Type 0 → Option (List ℕ) → Option (List ℕ) → Option 
 Talk A given left held holds = LineTalk (ScriptAnswers A) None given left held holds
 
 -- a script ends with its input, or on a fault
-abbrev pub EndsBy : {answers : Answering (Option WorldValue)} → {start : Option WorldValue} → {given left held holds : Option (List ℕ)}
+abbrev pub EndsBy : {answers : Answering (Option WorldValue)} → {start : Option WorldValue}
+    → {given left held holds : Option (List ℕ)}
     → Result (Unit {0}) ConversationError → LineTalk answers start given left held holds → Type 0
 EndsBy (Ok _) talk = LinesEndBy (Ok Input) talk
 EndsBy (Err fault) talk = LinesEndBy (Err fault) talk

@@ -62,7 +62,8 @@ impl<A: Allocator + Copy> Session<A> {
     /// Answers all lines that the reader gives.
     fn run<R: Read, W: Write>(&mut self, reader: &mut R, writer: &mut W) -> Result<(), ScriptFault>
         requires { self.old ≡ None }
-        ensures ends { (talk : Talk A (R.remaining reader.old) (R.remaining reader.new) (W.contents writer.old) (W.contents writer.new))
+        ensures ends { (talk : Talk A (R.remaining reader.old) (R.remaining reader.new) (W.contents writer.old)
+            (W.contents writer.new))
             × EndsBy result talk }
         ensures all { OnOk result (IsAtEnd (R.remaining reader.new)) }
     {
@@ -78,7 +79,8 @@ pub fn run_script<A: Allocator + Copy, R: Read, W: Write>(
     reader: &mut R,
     writer: &mut W,
 ) -> Result<(), ScriptFault>
-    ensures ends { (talk : Talk A (R.remaining reader.old) (R.remaining reader.new) (W.contents writer.old) (W.contents writer.new))
+    ensures ends { (talk : Talk A (R.remaining reader.old) (R.remaining reader.new) (W.contents writer.old)
+        (W.contents writer.new))
         × EndsBy result talk }
     ensures all { OnOk result (IsAtEnd (R.remaining reader.new)) }
 {
@@ -92,7 +94,8 @@ pub fn run_last_script<A: Allocator + Copy, R: Read, W: Write>(
     reader: &mut R,
     writer: &mut W,
 ) -> Result<(), ScriptFault>
-    ensures ends { (talk : Talk A (R.remaining reader.old) (R.remaining reader.new) (W.contents writer.old) (W.contents writer.new))
+    ensures ends { (talk : Talk A (R.remaining reader.old) (R.remaining reader.new) (W.contents writer.old)
+        (W.contents writer.new))
         × EndsBy result talk }
     ensures all { OnOk result (IsAtEnd (R.remaining reader.new)) }
 {
