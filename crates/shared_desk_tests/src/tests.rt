@@ -10,5 +10,6 @@ mod links;
 mod many;
 mod parts;
 mod replays;
+mod scenes;
 mod seats;
 mod sites;

@@ -127,26 +127,31 @@ fn no_site<R, W>(_config: Config, _reader: &mut R, _writer: &mut W) -> Result<()
     Err(SiteFault::ReadFailed)
 }
 
+/// The status with which the program ends on these words.
+fn status_of(
+    alloc: Global,
+    words: &[&str],
+    writer: &mut Slow<Global>,
+    errors: &mut Slow<Global>,
+) -> u8 {
+    let answer = run_words(alloc, no_site, words, &mut b"".as_slice(), writer, errors);
+    answer.status
+}
+
+/// A writer that takes seven bytes at a time.
+fn slow(alloc: Global) -> Slow<Global> {
+    Slow {
+        text: Vec::new(alloc),
+        step: 7,
+    }
+}
+
 /// Whether the program ends with this status on these words, and all of this text and of this line is written,
 /// however few bytes a write takes.
 fn writes_slowly(alloc: Global, words: &[&str], status: u8, text: &[u8], line: &str) -> bool {
-    let mut writer = Slow {
-        text: Vec::new(alloc),
-        step: 7,
-    };
-    let mut errors = Slow {
-        text: Vec::new(alloc),
-        step: 7,
-    };
-    let answer = run_words(
-        alloc,
-        no_site,
-        words,
-        &mut b"".as_slice(),
-        &mut writer,
-        &mut errors,
-    );
-    answer.status == status
+    let mut writer = slow(alloc);
+    let mut errors = slow(alloc);
+    status_of(alloc, words, &mut writer, &mut errors) == status
         && writer.text.as_slice() == text
         && errors.text.as_slice() == line.as_bytes()
 }

@@ -1,15 +1,13 @@
 //! Appliers of all other sites at one desk, and the longest entry that passes over a lane.
-ghost use Rattle.std.specs.Prelude.{◌≡◌, ◌≤◌};
-ghost use Rattle.apply_lanes.specs.Names.{id_of, AreBlank, IsUnused};
+ghost use Rattle.std.specs.Prelude.{◌≤◌};
 
-use crate::tests::desks::{applier_at, desk_among, pushed, report_of};
+use crate::tests::desks::{alone, applier_at, report_of, with_applied};
 use crate::tests::links::{feed, link};
 use crate::tests::parts::refusal;
+use crate::tests::scenes::{Host, Scene, play};
 use apply_lanes::laws::taken_in;
-use apply_lanes::{AdmitCause, Applied, Blanks, DeskNames, Free, Parts, Report, SharedDesk};
-use site_core::Desk;
+use apply_lanes::{AdmitCause, Applied, DeskNames, Free, Parts, Report, SharedDesk};
 use std::alloc::Global;
-use std::marker::Brand;
 use std::process::Abort;
 use std::sync::Wait;
 use std::time::Clock;
@@ -57,80 +55,55 @@ fn applied_of<D: DeskNames, R: Wait + Clock + Abort>(
     taken_in(intake, applier).done()
 }
 
-// The gifts of all other sites.
-fn all_gifts<D: DeskNames, R: Wait + Clock + Abort>(
-    rt: &R,
-    alloc: Global,
-    desk: &SharedDesk<D>,
-) -> Vec<Applied<D>> {
-    let mut applied = Vec::new(alloc);
+// The desk, and the gifts of all other sites.
+fn with_all_gifts<D: DeskNames, R: Host>(rt: &R, mut parts: Parts<D>) -> Parts<D> {
     for place in 0..15 {
-        let one = applied_of(rt, alloc, desk, place as u64 + 2, GIFTS[place]);
-        applied = pushed(rt, applied, one);
+        let gift = applied_of(rt, rt.alloc(), &parts.desk, place as u64 + 2, GIFTS[place]);
+        parts = with_applied(rt, parts, gift);
     }
-    applied
+    parts
 }
 
-fn sixteen_sites<D: DeskNames, R: Wait + Clock + Abort>(
-    rt: &R,
-    alloc: Global,
-    desk: Desk,
-    blanks: Blanks,
-) -> Report
-    requires id { D.id ≡ id_of desk blanks }
-    requires blanks { AreBlank blanks }
-    requires unused { IsUnused desk }
-{
-    let desk = SharedDesk::<D>::new(desk, blanks);
-    let applied = all_gifts(rt, alloc, &desk);
-    for origin in 2..17 {
-        assert!(rt; refusal(rt, alloc, &desk, origin) == AdmitCause::Taken);
+/// Each other site of sixteen has an applier, and gets no second one.
+#[derive(Clone, Copy)]
+struct Fifteen;
+
+impl Scene for Fifteen {
+    type Seen = Report;
+
+    fn play<D: DeskNames, R: Host>(self, rt: &R, desk: SharedDesk<D>) -> Report {
+        let parts = with_all_gifts(rt, alone(rt.alloc(), desk));
+        for origin in 2..17 {
+            assert!(rt; refusal(rt, rt.alloc(), &parts.desk, origin) == AdmitCause::Taken);
+        }
+        report_of(rt, parts)
     }
-    let parts = Parts {
-        desk,
-        seats: Vec::new(alloc),
-        applied,
-    };
-    report_of(rt, parts)
 }
 
 /// Each other site of sixteen gets an applier, and no second one.
 #[test]
 fn an_applier_for_each_of_fifteen_peers(rt: HostRuntime) {
-    let desk = desk_among(&rt, rt.alloc(), 16);
-    let report = sixteen_sites::<Brand, HostRuntime>(&rt, rt.alloc(), desk, Blanks::new());
+    let report = play(&rt, 16, Fifteen);
     assert!(rt; (report.received, report.held, report.applied) == (135, 135, 30));
 }
 
-fn the_longest<D: DeskNames, R: Wait + Clock + Abort>(
-    rt: &R,
-    alloc: Global,
-    desk: Desk,
-    blanks: Blanks,
-) -> Report
-    requires id { D.id ≡ id_of desk blanks }
-    requires blanks { AreBlank blanks }
-    requires unused { IsUnused desk }
-{
-    let desk = SharedDesk::<D>::new(desk, blanks);
-    let applied = pushed(
-        rt,
-        Vec::new(alloc),
-        applied_of(rt, alloc, &desk, 2, LONGEST),
-    );
-    let parts = Parts {
-        desk,
-        seats: Vec::new(alloc),
-        applied,
-    };
-    report_of(rt, parts)
+/// An entry of sixteen moves arrives.
+#[derive(Clone, Copy)]
+struct Longest;
+
+impl Scene for Longest {
+    type Seen = Report;
+
+    fn play<D: DeskNames, R: Host>(self, rt: &R, desk: SharedDesk<D>) -> Report {
+        let applied = applied_of(rt, rt.alloc(), &desk, 2, LONGEST);
+        report_of(rt, with_applied(rt, alone(rt.alloc(), desk), applied))
+    }
 }
 
 /// An entry of sixteen moves passes over a lane, and is applied.
 #[test]
 fn sixteen_moves_over_a_lane(rt: HostRuntime) {
-    let desk = desk_among(&rt, rt.alloc(), 16);
-    let report = the_longest::<Brand, HostRuntime>(&rt, rt.alloc(), desk, Blanks::new());
+    let report = play(&rt, 16, Longest);
     assert!(rt; (report.received, report.held, report.applied) == (15, 15, 16));
 }
 
@@ -148,30 +121,22 @@ fn applied_at_once<D: DeskNames, R: Wait + Abort>(
     taken_in(intake, applier).done()
 }
 
-fn three_at_once<D: DeskNames, R: Wait + Abort>(
-    rt: &R,
-    alloc: Global,
-    desk: Desk,
-    blanks: Blanks,
-) -> Report
-    requires id { D.id ≡ id_of desk blanks }
-    requires blanks { AreBlank blanks }
-    requires unused { IsUnused desk }
-{
-    let desk = SharedDesk::<D>::new(desk, blanks);
-    let applied = pushed(rt, Vec::new(alloc), applied_at_once(rt, alloc, &desk));
-    let parts = Parts {
-        desk,
-        seats: Vec::new(alloc),
-        applied,
-    };
-    report_of(rt, parts)
+/// Three entries are applied at once.
+#[derive(Clone, Copy)]
+struct AtOnce;
+
+impl Scene for AtOnce {
+    type Seen = Report;
+
+    fn play<D: DeskNames, R: Host>(self, rt: &R, desk: SharedDesk<D>) -> Report {
+        let applied = applied_at_once(rt, rt.alloc(), &desk);
+        report_of(rt, with_applied(rt, alone(rt.alloc(), desk), applied))
+    }
 }
 
 /// All entries that wait on a lane are applied at once, and then End is taken.
 #[test]
 fn all_that_wait_at_once(rt: HostRuntime) {
-    let desk = desk_among(&rt, rt.alloc(), 2);
-    let report = three_at_once::<Brand, HostRuntime>(&rt, rt.alloc(), desk, Blanks::new());
+    let report = play(&rt, 2, AtOnce);
     assert!(rt; (report.received, report.held, report.applied) == (9, 9, 3));
 }

@@ -2,7 +2,9 @@
 ghost use Rattle.std.specs.Prelude.{◌≡◌, ◌≤◌, [], IfOk};
 ghost use Rattle.apply_lanes.specs.Names.{IsUnused};
 
-use apply_lanes::{Applier, DeskNames, Gate, Outlet, Parts, Report, Seat, SharedDesk, stop};
+use apply_lanes::{
+    Applied, Applier, DeskNames, Gate, Outlet, Parts, Report, Seat, SharedDesk, stop,
+};
 use rights_types::{OutOfMemory, SiteId};
 use site_core::Desk;
 use std::alloc::{Allocator, Global};
@@ -74,10 +76,33 @@ pub(crate) fn applier_at<D: DeskNames, A: Allocator + Copy, G: Gate, R: Wait + A
     }
 }
 
-/// The list, with one more.
-pub(crate) fn pushed<T: Drop, R: Abort>(rt: &R, mut list: Vec<T>, one: T) -> Vec<T> {
-    list.push(one).ok().expect(rt, "memory");
-    list
+/// A desk from which nothing was given out.
+pub(crate) fn alone<D: DeskNames>(alloc: Global, desk: SharedDesk<D>) -> Parts<D> {
+    Parts {
+        desk,
+        seats: Vec::new(alloc),
+        applied: Vec::new(alloc),
+    }
+}
+
+/// The parts, with that seat too.
+pub(crate) fn with_seat<D: DeskNames, R: Abort>(
+    rt: &R,
+    mut parts: Parts<D>,
+    seat: Seat<D>,
+) -> Parts<D> {
+    parts.seats.push(seat).ok().expect(rt, "memory");
+    parts
+}
+
+/// The parts, with what that applier reports too.
+pub(crate) fn with_applied<D: DeskNames, R: Abort>(
+    rt: &R,
+    mut parts: Parts<D>,
+    applied: Applied<D>,
+) -> Parts<D> {
+    parts.applied.push(applied).ok().expect(rt, "memory");
+    parts
 }
 
 /// What a desk with all its parts reports.

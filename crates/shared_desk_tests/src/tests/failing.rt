@@ -1,13 +1,11 @@
 //! A lane whose other end is gone.
 ghost use Rattle.std.specs.Prelude.{◌≡◌, false};
-ghost use Rattle.apply_lanes.specs.Names.{id_of, AreBlank, IsUnused};
 
-use crate::tests::desks::{applier_at, desk_among, issue, seat_at};
+use crate::tests::desks::{applier_at, issue, seat_at};
 use crate::tests::links::link;
-use apply_lanes::{Blanks, DeskNames, DeskView, Free, Intake, IntakeError, SharedDesk};
-use site_core::Desk;
+use crate::tests::scenes::{Host, Scene, play};
+use apply_lanes::{DeskNames, DeskView, Free, Intake, IntakeError, SharedDesk};
 use std::alloc::Global;
-use std::marker::Brand;
 use std::process::Abort;
 use std::sync::Wait;
 
@@ -42,27 +40,24 @@ fn meet_a_closed_lane<D: DeskNames, R: Wait + Abort>(rt: &R, alloc: Global, desk
     assert!(rt; is_dead(rt, &mut intake));
 }
 
-fn a_dropped_applier<D: DeskNames, R: Wait + Abort>(
-    rt: &R,
-    alloc: Global,
-    desk: Desk,
-    blanks: Blanks,
-) -> DeskView
-    requires id { D.id ≡ id_of desk blanks }
-    requires blanks { AreBlank blanks }
-    requires unused { IsUnused desk }
-{
-    let desk = SharedDesk::<D>::new(desk, blanks);
-    let mut seat = seat_at(rt, &desk);
-    issue(rt, &desk, &mut seat, 5);
-    meet_a_closed_lane(rt, alloc, &desk);
-    desk.lock(rt).view()
+/// An applier is dropped.
+#[derive(Clone, Copy)]
+struct DroppedApplier;
+
+impl Scene for DroppedApplier {
+    type Seen = DeskView;
+
+    fn play<D: DeskNames, R: Host>(self, rt: &R, desk: SharedDesk<D>) -> DeskView {
+        let mut seat = seat_at(rt, &desk);
+        issue(rt, &desk, &mut seat, 5);
+        meet_a_closed_lane(rt, rt.alloc(), &desk);
+        desk.lock(rt).view()
+    }
 }
 
 /// Once its applier is gone an intake is dead, and the desk continues unchanged.
 #[test]
 fn an_intake_without_its_applier(rt: HostRuntime) {
-    let desk = desk_among(&rt, rt.alloc(), 3);
-    let view = a_dropped_applier::<Brand, HostRuntime>(&rt, rt.alloc(), desk, Blanks::new());
+    let view = play(&rt, 3, DroppedApplier);
     assert!(rt; (view.issued, view.held, view.number, view.received) == (5, 5, 1, 0));
 }

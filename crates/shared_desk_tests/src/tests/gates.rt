@@ -2,10 +2,10 @@
 ghost use Rattle.std.specs.Prelude.{◌≡◌, ◌≤◌};
 ghost use Rattle.apply_lanes.specs.Names.{id_of, AreBlank, IsUnused};
 
-use crate::tests::desks::{applier_at, desk_among, pushed, report_of};
+use crate::tests::desks::{alone, applier_at, desk_among, report_of, with_applied};
 use crate::tests::links::{feed, link};
 use apply_lanes::laws::taken_in;
-use apply_lanes::{Applied, Applier, Blanks, DeskNames, Gate, Intake, Parts, Report, SharedDesk};
+use apply_lanes::{Applied, Applier, Blanks, DeskNames, Gate, Intake, Report, SharedDesk};
 use rights_types::SiteId;
 use site_core::Desk;
 use std::alloc::Global;
@@ -109,13 +109,14 @@ fn applied_at<D: DeskNames + Send + Sync, R: Threads + Wait + Clock + Abort + Sy
     desk: &SharedDesk<D>,
     gate: Meeting,
     other_gate: Meeting,
-) -> Vec<Applied<D>> {
+) -> (Applied<D>, Applied<D>) {
     let (intake, one) = fed_applier(rt, alloc, desk, 2, "E 2 0 2 I:5 R:1:5\n", gate);
     let (other_intake, other) = fed_applier(rt, alloc, desk, 3, "E 3 0 2 I:7 R:1:7\n", other_gate);
     let (one, other) = apply_both(rt, desk, one, other);
-    let one = taken_in(intake, one).done();
-    let other = taken_in(other_intake, other).done();
-    pushed(rt, pushed(rt, Vec::new(alloc), one), other)
+    (
+        taken_in(intake, one).done(),
+        taken_in(other_intake, other).done(),
+    )
 }
 
 // The same with gates that wait for each other.
@@ -123,7 +124,7 @@ fn met_at<D: DeskNames + Send + Sync, R: Threads + Wait + Clock + Abort + Sync>(
     rt: &R,
     alloc: Global,
     desk: &SharedDesk<D>,
-) -> Vec<Applied<D>> {
+) -> (Applied<D>, Applied<D>) {
     let (come, late) = (counter(rt, alloc), counter(rt, alloc));
     let (one, other) = (gate(rt, &come, &late), gate(rt, &come, &late));
     let applied = applied_at(rt, alloc, desk, one, other);
@@ -146,13 +147,9 @@ fn two_appliers<D: DeskNames + Send + Sync, R: Threads + Wait + Clock + Abort + 
     requires unused { IsUnused desk }
 {
     let desk = SharedDesk::<D>::new(desk, blanks);
-    let applied = met_at(rt, alloc, &desk);
-    let parts = Parts {
-        desk,
-        seats: Vec::new(alloc),
-        applied,
-    };
-    report_of(rt, parts)
+    let (one, other) = met_at(rt, alloc, &desk);
+    let parts = with_applied(rt, alone(alloc, desk), one);
+    report_of(rt, with_applied(rt, parts, other))
 }
 
 // Whether the desk received 5 and 7, and nothing else happened.

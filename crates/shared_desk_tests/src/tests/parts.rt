@@ -1,16 +1,14 @@
 //! Appliers and the end of a desk: what is refused, and that the parts are returned.
-ghost use Rattle.std.specs.Prelude.{◌≡◌, ◌≤◌};
-ghost use Rattle.apply_lanes.specs.Names.{id_of, AreBlank, IsUnused};
+ghost use Rattle.std.specs.Prelude.{◌≡◌, ◌≤◌, []};
 
-use crate::tests::desks::{applier_at, desk_among, issue, pushed, report_of, seat_at};
+use crate::tests::desks::{alone, applier_at, issue, report_of, seat_at, with_applied, with_seat};
 use crate::tests::links::link;
+use crate::tests::scenes::{Host, Scene, play};
 use apply_lanes::{
-    AdmitCause, Applier, Blanks, DeskNames, Free, Parts, Report, Seat, SharedDesk, StopError, stop,
+    AdmitCause, Applier, DeskNames, Free, Outlet, Parts, Report, Seat, SharedDesk, StopError, stop,
 };
 use rights_types::SiteId;
-use site_core::Desk;
 use std::alloc::Global;
-use std::marker::Brand;
 use std::process::Abort;
 use std::sync::Wait;
 
@@ -37,56 +35,43 @@ fn issue_and_give<D: DeskNames, R: Wait + Abort>(rt: &R, desk: &SharedDesk<D>, s
     assert!(rt; given == Ok(2));
 }
 
-// The seat that did so, alone.
-fn a_seat<D: DeskNames, R: Wait + Abort>(
-    rt: &R,
-    alloc: Global,
-    desk: &SharedDesk<D>,
-) -> Vec<Seat<D>> {
-    let mut seat = seat_at(rt, desk);
-    issue_and_give(rt, desk, &mut seat);
-    pushed(rt, Vec::new(alloc), seat)
+// The desk, and the seat that did so.
+fn with_a_seat<D: DeskNames, R: Wait + Abort>(rt: &R, parts: Parts<D>) -> Parts<D> {
+    let mut seat = seat_at(rt, &parts.desk);
+    issue_and_give(rt, &parts.desk, &mut seat);
+    with_seat(rt, parts, seat)
 }
 
-fn a_missing_seat<D: DeskNames, R: Wait + Abort>(
-    rt: &R,
-    alloc: Global,
-    desk: Desk,
-    blanks: Blanks,
-) -> Report
-    requires id { D.id ≡ id_of desk blanks }
-    requires blanks { AreBlank blanks }
-    requires unused { IsUnused desk }
-{
-    let desk = SharedDesk::<D>::new(desk, blanks);
-    let seats = a_seat(rt, alloc, &desk);
-    let mut missing = seat_at(rt, &desk);
-    let parts = Parts {
-        desk,
-        seats,
-        applied: Vec::new(alloc),
-    };
-    let Parts {
-        desk,
-        seats,
-        applied,
-    } = without_a_seat(rt, parts);
-    issue(rt, &desk, &mut missing, 5);
-    let parts = Parts {
-        desk,
-        seats: pushed(rt, seats, missing),
-        applied,
-    };
-    report_of(rt, parts)
+/// A stop without the second of two seats, which is used after it, and one with both.
+#[derive(Clone, Copy)]
+struct MissingSeat;
+
+impl Scene for MissingSeat {
+    type Seen = Report;
+
+    fn play<D: DeskNames, R: Host>(self, rt: &R, desk: SharedDesk<D>) -> Report {
+        let parts = with_a_seat(rt, alone(rt.alloc(), desk));
+        let mut missing = seat_at(rt, &parts.desk);
+        let parts = without_a_seat(rt, parts);
+        issue(rt, &parts.desk, &mut missing, 5);
+        report_of(rt, with_seat(rt, parts, missing))
+    }
 }
 
 /// A desk stops once all seats are back, and continues until then.
 #[test]
 fn no_stop_without_a_seat(rt: HostRuntime) {
-    let desk = desk_among(&rt, rt.alloc(), 2);
-    let report = a_missing_seat::<Brand, HostRuntime>(&rt, rt.alloc(), desk, Blanks::new());
+    let report = play(&rt, 2, MissingSeat);
     assert!(rt; report.issued == 15 && report.spent == 0);
     assert!(rt; report.given == 3 && report.held == 12);
+}
+
+// The outlet of a lane whose other end is gone.
+fn an_outlet<R: Abort>(rt: &R, alloc: Global) -> Outlet
+    ensures { result.taken ≡ [] }
+{
+    let (_intake, outlet) = link(rt, alloc, 2, 3);
+    outlet
 }
 
 /// Why an applier of that origin is refused, and that its lane is returned.
@@ -98,8 +83,7 @@ pub(crate) fn refusal<D: DeskNames, R: Wait + Abort>(
 ) -> AdmitCause
     requires { (1 ≤ origin) × (origin ≤ 16) }
 {
-    let (_, outlet) = link(rt, alloc, 2, 3);
-    match desk.applier(rt, SiteId::known(origin), outlet, Free) {
+    match desk.applier(rt, SiteId::known(origin), an_outlet(rt, alloc), Free) {
         Ok(_) => panic!(rt; "an applier"),
         Err(error) => error.cause,
     }
@@ -111,48 +95,30 @@ fn an_applier<D: DeskNames, R: Wait + Abort>(
     alloc: Global,
     desk: &SharedDesk<D>,
 ) -> Applier<D, Free> {
-    let (_intake, outlet) = link(rt, alloc, 2, 3);
-    let applier = applier_at(rt, desk, 2, outlet, Free);
+    let applier = applier_at(rt, desk, 2, an_outlet(rt, alloc), Free);
     assert!(rt; refusal(rt, alloc, desk, 4) == AdmitCause::NoSuchSite);
     assert!(rt; refusal(rt, alloc, desk, 1) == AdmitCause::SameSite);
     assert!(rt; refusal(rt, alloc, desk, 2) == AdmitCause::Taken);
     applier
 }
 
-fn a_missing_applier<D: DeskNames, R: Wait + Abort>(
-    rt: &R,
-    alloc: Global,
-    desk: Desk,
-    blanks: Blanks,
-) -> Report
-    requires id { D.id ≡ id_of desk blanks }
-    requires blanks { AreBlank blanks }
-    requires unused { IsUnused desk }
-{
-    let desk = SharedDesk::<D>::new(desk, blanks);
-    let applier = an_applier(rt, alloc, &desk);
-    let parts = Parts {
-        desk,
-        seats: Vec::new(alloc),
-        applied: Vec::new(alloc),
-    };
-    let Parts {
-        desk,
-        seats,
-        applied,
-    } = without_an_applier(rt, parts);
-    let parts = Parts {
-        desk,
-        seats,
-        applied: pushed(rt, applied, applier.done()),
-    };
-    report_of(rt, parts)
+/// A stop without an applier, and one with it.
+#[derive(Clone, Copy)]
+struct MissingApplier;
+
+impl Scene for MissingApplier {
+    type Seen = Report;
+
+    fn play<D: DeskNames, R: Host>(self, rt: &R, desk: SharedDesk<D>) -> Report {
+        let applier = an_applier(rt, rt.alloc(), &desk);
+        let parts = without_an_applier(rt, alone(rt.alloc(), desk));
+        report_of(rt, with_applied(rt, parts, applier.done()))
+    }
 }
 
 /// An origin has at most one applier, and the desk stops once it is done.
 #[test]
 fn no_stop_without_an_applier(rt: HostRuntime) {
-    let desk = desk_among(&rt, rt.alloc(), 3);
-    let report = a_missing_applier::<Brand, HostRuntime>(&rt, rt.alloc(), desk, Blanks::new());
+    let report = play(&rt, 3, MissingApplier);
     assert!(rt; report.applied == 0 && report.received == 0);
 }

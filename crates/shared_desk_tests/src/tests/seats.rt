@@ -2,9 +2,10 @@
 ghost use Rattle.std.specs.Prelude.{◌≡◌};
 ghost use Rattle.apply_lanes.specs.Names.{id_of, AreBlank, IsUnused};
 
-use crate::tests::desks::{clock_seat_at, desk_among, issue, pushed, report_of, seat_at};
+use crate::tests::desks::{alone, clock_seat_at, desk_among, issue, report_of, seat_at, with_seat};
 use crate::tests::parts::without_a_seat;
-use apply_lanes::{Blanks, DeskNames, Parts, Report, SEATS, Seat, SharedDesk};
+use crate::tests::scenes::{Host, Scene, play};
+use apply_lanes::{Blanks, DeskNames, Report, SEATS, Seat, SharedDesk};
 use site_core::{Desk, Spending};
 use std::alloc::Global;
 use std::marker::Brand;
@@ -49,17 +50,21 @@ fn both_spend<D: DeskNames + Send + Sync, R: Threads + Wait + Abort + Sync>(
     (one, other)
 }
 
-// A seat that issues ten rights, and two that spend them.
-fn seats_at<D: DeskNames + Send + Sync, R: Threads + Wait + Abort + Sync>(
+// A seat that issued ten rights, and the two that spent them.
+fn three_seats<D: DeskNames + Send + Sync, R: Threads + Wait + Abort + Sync>(
     rt: &R,
-    alloc: Global,
     desk: &SharedDesk<D>,
-) -> Vec<Seat<D>> {
+) -> (Seat<D>, Seat<D>, Seat<D>) {
     let mut first = seat_at(rt, desk);
     issue(rt, desk, &mut first, 10);
     let (second, third) = both_spend(rt, desk, seat_at(rt, desk), seat_at(rt, desk));
-    let seats = pushed(rt, Vec::new(alloc), first);
-    pushed(rt, pushed(rt, seats, second), third)
+    (first, second, third)
+}
+
+// Whether ten rights wait at the desk, and none are held.
+fn is_spent<D: DeskNames, R: Wait>(rt: &R, desk: &SharedDesk<D>) -> bool {
+    let view = desk.lock(rt).view();
+    (view.queued, view.held) == (10, 0)
 }
 
 fn twenty_spends<D: DeskNames + Send + Sync, R: Threads + Wait + Abort + Sync>(
@@ -73,15 +78,11 @@ fn twenty_spends<D: DeskNames + Send + Sync, R: Threads + Wait + Abort + Sync>(
     requires unused { IsUnused desk }
 {
     let desk = SharedDesk::<D>::new(desk, blanks);
-    let seats = seats_at(rt, alloc, &desk);
-    let view = desk.lock(rt).view();
-    assert!(rt; (view.queued, view.held) == (10, 0));
-    let parts = Parts {
-        desk,
-        seats,
-        applied: Vec::new(alloc),
-    };
-    report_of(rt, parts)
+    let (first, second, third) = three_seats(rt, &desk);
+    assert!(rt; is_spent(rt, &desk));
+    let parts = with_seat(rt, alone(alloc, desk), first);
+    let parts = with_seat(rt, parts, second);
+    report_of(rt, with_seat(rt, parts, third))
 }
 
 /// Twenty spends of one right from two threads, with ten rights held: ten are spent, and ten wait.
@@ -108,40 +109,42 @@ fn take_the_clock_seat<D: DeskNames, R: Wait + Abort>(rt: &R, desk: &SharedDesk<
     assert!(rt; desk.clock_seat(rt).is_err());
 }
 
-fn take_the_clock_seat_last<D: DeskNames, R: Wait + Abort>(rt: &R, desk: Desk, blanks: Blanks)
-    requires id { D.id ≡ id_of desk blanks }
-    requires blanks { AreBlank blanks }
-    requires unused { IsUnused desk }
-{
-    let desk = SharedDesk::<D>::new(desk, blanks);
-    take_all_seats(rt, &desk);
-    take_the_clock_seat(rt, &desk);
-    assert!(rt; desk.seat(rt).is_err());
+// Whether each seat was given out, the clock's too.
+fn has_no_seat<D: DeskNames, R: Wait>(rt: &R, desk: &SharedDesk<D>) -> bool {
+    desk.seat(rt).is_err() && desk.clock_seat(rt).is_err()
+}
+
+/// All seats are taken, the clock's before or after the others.
+#[derive(Clone, Copy)]
+struct AllSeats {
+    clock_first: bool,
+}
+
+impl Scene for AllSeats {
+    type Seen = ();
+
+    fn play<D: DeskNames, R: Host>(self, rt: &R, desk: SharedDesk<D>) {
+        if self.clock_first {
+            take_the_clock_seat(rt, &desk);
+        }
+        take_all_seats(rt, &desk);
+        if !self.clock_first {
+            take_the_clock_seat(rt, &desk);
+        }
+        assert!(rt; has_no_seat(rt, &desk));
+    }
 }
 
 /// Sixty-four seats are given out, and no more, besides the clock's.
 #[test]
 fn sixty_four_seats(rt: HostRuntime) {
-    let desk = desk_among(&rt, rt.alloc(), 2);
-    take_the_clock_seat_last::<Brand, HostRuntime>(&rt, desk, Blanks::new());
-}
-
-fn take_the_clock_seat_first<D: DeskNames, R: Wait + Abort>(rt: &R, desk: Desk, blanks: Blanks)
-    requires id { D.id ≡ id_of desk blanks }
-    requires blanks { AreBlank blanks }
-    requires unused { IsUnused desk }
-{
-    let desk = SharedDesk::<D>::new(desk, blanks);
-    take_the_clock_seat(rt, &desk);
-    take_all_seats(rt, &desk);
-    assert!(rt; desk.clock_seat(rt).is_err());
+    play(&rt, 2, AllSeats { clock_first: false });
 }
 
 /// The clock's seat is not one of the sixty-four others.
 #[test]
 fn sixty_four_seats_after_the_clock(rt: HostRuntime) {
-    let desk = desk_among(&rt, rt.alloc(), 2);
-    take_the_clock_seat_first::<Brand, HostRuntime>(&rt, desk, Blanks::new());
+    play(&rt, 2, AllSeats { clock_first: true });
 }
 
 // A seat whose spend of three waits while it issues ten.
@@ -161,42 +164,25 @@ fn a_serving_clock<D: DeskNames, R: Wait + Abort>(rt: &R, desk: &SharedDesk<D>) 
     clock
 }
 
-fn a_missing_clock_seat<D: DeskNames, R: Wait + Abort>(
-    rt: &R,
-    alloc: Global,
-    desk: Desk,
-    blanks: Blanks,
-) -> Report
-    requires id { D.id ≡ id_of desk blanks }
-    requires blanks { AreBlank blanks }
-    requires unused { IsUnused desk }
-{
-    let desk = SharedDesk::<D>::new(desk, blanks);
-    let seat = a_waiting_spend(rt, &desk);
-    let clock = a_serving_clock(rt, &desk);
-    let parts = Parts {
-        desk,
-        seats: pushed(rt, Vec::new(alloc), seat),
-        applied: Vec::new(alloc),
-    };
-    let Parts {
-        desk,
-        seats,
-        applied,
-    } = without_a_seat(rt, parts);
-    let parts = Parts {
-        desk,
-        seats: pushed(rt, seats, clock),
-        applied,
-    };
-    report_of(rt, parts)
+/// A stop without the clock's seat, which served a spend, and one with it.
+#[derive(Clone, Copy)]
+struct MissingClock;
+
+impl Scene for MissingClock {
+    type Seen = Report;
+
+    fn play<D: DeskNames, R: Host>(self, rt: &R, desk: SharedDesk<D>) -> Report {
+        let seat = a_waiting_spend(rt, &desk);
+        let clock = a_serving_clock(rt, &desk);
+        let parts = without_a_seat(rt, with_seat(rt, alone(rt.alloc(), desk), seat));
+        report_of(rt, with_seat(rt, parts, clock))
+    }
 }
 
 /// A desk stops once the clock's seat is back too, and what that seat served counts.
 #[test]
 fn no_stop_without_the_clock_seat(rt: HostRuntime) {
-    let desk = desk_among(&rt, rt.alloc(), 2);
-    let report = a_missing_clock_seat::<Brand, HostRuntime>(&rt, rt.alloc(), desk, Blanks::new());
+    let report = play(&rt, 2, MissingClock);
     assert!(rt; report.issued == 10 && report.spent == 3 && report.held == 7);
     assert!(rt; report.told_issued == 10 && report.told_spent == 0 && report.told_served == 3);
 }

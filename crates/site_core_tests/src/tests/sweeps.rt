@@ -1,6 +1,6 @@
 //! Calls of desks over many sizes with ample memory. A call that gives up at one of them can be proved, since it may
 //! always run out of memory; it is found here.
-use crate::tests::calls::{Counted, beat_line, hear, new_desk, post, publish, status};
+use crate::tests::calls::{Counted, Reply, beat_line, hear, new_desk, post, publish, status};
 use crate::tests::sites::Sites;
 use refusing_allocator::Refusing;
 use request_queue::SLOTS;
@@ -10,13 +10,14 @@ use std::process::Abort;
 use std::test::Fail;
 use test_kit::{issue, site};
 
-// Passes the command to the sites, which must have this reply.
+// Passes the command of a line to the sites, which must have the reply behind ` > `.
 fn says(
     rt: &(impl Abort + AllocGlobal),
     sites: &mut Sites,
-    command: &str,
-    expected: &str,
+    line: Result<String, AllocError>,
 ) -> Result<(), AllocError> {
+    let line = line?;
+    let (command, expected) = line.split_once(" > ").unwrap_or((line.as_str(), ""));
     let reply = sites.say(rt, command)?;
     assert!(rt; reply.as_str() == expected, "{command}: {reply}");
     Ok(())
@@ -32,32 +33,42 @@ const GREATEST_GIFTS: &str =
 R:16:1000000000 R:16:1000000000 R:16:1000000000 R:16:1000000000 R:16:1000000000 R:16:1000000000 \
 R:16:1000000000 R:16:1000000000 R:16:1000000000 R:16:1000000000 R:16:1000000000";
 
+// Site 15 publishes both to that site.
+fn publish_both(
+    rt: &(impl Abort + AllocGlobal),
+    sites: &mut Sites,
+    peer: u64,
+) -> Result<(), AllocError> {
+    let alloc = rt.alloc();
+    let issues = format!(in alloc; "publish 15 {peer} > E 15 0 16{GREATEST_ISSUES}");
+    says(rt, sites, issues)?;
+    let gifts = format!(in alloc; "publish 15 {peer} > E 15 16 32{GREATEST_GIFTS}");
+    says(rt, sites, gifts)?;
+    says(rt, sites, format!(in alloc; "publish 15 {peer} > nothing"))
+}
+
 // Site 15 posts 16 greatest issues and 16 greatest gifts, and publishes them to each other site.
 fn publish_greatest(rt: &(impl Abort + AllocGlobal), sites: &mut Sites) -> Result<(), AllocError> {
-    let issues = format!(in rt.alloc(); "E 15 0 16{GREATEST_ISSUES}")?;
-    let gifts = format!(in rt.alloc(); "E 15 16 32{GREATEST_GIFTS}")?;
+    let alloc = rt.alloc();
     says(
         rt,
         sites,
-        &format!(in rt.alloc(); "post 15{GREATEST_ISSUES}")?,
-        "number 16",
+        format!(in alloc; "post 15{GREATEST_ISSUES} > number 16"),
     )?;
     says(
         rt,
         sites,
-        &format!(in rt.alloc(); "post 15{GREATEST_GIFTS}")?,
-        "number 32",
+        format!(in alloc; "post 15{GREATEST_GIFTS} > number 32"),
     )?;
     for peer in 1..=16u64 {
         if peer != 15 {
-            let command = format!(in rt.alloc(); "publish 15 {peer}")?;
-            says(rt, sites, &command, &issues)?;
-            says(rt, sites, &command, &gifts)?;
-            says(rt, sites, &command, "nothing")?;
+            publish_both(rt, sites, peer)?;
         }
     }
-    let answer = format!(in rt.alloc(); "A 15 14;{issues};{gifts}")?;
-    says(rt, sites, "hear 15 Q 14 15 1 32", &answer)
+    let answer = format!(in alloc;
+        "hear 15 Q 14 15 1 32 > A 15 14;E 15 0 16{GREATEST_ISSUES};E 15 16 32{GREATEST_GIFTS}"
+    );
+    says(rt, sites, answer)
 }
 
 /// The longest entries that a desk posts: 16 gifts of the greatest amount.
@@ -101,6 +112,15 @@ fn publishes(
     }
 }
 
+// Whether the desk publishes its greatest issue and its closing entry to that site, and nothing after them.
+fn publishes_all(alloc: Global, desk: &mut Counted, peer: u64) -> Result<bool, AllocError> {
+    Ok(
+        publishes(alloc, desk, peer, "E 1 0 1 I:1000000000")?
+            && publishes(alloc, desk, peer, LONG_CLOSE)?
+            && publishes(alloc, desk, peer, "nothing")?,
+    )
+}
+
 /// A closing entry of 16 numbers, with the greatest gift to an heir, is published to each site.
 #[test]
 fn the_longest_closing_entry_is_published(rt: HostRuntime) -> Result<(), Fail> {
@@ -110,59 +130,92 @@ fn the_longest_closing_entry_is_published(rt: HostRuntime) -> Result<(), Fail> {
     assert!(rt; desk.issue(1_000_000_000) == Ok(1));
     assert!(rt; desk.close(Some(site(16))) == Ok(3));
     for peer in 2..=16u64 {
-        assert!(rt; publishes(rt.alloc(), &mut desk, peer, "E 1 0 1 I:1000000000")?);
-        assert!(rt; publishes(rt.alloc(), &mut desk, peer, LONG_CLOSE)?);
-        assert!(rt; publishes(rt.alloc(), &mut desk, peer, "nothing")?);
+        assert!(rt; publishes_all(rt.alloc(), &mut desk, peer)?);
     }
     Ok(())
 }
 
-// Each site of a system issues 5, and reports it to each other site in every way.
+// A site that issued 5 reports it to another one in every way.
+fn publish_round(
+    rt: &(impl Abort + AllocGlobal),
+    sites: &mut Sites,
+    me: u64,
+    peer: u64,
+) -> Result<(), AllocError> {
+    let alloc = rt.alloc();
+    says(
+        rt,
+        sites,
+        format!(in alloc; "publish {me} {peer} > E {me} 0 1 I:5"),
+    )?;
+    let answer = format!(in alloc; "hear {me} Q {peer} {me} 1 1 > A {me} {peer};E {me} 0 1 I:5");
+    says(rt, sites, answer)?;
+    says(rt, sites, format!(in alloc; "beat {me} {peer} > B {me} 1"))?;
+    says(
+        rt,
+        sites,
+        format!(in alloc; "hear {peer} E {me} 0 1 I:5 > taken 1"),
+    )
+}
+
+// Each site of a system issues 5, and reports it to each other site.
 fn publish_all_round(
     rt: &(impl Abort + AllocGlobal),
     sites: &mut Sites,
     count: u64,
 ) -> Result<(), AllocError> {
     for me in 1..=count {
-        says(
-            rt,
-            sites,
-            &format!(in rt.alloc(); "issue {me} 5")?,
-            "number 1",
-        )?;
+        says(rt, sites, format!(in rt.alloc(); "issue {me} 5 > number 1"))?;
         for peer in 1..=count {
             if me != peer {
-                let entry = format!(in rt.alloc(); "E {me} 0 1 I:5")?;
-                says(
-                    rt,
-                    sites,
-                    &format!(in rt.alloc(); "publish {me} {peer}")?,
-                    &entry,
-                )?;
-                let answer = format!(in rt.alloc(); "A {me} {peer};{entry}")?;
-                says(
-                    rt,
-                    sites,
-                    &format!(in rt.alloc(); "hear {me} Q {peer} {me} 1 1")?,
-                    &answer,
-                )?;
-                let beat = format!(in rt.alloc(); "B {me} 1")?;
-                says(
-                    rt,
-                    sites,
-                    &format!(in rt.alloc(); "beat {me} {peer}")?,
-                    &beat,
-                )?;
-                says(
-                    rt,
-                    sites,
-                    &format!(in rt.alloc(); "hear {peer} {entry}")?,
-                    "taken 1",
-                )?;
+                publish_round(rt, sites, me, peer)?;
             }
         }
     }
     Ok(())
+}
+
+// Each site waits for all rights of all others.
+fn wait_for_all(
+    rt: &(impl Abort + AllocGlobal),
+    sites: &mut Sites,
+    count: u64,
+) -> Result<(), AllocError> {
+    let alloc = rt.alloc();
+    let all = count.saturating_mul(5);
+    let asks = count.saturating_sub(1);
+    for me in 1..=count {
+        says(
+            rt,
+            sites,
+            format!(in alloc; "spend {me} {all} 9 > queued 1"),
+        )?;
+        says(rt, sites, format!(in alloc; "plan {me} > asks {asks}"))?;
+    }
+    Ok(())
+}
+
+// A site asks another one, which has no rights to spare.
+fn ask_in_vain(
+    rt: &(impl Abort + AllocGlobal),
+    sites: &mut Sites,
+    me: u64,
+    peer: u64,
+) -> Result<(), AllocError> {
+    let alloc = rt.alloc();
+    says(
+        rt,
+        sites,
+        format!(in alloc; "ask {me} {peer} > W {me} {peer} 1 5"),
+    )?;
+    let denied = format!(in alloc; "hear {peer} W {me} {peer} 1 5 > denied D {peer} {me} 1");
+    says(rt, sites, denied)?;
+    says(
+        rt,
+        sites,
+        format!(in alloc; "hear {me} D {peer} {me} 1 > noted"),
+    )?;
+    says(rt, sites, format!(in alloc; "ask {me} {peer} > nothing"))
 }
 
 // Each site waits for all rights of all others, and asks for them. No site has any to spare.
@@ -171,43 +224,11 @@ fn ask_all_round(
     sites: &mut Sites,
     count: u64,
 ) -> Result<(), AllocError> {
-    for me in 1..=count {
-        let all = count.saturating_mul(5);
-        says(
-            rt,
-            sites,
-            &format!(in rt.alloc(); "spend {me} {all} 9")?,
-            "queued 1",
-        )?;
-        let asks = count.saturating_sub(1);
-        let asks = format!(in rt.alloc(); "asks {asks}")?;
-        says(rt, sites, &format!(in rt.alloc(); "plan {me}")?, &asks)?;
-    }
+    wait_for_all(rt, sites, count)?;
     for me in 1..=count {
         for peer in 1..=count {
             if me != peer {
-                let ask = format!(in rt.alloc(); "W {me} {peer} 1 5")?;
-                says(rt, sites, &format!(in rt.alloc(); "ask {me} {peer}")?, &ask)?;
-                let denial = format!(in rt.alloc(); "D {peer} {me} 1")?;
-                let denied = format!(in rt.alloc(); "denied {denial}")?;
-                says(
-                    rt,
-                    sites,
-                    &format!(in rt.alloc(); "hear {peer} {ask}")?,
-                    &denied,
-                )?;
-                says(
-                    rt,
-                    sites,
-                    &format!(in rt.alloc(); "hear {me} {denial}")?,
-                    "noted",
-                )?;
-                says(
-                    rt,
-                    sites,
-                    &format!(in rt.alloc(); "ask {me} {peer}")?,
-                    "nothing",
-                )?;
+                ask_in_vain(rt, sites, me, peer)?;
             }
         }
     }
@@ -232,37 +253,25 @@ fn serves_a_request(
     sites: &mut Sites,
     ticket: u64,
 ) -> Result<(), AllocError> {
+    let alloc = rt.alloc();
     let issued = ticket.saturating_mul(2).saturating_sub(1);
     let spent = ticket.saturating_mul(2);
     says(
         rt,
         sites,
-        "spend 1 3 9",
-        &format!(in rt.alloc(); "queued {ticket}")?,
+        format!(in alloc; "spend 1 3 9 > queued {ticket}"),
+    )?;
+    says(rt, sites, format!(in alloc; "status 1 {ticket} > waiting"))?;
+    says(rt, sites, format!(in alloc; "issue 1 3 > number {issued}"))?;
+    says(
+        rt,
+        sites,
+        format!(in alloc; "serve 1 > served {ticket} {spent}"),
     )?;
     says(
         rt,
         sites,
-        &format!(in rt.alloc(); "status 1 {ticket}")?,
-        "waiting",
-    )?;
-    says(
-        rt,
-        sites,
-        "issue 1 3",
-        &format!(in rt.alloc(); "number {issued}")?,
-    )?;
-    says(
-        rt,
-        sites,
-        "serve 1",
-        &format!(in rt.alloc(); "served {ticket} {spent}")?,
-    )?;
-    says(
-        rt,
-        sites,
-        &format!(in rt.alloc(); "status 1 {ticket}")?,
-        &format!(in rt.alloc(); "spent {spent}")?,
+        format!(in alloc; "status 1 {ticket} > spent {spent}"),
     )
 }
 
@@ -283,21 +292,36 @@ fn spends_behind(
     sites: &mut Sites,
     unread: u64,
 ) -> Result<(), AllocError> {
+    let alloc = rt.alloc();
     let spent = unread.saturating_add(2);
     let ticket = unread.saturating_add(1);
+    says(rt, sites, format!(in alloc; "spend 1 1 0 > spent {spent}"))?;
     says(
         rt,
         sites,
-        "spend 1 1 0",
-        &format!(in rt.alloc(); "spent {spent}")?,
+        format!(in alloc; "spend 1 99 0 > queued {ticket}"),
     )?;
+    says(rt, sites, String::from_str(alloc, "expire 1 1 > expired 1"))
+}
+
+// With all slots taken by unread outcomes, a spend waits once one of them is read.
+fn spends_without_a_slot(
+    rt: &(impl Abort + AllocGlobal),
+    sites: &mut Sites,
+) -> Result<(), AllocError> {
+    let alloc = rt.alloc();
+    says(rt, sites, String::from_str(alloc, "spend 1 1 0 > spent 34"))?;
     says(
         rt,
         sites,
-        "spend 1 99 0",
-        &format!(in rt.alloc(); "queued {ticket}")?,
+        String::from_str(alloc, "spend 1 99 0 > error QueueFull"),
     )?;
-    says(rt, sites, "expire 1 1", "expired 1")
+    says(rt, sites, String::from_str(alloc, "status 1 20 > expired"))?;
+    says(
+        rt,
+        sites,
+        String::from_str(alloc, "spend 1 99 0 > queued 33"),
+    )
 }
 
 /// Unread outcomes take slots from spends that wait, but not from spends that are served at once.
@@ -305,15 +329,38 @@ fn spends_behind(
 fn spends_behind_unread_outcomes(rt: HostRuntime) -> Result<(), Fail> {
     let memory = Refusing::new(rt.alloc(), u64::MAX);
     let mut sites = Sites::new(&rt, &memory, 2)?;
-    says(&rt, &mut sites, "issue 1 50", "number 1")?;
+    says(
+        &rt,
+        &mut sites,
+        String::from_str(rt.alloc(), "issue 1 50 > number 1"),
+    )?;
     for unread in 0..SLOTS as u64 {
         spends_behind(&rt, &mut sites, unread)?;
     }
-    says(&rt, &mut sites, "spend 1 1 0", "spent 34")?;
-    says(&rt, &mut sites, "spend 1 99 0", "error QueueFull")?;
-    says(&rt, &mut sites, "status 1 20", "expired")?;
-    says(&rt, &mut sites, "spend 1 99 0", "queued 33")?;
+    spends_without_a_slot(&rt, &mut sites)?;
     Ok(())
+}
+
+// Whether it is this reply.
+fn is_reply(reply: Reply, wanted: Result<String, AllocError>) -> Result<bool, AllocError> {
+    Ok(reply? == wanted?)
+}
+
+// Whether the desk's log accepts these moves between these numbers, and answers with them.
+fn goes_on_by(
+    rt: &(impl Abort + AllocGlobal),
+    desk: &mut Counted,
+    prev: u64,
+    own: u64,
+    words: &str,
+) -> Result<bool, AllocError> {
+    let alloc = rt.alloc();
+    if !is_reply(post(alloc, desk, words), format!(in alloc; "number {own}"))? {
+        return Ok(false);
+    }
+    let query = format!(in alloc; "Q 2 1 {own} {own}")?;
+    let answer = format!(in alloc; "A 1 2;E 1 {prev} {own}{words}");
+    is_reply(hear(rt, alloc, desk, &query), answer)
 }
 
 // Whether the desk's log ends at that number, says so in beats, and accepts entries of 1 to 16 moves after it, with
@@ -323,19 +370,18 @@ fn goes_on_at(
     desk: &mut Counted,
     end: u64,
 ) -> Result<bool, AllocError> {
-    let beat = format!(in rt.alloc(); "B 1 {end}")?;
-    let mut right = desk.number() == end && beat_line(rt.alloc(), desk, site(2))? == beat;
-    let mut words = String::new(rt.alloc());
+    let alloc = rt.alloc();
+    let beat = is_reply(
+        beat_line(alloc, desk, site(2)),
+        format!(in alloc; "B 1 {end}"),
+    )?;
+    let mut right = desk.number() == end && beat;
+    let mut words = String::new(alloc);
     let mut prev = end;
     for count in 1..=16u64 {
         words.push_str(" S:1")?;
         let own = prev.saturating_add(count);
-        let number = format!(in rt.alloc(); "number {own}")?;
-        let query = format!(in rt.alloc(); "Q 2 1 {own} {own}")?;
-        let answer = format!(in rt.alloc(); "A 1 2;E 1 {prev} {own}{words}")?;
-        right = right
-            && post(rt.alloc(), desk, &words)? == number
-            && hear(rt, rt.alloc(), desk, &query)? == answer;
+        right = right && goes_on_by(rt, desk, prev, own, &words)?;
         prev = own;
     }
     Ok(right)
