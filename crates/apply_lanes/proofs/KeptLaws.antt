@@ -6,7 +6,7 @@ use Rattle.std.proofs.lemmas.List.Sums.{sum_by-set, count_by-le-length}
 use Rattle.rights_types.specs.Entries.{EntryValue, own, IsEntry}
 use Rattle.rights_types.specs.Rights.{issued, spent, to, sum_sites}
 use Rattle.rights_types.specs.Messages.{AskValue, MessageValue}
-use Rattle.rights_protocol.specs.Kept.{SiteKept}
+use Rattle.rights_protocol.specs.Invariant.{SiteInvariant}
 use Rattle.rights_types.specs.declared.moves.Move.{Move}
 use Rattle.rights_types.specs.declared.moves.Move.TheVariants.{Issue, Spend, Grant, Give, CloseAt, TakeBack}
 use Rattle.rights_types.specs.declared.limits.TheConstants.{MAX_NUMBER}
@@ -193,7 +193,7 @@ same_entries : (id : DeskId) (k : KeptValue) (log : LogValue) → IsKept id k �
     → IsKept id (record k { desk = record k.desk { ledger = record k.desk.ledger { log = log } } })
 same_entries id k log is site entries =
     let h : HasApplied is.protocol.0 k.desk.ledger = is.protocol.1 in
-    let kept = subst (λ (x : ℕ × List EntryValue). SiteKept (sites k.desk.ledger.book) x.0 x.1 is.protocol.0) (λ i. (sym site i, sym entries i)) h.kept in
+    let kept = subst (λ (x : ℕ × List EntryValue). SiteInvariant (sites k.desk.ledger.book) x.0 x.1 is.protocol.0) (λ i. (sym site i, sym entries i)) h.kept in
     kept_by id k (record k.desk { ledger = record k.desk.ledger { log = log } }) k.issued k.spent k.number k.received is site refl refl is.matches_book
     (all_same k.issued) (all_same k.spent) (all_same k.number) (all_same k.received) (is.protocol.0, record { in_book = h.in_book; kept = kept })
 

@@ -8,7 +8,7 @@ use Rattle.rights_types.specs.declared.moves.Move.TheVariants.{Spend, Grant}
 use Rattle.rights_protocol.specs.Schedules.{SiteLists, LocalChange, LocalStep}
 use Rattle.rights_protocol.specs.Schedules.LocalChange.{Write, Apply, Retire, Other}
 use Rattle.rights_protocol.specs.Retiring.{entry_at_end}
-use Rattle.rights_protocol.specs.Kept.{SiteKept}
+use Rattle.rights_protocol.specs.Invariant.{SiteInvariant}
 use Rattle.origin_log.specs.Logs.{LogValue}
 use Rattle.rights_book.specs.Books.{peer, sites}
 use Rattle.transfer_manager.specs.declared.answer.AskAnswer.{AskAnswer}
@@ -150,9 +150,9 @@ steps_serve id k new ticket number amount is w keeps = steps_write id k new (Spe
 -- ---- what the lock's value preserves
 
 abbrev pub HasProtocol : DeskId → KeptValue → Type 0
-HasProtocol id k = (applied : ℕ → List EntryValue) × HasApplied applied k.desk.ledger × SiteKept id.sites id.site k.desk.ledger.log.entries applied
+HasProtocol id k = (applied : ℕ → List EntryValue) × HasApplied applied k.desk.ledger × SiteInvariant id.sites id.site k.desk.ledger.log.entries applied
 
 pub protocol_of : (id : DeskId) (k : KeptValue) → IsKept id k → HasProtocol id k
 protocol_of id k is =
     let p = is.protocol in
-    (p.0, p.1, subst (λ (x : ℕ × ℕ). SiteKept x.0 x.1 k.desk.ledger.log.entries p.0) (λ i. (is.same_sites i, is.site i)) p.1.kept)
+    (p.0, p.1, subst (λ (x : ℕ × ℕ). SiteInvariant x.0 x.1 k.desk.ledger.log.entries p.0) (λ i. (is.same_sites i, is.site i)) p.1.kept)

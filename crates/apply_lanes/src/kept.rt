@@ -10,7 +10,7 @@ ghost use Rattle.site_core.specs.Ledgers.{ApplyKeeps};
 ghost use Rattle.site_core.specs.Faults.{has_closed};
 ghost use Rattle.site_core.specs.Calls.{DeskApplies};
 ghost use Rattle.site_core.specs.Ledgers.{HasApplied};
-ghost use Rattle.rights_protocol.specs.Kept.{SiteKept};
+ghost use Rattle.rights_protocol.specs.Invariant.{SiteInvariant};
 ghost use Rattle.rights_protocol.specs.Schedules.LocalChange.{Apply as Applies};
 ghost use Rattle.apply_lanes.specs.Steps.{StepsBy};
 ghost use Rattle.apply_lanes.specs.Names.{id_of, AreBlank, IsUnused};
@@ -124,7 +124,7 @@ impl<D: DeskNames, A: Allocator + Copy> Kept<D, A> {
         ensures valid { IsKept D.id self.now }
         ensures few { length self.now.desk.queue.waiting ≤ SLOTS }
         ensures protocol { (applied : ℕ → List EntryValue) × HasApplied applied self.now.desk.ledger
-            × SiteKept D.id.sites D.id.site self.now.desk.ledger.log.entries applied }
+            × SiteInvariant D.id.sites D.id.site self.now.desk.ledger.log.entries applied }
     {
         let desk = &self.desk;
         // For the proof: what the desk's readers say of its log and queue.

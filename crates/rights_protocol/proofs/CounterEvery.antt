@@ -10,7 +10,7 @@ use Rattle.rights_protocol.specs.Lists.{Lists, IsSiteOf}
 use Rattle.rights_protocol.specs.Writing.{closing_moves}
 use Rattle.rights_protocol.specs.Changes.{Change, Step, Runs, Start}
 use Rattle.rights_protocol.specs.Changes.Change.{Append, Offer, Take, CloseSite, Nothing}
-use Rattle.rights_protocol.specs.Kept.{Kept}
+use Rattle.rights_protocol.specs.Invariant.{Invariant}
 use Rattle.rights_protocol.specs.BoundedCounter.{Counter, SameCounter, Operate, Operation, CounterRun, EmptyCounter}
 use Rattle.rights_protocol.specs.CounterOfLists.{counter_of, state_of}
 use Rattle.rights_protocol.proofs.Steps.{start_kept, step_keeps}
@@ -42,7 +42,7 @@ moves_run n s (m ∷ ms) old new site run = (site, (run.0, run.1, moves_run n s 
 abbrev RunsTo : Lists → Lists → Type 0
 RunsTo old new = (ops : List Operation) × CounterRun old.count ops (state_of old) (state_of new)
 
-step_runs : (old : Lists) (change : Change) (new : Lists) → Kept old → Step old change new → RunsTo old new
+step_runs : (old : Lists) (change : Change) (new : Lists) → Invariant old → Step old change new → RunsTo old new
 step_runs old (Append s ms) new kept step =
     (map (by_site s) ms, moves_run old.count s ms (state_of old) (state_of new) step.site (step_operates old (Append s ms) new kept step).state)
 step_runs old (Offer s o e) new kept step = ([], step_operates old (Offer s o e) new kept step)
@@ -65,7 +65,7 @@ step_count old (Take s o) new step = step.others.count
 step_count old (CloseSite s heir) new step = step.others.count
 step_count old Nothing new step = step.count
 
-runs_to : (old : Lists) (changes : List Change) (new : Lists) → Kept old → Runs old changes new → RunsTo old new
+runs_to : (old : Lists) (changes : List Change) (new : Lists) → Invariant old → Runs old changes new → RunsTo old new
 runs_to old [] new kept run = ([], same_counter (λ k. moves_of (old.log k)) (λ k. moves_of (new.log k)) (λ k. ap moves_of (run.sites k).log))
 runs_to old (change ∷ changes) new kept run =
     let mid : Lists = run.0 in

@@ -17,7 +17,7 @@ use Rattle.rights_protocol.specs.Retiring.{own_frontier, numbers_in, owed, entry
 use Rattle.rights_protocol.specs.Writing.{is_plain, MayClose, closing_moves}
 use Rattle.rights_protocol.specs.Changes.{Change, LinkStays, OthersStay, Appends, Offers, Takes, Closes, Step}
 use Rattle.rights_protocol.specs.Changes.Change.{Append, Offer, Take, CloseSite, Nothing}
-use Rattle.rights_protocol.specs.Kept.{Kept}
+use Rattle.rights_protocol.specs.Invariant.{Invariant}
 use Rattle.rights_protocol.specs.BoundedCounter.{SameCounter, TakesBack, Operate}
 use Rattle.rights_protocol.specs.CounterOfLists.{state_of, seen, state_at}
 use Rattle.rights_protocol.specs.CounterLaws.{OperatesBoth, ByOperations}
@@ -29,21 +29,21 @@ use Rattle.rights_protocol.proofs.CounterMoves.{Room, Fit, is_own, take_back_is,
 
 -- ---- the rights that a site counts on
 
-state_room : (w : Lists) (s : ℕ) → Kept w → IsSiteOf w.count s → Room w.count (state_of w) s (held_at w s)
+state_room : (w : Lists) (s : ℕ) → Invariant w → IsSiteOf w.count s → Room w.count (state_of w) s (held_at w s)
 state_room w s kept among = omega (arith, held_parts w s (λ o. moves_of (w.log o)) kept among refl, incoming_is w s kept among)
 
-view_room : (w : Lists) (s : ℕ) → Kept w → IsSiteOf w.count s → Room w.count (state_at w s) s (held_at w s)
+view_room : (w : Lists) (s : ℕ) → Invariant w → IsSiteOf w.count s → Room w.count (state_at w s) s (held_at w s)
 view_room w s kept among = omega (arith, held_parts w s (λ o. moves_of (seen w s o)) kept among (seen_own w s), seen_incoming w s kept among)
 
 -- ---- an entry of these moves
 
-writes_state : (old new : Lists) (s : ℕ) (ms : List Move) → Kept old → IsSiteOf old.count s → Fit old.count s (held_at old s) ms → new.log s ≡ old.log s ++ entry_at_end s (old.log s) ms ∷ []
+writes_state : (old new : Lists) (s : ℕ) (ms : List Move) → Invariant old → IsSiteOf old.count s → Fit old.count s (held_at old s) ms → new.log s ≡ old.log s ++ entry_at_end s (old.log s) ms ∷ []
     → OthersStay old new s → Operate old.count s ms (state_of old) (state_of new)
 writes_state old new s ms kept among fit grown others =
     operates old.count s (held_at old s) ms (λ o. moves_of (old.log o)) (λ o. moves_of (new.log o)) fit (state_room old s kept among) (λ c. taken_given old s c kept among)
     (ap moves_of grown ∙ moves_of-push (old.log s) (entry_at_end s (old.log s) ms)) (λ k ne. ap moves_of (others.sites k ne).log)
 
-writes_view : (old new : Lists) (s : ℕ) (ms : List Move) → Kept old → IsSiteOf old.count s → Fit old.count s (held_at old s) ms → new.log s ≡ old.log s ++ entry_at_end s (old.log s) ms ∷ []
+writes_view : (old new : Lists) (s : ℕ) (ms : List Move) → Invariant old → IsSiteOf old.count s → Fit old.count s (held_at old s) ms → new.log s ≡ old.log s ++ entry_at_end s (old.log s) ms ∷ []
     → ((o : ℕ) → LinkStays old new s o) → Operate old.count s ms (state_at old s) (state_at new s)
 writes_view old new s ms kept among fit grown links =
     let own : moves_of (seen old s s) ≡ moves_of (old.log s) = seen_own old s in
@@ -52,7 +52,7 @@ writes_view old new s ms kept among fit grown links =
     (seen_own new s ∙ ap moves_of grown ∙ moves_of-push (old.log s) (entry_at_end s (old.log s) ms) ∙ ap (λ (xs : List Move). xs ++ ms) (sym own))
     (λ k ne. seen_other new s k ne ∙ ap moves_of (links k).applied ∙ sym (seen_other old s k ne))
 
-writes_both : (old new : Lists) (s : ℕ) (ms : List Move) → Kept old → IsSiteOf old.count s → Fit old.count s (held_at old s) ms → new.log s ≡ old.log s ++ entry_at_end s (old.log s) ms ∷ []
+writes_both : (old new : Lists) (s : ℕ) (ms : List Move) → Invariant old → IsSiteOf old.count s → Fit old.count s (held_at old s) ms → new.log s ≡ old.log s ++ entry_at_end s (old.log s) ms ∷ []
     → ((o : ℕ) → LinkStays old new s o) → OthersStay old new s → OperatesBoth s ms old new
 writes_both old new s ms kept among fit grown links others = record {
   state = writes_state old new s ms kept among fit grown others;
@@ -70,7 +70,7 @@ plain_own Close h = refl
 plain_own (CloseAt f) h = refl
 plain_own (TakeBack j a) h = absurd cc
 
-appends_both : (old new : Lists) (s : ℕ) (ms : List Move) → Kept old → Appends old new s ms → OperatesBoth s ms old new
+appends_both : (old new : Lists) (s : ℕ) (ms : List Move) → Invariant old → Appends old new s ms → OperatesBoth s ms old new
 appends_both old new s ms kept step =
     let own : All (λ m. is_own m ≡ true) ms = All-weaker (λ m. is_plain m ≡ true) (λ m. is_own m ≡ true) plain_own ms step.may.plain in
     writes_both old new s ms kept step.site (record { covered = step.may.holds; within = step.may.within; others = step.may.others; own = own }) step.log step.links step.others
@@ -106,7 +106,7 @@ closing_fits n s log applied (Some heir) may =
       | inr ne ↦ let some : eqb r 0 ≡ false = ne_eqb r 0 ne in rw some (heir_fits n s heir r f may.inherits.site may.inherits.differ)
     ]
 
-closes_both : (old new : Lists) (s : ℕ) (heir : Option ℕ) → Kept old → Closes old new s heir → OperatesBoth s (closing_moves old.count s (old.log s) (old.applied s) heir) old new
+closes_both : (old new : Lists) (s : ℕ) (heir : Option ℕ) → Invariant old → Closes old new s heir → OperatesBoth s (closing_moves old.count s (old.log s) (old.applied s) heir) old new
 closes_both old new s heir kept step =
     writes_both old new s (closing_moves old.count s (old.log s) (old.applied s) heir) kept step.site (closing_fits old.count s (old.log s) (old.applied s) heir step.may)
     step.log step.links step.others
@@ -127,7 +127,7 @@ unfolding to
 to_none o n = refl
 
 -- what is reclaimed was in transit
-taken_from_way : (old new : Lists) (s o amount : ℕ) → Kept old → Kept new → (step : Takes old new s o) → moves_of (new.log s) ≡ moves_of (old.log s) ++ TakeBack o amount ∷ []
+taken_from_way : (old new : Lists) (s o amount : ℕ) → Invariant old → Invariant new → (step : Takes old new s o) → moves_of (new.log s) ≡ moves_of (old.log s) ++ TakeBack o amount ∷ []
     → (amount ≤ on_way old s o) × (back o (moves_of (old.log s)) + amount ≤ to o (moves_of (old.log s)))
 taken_from_way old new s o amount kept kept_now step grown =
     let site_now : IsSiteOf new.count s = subst (λ n. IsSiteOf n s) (sym step.others.count) step.site in
@@ -141,7 +141,7 @@ taken_from_way old new s o amount kept kept_now step grown =
     ap (λ es. to o (moves_of es)) ((step.others.sites o (λ e. step.differ (sym e))).links s).applied in
     (omega (arith, was, now, given, taken, applied), omega (arith, was, now, given, taken, applied))
 
-takes_it_back : (old new : Lists) (s o amount : ℕ) → Kept old → Kept new → (step : Takes old new s o) → new.log s ≡ old.log s ++ entry_at_end s (old.log s) (TakeBack o amount ∷ []) ∷ []
+takes_it_back : (old new : Lists) (s o amount : ℕ) → Invariant old → Invariant new → (step : Takes old new s o) → new.log s ≡ old.log s ++ entry_at_end s (old.log s) (TakeBack o amount ∷ []) ∷ []
     → TakesBack old.count s o amount (state_of old) (state_of new)
 takes_it_back old new s o amount kept kept_now step grown =
     let on : moves_of (new.log s) ≡ moves_of (old.log s) ++ TakeBack o amount ∷ [] =
@@ -150,7 +150,7 @@ takes_it_back old new s o amount kept kept_now step grown =
     take_back_is old.count s o amount (λ k. moves_of (old.log k)) (λ k. moves_of (new.log k)) (record { here = on; others = λ k ne. ap moves_of (step.others.sites k ne).log })
     step.from (λ e. step.differ (sym e)) p.1 (omega (arith, p.0, has_rights old o kept step.from, sum_term old.count s (λ k. on_way old k o) step.site.0 step.site.1))
 
-takes_state : (old new : Lists) (s o : ℕ) → Kept old → Kept new → (step : Takes old new s o)
+takes_state : (old new : Lists) (s o : ℕ) → Invariant old → Invariant new → (step : Takes old new s o)
     → SameCounter (state_of old) (state_of new) ⊎ ((amount : ℕ) × TakesBack old.count s o amount (state_of old) (state_of new))
 takes_state old new s o kept kept_now step =
     let amount : ℕ = owed s o (old.log s) (numbers_in step.entry.moves) in
@@ -167,7 +167,7 @@ offers_state old new s o e offer = elim offer.comes [
   | inr t ↦ logs_same old new (λ k. (t.all.sites k).log)
 ]
 
-pub step_operates : (old : Lists) (change : Change) (new : Lists) → Kept old → Step old change new → ByOperations old change new
+pub step_operates : (old : Lists) (change : Change) (new : Lists) → Invariant old → Step old change new → ByOperations old change new
 step_operates old (Append s ms) new kept step = appends_both old new s ms kept step
 step_operates old (Offer s o e) new kept step = offers_state old new s o e step
 step_operates old (Take s o) new kept step = takes_state old new s o kept (step_keeps old (Take s o) new kept step) step

@@ -10,7 +10,7 @@ use Rattle.rights_types.proofs.Chains.{chain_left, chain_right, prev_above, not_
 use Rattle.rights_protocol.specs.Lists.{Lists, IsSiteOf}
 use Rattle.rights_protocol.specs.Writing.{closing_moves}
 use Rattle.rights_protocol.specs.Retiring.{entry_at_end}
-use Rattle.rights_protocol.specs.Kept.{SiteKept, LinkKept, Kept}
+use Rattle.rights_protocol.specs.Invariant.{SiteInvariant, LinkInvariant, Invariant}
 use Rattle.rights_protocol.specs.Schedules.{SiteLists, IsFresh, together, LocalChange, LocalStep, LocalRun, IsCut, AllPromised}
 use Rattle.rights_protocol.specs.Schedules.LocalChange.{Write, Apply, Retire, Other}
 use Rattle.rights_protocol.proofs.Sites.{site_same, site_appends, site_takes, site_closes, site_starts}
@@ -48,7 +48,7 @@ front_longest o es front c p = record {
   no_longer = none_after o front p.0 (subst (IsChain o) (sym p.1) c);
 }
 
-link_of_front : (o : ℕ) (es front : List EntryValue) → IsChain o es → IsPrefix front es → LinkKept es front front front
+link_of_front : (o : ℕ) (es front : List EntryValue) → IsChain o es → IsPrefix front es → LinkInvariant es front front front
 link_of_front o es front c p = record {
   sent = subst (λ xs. All (Contains xs) front) p.1
       (All-weaker (Contains front) (Contains (front ++ p.0)) (λ x h. Contains-append_left front p.0 x h) front (All-contains_itself front));
@@ -69,7 +69,7 @@ is_site n s = elim (cases_lt s 1) [
   ]
 ]
 
-cut_site : (n s : ℕ) (sites : ℕ → SiteLists) → IsCut n sites → SiteKept n s (sites s).log (sites s).applied
+cut_site : (n s : ℕ) (sites : ℕ → SiteLists) → IsCut n sites → SiteInvariant n s (sites s).log (sites s).applied
 cut_site n s sites cut = elim (is_site n s) [
   | inl of ↦ cut.kept s of
   | inr out ↦ let none = cut.others s out in site_starts n s (sites s).log (sites s).applied none.log none.applied
@@ -81,7 +81,7 @@ cut_begins n s o sites cut = elim (is_site n s) [
   | inr out ↦ subst (λ es. IsPrefix es (sites o).log) (sym ((cut.others s out).applied o)) ((sites o).log, refl)
 ]
 
-cut_kept : (n : ℕ) (sites : ℕ → SiteLists) → IsCut n sites → Kept (together n sites)
+cut_kept : (n : ℕ) (sites : ℕ → SiteLists) → IsCut n sites → Invariant (together n sites)
 cut_kept n sites cut = record {
   some = cut.some;
   few = cut.few;
@@ -89,7 +89,7 @@ cut_kept n sites cut = record {
   links = λ s o. link_of_front o (sites o).log ((sites s).applied o) (cut_site n o sites cut).chain (cut_begins n s o sites cut);
 }
 
-pub all_promised : (w : Lists) → Kept w → AllPromised w
+pub all_promised : (w : Lists) → Invariant w → AllPromised w
 all_promised w kept = record {
   promised = kept_promises w kept;
   counts = kept_counts w kept;
@@ -102,12 +102,12 @@ any_cut n sites cut = all_promised (together n sites) (cut_kept n sites cut)
 -- ---- a step of one site
 
 pub local_keeps : (n s : ℕ) (old : SiteLists) (change : LocalChange) (new : SiteLists) → 2 ≤ n → n ≤ 16 → IsSiteOf n s
-    → SiteKept n s old.log old.applied → LocalStep n s old change new → SiteKept n s new.log new.applied
+    → SiteInvariant n s old.log old.applied → LocalStep n s old change new → SiteInvariant n s new.log new.applied
 local_keeps n s old (Write ms) new some few site k step =
     site_same n s (old.log ++ entry_at_end s old.log ms ∷ []) new.log old.applied new.applied
     (site_appends n s old.log old.applied ms some few site k step.may) step.log step.applied
 local_keeps n s old (Apply o e) new some few site k step =
-    subst (λ es. SiteKept n s es new.applied) (sym step.log)
+    subst (λ es. SiteInvariant n s es new.applied) (sym step.log)
     (site_takes n s o old.log old.applied new.applied e some few site step.from step.differ k step.unclosed step.next step.applied)
 local_keeps n s old (Retire heir) new some few site k step =
     site_same n s (old.log ++ entry_at_end s old.log (closing_moves n s old.log old.applied heir) ∷ []) new.log old.applied new.applied
@@ -115,12 +115,12 @@ local_keeps n s old (Retire heir) new some few site k step =
 local_keeps n s old Other new some few site k step = site_same n s old.log new.log old.applied new.applied k step.log step.applied
 
 run_keeps : (n s : ℕ) (old : SiteLists) (changes : List LocalChange) (new : SiteLists) → 2 ≤ n → n ≤ 16 → IsSiteOf n s
-    → SiteKept n s old.log old.applied → LocalRun n s old changes new → SiteKept n s new.log new.applied
+    → SiteInvariant n s old.log old.applied → LocalRun n s old changes new → SiteInvariant n s new.log new.applied
 run_keeps n s old [] new some few site k run = site_same n s old.log new.log old.applied new.applied k run.log run.applied
 run_keeps n s old (change ∷ changes) new some few site k run =
     run_keeps n s run.0 changes new some few site (local_keeps n s old change run.0 some few site k run.1) run.2
 
 pub local_run_kept : (n s : ℕ) (start : SiteLists) (changes : List LocalChange) (now : SiteLists) → 2 ≤ n → n ≤ 16 → IsSiteOf n s
-    → IsFresh start → LocalRun n s start changes now → SiteKept n s now.log now.applied
+    → IsFresh start → LocalRun n s start changes now → SiteInvariant n s now.log now.applied
 local_run_kept n s start changes now some few site fresh run =
     run_keeps n s start changes now some few site (site_starts n s start.log start.applied fresh.log fresh.applied) run

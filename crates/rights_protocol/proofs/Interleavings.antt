@@ -11,7 +11,7 @@ use Rattle.rights_types.proofs.Chains.{chain_left, chain_right, not_before, next
 use Rattle.rights_protocol.specs.Lists.{Lists, IsSiteOf}
 use Rattle.rights_protocol.specs.Changes.{Change, Stays, OthersStay, Offers, Takes, Step, Runs, Start}
 use Rattle.rights_protocol.specs.Changes.Change.{Append, Offer, Take, CloseSite, Nothing}
-use Rattle.rights_protocol.specs.Kept.{Kept}
+use Rattle.rights_protocol.specs.Invariant.{Invariant}
 use Rattle.rights_protocol.specs.Schedules.{SiteLists, SameLists, together, LocalChange, AppliesNext, LocalStep, AllPromised, Turn, IsSent, TakesTurn, Schedule, AllFresh, changes_by, changes_of, AtEachMoment, FollowsProtocol}
 use Rattle.rights_protocol.specs.Schedules.LocalChange.{Write, Apply, Retire, Other}
 use Rattle.rights_protocol.proofs.Steps.{stays_kept, step_keeps, start_kept}
@@ -22,13 +22,13 @@ use Rattle.rights_protocol.proofs.Cuts.{front_longest, all_promised}
 
 -- the invariant is preserved, and whatever follows from the new lists follows from the old ones
 record Lead (old : Lists) (changes : List Change) (new : Lists) : Type 0 where
-  pub kept : Kept new
+  pub kept : Invariant new
   pub runs : (rest : List Change) (last : Lists) → Runs new rest last → Runs old (changes ++ rest) last
 
-one_leads : (old : Lists) (change : Change) (new : Lists) → Kept old → Step old change new → Lead old (change ∷ []) new
+one_leads : (old : Lists) (change : Change) (new : Lists) → Invariant old → Step old change new → Lead old (change ∷ []) new
 one_leads old change new kept step = record { kept = step_keeps old change new kept step; runs = λ rest last run. (new, step, run) }
 
-two_lead : (old : Lists) (first : Change) (mid : Lists) (second : Change) (new : Lists) → Kept old → Step old first mid → Step mid second new → Lead old (first ∷ (second ∷ [])) new
+two_lead : (old : Lists) (first : Change) (mid : Lists) (second : Change) (new : Lists) → Invariant old → Step old first mid → Step mid second new → Lead old (first ∷ (second ∷ [])) new
 two_lead old first mid second new kept a b = record {
   kept = step_keeps mid second new (step_keeps old first mid kept a) b;
   runs = λ rest last run. (mid, a, (new, b, run));
@@ -84,7 +84,7 @@ record Applying (n s o : ℕ) (e : EntryValue) (old new : ℕ → SiteLists) : T
   pub sent : Contains (old o).log e
   pub others : (k : ℕ) → k ≢ s → SameLists (old k) (new k)
 
-offers : (n s o : ℕ) (e : EntryValue) (old new : ℕ → SiteLists) → Kept (together n old) → Applying n s o e old new → Offers (together n old) (between n old new) s o e
+offers : (n s o : ℕ) (e : EntryValue) (old new : ℕ → SiteLists) → Invariant (together n old) → Applying n s o e old new → Offers (together n old) (between n old new) s o e
 offers n s o e old new kept a =
     let front : List EntryValue = (old s).applied o in
     let next = chain_right o false 0 front (e ∷ []) a.step.next in
@@ -135,7 +135,7 @@ takes n s o e old new a =
 
 -- ---- a turn
 
-by_turn : (n s : ℕ) (change : LocalChange) (old new : ℕ → SiteLists) → Kept (together n old) → IsSiteOf n s → LocalStep n s (old s) change (new s) → IsSent old change
+by_turn : (n s : ℕ) (change : LocalChange) (old new : ℕ → SiteLists) → Invariant (together n old) → IsSiteOf n s → LocalStep n s (old s) change (new s) → IsSent old change
     → ((k : ℕ) → k ≢ s → SameLists (old k) (new k)) → Lead (together n old) (changes_by s change) (together n new)
 by_turn n s (Write ms) old new kept site step sent others = one_leads (together n old) (Append s ms) (together n new) kept (record {
   site = site;
@@ -162,7 +162,7 @@ by_turn n s Other old new kept site step sent others =
 
 -- ---- a schedule
 
-schedule_runs : (n : ℕ) (old : ℕ → SiteLists) (turns : List Turn) (now : ℕ → SiteLists) → Kept (together n old) → (schedule : Schedule n old turns now)
+schedule_runs : (n : ℕ) (old : ℕ → SiteLists) (turns : List Turn) (now : ℕ → SiteLists) → Invariant (together n old) → (schedule : Schedule n old turns now)
     → Runs (together n old) (changes_of turns) (together n now) × AtEachMoment AllPromised n old turns now schedule
 schedule_runs n old [] now kept schedule =
     let same : Stays (together n old) (together n now) = all_stay n old now schedule in

@@ -8,7 +8,7 @@ use Rattle.std.proofs.lemmas.Option.{get_or_from_slice_get, slice_get_within}
 use Rattle.rights_types.specs.Entries.{EntryValue}
 use Rattle.rights_types.specs.Chains.{end, closed_from, IsChain, IsPrefix, IsLongest, IsFull, HeadNotIn}
 use Rattle.rights_types.proofs.Chains.{all_in_more, chain_left, chain_right, not_before, prefix_next, next_entry}
-use Rattle.rights_protocol.specs.Kept.{LinkKept}
+use Rattle.rights_protocol.specs.Invariant.{LinkInvariant}
 
 -- ---- the log grows
 
@@ -34,8 +34,8 @@ longest_grows o es e set put (x ∷ xs) c a i w n = record {
   no_longer = n;
 }
 
-pub link_grows : (o : ℕ) (es : List EntryValue) (e : EntryValue) (reached put applied : List EntryValue) → IsChain o (es ++ e ∷ []) → LinkKept es reached put applied
-    → LinkKept (es ++ e ∷ []) reached put applied
+pub link_grows : (o : ℕ) (es : List EntryValue) (e : EntryValue) (reached put applied : List EntryValue) → IsChain o (es ++ e ∷ []) → LinkInvariant es reached put applied
+    → LinkInvariant (es ++ e ∷ []) reached put applied
 link_grows o es e reached put applied c k = record {
   sent = All-weaker (Contains es) (Contains (es ++ e ∷ [])) (λ x h. Contains-append_left es (e ∷ []) x h) reached k.sent;
   once = k.once;
@@ -88,8 +88,8 @@ next_put o es set p q e c sent next k l =
     omega (arith, prefix_length (p ++ e ∷ []) q (within_longest (set ++ e ∷ []) es (p ++ e ∷ []) first.0 q whole inside l), length-append p (e ∷ []))
 
 -- one more entry of the log reaches
-pub link_reaches : (o : ℕ) (es reached put now applied : List EntryValue) (e : EntryValue) → IsChain o es → LinkKept es reached put applied → Contains es e → ¬ Contains reached e
-    → ((e.prev ≡ end put) ⊎ (¬ IsFull reached put)) → IsLongest (reached ++ e ∷ []) es now → LinkKept es (reached ++ e ∷ []) now applied
+pub link_reaches : (o : ℕ) (es reached put now applied : List EntryValue) (e : EntryValue) → IsChain o es → LinkInvariant es reached put applied → Contains es e → ¬ Contains reached e
+    → ((e.prev ≡ end put) ⊎ (¬ IsFull reached put)) → IsLongest (reached ++ e ∷ []) es now → LinkInvariant es (reached ++ e ∷ []) now applied
 link_reaches o es reached put now applied e c k sent fresh room longest =
     let longer : IsPrefix put now = longest_more reached es put now e k.longest longest in
     record {
@@ -105,8 +105,8 @@ link_reaches o es reached put now applied e c k sent fresh room longest =
 
 -- ---- a take
 
-pub link_applies : (es reached put applied : List EntryValue) (e : EntryValue) → LinkKept es reached put applied → slice_get put (length applied) ≡ Some e
-    → LinkKept es reached put (applied ++ e ∷ [])
+pub link_applies : (es reached put applied : List EntryValue) (e : EntryValue) → LinkInvariant es reached put applied → slice_get put (length applied) ≡ Some e
+    → LinkInvariant es reached put (applied ++ e ∷ [])
 link_applies es reached put applied e k next = record {
   sent = k.sent;
   once = k.once;
@@ -116,5 +116,5 @@ link_applies es reached put applied e k next = record {
 }
 
 -- what was applied is a prefix of the log
-pub applied_begins : (es reached put applied : List EntryValue) → LinkKept es reached put applied → IsPrefix applied es
+pub applied_begins : (es reached put applied : List EntryValue) → LinkInvariant es reached put applied → IsPrefix applied es
 applied_begins es reached put applied k = prefix_of_prefix applied put es k.begins (k.longest.rest, k.longest.whole)

@@ -13,7 +13,7 @@ use Rattle.rights_types.proofs.SiteSums.{sum_same, sum_bound_but, sum_risen}
 use Rattle.rights_types.proofs.Sums.{moves_of-nil, moves_of-push, to-append, to-nil, log-to}
 use Rattle.rights_protocol.specs.Lists.{IsSiteOf}
 use Rattle.rights_protocol.specs.Retiring.{own_frontier}
-use Rattle.rights_protocol.specs.Kept.{known_closed}
+use Rattle.rights_protocol.specs.Invariant.{known_closed}
 
 -- ---- a frontier
 

@@ -9,7 +9,7 @@ use Rattle.rights_types.proofs.SiteSums.{sum_same, sum_add, sum_swap}
 use Rattle.rights_types.proofs.Sums.{moves_of-append, to-append, rights_after_is, out_is, taken_back_is, never_short}
 use Rattle.rights_protocol.specs.Lists.{Lists, IsSiteOf, held_at, on_way, received_at}
 use Rattle.rights_protocol.specs.Retiring.{frontier, beyond, given_beyond, owed, own_frontier, one_taking}
-use Rattle.rights_protocol.specs.Kept.{Kept}
+use Rattle.rights_protocol.specs.Invariant.{Invariant}
 use Rattle.rights_protocol.specs.Headline.{all_held, all_spent, all_issued, all_on_way, unapplied}
 use Rattle.rights_protocol.specs.Retirement.{AppliedClose, Promised}
 use Rattle.rights_protocol.proofs.Frontiers.{no_frontier, has_closed, closed_whole, beyond_rest}
@@ -19,10 +19,10 @@ use Rattle.rights_protocol.proofs.Writes.{held_is}
 use Rattle.rights_protocol.proofs.Links.{applied_begins}
 
 -- what was applied is a prefix of the log
-pub begins : (w : Lists) (s o : ℕ) → Kept w → IsPrefix (w.applied s o) (w.log o)
+pub begins : (w : Lists) (s o : ℕ) → Invariant w → IsPrefix (w.applied s o) (w.log o)
 begins w s o kept = applied_begins (w.log o) (w.reached s o) (w.put s o) (w.applied s o) (kept.links s o)
 
-pub held_sum : (w : Lists) (s : ℕ) → Kept w → held_at w s + (out (moves_of (w.log s)) + spent (moves_of (w.log s))) ≡ (issued (moves_of (w.log s)) + received_at w s) + taken_back (moves_of (w.log s))
+pub held_sum : (w : Lists) (s : ℕ) → Invariant w → held_at w s + (out (moves_of (w.log s)) + spent (moves_of (w.log s))) ≡ (issued (moves_of (w.log s)) + received_at w s) + taken_back (moves_of (w.log s))
 held_sum w s kept =
     let site = kept.sites s in
     omega (arith, held_is w.count s (w.log s) (w.applied s) site.within site.covered, rights_after_is (received_at w s) (moves_of (w.log s)) site.covered)
@@ -30,7 +30,7 @@ held_sum w s kept =
 -- ---- what is in transit
 
 -- the frontier that o applied from the log of s is the one that s wrote
-frontier_is : (w : Lists) (o s : ℕ) (numbers : List ℕ) → Kept w → AppliedClose w o s numbers → numbers ≡ own_frontier w.count (w.applied s)
+frontier_is : (w : Lists) (o s : ℕ) (numbers : List ℕ) → Invariant w → AppliedClose w o s numbers → numbers ≡ own_frontier w.count (w.applied s)
 frontier_is w o s numbers kept h =
     let p : IsPrefix (w.applied o s) (w.log s) = begins w o s kept in
     let closed : is_closed (w.applied o s) ≡ true = has_closed (w.applied o s) numbers h in
@@ -41,11 +41,11 @@ frontier_is w o s numbers kept h =
     cc
 
 -- and the position of o in it is the end of what s applied of its log
-pub place_is : (w : Lists) (o s : ℕ) (numbers : List ℕ) → Kept w → IsSiteOf w.count o → AppliedClose w o s numbers → slice_get numbers (o - 1) ≡ Some (end (w.applied s o))
+pub place_is : (w : Lists) (o s : ℕ) (numbers : List ℕ) → Invariant w → IsSiteOf w.count o → AppliedClose w o s numbers → slice_get numbers (o - 1) ≡ Some (end (w.applied s o))
 place_is w o s numbers kept among h = ap (λ (fs : List ℕ). slice_get fs (o - 1)) (frontier_is w o s numbers kept h) ∙ number_at w.count o (w.applied s) among
 
 -- the entries beyond that frontier are those that s did not apply
-beyond_is : (w : Lists) (o s : ℕ) → Kept w → beyond (end (w.applied s o)) (w.log o) ≡ unapplied w o s
+beyond_is : (w : Lists) (o s : ℕ) → Invariant w → beyond (end (w.applied s o)) (w.log o) ≡ unapplied w o s
 beyond_is w o s kept =
     let p : IsPrefix (w.applied s o) (w.log o) = begins w s o kept in
     let a : List EntryValue = w.applied s o in
@@ -54,29 +54,29 @@ beyond_is w o s kept =
     subst (λ es. beyond (end a) es ≡ drop (length a) es) p.1 rest
 
 -- what o reclaimed from s is what it is owed by the frontier of s that it applied
-pub back_is : (w : Lists) (o s : ℕ) → Kept w → back s (moves_of (w.log o)) ≡ owed o s (w.log o) (frontier (w.applied o s))
+pub back_is : (w : Lists) (o s : ℕ) → Invariant w → back s (moves_of (w.log o)) ≡ owed o s (w.log o) (frontier (w.applied o s))
 back_is w o s kept = taken_is s (owed o s (w.log o) (frontier (w.applied o s))) (w.log o) ((kept.sites o).taken s)
 
 -- by that frontier, it is what s did not apply
-owed_is : (w : Lists) (o s : ℕ) (numbers : List ℕ) → Kept w → IsSiteOf w.count o → AppliedClose w o s numbers → owed o s (w.log o) (Some numbers) ≡ to s (moves_of (unapplied w o s))
+owed_is : (w : Lists) (o s : ℕ) (numbers : List ℕ) → Invariant w → IsSiteOf w.count o → AppliedClose w o s numbers → owed o s (w.log o) (Some numbers) ≡ to s (moves_of (unapplied w o s))
 owed_is w o s numbers kept among h =
     ap (given_beyond s (w.log o)) (place_is w o s numbers kept among h) ∙ ap (λ es. to s (moves_of es)) (beyond_is w o s kept)
 
-over_cases : (w : Lists) (o s : ℕ) (k : Option (List ℕ)) → Kept w → IsSiteOf w.count o → frontier (w.applied o s) ≡ k → owed o s (w.log o) k ≤ to s (moves_of (unapplied w o s))
+over_cases : (w : Lists) (o s : ℕ) (k : Option (List ℕ)) → Invariant w → IsSiteOf w.count o → frontier (w.applied o s) ≡ k → owed o s (w.log o) k ≤ to s (moves_of (unapplied w o s))
 over_cases w o s None kept among h = omega arith
 over_cases w o s (Some numbers) kept among h = omega (arith, owed_is w o s numbers kept among h)
 
-never_over : (w : Lists) (o s : ℕ) → Kept w → IsSiteOf w.count o → back s (moves_of (w.log o)) ≤ to s (moves_of (unapplied w o s))
+never_over : (w : Lists) (o s : ℕ) → Invariant w → IsSiteOf w.count o → back s (moves_of (w.log o)) ≤ to s (moves_of (unapplied w o s))
 never_over w o s kept among = omega (arith, back_is w o s kept, over_cases w o s (frontier (w.applied o s)) kept among refl)
 
-none_on_way : (w : Lists) (o s : ℕ) (numbers : List ℕ) → Kept w → IsSiteOf w.count o → AppliedClose w o s numbers → on_way w o s ≡ 0
+none_on_way : (w : Lists) (o s : ℕ) (numbers : List ℕ) → Invariant w → IsSiteOf w.count o → AppliedClose w o s numbers → on_way w o s ≡ 0
 unfolding way
 none_on_way w o s numbers kept among h =
     let owes : owed o s (w.log o) (frontier (w.applied o s)) ≡ owed o s (w.log o) (Some numbers) = ap (owed o s (w.log o)) h in
     omega (arith, back_is w o s kept, owes, owed_is w o s numbers kept among h)
 
 -- what o gave to s was applied there, is in transit, or was reclaimed
-pub way_is : (w : Lists) (o s : ℕ) → Kept w → IsSiteOf w.count o → to s (moves_of (w.log o)) ≡ (to s (moves_of (w.applied s o)) + on_way w o s) + back s (moves_of (w.log o))
+pub way_is : (w : Lists) (o s : ℕ) → Invariant w → IsSiteOf w.count o → to s (moves_of (w.log o)) ≡ (to s (moves_of (w.applied s o)) + on_way w o s) + back s (moves_of (w.log o))
 unfolding way
 way_is w o s kept among =
     let p = begins w s o kept in
@@ -89,7 +89,7 @@ way_is w o s kept among =
 
 -- ---- conservation
 
-given_is : (w : Lists) (o : ℕ) → Kept w → IsSiteOf w.count o
+given_is : (w : Lists) (o : ℕ) → Invariant w → IsSiteOf w.count o
     → out (moves_of (w.log o)) ≡ (sum_sites w.count (λ s. to s (moves_of (w.applied s o))) + sum_sites w.count (λ s. on_way w o s)) + taken_back (moves_of (w.log o))
 given_is w o kept among =
     let n : ℕ = w.count in
@@ -108,7 +108,7 @@ all_received : (w : Lists) → sum_sites w.count (λ o. sum_sites w.count (λ s.
 unfolding received
 all_received w = sum_swap w.count w.count (λ o s. to s (moves_of (w.applied s o)))
 
-conserved : (w : Lists) → Kept w → all_held w + all_spent w + all_on_way w ≡ all_issued w
+conserved : (w : Lists) → Invariant w → all_held w + all_spent w + all_on_way w ≡ all_issued w
 conserved w kept =
     let n : ℕ = w.count in
     let given : ℕ → ℕ = λ s. out (moves_of (w.log s)) in
@@ -136,7 +136,7 @@ conserved w kept =
 
 -- ---- all that is promised
 
-pub kept_promises : (w : Lists) → Kept w → Promised w
+pub kept_promises : (w : Lists) → Invariant w → Promised w
 kept_promises w kept =
     let all : all_held w + all_spent w + all_on_way w ≡ all_issued w = conserved w kept in
     record {

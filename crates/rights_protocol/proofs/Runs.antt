@@ -6,7 +6,7 @@ use Rattle.rights_protocol.specs.Lists.{Lists}
 use Rattle.rights_protocol.specs.Retiring.{frontier}
 use Rattle.rights_protocol.specs.Changes.{Change, SiteStays, OthersStay, Step, Runs, Start}
 use Rattle.rights_protocol.specs.Changes.Change.{Append, Offer, Take, CloseSite, Nothing}
-use Rattle.rights_protocol.specs.Kept.{Kept}
+use Rattle.rights_protocol.specs.Invariant.{Invariant}
 use Rattle.rights_protocol.specs.Retirement.{AppliedClose, Promised}
 use Rattle.rights_protocol.specs.Laws.{AllAlong}
 use Rattle.rights_protocol.proofs.Frontiers.{has_closed, front_open}
@@ -15,14 +15,14 @@ use Rattle.rights_protocol.proofs.Promises.{kept_promises}
 
 -- ---- every run
 
-runs_keep : (old : Lists) (changes : List Change) (new : Lists) → Kept old → Runs old changes new → Kept new
+runs_keep : (old : Lists) (changes : List Change) (new : Lists) → Invariant old → Runs old changes new → Invariant new
 runs_keep old [] new kept run = stays_kept old new kept run
 runs_keep old (change ∷ changes) new kept run = runs_keep run.0 changes new (step_keeps old change run.0 kept run.1) run.2
 
 pub every_run : (n : ℕ) (start : Lists) (changes : List Change) (new : Lists) → Start n start → Runs start changes new → Promised new
 every_run n start changes new at run = kept_promises new (runs_keep start changes new (start_kept n start at) run)
 
-all_along : (old : Lists) (changes : List Change) (new : Lists) → Kept old → (run : Runs old changes new) → AllAlong Promised old changes new run
+all_along : (old : Lists) (changes : List Change) (new : Lists) → Invariant old → (run : Runs old changes new) → AllAlong Promised old changes new run
 all_along old [] new kept run = (kept_promises old kept, kept_promises new (stays_kept old new kept run))
 all_along old (change ∷ changes) new kept run = (kept_promises old kept, all_along run.0 changes new (step_keeps old change run.0 kept run.1) run.2)
 
@@ -83,7 +83,7 @@ applied_stays old new s a c others here = elim (cases_eq a s) [
   | inr ne ↦ ((others.sites a ne).links c).applied
 ]
 
-step_applied : (old : Lists) (change : Change) (new : Lists) (a c : ℕ) → Kept old → Step old change new → is_closed (old.applied a c) ≡ true → new.applied a c ≡ old.applied a c
+step_applied : (old : Lists) (change : Change) (new : Lists) (a c : ℕ) → Invariant old → Step old change new → is_closed (old.applied a c) ≡ true → new.applied a c ≡ old.applied a c
 step_applied old (Append s ms) new a c kept step closed = applied_stays old new s a c step.others (λ _. (step.links c).applied)
 step_applied old (Offer s o e) new a c kept step closed = elim step.comes [
   | inl r ↦ applied_stays old new s a c r.others (λ _. elim (cases_eq c o) [
@@ -101,7 +101,7 @@ step_applied old (Take s o) new a c kept step closed = applied_stays old new s a
 step_applied old (CloseSite s heir) new a c kept step closed = applied_stays old new s a c step.others (λ _. (step.links c).applied)
 step_applied old Nothing new a c kept step closed = ((step.sites a).links c).applied
 
-pub applied_for_good : (old : Lists) (changes : List Change) (new : Lists) (s c : ℕ) (numbers : List ℕ) → Kept old → Runs old changes new → AppliedClose old s c numbers → AppliedClose new s c numbers
+pub applied_for_good : (old : Lists) (changes : List Change) (new : Lists) (s c : ℕ) (numbers : List ℕ) → Invariant old → Runs old changes new → AppliedClose old s c numbers → AppliedClose new s c numbers
 applied_for_good old [] new s c numbers kept run h = ap frontier ((run.sites s).links c).applied ∙ h
 applied_for_good old (change ∷ changes) new s c numbers kept run h =
     let same : run.0.applied s c ≡ old.applied s c = step_applied old change run.0 s c kept run.1 (has_closed (old.applied s c) numbers h) in

@@ -15,7 +15,7 @@ use Rattle.rights_types.proofs.Sums.{moves_of-nil, moves_of-push, covers-more, c
 use Rattle.rights_protocol.specs.Lists.{IsSiteOf}
 use Rattle.rights_protocol.specs.Retiring.{numbers_in, frontier, beyond, owed, own_frontier, entry_at_end, taking_back, takings, one_taking}
 use Rattle.rights_protocol.specs.Writing.{MayAppend, MayClose, closing_moves}
-use Rattle.rights_protocol.specs.Kept.{SiteKept, known_closed}
+use Rattle.rights_protocol.specs.Invariant.{SiteInvariant, known_closed}
 use Rattle.rights_protocol.proofs.Frontiers.{no_frontier, closes_by, frontier-push, front_open, owed_bound, owed_within}
 use Rattle.rights_protocol.proofs.Takings.{taken_push, taken_now, none_beyond, placed_push, placed_now, taking_cases, takes_it, takes_no_other, is_one_taking}
 use Rattle.rights_protocol.proofs.Numbers.{frontier_kept, known_kept, known_risen, known_few, received_kept, received_risen}
@@ -26,7 +26,7 @@ one_if b = cond b 1 0
 
 -- ---- nothing changes
 
-pub site_same : (n s : ℕ) (log now : List EntryValue) (old new : ℕ → List EntryValue) → SiteKept n s log old → now ≡ log → ((o : ℕ) → new o ≡ old o) → SiteKept n s now new
+pub site_same : (n s : ℕ) (log now : List EntryValue) (old new : ℕ → List EntryValue) → SiteInvariant n s log old → now ≡ log → ((o : ℕ) → new o ≡ old o) → SiteInvariant n s now new
 site_same n s log now old new k e same = record {
   chain = rw e k.chain;
   chains = λ o. rw (same o) (k.chains o);
@@ -41,7 +41,7 @@ site_same n s log now old new k e same = record {
 
 -- ---- one more entry of the log
 
-pub ready : (n s : ℕ) (log : List EntryValue) (applied : ℕ → List EntryValue) → 2 ≤ n → n ≤ 16 → IsSiteOf n s → is_closed log ≡ false → SiteKept n s log applied → Ready n s log applied
+pub ready : (n s : ℕ) (log : List EntryValue) (applied : ℕ → List EntryValue) → 2 ≤ n → n ≤ 16 → IsSiteOf n s → is_closed log ≡ false → SiteInvariant n s log applied → Ready n s log applied
 ready n s log applied some few site unclosed k = record {
   some = some;
   few = few;
@@ -63,7 +63,7 @@ record Keeps (n s : ℕ) (log : List EntryValue) (applied : ℕ → List EntryVa
   pub fits : list_any is_close ms ≡ false → end log + length ms ≤ 999999900 + known_closed n applied
 
 site_writes : (n s : ℕ) (log : List EntryValue) (applied : ℕ → List EntryValue) (ms : List Move) → Ready n s log applied → Writable n s log applied ms → Keeps n s log applied ms
-    → SiteKept n s (log ++ entry_at_end s log ms ∷ []) applied
+    → SiteInvariant n s (log ++ entry_at_end s log ms ∷ []) applied
 site_writes n s log applied ms k may keeps =
     let e : EntryValue = entry_at_end s log ms in
     let moves : moves_of (log ++ e ∷ []) ≡ moves_of log ++ ms = moves_of-push log e in
@@ -81,8 +81,8 @@ site_writes n s log applied ms k may keeps =
       fits = λ h. omega (arith, ends, keeps.fits (sym closed ∙ h));
     }
 
-pub site_appends : (n s : ℕ) (log : List EntryValue) (applied : ℕ → List EntryValue) (ms : List Move) → 2 ≤ n → n ≤ 16 → IsSiteOf n s → SiteKept n s log applied → MayAppend n s log applied ms
-    → SiteKept n s (log ++ entry_at_end s log ms ∷ []) applied
+pub site_appends : (n s : ℕ) (log : List EntryValue) (applied : ℕ → List EntryValue) (ms : List Move) → 2 ≤ n → n ≤ 16 → IsSiteOf n s → SiteInvariant n s log applied → MayAppend n s log applied ms
+    → SiteInvariant n s (log ++ entry_at_end s log ms ∷ []) applied
 site_appends n s log applied ms some few site k may =
     let r : Ready n s log applied = ready n s log applied some few site may.unclosed k in
     let writable : Writable n s log applied ms = append_writable n s log applied ms r may in
@@ -94,8 +94,8 @@ site_appends n s log applied ms some few site k may =
       fits = λ _. omega (arith, may.fits);
     })
 
-pub site_closes : (n s : ℕ) (log : List EntryValue) (applied : ℕ → List EntryValue) (heir : Option ℕ) → 2 ≤ n → n ≤ 16 → IsSiteOf n s → SiteKept n s log applied → MayClose n s log applied heir
-    → SiteKept n s (log ++ entry_at_end s log (closing_moves n s log applied heir) ∷ []) applied
+pub site_closes : (n s : ℕ) (log : List EntryValue) (applied : ℕ → List EntryValue) (heir : Option ℕ) → 2 ≤ n → n ≤ 16 → IsSiteOf n s → SiteInvariant n s log applied → MayClose n s log applied heir
+    → SiteInvariant n s (log ++ entry_at_end s log (closing_moves n s log applied heir) ∷ []) applied
 site_closes n s log applied heir some few site k may =
     let ms : List Move = closing_moves n s log applied heir in
     let r : Ready n s log applied = ready n s log applied some few site may.unclosed k in
@@ -118,7 +118,7 @@ record Taking (n s o : ℕ) (log : List EntryValue) (old new : ℕ → List Entr
   pub now : frontier (new o) ≡ numbers_in e.moves
   pub known : known_closed n new ≡ known_closed n old + one_if (closes e)
 
-taking : (n s o : ℕ) (log : List EntryValue) (old new : ℕ → List EntryValue) (e : EntryValue) → SiteKept n s log old → Ready n s log old → IsSiteOf n o → s ≢ o → IsChain o (old o ++ e ∷ []) → AddsEntry old o e new
+taking : (n s o : ℕ) (log : List EntryValue) (old new : ℕ → List EntryValue) (e : EntryValue) → SiteInvariant n s log old → Ready n s log old → IsSiteOf n o → s ≢ o → IsChain o (old o ++ e ∷ []) → AddsEntry old o e new
     → Taking n s o log old new e
 taking n s o log old new e k r from differ chain step =
     let was_open : is_closed (old o) ≡ false = front_open o (old o) e [] chain in
@@ -144,8 +144,8 @@ taking n s o log old new e k r from differ chain step =
     }
 
 -- if nothing is owed
-takes_plain : (n s o : ℕ) (log : List EntryValue) (old new : ℕ → List EntryValue) (e : EntryValue) → SiteKept n s log old → Taking n s o log old new e → AddsEntry old o e new
-    → owed s o log (numbers_in e.moves) ≡ 0 → SiteKept n s log new
+takes_plain : (n s o : ℕ) (log : List EntryValue) (old new : ℕ → List EntryValue) (e : EntryValue) → SiteInvariant n s log old → Taking n s o log old new e → AddsEntry old o e new
+    → owed s o log (numbers_in e.moves) ≡ 0 → SiteInvariant n s log new
 takes_plain n s o log old new e k t step none =
     let owes : owed s o log (frontier (new o)) ≡ 0 = ap (owed s o log) t.now ∙ none in
     record {
@@ -167,8 +167,8 @@ takes_plain n s o log old new e k t step none =
     }
 
 -- if something is owed
-takes_back : (n s o amount : ℕ) (log : List EntryValue) (old new : ℕ → List EntryValue) (e : EntryValue) → SiteKept n s log old → IsSiteOf n o → s ≢ o → Taking n s o log old new e → AddsEntry old o e new
-    → amount ≡ owed s o log (numbers_in e.moves) → 1 ≤ amount → closes e ≡ true → SiteKept n s (log ++ entry_at_end s log (TakeBack o amount ∷ []) ∷ []) new
+takes_back : (n s o amount : ℕ) (log : List EntryValue) (old new : ℕ → List EntryValue) (e : EntryValue) → SiteInvariant n s log old → IsSiteOf n o → s ≢ o → Taking n s o log old new e → AddsEntry old o e new
+    → amount ≡ owed s o log (numbers_in e.moves) → 1 ≤ amount → closes e ≡ true → SiteInvariant n s (log ++ entry_at_end s log (TakeBack o amount ∷ []) ∷ []) new
 takes_back n s o amount log old new e k from differ t step is positive shut =
     let ms : List Move = TakeBack o amount ∷ [] in
     let v : EntryValue = entry_at_end s log ms in
@@ -199,24 +199,24 @@ owed_closes : (s o : ℕ) (es : List EntryValue) (e : EntryValue) (k : Option (L
 owed_closes s o es e None h some = absurd (omega arith)
 owed_closes s o es e (Some numbers) h some = closes_by e numbers h
 
-pub site_takes : (n s o : ℕ) (log : List EntryValue) (old new : ℕ → List EntryValue) (e : EntryValue) → 2 ≤ n → n ≤ 16 → IsSiteOf n s → IsSiteOf n o → s ≢ o → SiteKept n s log old → is_closed log ≡ false
-    → IsChain o (old o ++ e ∷ []) → AddsEntry old o e new → SiteKept n s (log ++ taking_back s o log e) new
+pub site_takes : (n s o : ℕ) (log : List EntryValue) (old new : ℕ → List EntryValue) (e : EntryValue) → 2 ≤ n → n ≤ 16 → IsSiteOf n s → IsSiteOf n o → s ≢ o → SiteInvariant n s log old → is_closed log ≡ false
+    → IsChain o (old o ++ e ∷ []) → AddsEntry old o e new → SiteInvariant n s (log ++ taking_back s o log e) new
 site_takes n s o log old new e some few site from differ k unclosed chain step =
     let amount : ℕ = owed s o log (numbers_in e.moves) in
     let t : Taking n s o log old new e = taking n s o log old new e k (ready n s log old some few site unclosed k) from differ chain step in
     elim (taking_cases s o log amount) [
       | inl p ↦
           let same : log ++ taking_back s o log e ≡ log = ap (λ es. log ++ es) p.1 ∙ append-nil log in
-          subst (λ es. SiteKept n s es new) (sym same) (takes_plain n s o log old new e k t step p.0)
+          subst (λ es. SiteInvariant n s es new) (sym same) (takes_plain n s o log old new e k t step p.0)
       | inr p ↦
           let grown : log ++ taking_back s o log e ≡ log ++ entry_at_end s log (TakeBack o amount ∷ []) ∷ [] = ap (λ es. log ++ es) p.1 in
-          subst (λ es. SiteKept n s es new) (sym grown)
+          subst (λ es. SiteInvariant n s es new) (sym grown)
           (takes_back n s o amount log old new e k from differ t step refl p.0 (owed_closes s o log e (numbers_in e.moves) refl p.0))
     ]
 
 -- ---- the start
 
-pub site_starts : (n s : ℕ) (log : List EntryValue) (applied : ℕ → List EntryValue) → log ≡ [] → ((o : ℕ) → applied o ≡ []) → SiteKept n s log applied
+pub site_starts : (n s : ℕ) (log : List EntryValue) (applied : ℕ → List EntryValue) → log ≡ [] → ((o : ℕ) → applied o ≡ []) → SiteInvariant n s log applied
 site_starts n s log applied empty none =
     let nothing : moves_of log ≡ [] = ap moves_of empty ∙ moves_of-nil in
     record {

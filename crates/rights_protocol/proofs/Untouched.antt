@@ -6,7 +6,7 @@ use Rattle.rights_types.specs.Rights.{back}
 use Rattle.rights_types.proofs.Sums.{moves_of-append, back-append}
 use Rattle.rights_protocol.specs.Lists.{Lists, IsSiteOf}
 use Rattle.rights_protocol.specs.Retiring.{frontier, beyond, owed, takings}
-use Rattle.rights_protocol.specs.Kept.{Kept}
+use Rattle.rights_protocol.specs.Invariant.{Invariant}
 use Rattle.rights_protocol.proofs.Frontiers.{beyond_rest}
 use Rattle.rights_protocol.proofs.Takings.{same_takings}
 use Rattle.rights_protocol.proofs.Promises.{begins, place_is, back_is}
@@ -17,7 +17,7 @@ back_parts s xs ys = ap (back s) (moves_of-append xs ys) ∙ back-append s (move
 -- What s applied of the log of o is a prefix of it. If o applied no closing entry of s, nothing in that log reclaims
 -- anything from s; else only the entries that begin at its position in the frontier, which is the end of what s
 -- applied.
-by_frontier : (w : Lists) (s o : ℕ) (k : Option (List ℕ)) → Kept w → IsSiteOf w.count o → frontier (w.applied o s) ≡ k → back s (moves_of (w.applied s o)) ≡ 0
+by_frontier : (w : Lists) (s o : ℕ) (k : Option (List ℕ)) → Invariant w → IsSiteOf w.count o → frontier (w.applied o s) ≡ k → back s (moves_of (w.applied s o)) ≡ 0
 by_frontier w s o None kept among h =
     let p : IsPrefix (w.applied s o) (w.log o) = begins w s o kept in
     let none : back s (moves_of (w.log o)) ≡ 0 = back_is w o s kept ∙ ap (owed o s (w.log o)) h in
@@ -30,5 +30,5 @@ by_frontier w s o (Some numbers) kept among h =
     let whole : takings s (beyond (end a) (a ++ p.0)) ≡ takings s (a ++ p.0) = subst (λ es. takings s (beyond (end a) es) ≡ takings s es) (sym p.1) placed in
     omega (arith, same_takings s p.0 (a ++ p.0) (sym (ap (takings s) rest) ∙ whole), back_parts s a p.0)
 
-pub untouched : (w : Lists) (s o : ℕ) → Kept w → IsSiteOf w.count o → back s (moves_of (w.applied s o)) ≡ 0
+pub untouched : (w : Lists) (s o : ℕ) → Invariant w → IsSiteOf w.count o → back s (moves_of (w.applied s o)) ≡ 0
 untouched w s o kept among = by_frontier w s o (frontier (w.applied o s)) kept among refl

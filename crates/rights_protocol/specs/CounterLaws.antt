@@ -7,7 +7,7 @@ use Rattle.rights_types.specs.declared.moves.Move.TheVariants.{Issue, Spend, Giv
 use Rattle.rights_protocol.specs.Lists.{Lists, IsSiteOf, held_at, on_way}
 use Rattle.rights_protocol.specs.Writing.{closing_moves}
 use Rattle.rights_protocol.specs.Changes.{Change, Append, Offer, Take, CloseSite, Nothing, Step, Runs, Start}
-use Rattle.rights_protocol.specs.Kept.{Kept}
+use Rattle.rights_protocol.specs.Invariant.{Invariant}
 use Rattle.rights_protocol.specs.Headline.{all_spent, all_issued}
 use Rattle.rights_protocol.specs.BoundedCounter.{Counter, local_rights, value, SameCounter, TakesBack, Operate, Operation, CounterRun, EmptyCounter, IsSafe}
 use Rattle.rights_protocol.specs.CounterOfLists.{counter_of, state_of, state_at}
@@ -46,7 +46,7 @@ pub record ListsCount (w : Lists) : Type 0 where
   pub counts : value w.count (state_of w) + all_spent w ≡ all_issued w
 
 abbrev pub KeptCounts : Type 0
-KeptCounts = (w : Lists) → Kept w → ListsCount w
+KeptCounts = (w : Lists) → Invariant w → ListsCount w
 
 -- ---- the changes as operations
 
@@ -63,7 +63,7 @@ ByOperations old (Offer s o e) new = SameCounter (state_of old) (state_of new)
 ByOperations old Nothing new = SameCounter (state_of old) (state_of new)
 
 abbrev pub StepOperates : Type 0
-StepOperates = (old : Lists) (change : Change) (new : Lists) → Kept old → Step old change new → ByOperations old change new
+StepOperates = (old : Lists) (change : Change) (new : Lists) → Invariant old → Step old change new → ByOperations old change new
 
 -- so each run of the protocol is a run of the counter
 abbrev pub RunOperates : Type 0

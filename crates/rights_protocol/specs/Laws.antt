@@ -9,7 +9,7 @@ use Rattle.rights_protocol.specs.Lists.{Lists, IsSiteOf}
 use Rattle.rights_protocol.specs.Retiring.{frontier, owed, entry_at_end, taking_back}
 use Rattle.rights_protocol.specs.Writing.{MayAppend, MayClose, closing_moves}
 use Rattle.rights_protocol.specs.Changes.{Change, Step, Runs, Start}
-use Rattle.rights_protocol.specs.Kept.{SiteKept, Kept}
+use Rattle.rights_protocol.specs.Invariant.{SiteInvariant, Invariant}
 use Rattle.rights_protocol.specs.Retirement.{AppliedClose, Promised}
 
 -- ---- every run
@@ -30,13 +30,13 @@ EveryRun = (n : ℕ) (start : Lists) (changes : List Change) (new : Lists) → S
 -- ---- by what is kept
 
 abbrev pub StartKept : Type 0
-StartKept = (n : ℕ) (w : Lists) → Start n w → Kept w
+StartKept = (n : ℕ) (w : Lists) → Start n w → Invariant w
 
 abbrev pub StepKeeps : Type 0
-StepKeeps = (old : Lists) (change : Change) (new : Lists) → Kept old → Step old change new → Kept new
+StepKeeps = (old : Lists) (change : Change) (new : Lists) → Invariant old → Step old change new → Invariant new
 
 abbrev pub KeptPromises : Type 0
-KeptPromises = (w : Lists) → Kept w → Promised w
+KeptPromises = (w : Lists) → Invariant w → Promised w
 
 -- ---- for good
 
@@ -48,16 +48,16 @@ ClosedForGood = (old : Lists) (changes : List Change) (new : Lists) (c : ℕ) �
 -- a closing entry that was applied stays applied
 abbrev pub AppliedForGood : Type 0
 AppliedForGood = (old : Lists) (changes : List Change) (new : Lists) (s c : ℕ) (numbers : List ℕ)
-    → Kept old → Runs old changes new → AppliedClose old s c numbers → AppliedClose new s c numbers
+    → Invariant old → Runs old changes new → AppliedClose old s c numbers → AppliedClose new s c numbers
 
 -- ---- one site
 
 -- each step of a site preserves the invariant of that site, in which no other site's log is named
 pub record SiteGoesOn (n s : ℕ) (log : List EntryValue) (applied : ℕ → List EntryValue) : Type 0 where
-  pub appends : (ms : List Move) → MayAppend n s log applied ms → SiteKept n s (log ++ entry_at_end s log ms ∷ []) applied
+  pub appends : (ms : List Move) → MayAppend n s log applied ms → SiteInvariant n s (log ++ entry_at_end s log ms ∷ []) applied
   pub takes : (o : ℕ) (e : EntryValue) (now : ℕ → List EntryValue) → IsSiteOf n o → s ≢ o → is_closed log ≡ false → IsChain o (applied o ++ e ∷ [])
-      → AddsEntry applied o e now → SiteKept n s (log ++ taking_back s o log e) now
-  pub closes : (heir : Option ℕ) → MayClose n s log applied heir → SiteKept n s (log ++ entry_at_end s log (closing_moves n s log applied heir) ∷ []) applied
+      → AddsEntry applied o e now → SiteInvariant n s (log ++ taking_back s o log e) now
+  pub closes : (heir : Option ℕ) → MayClose n s log applied heir → SiteInvariant n s (log ++ entry_at_end s log (closing_moves n s log applied heir) ∷ []) applied
 
 -- and the invariant bounds the site's log and its book
 pub record SiteBounds (n s : ℕ) (log : List EntryValue) (applied : ℕ → List EntryValue) : Type 0 where
@@ -76,4 +76,4 @@ pub record SiteBounds (n s : ℕ) (log : List EntryValue) (applied : ℕ → Lis
 
 abbrev pub OneSite : Type 0
 OneSite = (n s : ℕ) (log : List EntryValue) (applied : ℕ → List EntryValue)
-    → MIN_SITES ≤ n → n ≤ MAX_SITES → IsSiteOf n s → SiteKept n s log applied → SiteGoesOn n s log applied × SiteBounds n s log applied
+    → MIN_SITES ≤ n → n ≤ MAX_SITES → IsSiteOf n s → SiteInvariant n s log applied → SiteGoesOn n s log applied × SiteBounds n s log applied

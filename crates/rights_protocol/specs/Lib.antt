@@ -5,7 +5,7 @@ pub mod Lists
 pub mod Retiring
 pub mod Writing
 pub mod Changes
-pub mod Kept
+pub mod Invariant
 pub mod Headline
 pub mod Retirement
 pub mod Laws

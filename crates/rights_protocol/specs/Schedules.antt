@@ -15,7 +15,7 @@ use Rattle.rights_protocol.specs.Lists.{Lists, IsSiteOf}
 use Rattle.rights_protocol.specs.Retiring.{entry_at_end, taking_back}
 use Rattle.rights_protocol.specs.Writing.{MayAppend, MayClose, closing_moves}
 use Rattle.rights_protocol.specs.Changes.{Change, Append, Offer, Take, CloseSite, Nothing, Runs, Start}
-use Rattle.rights_protocol.specs.Kept.{SiteKept}
+use Rattle.rights_protocol.specs.Invariant.{SiteInvariant}
 use Rattle.rights_protocol.specs.Retirement.{Promised}
 use Rattle.rights_protocol.specs.CounterLaws.{ListsCount}
 
@@ -96,12 +96,12 @@ LocalRun n s old (change ∷ changes) new = (mid : SiteLists) × LocalStep n s o
 -- each step of a site preserves the invariant of that site
 abbrev pub LocalKeeps : Type 0
 LocalKeeps = (n s : ℕ) (old : SiteLists) (change : LocalChange) (new : SiteLists) → MIN_SITES ≤ n → n ≤ MAX_SITES → IsSiteOf n s
-    → SiteKept n s old.log old.applied → LocalStep n s old change new → SiteKept n s new.log new.applied
+    → SiteInvariant n s old.log old.applied → LocalStep n s old change new → SiteInvariant n s new.log new.applied
 
 -- so the invariant holds of a site after any such steps from the start, whatever the others did
 abbrev pub LocalRunKept : Type 0
 LocalRunKept = (n s : ℕ) (start : SiteLists) (changes : List LocalChange) (now : SiteLists) → MIN_SITES ≤ n → n ≤ MAX_SITES → IsSiteOf n s
-    → IsFresh start → LocalRun n s start changes now → SiteKept n s now.log now.applied
+    → IsFresh start → LocalRun n s start changes now → SiteInvariant n s now.log now.applied
 
 -- ---- a cut
 
@@ -111,7 +111,7 @@ pub record IsCut (n : ℕ) (sites : ℕ → SiteLists) : Type 0 where
   pub some : MIN_SITES ≤ n
   pub few : n ≤ MAX_SITES
   -- the invariant of each site alone
-  pub kept : (s : ℕ) → IsSiteOf n s → SiteKept n s (sites s).log (sites s).applied
+  pub kept : (s : ℕ) → IsSiteOf n s → SiteInvariant n s (sites s).log (sites s).applied
   -- one writer: what a site applied of a log is a prefix of that log
   pub begins : (s o : ℕ) → IsSiteOf n s → IsPrefix ((sites s).applied o) (sites o).log
   -- a number that no site has comes with no entries

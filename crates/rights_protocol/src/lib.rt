@@ -14,8 +14,8 @@
 //!   the closing entry reclaims, in the same change, what it gave to the closed site beyond its own number in the
 //!   frontier. (`Retiring` defines these words; `Writing` says what a site may write, `Changes` how each change
 //!   affects the lists.)
-//! - **Kept.** The invariant: every change preserves a fact of each site, which names no other site's
-//!   lists, and a fact of each link.
+//! - **Invariant.** Every change preserves a fact of each site, which names no other site's lists, and a fact
+//!   of each link.
 //! - **Headline.** So no more is ever spent than was issued, and rights held, spent and in transit are
 //!   the rights issued. No site was ever short, and what a site applied of a log is a prefix of the
 //!   longest prefix that reached it, each entry once and in order.

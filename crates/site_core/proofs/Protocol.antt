@@ -14,7 +14,7 @@ use Rattle.rights_types.specs.declared.moves.Move.TheVariants.{Issue, Spend, Gra
 use Rattle.rights_protocol.specs.Lists.{IsSiteOf}
 use Rattle.rights_protocol.specs.Retiring.{own_frontier, entry_at_end, one_taking}
 use Rattle.rights_protocol.specs.Writing.{is_plain, MayAppend}
-use Rattle.rights_protocol.specs.Kept.{SiteKept}
+use Rattle.rights_protocol.specs.Invariant.{SiteInvariant}
 use Rattle.rights_protocol.specs.Laws.{SiteGoesOn}
 use Rattle.rights_protocol.proofs.Sites.{site_starts}
 use Rattle.rights_protocol.proofs.OneSite.{site_goes_on}
@@ -56,7 +56,7 @@ pub record IsSiteState (applied : ℕ → List EntryValue) (l : LedgerValue) : T
   pub frontier : frontier_of l.book ≡ own_frontier (sites l.book) applied
   pub closed : (c : ℕ) → c ≢ l.book.me → (account l.book c).closed ≡ is_closed (applied c)
   pub itself : applied l.book.me ≡ []
-  pub kept : SiteKept (sites l.book) l.log.site l.log.entries applied
+  pub kept : SiteInvariant (sites l.book) l.log.site l.log.entries applied
 
 pub site_state : (l : LedgerValue) (applied : ℕ → List EntryValue) → IsLedger l → IsBook l.book → HasApplied applied l → IsSiteState applied l
 site_state l applied is book h =
@@ -149,7 +149,7 @@ goes_on l applied state = site_goes_on (sites l.book) l.log.site l.log.entries a
 -- an entry that the protocol allows, in log and book
 pub same_applied : (old new : LedgerValue) (ms : List Move) → new.log ≡ with_entry old.log ms → sites new.book ≡ sites old.book
     → ((applied : ℕ → List EntryValue) → StandsForApplied applied old.book → StandsForApplied applied new.book)
-    → ((applied : ℕ → List EntryValue) → HasApplied applied old → SiteKept (sites old.book) old.log.site (old.log.entries ++ entry_at_end old.log.site old.log.entries ms ∷ []) applied)
+    → ((applied : ℕ → List EntryValue) → HasApplied applied old → SiteInvariant (sites old.book) old.log.site (old.log.entries ++ entry_at_end old.log.site old.log.entries ms ∷ []) applied)
     → SameApplied old new
 same_applied old new ms log same in_book kept = record {
   in_book = in_book;

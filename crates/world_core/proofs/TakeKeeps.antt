@@ -14,7 +14,7 @@ use Rattle.rights_protocol.specs.Lists.{IsSiteOf}
 use Rattle.rights_protocol.specs.Retiring.{numbers_in, owed, entry_at_end, taking_back}
 use Rattle.rights_protocol.specs.Changes.{Takes}
 use Rattle.rights_protocol.specs.Changes.Change.{Take}
-use Rattle.rights_protocol.specs.Kept.{Kept}
+use Rattle.rights_protocol.specs.Invariant.{Invariant}
 use Rattle.origin_log.specs.Logs.{LogValue}
 use Rattle.rights_book.specs.Books.{BookValue, sites}
 use Rattle.rights_book.specs.declared.account.Account.{Account}
@@ -157,7 +157,7 @@ takes w s o l e d is h =
 
 -- it was the next entry of o, which had not closed, as far as s had applied its log
 is_next : (w : WorldValue) (s o : ℕ) (l : LinkValue) (e : EntryValue) (d : DeskValue) → IsWorld w
-    → Applied w s o l e d → Kept (lists_of (after w s o l e d)) → IsNextOf (desk w s).ledger.book o e
+    → Applied w s o l e d → Invariant (lists_of (after w s o l e d)) → IsNextOf (desk w s).ledger.book o e
 is_next w s o l e d is h kept =
     let here : SiteSound w s = is.sites s h.ends.site in
     let before : List EntryValue = applied w s o in
@@ -178,7 +178,7 @@ is_next w s o l e d is h kept =
 
 -- so its desk is still sound, and what it applied is one entry more
 desk_after : (w : WorldValue) (s o : ℕ) (l : LinkValue) (e : EntryValue) (d : DeskValue) → IsWorld w
-    → (h : Applied w s o l e d) → Kept (lists_of (after w s o l e d))
+    → (h : Applied w s o l e d) → Invariant (lists_of (after w s o l e d))
     → ApplyKept (desk w s).ledger o e h.desk.entry.between d.ledger
 desk_after w s o l e d is h kept =
     let here : SiteSound w s = is.sites s h.ends.site in
@@ -187,14 +187,14 @@ desk_after w s o l e d is h kept =
     h.desk.entry
 
 sound_after : (w : WorldValue) (s o : ℕ) (l : LinkValue) (e : EntryValue) (d : DeskValue) → IsWorld w
-    → (h : Applied w s o l e d) → Kept (lists_of (after w s o l e d)) → DeskSound d
+    → (h : Applied w s o l e d) → Invariant (lists_of (after w s o l e d)) → DeskSound d
 sound_after w s o l e d is h kept =
     let k : ApplyKept (desk w s).ledger o e h.desk.entry.between d.ledger = desk_after w s o l e d is h kept in
     record { ledger = k.ledger; book = k.book; idle = λ closed. absurd (both_ways (has_closed d) k.unclosed closed) }
 
 -- each site is still sound
 site_after : (w : WorldValue) (s o : ℕ) (l : LinkValue) (e : EntryValue) (d : DeskValue) → IsWorld w
-    → Applied w s o l e d → Kept (lists_of (after w s o l e d)) → (k : ℕ) → IsSiteOf (count w) k
+    → Applied w s o l e d → Invariant (lists_of (after w s o l e d)) → (k : ℕ) → IsSiteOf (count w) k
     → SiteSound (after w s o l e d) k
 site_after w s o l e d is h kept k among =
     let new : WorldValue = after w s o l e d in

@@ -2,7 +2,7 @@
 use Rattle.std.proofs.Common.{List, [], ◌∷◌, refl}
 use Rattle.rights_protocol.specs.Lists.{Lists}
 use Rattle.rights_protocol.specs.Changes.{Change, Stays, Step, Runs}
-use Rattle.rights_protocol.specs.Kept.{Kept}
+use Rattle.rights_protocol.specs.Invariant.{Invariant}
 use Rattle.rights_protocol.specs.Changes.Change.{Nothing}
 use Rattle.rights_protocol.proofs.Steps.{step_keeps}
 use Rattle.world_core.specs.Values.{WorldValue}
@@ -40,7 +40,7 @@ refines_then old mid new first more =
 
 -- changes of the protocol lead to the lists of the new world, and preserve the invariant
 pub record Leads (old new : WorldValue) : Type 0 where
-  pub kept : Kept (lists_of new)
+  pub kept : Invariant (lists_of new)
   pub refines : Refines old new
 
 pub leads_nowhere : (w : WorldValue) → IsWorld w → Leads w w

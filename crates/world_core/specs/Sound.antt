@@ -6,7 +6,7 @@ use Rattle.rights_types.specs.Messages.{MessageValue}
 use Rattle.rights_types.specs.Messages.MessageValue.{AnEntry, AQuery, AnAnswer, ABeat, AnAsk, ADenial, AHello}
 use Rattle.rights_types.specs.declared.moves.Move.{Move}
 use Rattle.rights_protocol.specs.Lists.{IsSiteOf}
-use Rattle.rights_protocol.specs.Kept.{Kept}
+use Rattle.rights_protocol.specs.Invariant.{Invariant}
 use Rattle.entry_codec.specs.Spelling.{Spells}
 use Rattle.rights_book.specs.Books.{sites}
 use Rattle.sub_buffer.specs.Buffers.{IsSettled}
@@ -70,7 +70,7 @@ IsNative w s = All (λ (m : Move). is_foreign (count w) m ≡ false) (moves_of (
 
 pub record IsWorld (w : WorldValue) : Type 0 where
   -- the invariant of the protocol: 2 to 16 sites, the part of each site, and that of each link
-  pub kept : Kept (lists_of w)
+  pub kept : Invariant (lists_of w)
   pub rows : length w.links ≡ count w
   pub sites : (s : ℕ) → IsSiteOf (count w) s → SiteSound w s
   pub links : (s o : ℕ) (l : LinkValue) → link w s o ≡ Some l → LinkSound w s o l

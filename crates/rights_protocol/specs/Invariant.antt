@@ -14,7 +14,7 @@ abbrev pub known_closed : ℕ → (ℕ → List EntryValue) → ℕ
 known_closed n applied = sum_sites n (λ o. if is_closed (applied o) then 1 else 0)
 
 -- The invariant of site s among n: a fact of its log and of what it applied of the other logs.
-pub record SiteKept (n s : ℕ) (log : List EntryValue) (applied : ℕ → List EntryValue) : Type 0 where
+pub record SiteInvariant (n s : ℕ) (log : List EntryValue) (applied : ℕ → List EntryValue) : Type 0 where
   pub chain : IsChain s log
   pub chains : (o : ℕ) → IsChain o (applied o)
   -- it applies nothing of its own log
@@ -35,15 +35,15 @@ pub record SiteKept (n s : ℕ) (log : List EntryValue) (applied : ℕ → List 
 
 -- The invariant of a link: what reached another site of this log, what its buffer delivered in order, and what it
 -- applied.
-pub record LinkKept (log reached put applied : List EntryValue) : Type 0 where
+pub record LinkInvariant (log reached put applied : List EntryValue) : Type 0 where
   pub sent : All (Contains log) reached
   pub once : AllPairs (λ x y. x ≢ y) reached
   pub longest : IsLongest reached log put
   pub held : length reached ≤ length put + MAX_HELD
   pub begins : IsPrefix applied put
 
-pub record Kept (w : Lists) : Type 0 where
+pub record Invariant (w : Lists) : Type 0 where
   pub some : MIN_SITES ≤ w.count
   pub few : w.count ≤ MAX_SITES
-  pub sites : (s : ℕ) → SiteKept w.count s (w.log s) (w.applied s)
-  pub links : (s o : ℕ) → LinkKept (w.log o) (w.reached s o) (w.put s o) (w.applied s o)
+  pub sites : (s : ℕ) → SiteInvariant w.count s (w.log s) (w.applied s)
+  pub links : (s o : ℕ) → LinkInvariant (w.log o) (w.reached s o) (w.put s o) (w.applied s o)
