@@ -7,7 +7,10 @@ use Rattle.std.proofs.lemmas.List.Folds.{flat_map-map}
 use Rattle.site_metrics.specs.declared.metrics.Metrics.{Metrics}
 use Rattle.site_metrics.specs.declared.metrics.PeerMetrics.{PeerMetrics}
 use Rattle.site_metrics.specs.Format.{Sample, Family, help_line, type_line, sample_line, lines_of, exposition, led_lines}
-use Rattle.site_metrics.specs.Table.{alone, peer_sample, by_peer, name_sample, by_name, rights_metrics, state_metrics, client_metrics, log_metrics, line_metrics, all_metrics, metrics_text}
+use Rattle.site_metrics.specs.Table.{alone, peer_sample, by_peer, name_sample, by_name, peer_metric, rights_metrics, state_metrics, client_metrics, log_metrics, line_metrics, all_metrics, metrics_text}
+use Rattle.site_metrics.specs.PeerValues.{peer_value}
+use Rattle.site_metrics.specs.declared.peer_value.PeerValue.{PeerValue}
+use Rattle.site_metrics.specs.declared.peer_value.PeerValue.TheVariants.{Applied, Buffering, Held, Receiving, Sending, Lines, Refused, Dropped, Waiting, WentBack}
 use Rattle.site_metrics.specs.Refusals.{refusal_names}
 
 abbrev led : List (List ℕ) → List ℕ
@@ -153,3 +156,18 @@ module _ (name help kind : List ℕ) where
     pub put_names : (counts : List ℕ)
         → (text ++ head) ++ flat_map (λ e. 10 ∷ sample_line name (name_sample e)) (zip refusal_names counts) ≡ text ++ led_lines (record { name = name; help = help; kind = kind; samples = by_name counts })
     put_names counts = append_assoc text head (flat_map (λ e. 10 ∷ sample_line name (name_sample e)) (zip refusal_names counts)) ∙ ap (λ (t : List ℕ). text ++ t) (sym (led_names counts))
+
+-- the metric with a value of each peer, by its words
+pub is_peer_metric : (value : PeerValue) (peers : List PeerMetrics) (name help kind : List ℕ)
+    → name ≡ (peer_metric value []).name → help ≡ (peer_metric value []).help → kind ≡ (peer_metric value []).kind
+    → record { name = name; help = help; kind = kind; samples = by_peer (peer_value value) peers } ≡ peer_metric value peers
+is_peer_metric Applied peers name help kind a b c = rw (a, b, c) refl
+is_peer_metric Buffering peers name help kind a b c = rw (a, b, c) refl
+is_peer_metric Held peers name help kind a b c = rw (a, b, c) refl
+is_peer_metric Receiving peers name help kind a b c = rw (a, b, c) refl
+is_peer_metric Sending peers name help kind a b c = rw (a, b, c) refl
+is_peer_metric Lines peers name help kind a b c = rw (a, b, c) refl
+is_peer_metric Refused peers name help kind a b c = rw (a, b, c) refl
+is_peer_metric Dropped peers name help kind a b c = rw (a, b, c) refl
+is_peer_metric Waiting peers name help kind a b c = rw (a, b, c) refl
+is_peer_metric WentBack peers name help kind a b c = rw (a, b, c) refl

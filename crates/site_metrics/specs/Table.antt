@@ -5,6 +5,8 @@ use Rattle.site_metrics.specs.declared.kind.Kind.{Kind}
 use Rattle.site_metrics.specs.declared.kind.Kind.TheVariants.{Gauge, Counter}
 use Rattle.site_metrics.specs.declared.metrics.Metrics.{Metrics}
 use Rattle.site_metrics.specs.declared.metrics.PeerMetrics.{PeerMetrics}
+use Rattle.site_metrics.specs.declared.peer_value.PeerValue.{PeerValue}
+use Rattle.site_metrics.specs.declared.peer_value.PeerValue.TheVariants.{Applied, Buffering, Held, Receiving, Sending, Lines, Refused, Dropped, Waiting, WentBack}
 use Rattle.site_metrics.specs.Format.{Sample, Family, exposition}
 use Rattle.site_metrics.specs.Refusals.{refusal_names}
 
@@ -69,23 +71,24 @@ client_metrics m =
     ∷ counter (codes "rights_commands_refused_total") (codes "Commands refused, by the name of the refusal.") (by_name m.refused)
     ∷ []
 
+-- the metric with this value of each peer
+abbrev pub peer_metric : PeerValue → List PeerMetrics → Family
+peer_metric Applied peers = counter (codes "rights_peer_applied") (codes "Number up to which the peer's log is applied.") (by_peer (λ p. p.applied) peers)
+peer_metric Buffering peers = gauge (codes "rights_peer_buffering") (codes "1 while entries of the peer wait for one that is missing, else 0.") (by_peer (λ p. bit p.buffering) peers)
+peer_metric Held peers = gauge (codes "rights_peer_entries_held") (codes "Entries of the peer that wait for one that is missing.") (by_peer (λ p. p.held) peers)
+peer_metric Receiving peers = gauge (codes "rights_peer_receiving") (codes "1 while a connection from the peer stands, else 0.") (by_peer (λ p. bit p.receiving) peers)
+peer_metric Sending peers = gauge (codes "rights_peer_sending") (codes "1 while a connection to the peer stands, else 0.") (by_peer (λ p. bit p.sending) peers)
+peer_metric Lines peers = counter (codes "rights_peer_lines_total") (codes "Lines that came from the peer.") (by_peer (λ p. p.lines) peers)
+peer_metric Refused peers = counter (codes "rights_peer_lines_refused_total") (codes "Lines from the peer that were skipped.") (by_peer (λ p. p.refused) peers)
+peer_metric Dropped peers = counter (codes "rights_peer_lines_dropped_total") (codes "Lines for the peer that found no room in the outbox, or were lost by a failed connection or write.") (by_peer (λ p. p.dropped) peers)
+peer_metric Waiting peers = gauge (codes "rights_peer_lines_waiting") (codes "Lines that wait in the peer's outbox.") (by_peer (λ p. p.waiting) peers)
+peer_metric WentBack peers = counter (codes "rights_peer_number_went_back_total") (codes "Beats of the peer below what was applied of its log: it was started anew, or runs twice.") (by_peer (λ p. p.went_back) peers)
+
 abbrev pub log_metrics : List PeerMetrics → List Family
-log_metrics peers =
-    counter (codes "rights_peer_applied") (codes "Number up to which the peer's log is applied.") (by_peer (λ p. p.applied) peers)
-    ∷ gauge (codes "rights_peer_buffering") (codes "1 while entries of the peer wait for one that is missing, else 0.") (by_peer (λ p. bit p.buffering) peers)
-    ∷ gauge (codes "rights_peer_entries_held") (codes "Entries of the peer that wait for one that is missing.") (by_peer (λ p. p.held) peers)
-    ∷ gauge (codes "rights_peer_receiving") (codes "1 while a connection from the peer stands, else 0.") (by_peer (λ p. bit p.receiving) peers)
-    ∷ gauge (codes "rights_peer_sending") (codes "1 while a connection to the peer stands, else 0.") (by_peer (λ p. bit p.sending) peers)
-    ∷ []
+log_metrics peers = map (λ v. peer_metric v peers) (Applied ∷ Buffering ∷ Held ∷ Receiving ∷ Sending ∷ [])
 
 abbrev pub line_metrics : List PeerMetrics → List Family
-line_metrics peers =
-    counter (codes "rights_peer_lines_total") (codes "Lines that came from the peer.") (by_peer (λ p. p.lines) peers)
-    ∷ counter (codes "rights_peer_lines_refused_total") (codes "Lines from the peer that were skipped.") (by_peer (λ p. p.refused) peers)
-    ∷ counter (codes "rights_peer_lines_dropped_total") (codes "Lines for the peer that found no room in the outbox, or were lost by a failed connection or write.") (by_peer (λ p. p.dropped) peers)
-    ∷ gauge (codes "rights_peer_lines_waiting") (codes "Lines that wait in the peer's outbox.") (by_peer (λ p. p.waiting) peers)
-    ∷ counter (codes "rights_peer_number_went_back_total") (codes "Beats of the peer below what was applied of its log: it was started anew, or runs twice.") (by_peer (λ p. p.went_back) peers)
-    ∷ []
+line_metrics peers = map (λ v. peer_metric v peers) (Lines ∷ Refused ∷ Dropped ∷ Waiting ∷ WentBack ∷ [])
 
 abbrev pub all_metrics : Metrics → List PeerMetrics → List Family
 all_metrics m peers = rights_metrics m ++ (state_metrics m ++ (client_metrics m ++ (log_metrics peers ++ line_metrics peers)))

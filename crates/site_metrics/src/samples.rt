@@ -3,7 +3,7 @@
 ghost use Rattle.std.specs.Prelude.{◌≡◌, ℕ, List, ◌++◌, ◌∷◌, [], codes, flat_map, length, ◌≤◌, ◌+◌, ◌*◌, OnOk, IsOk};
 ghost use Rattle.std.specs.List.{zip};
 ghost use Rattle.site_metrics.specs.Format.{help_line, type_line, sample_line, led_lines};
-ghost use Rattle.site_metrics.specs.Table.{kind_word, family, alone, peer_sample, by_peer, name_sample, by_name};
+ghost use Rattle.site_metrics.specs.Table.{kind_word, family, alone, peer_sample, peer_metric, name_sample, by_name};
 ghost use Rattle.site_metrics.specs.Refusals.{refusal_names};
 ghost use Rattle.site_metrics.specs.PeerValues.{peer_value};
 
@@ -44,23 +44,19 @@ pub(crate) fn put_alone<A: Allocator>(
     put_value(replies, name, value)
 }
 
-/// A metric with a value for each peer.
+/// The metric with this value of each peer.
 pub(crate) fn put_by_peer<A: Allocator>(
     replies: &mut Replies<A>,
-    kind: Kind,
-    name: &[u8],
-    help: &[u8],
     peers: &[PeerMetrics],
     value: PeerValue,
 ) -> Result<(), OutOfMemory>
-    requires name { length name.now ≤ MAX_NAME }
-    requires help { length help.now ≤ MAX_HELP }
-    ensures ok { OnOk result (replies.new.part ≡ replies.old.part ++ led_lines (family kind name.now help.now (by_peer (peer_value value) peers.now))) }
+    ensures ok { OnOk result (replies.new.part ≡ replies.old.part ++ led_lines (peer_metric value peers.now)) }
     ensures kept { replies.new.whole ≡ replies.old.whole }
     ensures room { HEAD_ROOM + SAMPLE_ROOM * length peers.now ≤ replies.old.room → IsOk result }
     ensures left { replies.old.room ≤ replies.new.room + (HEAD_ROOM + SAMPLE_ROOM * length peers.now) }
 {
-    put_led_head(replies, kind, name, help)?;
+    let name = value.name();
+    put_led_head(replies, value.kind(), name, value.help())?;
     put_peer_values(replies, name, peers, value)
 }
 

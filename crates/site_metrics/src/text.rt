@@ -209,46 +209,11 @@ fn put_logs<A: Allocator>(
     ensures room { 5 * HEAD_ROOM + 5 * (SAMPLE_ROOM * length peers.now) ≤ replies.old.room → IsOk result }
     ensures left { replies.old.room ≤ replies.new.room + (5 * HEAD_ROOM + 5 * (SAMPLE_ROOM * length peers.now)) }
 {
-    put_by_peer(
-        replies,
-        Kind::Counter,
-        b"rights_peer_applied",
-        b"Number up to which the peer's log is applied.",
-        peers,
-        PeerValue::Applied,
-    )?;
-    put_by_peer(
-        replies,
-        Kind::Gauge,
-        b"rights_peer_buffering",
-        b"1 while entries of the peer wait for one that is missing, else 0.",
-        peers,
-        PeerValue::Buffering,
-    )?;
-    put_by_peer(
-        replies,
-        Kind::Gauge,
-        b"rights_peer_entries_held",
-        b"Entries of the peer that wait for one that is missing.",
-        peers,
-        PeerValue::Held,
-    )?;
-    put_by_peer(
-        replies,
-        Kind::Gauge,
-        b"rights_peer_receiving",
-        b"1 while a connection from the peer stands, else 0.",
-        peers,
-        PeerValue::Receiving,
-    )?;
-    put_by_peer(
-        replies,
-        Kind::Gauge,
-        b"rights_peer_sending",
-        b"1 while a connection to the peer stands, else 0.",
-        peers,
-        PeerValue::Sending,
-    )
+    put_by_peer(replies, peers, PeerValue::Applied)?;
+    put_by_peer(replies, peers, PeerValue::Buffering)?;
+    put_by_peer(replies, peers, PeerValue::Held)?;
+    put_by_peer(replies, peers, PeerValue::Receiving)?;
+    put_by_peer(replies, peers, PeerValue::Sending)
 }
 
 fn put_lines<A: Allocator>(
@@ -260,46 +225,11 @@ fn put_lines<A: Allocator>(
     ensures room { 5 * HEAD_ROOM + 5 * (SAMPLE_ROOM * length peers.now) ≤ replies.old.room → IsOk result }
     ensures left { replies.old.room ≤ replies.new.room + (5 * HEAD_ROOM + 5 * (SAMPLE_ROOM * length peers.now)) }
 {
-    put_by_peer(
-        replies,
-        Kind::Counter,
-        b"rights_peer_lines_total",
-        b"Lines that came from the peer.",
-        peers,
-        PeerValue::Lines,
-    )?;
-    put_by_peer(
-        replies,
-        Kind::Counter,
-        b"rights_peer_lines_refused_total",
-        b"Lines from the peer that were skipped.",
-        peers,
-        PeerValue::Refused,
-    )?;
-    put_by_peer(
-        replies,
-        Kind::Counter,
-        b"rights_peer_lines_dropped_total",
-        b"Lines for the peer that found no room in the outbox, or were lost by a failed connection or write.",
-        peers,
-        PeerValue::Dropped,
-    )?;
-    put_by_peer(
-        replies,
-        Kind::Gauge,
-        b"rights_peer_lines_waiting",
-        b"Lines that wait in the peer's outbox.",
-        peers,
-        PeerValue::Waiting,
-    )?;
-    put_by_peer(
-        replies,
-        Kind::Counter,
-        b"rights_peer_number_went_back_total",
-        b"Beats of the peer below what was applied of its log: it was started anew, or runs twice.",
-        peers,
-        PeerValue::WentBack,
-    )
+    put_by_peer(replies, peers, PeerValue::Lines)?;
+    put_by_peer(replies, peers, PeerValue::Refused)?;
+    put_by_peer(replies, peers, PeerValue::Dropped)?;
+    put_by_peer(replies, peers, PeerValue::Waiting)?;
+    put_by_peer(replies, peers, PeerValue::WentBack)
 }
 
 /// 1 if the value is true, else 0.
