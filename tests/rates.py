@@ -42,15 +42,20 @@ def local_spends():
 
 def exchange(process, commands, replies):
     """Writes commands as fast as they are read, and reads this number of replies."""
-    feeder = threading.Thread(target=lambda: (process.stdin.write(commands), process.stdin.flush()))
+    feeder = threading.Thread(target=write_all, args=(process.stdin.fileno(), memoryview(commands)))
     feeder.start()
     lines = 0
     while lines < replies:
-        block = process.stdout.read1(1 << 16)
+        block = os.read(process.stdout.fileno(), 1 << 16)
         assert block, lines
         lines += block.count(b"\n")
     feeder.join()
     assert lines == replies, lines
+
+
+def write_all(pipe, text):
+    while text:
+        text = text[os.write(pipe, text[: 1 << 16]) :]
 
 
 def carried_entries():

@@ -7,11 +7,22 @@ use crate::kept::Kept;
 use crate::names::DeskNames;
 use crate::shared_desk::SharedDesk;
 use std::alloc::Allocator;
+use std::hint;
 use std::sync::Wait;
 use thread_parts::Item;
 
 /// The greatest number of entries that are applied under one hold of the lock.
 pub const MAX_BATCH: u64 = 256;
+
+// How often an applier pauses before it looks at its lane again, some microseconds in all: meanwhile the lane is the
+// reader's alone, and several entries come to wait there.
+const PAUSES: u32 = 64;
+
+fn pause() {
+    for _ in 0..PAUSES {
+        hint::spin_loop();
+    }
+}
 
 impl<D: DeskNames, G: Gate, A: Allocator> Applier<D, G, A> {
     ghost use Rattle.apply_lanes.specs.Appliers.{IsCounted, Fills};
@@ -114,6 +125,7 @@ impl<D: DeskNames, A: Allocator> Applier<D, Free, A> {
             if !more {
                 return Ok(());
             }
+            pause();
         }
         unreachable!()
     }
