@@ -53,8 +53,8 @@ pub record Closed {S : Type 0} (answers : Answering S) (start : S) (all : List (
   pub talked : Talked answers start lines state held now waits
   pub ended : IsEnded answers all lines state after
 
--- the result of taking the last bytes of this input; after a failed write some of the replies wait, and it
--- is not said which
+-- the result of taking the last bytes of this input; after a failed write some replies are left, and it is not said
+-- which
 abbrev pub Fed : {S : Type 0} → Answering S → (S → S → Type 0) → S → List ℕ → Option (List ℕ) → Option (List ℕ) → Result Goes ConversationError → S → Waiting → List ℕ → Type 0
 Fed answers fails start input held now (Ok On) after waits carry = Going answers start input after held now waits carry
 Fed answers fails start input held now (Ok Ends) after waits carry = Closed answers start (pieces input) after held now waits.whole

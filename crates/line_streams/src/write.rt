@@ -28,8 +28,7 @@ pub fn write_some<W: Write>(writer: &mut W, text: &[u8]) -> usize
     0
 }
 
-/// Writes the whole text, in as many writes as it takes. On `Err` a proper prefix of it
-/// was written.
+/// Writes the whole text, in as many writes as it takes. On `Err` a proper prefix of it was written.
 pub fn write_whole<W: Write>(writer: &mut W, text: &[u8]) -> Result<(), OutputError>
     ensures whole { OnOk result (Appends (W.contents writer.old) (W.contents writer.new) text.now) }
     ensures front { OnErr result (FallsShort (W.contents writer.old) (W.contents writer.new) text.now) }
