@@ -1,5 +1,5 @@
 -- What taking bytes does to a conversation.
-use Rattle.std.proofs.Common.{◌≡◌, ℕ, ◌+◌, ◌-◌, ◌≤◌, List, [], ◌∷◌, ◌++◌, length, take, drop, ap, ◌∙◌, sym, subst, arith, Option, Some, append-nil, append_assoc, take-append-drop}
+use Rattle.std.proofs.Common.{◌≡◌, ℕ, ◌+◌, ◌-◌, ◌<◌, ◌≤◌, List, [], ◌∷◌, ◌++◌, length, length-drop, take, drop, ap, ◌∙◌, sym, subst, arith, Option, Some, append-nil, append_assoc, take-append-drop}
 use Rattle.std.specs.Io.KnownBytes.{Appends}
 use Rattle.std.proofs.KnownBytes.{Appends-trans}
 use Rattle.std.proofs.lemmas.List.{take_rest}
@@ -13,6 +13,10 @@ use Rattle.line_streams.specs.declared.handler.Goes.TheVariants.{On, Ends}
 use Rattle.line_streams.proofs.CarryLaws.{carry_more}
 use Rattle.line_streams.proofs.LineLaws.{lines_append, lines_one}
 use Rattle.line_streams.proofs.CutLaws.{cut_found, cut_none}
+
+-- what is left after a proper prefix
+pub more_left : (n : ℕ) (xs : List ℕ) → n < length xs → 0 < length (drop n xs)
+more_left n xs short = simp length-drop (omega (arith, short))
 
 module _ {S : Type 0} (answers : Answering S) (start : S) (input : List ℕ) (state : S) (held now : Option (List ℕ)) (waits : Waiting) (carry : List ℕ) (h : Going answers start input state held now waits carry) where
   -- the lines of the input, once the current line has ended
@@ -105,10 +109,11 @@ module _ {S : Type 0} (answers : Answering S) (start : S) (input : List ℕ) (st
   }
 
   -- a stop at a failed write
-  pub stopped_write : (leaves : S → Type 0) → leaves state → (more : List ℕ) (after : Option (List ℕ)) (n : ℕ) → Appends now after (take n waits.whole)
-      → (rest : List ℕ) × Stopped answers start (pieces (input ++ more)) leaves held after rest
-  stopped_write leaves left more after n writes = (
+  pub stopped_write : (leaves : S → Type 0) → leaves state → (more : List ℕ) (after : Option (List ℕ)) (n : ℕ) → n < length waits.whole → Appends now after (take n waits.whole)
+      → (rest : List ℕ) × (0 < length rest) × Stopped answers start (pieces (input ++ more)) leaves held after rest
+  stopped_write leaves left more after n short writes = (
     drop n waits.whole,
+    more_left n waits.whole short,
     record {
       lines = pieces input;
       state = state;
@@ -164,8 +169,8 @@ module _ {S : Type 0} (answers : Answering S) (start : S) (input bytes : List �
   stopped_in leaves left whole e =
       subst (λ (l : List ℕ). Stopped answers start (pieces l) leaves held now whole) (sym all_bytes) (stopped_here answers start (input ++ take at bytes) state held now waits carry h leaves left (drop at bytes) whole e)
 
-  pub stopped_in_write : (leaves : S → Type 0) → leaves state → (after : Option (List ℕ)) (n : ℕ) → Appends now after (take n waits.whole)
-      → (rest : List ℕ) × Stopped answers start (pieces (input ++ bytes)) leaves held after rest
-  stopped_in_write leaves left after n writes =
-      let stop = stopped_write answers start (input ++ take at bytes) state held now waits carry h leaves left (drop at bytes) after n writes in
-      (stop.0, subst (λ (l : List ℕ). Stopped answers start (pieces l) leaves held after stop.0) (sym all_bytes) stop.1)
+  pub stopped_in_write : (leaves : S → Type 0) → leaves state → (after : Option (List ℕ)) (n : ℕ) → n < length waits.whole → Appends now after (take n waits.whole)
+      → (rest : List ℕ) × (0 < length rest) × Stopped answers start (pieces (input ++ bytes)) leaves held after rest
+  stopped_in_write leaves left after n short writes =
+      let stop = stopped_write answers start (input ++ take at bytes) state held now waits carry h leaves left (drop at bytes) after n short writes in
+      (stop.0, stop.1, subst (λ (l : List ℕ). Stopped answers start (pieces l) leaves held after stop.0) (sym all_bytes) stop.2)

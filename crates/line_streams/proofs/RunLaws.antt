@@ -4,11 +4,11 @@ use Rattle.std.specs.Io.KnownBytes.{Appends, Consumes}
 use Rattle.std.proofs.KnownBytes.{Appends-trans, Appends-nil, Consumes-nil, Consumes-trans}
 use Rattle.entry_codec.specs.Pieces.{pieces, unfinished, pieces_after}
 use Rattle.entry_codec.proofs.Pieces.{pieces_append}
-use Rattle.line_streams.specs.Fronts.{AppendsFront}
+use Rattle.line_streams.specs.Fronts.{FallsShort}
 use Rattle.line_streams.specs.Counting.{still, Parted}
 use Rattle.line_streams.specs.Waiting.{Waiting, IsEmpty}
 use Rattle.line_streams.specs.Handling.{Answering}
-use Rattle.line_streams.specs.Talk.{last_line, lines_of, Talk, EndsBy, Leaves, BeginsWith, IsEnded}
+use Rattle.line_streams.specs.Talk.{last_line, lines_of, Talk, EndsBy, Leaves, BeginsWith, GoesBeyond, IsEnded}
 use Rattle.line_streams.specs.Going.{Talked, Going, IsNew, Stopped, Closed, Fails, Fed, Ran}
 use Rattle.line_streams.specs.declared.fault.ConversationError.{ConversationError}
 use Rattle.line_streams.specs.declared.fault.ConversationError.TheVariants.{ReadFailed, WriteFailed, OutOfMemory, TooManyLines}
@@ -16,7 +16,7 @@ use Rattle.line_streams.specs.declared.handler.Goes.TheVariants.{On, Ends}
 use Rattle.line_streams.specs.declared.handler.EndedBy.{EndedBy}
 use Rattle.line_streams.specs.declared.handler.EndedBy.TheVariants.{Input, Handler}
 use Rattle.line_streams.proofs.CountLaws.{none_parted}
-use Rattle.line_streams.proofs.FeedLaws.{going_written, talked_front}
+use Rattle.line_streams.proofs.FeedLaws.{going_written, talked_front, more_left}
 
 last_some : (front : List ℕ) → 0 < length front → last_line front ≡ pieces_after front (10 ∷ [])
 last_some [] h = absurd (omega arith)
@@ -73,9 +73,10 @@ module _ {S : Type 0} (answers : Answering S) (fails : S → S → Type 0) (star
 
   -- some of it was, if a write failed
   pub ran_written : (chunks : List (List ℕ)) (input : List ℕ) (state : S) (held now after : Option (List ℕ)) (waits : Waiting) (carry rest : List ℕ) → Going answers start input state held now waits carry
-      → AppendsFront now after waits.whole → Ran answers fails start chunks input held after (Err WriteFailed) state rest
+      → FallsShort now after waits.whole → Ran answers fails start chunks input held after (Err WriteFailed) state rest
   ran_written chunks input state held now after waits carry rest h part = (
     drop part.0 waits.whole,
+    more_left part.0 waits.whole part.1,
     record {
       lines = pieces input;
       state = state;
@@ -123,7 +124,7 @@ module _ {S : Type 0} (answers : Answering S) (fails : S → S → Type 0) (star
     pub ran_err : (fault : ConversationError) → Fed answers fails start input held now (Err fault) after waits carry → (fault ≡ TooManyLines → 1000000000 ≤ length (pieces input) + still chunks)
         → Ran answers fails start chunks input held now (Err fault) after waits.whole
     ran_err ReadFailed fed many = absurd fed
-    ran_err WriteFailed fed many = (fed.0, stopped_more (pieces input) (last_line (unfinished input)) (λ state. after ≡ state) held now fed.0 fed.1)
+    ran_err WriteFailed fed many = (fed.0, fed.1, stopped_more (pieces input) (last_line (unfinished input)) (λ state. after ≡ state) held now fed.0 fed.2)
     ran_err OutOfMemory fed many = stopped_more (pieces input) (last_line (unfinished input)) (Fails fails after) held now waits.whole fed
     ran_err TooManyLines fed many = (stopped_more (pieces input) (last_line (unfinished input)) (λ state. after ≡ state) held now waits.whole fed, omega (arith, many refl, some_counted input))
 
@@ -150,7 +151,7 @@ module _ {S : Type 0} (answers : Answering S) (fails : S → S → Type 0) (star
         → (fault ≡ TooManyLines → 1000000000 ≤ (length (pieces input) + still chunks) + 1)
         → Ran answers fails start chunks input held now (Err fault) after waits.whole
     last_err ReadFailed some fed many = absurd fed
-    last_err WriteFailed some fed many = (fed.0, subst (λ (l : List (List ℕ)). Stopped answers start l (λ state. after ≡ state) held now fed.0) (sym (all_lines input some)) fed.1)
+    last_err WriteFailed some fed many = (fed.0, fed.1, subst (λ (l : List (List ℕ)). Stopped answers start l (λ state. after ≡ state) held now fed.0) (sym (all_lines input some)) fed.2)
     last_err OutOfMemory some fed many = subst (λ (l : List (List ℕ)). Stopped answers start l (Fails fails after) held now waits.whole) (sym (all_lines input some)) fed
     last_err TooManyLines some fed many =
         (subst (λ (l : List (List ℕ)). Stopped answers start l (λ state. after ≡ state) held now waits.whole) (sym (all_lines input some)) fed, omega (arith, many refl, last_counted input some))
@@ -197,13 +198,13 @@ module _ {S : Type 0} (answers : Answering S) (fails : S → S → Type 0) (star
       writes = Appends-trans held now after t.written (take n waits) t.writes writes;
     }
 
-    part_begins : (n : ℕ) → BeginsWith t.replies (t.written ++ take n waits)
-    part_begins n = (drop n waits, t.rest ∙ ap (λ (l : List ℕ). t.written ++ l) (sym (take-append-drop n waits)) ∙ sym (append_assoc t.written (take n waits) (drop n waits)))
+    part_begins : (n : ℕ) → n < length waits → GoesBeyond t.replies (t.written ++ take n waits)
+    part_begins n short = (drop n waits, more_left n waits short, t.rest ∙ ap (λ (l : List ℕ). t.written ++ l) (sym (take-append-drop n waits)) ∙ sym (append_assoc t.written (take n waits) (drop n waits)))
 
-    pub cut_short : (n : ℕ) → Appends now after (take n waits) → BeginsWith (lines_of input) lines → (end : S) → (end ≡ state) ⊎ fails state end ⊎ IsEnded answers (lines_of input) lines state end
+    pub cut_short : (n : ℕ) → n < length waits → Appends now after (take n waits) → BeginsWith (lines_of input) lines → (end : S) → (end ≡ state) ⊎ fails state end ⊎ IsEnded answers (lines_of input) lines state end
         → EndedAs given left held after (Err WriteFailed) end
     unfolding talk_part
-    cut_short n writes front end leaves = (talk_part n writes, (front, part_begins n), leaves)
+    cut_short n short writes front end leaves = (talk_part n writes, (front, part_begins n short), leaves)
 
   module _ (chunks : List (List ℕ)) (input : List ℕ) (given left held now after : Option (List ℕ)) (reads : Consumes given left input) (parted : Parted chunks input) (waits : List ℕ) (end : S) where
     -- the last write took all
@@ -217,16 +218,16 @@ module _ {S : Type 0} (answers : Answering S) (fails : S → S → Type 0) (star
     ends_whole (Err TooManyLines) ran other writes = (talk_whole chunks input given left held now after reads parted ran.0.lines ran.0.state waits ran.0.talked writes, (ran.0.front, sym ran.0.talked.rest, ran.1), ran.0.left)
 
     -- the last write failed
-    pub ends_cut : (result : Result EndedBy ConversationError) (n : ℕ) → Ran answers fails start chunks input held now result end waits → (result ≡ Err WriteFailed → ⊥) → Appends now after (take n waits)
+    pub ends_cut : (result : Result EndedBy ConversationError) (n : ℕ) → n < length waits → Ran answers fails start chunks input held now result end waits → (result ≡ Err WriteFailed → ⊥) → Appends now after (take n waits)
         → EndedAs given left held after (Err WriteFailed) end
-    ends_cut (Ok Input) n ran other writes = cut_short chunks input given left held now after reads parted (lines_of input) end waits ran.0 n writes ([], sym (append-nil (lines_of input))) end (inl refl)
-    ends_cut (Ok Handler) n ran other writes =
-        cut_short chunks input given left held now after reads parted ran.lines ran.state waits ran.talked n writes (begins_before (lines_of input) ran.lines ran.ended.line ran.ended.next) end (inr (inr ran.ended))
-    ends_cut (Err ReadFailed) n ran other writes = cut_short chunks input given left held now after reads parted (pieces input) end waits ran.0 n writes (last_line (unfinished input), refl) end (inl refl)
-    ends_cut (Err WriteFailed) n ran other writes = absurd (other refl)
-    ends_cut (Err OutOfMemory) n ran other writes =
-        cut_short chunks input given left held now after reads parted ran.lines ran.state waits ran.talked n writes ran.front end (elim ran.left [ inl same ↦ inl same | inr failed ↦ inr (inl failed) ])
-    ends_cut (Err TooManyLines) n ran other writes = cut_short chunks input given left held now after reads parted ran.0.lines ran.0.state waits ran.0.talked n writes ran.0.front end (inl ran.0.left)
+    ends_cut (Ok Input) n short ran other writes = cut_short chunks input given left held now after reads parted (lines_of input) end waits ran.0 n short writes ([], sym (append-nil (lines_of input))) end (inl refl)
+    ends_cut (Ok Handler) n short ran other writes =
+        cut_short chunks input given left held now after reads parted ran.lines ran.state waits ran.talked n short writes (begins_before (lines_of input) ran.lines ran.ended.line ran.ended.next) end (inr (inr ran.ended))
+    ends_cut (Err ReadFailed) n short ran other writes = cut_short chunks input given left held now after reads parted (pieces input) end waits ran.0 n short writes (last_line (unfinished input), refl) end (inl refl)
+    ends_cut (Err WriteFailed) n short ran other writes = absurd (other refl)
+    ends_cut (Err OutOfMemory) n short ran other writes =
+        cut_short chunks input given left held now after reads parted ran.lines ran.state waits ran.talked n short writes ran.front end (elim ran.left [ inl same ↦ inl same | inr failed ↦ inr (inl failed) ])
+    ends_cut (Err TooManyLines) n short ran other writes = cut_short chunks input given left held now after reads parted ran.0.lines ran.0.state waits ran.0.talked n short writes ran.0.front end (inl ran.0.left)
 
   -- an earlier write failed
   pub ends_failed : (chunks : List (List ℕ)) (input : List ℕ) (given left held now : Option (List ℕ)) → Consumes given left input → Parted chunks input → (waits : List ℕ) (end : S) (result : Result EndedBy ConversationError)
@@ -235,6 +236,6 @@ module _ {S : Type 0} (answers : Answering S) (fails : S → S → Type 0) (star
   ends_failed chunks input given left held now reads parted waits end (Ok Handler) e ran = absurd cc
   ends_failed chunks input given left held now reads parted waits end (Err ReadFailed) e ran = absurd cc
   ends_failed chunks input given left held now reads parted waits end (Err WriteFailed) e ran =
-      cut_short chunks input given left held now now reads parted ran.1.lines ran.1.state ran.0 ran.1.talked 0 (Appends-nil now) ran.1.front end (inl ran.1.left)
+      cut_short chunks input given left held now now reads parted ran.2.lines ran.2.state ran.0 ran.2.talked 0 ran.1 (Appends-nil now) ran.2.front end (inl ran.2.left)
   ends_failed chunks input given left held now reads parted waits end (Err OutOfMemory) e ran = absurd cc
   ends_failed chunks input given left held now reads parted waits end (Err TooManyLines) e ran = absurd cc

@@ -53,12 +53,13 @@ pub record Closed {S : Type 0} (answers : Answering S) (start : S) (all : List (
   pub talked : Talked answers start lines state held now waits
   pub ended : IsEnded answers all lines state after
 
--- the result of taking the last bytes of this input; after a failed write nothing is said of what waits
+-- the result of taking the last bytes of this input; after a failed write some replies are left, and it is not said
+-- which
 abbrev pub Fed : {S : Type 0} → Answering S → (S → S → Type 0) → S → List ℕ → Option (List ℕ) → Option (List ℕ) → Result Goes ConversationError → S → Waiting → List ℕ → Type 0
 Fed answers fails start input held now (Ok On) after waits carry = Going answers start input after held now waits carry
 Fed answers fails start input held now (Ok Ends) after waits carry = Closed answers start (pieces input) after held now waits.whole
 Fed answers fails start input held now (Err ReadFailed) after waits carry = ⊥
-Fed answers fails start input held now (Err WriteFailed) after waits carry = (rest : List ℕ) × Stopped answers start (pieces input) (λ state. after ≡ state) held now rest
+Fed answers fails start input held now (Err WriteFailed) after waits carry = (rest : List ℕ) × (0 < length rest) × Stopped answers start (pieces input) (λ state. after ≡ state) held now rest
 Fed answers fails start input held now (Err OutOfMemory) after waits carry = Stopped answers start (pieces input) (Fails fails after) held now waits.whole
 Fed answers fails start input held now (Err TooManyLines) after waits carry = Stopped answers start (pieces input) (λ state. after ≡ state) held now waits.whole
 
@@ -70,7 +71,7 @@ Ran answers fails start chunks input held now (Ok Handler) after waits = Closed 
 Ran answers fails start chunks input held now (Err ReadFailed) after waits =
     Talked answers start (pieces input) after held now waits × (length (pieces input) + still chunks < LINE_LIMIT)
 Ran answers fails start chunks input held now (Err WriteFailed) after waits =
-    (rest : List ℕ) × Stopped answers start (lines_of input) (λ state. after ≡ state) held now rest
+    (rest : List ℕ) × (0 < length rest) × Stopped answers start (lines_of input) (λ state. after ≡ state) held now rest
 Ran answers fails start chunks input held now (Err OutOfMemory) after waits = Stopped answers start (lines_of input) (Fails fails after) held now waits
 Ran answers fails start chunks input held now (Err TooManyLines) after waits =
     Stopped answers start (lines_of input) (λ state. after ≡ state) held now waits × (LINE_LIMIT ≤ length (lines_of input) + still chunks)

@@ -23,6 +23,10 @@ lines_of input = pieces input ++ last_line (unfinished input)
 abbrev pub BeginsWith : {X : Type 0} → List X → List X → Type 0
 BeginsWith {X} xs front = (rest : List X) × (xs ≡ front ++ rest)
 
+-- the list has this prefix, and more
+abbrev pub GoesBeyond : {X : Type 0} → List X → List X → Type 0
+GoesBeyond {X} xs front = (rest : List X) × (0 < length rest) × (xs ≡ front ++ rest)
+
 -- the reader gave some input, some lines were replied to from the initial state on, and the writer took some text
 pub record Talk {S : Type 0} (answers : Answering S) (start : S) (given left held holds : Option (List ℕ)) : Type 0 where
   pub chunks : List (List ℕ)
@@ -45,7 +49,7 @@ EndsBy (Ok Input) talk =
 EndsBy (Ok Handler) talk = BeginsWith (lines_of talk.input) talk.lines × (talk.text ≡ talk.replies)
 EndsBy (Err ReadFailed) talk =
     (talk.lines ≡ pieces talk.input) × (talk.text ≡ talk.replies) × (length talk.lines + still talk.chunks < LINE_LIMIT)
-EndsBy (Err WriteFailed) talk = BeginsWith (lines_of talk.input) talk.lines × BeginsWith talk.replies talk.text
+EndsBy (Err WriteFailed) talk = BeginsWith (lines_of talk.input) talk.lines × GoesBeyond talk.replies talk.text
 EndsBy (Err OutOfMemory) talk = BeginsWith (lines_of talk.input) talk.lines × (talk.text ≡ talk.replies)
 EndsBy (Err TooManyLines) talk =
     BeginsWith (lines_of talk.input) talk.lines × (talk.text ≡ talk.replies) × (LINE_LIMIT ≤ length (lines_of talk.input) + still talk.chunks)

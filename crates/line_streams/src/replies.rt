@@ -1,7 +1,7 @@
 //! Replies that wait to be written.
 ghost use Rattle.std.specs.Prelude.{◌≡◌, ℕ, List, [], ◌++◌, ◌<◌, ◌≤◌, ◌+◌, length, decimal, OnOk, OnErr, IsOk};
 ghost use Rattle.std.specs.Io.KnownBytes.{Appends};
-ghost use Rattle.line_streams.specs.Fronts.{AppendsFront};
+ghost use Rattle.line_streams.specs.Fronts.{FallsShort};
 ghost use Rattle.line_streams.specs.Waiting.{IsEmpty, AddsReply};
 
 use crate::put::{MAX_DIGITS, make_room, put_field, put_text};
@@ -116,11 +116,11 @@ impl<A: Allocator> Replies<A> {
         self.whole = 0;
     }
 
-    /// Writes the whole replies, and drops everything. On `Err` the writer has taken a prefix of them.
+    /// Writes the whole replies, and drops everything. On `Err` the writer has taken a proper prefix of them.
     pub fn write_to<W: Write>(&mut self, writer: &mut W) -> Result<(), OutputError>
         ensures whole { OnOk result (Appends (W.contents writer.old) (W.contents writer.new) self.old.whole) }
         ensures empty { OnOk result (IsEmpty self.new) }
-        ensures front { OnErr result (AppendsFront (W.contents writer.old) (W.contents writer.new) self.old.whole) }
+        ensures front { OnErr result (FallsShort (W.contents writer.old) (W.contents writer.new) self.old.whole) }
     {
         write_whole(writer, &self.bytes[..self.whole])?;
         self.end = 0;
@@ -128,14 +128,14 @@ impl<A: Allocator> Replies<A> {
         Ok(())
     }
 
-    /// Writes the whole replies if they fill a block. On `Err` the writer has taken a prefix of them.
+    /// Writes the whole replies if they fill a block. On `Err` the writer has taken a proper prefix of them.
     pub fn pass_on<W: Write>(&mut self, writer: &mut W) -> Result<(), OutputError>
         requires { self.old.part ≡ [] }
         ensures whole { OnOk result ((text : List ℕ) × Appends (W.contents writer.old) (W.contents writer.new) text
             × (self.old.whole ≡ text ++ self.new.whole)) }
         ensures ready { OnOk result (self.new.part ≡ []) }
         ensures room { OnOk result (length self.new.whole < BLOCK) }
-        ensures front { OnErr result (AppendsFront (W.contents writer.old) (W.contents writer.new) self.old.whole) }
+        ensures front { OnErr result (FallsShort (W.contents writer.old) (W.contents writer.new) self.old.whole) }
     {
         if self.whole < BLOCK {
             return Ok(());

@@ -1,7 +1,7 @@
 //! Writing a text whole.
-ghost use Rattle.std.specs.Prelude.{OnOk, length, take, ◌<◌, ◌≤◌};
+ghost use Rattle.std.specs.Prelude.{OnOk, OnErr, length, take, ◌<◌, ◌≤◌};
 ghost use Rattle.std.specs.Io.KnownBytes.{Appends};
-ghost use Rattle.line_streams.specs.Fronts.{AppendsFront};
+ghost use Rattle.line_streams.specs.Fronts.{FallsShort};
 
 use crate::read::is_interrupted;
 use std::io::Write;
@@ -28,10 +28,10 @@ pub fn write_some<W: Write>(writer: &mut W, text: &[u8]) -> usize
     0
 }
 
-/// Writes the whole text, in as many writes as it takes. On `Err` a prefix of it was written.
+/// Writes the whole text, in as many writes as it takes. On `Err` a proper prefix of it was written.
 pub fn write_whole<W: Write>(writer: &mut W, text: &[u8]) -> Result<(), OutputError>
     ensures whole { OnOk result (Appends (W.contents writer.old) (W.contents writer.new) text.now) }
-    ensures front { AppendsFront (W.contents writer.old) (W.contents writer.new) text.now }
+    ensures front { OnErr result (FallsShort (W.contents writer.old) (W.contents writer.new) text.now) }
 {
     let mut done = 0;
     while done < text.len() {

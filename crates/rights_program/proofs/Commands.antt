@@ -1,15 +1,18 @@
 -- How the program may end, by the command that it carried out.
 use Rattle.std.proofs.Common.{◌≡◌, ◌≢◌, false, sym, subst, ℕ, List, Option, Result, Ok, Err}
 use Rattle.line_streams.specs.declared.fault.ConversationError.{ConversationError}
-use Rattle.site_words.specs.Asked.{Asked, nothing, script}
-use Rattle.site_words.specs.Words.{MayAnswer}
+use Rattle.site_words.specs.Asked.{Asked, nothing, script, version}
+use Rattle.site_words.specs.Words.{MayAnswer, MayRefuse, RunsSite, WantsHelp}
 use Rattle.site_words.specs.declared.fault.SiteFault.{SiteFault}
 use Rattle.site_words.specs.declared.words.Command.{Command}
+use Rattle.site_words.specs.declared.words.WordsFault.{WordsFault}
+use Rattle.site_words.specs.declared.words.WordsFault.TheVariants as words
 use Rattle.site_words.specs.declared.words.Command.TheVariants.{Sim, Run, Help, Version}
-use Rattle.rights_program.specs.Commands.{Does, IsText}
+use Rattle.rights_program.specs.Commands.{Does, IsText, Prints}
 use Rattle.rights_program.specs.Endings.{Ending, MayEnd, reads}
 use Rattle.rights_program.specs.Scripts.{Answered, ending_of_script}
 use Rattle.rights_program.specs.declared.fault.ProgramError.TheVariants.{BadCommandLine}
+use Rattle.rights_program.specs.declared.version.TheConstants.{VERSION}
 use Rattle.rights_program.proofs.Endings.{script_may_stop, script_may_be_done, script_reads, script_not_bad, site_may_stop, site_may_be_done, site_reads, site_no_script, site_no_nothing, site_not_bad, help_may_stop, help_may_be_done, help_no_script, help_no_nothing, version_may_stop, version_may_be_done}
 
 pub script_ends : (a : Asked) (ended : Result (Unit {0}) ConversationError) → a ≡ script → MayEnd a (ending_of_script ended)
@@ -32,6 +35,18 @@ script_answered A given left held holds a Sim ending may does same = does
 script_answered A given left held holds a (Run config) ending runs does same = absurd (site_no_script a config runs same)
 script_answered A given left held holds a (Help text) ending wants does same = absurd (help_no_script a wants same)
 script_answered A given left held holds a Version ending is does same = cc
+
+pub version_printed : (A : Type 0) (given left held holds : Option (List ℕ)) (a : Asked) (command : Command) (ending : Ending)
+    → MayAnswer a (Ok command) → Does A command given left held holds ending → a ≡ version → Prints held holds VERSION.now ending
+version_printed A given left held holds a Sim ending may does same = cc
+version_printed A given left held holds a (Run config) ending runs does same = absurd (subst (λ a. RunsSite a config) same runs)
+version_printed A given left held holds a (Help text) ending wants does same = absurd (subst WantsHelp same wants)
+version_printed A given left held holds a Version ending is does same = does
+
+-- a request for the version is not refused, and needs no memory
+pub none_refused : (a : Asked) (fault : WordsFault) → MayAnswer a (Err fault) → a ≡ version → ⊥
+none_refused a words.Refused h same = subst MayRefuse same h
+none_refused a words.OutOfMemory h same = h same
 
 -- only a script and a site read
 pub text_where_none_reads : (a : Asked) (command : Command) → MayAnswer a (Ok command) → reads a ≡ false → IsText command
@@ -62,4 +77,4 @@ pub did_script : (A : Type 0) (given left held holds : Option (List ℕ)) (comma
 did_script A given left held holds command ending is done = subst (λ k. Does A k given left held holds ending) (sym is) done
 
 -- how each command ends
-pub ruleset commands = (command_may_end, script_answered, text_where_none_reads, nothing_is_no_command, command_not_bad)
+pub ruleset commands = (command_may_end, script_answered, version_printed, text_where_none_reads, nothing_is_no_command, command_not_bad)

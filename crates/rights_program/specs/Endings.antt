@@ -1,7 +1,7 @@
 -- How the program ends.
-use Rattle.std.specs.Prelude.{◌≡◌, ◌==◌, ◌⊎◌, ℕ, Bool, true, false, List, [], length, ⊤, Option, Result, Ok, Err, OnOk}
+use Rattle.std.specs.Prelude.{◌≡◌, ◌==◌, ◌⊎◌, ℕ, Bool, true, false, List, [], length, ⊤, Option, Result, Ok, Err, OnOk, OnErr}
 use Rattle.std.specs.Io.KnownBytes.{Appends}
-use Rattle.line_streams.specs.Fronts.{AppendsFront}
+use Rattle.line_streams.specs.Fronts.{FallsShort}
 use Rattle.line_streams.specs.declared.write.OutputError.{OutputError}
 use Rattle.site_words.specs.Asked.{Asked, help, nothing, script, site, version}
 use Rattle.rights_program.specs.Faults.{line_of, status_of}
@@ -65,9 +65,9 @@ abbrev pub MayEnd : Asked → Ending → Type 0
 MayEnd asked (Ok done) = MayBeDone asked
 MayEnd asked (Err fault) = MayStop asked fault
 
--- what was written of a text: all of it, unless a write failed, and then a prefix of it
+-- what was written of a text: all of it, unless a write failed, and then a proper prefix of it
 abbrev pub Says : Option (List ℕ) → Option (List ℕ) → List ℕ → Result (Unit {0}) OutputError → Type 0
-Says old new text said = AppendsFront old new text × OnOk said (Appends old new text)
+Says old new text said = OnOk said (Appends old new text) × OnErr said (FallsShort old new text)
 
 -- the status and the line on standard error are those of this ending
 abbrev pub EndsWith : Ended → Option (List ℕ) → Option (List ℕ) → Ending → Type 0

@@ -1,16 +1,18 @@
 //! The command-line arguments of the process.
-ghost use Rattle.std.specs.Prelude.{◌≡◌, IfErr, IfOk, Result, drop, false, map};
+ghost use Rattle.std.specs.Prelude.{◌≡◌, ◌≢◌, Err, IfErr, IfOk, Result, drop, false, map};
 ghost use Rattle.std.specs.IoError.{error_kind};
 ghost use Rattle.std.specs.String.{string_bytes};
 ghost use Rattle.std.specs.declared.alloc.Global.{Global};
 ghost use Rattle.clap.specs.Walk.{texts};
-ghost use Rattle.site_words.specs.Asked.{asked_by, nothing, script};
+ghost use Rattle.site_words.specs.Asked.{asked_by, nothing, script, version};
 ghost use Rattle.site_words.specs.Words.{MayRefuse};
 ghost use Rattle.rights_program.specs.Arguments.{arguments};
+ghost use Rattle.rights_program.specs.Commands.{Prints};
 ghost use Rattle.rights_program.specs.Endings.{EndsWith, MayEnd, MayStop, reads};
 ghost use Rattle.rights_program.specs.Faults.{fault_of_given};
 ghost use Rattle.rights_program.specs.Scripts.{Answered};
 ghost use Rattle.rights_program.specs.declared.fault.ProgramError.{ProgramError};
+ghost use Rattle.rights_program.specs.declared.version.TheConstants.{VERSION as VERSION_LINE};
 
 use crate::fault::ProgramError;
 use crate::run::{Ended, report, run_words};
@@ -80,6 +82,8 @@ pub fn run_arguments<
     ensures ends { (ending : Result (Unit {0}) ProgramError) × MayEnd (asked_by (arguments words.now)) ending
         × (asked_by (arguments words.now) ≡ script
         → Answered Global (R.remaining reader.old) (R.remaining reader.new) (W.contents writer.old) (W.contents writer.new) ending)
+        × (asked_by (arguments words.now) ≡ version → ending ≢ Err ProgramError.OutOfMemory
+        → Prints (W.contents writer.old) (W.contents writer.new) VERSION_LINE.now ending)
         × EndsWith result (E.contents errors.old) (E.contents errors.new) ending }
     ensures refused { result.status ≡ 2 → MayRefuse (asked_by (arguments words.now)) × (reader.new ≡ reader.old) × (writer.new ≡ writer.old) }
     ensures unread { reads (asked_by (arguments words.now)) ≡ false → reader.new ≡ reader.old }

@@ -2,13 +2,14 @@
 ghost use Rattle.std.specs.Prelude.{◌≡◌, false, Result, Err};
 ghost use Rattle.std.specs.declared.alloc.Global.{Global};
 ghost use Rattle.clap.specs.Walk.{texts};
-ghost use Rattle.site_words.specs.Asked.{asked_by, nothing, script};
-ghost use Rattle.rights_program.specs.Commands.{Does, IsText};
+ghost use Rattle.site_words.specs.Asked.{asked_by, nothing, script, version};
+ghost use Rattle.rights_program.specs.Commands.{Does, IsText, Prints};
 ghost use Rattle.rights_program.specs.Endings.{EndsWith, MayEnd, Says, reads};
 ghost use Rattle.rights_program.specs.Faults.{line_of, status_of};
 ghost use Rattle.rights_program.specs.Scripts.{Answered};
 ghost use Rattle.site_words.specs.Words.{MayRefuse};
 ghost use Rattle.rights_program.specs.declared.fault.ProgramError.{ProgramError};
+ghost use Rattle.rights_program.specs.declared.version.TheConstants.{VERSION as VERSION_LINE};
 
 use crate::fault::ProgramError;
 use crate::version::VERSION;
@@ -73,6 +74,8 @@ fn run_command<F: FnOnce(Config, &mut R, &mut W) -> Result<(), SiteFault>, R: Re
     ensures may { MayEnd (asked_by (texts words.now)) result }
     ensures answered { asked_by (texts words.now) ≡ script
         → Answered Global (R.remaining reader.old) (R.remaining reader.new) (W.contents writer.old) (W.contents writer.new) result }
+    ensures version { asked_by (texts words.now) ≡ version
+        → Prints (W.contents writer.old) (W.contents writer.new) VERSION_LINE.now result }
     ensures unread { reads (asked_by (texts words.now)) ≡ false → reader.new ≡ reader.old }
     ensures unwritten { asked_by (texts words.now) ≡ nothing → writer.new ≡ writer.old }
     ensures refused { result ≡ Err ProgramError.BadCommandLine → (reader.new ≡ reader.old) × (writer.new ≡ writer.old) }
@@ -91,10 +94,13 @@ pub fn run_words<
 >(alloc: Global, run: F, words: &[&str], reader: &mut R, writer: &mut W, errors: &mut E) -> Ended
     requires { F.IsAlwaysCallable run }
     // The status and the line on `errors` are those of one ending, which the words allow. If the words ask for a
-    // script, the script was answered, and ended in that way.
+    // script, the script was answered, and ended in that way. If they ask for the version, it was printed, and only a
+    // failed write may have stopped that.
     ensures ends { (ending : Result (Unit {0}) ProgramError) × MayEnd (asked_by (texts words.now)) ending
         × (asked_by (texts words.now) ≡ script
         → Answered Global (R.remaining reader.old) (R.remaining reader.new) (W.contents writer.old) (W.contents writer.new) ending)
+        × (asked_by (texts words.now) ≡ version
+        → Prints (W.contents writer.old) (W.contents writer.new) VERSION_LINE.now ending)
         × EndsWith result (E.contents errors.old) (E.contents errors.new) ending }
     ensures refused { result.status ≡ 2 → MayRefuse (asked_by (texts words.now)) × (reader.new ≡ reader.old) × (writer.new ≡ writer.old) }
     ensures unread { reads (asked_by (texts words.now)) ≡ false → reader.new ≡ reader.old }

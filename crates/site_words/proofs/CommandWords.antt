@@ -1,5 +1,5 @@
 -- The kinds of error that clap gives for the words are those of what they ask for.
-use Rattle.std.proofs.Common.{◌≡◌, ◌∙◌, ◌==◌, ◌||◌, ℕ, Bool, cond, codes, true, false, zero, suc, refl, sym, ap, ap₂, subst, arith, List, [], ◌∷◌, length, Option, Result, Ok, Err, inl, inr, ⊎_elim, Some, None, is_some, true≢false}
+use Rattle.std.proofs.Common.{◌≢◌, ◌≡◌, ◌∙◌, ◌==◌, ◌||◌, ℕ, Bool, cond, codes, true, false, zero, suc, refl, sym, ap, ap₂, subst, arith, List, [], ◌∷◌, length, Option, Result, Ok, Err, inl, inr, ⊎_elim, Some, None, is_some, true≢false}
 use Rattle.std.specs.Prelude.{⊤, option_and_then, option_map, slice_get}
 use Rattle.std.specs.List.{list_all}
 use Rattle.std.specs.Option.{option_map_or}
@@ -431,6 +431,10 @@ parsed_as version met kinds h none m = absurd h
 parsed_as nothing met [] h none m = h
 parsed_as nothing met (k ∷ ks) h none m = cc
 
+-- clap is never asked for the version
+pub no_version : (words : List Text) → asked_of_clap words ≢ version
+no_version words same = subst (λ (a : Asked). FaultsAs a (fault_of app words)) same (faults_as_asked words)
+
 -- the result for a parsed command is what was asked for
 pub parsed_answers : (a : Asked) (met : Met) (r : Result Command WordsFault) → ParsedAs a met → AnswersMet met r → MayAnswer a r
 parsed_answers script met r parsed h = subst (MayAnswer script) (sym (h.0 parsed)) refl
@@ -442,7 +446,7 @@ parsed_answers (site kinds rows) met r parsed h = go r (h.1 rows parsed.1)
     go (Ok (Help text)) runs = absurd runs
     go (Ok Version) runs = absurd runs
     go (Err Refused) runs = inr (parsed.0, runs)
-    go (Err OutOfMemory) runs = tt
+    go (Err OutOfMemory) runs = λ same. cc
 parsed_answers help met r parsed h = absurd parsed
 parsed_answers version met r parsed h = absurd parsed
 parsed_answers nothing met r parsed h = absurd parsed

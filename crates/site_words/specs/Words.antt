@@ -1,5 +1,5 @@
 -- The results of `read_words`.
-use Rattle.std.specs.Prelude.{◌≡◌, ◌⊎◌, ⊤, Bool, true, false, List, [], Option, Some, Result, Ok, Err, codes, option_map}
+use Rattle.std.specs.Prelude.{◌≡◌, ◌≢◌, ◌⊎◌, ⊤, Bool, true, false, List, [], Option, Some, Result, Ok, Err, codes, option_map}
 use Rattle.clap.specs.Kinds.{IsAmong}
 use Rattle.clap.specs.Walk.{Row, Text}
 use Rattle.clap.specs.declared.error.kind.ErrorKind.{ErrorKind}
@@ -50,11 +50,11 @@ abbrev pub AnswersMet : Option (Text × List Row) → Result Command WordsFault 
 AnswersMet met r = (option_map (λ m. m.0) met ≡ Some (codes "sim") → r ≡ Ok Sim)
     × ((rows : List Row) → met ≡ Some (codes "run", rows) → RunsBy rows r)
 
--- the result is what was asked for, and for any words memory may run out
+-- the result is what was asked for; memory may run out for all words but those that ask for the version
 abbrev pub MayAnswer : Asked → Result Command WordsFault → Type 0
 MayAnswer asked (Ok Sim) = asked ≡ script
 MayAnswer asked (Ok (Run config)) = RunsSite asked config
 MayAnswer asked (Ok (Help text)) = WantsHelp asked
 MayAnswer asked (Ok Version) = asked ≡ version
 MayAnswer asked (Err Refused) = MayRefuse asked
-MayAnswer asked (Err OutOfMemory) = ⊤
+MayAnswer asked (Err OutOfMemory) = asked ≢ version

@@ -340,6 +340,7 @@ fn asks_for_version(words: &[&str]) -> bool
 }
 
 /// The result of parsing the words with `clap`.
+#[tactic(auto, using(crate::proofs::CommandWords::no_version))]
 fn read_by_clap(alloc: Global, words: &[&str]) -> Result<Command, WordsFault>
     ensures { MayAnswer (asked_of_clap (texts words.now)) result }
 {

@@ -76,7 +76,7 @@ returns-in_err-pass_on-clause-fed g c = λ start input held h.
     let on = goes_on _ c.in_default-2.not-Ends in
     let next = going_next g.H.LineHandler.answers start input c.args.bytes.now c.loop-length.at _ held _ _ _ (inv.going start input held h) c.in-Some.length _ _ _ inv.within c.in-Some.ensures (rw on at line.line) line.ended in
     let part = c.in_err-pass_on.ensures.front in
-    rw (p.1, p.2) (stopped_in_write g.H.LineHandler.answers start input c.args.bytes.now (c.loop-length.at + (c.in-Some.length + 1)) _ held _ _ _ next (λ state. c.end_line.new.handler ≡ state) refl _ part.0 part.2)
+    rw (p.1, p.2) (stopped_in_write g.H.LineHandler.answers start input c.args.bytes.now (c.loop-length.at + (c.in-Some.length + 1)) _ held _ _ _ next (λ state. c.end_line.new.handler ≡ state) refl _ part.0 part.1 part.2)
 
 pub returns-in_err-count_one-2-clause-fed : goal.returns-in_err-count_one-2-clause-fed
 returns-in_err-count_one-2-clause-fed g c = λ start input held h.
