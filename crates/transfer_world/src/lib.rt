@@ -1,6 +1,6 @@
-//! Scripts: the event that each line causes among all sites, and its reply. `run_script` answers each line of its input,
-//! in order, with the reply that `specs/Script` defines, until the input ends or a stream fails. Re-exports the world
-//! from world_core.
+//! Scripts: the event that each line causes among all sites, and its reply. `run_script` answers each line of its
+//! input, in order, with the reply that `specs/Script` defines, until the input ends or a stream fails. Re-exports the
+//! world from world_core.
 #![tactic(auto)]
 
 mod script;
