@@ -1,5 +1,5 @@
 -- What the responses to a client's requests report to it is what its seat counts.
-use Rattle.std.proofs.Common.{◌≡◌, ◌∙◌, ◌⊎◌, ℕ, List, [], ◌∷◌, ◌++◌, append-nil, Bool, true, false, Option, Some, None, inl, inr, refl, ap, sym, subst}
+use Rattle.std.proofs.Common.{◌≡◌, ◌∙◌, ◌⊎◌, ℕ, List, [], ◌∷◌, ◌++◌, append-nil, true, false, Option, Some, None, inl, inr, refl, ap, sym, subst}
 use Rattle.http.specs.declared.request.Request.{Request}
 use Rattle.http.specs.Request.{body_of}
 use Rattle.std.specs.Io.KnownBytes.{Appends, Consumes}
@@ -22,12 +22,12 @@ use Rattle.site_http.specs.Replying.{Answering, AnswersEach, RepliesTo, RepliesT
 use Rattle.site_http.specs.Responding.{RespondsBy}
 use Rattle.site_http.specs.declared.route.Route.{Route}
 use Rattle.site_http.specs.declared.route.Route.TheVariants.{Commands, Wait, Status as Shows, Metrics, Health, Page, Foreign, NotAllowed, NotFound}
-use Rattle.site_server.specs.Replying.{asked, Says, TellsStatus}
+use Rattle.site_server.specs.Replying.{asked, TellsStatus}
 use Rattle.site_server.specs.Measuring.{TellsMetrics, TellsClosed}
-use Rattle.site_server.specs.Settling.{Settles, SettlesCommand}
+use Rattle.site_server.specs.Settling.{Settles}
 use Rattle.site_server.specs.Connections.{ClientValue, Tells, TellsSettled, Answers, Responded}
 use Rattle.site_server.specs.Conversations.{IsTurn}
-use Rattle.site_server.specs.Requests.{IsSettledTurn, IsQueued, AreTurnsOf, AreBodyTurns, AreRouteTurns, AreCallTurns, AreCallsTurns, Conversed, CountsCalls}
+use Rattle.site_server.specs.Requests.{IsSettledTurn, IsQueued, AreTurnsOf, AreBodyTurns, AreRouteTurns, AreCallsTurns, Conversed, CountsCalls}
 use Rattle.site_server.proofs.ConfirmedLaws.{turns_of_line, both}
 
 -- a line has turns, which lead from one value of the seat to another

@@ -10,6 +10,7 @@ mod ending;
 mod measuring;
 mod outboxes;
 mod receiving;
+mod runtime;
 mod serving;
 mod settling;
 mod shared;
@@ -21,6 +22,7 @@ mod ticking;
 use crate::site::client::client_at;
 use crate::site::ending::{say_no_report, say_report, say_unsent, stop_desk};
 use crate::site::receiving::{PeerLink, links_of};
+use crate::site::runtime::SiteRuntime;
 use crate::site::serving::begin_clients;
 use crate::site::shared::{COMMANDS, Shared};
 use crate::site::starting::start_once;
@@ -65,19 +67,7 @@ pub fn run_site<
 }
 
 /// Starts the threads of a site, answers its commands, ends the threads, and stops the desk.
-fn serve<
-    D: DeskNames + Send + Sync,
-    R: Net<Listener = TcpListener, Stream = TcpStream>
-        + Threads
-        + Wait
-        + Clock
-        + RandomSource
-        + Eprint
-        + AllocGlobal
-        + Sync,
-    I: Read + Drop,
-    W: Write + Drop,
->(
+fn serve<D: DeskNames + Send + Sync, R: SiteRuntime, I: Read + Drop, W: Write + Drop>(
     rt: &R,
     config: &Config,
     site: &Site,
@@ -122,19 +112,7 @@ fn stop_site<D: DeskNames, R: Wait + Eprint + AllocGlobal>(
 }
 
 /// Answers the commands while the threads of the site run.
-fn run_threads<
-    D: DeskNames + Send + Sync,
-    R: Net<Listener = TcpListener, Stream = TcpStream>
-        + Threads
-        + Wait
-        + Clock
-        + RandomSource
-        + Eprint
-        + AllocGlobal
-        + Sync,
-    I: Read + Drop,
-    W: Write + Drop,
->(
+fn run_threads<D: DeskNames + Send + Sync, R: SiteRuntime, I: Read + Drop, W: Write + Drop>(
     rt: &R,
     site: &Site,
     every: Option<u64>,
@@ -172,19 +150,7 @@ fn answer_commands<D: DeskNames, R: Wait + Clock + AllocGlobal, I: Read, W: Writ
 }
 
 /// Starts all threads except that of the commands. `false` if one could not be started.
-fn begin_all<
-    's,
-    E,
-    D: DeskNames + Send + Sync + 's,
-    R: Net<Listener = TcpListener, Stream = TcpStream>
-        + Threads
-        + Wait
-        + Clock
-        + RandomSource
-        + Eprint
-        + AllocGlobal
-        + Sync,
->(
+fn begin_all<'s, E, D: DeskNames + Send + Sync + 's, R: SiteRuntime>(
     scope: &Scope<'s, E>,
     rt: &'s R,
     site: &'s Site,
@@ -202,19 +168,12 @@ fn begin_all<
 }
 
 /// Starts the threads for one peer. `false` if one could not be started.
-fn begin_peer<
-    's,
-    E,
-    D: DeskNames + Send + Sync + 's,
-    R: Net<Listener = TcpListener, Stream = TcpStream>
-        + Threads
-        + Wait
-        + Clock
-        + RandomSource
-        + Eprint
-        + AllocGlobal
-        + Sync,
->(scope: &Scope<'s, E>, rt: &'s R, site: &'s Site, link: PeerLink<D>) -> bool {
+fn begin_peer<'s, E, D: DeskNames + Send + Sync + 's, R: SiteRuntime>(
+    scope: &Scope<'s, E>,
+    rt: &'s R,
+    site: &'s Site,
+    link: PeerLink<D>,
+) -> bool {
     match site.peer(link.origin) {
         Some(peer) => {
             begin_link(scope, rt, site, peer, link) && begin_sender(scope, rt, site, peer)
