@@ -86,7 +86,7 @@ class SiteClient:
 
     def ask_all(self, commands: Iterable[str]) -> list[str]:
         """Sends commands in one request, of at most 1,048,576 bytes, and returns their replies in order. Other clients'
-        commands may come between. If a request ends early, as for replies of more than 20 MiB, its last reply is `error
+        commands may come between. If a request ends early, as for replies of more than 20 MB, its last reply is `error
         OutOfMemory`, and neither that command nor one after it was carried out."""
         return self._post("/", list(commands), self._timeout).splitlines()
 

@@ -19,7 +19,7 @@ PAGE = os.path.join(TOP, "crates", "site_http", "src", "page.html")
 MOST_CLIENTS = 63
 LONGEST_BODY = 1_048_576
 # Once the replies to a body have so many bytes, the rest of it is not carried out.
-MOST_REPLIES = 20_971_520
+MOST_REPLIES = 20_000_000
 LONGEST_HEAD = 16_384
 MOST_FIELDS = 64
 # The server closes a connection that says nothing for so many seconds.

@@ -18,7 +18,7 @@ pub(crate) const LAST_ROOM: usize = 18;
 /// Once the replies to a body have this many bytes, the rest of it is not carried out, as if there were no memory. So a
 /// response has at most one reply more, and what says that it ends there. The longest body of any lines but `status` has
 /// fewer.
-pub const MAX_REPLIES: usize = 20_971_520;
+pub const MAX_REPLIES: usize = 20_000_000;
 
 /// Answers the lines of a body, and returns the status of the response. If the client waits for the outcome, the body
 /// must have exactly one line.

@@ -64,11 +64,11 @@ fn is_told(rt: &HostRuntime, lines: usize, status: &str, last: &str) -> Result<b
 
 #[test]
 fn the_replies_to_a_body_have_a_limit(rt: HostRuntime) -> Result<(), Fail> {
-    assert!(rt; is_told(&rt, 167_772, "200 OK", "number 0\n")?);
+    assert!(rt; is_told(&rt, 199_999, "200 OK", "number 0\n")?);
     assert!(rt;
         is_told(
             &rt,
-            167_773,
+            200_000,
             "503 Service Unavailable",
             "error OutOfMemory\n"
         )?
