@@ -1,12 +1,12 @@
 -- The effect of the lines of a connection on the intake and on the port.
-use Rattle.std.specs.Prelude.{◌≡◌, ◌≢◌, ℕ, ◌+◌, ◌<◌, ◌≤◌, ◌⊎◌, Bool, true, false, List, [], ◌∷◌, ◌++◌, length, Option, Some, None, Result, Ok, Err, IsErr}
-use Rattle.rights_types.specs.Messages.{QueryValue}
+use Rattle.std.specs.Prelude.{◌≡◌, ◌≢◌, ℕ, ◌+◌, ◌<◌, ◌≤◌, ◌⊎◌, Bool, true, false, List, [], ◌∷◌, ◌++◌, length, Option, Some, None, Result, Ok, Err, IsErr, IfErr}
+use Rattle.rights_types.specs.Messages.{MessageValue, QueryValue}
 use Rattle.rights_types.specs.Messages.MessageValue.{AQuery}
 use Rattle.rights_types.specs.declared.limits.TheConstants.{MAX_LINE}
 use Rattle.rights_types.specs.declared.fault.OutOfMemory.{OutOfMemory}
 use Rattle.entry_codec.specs.Pieces.{pieces_after, unfinished}
 use Rattle.entry_codec.specs.Cutter.{CutterView}
-use Rattle.entry_codec.specs.Reading.{reading}
+use Rattle.entry_codec.specs.Reading.{reading, has_entries}
 use Rattle.entry_codec.specs.Spelling.{Spells}
 use Rattle.sub_buffer.specs.Gaps.{GapOf, StateOf}
 use Rattle.sub_buffer.specs.declared.buffer.State.{State}
@@ -44,6 +44,16 @@ message_in (CameQuery q) = Some (Query q)
 message_in (CameAsk a) = Some (Ask a)
 message_in (CameDenial d) = Some (Deny d)
 message_in arrived = None
+
+-- the line is a message with entries
+abbrev pub HasEntries : List ℕ → Type 0
+HasEntries line = (m : MessageValue) × (reading line ≡ Ok m) × (has_entries m ≡ true)
+
+-- the result where the intake takes nothing in: a line that it refuses for a cause other than memory is skipped
+abbrev pub after_refusal : IntakeError → Result (Unit {0}) LinkFault
+after_refusal (Inbound LineWants) = Err NoMemory
+after_refusal (Inbound fault) = Ok tt
+after_refusal FoundClosed = Err LaneClosed
 
 -- after a beat the same gap is queried again
 abbrev pub asks_again : Arrived → Bool
@@ -87,12 +97,10 @@ module _ {A : Type 0} where
   HandsOver old (Some m) again result heard new =
       (told : Result (Unit {0}) OutOfMemory) × (rest : List Heard) × (heard ≡ AMessage m told ∷ rest) × AsksThen told old again result rest new
 
-  -- what follows the intake's result; a line that it refuses for a cause other than memory is skipped
+  -- what follows the intake's result
   abbrev pub Follows : IntakeValue A → Result Arrived IntakeError → Result (Unit {0}) LinkFault → List Heard → IntakeValue A → Type 0
   Follows old (Ok arrived) result heard new = HandsOver old (message_in arrived) (asks_again arrived) result heard new
-  Follows old (Err (Inbound LineWants)) result heard new = (result ≡ Err NoMemory) × (heard ≡ []) × (new ≡ old)
-  Follows old (Err (Inbound fault)) result heard new = (result ≡ Ok tt) × (heard ≡ []) × (new ≡ old)
-  Follows old (Err FoundClosed) result heard new = (result ≡ Err LaneClosed) × (heard ≡ []) × (new ≡ old)
+  Follows old (Err fault) result heard new = (result ≡ after_refusal fault) × (heard ≡ []) × (new ≡ old)
 
   -- the intake took the line, and the port received what came of it
   pub record TakesLine (old : IntakeValue A) (line : List ℕ) (result : Result (Unit {0}) LinkFault) (heard : List Heard) (new : IntakeValue A) : Type 0 where
@@ -101,6 +109,8 @@ module _ {A : Type 0} where
     pub refused : IntakeRefuses old.inbound (reading line) came
     pub leaves : LineLeaves old (reading line) came mid
     pub dead : old.inlet.dead ≡ true → IsErr came × (mid.inlet ≡ old.inlet)
+    -- only entries take memory
+    pub memory : IfErr came (λ fault. fault ≡ Inbound LineWants → HasEntries line)
     pub follows : Follows mid came result heard new
 
   -- ---- one piece

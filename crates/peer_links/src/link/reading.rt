@@ -7,7 +7,7 @@ ghost use Rattle.peer_links.specs.Lines.{IsPiece};
 ghost use Rattle.sub_buffer.specs.Buffers.{SamePair};
 ghost use Rattle.peer_links.specs.Ports.{Heard, AcceptsPeer};
 ghost use Rattle.peer_links.specs.Turns.{InTurn};
-ghost use Rattle.peer_links.specs.Takes.{TakesInput, TakesLine, TakesPiece, AsksGap, HearsMessage, message_in, asks_again};
+ghost use Rattle.peer_links.specs.Takes.{TakesInput, TakesLine, TakesPiece, AsksGap, HearsMessage, message_in, asks_again, after_refusal};
 ghost use Rattle.peer_links.specs.declared.link.LinkFault.{LinkFault};
 
 use crate::lines::{Piece, next_piece};
@@ -157,18 +157,28 @@ fn take_line<R: Wait, P: Port>(
 {
     let arrived = match intake.on_line(rt, line) {
         Ok(arrived) => arrived,
-        Err(IntakeError::Inbound(InboundError::OutOfMemory)) => return Err(LinkFault::OutOfMemory),
-        Err(IntakeError::Inbound(fault)) => {
-            port.skipped(rt, Skipped::Refused(fault));
-            return Ok(());
-        }
-        Err(IntakeError::LaneClosed) => return Err(LinkFault::LaneClosed),
+        Err(fault) => return refused(rt, fault, port),
     };
     let again = is_beat(&arrived);
     port.taken(rt, line, again);
     hand_over(rt, arrived, port)?;
     ask_for_gap(rt, again, intake, port)?;
     Ok(())
+}
+
+/// Skips a line that the intake refuses, unless that ends the connection.
+fn refused<R: Wait, P: Port>(rt: &R, fault: IntakeError, port: &P) -> Result<(), LinkFault>
+    ensures result { result ≡ after_refusal fault }
+    ensures may { IfErr result IsOfIntake }
+{
+    match fault {
+        IntakeError::Inbound(InboundError::OutOfMemory) => Err(LinkFault::OutOfMemory),
+        IntakeError::Inbound(fault) => {
+            port.skipped(rt, Skipped::Refused(fault));
+            Ok(())
+        }
+        IntakeError::LaneClosed => Err(LinkFault::LaneClosed),
+    }
 }
 
 /// Whether a beat arrived, after which the gap is queried again.
