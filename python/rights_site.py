@@ -83,8 +83,8 @@ class Site:
         `peers` has the address of each other site by its number. `program` is the path of the program, or a list of
         words that replaces it and its word `run`. `http`, `tick` (milliseconds), `once` and `log` are the options of
         these names. The standard error of the site goes to `errors`, an open file; without it, it is kept, and `said`
-        reads it. `timeout` is how many seconds a reply may take: no command waits for another site, so a longer wait
-        means that the process is stuck."""
+        reads it. `timeout` is how many seconds a reply may take: no command waits for another site, but a tick for
+        50 milliseconds at most, so a longer wait means that the process is stuck."""
         words = list(program) if isinstance(program, (list, tuple)) else [program or find_program(), "run"]
         words += ["--id", str(number), "--sites", str(sites), "--listen", listen]
         for option, value in (("--http", http), ("--tick", tick), ("--once", once)):

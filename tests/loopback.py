@@ -420,18 +420,12 @@ def ticks_in_a_row_wait_for_space():
         for _ in range(50):
             replies = sites[1].ask_all((["spend 1 0"] * 200 + ["tick 1"]) * 10)
             written += 2000
-            wait_for("all are applied", lambda: ticked(sites[1]) and applied_by(sites[2]) == written, 30)
+            follows = sees(sites[2], 1, applied=written)
+            # What was lost is asked for after the beat of another tick.
+            wait_for("all are applied", lambda: sites[1].ask("tick 1") and follows(), 30)
             if all(reply.endswith("sent 201") for reply in replies[200::201]):
                 return
         raise AssertionError("each time lines were lost")
-
-
-def ticked(site):
-    return site.ask("tick 1")
-
-
-def applied_by(site):
-    return site.status()["peers"][0]["applied"]
 
 
 # ---- memory that is refused

@@ -522,7 +522,7 @@ class Idle:
 TESTS = [
     each_target, the_page, other_targets_and_methods, the_status_of_one_command, bodies_of_several_lines, the_longest_line,
     no_web_page_can_spend, the_longest_body, the_most_replies, a_body_that_is_waited_for, the_longest_head,
-    heads_that_are_refused, connections_that_are_closed_when_asked, sixty_three_clients, two_hundred_at_once, no_thread_and_no_seat_is_left,
-    memory_of_connections, pipelines_of_a_hundred, one_byte_at_a_time, half_requests, slow_readers, slow_senders,
+    heads_that_are_refused, connections_that_are_closed_when_asked, sixty_three_clients, two_hundred_at_once,
+    no_thread_and_no_seat_is_left, memory_of_connections, pipelines_of_a_hundred, one_byte_at_a_time, half_requests, slow_readers, slow_senders,
     noise, reads_that_are_interrupted,
 ]
