@@ -10,7 +10,8 @@ use Rattle.apply_lanes.specs.Appliers.{ApplierValue, IsCounted, in_hand}
 use Rattle.apply_lanes.specs.Between.{IsBetween}
 
 module _ {G A : Type 0} where
-  pub between : (id : DeskId) (delivered : List EntryValue) (i : IntakeValue A) (a : ApplierValue G A) → Sends delivered i → IsCounted id a
+  pub between : (id : DeskId) (delivered : List EntryValue) (i : IntakeValue A) (a : ApplierValue G A)
+      → Sends delivered i → IsCounted id a
       → StartsWith i.inlet.put a.outlet.taken → IsBetween id delivered i a
   between id delivered i a s c (rest, whole) =
       let taken : List EntryValue = c.applied ++ c.dropped ++ in_hand a.hand in

@@ -11,7 +11,8 @@ by_tests true false h = absurd cc
 by_tests true true h = (refl, refl)
 
 -- if nothing is missing, there are as many seats and appliers as were given out
-pub none_missing : (k : KeptValue) (seats appliers : ℕ) → missing_of k seats appliers ≡ None → (seats ≡ 65 - k.issued.left) × (appliers ≡ 16 - k.number.left)
+pub none_missing : (k : KeptValue) (seats appliers : ℕ) → missing_of k seats appliers ≡ None
+    → (seats ≡ 65 - k.issued.left) × (appliers ≡ 16 - k.number.left)
 none_missing k seats appliers h =
     let back = by_tests (seats == 65 - k.issued.left) (appliers == 16 - k.number.left) h in
     (eqb-true seats (65 - k.issued.left) back.0, eqb-true appliers (16 - k.number.left) back.1)

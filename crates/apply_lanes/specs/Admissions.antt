@@ -1,5 +1,6 @@
 -- Who gets a seat, and which origins get an applier.
-use Rattle.std.specs.Prelude.{◌≡◌, ℕ, ◌+◌, nat_lt, ◌==◌, Bool, true, false, List, Option, Some, None, Result, Ok, Err, if◌then◌else◌}
+use Rattle.std.specs.Prelude.{◌≡◌, ℕ, ◌+◌, nat_lt, ◌==◌, Bool, true, false, List, Option, Some, None, Result, Ok, Err}
+use Rattle.std.specs.Prelude.{if◌then◌else◌}
 use Rattle.rights_types.specs.Places.{at_site, set_site}
 use Rattle.thread_parts.specs.Ends.{OutletValue}
 use Rattle.apply_lanes.specs.Kepts.{KeptValue, SeatValue, told_nothing, one_less, seats_left}
@@ -12,7 +13,8 @@ use Rattle.apply_lanes.specs.Names.{DeskId}
 -- the result and the effect of asking for a seat: there was one more, or none was left besides the clock's
 abbrev pub GivesSeat : KeptValue → Result SeatValue SeatsFull → KeptValue → Type 0
 GivesSeat old (Ok s) new =
-    (s ≡ told_nothing) × one_less old.issued new.issued × one_less old.spent new.spent × (seats_left new + 1 ≡ seats_left old)
+    (s ≡ told_nothing) × one_less old.issued new.issued × one_less old.spent new.spent
+    × (seats_left new + 1 ≡ seats_left old)
     × (new ≡ record old { issued = new.issued; spent = new.spent })
 GivesSeat old (Err full) new = (seats_left old ≡ 0) × (new ≡ old)
 
@@ -20,7 +22,8 @@ GivesSeat old (Err full) new = (seats_left old ≡ 0) × (new ≡ old)
 -- or it was given out before
 abbrev pub GivesClockSeat : KeptValue → Result SeatValue SeatsFull → KeptValue → Type 0
 GivesClockSeat old (Ok s) new =
-    (s ≡ told_nothing) × one_less old.issued new.issued × one_less old.spent new.spent × (seats_left new ≡ seats_left old)
+    (s ≡ told_nothing) × one_less old.issued new.issued × one_less old.spent new.spent
+    × (seats_left new ≡ seats_left old)
     × (old.clock_given ≡ false) × (new ≡ record old { issued = new.issued; spent = new.spent; clock_given = true })
 GivesClockSeat old (Err full) new = (old.clock_given ≡ true) × (new ≡ old)
 
@@ -35,7 +38,8 @@ Admits id admitted o (Some Taken) = (site_fault id o ≡ None) × (at_site admit
 Admits id admitted o (Some fault) = site_fault id o ≡ Some fault
 
 -- the applier of o's log was given out: it is new, and counts as given out from then on
-pub record GivesApplier {G A : Type 0} (id : DeskId) (old : KeptValue) (o : ℕ) (outlet : OutletValue A) (gate : G) (a : ApplierValue G A) (new : KeptValue) : Type 0 where
+pub record GivesApplier {G A : Type 0} (id : DeskId) (old : KeptValue) (o : ℕ) (outlet : OutletValue A) (gate : G)
+    (a : ApplierValue G A) (new : KeptValue) : Type 0 where
   pub admits : Admits id old.admitted o None
   pub fresh : a ≡ new_applier o outlet gate
   pub admitted : new.admitted ≡ set_site old.admitted o true

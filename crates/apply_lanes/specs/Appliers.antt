@@ -1,5 +1,6 @@
 -- An applier: one thread's part in applying one log at a shared desk.
-use Rattle.std.specs.Prelude.{◌≡◌, ◌≢◌, ℕ, zero, suc, ◌+◌, ◌≤◌, Bool, true, false, not, ◌==◌, ◌||◌, List, [], ◌∷◌, ◌++◌, length, Option, Some, None, Result, Ok, Err, if◌then◌else◌}
+use Rattle.std.specs.Prelude.{◌≡◌, ◌≢◌, ℕ, zero, suc, ◌+◌, ◌≤◌, Bool, true, false, not, ◌==◌, ◌||◌, List, [], ◌∷◌, ◌++◌}
+use Rattle.std.specs.Prelude.{length, Option, Some, None, Result, Ok, Err, if◌then◌else◌}
 use Rattle.rights_types.specs.Entries.{EntryValue, own}
 use Rattle.rights_types.specs.Chains.{end, moves_of, IsChain}
 use Rattle.rights_types.specs.Rights.{to}
@@ -65,7 +66,17 @@ module _ {G A : Type 0} where
     pub counted : IsCounted id a
 
   abbrev pub new_applier : ℕ → OutletValue A → G → ApplierValue G A
-  new_applier o outlet gate = record { origin = o; outlet = outlet; gate = gate; hand = None; ended = false; dropping = false; number = 0; received = 0 }
+  new_applier o outlet gate
+      = record {
+        origin = o;
+        outlet = outlet;
+        gate = gate;
+        hand = None;
+        ended = false;
+        dropping = false;
+        number = 0;
+        received = 0;
+      }
 
   -- ---- applying the entry in hand
 
@@ -108,7 +119,11 @@ pub record MovesOn (site : ℕ) (old : DeskValue) (o : ℕ) (e : EntryValue) (ne
   pub others_received : (k : ℕ) → k ≢ o → (peer new.ledger.book k).received ≡ (peer old.ledger.book k).received
 
 abbrev pub counted_on : DeskId → KeptValue → EntryValue → DeskValue → KeptValue
-counted_on id k e d = record k { desk = d; number = raised k.number (length e.moves); received = raised k.received (to id.site e.moves) }
+counted_on id k e d = record k {
+  desk = d;
+  number = raised k.number (length e.moves);
+  received = raised k.received (to id.site e.moves);
+}
 
 -- ---- a step
 
@@ -133,7 +148,8 @@ module _ {G A : Type 0} where
   Fills old false new = HasEnded old.ended old new
 
   -- with the entry e in hand the applier has passed its gate, and holds the lock, whose value is k
-  pub record ComesToDesk (passes : G → ℕ → G → Type 0) (id : DeskId) (old : ApplierValue G A) (e : EntryValue) (k : KeptValue) (new : ApplierValue G A) : Type 0 where
+  pub record ComesToDesk (passes : G → ℕ → G → Type 0) (id : DeskId) (old : ApplierValue G A) (e : EntryValue)
+      (k : KeptValue) (new : ApplierValue G A) : Type 0 where
     pub unended : old.ended ≡ false
     pub taken : ApplierValue G A
     pub next : HasNext old.hand old e taken
@@ -155,16 +171,20 @@ module _ {G A : Type 0} where
 
   -- a step that failed: nothing arrived; or the entry is out of step, or memory was refused, and then it is in hand
   abbrev pub StepFails : (G → ℕ → G → Type 0) → DeskId → ApplierValue G A → StepError → ApplierValue G A → Type 0
-  StepFails passes id old LaneClosed new = (old.hand ≡ None) × (new ≡ record old { outlet = record old.outlet { dead = true } })
+  StepFails passes id old LaneClosed new
+      = (old.hand ≡ None) × (new ≡ record old { outlet = record old.outlet { dead = true } })
   StepFails passes id old OutOfStep new =
-      (e : EntryValue) × (k : KeptValue) × ComesToDesk passes id old e k new × (step_fault new k.desk e ≡ Some OutOfStep)
+      (e : EntryValue) × (k : KeptValue) × ComesToDesk passes id old e k new
+      × (step_fault new k.desk e ≡ Some OutOfStep)
   StepFails passes id old OutOfMemory new =
-      (e : EntryValue) × (k : KeptValue) × ComesToDesk passes id old e k new × (step_fault new k.desk e ≡ None) × ¬ (numbers_in e.moves ≡ None)
+      (e : EntryValue) × (k : KeptValue) × ComesToDesk passes id old e k new × (step_fault new k.desk e ≡ None)
+      × ¬ (numbers_in e.moves ≡ None)
 
   -- this number of entries was applied or dropped, one after another
   abbrev pub Advances : (G → ℕ → G → Type 0) → DeskId → ApplierValue G A → ℕ → ApplierValue G A → Type 0
   Advances passes id old zero new = new ≡ old
-  Advances passes id old (suc n) new = (last : ApplierValue G A) × Advances passes id old n last × Steps passes id last true new
+  Advances passes id old (suc n) new = (last : ApplierValue G A) × Advances passes id old n last
+      × Steps passes id last true new
 
   -- this number of entries, and then End
   abbrev pub Runs : (G → ℕ → G → Type 0) → DeskId → ApplierValue G A → ℕ → ApplierValue G A → Type 0

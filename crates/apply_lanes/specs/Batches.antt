@@ -6,7 +6,8 @@ use Rattle.apply_lanes.specs.declared.applier.StepError.{StepError}
 use Rattle.apply_lanes.specs.declared.applier.StepError.TheVariants.{OutOfMemory}
 use Rattle.apply_lanes.specs.Names.{DeskId}
 use Rattle.apply_lanes.specs.Kepts.{KeptValue, IsKept}
-use Rattle.apply_lanes.specs.Appliers.{ApplierValue, IsCounted, is_late, step_fault, StepRefuses, MovesOn, counted_on, Fills, HasEnded, LeavesHand, Advances, Runs, RunFails}
+use Rattle.apply_lanes.specs.Appliers.{ApplierValue, IsCounted, is_late, step_fault, StepRefuses, MovesOn, counted_on}
+use Rattle.apply_lanes.specs.Appliers.{Fills, HasEnded, LeavesHand, Advances, Runs, RunFails}
 use Rattle.apply_lanes.specs.Steps.{StepsBy, apply_change}
 
 -- under the lock: too late, the entry e of o changes nothing; else it moves the desk on, and is counted
@@ -20,7 +21,8 @@ stays old o new = new ≡ old
 
 module _ {G A : Type 0} where
   -- Under the lock, whose value is k, the entry e was in hand. It was dropped if the desk had closed, and else applied.
-  pub record Handles (id : DeskId) (old : ApplierValue G A) (k : KeptValue) (e : EntryValue) (new : ApplierValue G A) (l : KeptValue) : Type 0 where
+  pub record Handles (id : DeskId) (old : ApplierValue G A) (k : KeptValue) (e : EntryValue) (new : ApplierValue G A)
+      (l : KeptValue) : Type 0 where
     pub held : old.hand ≡ Some e
     pub kept : IsKept id k
     pub fits : step_fault old k.desk e ≡ None
@@ -30,13 +32,15 @@ module _ {G A : Type 0} where
     pub counted : IsCounted id new
 
   -- the next entry was taken, unless one was in hand, and handled under the lock
-  pub record HandlesNext (id : DeskId) (old : ApplierValue G A) (k : KeptValue) (new : ApplierValue G A) (l : KeptValue) : Type 0 where
+  pub record HandlesNext (id : DeskId) (old : ApplierValue G A) (k : KeptValue) (new : ApplierValue G A)
+      (l : KeptValue) : Type 0 where
     pub taken : ApplierValue G A
     pub fills : Fills old true taken
     pub handles : Handles id taken k fills.1 new l
 
   -- the next entry was taken, unless one was in hand; it stays there for this fault
-  pub record KeepsNext (id : DeskId) (old : ApplierValue G A) (k : KeptValue) (fault : StepError) (new : ApplierValue G A) : Type 0 where
+  pub record KeepsNext (id : DeskId) (old : ApplierValue G A) (k : KeptValue) (fault : StepError)
+      (new : ApplierValue G A) : Type 0 where
     pub fills : Fills old true new
     pub kept : IsKept id k
     pub refused : StepRefuses (step_fault new k.desk fills.1) (Err fault)
@@ -51,7 +55,8 @@ module _ {G A : Type 0} where
   -- under the lock: this number of entries, and none is in hand; and where no more come, End was taken
   abbrev pub HandlesBatch : DeskId → ApplierValue G A → KeptValue → ℕ → Bool → ApplierValue G A → KeptValue → Type 0
   HandlesBatch id old k n true new l = HandlesAll id old k n new l × (new.hand ≡ None)
-  HandlesBatch id old k n false new l = (last : ApplierValue G A) × HandlesAll id old k n last l × HasEnded last.ended last new
+  HandlesBatch id old k n false new l = (last : ApplierValue G A) × HandlesAll id old k n last l
+      × HasEnded last.ended last new
 
   -- under the lock: some number of entries, and then one that stays in hand for this fault
   abbrev pub BatchFails : DeskId → ApplierValue G A → KeptValue → StepError → ApplierValue G A → KeptValue → Type 0

@@ -9,9 +9,10 @@ use Rattle.apply_lanes.specs.Names.{DeskId}
 
 module _ {G A : Type 0} where
   -- what the buffer delivered is what was applied, then what was dropped at a closed desk, then the entry in hand, then
-  -- what waits on the lane, then what is still to be sent, which is nothing unless the lane was found closed; number and
-  -- received are those of what was applied
-  pub record IsBetween (id : DeskId) (delivered : List EntryValue) (i : IntakeValue A) (a : ApplierValue G A) : Type 0 where
+  -- what waits on the lane, then what is still to be sent, which is nothing unless the lane was found closed; number
+  -- and received are those of what was applied
+  pub record IsBetween (id : DeskId) (delivered : List EntryValue) (i : IntakeValue A)
+      (a : ApplierValue G A) : Type 0 where
     pub applied : List EntryValue
     pub dropped : List EntryValue
     pub waiting : List EntryValue

@@ -88,8 +88,10 @@ pub record IsInBalance (k : KeptValue) : Type 0 where
   pub spent_is : k.spent.sum ≡ spent (moves_of k.desk.ledger.log.entries)
   pub number_is : k.number.sum ≡ sum_sites (sites k.desk.ledger.book) (λ o. (peer k.desk.ledger.book o).log.end)
   pub received_is : k.received.sum ≡ sum_sites (sites k.desk.ledger.book) (λ o. (peer k.desk.ledger.book o).received)
-  pub held_is : held_by k.desk.ledger.book + out (moves_of k.desk.ledger.log.entries) + spent (moves_of k.desk.ledger.log.entries)
-      ≡ issued (moves_of k.desk.ledger.log.entries) + sum_sites (sites k.desk.ledger.book) (λ o. (peer k.desk.ledger.book o).received)
+  pub held_is : held_by k.desk.ledger.book + out (moves_of k.desk.ledger.log.entries)
+      + spent (moves_of k.desk.ledger.log.entries)
+      ≡ issued (moves_of k.desk.ledger.log.entries) + sum_sites (sites k.desk.ledger.book)
+      (λ o. (peer k.desk.ledger.book o).received)
       + taken_back (moves_of k.desk.ledger.log.entries)
 
 -- a counter to which n was added

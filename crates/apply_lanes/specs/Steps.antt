@@ -68,7 +68,8 @@ pub record CallsDesk (n : ℕ) (ids : ℕ → DeskId) (old : ℕ → DeskValue) 
 -- such calls, one after another, by any threads of any sites
 abbrev pub CallsDesks : ℕ → (ℕ → DeskId) → (ℕ → DeskValue) → List Turn → (ℕ → DeskValue) → Type 0
 CallsDesks n ids old [] new = (k : ℕ) → (new k).ledger ≡ (old k).ledger
-CallsDesks n ids old (turn ∷ turns) new = (mid : ℕ → DeskValue) × CallsDesk n ids old turn mid × CallsDesks n ids mid turns new
+CallsDesks n ids old (turn ∷ turns) new = (mid : ℕ → DeskValue) × CallsDesk n ids old turn mid
+    × CallsDesks n ids mid turns new
 
 -- the desks of n sites, which have done nothing yet
 pub record AreUnused (n : ℕ) (ids : ℕ → DeskId) (desks : ℕ → DeskValue) : Type 0 where

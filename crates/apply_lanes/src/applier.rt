@@ -1,9 +1,11 @@
 //! One thread's part in applying one log.
-ghost use Rattle.std.specs.Prelude.{◌≡◌, ◌≢◌, ℕ, ◌≤◌, true, false, [], Some, None, Ok, IsSome, IfOk, IfErr, OnOk, OnErr, length};
+ghost use Rattle.std.specs.Prelude.{◌≡◌, ◌≢◌, ℕ, ◌≤◌, true, false, [], Some, None, Ok, IsSome, IfOk, IfErr, OnOk};
+ghost use Rattle.std.specs.Prelude.{OnErr, length};
 ghost use Rattle.rights_types.specs.Entries.{EntryValue};
 ghost use Rattle.rights_protocol.specs.Retiring.{numbers_in};
 ghost use Rattle.apply_lanes.specs.Appliers.{IsApplier, new_applier};
-ghost use Rattle.apply_lanes.specs.declared.applier.StepError.TheVariants.{OutOfMemory as NoMemory, LaneClosed as NothingCame};
+ghost use Rattle.apply_lanes.specs.declared.applier.StepError.TheVariants.{OutOfMemory as NoMemory};
+ghost use Rattle.apply_lanes.specs.declared.applier.StepError.TheVariants.{LaneClosed as NothingCame};
 
 mod batch;
 
@@ -50,13 +52,33 @@ impl<D: DeskNames, G: Gate, A: Allocator> Model for Applier<D, G, A> {
 
     ghost Value = { ApplierValue G A };
 
-    ghost view = { λ a. record { origin = a.origin; outlet = a.outlet; gate = a.gate; hand = a.hand; ended = a.ended; dropping = a.dropping; number = a.number; received = a.received } };
+    ghost view = { λ a. record {
+      origin = a.origin;
+      outlet = a.outlet;
+      gate = a.gate;
+      hand = a.hand;
+      ended = a.ended;
+      dropping = a.dropping;
+      number = a.number;
+      received = a.received;
+    } };
 
-    ghost invariant = { λ a. IsApplier D.id (record { origin = a.origin; outlet = a.outlet; gate = a.gate; hand = a.hand; ended = a.ended; dropping = a.dropping; number = a.number; received = a.received }) };
+    ghost invariant = { λ a. IsApplier D.id
+        (record {
+          origin = a.origin;
+          outlet = a.outlet;
+          gate = a.gate;
+          hand = a.hand;
+          ended = a.ended;
+          dropping = a.dropping;
+          number = a.number;
+          received = a.received;
+        }) };
 }
 
 impl<D: DeskNames, G: Gate, A: Allocator> Applier<D, G, A> {
-    ghost use Rattle.apply_lanes.specs.Appliers.{ApplierValue, IsCounted, is_late, step_fault, StepRefuses, MovesOn, applied, dropped, counted_on, Fills, Steps, StepFails, Runs, RunFails};
+    ghost use Rattle.apply_lanes.specs.Appliers.{ApplierValue, IsCounted, is_late, step_fault, StepRefuses, MovesOn};
+    ghost use Rattle.apply_lanes.specs.Appliers.{applied, dropped, counted_on, Fills, Steps, StepFails, Runs, RunFails};
     ghost use Rattle.apply_lanes.specs.Kepts.{IsKept};
     ghost use Rattle.apply_lanes.specs.Steps.{StepsBy, apply_change};
 
@@ -64,19 +86,25 @@ impl<D: DeskNames, G: Gate, A: Allocator> Applier<D, G, A> {
     /// order: `OutOfStep`, `OutOfMemory`. An error leaves the entry in hand, and changes nothing.
     pub fn apply_in<B: Allocator + Copy>(&mut self, kept: &mut Kept<D, B>) -> Result<(), StepError>
         requires { IsSome self.old.hand }
-        ensures refused { (e : EntryValue) → self.old.hand ≡ Some e → StepRefuses (step_fault self.old kept.old.desk e) result }
-        ensures dropped { OnOk result (is_late self.old kept.old.desk ≡ true → (self.new ≡ dropped self.old) × (kept.new ≡ kept.old)) }
-        ensures applied { OnOk result (is_late self.old kept.old.desk ≡ false → (e : EntryValue) → self.old.hand ≡ Some e → self.new ≡ applied D.id self.old e) }
+        ensures refused { (e : EntryValue) → self.old.hand ≡ Some e
+            → StepRefuses (step_fault self.old kept.old.desk e) result }
+        ensures dropped { OnOk result (is_late self.old kept.old.desk ≡ true
+            → (self.new ≡ dropped self.old) × (kept.new ≡ kept.old)) }
+        ensures applied { OnOk result (is_late self.old kept.old.desk ≡ false → (e : EntryValue)
+            → self.old.hand ≡ Some e → self.new ≡ applied D.id self.old e) }
         ensures desk { OnOk result (is_late self.old kept.old.desk ≡ false → (e : EntryValue) → self.old.hand ≡ Some e
-            → MovesOn D.id.site kept.old.desk self.old.origin e kept.new.desk × (kept.new ≡ counted_on D.id kept.old e kept.new.desk)) }
+            → MovesOn D.id.site kept.old.desk self.old.origin e kept.new.desk
+            × (kept.new ≡ counted_on D.id kept.old e kept.new.desk)) }
         ensures step { OnOk result ((e : EntryValue) → self.old.hand ≡ Some e
-            → StepsBy D.id kept.old.desk (apply_change (is_late self.old kept.old.desk) self.old.origin e) kept.new.desk) }
+            → StepsBy D.id kept.old.desk (apply_change (is_late self.old kept.old.desk) self.old.origin e)
+            kept.new.desk) }
         ensures same { (self.new.origin ≡ self.old.origin) × (self.new.outlet ≡ self.old.outlet) }
         ensures before { IsCounted D.id self.old }
         ensures after { IsCounted D.id self.new }
         ensures kept { IsKept D.id kept.old }
         ensures err { OnErr result ((self.new ≡ self.old) × (kept.new ≡ kept.old)) }
-        ensures memory { (e : EntryValue) → self.old.hand ≡ Some e → numbers_in e.moves ≡ None → IfErr result (λ fault. ¬ (fault ≡ NoMemory)) }
+        ensures memory { (e : EntryValue) → self.old.hand ≡ Some e → numbers_in e.moves ≡ None
+            → IfErr result (λ fault. ¬ (fault ≡ NoMemory)) }
     {
         let is_late = self.is_late(kept);
         let Some(entry) = &self.hand else {
@@ -116,7 +144,8 @@ impl<D: DeskNames, G: Gate, A: Allocator> Applier<D, G, A> {
         ensures hand { IfOk result (λ more. more ≡ true → IsSome self.new.hand) }
         ensures counted { IsCounted D.id self.new }
         ensures same { (self.new.origin ≡ self.old.origin) × (self.new.outlet.lane ≡ self.old.outlet.lane) }
-        ensures err { IfErr result (λ fault. (fault ≡ NothingCame) × (self.old.hand ≡ None) × (self.new ≡ record self.old { outlet = record self.old.outlet { dead = true } })) }
+        ensures err { IfErr result (λ fault. (fault ≡ NothingCame) × (self.old.hand ≡ None)
+            × (self.new ≡ record self.old { outlet = record self.old.outlet { dead = true } })) }
         ensures ended { self.old.ended ≡ true → result ≡ Ok false }
     {
         if self.ended {

@@ -1,5 +1,6 @@
 //! The value under the lock of a shared desk: a desk, with the four counters of what it did.
-ghost use Rattle.std.specs.Prelude.{◌≡◌, ◌≢◌, ℕ, ◌+◌, ◌≤◌, ◌<◌, true, false, [], List, Option, Some, None, IfOk, IfErr, IfSome, IsOk, OnOk, OnErr, MatchResult, length};
+ghost use Rattle.std.specs.Prelude.{◌≡◌, ◌≢◌, ℕ, ◌+◌, ◌≤◌, ◌<◌, true, false, [], List, Option, Some, None, IfOk, IfErr};
+ghost use Rattle.std.specs.Prelude.{IfSome, IsOk, OnOk, OnErr, MatchResult, length};
 ghost use Rattle.rights_types.specs.Entries.{EntryValue};
 ghost use Rattle.rights_types.specs.Places.{at_site, set_site};
 ghost use Rattle.rights_types.specs.Rights.{to};
@@ -52,9 +53,25 @@ impl<D: DeskNames, A: Allocator> Model for Kept<D, A> {
 
     ghost Value = { KeptValue };
 
-    ghost view = { λ k. record { desk = k.desk; issued = k.issued; spent = k.spent; number = k.number; received = k.received; admitted = k.admitted; clock_given = k.clock_given } };
+    ghost view = { λ k. record {
+      desk = k.desk;
+      issued = k.issued;
+      spent = k.spent;
+      number = k.number;
+      received = k.received;
+      admitted = k.admitted;
+      clock_given = k.clock_given;
+    } };
 
-    ghost invariant = { λ k. IsKept D.id (record { desk = k.desk; issued = k.issued; spent = k.spent; number = k.number; received = k.received; admitted = k.admitted; clock_given = k.clock_given }) };
+    ghost invariant = { λ k. IsKept D.id (record {
+      desk = k.desk;
+      issued = k.issued;
+      spent = k.spent;
+      number = k.number;
+      received = k.received;
+      admitted = k.admitted;
+      clock_given = k.clock_given;
+    }) };
 }
 
 /// Why an origin gets no applier, in the order in which the causes are checked.
@@ -181,13 +198,20 @@ impl<D: DeskNames, A: Allocator + Copy> Kept<D, A> {
 
     // The shards for the applier of that origin.
     fn admit(&mut self, origin: SiteId) -> Result<Admission<D>, AdmitCause>
-        ensures refused { MatchResult result (λ _. Admits D.id self.old.admitted origin None) (λ fault. Admits D.id self.old.admitted origin (Some fault)) }
-        ensures ok { IfOk result (λ p. (p.0 ≡ 0) × (p.1 ≡ 0) × (self.new.admitted ≡ set_site self.old.admitted origin true)) }
+        ensures refused { MatchResult result (λ _. Admits D.id self.old.admitted origin None)
+            (λ fault. Admits D.id self.old.admitted origin (Some fault)) }
+        ensures ok { IfOk result (λ p. (p.0 ≡ 0) × (p.1 ≡ 0)
+            × (self.new.admitted ≡ set_site self.old.admitted origin true)) }
         ensures before { IsKept D.id self.old }
         ensures after { IsKept D.id self.new }
-        ensures shards { OnOk result (one_less self.old.number self.new.number × one_less self.old.received self.new.received) }
+        ensures shards { OnOk result (one_less self.old.number self.new.number
+            × one_less self.old.received self.new.received) }
         ensures err { OnErr result (self.new ≡ self.old) }
-        ensures rest { self.new ≡ record self.old { number = self.new.number; received = self.new.received; admitted = self.new.admitted } }
+        ensures rest { self.new ≡ record self.old {
+          number = self.new.number;
+          received = self.new.received;
+          admitted = self.new.admitted;
+        } }
     {
         if origin.number() > self.desk.sites() {
             return Err(AdmitCause::NoSuchSite);
@@ -274,8 +298,15 @@ impl<D: DeskNames, A: Allocator + Copy> Kept<D, A> {
         ensures keeps { OnOk result ((h : DeskApplies self.old.desk origin entry.now self.new.desk)
             → ApplyKeeps self.old.desk.ledger origin entry.now h.entry.between self.new.desk.ledger) }
         ensures step { OnOk result (StepsBy D.id self.old.desk (Applies origin entry.now) self.new.desk) }
-        ensures counters { OnOk result (self.new ≡ record self.old { desk = self.new.desk; number = raised self.old.number (length entry.now.moves); received = raised self.old.received (to D.id.site entry.now.moves) }) }
-        ensures added { OnOk result ((number.new ≡ number.old + length entry.now.moves) × (received.new ≡ received.old + to D.id.site entry.now.moves)) }
+        ensures counters { OnOk result
+            (self.new ≡ record self.old {
+              desk = self.new.desk;
+              number = raised self.old.number (length entry.now.moves);
+              received
+                  = raised self.old.received (to D.id.site entry.now.moves);
+            }) }
+        ensures added { OnOk result ((number.new ≡ number.old + length entry.now.moves)
+            × (received.new ≡ received.old + to D.id.site entry.now.moves)) }
         ensures err { OnErr result ((self.new ≡ self.old) × (number.new ≡ number.old) × (received.new ≡ received.old)) }
         ensures memory { numbers_in entry.now.moves ≡ None → IsOk result }
     {

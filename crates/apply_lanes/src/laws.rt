@@ -13,10 +13,10 @@ use link_intake::Intake;
 use std::alloc::Allocator;
 pub use thread_parts::ends_taken_in;
 
-/// Given the intake and the applier of one lane, what the applier took is a prefix of what the intake put,
-/// and all of it where End was taken. The applier comes back as it was. In whatever schedule of their threads, between
-/// two calls of each: what the buffer delivered is what was applied, dropped, is in hand, waits on the lane, and is still
-/// to be sent, in this order.
+/// Given the intake and the applier of one lane, what the applier took is a prefix of what the intake put, and all of
+/// it where End was taken. The applier comes back as it was. In whatever schedule of their threads, between two calls
+/// of each: what the buffer delivered is what was applied, dropped, is in hand, waits on the lane, and is still to be
+/// sent, in this order.
 pub fn taken_in<D: DeskNames, G: Gate, A: Allocator>(
     intake: Intake<A>,
     mut applier: Applier<D, G, A>,

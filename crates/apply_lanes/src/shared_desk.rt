@@ -44,7 +44,8 @@ impl<D: DeskNames, A: Allocator + Copy> SharedDesk<D, A> {
     /// `SeatsFull` if all of them were given out.
     pub fn seat<R: Wait>(&self, rt: &R) -> Result<Seat<D>, SeatsFull>
         ensures told { IfOk result (λ s. s ≡ told_nothing) }
-        ensures seat { (old : KeptValue) × (new : KeptValue) × IsKept D.id old × IsKept D.id new × GivesSeat old result new }
+        ensures seat { (old : KeptValue) × (new : KeptValue) × IsKept D.id old × IsKept D.id new
+            × GivesSeat old result new }
     {
         // The decision is the desk's, under its lock.
         self.lock(rt).seat()
@@ -54,7 +55,8 @@ impl<D: DeskNames, A: Allocator + Copy> SharedDesk<D, A> {
     /// others; then `SeatsFull`.
     pub fn clock_seat<R: Wait>(&self, rt: &R) -> Result<Seat<D>, SeatsFull>
         ensures told { IfOk result (λ s. s ≡ told_nothing) }
-        ensures seat { (old : KeptValue) × (new : KeptValue) × IsKept D.id old × IsKept D.id new × GivesClockSeat old result new }
+        ensures seat { (old : KeptValue) × (new : KeptValue) × IsKept D.id old × IsKept D.id new
+            × GivesClockSeat old result new }
     {
         // The decision is the desk's, under its lock.
         self.lock(rt).clock_seat()
@@ -71,8 +73,10 @@ impl<D: DeskNames, A: Allocator + Copy> SharedDesk<D, A> {
     ) -> Result<Applier<D, G, B>, AdmitError<G, B>>
         requires { outlet.taken ≡ [] }
         ensures fresh { IfOk result (λ a. a ≡ new_applier origin outlet gate) }
-        ensures ok { IfOk result (λ a. (old : KeptValue) × (new : KeptValue) × IsKept D.id old × IsKept D.id new × GivesApplier D.id old origin outlet gate a new) }
-        ensures err { IfErr result (λ e. (kept : KeptValue) × IsKept D.id kept × Admits D.id kept.admitted origin (Some e.cause)) }
+        ensures ok { IfOk result (λ a. (old : KeptValue) × (new : KeptValue) × IsKept D.id old × IsKept D.id new
+            × GivesApplier D.id old origin outlet gate a new) }
+        ensures err { IfErr result (λ e. (kept : KeptValue) × IsKept D.id kept
+            × Admits D.id kept.admitted origin (Some e.cause)) }
         ensures back { IfErr result (λ e. (e.outlet ≡ outlet) × (e.gate ≡ gate)) }
     {
         // The decision is the desk's, under its lock.

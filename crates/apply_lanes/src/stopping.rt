@@ -1,7 +1,8 @@
 //! The end of a shared desk.
 ghost use Rattle.std.specs.Prelude.{◌≡◌, ◌+◌, ◌<◌, ◌≤◌, ◌^◌, Some, None, IfOk, IfErr, MatchResult, length};
 ghost use Rattle.apply_lanes.specs.Kepts.{KeptValue, IsKept};
-ghost use Rattle.apply_lanes.specs.Stops.{all_issued, all_spent, all_served, all_numbers, all_received, Reports, ReportsDesk, missing_of, missing_by, parts_of};
+ghost use Rattle.apply_lanes.specs.Stops.{all_issued, all_spent, all_served, all_numbers, all_received, Reports};
+ghost use Rattle.apply_lanes.specs.Stops.{ReportsDesk, missing_of, missing_by, parts_of};
 ghost use Rattle.thread_parts.specs.ShardedCounters.{ShardedCounterValue};
 ghost use Rattle.apply_lanes.specs.declared.names.TheConstants.{SEATS, APPLIERS};
 
@@ -175,8 +176,10 @@ fn settle_seats<D: DeskNames, A: Allocator>(
     requires room { (issued.left + length seats.items ≡ SEATS + 1) × (spent.left + length seats.items ≡ SEATS + 1) }
     requires none { (issued.returned ≡ 0) × (spent.returned ≡ 0) }
     requires fits { (issued.sum < 2 ^ 64) × (spent.sum < 2 ^ 64) }
-    ensures told { (result.0 ≡ all_issued seats.items) × (result.1 ≡ all_spent seats.items) × (result.2 ≡ all_served seats.items) }
-    ensures sums { (issued.sum ≡ all_issued seats.items) × (spent.sum ≡ all_spent seats.items + all_served seats.items) }
+    ensures told { (result.0 ≡ all_issued seats.items) × (result.1 ≡ all_spent seats.items)
+        × (result.2 ≡ all_served seats.items) }
+    ensures sums { (issued.sum ≡ all_issued seats.items)
+        × (spent.sum ≡ all_spent seats.items + all_served seats.items) }
 {
     let told = collect_seats(&mut issued, &mut spent, seats);
     issued.settle();
@@ -190,7 +193,8 @@ fn settle_applied<D: DeskNames, A: Allocator>(
     mut received: ShardedCounter<ReceivedBy<D>>,
     applied: Vec<Applied<D>, A>,
 ) -> u64
-    requires room { (number.left + length applied.items ≡ APPLIERS) × (received.left + length applied.items ≡ APPLIERS) }
+    requires room { (number.left + length applied.items ≡ APPLIERS)
+        × (received.left + length applied.items ≡ APPLIERS) }
     requires none { (number.returned ≡ 0) × (received.returned ≡ 0) }
     ensures told { result ≡ all_numbers applied.items }
     ensures sums { received.sum ≡ all_received applied.items }
@@ -207,12 +211,15 @@ fn collect_seats<D: DeskNames, A: Allocator>(
     spent: &mut ShardedCounter<SpentBy<D>>,
     seats: Vec<Seat<D>, A>,
 ) -> (u64, u64, u64)
-    requires room { (issued.old.left + length seats.items ≡ SEATS + 1) × (spent.old.left + length seats.items ≡ SEATS + 1) }
+    requires room { (issued.old.left + length seats.items ≡ SEATS + 1)
+        × (spent.old.left + length seats.items ≡ SEATS + 1) }
     requires none { (issued.old.returned ≡ 0) × (spent.old.returned ≡ 0) }
     requires fits { (issued.old.sum < 2 ^ 64) × (spent.old.sum < 2 ^ 64) }
-    ensures told { (result.0 ≡ all_issued seats.items) × (result.1 ≡ all_spent seats.items) × (result.2 ≡ all_served seats.items) }
+    ensures told { (result.0 ≡ all_issued seats.items) × (result.1 ≡ all_spent seats.items)
+        × (result.2 ≡ all_served seats.items) }
     ensures issued { issued.new ≡ record issued.old { left = SEATS + 1; returned = all_issued seats.items } }
-    ensures spent { spent.new ≡ record spent.old { left = SEATS + 1; returned = all_spent seats.items + all_served seats.items } }
+    ensures spent { spent.new
+        ≡ record spent.old { left = SEATS + 1; returned = all_spent seats.items + all_served seats.items } }
 {
     let (mut told_issued, mut told_spent, mut told_served) = (0u64, 0u64, 0u64);
     for seat in seats {
@@ -236,7 +243,8 @@ fn collect_applied<D: DeskNames, A: Allocator>(
     received: &mut ShardedCounter<ReceivedBy<D>>,
     applied: Vec<Applied<D>, A>,
 )
-    requires room { (number.old.left + length applied.items ≡ APPLIERS) × (received.old.left + length applied.items ≡ APPLIERS) }
+    requires room { (number.old.left + length applied.items ≡ APPLIERS)
+        × (received.old.left + length applied.items ≡ APPLIERS) }
     requires none { (number.old.returned ≡ 0) × (received.old.returned ≡ 0) }
     ensures number { number.new ≡ record number.old { left = APPLIERS; returned = all_numbers applied.items } }
     ensures received { received.new ≡ record received.old { left = APPLIERS; returned = all_received applied.items } }

@@ -23,7 +23,8 @@ const RUNS: u64 = 5;
 
 // An entry of site 1 that issues one right.
 fn one(alloc: Global, prev: u64) -> Option<Entry>
-    ensures { IfSome result (λ e. IsEntry e × (e.origin ≡ 1) × (e.prev ≡ prev) × (closes e ≡ false) × (own e ≡ prev + 1)) }
+    ensures { IfSome result (λ e. IsEntry e × (e.origin ≡ 1) × (e.prev ≡ prev) × (closes e ≡ false)
+        × (own e ≡ prev + 1)) }
 {
     let mut moves = Vec::with_capacity(alloc, 1).ok()?;
     moves.push(Move::Issue(Amount::known(1))).ok()?;

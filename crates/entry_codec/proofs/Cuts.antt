@@ -1,8 +1,11 @@
 -- A text that is split at a byte.
-use Rattle.std.proofs.Common.{◌≡◌, ℕ, suc, ◌+◌, ◌-◌, ◌<◌, ◌≤◌, Bool, true, false, cond, ltb, eqb, ◌==◌, List, [], ◌∷◌, length, take, drop, get_or, Option, Some, None, refl, sym, ◌∙◌, arith, inl, inr, length-drop}
+use Rattle.std.proofs.Common.{◌≡◌, ℕ, suc, ◌+◌, ◌-◌, ◌<◌, ◌≤◌, Bool, true, false, cond, ltb, eqb, ◌==◌, List, [], ◌∷◌}
+use Rattle.std.proofs.Common.{length, take, drop, get_or, Option, Some, None, refl, sym, ◌∙◌, arith, inl, inr}
+use Rattle.std.proofs.Common.{length-drop}
 use Rattle.std.specs.List.{slice_split, position, position_or_len, before_first, after_first}
 use Rattle.std.specs.Prelude.{option_map}
-use Rattle.std.proofs.lemmas.Bool.{cases_Bool, cases_lt, ltb-true, ltb-false, lt-ltb, le-ltb, eq-eqb, ne_eqb, false_from_ne_true}
+use Rattle.std.proofs.lemmas.Bool.{cases_Bool, cases_lt, ltb-true, ltb-false, lt-ltb, le-ltb, eq-eqb, ne_eqb}
+use Rattle.std.proofs.lemmas.Bool.{false_from_ne_true}
 use Rattle.std.proofs.lemmas.Option.{cond_some}
 use Rattle.std.proofs.lemmas.List.{take_all}
 use Rattle.std.proofs.lemmas.List.Splits.{slice_split_none, slice_split_first, length-slice_split}
@@ -17,11 +20,14 @@ uncut p xs e =
       | inr past ↦ slice_split_none p xs (λ k d lt. fails_before_first p xs k d (omega (arith, ltb-false _ _ past)))
     ]
 
-pub cut : (p : ℕ → Bool) (xs : List ℕ) (i : ℕ) → position p xs ≡ Some i → slice_split p xs ≡ take i xs ∷ slice_split p (take (length xs - (i + 1)) (drop (i + 1) xs))
+pub cut : (p : ℕ → Bool) (xs : List ℕ) (i : ℕ) → position p xs ≡ Some i
+    → slice_split p xs ≡ take i xs ∷ slice_split p (take (length xs - (i + 1)) (drop (i + 1) xs))
 cut p xs i e =
     let at = cond_some (ltb (position_or_len p xs) (length xs)) (position_or_len p xs) i e in
-    let all : take (length xs - (i + 1)) (drop (i + 1) xs) ≡ drop (i + 1) xs = take_all (length xs - (i + 1)) (drop (i + 1) xs) (omega (arith, length-drop (i + 1) xs)) in
-    let first : slice_split p xs ≡ before_first p xs ∷ slice_split p (after_first p xs) = slice_split_first p xs 0 (ltb-true _ _ at.0) in
+    let all : take (length xs - (i + 1)) (drop (i + 1) xs) ≡ drop (i + 1) xs
+    = take_all (length xs - (i + 1)) (drop (i + 1) xs) (omega (arith, length-drop (i + 1) xs)) in
+    let first : slice_split p xs ≡ before_first p xs ∷ slice_split p (after_first p xs)
+    = slice_split_first p xs 0 (ltb-true _ _ at.0) in
     first ∙ rw (at.1, all) refl
 
 -- a text has a part at least
@@ -47,25 +53,39 @@ one_on false n = refl
 pub position-cons_yes : (p : ℕ → Bool) (x : ℕ) (xs : List ℕ) → p x ≡ true → position p (x ∷ xs) ≡ Some 0
 position-cons_yes p x xs h = rw (h, lt-ltb 0 (suc (length xs)) (omega arith)) refl
 
-pub position-cons_no : (p : ℕ → Bool) (x : ℕ) (xs : List ℕ) → p x ≡ false → position p (x ∷ xs) ≡ option_map (λ (i : ℕ). 1 + i) (position p xs)
-position-cons_no p x xs h = rw (h, none_lt (position_or_len p xs) (length xs)) (one_on (ltb (position_or_len p xs) (length xs)) (position_or_len p xs))
+pub position-cons_no : (p : ℕ → Bool) (x : ℕ) (xs : List ℕ) → p x ≡ false
+    → position p (x ∷ xs) ≡ option_map (λ (i : ℕ). 1 + i) (position p xs)
+position-cons_no p x xs h
+    = rw (h, none_lt (position_or_len p xs) (length xs))
+    (one_on (ltb (position_or_len p xs) (length xs)) (position_or_len p xs))
 
 -- the place of the first such byte, before which there is none
-pub place_found : (at : ℕ) (text : List ℕ) (i : ℕ) → i < length text → ((k : ℕ) → k < i → get_or text k 0 ≡ at → ⊥) → get_or text i 0 ≡ at → Some i ≡ position (λ b. b == at) text
+pub place_found : (at : ℕ) (text : List ℕ) (i : ℕ) → i < length text → ((k : ℕ) → k < i → get_or text k 0 ≡ at → ⊥)
+    → get_or text i 0 ≡ at → Some i ≡ position (λ b. b == at) text
 place_found at text i lt before here =
-    let first : position_or_len (λ b. b == at) text ≡ i = position_or_len_is (λ b. b == at) text i 0 (omega (arith, lt)) (λ k h. ne_eqb (get_or text k 0) at (before k h)) (λ h. eq-eqb (get_or text i 0) at here) in
+    let first : position_or_len (λ b. b == at) text ≡ i
+    = position_or_len_is (λ b. b == at) text i 0 (omega (arith, lt))
+    (λ k h. ne_eqb (get_or text k 0) at (before k h)) (λ h. eq-eqb (get_or text i 0) at here) in
     sym (rw (first, lt-ltb i (length text) lt) refl)
 
-pub place_none : (at : ℕ) (text : List ℕ) → ((k : ℕ) → k < length text → get_or text k 0 ≡ at → ⊥) → None ≡ position (λ b. b == at) text
+pub place_none : (at : ℕ) (text : List ℕ) → ((k : ℕ) → k < length text → get_or text k 0 ≡ at → ⊥)
+    → None ≡ position (λ b. b == at) text
 place_none at text none =
-    let past : position_or_len (λ b. b == at) text ≡ length text = position_or_len_is (λ b. b == at) text (length text) 0 (omega arith) (λ k h. ne_eqb (get_or text k 0) at (none k h)) (λ h. absurd (omega (arith, h))) in
+    let past : position_or_len (λ b. b == at) text ≡ length text
+    = position_or_len_is (λ b. b == at) text (length text) 0 (omega arith)
+    (λ k h. ne_eqb (get_or text k 0) at (none k h)) (λ h. absurd (omega (arith, h))) in
     sym (rw (past, le-ltb (length text) (length text) (omega arith)) refl)
 
 -- what memchr tells is the place of the first such byte
-pub first_is_position : (at : ℕ) (text : List ℕ) (r : Option ℕ) → IsFirstByte (is_byte at) text r → r ≡ position (λ b. b == at) text
+pub first_is_position : (at : ℕ) (text : List ℕ) (r : Option ℕ) → IsFirstByte (is_byte at) text r
+    → r ≡ position (λ b. b == at) text
 first_is_position at text None none =
-    let past : position_or_len (λ b. b == at) text ≡ length text = position_or_len_is (λ b. b == at) text (length text) 0 (omega arith) (λ k h. false_from_ne_true (get_or text k 0 == at) (none k (omega arith) h)) (λ h. absurd (omega (arith, h))) in
+    let past : position_or_len (λ b. b == at) text ≡ length text
+    = position_or_len_is (λ b. b == at) text (length text) 0 (omega arith)
+    (λ k h. false_from_ne_true (get_or text k 0 == at) (none k (omega arith) h)) (λ h. absurd (omega (arith, h))) in
     sym (rw (past, le-ltb (length text) (length text) (omega arith)) refl)
 first_is_position at text (Some i) found =
-    let first : position_or_len (λ b. b == at) text ≡ i = position_or_len_is (λ b. b == at) text i 0 (omega (arith, found.0.high)) (λ k h. false_from_ne_true (get_or text k 0 == at) (found.0.before k (omega arith) h)) (λ h. found.1) in
+    let first : position_or_len (λ b. b == at) text ≡ i
+    = position_or_len_is (λ b. b == at) text i 0 (omega (arith, found.0.high))
+    (λ k h. false_from_ne_true (get_or text k 0 == at) (found.0.before k (omega arith) h)) (λ h. found.1) in
     sym (rw (first, lt-ltb i (length text) found.0.high) refl)

@@ -1,5 +1,6 @@
 -- A move and the values of its field: what is read is spelled so, and what is spelled so is read.
-use Rattle.std.proofs.Common.{◌≡◌, ℕ, ◌≤◌, ◌<◌, ◌^◌, Bool, true, false, cond, ltb, List, [], ◌∷◌, length, map, Option, Some, None, refl, sym, ap, subst, ◌∙◌, arith, inl, inr}
+use Rattle.std.proofs.Common.{◌≡◌, ℕ, ◌≤◌, ◌<◌, ◌^◌, Bool, true, false, cond, ltb, List, [], ◌∷◌, length, map, Option}
+use Rattle.std.proofs.Common.{Some, None, refl, sym, ap, subst, ◌∙◌, arith, inl, inr}
 use Rattle.std.specs.Prelude.{◌==◌, ◌||◌, ◌⊎◌, decimal, codes, IfSome}
 use Rattle.std.specs.List.{All, join_with_byte}
 use Rattle.std.specs.Str.{bytes_eq}
@@ -15,7 +16,8 @@ use Rattle.rights_types.specs.declared.moves.Move.{Move}
 use Rattle.rights_types.specs.declared.moves.Move.TheVariants.{Issue, Spend, Grant, Give, Close, CloseAt, TakeBack}
 use Rattle.entry_codec.specs.Parts.{split_at}
 use Rattle.entry_codec.specs.Spelling.{move_values, move_text}
-use Rattle.entry_codec.specs.Moves.{◌>>=◌, number_of, first_number, only_number, all_numbers, grant_in, give_in, take_back_in, frontier_in, move_by, move_of}
+use Rattle.entry_codec.specs.Moves.{◌>>=◌, number_of, first_number, only_number, all_numbers, grant_in, give_in}
+use Rattle.entry_codec.specs.Moves.{take_back_in, frontier_in, move_by, move_of}
 use Rattle.entry_codec.proofs.Numbers.{number_is, number_some}
 use Rattle.entry_codec.proofs.Bytes.{values_back}
 
@@ -23,7 +25,8 @@ pub both_are : {A : Type 0} {x y : A} {xs ys : List A} → x ≡ y → xs ≡ ys
 both_are {A} {y = y} {xs = xs} h k = ap (λ (z : A). z ∷ xs) h ∙ ap (λ (zs : List A). y ∷ zs) k
 
 -- the value of a step that found one
-bind_some : {A B : Type 0} (o : Option A) (f : A → Option B) (y : B) → (o >>= f) ≡ Some y → (x : A) × (o ≡ Some x) × (f x ≡ Some y)
+bind_some : {A B : Type 0} (o : Option A) (f : A → Option B) (y : B) → (o >>= f) ≡ Some y
+    → (x : A) × (o ≡ Some x) × (f x ≡ Some y)
 bind_some (Some x) f y e = (x, refl, e)
 bind_some None f y e = absurd cc
 
@@ -36,7 +39,8 @@ which false x y z h = inr (refl, h)
 abbrev Read : List (List ℕ) → ℕ → ℕ → ℕ × List (List ℕ) → Type 0
 Read texts low high x = (texts ≡ decimal x.0 ∷ x.1) × (low ≤ x.0) × (x.0 ≤ high)
 
-pub first_is : (low high : ℕ) (texts : List (List ℕ)) (x : ℕ × List (List ℕ)) → first_number low high texts ≡ Some x → (texts ≡ decimal x.0 ∷ x.1) × (low ≤ x.0) × (x.0 ≤ high)
+pub first_is : (low high : ℕ) (texts : List (List ℕ)) (x : ℕ × List (List ℕ)) → first_number low high texts ≡ Some x
+    → (texts ≡ decimal x.0 ∷ x.1) × (low ≤ x.0) × (x.0 ≤ high)
 unfolding first_number
 first_is low high [] x h = absurd cc
 first_is low high (text ∷ rest) x h =
@@ -44,7 +48,8 @@ first_is low high (text ∷ rest) x h =
     let n = number_is low high text a.0 a.1 in
     subst (Read (text ∷ rest) low high) (same_Some (a.0, rest) x a.2) (both_are n.0 refl, n.1, n.2)
 
-only_is : (low high : ℕ) (texts : List (List ℕ)) (n : ℕ) → only_number low high texts ≡ Some n → (texts ≡ decimal n ∷ []) × (low ≤ n) × (n ≤ high)
+only_is : (low high : ℕ) (texts : List (List ℕ)) (n : ℕ) → only_number low high texts ≡ Some n
+    → (texts ≡ decimal n ∷ []) × (low ≤ n) × (n ≤ high)
 unfolding only_number
 only_is low high texts n h =
     let a = bind_some (first_number low high texts) _ n h in
@@ -54,14 +59,16 @@ only_is low high texts n h =
     (x.0 ∙ both_are (ap decimal b.1) none, omega (arith, x.1, b.1), omega (arith, x.2, b.1))
 
 -- a number was read, and then the rest
-record IsFirstRead (low high : ℕ) (texts : List (List ℕ)) (f : ℕ × List (List ℕ) → Option Move) (m : Move) : Type 0 where
+record IsFirstRead (low high : ℕ) (texts : List (List ℕ)) (f : ℕ × List (List ℕ)
+    → Option Move) (m : Move) : Type 0 where
   number : ℕ
   rest : List (List ℕ)
   is : texts ≡ decimal number ∷ rest
   range : (low ≤ number) × (number ≤ high)
   later : f (number, rest) ≡ Some m
 
-first_read : (low high : ℕ) (texts : List (List ℕ)) (f : ℕ × List (List ℕ) → Option Move) (m : Move) → (first_number low high texts >>= f) ≡ Some m
+first_read : (low high : ℕ) (texts : List (List ℕ)) (f : ℕ × List (List ℕ) → Option Move) (m : Move)
+    → (first_number low high texts >>= f) ≡ Some m
     → IsFirstRead low high texts f m
 first_read low high texts f m h =
     let a = bind_some (first_number low high texts) f m h in
@@ -75,21 +82,25 @@ record IsLastRead (low high : ℕ) (texts : List (List ℕ)) (f : ℕ → Option
   range : (low ≤ number) × (number ≤ high)
   later : f number ≡ Some m
 
-only_read : (low high : ℕ) (texts : List (List ℕ)) (f : ℕ → Option Move) (m : Move) → (only_number low high texts >>= f) ≡ Some m → IsLastRead low high texts f m
+only_read : (low high : ℕ) (texts : List (List ℕ)) (f : ℕ → Option Move) (m : Move)
+    → (only_number low high texts >>= f) ≡ Some m → IsLastRead low high texts f m
 only_read low high texts f m h =
     let a = bind_some (only_number low high texts) f m h in
     let n = only_is low high texts a.0 a.1 in
     record { number = a.0; is = n.0; range = (n.1, n.2); later = a.2 }
 
-pub all_numbers_are : (texts : List (List ℕ)) (ns : List ℕ) → all_numbers texts ≡ Some ns → (texts ≡ map decimal ns) × All IsNumber ns
+pub all_numbers_are : (texts : List (List ℕ)) (ns : List ℕ) → all_numbers texts ≡ Some ns
+    → (texts ≡ map decimal ns) × All IsNumber ns
 unfolding all_numbers
-all_numbers_are [] ns h = subst (λ (ms : List ℕ). ([] ≡ map decimal ms) × All IsNumber ms) (same_Some [] ns h) (refl, All-nil IsNumber)
+all_numbers_are [] ns h = subst (λ (ms : List ℕ). ([] ≡ map decimal ms) × All IsNumber ms) (same_Some [] ns h)
+    (refl, All-nil IsNumber)
 all_numbers_are (text ∷ rest) ns h =
     let a = bind_some (number_of 0 1000000000 text) _ ns h in
     let b = bind_some (all_numbers rest) _ ns a.2 in
     let n = number_is 0 1000000000 text a.0 a.1 in
     let more = all_numbers_are rest b.0 b.1 in
-    subst (λ (ms : List ℕ). (text ∷ rest ≡ map decimal ms) × All IsNumber ms) (same_Some (a.0 ∷ b.0) ns b.2) (both_are n.0 more.0, All-cons IsNumber a.0 b.0 n.2 more.1)
+    subst (λ (ms : List ℕ). (text ∷ rest ≡ map decimal ms) × All IsNumber ms) (same_Some (a.0 ∷ b.0) ns b.2)
+    (both_are n.0 more.0, All-cons IsNumber a.0 b.0 n.2 more.1)
 
 none_or : {A : Type 0} (b : Bool) (o : Option A) (y : A) → cond b None o ≡ Some y → (b ≡ false) × (o ≡ Some y)
 none_or true o y h = absurd cc
@@ -114,7 +125,8 @@ frontier_is texts f h =
       },
     )
 
-pub first_again : (low high n : ℕ) (rest : List (List ℕ)) → n < 2 ^ 64 → low ≤ n → n ≤ high → first_number low high (decimal n ∷ rest) ≡ Some (n, rest)
+pub first_again : (low high n : ℕ) (rest : List (List ℕ)) → n < 2 ^ 64 → low ≤ n → n ≤ high
+    → first_number low high (decimal n ∷ rest) ≡ Some (n, rest)
 unfolding first_number
 first_again low high n rest fits above below = rw (number_some low high n fits above below) refl
 
@@ -127,14 +139,19 @@ unfolding all_numbers
 all_again [] h = refl
 all_again (n ∷ ns) h =
     let small = All-head IsNumber n ns h in
-    rw (number_some 0 1000000000 n (omega (arith, small)) (omega arith) small, all_again ns (All-tail IsNumber n ns h)) refl
+    rw (
+      number_some 0 1000000000 n (omega (arith, small)) (omega arith) small,
+      all_again ns (All-tail IsNumber n ns h),
+    ) refl
 
 frontier_again : (f : List ℕ) → IsFrontier f → frontier_in (map decimal f) ≡ Some f
 unfolding frontier_in
 frontier_again f h =
     let same : length (map decimal f) ≡ length f = length-map f decimal in
-    let some : ltb (length (map decimal f)) 2 ≡ false = le-ltb (length (map decimal f)) 2 (omega (arith, same, h.some)) in
-    let few : ltb 16 (length (map decimal f)) ≡ false = le-ltb 16 (length (map decimal f)) (omega (arith, same, h.few)) in
+    let some : ltb (length (map decimal f)) 2 ≡ false
+    = le-ltb (length (map decimal f)) 2 (omega (arith, same, h.some)) in
+    let few : ltb 16 (length (map decimal f)) ≡ false
+    = le-ltb 16 (length (map decimal f)) (omega (arith, same, h.few)) in
     rw (some, few) (all_again f h.each)
 
 -- ---- moves
@@ -156,38 +173,52 @@ unfolding give_in
 give_is values m h =
     let j = first_read 1 16 values _ m h in
     let n = only_read 1 1000000000 j.rest _ m j.later in
-    subst (Spelled (codes "R" ∷ values)) (same_Some (Give j.number n.number) m n.later) (both_are refl (j.is ∙ both_are refl n.is), (j.range, n.range))
+    subst (Spelled (codes "R" ∷ values)) (same_Some (Give j.number n.number) m n.later) (
+      both_are refl (j.is
+          ∙ both_are refl n.is),
+      (j.range, n.range),
+    )
 
 take_back_is : (values : List (List ℕ)) (m : Move) → take_back_in values ≡ Some m → Spelled (codes "V" ∷ values) m
 unfolding take_back_in
 take_back_is values m h =
     let j = first_read 1 16 values _ m h in
     let n = only_read 1 1000000000000000000 j.rest _ m j.later in
-    subst (Spelled (codes "V" ∷ values)) (same_Some (TakeBack j.number n.number) m n.later) (both_are refl (j.is ∙ both_are refl n.is), (j.range, n.range))
+    subst (Spelled (codes "V" ∷ values)) (same_Some (TakeBack j.number n.number) m n.later) (
+      both_are refl (j.is
+          ∙ both_are refl n.is),
+      (j.range, n.range),
+    )
 
-issue_is : (values : List (List ℕ)) (m : Move) → (only_number 1 1000000000 values >>= λ n. Some (Issue n)) ≡ Some m → Spelled (codes "I" ∷ values) m
+issue_is : (values : List (List ℕ)) (m : Move) → (only_number 1 1000000000 values >>= λ n. Some (Issue n)) ≡ Some m
+    → Spelled (codes "I" ∷ values) m
 issue_is values m h =
     let n = only_read 1 1000000000 values (λ n. Some (Issue n)) m h in
     subst (Spelled (codes "I" ∷ values)) (same_Some (Issue n.number) m n.later) (both_are refl n.is, n.range)
 
-spend_is : (values : List (List ℕ)) (m : Move) → (only_number 1 1000000000 values >>= λ n. Some (Spend n)) ≡ Some m → Spelled (codes "S" ∷ values) m
+spend_is : (values : List (List ℕ)) (m : Move) → (only_number 1 1000000000 values >>= λ n. Some (Spend n)) ≡ Some m
+    → Spelled (codes "S" ∷ values) m
 spend_is values m h =
     let n = only_read 1 1000000000 values (λ n. Some (Spend n)) m h in
     subst (Spelled (codes "S" ∷ values)) (same_Some (Spend n.number) m n.later) (both_are refl n.is, n.range)
 
-close_is : (values : List (List ℕ)) (m : Move) → cond (length values == 0) (Some Close) None ≡ Some m → Spelled (codes "C" ∷ values) m
+close_is : (values : List (List ℕ)) (m : Move) → cond (length values == 0) (Some Close) None ≡ Some m
+    → Spelled (codes "C" ∷ values) m
 close_is values m h =
     let a = cond_some (length values == 0) Close m h in
-    subst (Spelled (codes "C" ∷ values)) a.1 (both_are refl (nil_from_length values (eqb-true (length values) 0 a.0)), tt)
+    subst (Spelled (codes "C" ∷ values)) a.1
+    (both_are refl (nil_from_length values (eqb-true (length values) 0 a.0)), tt)
 
-close_at_is : (values : List (List ℕ)) (m : Move) → (frontier_in values >>= λ f. Some (CloseAt f)) ≡ Some m → Spelled (codes "K" ∷ values) m
+close_at_is : (values : List (List ℕ)) (m : Move) → (frontier_in values >>= λ f. Some (CloseAt f)) ≡ Some m
+    → Spelled (codes "K" ∷ values) m
 close_at_is values m h =
     let a = bind_some (frontier_in values) (λ f. Some (CloseAt f)) m h in
     let f = frontier_is values a.0 a.1 in
     subst (Spelled (codes "K" ∷ values)) (same_Some (CloseAt a.0) m a.2) (both_are refl f.0, f.1)
 
 -- the letter is the one that was tested
-with_letter : (letter text : List ℕ) (values : List (List ℕ)) (m : Move) → bytes_eq letter text ≡ true → Spelled (text ∷ values) m → Spelled (letter ∷ values) m
+with_letter : (letter text : List ℕ) (values : List (List ℕ)) (m : Move) → bytes_eq letter text ≡ true
+    → Spelled (text ∷ values) m → Spelled (letter ∷ values) m
 with_letter letter text values m e h = (both_are ((bytes_eq-Decides letter text).0 e) refl ∙ h.0, h.1)
 
 move_is : (texts : List (List ℕ)) (m : Move) → move_by texts ≡ Some m → Spelled texts m
@@ -222,18 +253,29 @@ move_of_is text m h =
     let found = move_is (split_at 58 text) m h in
     (sym (join_with_byte-slice_split 58 text) ∙ ap (join_with_byte 58) found.0, found.1)
 
-grant_again : (j n a : ℕ) → IsMove (Grant j n a) → grant_in (decimal j ∷ decimal n ∷ decimal a ∷ []) ≡ Some (Grant j n a)
+grant_again : (j n a : ℕ) → IsMove (Grant j n a)
+    → grant_in (decimal j ∷ decimal n ∷ decimal a ∷ []) ≡ Some (Grant j n a)
 unfolding grant_in
 grant_again j n a h =
-    rw (first_again 1 16 j (decimal n ∷ decimal a ∷ []) (omega (arith, h.0.1)) h.0.0 h.0.1, first_again 1 1000000000 n (decimal a ∷ []) (omega (arith, h.1.1)) h.1.0 h.1.1, only_again 1 1000000000 a (omega (arith, h.2.1)) h.2.0 h.2.1) refl
+    rw (
+      first_again 1 16 j (decimal n ∷ decimal a ∷ []) (omega (arith, h.0.1)) h.0.0 h.0.1,
+      first_again 1 1000000000 n (decimal a ∷ []) (omega (arith, h.1.1)) h.1.0 h.1.1,
+      only_again 1 1000000000 a (omega (arith, h.2.1)) h.2.0 h.2.1,
+    ) refl
 
 give_again : (j n : ℕ) → IsMove (Give j n) → give_in (decimal j ∷ decimal n ∷ []) ≡ Some (Give j n)
 unfolding give_in
-give_again j n h = rw (first_again 1 16 j (decimal n ∷ []) (omega (arith, h.0.1)) h.0.0 h.0.1, only_again 1 1000000000 n (omega (arith, h.1.1)) h.1.0 h.1.1) refl
+give_again j n h = rw (
+  first_again 1 16 j (decimal n ∷ []) (omega (arith, h.0.1)) h.0.0 h.0.1,
+  only_again 1 1000000000 n (omega (arith, h.1.1)) h.1.0 h.1.1,
+) refl
 
 take_back_again : (j n : ℕ) → IsMove (TakeBack j n) → take_back_in (decimal j ∷ decimal n ∷ []) ≡ Some (TakeBack j n)
 unfolding take_back_in
-take_back_again j n h = rw (first_again 1 16 j (decimal n ∷ []) (omega (arith, h.0.1)) h.0.0 h.0.1, only_again 1 1000000000000000000 n (omega (arith, h.1.1)) h.1.0 h.1.1) refl
+take_back_again j n h = rw (
+  first_again 1 16 j (decimal n ∷ []) (omega (arith, h.0.1)) h.0.0 h.0.1,
+  only_again 1 1000000000000000000 n (omega (arith, h.1.1)) h.1.0 h.1.1,
+) refl
 
 move_by_again : (m : Move) → IsMove m → move_by (move_values m) ≡ Some m
 move_by_again (Issue n) h = rw (only_again 1 1000000000 n (omega (arith, h.1)) h.0 h.1) refl
@@ -254,5 +296,6 @@ pub move_found : (text : List ℕ) (r : Option Move) → r ≡ move_of text → 
 move_found text None h = tt
 move_found text (Some m) h = let is = move_of_is text m (sym h) in (is.1, is.0)
 
-pub move_only : (text : List ℕ) (r : Option Move) → r ≡ move_of text → (m : Move) → IsMove m → text ≡ move_text m → r ≡ Some m
+pub move_only : (text : List ℕ) (r : Option Move) → r ≡ move_of text → (m : Move) → IsMove m
+    → text ≡ move_text m → r ≡ Some m
 move_only text r h m valid is = h ∙ ap move_of is ∙ move_again m valid

@@ -1,5 +1,7 @@
 -- A stream that a cutter takes up to a line feed at a time.
-use Rattle.std.proofs.Common.{◌≡◌, ◌≢◌, ℕ, zero, suc, ◌+◌, ◌-◌, true, false, eqb, List, [], ◌∷◌, ◌++◌, length, get_or, take, Option, Some, None, refl, sym, ap, subst, ◌∙◌, arith, inl, inr, length-append, append_assoc, append-nil}
+use Rattle.std.proofs.Common.{◌≡◌, ◌≢◌, ℕ, zero, suc, ◌+◌, ◌-◌, true, false, eqb, List, [], ◌∷◌, ◌++◌, length, get_or}
+use Rattle.std.proofs.Common.{take, Option, Some, None, refl, sym, ap, subst, ◌∙◌, arith, inl, inr, length-append}
+use Rattle.std.proofs.Common.{append_assoc, append-nil}
 use Rattle.std.specs.Prelude.{◌⊎◌, option_map}
 use Rattle.std.specs.List.{position}
 use Rattle.std.specs.Io.BufRead.{take_through, ends_with_byte}
@@ -30,7 +32,8 @@ through_len (x ∷ xs) =
           one ∙ sym (ap (upto (suc (length xs))) (position-cons_yes (λ b. eqb b 10) x xs e))
       | inr e ↦
           let more : length (take_through 10 (x ∷ xs)) ≡ suc (length (take_through 10 xs)) = rw e refl in
-          more ∙ ap suc (through_len xs) ∙ upto_more (length xs) (position (λ b. eqb b 10) xs) ∙ sym (ap (upto (suc (length xs))) (position-cons_no (λ b. eqb b 10) x xs e))
+          more ∙ ap suc (through_len xs) ∙ upto_more (length xs) (position (λ b. eqb b 10) xs)
+          ∙ sym (ap (upto (suc (length xs))) (position-cons_no (λ b. eqb b 10) x xs e))
     ]
 
 pub through_found : (xs : List ℕ) (i : ℕ) → Some i ≡ position (λ b. eqb b 10) xs → i + 1 ≡ length (take_through 10 xs)
@@ -52,7 +55,8 @@ more_has_no_end x xs other h zero lt = other
 more_has_no_end x xs other h (suc k) lt = h k (omega (arith, lt))
 
 -- what is taken has no line feed, or only at its end
-through_cases : (xs : List ℕ) → HasNoEnd (take_through 10 xs) ⊎ ((front : List ℕ) × (take_through 10 xs ≡ front ++ 10 ∷ []) × HasNoEnd front)
+through_cases : (xs : List ℕ)
+    → HasNoEnd (take_through 10 xs) ⊎ ((front : List ℕ) × (take_through 10 xs ≡ front ++ 10 ∷ []) × HasNoEnd front)
 through_cases [] = inl (λ k lt. absurd (omega (arith, lt)))
 through_cases (x ∷ xs) =
     elim (cases_Bool (eqb x 10)) [
@@ -61,16 +65,23 @@ through_cases (x ∷ xs) =
           let whole : take_through 10 (x ∷ xs) ≡ x ∷ take_through 10 xs = rw e refl in
           elim (through_cases xs) [
             | inl h ↦ inl (subst HasNoEnd (sym whole) (more_has_no_end x (take_through 10 xs) (eqb-false x 10 e) h))
-            | inr h ↦ inr (x ∷ h.0, whole ∙ ap (λ (t : List ℕ). x ∷ t) h.1, more_has_no_end x h.0 (eqb-false x 10 e) h.2)
+            | inr h ↦ inr (
+              x ∷ h.0,
+              whole
+                  ∙ ap (λ (t : List ℕ). x ∷ t) h.1,
+              more_has_no_end x h.0 (eqb-false x 10 e) h.2,
+            )
           ]
     ]
 
 -- ---- whether a piece is finished
 
-still_open : (piece taken : List ℕ) → ends_with_byte 10 piece ≡ false → HasNoEnd taken → ends_with_byte 10 (piece ++ taken) ≡ false
+still_open : (piece taken : List ℕ) → ends_with_byte 10 piece ≡ false → HasNoEnd taken
+    → ends_with_byte 10 (piece ++ taken) ≡ false
 still_open piece [] h none = ap (ends_with_byte 10) (append-nil piece) ∙ h
 still_open piece (x ∷ xs) h none =
-    ends_taken piece (x ∷ xs) (length (x ∷ xs)) refl (omega arith) ∙ ne_eqb (get_or (x ∷ xs) (length (x ∷ xs) - 1) 0) 10 (none (length (x ∷ xs) - 1) (omega arith))
+    ends_taken piece (x ∷ xs) (length (x ∷ xs)) refl (omega arith)
+    ∙ ne_eqb (get_or (x ∷ xs) (length (x ∷ xs) - 1) 0) 10 (none (length (x ∷ xs) - 1) (omega arith))
 
 now_ended : (piece front : List ℕ) → ends_with_byte 10 (piece ++ (front ++ 10 ∷ [])) ≡ true
 now_ended piece front =
@@ -84,8 +95,10 @@ now_ended piece front =
 
 -- ---- a stream
 
-pub fed_more : (old new : CutterView) (stream bytes taken : List ℕ) (given : List (List ℕ)) → old.is_finished ≡ false → taken ≡ take_through 10 bytes
-    → ((piece : List ℕ) → Holds old piece → Holds new (piece ++ taken)) → IsFed old stream given → IsFed new (stream ++ taken) given
+pub fed_more : (old new : CutterView) (stream bytes taken : List ℕ) (given : List (List ℕ)) → old.is_finished ≡ false
+    → taken ≡ take_through 10 bytes
+    → ((piece : List ℕ) → Holds old piece → Holds new (piece ++ taken)) → IsFed old stream given
+    → IsFed new (stream ++ taken) given
 fed_more old new stream bytes taken given waits is holds h =
     let piece = h.0 in
     let held = holds piece h.1 in
@@ -94,8 +107,10 @@ fed_more old new stream bytes taken given waits is holds h =
     let ends : new.is_finished ≡ ends_with_byte 10 (piece ++ taken) = ap (λ (v : CutterView). v.is_finished) held in
     let before : ends_with_byte 10 piece ≡ false = sym (ap (λ (v : CutterView). v.is_finished) h.1) ∙ waits in
     let more : pieces (stream ++ taken) ≡ (given ++ []) ++ pieces_after piece taken =
-    pieces_append [] stream taken ∙ ap (λ (ps : List (List ℕ)). ps ++ pieces_after (unfinished stream) taken) was ∙ ap (λ (t : List ℕ). (given ++ []) ++ pieces_after t taken) left in
-    let rest : unfinished (stream ++ taken) ≡ rest_after piece taken = rest_append [] stream taken ∙ ap (λ (t : List ℕ). rest_after t taken) left in
+    pieces_append [] stream taken ∙ ap (λ (ps : List (List ℕ)). ps ++ pieces_after (unfinished stream) taken) was
+    ∙ ap (λ (t : List ℕ). (given ++ []) ++ pieces_after t taken) left in
+    let rest : unfinished (stream ++ taken) ≡ rest_after piece taken = rest_append [] stream taken
+    ∙ ap (λ (t : List ℕ). rest_after t taken) left in
     elim (through_cases bytes) [
       | inl none ↦
           let no_end : HasNoEnd taken = subst HasNoEnd (sym is) none in
@@ -105,9 +120,16 @@ fed_more old new stream bytes taken given waits is holds h =
       | inr one ↦
           let all : taken ≡ one.0 ++ 10 ∷ [] = is ∙ one.1 in
           let p = one_piece piece one.0 one.2 in
-          let ended : new.is_finished ≡ true = ends ∙ ap (λ (t : List ℕ). ends_with_byte 10 (piece ++ t)) all ∙ now_ended piece one.0 in
+          let ended : new.is_finished ≡ true = ends ∙ ap (λ (t : List ℕ). ends_with_byte 10 (piece ++ t)) all
+          ∙ now_ended piece one.0 in
           let whole : pieces_after piece taken ≡ (piece ++ taken) ∷ [] = ap (pieces_after piece) all ∙ p.0
-          ∙ ap (λ (t : List ℕ). t ∷ []) (append_assoc piece one.0 (10 ∷ []) ∙ ap (λ (t : List ℕ). piece ++ t) (sym all)) in
-          let none : rest_after piece taken ≡ [] = ap (rest_after piece) all ∙ p.1 in
-          (piece ++ taken, held, rw ended (more ∙ rw whole (ap (λ (ps : List (List ℕ)). ps ++ (piece ++ taken) ∷ []) (append-nil given))), rw ended (rest ∙ none))
+          ∙ ap (λ (t : List ℕ). t ∷ []) (append_assoc piece one.0 (10 ∷ [])
+          ∙ ap (λ (t : List ℕ). piece ++ t) (sym all)) in
+          let none : rest_after piece taken ≡ [] = ap (rest_after piece) all ∙ p.1 in (
+            piece ++ taken,
+            held,
+            rw ended (more
+                ∙ rw whole (ap (λ (ps : List (List ℕ)). ps ++ (piece ++ taken) ∷ []) (append-nil given))),
+            rw ended (rest ∙ none),
+          )
     ]

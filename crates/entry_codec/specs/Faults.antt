@@ -1,7 +1,8 @@
 -- The causes for which a line is refused, in the order in which they are checked.
 use Rattle.std.specs.Prelude.{ℕ}
 use Rattle.entry_codec.specs.declared.fault.LineError.{LineError}
-use Rattle.entry_codec.specs.declared.fault.LineError.TheVariants.{TooLong, NoEnd, BadKind, BadField, BadMove, CountWrong, TrailingBytes, OutOfMemory}
+use Rattle.entry_codec.specs.declared.fault.LineError.TheVariants.{TooLong, NoEnd, BadKind, BadField, BadMove}
+use Rattle.entry_codec.specs.declared.fault.LineError.TheVariants.{CountWrong, TrailingBytes, OutOfMemory}
 
 abbrev pub fault_number : LineError → ℕ
 fault_number TooLong = 1

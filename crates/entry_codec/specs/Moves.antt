@@ -1,12 +1,15 @@
 -- Reading a move from its field, which is a letter and numbers in their ranges, separated by colons.
-use Rattle.std.specs.Prelude.{ℕ, ◌&&◌, ◌||◌, not, List, [], ◌∷◌, length, Option, Some, None, nat_lt, ◌==◌, if◌then◌else◌, decimal}
+use Rattle.std.specs.Prelude.{ℕ, ◌&&◌, ◌||◌, not, List, [], ◌∷◌, length, Option, Some, None, nat_lt, ◌==◌}
+use Rattle.std.specs.Prelude.{if◌then◌else◌, decimal}
 use Rattle.std.specs.Str.{bytes_eq}
 use Rattle.std.specs.Str.Parse.{digits_value}
 use Rattle.rights_types.specs.declared.moves.Move.{Move}
 use Rattle.rights_types.specs.declared.moves.Move.TheVariants.{Issue, Spend, Grant, Give, Close, CloseAt, TakeBack}
 use Rattle.entry_codec.specs.Parts.{split_at}
-use Rattle.rights_types.specs.declared.limits.TheConstants.{MAX_AMOUNT, MAX_ASK, MAX_NUMBER, MAX_SITES, MAX_TOTAL, MIN_SITES}
-use Rattle.entry_codec.specs.declared.format.TheConstants.{CLOSE_AT_LETTER, CLOSE_LETTER, GIVE_LETTER, GRANT_LETTER, ISSUE_LETTER, SPEND_LETTER, TAKE_BACK_LETTER, VALUE_BREAK}
+use Rattle.rights_types.specs.declared.limits.TheConstants.{MAX_AMOUNT, MAX_ASK, MAX_NUMBER, MAX_SITES, MAX_TOTAL}
+use Rattle.rights_types.specs.declared.limits.TheConstants.{MIN_SITES}
+use Rattle.entry_codec.specs.declared.format.TheConstants.{CLOSE_AT_LETTER, CLOSE_LETTER, GIVE_LETTER, GRANT_LETTER}
+use Rattle.entry_codec.specs.declared.format.TheConstants.{ISSUE_LETTER, SPEND_LETTER, TAKE_BACK_LETTER, VALUE_BREAK}
 use Rattle.entry_codec.specs.Letters.{is_letter}
 
 infixl 10 ◌>>=◌

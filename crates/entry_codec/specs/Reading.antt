@@ -1,5 +1,6 @@
 -- Reading a line from left to right. The order of the steps is the order in which faults are checked.
-use Rattle.std.specs.Prelude.{◌≡◌, ℕ, ◌+◌, ◌-◌, Bool, true, false, ◌&&◌, ◌||◌, not, List, [], ◌∷◌, length, take, Option, Some, None, Result, Ok, Err, nat_lt, ◌==◌, if◌then◌else◌, slice_index}
+use Rattle.std.specs.Prelude.{◌≡◌, ℕ, ◌+◌, ◌-◌, Bool, true, false, ◌&&◌, ◌||◌, not, List, [], ◌∷◌, length, take, Option}
+use Rattle.std.specs.Prelude.{Some, None, Result, Ok, Err, nat_lt, ◌==◌, if◌then◌else◌, slice_index}
 use Rattle.rights_types.specs.declared.moves.Move.{Move}
 use Rattle.rights_types.specs.Moves.{is_close, names, lacks_own_place}
 use Rattle.rights_types.specs.Entries.{EntryValue}
@@ -7,11 +8,15 @@ use Rattle.rights_types.specs.Messages.{MessageValue}
 use Rattle.rights_types.specs.Messages.MessageValue.{AnEntry, AQuery, AnAnswer, ABeat, AnAsk, ADenial, AHello}
 use Rattle.entry_codec.specs.declared.fault.Place.{Place}
 use Rattle.entry_codec.specs.declared.fault.LineError.{LineError}
-use Rattle.entry_codec.specs.declared.fault.LineError.TheVariants.{TooLong, NoEnd, BadKind, BadField, BadMove, CountWrong, TrailingBytes, OutOfMemory}
+use Rattle.entry_codec.specs.declared.fault.LineError.TheVariants.{TooLong, NoEnd, BadKind, BadField, BadMove}
+use Rattle.entry_codec.specs.declared.fault.LineError.TheVariants.{CountWrong, TrailingBytes, OutOfMemory}
 use Rattle.entry_codec.specs.Parts.{parts_in}
 use Rattle.entry_codec.specs.Moves.{first_number, move_of}
-use Rattle.rights_types.specs.declared.limits.TheConstants.{MAX_AMOUNT, MAX_ANSWER, MAX_ASK, MAX_LINE, MAX_MOVES, MAX_NUMBER, MAX_SITES}
-use Rattle.entry_codec.specs.declared.format.TheConstants.{ANSWER_LETTER, ASK_LETTER, BEAT_LETTER, DENIAL_LETTER, ENTRY_LETTER, FIRST_MOVE, HELLO_LETTER, LINE_END, QUERY_LETTER}
+use Rattle.rights_types.specs.declared.limits.TheConstants.{MAX_AMOUNT, MAX_ANSWER, MAX_ASK, MAX_LINE, MAX_MOVES}
+use Rattle.rights_types.specs.declared.limits.TheConstants.{MAX_NUMBER, MAX_SITES}
+use Rattle.entry_codec.specs.declared.format.TheConstants.{ANSWER_LETTER, ASK_LETTER, BEAT_LETTER, DENIAL_LETTER}
+use Rattle.entry_codec.specs.declared.format.TheConstants.{ENTRY_LETTER, FIRST_MOVE, HELLO_LETTER, LINE_END}
+use Rattle.entry_codec.specs.declared.format.TheConstants.{QUERY_LETTER}
 use Rattle.entry_codec.specs.Letters.{is_letter}
 
 infixl 10 ◌>>=◌

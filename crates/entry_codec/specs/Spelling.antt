@@ -4,9 +4,14 @@ use Rattle.std.specs.List.{join_with_byte}
 use Rattle.rights_types.specs.declared.moves.Move.{Move}
 use Rattle.rights_types.specs.declared.moves.Move.TheVariants.{Issue, Spend, Grant, Give, Close, CloseAt, TakeBack}
 use Rattle.rights_types.specs.Entries.{EntryValue, own}
-use Rattle.rights_types.specs.Messages.{MessageValue, QueryValue, AnswerValue, BeatValue, AskValue, DenyValue, IsMessage}
+use Rattle.rights_types.specs.Messages.{MessageValue, QueryValue, AnswerValue, BeatValue, AskValue, DenyValue}
+use Rattle.rights_types.specs.Messages.{IsMessage}
 use Rattle.rights_types.specs.Messages.MessageValue.{AnEntry, AQuery, AnAnswer, ABeat, AnAsk, ADenial, AHello}
-use Rattle.entry_codec.specs.declared.format.TheConstants.{ANSWER_LETTER, ASK_LETTER, BEAT_LETTER, CLOSE_AT_LETTER, CLOSE_LETTER, DENIAL_LETTER, ENTRY_LETTER, FIELD_BREAK, GIVE_LETTER, GRANT_LETTER, HELLO_LETTER, ISSUE_LETTER, LINE_END, PART_BREAK, QUERY_LETTER, SPEND_LETTER, TAKE_BACK_LETTER, VALUE_BREAK}
+use Rattle.entry_codec.specs.declared.format.TheConstants.{ANSWER_LETTER, ASK_LETTER, BEAT_LETTER, CLOSE_AT_LETTER}
+use Rattle.entry_codec.specs.declared.format.TheConstants.{CLOSE_LETTER, DENIAL_LETTER, ENTRY_LETTER, FIELD_BREAK}
+use Rattle.entry_codec.specs.declared.format.TheConstants.{GIVE_LETTER, GRANT_LETTER, HELLO_LETTER, ISSUE_LETTER}
+use Rattle.entry_codec.specs.declared.format.TheConstants.{LINE_END, PART_BREAK, QUERY_LETTER, SPEND_LETTER}
+use Rattle.entry_codec.specs.declared.format.TheConstants.{TAKE_BACK_LETTER, VALUE_BREAK}
 use Rattle.entry_codec.specs.Letters.{one_letter}
 
 -- a move's letter and values, which colons separate

@@ -1,5 +1,6 @@
 //! Splits a stream into its pieces, each of which ends in its first line feed.
-ghost use Rattle.std.specs.Prelude.{◌≡◌, ℕ, ◌<◌, ◌≤◌, ◌↔◌, false, List, [], ◌++◌, length, take, IsTrue, IfOk, OnErr, IfSome, IfNone, if◌then◌else◌};
+ghost use Rattle.std.specs.Prelude.{◌≡◌, ℕ, ◌<◌, ◌≤◌, ◌↔◌, false, List, [], ◌++◌, length, take, IsTrue, IfOk, OnErr};
+ghost use Rattle.std.specs.Prelude.{IfSome, IfNone, if◌then◌else◌};
 ghost use Rattle.std.specs.Io.BufRead.{take_through};
 ghost use Rattle.entry_codec.specs.Pieces.{unfinished};
 ghost use Rattle.entry_codec.specs.Cutter.{Holds, view_of, IsFed};

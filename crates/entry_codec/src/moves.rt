@@ -5,7 +5,8 @@ ghost use Rattle.rights_types.specs.declared.moves.Move.{Move};
 ghost use Rattle.entry_codec.specs.Spelling.{move_text};
 ghost use Rattle.entry_codec.specs.Parts.{split_at, values_left};
 ghost use Rattle.entry_codec.specs.Kept.{FindsMove};
-ghost use Rattle.entry_codec.specs.Moves.{only_number, grant_in, give_in, take_back_in, frontier_in, move_of, first_move};
+ghost use Rattle.entry_codec.specs.Moves.{only_number, grant_in, give_in, take_back_in, frontier_in, move_of};
+ghost use Rattle.entry_codec.specs.Moves.{first_move};
 
 use crate::format::{
     CLOSE_AT_LETTER, CLOSE_LETTER, FIELD_BREAK, GIVE_LETTER, GRANT_LETTER, ISSUE_LETTER,

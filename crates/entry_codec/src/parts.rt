@@ -1,5 +1,6 @@
 //! Walking over the parts of a text that a byte separates.
-ghost use Rattle.std.specs.Prelude.{◌≡◌, ◌∷◌, ◌==◌, ◌<◌, ◌≤◌, ◌^◌, ◌⊎◌, length, position, is_none, decimal, IfSome, IfOk};
+ghost use Rattle.std.specs.Prelude.{◌≡◌, ◌∷◌, ◌==◌, ◌<◌, ◌≤◌, ◌^◌, ◌⊎◌, length, position, is_none, decimal, IfSome};
+ghost use Rattle.std.specs.Prelude.{IfOk};
 ghost use Rattle.entry_codec.specs.Letters.{is_letter};
 ghost use Rattle.entry_codec.specs.Parts.{split_at, left, Finds, ReadsAs, fields_left};
 ghost use Rattle.entry_codec.specs.Moves.{first_number, only_number};
@@ -94,7 +95,8 @@ fn first_digit(text: &[u8], at: u8, low: u64, high: u64) -> Option<Option<(u64, 
         (first_number low high (split_at at text.now))) }
     ensures range { IfSome result (λ found. IfSome found (λ x. (low ≤ x.0) × (x.0 ≤ high))) }
     ensures last { IfSome result (λ found. IfSome found (λ x. is_none x.1 ≡ (length (left at x.1) == 0))) }
-    ensures shorter { IfSome result (λ found. IfSome found (λ x. length (left at x.1) < length (split_at at text.now))) }
+    ensures shorter { IfSome result
+        (λ found. IfSome found (λ x. length (left at x.1) < length (split_at at text.now))) }
 {
     let (value, rest) = digit_part(text, at)?;
     if value < low || high < value {

@@ -4,7 +4,8 @@ ghost use Rattle.rights_types.specs.Ranges.{IsSite};
 ghost use Rattle.rights_types.specs.Messages.MessageValue.{AQuery, ABeat, AnAsk, ADenial, AHello};
 ghost use Rattle.rights_types.specs.Values.{value_of};
 ghost use Rattle.entry_codec.specs.Parts.{ReadsAs, parts_left, fields_left};
-ghost use Rattle.entry_codec.specs.Reading.{other_site_at, trails, query_of, beat_of, ask_of, denial_of, hello_of, short_of};
+ghost use Rattle.entry_codec.specs.Reading.{other_site_at, trails, query_of, beat_of, ask_of, denial_of, hello_of};
+ghost use Rattle.entry_codec.specs.Reading.{short_of};
 
 use crate::fault::{LineError, Place};
 use crate::format::{ASK_LETTER, BEAT_LETTER, DENIAL_LETTER, HELLO_LETTER, QUERY_LETTER};

@@ -4,7 +4,8 @@ ghost use Rattle.rights_types.specs.Entries.{IsEntry};
 ghost use Rattle.rights_types.specs.Values.{value_of};
 ghost use Rattle.rights_types.specs.Messages.{IsMessage};
 ghost use Rattle.rights_types.specs.Messages.MessageValue.{AnEntry};
-ghost use Rattle.entry_codec.specs.Spelling.{move_text, part_text, query_fields, beat_fields, ask_fields, denial_fields, text_of, line, Spells};
+ghost use Rattle.entry_codec.specs.Spelling.{move_text, part_text, query_fields, beat_fields, ask_fields};
+ghost use Rattle.entry_codec.specs.Spelling.{denial_fields, text_of, line, Spells};
 ghost use Rattle.entry_codec.specs.Texts.{frontier_text, entry_text, answer_text};
 
 use crate::format::{
@@ -88,7 +89,8 @@ fn put_move(buffer: &mut [u8], at: usize, m: &Move) -> usize
 
 fn put_entry_of(buffer: &mut [u8], start: usize, origin: SiteId, prev: u64, moves: &[Move]) -> usize
     requires valid { IsEntry (record { origin = origin; prev = prev; moves = moves.now }) }
-    requires room { start + length (entry_text (record { origin = origin; prev = prev; moves = moves.now })) ≤ length buffer.old }
+    requires room { start + length (entry_text (record { origin = origin; prev = prev; moves = moves.now }))
+        ≤ length buffer.old }
     ensures end { result ≡ start + length (entry_text (record { origin = origin; prev = prev; moves = moves.now })) }
     ensures text { take result buffer.new ≡ take start buffer.old
         ++ entry_text (record { origin = origin; prev = prev; moves = moves.now }) }
@@ -225,7 +227,8 @@ pub fn write_into<A: Allocator, B: Allocator>(
 pub fn put_entry_line(buffer: &mut [u8], origin: SiteId, prev: u64, moves: &[Move]) -> usize
     requires valid { IsEntry (record { origin = origin; prev = prev; moves = moves.now }) }
     requires room { ENTRY_ROOM ≤ length buffer.old }
-    ensures text { take result buffer.new ≡ line (AnEntry (record { origin = origin; prev = prev; moves = moves.now })) }
+    ensures text { take result buffer.new
+        ≡ line (AnEntry (record { origin = origin; prev = prev; moves = moves.now })) }
     ensures fits { result ≤ ENTRY_ROOM }
 {
     let at = put_entry_of(buffer, 0, origin, prev, moves);

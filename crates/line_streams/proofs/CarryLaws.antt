@@ -1,5 +1,6 @@
 -- The first bytes of a line that arrived in parts.
-use Rattle.std.proofs.Common.{◌≡◌, ℕ, ◌+◌, ◌-◌, ◌<◌, ◌≤◌, List, [], ◌∷◌, ◌++◌, length, take, refl, sym, ap, ◌∙◌, arith, inl, inr, length-take, length-take-le, length-append}
+use Rattle.std.proofs.Common.{◌≡◌, ℕ, ◌+◌, ◌-◌, ◌<◌, ◌≤◌, List, [], ◌∷◌, ◌++◌, length, take, refl, sym, ap, ◌∙◌, arith}
+use Rattle.std.proofs.Common.{inl, inr, length-take, length-take-le, length-append}
 use Rattle.std.proofs.lemmas.Bool.{cases_lt}
 use Rattle.std.proofs.lemmas.List.{take_at, drop_at, take_all, take-append-le, nil_from_length, take-take}
 use Rattle.line_streams.proofs.WriteLaws.{take_both}
@@ -32,9 +33,11 @@ some_carried carry front some h =
     omega (arith, long)
 
 -- the whole line and what was carried of it have the same first bytes
-pub carried_whole : (front text carry kept : List ℕ) → carry ≡ take 16384 front → kept ≡ take 16384 (carry ++ text) → take 16384 (front ++ text) ≡ take 16384 kept
+pub carried_whole : (front text carry kept : List ℕ) → carry ≡ take 16384 front → kept ≡ take 16384 (carry ++ text)
+    → take 16384 (front ++ text) ≡ take 16384 kept
 carried_whole front text carry kept e h =
-    sym (ap (take 16384) (h ∙ ap (λ (l : List ℕ). take 16384 (l ++ text)) e ∙ carry_more 16384 front text) ∙ take_twice 16384 (front ++ text)) where
+    sym (ap (take 16384) (h ∙ ap (λ (l : List ℕ). take 16384 (l ++ text)) e ∙ carry_more 16384 front text)
+    ∙ take_twice 16384 (front ++ text)) where
       take_twice : (n : ℕ) (xs : List ℕ) → take n (take n xs) ≡ take n xs
       take_twice n xs = take-take n n xs (omega arith)
 
@@ -45,7 +48,8 @@ short_whole whole text same short =
     let long = simp length-take at (ap length (same ∙ all)) in
     sym (take_all 16384 whole (omega (arith, long))) ∙ same ∙ all
 
-pub long_whole : (whole text : List ℕ) → take 16384 whole ≡ take 16384 text → 16384 ≤ length text → 16384 < length (whole ++ 10 ∷ [])
+pub long_whole : (whole text : List ℕ) → take 16384 whole ≡ take 16384 text → 16384 ≤ length text
+    → 16384 < length (whole ++ 10 ∷ [])
 long_whole whole text same many =
     let long = simp length-take at (ap length same) in
     omega (arith, long, length-append whole (10 ∷ []))

@@ -6,7 +6,8 @@ use Rattle.line_streams.specs.Waiting.{Waiting, AddsReply}
 abbrev pub waiting : List ℕ → List ℕ → ℕ → Waiting
 waiting whole part room = record { whole = whole; part = part; room = room }
 
-pub finished : (old now : Waiting) (items : List ℕ) (w n room : ℕ) → w ≤ n → waiting (take w items) (drop w (take n items)) room ≡ now → now.whole ≡ old.whole → now.part ≡ old.part ++ 10 ∷ []
+pub finished : (old now : Waiting) (items : List ℕ) (w n room : ℕ) → w ≤ n
+    → waiting (take w items) (drop w (take n items)) room ≡ now → now.whole ≡ old.whole → now.part ≡ old.part ++ 10 ∷ []
     → AddsReply old (waiting (take n items) (drop n (take n items)) room) old.part
 finished old now items w n room before view kept more =
     let whole : take w items ≡ now.whole = ap (λ (v : Waiting). v.whole) view in

@@ -19,8 +19,10 @@ IsGiven line None = MAX_LINE < length line
 
 -- the result of a line: its reply is among the whole ones, or it ended the conversation
 abbrev pub LineGets : {S : Type 0} → Answering S → Goes → S → List ℕ → S → Waiting → Waiting → Type 0
-LineGets answers On old line new waits waits' = (reply : List ℕ) × answers old line (Some reply) new × AddsReply waits waits' reply
-LineGets answers Ends old line new waits waits' = answers old line None new × (waits'.whole ≡ waits.whole) × (waits'.part ≡ [])
+LineGets answers On old line new waits waits' = (reply : List ℕ) × answers old line (Some reply) new
+    × AddsReply waits waits' reply
+LineGets answers Ends old line new waits waits' = answers old line None new × (waits'.whole ≡ waits.whole)
+    × (waits'.part ≡ [])
 
 -- the replies to these lines, one after another, each with its line feed
 abbrev pub LinesGet : {S : Type 0} → Answering S → S → List (List ℕ) → List ℕ → S → Type 0

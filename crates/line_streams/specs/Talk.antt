@@ -6,7 +6,8 @@ use Rattle.line_streams.specs.declared.limit.TheConstants.{LINE_LIMIT}
 use Rattle.line_streams.specs.Counting.{Parted, still}
 use Rattle.line_streams.specs.Handling.{Answering, LinesGet}
 use Rattle.line_streams.specs.declared.fault.ConversationError.{ConversationError}
-use Rattle.line_streams.specs.declared.fault.ConversationError.TheVariants.{ReadFailed, WriteFailed, OutOfMemory, TooManyLines}
+use Rattle.line_streams.specs.declared.fault.ConversationError.TheVariants.{ReadFailed, WriteFailed, OutOfMemory}
+use Rattle.line_streams.specs.declared.fault.ConversationError.TheVariants.{TooManyLines}
 use Rattle.line_streams.specs.declared.handler.EndedBy.{EndedBy}
 use Rattle.line_streams.specs.declared.handler.EndedBy.TheVariants.{Input, Handler}
 
@@ -28,7 +29,8 @@ abbrev pub GoesBeyond : {X : Type 0} → List X → List X → Type 0
 GoesBeyond {X} xs front = (rest : List X) × (0 < length rest) × (xs ≡ front ++ rest)
 
 -- the reader gave some input, some lines were replied to from the initial state on, and the writer took some text
-pub record Talk {S : Type 0} (answers : Answering S) (start : S) (given left held holds : Option (List ℕ)) : Type 0 where
+pub record Talk {S : Type 0} (answers : Answering S) (start : S)
+    (given left held holds : Option (List ℕ)) : Type 0 where
   pub chunks : List (List ℕ)
   pub input : List ℕ
   pub lines : List (List ℕ)
@@ -45,14 +47,16 @@ pub record Talk {S : Type 0} (answers : Answering S) (start : S) (given left hel
 abbrev pub EndsBy : {S : Type 0} → {answers : Answering S} → {start : S} → {given left held holds : Option (List ℕ)}
     → Result EndedBy ConversationError → Talk answers start given left held holds → Type 0
 EndsBy (Ok Input) talk =
-    (talk.lines ≡ lines_of talk.input) × (talk.text ≡ talk.replies) × (length talk.lines + still talk.chunks < LINE_LIMIT)
+    (talk.lines ≡ lines_of talk.input) × (talk.text ≡ talk.replies)
+    × (length talk.lines + still talk.chunks < LINE_LIMIT)
 EndsBy (Ok Handler) talk = BeginsWith (lines_of talk.input) talk.lines × (talk.text ≡ talk.replies)
 EndsBy (Err ReadFailed) talk =
     (talk.lines ≡ pieces talk.input) × (talk.text ≡ talk.replies) × (length talk.lines + still talk.chunks < LINE_LIMIT)
 EndsBy (Err WriteFailed) talk = BeginsWith (lines_of talk.input) talk.lines × GoesBeyond talk.replies talk.text
 EndsBy (Err OutOfMemory) talk = BeginsWith (lines_of talk.input) talk.lines × (talk.text ≡ talk.replies)
 EndsBy (Err TooManyLines) talk =
-    BeginsWith (lines_of talk.input) talk.lines × (talk.text ≡ talk.replies) × (LINE_LIMIT ≤ length (lines_of talk.input) + still talk.chunks)
+    BeginsWith (lines_of talk.input) talk.lines × (talk.text ≡ talk.replies)
+    × (LINE_LIMIT ≤ length (lines_of talk.input) + still talk.chunks)
 
 -- the line after those that were replied to ended the conversation
 pub record IsEnded {S : Type 0} (answers : Answering S) (all lines : List (List ℕ)) (state after : S) : Type 0 where
@@ -64,7 +68,8 @@ pub record IsEnded {S : Type 0} (answers : Answering S) (all lines : List (List 
 abbrev pub Leaves : {S : Type 0} → {answers : Answering S} → {start : S} → {given left held holds : Option (List ℕ)}
     → (S → S → Type 0) → Result EndedBy ConversationError → Talk answers start given left held holds → S → Type 0
 Leaves fails (Ok Input) talk after = after ≡ talk.state
-Leaves {answers = answers} fails (Ok Handler) talk after = IsEnded answers (lines_of talk.input) talk.lines talk.state after
+Leaves {answers = answers} fails (Ok Handler) talk after
+    = IsEnded answers (lines_of talk.input) talk.lines talk.state after
 Leaves fails (Err ReadFailed) talk after = after ≡ talk.state
 Leaves {answers = answers} fails (Err WriteFailed) talk after =
     (after ≡ talk.state) ⊎ fails talk.state after ⊎ IsEnded answers (lines_of talk.input) talk.lines talk.state after

@@ -1,6 +1,7 @@
 //! Why a conversation is aborted.
 ghost use Rattle.std.specs.Prelude.{◌≡◌};
-ghost use Rattle.line_streams.specs.declared.fault.ConversationError.TheVariants.{ReadFailed, WriteFailed, OutOfMemory as NoMemory};
+ghost use Rattle.line_streams.specs.declared.fault.ConversationError.TheVariants.{ReadFailed, WriteFailed};
+ghost use Rattle.line_streams.specs.declared.fault.ConversationError.TheVariants.{OutOfMemory as NoMemory};
 
 use crate::read::InputError;
 use crate::write::OutputError;

@@ -1,5 +1,6 @@
 //! A conversation in lines, from its first read to its last write.
-ghost use Rattle.std.specs.Prelude.{◌≡◌, ℕ, ◌+◌, ◌<◌, ◌≤◌, ◌↔◌, List, [], ◌∷◌, ◌++◌, Option, Ok, length, take, IsTrue, OnOk, OnErr, IfOk, IfErr, IsErrOf};
+ghost use Rattle.std.specs.Prelude.{◌≡◌, ℕ, ◌+◌, ◌<◌, ◌≤◌, ◌↔◌, List, [], ◌∷◌, ◌++◌, Option, Ok, length, take, IsTrue};
+ghost use Rattle.std.specs.Prelude.{OnOk, OnErr, IfOk, IfErr, IsErrOf};
 ghost use Rattle.std.specs.Io.KnownBytes.{Consumes, IsAtEnd};
 ghost use Rattle.entry_codec.specs.Pieces.{pieces};
 ghost use Rattle.line_streams.specs.Counting.{Parted, counts_for, still};
@@ -84,7 +85,8 @@ impl<A: Allocator> Conversation<A> {
         requires room { length self.old.replies.whole < BLOCK }
         requires short { length self.old.carry.items ≤ MAX_LINE }
         ensures line { IfOk result (λ goes. (front : List ℕ) → self.old.carry.items ≡ take MAX_LINE front
-            → LineGets H.answers goes handler.old ((front ++ text.now) ++ 10 ∷ []) handler.new self.old.replies self.new.replies) }
+            → LineGets H.answers goes handler.old ((front ++ text.now) ++ 10 ∷ []) handler.new self.old.replies
+            self.new.replies) }
         ensures ended { OnOk result (self.new.carry.items ≡ []) }
         ensures ready { OnOk result (self.new.replies.part ≡ []) }
         ensures kept { OnErr result (self.new.replies.whole ≡ self.old.replies.whole) }
@@ -113,11 +115,14 @@ impl<A: Allocator> Conversation<A> {
         requires few { self.old.count < LINE_LIMIT }
         ensures short { OnOk result (length self.new.carry.items ≤ MAX_LINE) }
         ensures few { OnOk result (self.new.count < LINE_LIMIT) }
-        ensures counts { result ≡ Ok Goes.On → 0 < length bytes.now → self.new.count ≡ self.old.count + counts_for bytes.now }
-        ensures many { IsErrOf result ConversationError.TooManyLines → LINE_LIMIT ≤ self.old.count + counts_for bytes.now }
+        ensures counts { result ≡ Ok Goes.On → 0 < length bytes.now
+            → self.new.count ≡ self.old.count + counts_for bytes.now }
+        ensures many { IsErrOf result ConversationError.TooManyLines
+            → LINE_LIMIT ≤ self.old.count + counts_for bytes.now }
         ensures fed { (start : H) (input : List ℕ) (held : Option (List ℕ))
             → Going H.answers start input handler.old held (W.contents writer.old) self.old.replies self.old.carry.items
-            → Fed H.answers H.fails start (input ++ bytes.now) held (W.contents writer.new) result handler.new self.new.replies self.new.carry.items }
+            → Fed H.answers H.fails start (input ++ bytes.now) held (W.contents writer.new) result handler.new
+            self.new.replies self.new.carry.items }
     {
         let mut at = 0;
         while let Some(length) = memchr(b'\n', &bytes[at..]) {
@@ -155,8 +160,10 @@ impl<A: Allocator> Conversation<A> {
     ) -> Result<EndedBy, ConversationError>
         requires room { 0 < length buffer.old }
         requires fresh { IsNew self.old.replies self.old.carry.items self.old.count }
-        ensures ran { (chunks : List (List ℕ)) × (input : List ℕ) × Consumes (R.remaining reader.old) (R.remaining reader.new) input
-            × Parted chunks input × Ran H.answers H.fails handler.old chunks input (W.contents writer.old) (W.contents writer.new) result handler.new self.new.replies.whole }
+        ensures ran { (chunks : List (List ℕ)) × (input : List ℕ)
+            × Consumes (R.remaining reader.old) (R.remaining reader.new) input
+            × Parted chunks input × Ran H.answers H.fails handler.old chunks input (W.contents writer.old)
+            (W.contents writer.new) result handler.new self.new.replies.whole }
         ensures all { result ≡ Ok EndedBy.Input → IsAtEnd (R.remaining reader.new) }
     {
         'reads: loop {
@@ -187,7 +194,8 @@ impl<A: Allocator> Conversation<A> {
         ensures { (start : H) (chunks : List (List ℕ)) (input : List ℕ) (held : Option (List ℕ))
             → self.old.count ≡ length (pieces input) + still chunks
             → Going H.answers start input handler.old held (W.contents writer.old) self.old.replies self.old.carry.items
-            → Ran H.answers H.fails start chunks input held (W.contents writer.new) result handler.new self.new.replies.whole }
+            → Ran H.answers H.fails start chunks input held (W.contents writer.new) result handler.new
+            self.new.replies.whole }
     {
         if self.carry.is_empty() {
             return Ok(EndedBy::Input);
@@ -208,7 +216,8 @@ impl<A: Allocator> Conversation<A> {
     ) -> Result<EndedBy, ConversationError>
         requires fresh { IsNew self.old.replies self.old.carry.items self.old.count }
         requires room { 0 < length buffer.old }
-        ensures ends { (talk : Talk H.answers handler.old (R.remaining reader.old) (R.remaining reader.new) (W.contents writer.old) (W.contents writer.new))
+        ensures ends { (talk : Talk H.answers handler.old (R.remaining reader.old) (R.remaining reader.new)
+            (W.contents writer.old) (W.contents writer.new))
             × EndsBy result talk × Leaves H.fails result talk handler.new }
         ensures all { result ≡ Ok EndedBy.Input → IsAtEnd (R.remaining reader.new) }
     {
@@ -256,7 +265,8 @@ pub fn answer_lines<A: Allocator + Copy, H: LineHandler, R: Read, W: Write>(
     reader: &mut R,
     writer: &mut W,
 ) -> Result<EndedBy, ConversationError>
-    ensures ends { (talk : Talk H.answers handler.old (R.remaining reader.old) (R.remaining reader.new) (W.contents writer.old) (W.contents writer.new))
+    ensures ends { (talk : Talk H.answers handler.old (R.remaining reader.old) (R.remaining reader.new)
+        (W.contents writer.old) (W.contents writer.new))
         × EndsBy result talk × Leaves H.fails result talk handler.new }
     ensures all { result ≡ Ok EndedBy.Input → IsAtEnd (R.remaining reader.new) }
 {

@@ -31,7 +31,11 @@ impl<A: Allocator> Model for Replies<A> {
 
     ghost Value = { Waiting };
 
-    ghost view = { λ r. record { whole = take r.whole r.bytes.items; part = drop r.whole (take r.end r.bytes.items); room = vec_len r.bytes - r.end } };
+    ghost view = { λ r. record {
+      whole = take r.whole r.bytes.items;
+      part = drop r.whole (take r.end r.bytes.items);
+      room = vec_len r.bytes - r.end;
+    } };
 
     ghost invariant = { λ r. (r.whole ≤ r.end) × (r.end ≤ vec_len r.bytes) };
 }

@@ -4,7 +4,8 @@ ghost use Rattle.std.specs.List.{slice_split};
 ghost use Rattle.rights_types.specs.Ranges.{IsSite};
 ghost use Rattle.entry_codec.specs.Moves.{first_number as first_in, only_number as only_in};
 ghost use Rattle.entry_codec.specs.Parts.{Finds};
-ghost use Rattle.line_streams.specs.Words.{words_left, named, names_of, alone, first_site, only_site, optional_site, first_number, only_number, site_and_number};
+ghost use Rattle.line_streams.specs.Words.{words_left, named, names_of, alone, first_site, only_site, optional_site};
+ghost use Rattle.line_streams.specs.Words.{first_number, only_number, site_and_number};
 
 use entry_codec::{first_decimal, split_first};
 use rights_types::{MAX_SITES, SiteId};

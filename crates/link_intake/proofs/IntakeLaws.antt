@@ -1,5 +1,6 @@
 -- What an intake puts follows what came in order.
-use Rattle.std.proofs.Common.{◌≡◌, ℕ, ◌+◌, ◌<◌, ◌≤◌, Bool, true, false, true≢false, cond, List, [], ◌∷◌, ◌++◌, length, take, get_or, refl, sym, ap, ◌∙◌, subst, append-nil, append_assoc, arith}
+use Rattle.std.proofs.Common.{◌≡◌, ℕ, ◌+◌, ◌<◌, ◌≤◌, Bool, true, false, true≢false, cond, List, [], ◌∷◌, ◌++◌, length}
+use Rattle.std.proofs.Common.{take, get_or, refl, sym, ap, ◌∙◌, subst, append-nil, append_assoc, arith}
 use Rattle.std.specs.Prelude.{count_by}
 use Rattle.std.proofs.lemmas.List.{map-append, length-take-le}
 use Rattle.std.proofs.lemmas.List.Sums.{sum_by_more, sum_by-cons}
@@ -25,12 +26,15 @@ use Rattle.thread_parts.specs.Ends.{InletValue}
 use Rattle.thread_parts.specs.Items.{items_of, end_if, IsOpen, Continues}
 use Rattle.thread_parts.proofs.Items.{open_push}
 use Rattle.link_intake.specs.declared.intake.VerdictCounts.{VerdictCounts}
-use Rattle.link_intake.specs.Intakes.{IntakeValue, Sends, IsIntake, Brings, FindsClosed, LineLeaves, verdicts_of, arrived_of, ready_of, sent, CanPut, PutsAll, PutsFront, is_ready, is_held, is_repeat, is_after_close, is_full, counts_of, with_verdict, all_counts}
+use Rattle.link_intake.specs.Intakes.{IntakeValue, Sends, IsIntake, Brings, FindsClosed, LineLeaves, verdicts_of}
+use Rattle.link_intake.specs.Intakes.{arrived_of, ready_of, sent, CanPut, PutsAll, PutsFront, is_ready, is_held}
+use Rattle.link_intake.specs.Intakes.{is_repeat, is_after_close, is_full, counts_of, with_verdict, all_counts}
 use Rattle.link_intake.specs.declared.intake.Arrived.{Arrived}
 use Rattle.link_intake.specs.declared.intake.IntakeError.{IntakeError}
 use Rattle.link_intake.specs.declared.intake.IntakeError.TheVariants.{Inbound, LaneClosed}
 
-pub closed_from-append : (b : Bool) (xs ys : List EntryValue) → closed_from b (xs ++ ys) ≡ closed_from (closed_from b xs) ys
+pub closed_from-append : (b : Bool) (xs ys : List EntryValue)
+    → closed_from b (xs ++ ys) ≡ closed_from (closed_from b xs) ys
 closed_from-append b [] ys = refl
 closed_from-append b (x ∷ xs) ys = closed_from-append (closes x) xs ys
 
@@ -55,12 +59,16 @@ none : (n : ℕ) → n ≡ n + 0
 none n = omega arith
 
 -- the number of verdicts of each kind after one more
-counts_more : {A : Type 0} (vs : List (Verdict A)) (i : ℕ) (v : Verdict A) (c : VerdictCounts) → i < length vs → v ≡ get_or vs i v
-    → c ≡ counts_of (take i vs) → (r h p a f : ℕ) → r ≡ c.ready + cond (is_ready v) 1 0 → h ≡ c.held + cond (is_held v) 1 0
-    → p ≡ c.repeat + cond (is_repeat v) 1 0 → a ≡ c.after_close + cond (is_after_close v) 1 0 → f ≡ c.full + cond (is_full v) 1 0
+counts_more : {A : Type 0} (vs : List (Verdict A)) (i : ℕ) (v : Verdict A) (c : VerdictCounts) → i < length vs
+    → v ≡ get_or vs i v
+    → c ≡ counts_of (take i vs) → (r h p a f : ℕ) → r ≡ c.ready + cond (is_ready v) 1 0
+    → h ≡ c.held + cond (is_held v) 1 0
+    → p ≡ c.repeat + cond (is_repeat v) 1 0 → a ≡ c.after_close + cond (is_after_close v) 1 0
+    → f ≡ c.full + cond (is_full v) 1 0
     → record { ready = r; held = h; repeat = p; after_close = a; full = f } ≡ counts_of (take (i + 1) vs)
 counts_more {A} vs i v c within is so_far r h p a f er eh ep ea ef =
-    let more : (k : Verdict A → Bool) (n m : ℕ) → n ≡ count_by k (take i vs) → m ≡ n + cond (k v) 1 0 → m ≡ count_by k (take (i + 1) vs) =
+    let more : (k : Verdict A → Bool) (n m : ℕ) → n ≡ count_by k (take i vs) → m ≡ n + cond (k v) 1 0
+    → m ≡ count_by k (take (i + 1) vs) =
     λ k n m was now. now ∙ ap (λ x. x + cond (k v) 1 0) was ∙ ap (λ y. count_by k (take i vs) + cond (k y) 1 0) is
     ∙ sym (sum_by_more (λ y. cond (k y) 1 0) vs i v within) in
     let eqr = more is_ready c.ready r (ap (λ (x : VerdictCounts). x.ready) so_far) er in
@@ -78,37 +86,85 @@ by_kind : {A : Type 0} (c : VerdictCounts) (v : Verdict A) → with_verdict c v 
   after_close = c.after_close + cond (is_after_close v) 1 0;
   full = c.full + cond (is_full v) 1 0;
 }
-by_kind c (Ready e) = λ j. record c { held = none c.held j; repeat = none c.repeat j; after_close = none c.after_close j; full = none c.full j; ready = c.ready + 1 }
-by_kind c Held = λ j. record c { ready = none c.ready j; repeat = none c.repeat j; after_close = none c.after_close j; full = none c.full j; held = c.held + 1 }
-by_kind c Repeat = λ j. record c { ready = none c.ready j; held = none c.held j; after_close = none c.after_close j; full = none c.full j; repeat = c.repeat + 1 }
-by_kind c AfterClose = λ j. record c { ready = none c.ready j; held = none c.held j; repeat = none c.repeat j; full = none c.full j; after_close = c.after_close + 1 }
-by_kind c Full = λ j. record c { ready = none c.ready j; held = none c.held j; repeat = none c.repeat j; after_close = none c.after_close j; full = c.full + 1 }
+by_kind c (Ready e) = λ j. record c {
+  held = none c.held j;
+  repeat = none c.repeat j;
+  after_close = none c.after_close j;
+  full = none c.full j;
+  ready = c.ready + 1;
+}
+by_kind c Held = λ j. record c {
+  ready = none c.ready j;
+  repeat = none c.repeat j;
+  after_close = none c.after_close j;
+  full = none c.full j;
+  held = c.held + 1;
+}
+by_kind c Repeat = λ j. record c {
+  ready = none c.ready j;
+  held = none c.held j;
+  after_close = none c.after_close j;
+  full = none c.full j;
+  repeat = c.repeat + 1;
+}
+by_kind c AfterClose = λ j. record c {
+  ready = none c.ready j;
+  held = none c.held j;
+  repeat = none c.repeat j;
+  full = none c.full j;
+  after_close = c.after_close + 1;
+}
+by_kind c Full = λ j. record c {
+  ready = none c.ready j;
+  held = none c.held j;
+  repeat = none c.repeat j;
+  after_close = none c.after_close j;
+  full = c.full + 1;
+}
 
-pub counts_step : {A : Type 0} (vs : List (Verdict A)) (i : ℕ) (v : Verdict A) (c d : VerdictCounts) → i < length vs → v ≡ get_or vs i v
+pub counts_step : {A : Type 0} (vs : List (Verdict A)) (i : ℕ) (v : Verdict A) (c d : VerdictCounts) → i < length vs
+    → v ≡ get_or vs i v
     → c ≡ counts_of (take i vs) → d ≡ with_verdict c v → d ≡ counts_of (take (i + 1) vs)
 counts_step vs i v c d within is so_far now =
     now ∙ by_kind c v ∙ counts_more vs i v c within is so_far _ _ _ _ _ refl refl refl refl refl
 
-one_kind : {A : Type 0} (v : Verdict A) → cond (is_ready v) 1 0 + cond (is_held v) 1 0 + cond (is_repeat v) 1 0 + cond (is_after_close v) 1 0 + cond (is_full v) 1 0 ≡ 1
+one_kind : {A : Type 0} (v : Verdict A)
+    → cond (is_ready v) 1 0 + cond (is_held v) 1 0 + cond (is_repeat v) 1 0 + cond (is_after_close v) 1 0
+    + cond (is_full v) 1 0 ≡ 1
 one_kind (Ready e) = refl
 one_kind Held = refl
 one_kind Repeat = refl
 one_kind AfterClose = refl
 one_kind Full = refl
 
-one_counted : {A : Type 0} (k : Verdict A → Bool) (v : Verdict A) (vs : List (Verdict A)) → count_by k (v ∷ vs) ≡ cond (k v) 1 0 + count_by k vs
+one_counted : {A : Type 0} (k : Verdict A → Bool) (v : Verdict A) (vs : List (Verdict A))
+    → count_by k (v ∷ vs) ≡ cond (k v) 1 0 + count_by k vs
 one_counted k v vs = sum_by-cons (λ y. cond (k y) 1 0) v vs
 
 -- each verdict is counted once
 all_counted : {A : Type 0} (vs : List (Verdict A)) → all_counts (counts_of vs) ≡ length vs
 all_counted [] = refl
 all_counted (v ∷ vs) =
-    omega (arith, one_counted is_ready v vs, one_counted is_held v vs, one_counted is_repeat v vs, one_counted is_after_close v vs, one_counted is_full v vs, one_kind v, all_counted vs)
+    omega (
+      arith,
+      one_counted is_ready v vs,
+      one_counted is_held v vs,
+      one_counted is_repeat v vs,
+      one_counted is_after_close v vs,
+      one_counted is_full v vs,
+      one_kind v,
+      all_counted vs,
+    )
 
 -- so the counts are small
-pub few_counted : {A : Type 0} (vs : List (Verdict A)) (i : ℕ) (c : VerdictCounts) → i < length vs → c ≡ counts_of (take i vs) → all_counts c < length vs
+pub few_counted : {A : Type 0} (vs : List (Verdict A)) (i : ℕ) (c : VerdictCounts) → i < length vs
+    → c ≡ counts_of (take i vs) → all_counts c < length vs
 few_counted vs i c within is =
-    omega (arith, ap (λ (x : VerdictCounts). all_counts x) is ∙ all_counted (take i vs) ∙ length-take-le i vs (omega arith))
+    omega (
+      arith,
+      ap (λ (x : VerdictCounts). all_counts x) is ∙ all_counted (take i vs)
+          ∙ length-take-le i vs (omega arith),
+    )
 
 module _ {A : Type 0} where
   -- what is put for a list is what is put for its parts
@@ -116,30 +172,38 @@ module _ {A : Type 0} where
   sent-append es [] free = ap sent (append-nil es) ∙ sym (append-nil (sent es))
   sent-append es (x ∷ xs) free =
       let whole : sent {A = A} es ≡ items_of es = ap (λ b. items_of es ++ end_if b) free ∙ append-nil (items_of es) in
-      let all : items_of {A = A} (es ++ x ∷ xs) ≡ items_of es ++ items_of (x ∷ xs) = map-append (λ e. Entry e) es (x ∷ xs) in
+      let all : items_of {A = A} (es ++ x ∷ xs) ≡ items_of es ++ items_of (x ∷ xs)
+      = map-append (λ e. Entry e) es (x ∷ xs) in
       let last : is_closed (es ++ x ∷ xs) ≡ is_closed (x ∷ xs) = closed_from-append false es (x ∷ xs) in
-      ap (λ l. l ++ end_if (is_closed (es ++ x ∷ xs))) all ∙ ap (λ b. (items_of es ++ items_of (x ∷ xs)) ++ end_if b) last
-      ∙ append_assoc (items_of es) (items_of (x ∷ xs)) (end_if (is_closed (x ∷ xs))) ∙ ap (λ l. l ++ sent (x ∷ xs)) (sym whole)
+      ap (λ l. l ++ end_if (is_closed (es ++ x ∷ xs))) all
+      ∙ ap (λ b. (items_of es ++ items_of (x ∷ xs)) ++ end_if b) last
+      ∙ append_assoc (items_of es) (items_of (x ∷ xs)) (end_if (is_closed (x ∷ xs)))
+      ∙ ap (λ l. l ++ sent (x ∷ xs)) (sym whole)
 
   -- the next entry continues what was put
-  pub next_continues : (ended : Bool) (put : List (Item A)) (e : EntryValue) (more : List EntryValue) → CanPut ended put (e ∷ more)
+  pub next_continues : (ended : Bool) (put : List (Item A)) (e : EntryValue) (more : List EntryValue)
+      → CanPut ended put (e ∷ more)
       → Continues put e × (ended ≡ false) × IsOpen put
   next_continues ended put e more c =
       let o = c.0 in
       let es = c.1 in
       let free : is_closed es ≡ false = (chain_right o false 0 es (e ∷ more) c.2).0 in
       let is : put ≡ items_of es = c.3 ∙ ap (λ b. items_of es ++ end_if b) free ∙ append-nil (items_of es) in
-      let chain : IsChain o (es ++ e ∷ []) = chain_left o false 0 (es ++ e ∷ []) more (subst (IsChain o) (sym (append_assoc es (e ∷ []) more)) c.2) in
+      let chain : IsChain o (es ++ e ∷ [])
+      = chain_left o false 0 (es ++ e ∷ []) more (subst (IsChain o) (sym (append_assoc es (e ∷ []) more)) c.2) in
       ((o, es, is, chain), c.4 ∙ free, (es, is))
 
   -- the first of them may be put
-  pub first_can : (ended : Bool) (put : List (Item A)) (e : EntryValue) (more : List EntryValue) → CanPut ended put (e ∷ more) → CanPut ended put (e ∷ [])
+  pub first_can : (ended : Bool) (put : List (Item A)) (e : EntryValue) (more : List EntryValue)
+      → CanPut ended put (e ∷ more) → CanPut ended put (e ∷ [])
   first_can ended put e more c =
-      let chain = chain_left c.0 false 0 (c.1 ++ e ∷ []) more (subst (IsChain c.0) (sym (append_assoc c.1 (e ∷ []) more)) c.2) in
+      let chain = chain_left c.0 false 0 (c.1 ++ e ∷ []) more
+      (subst (IsChain c.0) (sym (append_assoc c.1 (e ∷ []) more)) c.2) in
       (c.0, c.1, chain, c.3, c.4)
 
   -- once the first of them were put, the others may be put
-  pub others_can : (ended : Bool) (put : List (Item A)) (xs ys : List EntryValue) (later : Bool) (new : InletValue A) → CanPut ended put (xs ++ ys)
+  pub others_can : (ended : Bool) (put : List (Item A)) (xs ys : List EntryValue) (later : Bool) (new : InletValue A)
+      → CanPut ended put (xs ++ ys)
       → PutsAll put ended xs later new → CanPut later new.put ys
   others_can ended put xs ys later new c p =
       let o = c.0 in
@@ -154,39 +218,57 @@ module _ {A : Type 0} where
       )
 
   -- what is put first is not closed, if more is put
-  inner_open : (ended : Bool) (put : List (Item A)) (xs ys : List EntryValue) → CanPut ended put (xs ++ ys) → OpenTo xs ys
+  inner_open : (ended : Bool) (put : List (Item A)) (xs ys : List EntryValue) → CanPut ended put (xs ++ ys)
+      → OpenTo xs ys
   inner_open ended put xs [] c = tt
   inner_open ended put [] (y ∷ ys) c = refl
   inner_open ended put (x ∷ xs) (y ∷ ys) c =
       let chain = subst (IsChain c.0) (sym (append_assoc c.1 (x ∷ xs) (y ∷ ys))) c.2 in
       sym (closed_from-append false c.1 (x ∷ xs)) ∙ (chain_right c.0 false 0 (c.1 ++ x ∷ xs) (y ∷ ys) chain).0
 
-  pub can_first : (ended : Bool) (put : List (Item A)) (xs ys : List EntryValue) → CanPut ended put (xs ++ ys) → CanPut ended put xs
-  can_first ended put xs ys c =
-      (c.0, c.1, chain_left c.0 false 0 (c.1 ++ xs) ys (subst (IsChain c.0) (sym (append_assoc c.1 xs ys)) c.2), c.3, c.4)
+  pub can_first : (ended : Bool) (put : List (Item A)) (xs ys : List EntryValue) → CanPut ended put (xs ++ ys)
+      → CanPut ended put xs
+  can_first ended put xs ys c = (
+    c.0,
+    c.1,
+    chain_left c.0 false 0 (c.1 ++ xs) ys (subst (IsChain c.0) (sym (append_assoc c.1 xs ys)) c.2),
+    c.3,
+    c.4,
+  )
 
   -- ---- one entry
 
   -- the lane was closed before it
-  pub closed_at_put : (ended : Bool) (put : List (Item A)) (e : EntryValue) (new : InletValue A) → CanPut ended put (e ∷ []) → new.put ≡ put → new.dead ≡ true
+  pub closed_at_put : (ended : Bool) (put : List (Item A)) (e : EntryValue) (new : InletValue A)
+      → CanPut ended put (e ∷ []) → new.put ≡ put → new.dead ≡ true
       → PutsFront put (e ∷ []) ended new
   closed_at_put ended put e new c same dead =
       let n = next_continues ended put e [] c in
       ([], sent (e ∷ []), refl, same ∙ sym (append-nil put), dead, n.1, subst IsOpen (sym same) n.2)
 
   -- .. or after it
-  pub closed_at_end : (ended : Bool) (put : List (Item A)) (e : EntryValue) (mid : List (Item A)) (new : InletValue A) → CanPut ended put (e ∷ [])
+  pub closed_at_end : (ended : Bool) (put : List (Item A)) (e : EntryValue) (mid : List (Item A)) (new : InletValue A)
+      → CanPut ended put (e ∷ [])
       → mid ≡ put ++ Entry e ∷ [] → new.put ≡ mid → new.dead ≡ true → PutsFront put (e ∷ []) ended new
   closed_at_end ended put e mid new c more same dead =
-      let n = next_continues ended put e [] c in
-      (Entry e ∷ [], end_if (closes e), refl, same ∙ more, dead, n.1, subst IsOpen (sym (same ∙ more)) (open_push put e n.2))
+      let n = next_continues ended put e [] c in (
+        Entry e ∷ [],
+        end_if (closes e),
+        refl,
+        same
+            ∙ more,
+        dead,
+        n.1,
+        subst IsOpen (sym (same ∙ more)) (open_push put e n.2),
+      )
 
   -- it was put alone, or with End after it
   pub put_one : (ended later : Bool) (put : List (Item A)) (e : EntryValue) (new : InletValue A) → later ≡ closes e
       → new.put ≡ (put ++ Entry e ∷ []) ++ end_if (closes e) → new.dead ≡ false → PutsAll put ended (e ∷ []) later new
   put_one ended later put e new last is live = (is ∙ append_assoc put (Entry e ∷ []) (end_if (closes e)), last, live)
 
-  pub put_alone : (ended : Bool) (put : List (Item A)) (e : EntryValue) (new : InletValue A) → CanPut ended put (e ∷ []) → closes e ≡ false
+  pub put_alone : (ended : Bool) (put : List (Item A)) (e : EntryValue) (new : InletValue A) → CanPut ended put (e ∷ [])
+      → closes e ≡ false
       → new.put ≡ put ++ Entry e ∷ [] → new.dead ≡ false → PutsAll put ended (e ∷ []) ended new
   put_alone ended put e new c goes_on is live =
       let n = next_continues ended put e [] c in
@@ -201,25 +283,30 @@ module _ {A : Type 0} where
   -- ---- many
 
   -- both parts were put
-  pub both_put : (ended : Bool) (put : List (Item A)) (xs ys : List EntryValue) (mid later : Bool) (a b : InletValue A) → CanPut ended put (xs ++ ys)
+  pub both_put : (ended : Bool) (put : List (Item A)) (xs ys : List EntryValue) (mid later : Bool) (a b : InletValue A)
+      → CanPut ended put (xs ++ ys)
       → PutsAll put ended xs mid a → PutsAll a.put mid ys later b → PutsAll put ended (xs ++ ys) later b
   both_put ended put xs ys mid later a b c p q =
       let free = inner_open ended put xs ys c in (
-        q.0 ∙ ap (λ l. l ++ sent ys) p.0 ∙ append_assoc put (sent xs) (sent ys) ∙ ap (λ l. put ++ l) (sym (sent-append xs ys free)),
+        q.0 ∙ ap (λ l. l ++ sent ys) p.0 ∙ append_assoc put (sent xs) (sent ys)
+            ∙ ap (λ l. put ++ l) (sym (sent-append xs ys free)),
         q.1 ∙ ap (λ x. closed_from x ys) p.1 ∙ sym (closed_from-append ended xs ys),
         q.2,
       )
 
   -- the first were put, and of the next ones a prefix
-  pub front_put : (ended : Bool) (put : List (Item A)) (xs ys more : List EntryValue) (mid later : Bool) (a b : InletValue A)
-      → CanPut ended put ((xs ++ ys) ++ more) → PutsAll put ended xs mid a → PutsFront a.put ys later b → PutsFront put ((xs ++ ys) ++ more) later b
+  pub front_put : (ended : Bool) (put : List (Item A)) (xs ys more : List EntryValue) (mid later : Bool)
+      (a b : InletValue A)
+      → CanPut ended put ((xs ++ ys) ++ more) → PutsAll put ended xs mid a → PutsFront a.put ys later b
+      → PutsFront put ((xs ++ ys) ++ more) later b
   front_put ended put xs ys more mid later a b c p q =
       let front = q.0 in
       let rest = q.1 in
       let outer = inner_open ended put (xs ++ ys) more c in
       let inner = inner_open ended put xs ys (can_first ended put (xs ++ ys) more c) in
       let all : (sent xs ++ front) ++ rest ++ sent more ≡ sent ((xs ++ ys) ++ more) =
-      ap (λ l. l ++ sent more) (append_assoc (sent xs) front rest ∙ ap (λ l. sent xs ++ l) q.2 ∙ sym (sent-append xs ys inner))
+      ap (λ l. l ++ sent more) (append_assoc (sent xs) front rest ∙ ap (λ l. sent xs ++ l) q.2
+      ∙ sym (sent-append xs ys inner))
       ∙ sym (sent-append (xs ++ ys) more outer) in (
         sent xs ++ front,
         rest ++ sent more,
@@ -231,14 +318,16 @@ module _ {A : Type 0} where
       )
 
   -- one more of the remaining verdicts
-  pub one_more : (y : List (Verdict A)) (v : Verdict A) (left rest all : List (Verdict A)) → left ≡ v ∷ rest → y ++ left ≡ all
+  pub one_more : (y : List (Verdict A)) (v : Verdict A) (left rest all : List (Verdict A)) → left ≡ v ∷ rest
+      → y ++ left ≡ all
       → (y ++ v ∷ []) ++ rest ≡ all
   one_more y v left rest all next is = append_assoc y (v ∷ []) rest ∙ ap (λ l. y ++ l) (sym next) ∙ is
 
   -- a verdict among others
   pub split_ready : (y : List (Verdict A)) (v : Verdict A) (rest all : List (Verdict A)) → (y ++ v ∷ []) ++ rest ≡ all
       → ready_in all ≡ (ready_in y ++ ready_in (v ∷ [])) ++ ready_in rest
-  split_ready y v rest all is = ap ready_in (sym is) ∙ ready-append (y ++ v ∷ []) rest ∙ ap (λ l. l ++ ready_in rest) (ready-append y (v ∷ []))
+  split_ready y v rest all is = ap ready_in (sym is) ∙ ready-append (y ++ v ∷ []) rest
+      ∙ ap (λ l. l ++ ready_in rest) (ready-append y (v ∷ []))
 
 -- ---- a line
 
@@ -254,7 +343,8 @@ entries_come old (ADenial d) vs new a = absurd cc
 entries_come old (AHello s) vs new a = absurd cc
 
 -- there are few verdicts on what arrives with a message
-pub few_come : {A : Type 0} (old : InboundValue) (m : MessageValue) (a : Arrival A) (new : InboundValue) → Arrives old m a new
+pub few_come : {A : Type 0} (old : InboundValue) (m : MessageValue) (a : Arrival A) (new : InboundValue)
+    → Arrives old m a new
     → length (verdicts_of a) ≤ MAX_VERDICTS
 few_come old m (Entries vs) new x = (entries_come old m vs new x).1.few
 few_come old m Beat new x = omega arith
@@ -263,7 +353,8 @@ few_come old m (Ask k) new x = omega arith
 few_come old m (Deny d) new x = omega arith
 few_come old m Hello new x = omega arith
 
-either_put : (put : List EntryValue) (b : Bool) (x y : BufferValue) → HasPut put x → HasPut put y → HasPut put (cond b x y)
+either_put : (put : List EntryValue) (b : Bool) (x y : BufferValue) → HasPut put x → HasPut put y
+    → HasPut put (cond b x y)
 either_put put true x y h k = h
 either_put put false x y h k = k
 
@@ -286,7 +377,8 @@ module _ {A : Type 0} where
       (later.0, ap (λ (y : EntryValue). y ∷ es) same ∙ ap (λ (ys : List EntryValue). x ∷ ys) later.1, later.2)
 
   -- entries that begin those that are put, with End or without: the others are left
-  pub left_of : (es xs : List EntryValue) (c d : Bool) (rest : List (Item A)) → items_of {A = A} es ++ end_if c ≡ (items_of xs ++ end_if d) ++ rest
+  pub left_of : (es xs : List EntryValue) (c d : Bool) (rest : List (Item A))
+      → items_of {A = A} es ++ end_if c ≡ (items_of xs ++ end_if d) ++ rest
       → (more : List EntryValue) × (es ≡ xs ++ more)
   left_of es [] c d rest h = (es, refl)
   left_of [] (x ∷ xs) true d rest h = absurd cc
@@ -297,7 +389,8 @@ module _ {A : Type 0} where
       let later = left_of es xs c d rest tail in
       (later.0, ap (λ (y : EntryValue). y ∷ es) same ∙ ap (λ (ys : List EntryValue). x ∷ ys) later.1)
 
-  brought : (old : InboundValue) (put es : List EntryValue) (a : Arrival A) (new : InboundValue) → HasPut put old.buffer → BringsEntries old es a new
+  brought : (old : InboundValue) (put es : List EntryValue) (a : Arrival A) (new : InboundValue) → HasPut put old.buffer
+      → BringsEntries old es a new
       → HasPut (put ++ ready_of a) new.buffer
   brought old put es (Entries vs) new h x = x.chain put h
   brought old put es Beat new h x = absurd x
@@ -306,28 +399,36 @@ module _ {A : Type 0} where
   brought old put es (Deny d) new h x = absurd x
   brought old put es Hello new h x = absurd x
 
-  no_more : (put : List EntryValue) (a b : Arrival A) (c : BufferValue) → a ≡ b → ready_of b ≡ [] → HasPut put c → HasPut (put ++ ready_of a) c
-  no_more put a b c is none h = subst (λ l. HasPut l c) (sym (ap (λ x. put ++ ready_of x) is ∙ ap (λ l. put ++ l) none ∙ append-nil put)) h
+  no_more : (put : List EntryValue) (a b : Arrival A) (c : BufferValue) → a ≡ b → ready_of b ≡ [] → HasPut put c
+      → HasPut (put ++ ready_of a) c
+  no_more put a b c is none h
+      = subst (λ l. HasPut l c) (sym (ap (λ x. put ++ ready_of x) is ∙ ap (λ l. put ++ l) none ∙ append-nil put)) h
 
   -- whatever arrives, what became ready continues the chain of what was put
-  delivers : (old : InboundValue) (put : List EntryValue) (m : MessageValue) (a : Arrival A) (new : InboundValue) → HasPut put old.buffer → Arrives old m a new
+  delivers : (old : InboundValue) (put : List EntryValue) (m : MessageValue) (a : Arrival A) (new : InboundValue)
+      → HasPut put old.buffer → Arrives old m a new
       → HasPut (put ++ ready_of a) new.buffer
   delivers old put (AnEntry e) a new h x = brought old put (e ∷ []) a new h x
   delivers old put (AnAnswer y) a new h x = brought old put y.entries a new h x
   delivers old put (ABeat b) a new h x =
       no_more put a Beat new.buffer x.0 refl
       (subst (λ (i : InboundValue). HasPut put i.buffer) (sym x.1) (heard put old.buffer b.number h))
-  delivers old put (AQuery q) a new h x = no_more put a (Query q) new.buffer x.0 refl (subst (λ (i : InboundValue). HasPut put i.buffer) (sym x.1) h)
-  delivers old put (AnAsk k) a new h x = no_more put a (Ask k) new.buffer x.0 refl (subst (λ (i : InboundValue). HasPut put i.buffer) (sym x.1) h)
-  delivers old put (ADenial d) a new h x = no_more put a (Deny d) new.buffer x.0 refl (subst (λ (i : InboundValue). HasPut put i.buffer) (sym x.1) h)
-  delivers old put (AHello s) a new h x = no_more put a Hello new.buffer x.0 refl (subst (λ (i : InboundValue). HasPut put i.buffer) (sym x.1) h)
+  delivers old put (AQuery q) a new h x
+      = no_more put a (Query q) new.buffer x.0 refl (subst (λ (i : InboundValue). HasPut put i.buffer) (sym x.1) h)
+  delivers old put (AnAsk k) a new h x
+      = no_more put a (Ask k) new.buffer x.0 refl (subst (λ (i : InboundValue). HasPut put i.buffer) (sym x.1) h)
+  delivers old put (ADenial d) a new h x
+      = no_more put a (Deny d) new.buffer x.0 refl (subst (λ (i : InboundValue). HasPut put i.buffer) (sym x.1) h)
+  delivers old put (AHello s) a new h x
+      = no_more put a Hello new.buffer x.0 refl (subst (λ (i : InboundValue). HasPut put i.buffer) (sym x.1) h)
 
   -- of an intake that goes on, on a lane that was not found closed: all that was delivered was put
   pub record IsInStep (delivered : List EntryValue) (i : IntakeValue A) : Type 0 where
     put : i.inlet.put ≡ sent delivered
     ended : i.ended ≡ is_closed delivered
 
-  in_step : (d : List EntryValue) (i : IntakeValue A) → Sends d i → i.inlet.dead ≡ false → i.finished ≡ false → IsInStep d i
+  in_step : (d : List EntryValue) (i : IntakeValue A) → Sends d i → i.inlet.dead ≡ false → i.finished ≡ false
+      → IsInStep d i
   in_step d i s live going =
       let all : s.gone ≡ d = sym (append-nil s.gone) ∙ ap (λ l. s.gone ++ l) (sym (s.all_gone live)) ∙ sym s.whole in
       let closed = s.ended live going in
@@ -337,7 +438,8 @@ module _ {A : Type 0} where
       }
 
   -- what became ready can be put
-  pub can_take : (i : IntakeValue A) (m : MessageValue) (a : Arrival A) (new : InboundValue) → IsIntake i → i.inlet.dead ≡ false → i.finished ≡ false
+  pub can_take : (i : IntakeValue A) (m : MessageValue) (a : Arrival A) (new : InboundValue) → IsIntake i
+      → i.inlet.dead ≡ false → i.finished ≡ false
       → Arrives i.inbound m a new → CanPut i.ended i.inlet.put (ready_of a)
   can_take i m a new is live going x =
       let h = delivers i.inbound is.delivered m a new is.of_buffer x in
@@ -361,7 +463,8 @@ module _ {A : Type 0} where
       (s.gone, s.put ∙ ap (λ b. items_of s.gone ++ end_if b) free ∙ append-nil (items_of s.gone))
 
   -- what became ready for a closed lane is still to be sent
-  pub sends_none : (d ready : List EntryValue) (i : IntakeValue A) (new : InboundValue) → Sends d i → i.inlet.dead ≡ true
+  pub sends_none : (d ready : List EntryValue) (i : IntakeValue A) (new : InboundValue) → Sends d i
+      → i.inlet.dead ≡ true
       → Sends (d ++ ready) (record i { inbound = new })
   sends_none d ready i new s dead = record {
     gone = s.gone;
@@ -373,11 +476,13 @@ module _ {A : Type 0} where
   }
 
   -- a front of what became ready was put, and the rest is still to be sent
-  sends_front : (d ready : List EntryValue) (i j : IntakeValue A) → IsInStep d i → PutsFront i.inlet.put ready j.ended j.inlet → Sends (d ++ ready) j
+  sends_front : (d ready : List EntryValue) (i j : IntakeValue A) → IsInStep d i
+      → PutsFront i.inlet.put ready j.ended j.inlet → Sends (d ++ ready) j
   sends_front d ready i j s f =
       let front = f.0 in
       let rest = f.1 in
-      let entries = opens f.6.0 d (is_closed d) front (sym f.6.1 ∙ f.3 ∙ ap (λ (l : List (Item A)). l ++ front) s.put) in
+      let entries = opens f.6.0 d (is_closed d) front (sym f.6.1 ∙ f.3
+      ∙ ap (λ (l : List (Item A)). l ++ front) s.put) in
       let more = entries.0 in
       let left = left_of ready more (is_closed ready) false rest
       (sym f.2 ∙ ap (λ (l : List (Item A)). l ++ rest) (entries.2 ∙ sym (append-nil (items_of more)))) in
@@ -408,16 +513,20 @@ module _ {A : Type 0} where
       IfOk r (λ arrived. (arrived ≡ arrived_of a) × PutsAll i.inlet.put i.ended (ready_of a) j.ended j.inlet)
       × IfErr r (λ fault. (fault ≡ LaneClosed) × PutsFront i.inlet.put (ready_of a) j.ended j.inlet)
 
-  pub sends_arrival : (o : ℕ) (d : List EntryValue) (i j : IntakeValue A) (a : Arrival A) (r : Result Arrived IntakeError) → Sends d i
+  pub sends_arrival : (o : ℕ) (d : List EntryValue) (i j : IntakeValue A) (a : Arrival A)
+      (r : Result Arrived IntakeError) → Sends d i
       → i.inlet.dead ≡ false → i.finished ≡ false → IsChain o (d ++ ready_of a)
       → IsTakenIn i a r j → Sends (d ++ ready_of a) j
   sends_arrival o d i j a (Ok arrived) s live going chain taken =
       sends_all (d ++ ready_of a) j (in_step_after o d (ready_of a) i j (in_step d i s live going) chain taken.0.1)
-  sends_arrival o d i j a (Err fault) s live going chain taken = sends_front d (ready_of a) i j (in_step d i s live going) taken.1.1
+  sends_arrival o d i j a (Err fault) s live going chain taken
+      = sends_front d (ready_of a) i j (in_step d i s live going) taken.1.1
 
   -- a dead intake puts nothing
-  pub finds_closed : (i : IntakeValue A) (read : Result MessageValue LineError) (m : MessageValue) (arrival : Arrival A) (new : InboundValue)
-      → read ≡ Ok m → Arrives i.inbound m arrival new → i.inlet.dead ≡ true → FindsClosed i read (record i { inbound = new })
+  pub finds_closed : (i : IntakeValue A) (read : Result MessageValue LineError) (m : MessageValue) (arrival : Arrival A)
+      (new : InboundValue)
+      → read ≡ Ok m → Arrives i.inbound m arrival new → i.inlet.dead ≡ true
+      → FindsClosed i read (record i { inbound = new })
   finds_closed i read m arrival new is arrives dead = (
     arrival,
     record { message = m; read_as = is; arrives = arrives; lane = refl },
@@ -436,7 +545,8 @@ module _ {A : Type 0} where
   new_intake i h empty free = record { delivered = []; of_buffer = h; sends = none_sent i empty free }
 
   -- what is left of it
-  pub still_intake : (i j : IntakeValue A) (m : MessageValue) (a : Arrival A) (r : Result Arrived IntakeError) → IsIntake i → i.inlet.dead ≡ false
+  pub still_intake : (i j : IntakeValue A) (m : MessageValue) (a : Arrival A) (r : Result Arrived IntakeError)
+      → IsIntake i → i.inlet.dead ≡ false
       → i.finished ≡ false → Arrives i.inbound m a j.inbound
       → IsTakenIn i a r j → IsIntake j
   still_intake i j m a r is live going x taken =
@@ -447,7 +557,8 @@ module _ {A : Type 0} where
         sends = sends_arrival j.inbound.buffer.origin is.delivered i j a r is.sends live going h.chain taken;
       }
 
-  pub dead_intake : (i : IntakeValue A) (m : MessageValue) (a : Arrival A) (new : InboundValue) → IsIntake i → Arrives i.inbound m a new
+  pub dead_intake : (i : IntakeValue A) (m : MessageValue) (a : Arrival A) (new : InboundValue) → IsIntake i
+      → Arrives i.inbound m a new
       → i.inlet.dead ≡ true → IsIntake (record i { inbound = new })
   dead_intake i m a new is x dead = record {
     delivered = is.delivered ++ ready_of a;
@@ -456,7 +567,8 @@ module _ {A : Type 0} where
   }
 
   -- what that says of the line
-  pub line_leaves : (i j : IntakeValue A) (read : Result MessageValue LineError) (a : Arrival A) (r : Result Arrived IntakeError) → Brings i read a j
+  pub line_leaves : (i j : IntakeValue A) (read : Result MessageValue LineError) (a : Arrival A)
+      (r : Result Arrived IntakeError) → Brings i read a j
       → IsTakenIn i a r j → LineLeaves i read r j
   line_leaves i j read a (Ok arrived) b taken = let all = taken.0 in (a, b, all.0, all.1.0, all.1.2)
   line_leaves i j read a (Err LaneClosed) b taken = let f = taken.1.1 in (a, b, f.0, f.1, f.2, f.3, f.4)

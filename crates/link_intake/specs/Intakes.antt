@@ -10,7 +10,9 @@ use Rattle.sub_buffer.specs.declared.verdict.Verdict.{Verdict}
 use Rattle.sub_buffer.specs.declared.verdict.Verdict.TheVariants.{Ready, Held, Repeat, AfterClose, Full}
 use Rattle.site_core.specs.Inbounds.{InboundValue, entries_of, line_fault, InboundRefuses, ready_in, Arrives}
 use Rattle.site_core.specs.declared.inbound.Arrival.{Arrival}
-use Rattle.site_core.specs.declared.inbound.Arrival.TheVariants.{Entries as ComesEntries, Beat as ComesBeat, Query as ComesQuery, Ask as ComesAsk, Deny as ComesDeny, Hello as ComesHello}
+use Rattle.site_core.specs.declared.inbound.Arrival.TheVariants.{Entries as ComesEntries, Beat as ComesBeat}
+use Rattle.site_core.specs.declared.inbound.Arrival.TheVariants.{Query as ComesQuery, Ask as ComesAsk}
+use Rattle.site_core.specs.declared.inbound.Arrival.TheVariants.{Deny as ComesDeny, Hello as ComesHello}
 use Rattle.thread_parts.specs.declared.item.Item.{Item}
 use Rattle.thread_parts.specs.declared.item.Item.TheVariants.{End}
 use Rattle.link_intake.specs.declared.intake.VerdictCounts.{VerdictCounts}
@@ -139,7 +141,8 @@ module _ {A : Type 0} where
   -- ---- a line
 
   -- the message of a line was taken in by this arrival
-  pub record Brings (old : IntakeValue A) (read : Result MessageValue LineError) (arrival : Arrival A) (new : IntakeValue A) : Type 0 where
+  pub record Brings (old : IntakeValue A) (read : Result MessageValue LineError) (arrival : Arrival A)
+      (new : IntakeValue A) : Type 0 where
     pub message : MessageValue
     pub read_as : read ≡ Ok message
     pub arrives : Arrives old.inbound message arrival new.inbound
@@ -157,7 +160,8 @@ module _ {A : Type 0} where
       (arrival : Arrival A) × Brings old read arrival new × (front : List (Item A)) × (rest : List (Item A))
       × (front ++ rest ≡ sent (ready_of arrival)) × (new.inlet.put ≡ old.inlet.put ++ front) × (new.inlet.dead ≡ true)
 
-  abbrev pub LineLeaves : IntakeValue A → Result MessageValue LineError → Result Arrived IntakeError → IntakeValue A → Type 0
+  abbrev pub LineLeaves : IntakeValue A → Result MessageValue LineError → Result Arrived IntakeError
+      → IntakeValue A → Type 0
   LineLeaves old read (Ok arrived) new = TakesIn old read arrived new
   LineLeaves old read (Err LaneClosed) new = FindsClosed old read new
   LineLeaves old read (Err (Inbound fault)) new = new ≡ old
@@ -166,11 +170,13 @@ module _ {A : Type 0} where
 
   -- these entries continue the chain of those that were put, and End was put if that chain is closed
   abbrev pub CanPut : Bool → List (Item A) → List EntryValue → Type 0
-  CanPut ended put more = (o : ℕ) × (es : List EntryValue) × IsChain o (es ++ more) × (put ≡ sent es) × (ended ≡ is_closed es)
+  CanPut ended put more = (o : ℕ) × (es : List EntryValue) × IsChain o (es ++ more) × (put ≡ sent es)
+      × (ended ≡ is_closed es)
 
   -- they were put, and End after a closing entry
   abbrev pub PutsAll : List (Item A) → Bool → List EntryValue → Bool → InletValue A → Type 0
-  PutsAll put was_ended more ended new = (new.put ≡ put ++ sent more) × (ended ≡ closed_from was_ended more) × (new.dead ≡ false)
+  PutsAll put was_ended more ended new = (new.put ≡ put ++ sent more) × (ended ≡ closed_from was_ended more)
+      × (new.dead ≡ false)
 
   -- only a prefix of these was put, and no End
   abbrev pub PutsFront : List (Item A) → List EntryValue → Bool → InletValue A → Type 0

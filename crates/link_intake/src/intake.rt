@@ -1,5 +1,6 @@
 //! The input from one other site: lines arrive, and entries leave on a lane.
-ghost use Rattle.std.specs.Prelude.{◌≡◌, ◌≤◌, ◌<◌, ◌++◌, [], ◌∷◌, true, false, List, Option, Ok, IfOk, IfErr, OnOk, OnErr, IsErr, MatchResult, IsSome, length};
+ghost use Rattle.std.specs.Prelude.{◌≡◌, ◌≤◌, ◌<◌, ◌++◌, [], ◌∷◌, true, false, List, Option, Ok, IfOk, IfErr, OnOk};
+ghost use Rattle.std.specs.Prelude.{OnErr, IsErr, MatchResult, IsSome, length};
 ghost use Rattle.std.specs.Option.{option_map};
 ghost use Rattle.std.specs.List.{All, Contains};
 ghost use Rattle.rights_types.specs.Entries.{EntryValue};
@@ -14,8 +15,10 @@ ghost use Rattle.site_core.specs.declared.fault.InboundError.TheVariants.{OutOfM
 ghost use Rattle.site_core.specs.Calls.{LineOf};
 ghost use Rattle.site_core.specs.Inbounds.{QueryOf, ready_in};
 ghost use Rattle.thread_parts.specs.Items.{IsOpen, IsEnded};
-ghost use Rattle.link_intake.specs.Intakes.{counts_of, with_verdict, all_counts, verdicts_of, ready_of, arrived_of, CanPut, PutsAll, PutsFront, with_end};
-ghost use Rattle.link_intake.specs.declared.intake.IntakeError.TheVariants.{Inbound as BadLine, LaneClosed as ClosedLane};
+ghost use Rattle.link_intake.specs.Intakes.{counts_of, with_verdict, all_counts, verdicts_of, ready_of, arrived_of};
+ghost use Rattle.link_intake.specs.Intakes.{CanPut, PutsAll, PutsFront, with_end};
+ghost use Rattle.link_intake.specs.declared.intake.IntakeError.TheVariants.{Inbound as BadLine};
+ghost use Rattle.link_intake.specs.declared.intake.IntakeError.TheVariants.{LaneClosed as ClosedLane};
 ghost use Rattle.link_intake.specs.declared.intake.Arrived.TheVariants.{Entries as EntriesCame};
 
 use rights_types::{Ask, Deny, Entry, OutOfMemory, Query};
@@ -78,7 +81,8 @@ impl<A: Allocator> Model for Intake<A> {
 
     ghost view = { λ i. record { inbound = i.inbound; inlet = i.inlet; ended = i.ended; finished = i.finished } };
 
-    ghost invariant = { λ i. IsIntake (record { inbound = i.inbound; inlet = i.inlet; ended = i.ended; finished = i.finished }) };
+    ghost invariant = { λ i. IsIntake
+        (record { inbound = i.inbound; inlet = i.inlet; ended = i.ended; finished = i.finished }) };
 }
 
 impl<A: Allocator> Intake<A> {
@@ -101,7 +105,8 @@ impl<A: Allocator> Intake<A> {
 }
 
 impl<A: Allocator + Copy> Intake<A> {
-    ghost use Rattle.link_intake.specs.Intakes.{IntakeValue, IntakeRefuses, LineLeaves, entries_read, Receives, ReceivesMore};
+    ghost use Rattle.link_intake.specs.Intakes.{IntakeValue, IntakeRefuses, LineLeaves, entries_read, Receives};
+    ghost use Rattle.link_intake.specs.Intakes.{ReceivesMore};
 
     /// What comes in to an inbound to which nothing came, by a new lane.
     pub fn new(inbound: Inbound<A>, inlet: Inlet<A>) -> Intake<A>
@@ -129,10 +134,12 @@ impl<A: Allocator + Copy> Intake<A> {
         ensures lane { self.new.inlet.lane ≡ self.old.inlet.lane }
         ensures unfinished { self.new.finished ≡ false }
         // Where the entries that come are of the origin's log es.
-        ensures log { (es reached : List EntryValue) → All (Contains es) (entries_read (reading line.now)) → Receives es reached self.old
+        ensures log { (es reached : List EntryValue) → All (Contains es) (entries_read (reading line.now))
+            → Receives es reached self.old
             → ReceivesMore es reached (entries_read (reading line.now)) self.new }
         // Only entries take memory.
-        ensures memory { IfErr result (λ fault. fault ≡ BadLine NoMemory → (m : MessageValue) × (reading line.now ≡ Ok m) × (has_entries m ≡ true)) }
+        ensures memory { IfErr result (λ fault. fault ≡ BadLine NoMemory
+            → (m : MessageValue) × (reading line.now ≡ Ok m) × (has_entries m ≡ true)) }
     {
         let arrival = match self.inbound.on_line(line) {
             Ok(arrival) => arrival,
@@ -158,8 +165,10 @@ impl<A: Allocator + Copy> Intake<A> {
 
     /// Puts End, unless it was put already. It blocks while the lane is full.
     pub fn finish<R: Wait>(&mut self, rt: &R) -> Result<(), LaneClosed<A>>
-        ensures ok { OnOk result ((self.new.ended ≡ true) × IsEnded self.new.inlet.put × (self.new.inlet.put ≡ with_end self.old.ended self.old.inlet.put)) }
-        ensures err { OnErr result ((self.old.ended ≡ false) × (self.new ≡ record self.old { inlet = record self.old.inlet { dead = true } })) }
+        ensures ok { OnOk result ((self.new.ended ≡ true) × IsEnded self.new.inlet.put
+            × (self.new.inlet.put ≡ with_end self.old.ended self.old.inlet.put)) }
+        ensures err { OnErr result ((self.old.ended ≡ false)
+            × (self.new ≡ record self.old { inlet = record self.old.inlet { dead = true } })) }
         ensures dead { self.old.ended ≡ false → self.old.inlet.dead ≡ true → IsErr result }
         ensures rest { (self.new.inbound ≡ self.old.inbound) × (self.new.inlet.lane ≡ self.old.inlet.lane) }
         ensures log { (es reached : List EntryValue) → Receives es reached self.old → Receives es reached self.new }
@@ -176,7 +185,9 @@ impl<A: Allocator + Copy> Intake<A> {
     pub fn state(&self) -> State
         ensures table { (gap : Option QueryValue) × GapOf self.now.inbound.buffer gap × StateOf gap result }
         ensures log { (es set put : List EntryValue) → Follows es set put self.now.inbound.buffer
-            → (gap : Option QueryValue) × GapIs self.now.inbound.buffer.me self.now.inbound.buffer.origin set put self.now.inbound.buffer.told gap × StateOf gap result }
+            → (gap : Option QueryValue)
+            × GapIs self.now.inbound.buffer.me self.now.inbound.buffer.origin set put self.now.inbound.buffer.told gap
+            × StateOf gap result }
     {
         self.inbound.state()
     }
@@ -200,8 +211,10 @@ fn take_in<A: Allocator, R: Wait>(
     requires entries { CanPut ended.old inlet.old.put (ready_of arrival) }
     requires live { inlet.old.dead ≡ false }
     ensures lane { inlet.new.lane ≡ inlet.old.lane }
-    ensures ok { IfOk result (λ arrived. (arrived ≡ arrived_of arrival) × PutsAll inlet.old.put ended.old (ready_of arrival) ended.new inlet.new) }
-    ensures err { IfErr result (λ fault. (fault ≡ ClosedLane) × PutsFront inlet.old.put (ready_of arrival) ended.new inlet.new) }
+    ensures ok { IfOk result (λ arrived. (arrived ≡ arrived_of arrival)
+        × PutsAll inlet.old.put ended.old (ready_of arrival) ended.new inlet.new) }
+    ensures err { IfErr result (λ fault. (fault ≡ ClosedLane)
+        × PutsFront inlet.old.put (ready_of arrival) ended.new inlet.new) }
 {
     match arrival {
         Arrival::Entries { verdicts } => put_entries(rt, inlet, ended, verdicts.into_vec()),
@@ -224,8 +237,10 @@ fn put_entries<A: Allocator, R: Wait>(
     requires entries { CanPut ended.old inlet.old.put (ready_in verdicts.items) }
     requires live { inlet.old.dead ≡ false }
     ensures lane { inlet.new.lane ≡ inlet.old.lane }
-    ensures ok { IfOk result (λ arrived. (arrived ≡ EntriesCame (counts_of verdicts.items)) × PutsAll inlet.old.put ended.old (ready_in verdicts.items) ended.new inlet.new) }
-    ensures err { IfErr result (λ fault. (fault ≡ ClosedLane) × PutsFront inlet.old.put (ready_in verdicts.items) ended.new inlet.new) }
+    ensures ok { IfOk result (λ arrived. (arrived ≡ EntriesCame (counts_of verdicts.items))
+        × PutsAll inlet.old.put ended.old (ready_in verdicts.items) ended.new inlet.new) }
+    ensures err { IfErr result (λ fault. (fault ≡ ClosedLane)
+        × PutsFront inlet.old.put (ready_in verdicts.items) ended.new inlet.new) }
 {
     let counts = count(&verdicts);
     put_ready(rt, inlet, ended, verdicts)?;
@@ -275,7 +290,8 @@ fn put_ready<A: Allocator, R: Wait>(
     requires live { inlet.old.dead ≡ false }
     ensures lane { inlet.new.lane ≡ inlet.old.lane }
     ensures ok { OnOk result (PutsAll inlet.old.put ended.old (ready_in verdicts.items) ended.new inlet.new) }
-    ensures err { IfErr result (λ fault. (fault ≡ ClosedLane) × PutsFront inlet.old.put (ready_in verdicts.items) ended.new inlet.new) }
+    ensures err { IfErr result (λ fault. (fault ≡ ClosedLane)
+        × PutsFront inlet.old.put (ready_in verdicts.items) ended.new inlet.new) }
 {
     for verdict in verdicts {
         if let Err(fault) = put_if_ready(rt, inlet, ended, verdict) {
@@ -296,7 +312,8 @@ fn put_if_ready<A: Allocator, R: Wait>(
     requires live { inlet.old.dead ≡ false }
     ensures lane { inlet.new.lane ≡ inlet.old.lane }
     ensures ok { OnOk result (PutsAll inlet.old.put ended.old (ready_in (verdict ∷ [])) ended.new inlet.new) }
-    ensures err { IfErr result (λ fault. (fault ≡ ClosedLane) × PutsFront inlet.old.put (ready_in (verdict ∷ [])) ended.new inlet.new) }
+    ensures err { IfErr result (λ fault. (fault ≡ ClosedLane)
+        × PutsFront inlet.old.put (ready_in (verdict ∷ [])) ended.new inlet.new) }
 {
     match verdict {
         Verdict::Ready(entry) => put_next(rt, inlet, ended, entry),
@@ -314,7 +331,8 @@ fn put_next<A: Allocator, R: Wait>(
     requires { CanPut ended.old inlet.old.put (entry ∷ []) }
     ensures lane { inlet.new.lane ≡ inlet.old.lane }
     ensures ok { OnOk result (PutsAll inlet.old.put ended.old (entry ∷ []) ended.new inlet.new) }
-    ensures err { IfErr result (λ fault. (fault ≡ ClosedLane) × PutsFront inlet.old.put (entry ∷ []) ended.new inlet.new) }
+    ensures err { IfErr result (λ fault. (fault ≡ ClosedLane)
+        × PutsFront inlet.old.put (entry ∷ []) ended.new inlet.new) }
 {
     let closes = entry.closes();
     let Ok(()) = inlet.put(rt, entry) else {

@@ -1,5 +1,7 @@
 -- The pieces of a stream, returned as they end.
-use Rattle.std.proofs.Common.{◌≡◌, ℕ, ◌+◌, ◌-◌, ◌<◌, Bool, true, false, cond, List, [], ◌∷◌, ◌++◌, length, take, get_or, Option, Some, None, Result, Ok, Err, OnErr, IfSome, IfNone, IsTrue, ◌↔◌, refl, sym, ap, subst, ◌∙◌, arith, append-nil, length-append, length-take, get_or-take}
+use Rattle.std.proofs.Common.{◌≡◌, ℕ, ◌+◌, ◌-◌, ◌<◌, Bool, true, false, cond, List, [], ◌∷◌, ◌++◌, length, take, get_or}
+use Rattle.std.proofs.Common.{Option, Some, None, Result, Ok, Err, OnErr, IfSome, IfNone, IsTrue, ◌↔◌, refl, sym, ap}
+use Rattle.std.proofs.Common.{subst, ◌∙◌, arith, append-nil, length-append, length-take, get_or-take}
 use Rattle.std.specs.Io.BufRead.{take_through}
 use Rattle.std.proofs.lemmas.Bool.{eqb-true, eq-eqb}
 use Rattle.std.proofs.lemmas.List.{take_all, take_more}
@@ -38,7 +40,8 @@ fed_none c stream bytes none h =
 
 -- one piece ends with these bytes
 pub one_more : (stream front : List ℕ) → HasNoEnd front
-    → (pieces (stream ++ (front ++ 10 ∷ [])) ≡ pieces stream ++ ((unfinished stream ++ front) ++ 10 ∷ []) ∷ []) × (unfinished (stream ++ (front ++ 10 ∷ [])) ≡ [])
+    → (pieces (stream ++ (front ++ 10 ∷ [])) ≡ pieces stream ++ ((unfinished stream ++ front) ++ 10 ∷ []) ∷ [])
+    × (unfinished (stream ++ (front ++ 10 ∷ [])) ≡ [])
 one_more stream front none =
     let p = one_piece (unfinished stream) front none in (
       pieces_append [] stream (front ++ 10 ∷ []) ∙ ap (λ (l : List (List ℕ)). pieces stream ++ l) p.0,
@@ -46,7 +49,8 @@ one_more stream front none =
     )
 
 -- a borrowed line: the cutter was empty, and is empty
-pub fed_lent : (c : CutterView) (stream front text : List ℕ) → HasNoEnd front → text ≡ front ++ 10 ∷ [] → unfinished stream ≡ [] → IsFedAll c stream
+pub fed_lent : (c : CutterView) (stream front text : List ℕ) → HasNoEnd front → text ≡ front ++ 10 ∷ []
+    → unfinished stream ≡ [] → IsFedAll c stream
     → IsFedAll c (stream ++ text) × (pieces (stream ++ text) ≡ pieces stream ++ text ∷ [])
 fed_lent c stream front text none is nothing h =
     let p = one_more stream front none in
@@ -63,20 +67,24 @@ fed_lent c stream front text none is nothing h =
     rw is (all, piece)
 
 -- after a line feed a piece waits
-pub one_waits : (c : CutterView) (stream front text : List ℕ) → HasNoEnd front → text ≡ front ++ 10 ∷ [] → IsFed c (stream ++ text) (pieces stream) → c.is_finished ≡ false → ⊥
+pub one_waits : (c : CutterView) (stream front text : List ℕ) → HasNoEnd front → text ≡ front ++ 10 ∷ []
+    → IsFed c (stream ++ text) (pieces stream) → c.is_finished ≡ false → ⊥
 one_waits c stream front text none is h unended =
     let p = one_more stream front none in
     let line : List ℕ = (unfinished stream ++ front) ++ 10 ∷ [] in
     let last : pieces (stream ++ text) ≡ pieces stream = h.2 ∙ rw unended (append-nil (pieces stream)) in
-    let more : pieces stream ++ line ∷ [] ≡ pieces stream = sym p.0 ∙ ap (λ (l : List ℕ). pieces (stream ++ l)) (sym is) ∙ last in
+    let more : pieces stream ++ line ∷ [] ≡ pieces stream = sym p.0
+    ∙ ap (λ (l : List ℕ). pieces (stream ++ l)) (sym is) ∙ last in
     omega (arith, ap length more, length-append (pieces stream) (line ∷ []))
 
 -- the piece that waited was returned
-pub fed_kept : (c : CutterView) (stream text piece : List ℕ) → c ≡ view_of [] → IsFed c (stream ++ text) (pieces stream ++ piece ∷ [])
+pub fed_kept : (c : CutterView) (stream text piece : List ℕ) → c ≡ view_of []
+    → IsFed c (stream ++ text) (pieces stream ++ piece ∷ [])
     → IsFedAll c (stream ++ text) × (pieces (stream ++ text) ≡ pieces stream ++ piece ∷ [])
 fed_kept c stream text piece empty h =
     let unended : c.is_finished ≡ false = ap (λ (v : CutterView). v.is_finished) empty in
-    let same : pieces (stream ++ text) ≡ pieces stream ++ piece ∷ [] = h.2 ∙ rw unended (append-nil (pieces stream ++ piece ∷ [])) in
+    let same : pieces (stream ++ text) ≡ pieces stream ++ piece ∷ [] = h.2
+    ∙ rw unended (append-nil (pieces stream ++ piece ∷ [])) in
     (subst (IsFed c (stream ++ text)) (sym same) h, same)
 
 -- ---- the next piece
@@ -94,7 +102,8 @@ on_err (Ok x) p = tt
 on_err (Err e) p = p
 
 -- the bytes up to the line feed that was found
-pub found_end : (s : List ℕ) (n : ℕ) → IsFirstByte (is_byte 10) s (Some n) → (n < length s) × HasNoEnd (take n s) × (take (n + 1) s ≡ take n s ++ 10 ∷ [])
+pub found_end : (s : List ℕ) (n : ℕ) → IsFirstByte (is_byte 10) s (Some n) → (n < length s) × HasNoEnd (take n s)
+    × (take (n + 1) s ≡ take n s ++ 10 ∷ [])
 found_end s n here =
     let last : get_or s n 0 ≡ 10 = eqb-true (get_or s n 0) 10 here.1 in (
       here.0.high,
@@ -116,23 +125,28 @@ some_rest true xs h e = h.0 refl
 some_rest false xs h e = absurd cc
 
 module _ (c mid : CutterView) (stream bytes : List ℕ) (taken : ℕ) (h : IsFedAll c stream)
-    (count : taken ≡ cond c.is_finished 0 (length (take_through 10 bytes))) (fed : IsFed mid (stream ++ take taken bytes) (pieces stream)) where
+    (count : taken ≡ cond c.is_finished 0 (length (take_through 10 bytes)))
+    (fed : IsFed mid (stream ++ take taken bytes) (pieces stream)) where
   through : taken ≡ length (take_through 10 bytes)
   through = count ∙ rw (not_finished c stream h) refl
 
   -- the bytes end no piece, and all were taken
   pub push_none : (r : Option ℕ) → ((n : ℕ) → r ≡ Some n → ⊥) → IsFirstByte (is_byte 10) bytes r
-      → IsFedAll mid (stream ++ take (length bytes) bytes) × (pieces (stream ++ take (length bytes) bytes) ≡ pieces stream)
+      → IsFedAll mid (stream ++ take (length bytes) bytes)
+      × (pieces (stream ++ take (length bytes) bytes) ≡ pieces stream)
   push_none (Some n) other found = absurd (other n refl)
   push_none None other found =
       let all : taken ≡ length bytes = through ∙ sym (through_missed bytes (first_is_position 10 bytes None found)) in
       let whole : take (length bytes) bytes ≡ bytes = take_all (length bytes) bytes (omega arith) in
       let none : HasNoEnd bytes = λ k low e. found k (omega arith) low (eq-eqb (get_or bytes k 0) 10 e) in
-      let fed' : IsFed mid (stream ++ bytes) (pieces stream) = subst (λ (l : List ℕ). IsFed mid (stream ++ l) (pieces stream)) (ap (λ (n : ℕ). take n bytes) all ∙ whole) fed in
+      let fed' : IsFed mid (stream ++ bytes) (pieces stream)
+      = subst (λ (l : List ℕ). IsFed mid (stream ++ l) (pieces stream)) (ap (λ (n : ℕ). take n bytes) all
+      ∙ whole) fed in
       rw whole (fed_none mid stream bytes none fed')
 
   -- they were taken to their first line feed
-  pub push_some : (n : ℕ) → IsFirstByte (is_byte 10) bytes (Some n) → IsFed mid (stream ++ take (n + 1) bytes) (pieces stream)
+  pub push_some : (n : ℕ) → IsFirstByte (is_byte 10) bytes (Some n)
+      → IsFed mid (stream ++ take (n + 1) bytes) (pieces stream)
   push_some n found =
       let all : taken ≡ n + 1 = through ∙ sym (through_found bytes n (first_is_position 10 bytes (Some n) found)) in
       subst (λ (k : ℕ). IsFed mid (stream ++ take k bytes) (pieces stream)) all fed
@@ -144,22 +158,31 @@ module _ (c mid : CutterView) (stream bytes : List ℕ) (taken : ℕ) (h : IsFed
       one_waits mid stream (take n bytes) (take (n + 1) bytes) end.1 end.2 (push_some n found) unended
 
   -- and it is returned
-  pub kept : {A : Type 0} (n : ℕ) → IsFirstByte (is_byte 10) bytes (Some n) → (new : CutterView) (o : Option (Cut A)) (cut : Cut A) → o ≡ Some cut
-      → IfSome o (λ cut. IsTrue mid.is_finished × (new ≡ view_of []) × ((piece : List ℕ) → Holds mid piece → IsCut piece cut))
-      → IfSome o (λ cut. (stream : List ℕ) (given : List (List ℕ)) → IsFed mid stream given → IsGiven cut new stream given)
-      → (piece : List ℕ) × IsCut piece cut × IsFedAll new (stream ++ take (n + 1) bytes) × (pieces (stream ++ take (n + 1) bytes) ≡ pieces stream ++ piece ∷ [])
+  pub kept : {A : Type 0} (n : ℕ) → IsFirstByte (is_byte 10) bytes (Some n)
+      → (new : CutterView) (o : Option (Cut A)) (cut : Cut A) → o ≡ Some cut
+      → IfSome o (λ cut. IsTrue mid.is_finished × (new ≡ view_of [])
+      × ((piece : List ℕ) → Holds mid piece → IsCut piece cut))
+      → IfSome o (λ cut. (stream : List ℕ) (given : List (List ℕ)) → IsFed mid stream given
+      → IsGiven cut new stream given)
+      → (piece : List ℕ) × IsCut piece cut × IsFedAll new (stream ++ take (n + 1) bytes)
+      × (pieces (stream ++ take (n + 1) bytes) ≡ pieces stream ++ piece ∷ [])
   kept {A} n found new o cut is one given =
       let one' : IsTrue mid.is_finished × (new ≡ view_of []) × ((piece : List ℕ) → Holds mid piece → IsCut piece cut) =
-      subst (λ (x : Option (Cut A)). IfSome x (λ cut. IsTrue mid.is_finished × (new ≡ view_of []) × ((piece : List ℕ) → Holds mid piece → IsCut piece cut))) is one in
+      subst (λ (x : Option (Cut A)). IfSome x (λ cut. IsTrue mid.is_finished × (new ≡ view_of [])
+      × ((piece : List ℕ) → Holds mid piece → IsCut piece cut))) is one in
       let given' : (stream : List ℕ) (given : List (List ℕ)) → IsFed mid stream given → IsGiven cut new stream given =
-      subst (λ (x : Option (Cut A)). IfSome x (λ cut. (stream : List ℕ) (given : List (List ℕ)) → IsFed mid stream given → IsGiven cut new stream given)) is given in
+      subst (λ (x : Option (Cut A)). IfSome x (λ cut. (stream : List ℕ) (given : List (List ℕ)) → IsFed mid stream given
+      → IsGiven cut new stream given)) is given in
       let next = given' (stream ++ take (n + 1) bytes) (pieces stream) (push_some n found) in
       let all = fed_kept new stream (take (n + 1) bytes) next.0 one'.1 next.2 in
       (next.0, next.1, all.0, all.1)
 
 -- a borrowed line
-pub lent : (c : CutterView) (stream bytes : List ℕ) (n : ℕ) → IsFirstByte (is_byte 10) bytes (Some n) → unfinished stream ≡ [] → IsFedAll c stream
-    → IsFedAll c (stream ++ take (n + 1) bytes) × (pieces (stream ++ take (n + 1) bytes) ≡ pieces stream ++ take (n + 1) bytes ∷ []) × (length (take (n + 1) bytes) ≡ n + 1)
+pub lent : (c : CutterView) (stream bytes : List ℕ) (n : ℕ) → IsFirstByte (is_byte 10) bytes (Some n)
+    → unfinished stream ≡ [] → IsFedAll c stream
+    → IsFedAll c (stream ++ take (n + 1) bytes)
+    × (pieces (stream ++ take (n + 1) bytes) ≡ pieces stream ++ take (n + 1) bytes ∷ [])
+    × (length (take (n + 1) bytes) ≡ n + 1)
 lent c stream bytes n found nothing h =
     let end = found_end bytes n found in
     let fed = fed_lent c stream (take n bytes) (take (n + 1) bytes) end.1 end.2 nothing h in

@@ -1,5 +1,7 @@
 -- Lines that are written: whole ones, and a prefix of the next.
-use Rattle.std.proofs.Common.{◌≡◌, ◌≢◌, ℕ, zero, suc, ◌+◌, ◌-◌, ◌<◌, ◌≤◌, Bool, true, false, cond, ltb, List, [], ◌∷◌, ◌++◌, length, take, drop, get_or, Option, Result, Ok, Err, refl, sym, ap, subst, ◌∙◌, arith, inl, inr, append-nil, append_assoc, length-append, length-take, get_or-take}
+use Rattle.std.proofs.Common.{◌≡◌, ◌≢◌, ℕ, zero, suc, ◌+◌, ◌-◌, ◌<◌, ◌≤◌, Bool, true, false, cond, ltb, List, [], ◌∷◌}
+use Rattle.std.proofs.Common.{◌++◌, length, take, drop, get_or, Option, Result, Ok, Err, refl, sym, ap, subst, ◌∙◌}
+use Rattle.std.proofs.Common.{arith, inl, inr, append-nil, append_assoc, length-append, length-take, get_or-take}
 use Rattle.std.specs.List.{All}
 use Rattle.std.specs.Io.KnownBytes.{Appends}
 use Rattle.std.proofs.KnownBytes.{Appends-nil, Appends-trans}
@@ -26,7 +28,8 @@ no_end (x ∷ xs) all zero low = All-head (λ b. b ≢ 10) x xs all
 no_end (x ∷ xs) all (suc k) low = no_end xs (All-tail (λ b. b ≢ 10) x xs all) k (omega (arith, low))
 
 line_piece : (line : List ℕ) → IsLine line → length (pieces line) ≡ 1
-line_piece line h = subst (λ (l : List ℕ). length (pieces l) ≡ 1) (sym h.1) (ap length (one_piece [] h.0 (no_end h.0 h.2)).0)
+line_piece line h = subst (λ (l : List ℕ). length (pieces l) ≡ 1) (sym h.1)
+    (ap length (one_piece [] h.0 (no_end h.0 h.2)).0)
 
 -- no line ends in a proper prefix of a line
 front_piece : (line : List ℕ) (n : ℕ) → IsLine line → n < length line → length (pieces (take n line)) ≡ 0
@@ -68,7 +71,8 @@ cut_at : (lines : List (List ℕ)) (n : ℕ) → All IsLine lines → n < length
 cut_at [] n all low = absurd (omega (arith, low))
 cut_at (line ∷ rest) n all low = elim (cases_lt n (length line)) [
   | inl short ↦
-      let front : take n (line ++ joined rest) ≡ take n line = take-append-le n line (joined rest) (omega (arith, short)) in
+      let front : take n (line ++ joined rest) ≡ take n line
+      = take-append-le n line (joined rest) (omega (arith, short)) in
       record {
         whole = [];
         next = line;
@@ -82,7 +86,8 @@ cut_at (line ∷ rest) n all low = elim (cases_lt n (length line)) [
   | inr long ↦
       let k : ℕ = n - length line in
       let sum : n ≡ length line + k = omega (arith, long) in
-      let c = cut_at rest k (All-tail IsLine line rest all) (omega (arith, low, long, length-append line (joined rest))) in
+      let c = cut_at rest k (All-tail IsLine line rest all)
+      (omega (arith, low, long, length-append line (joined rest))) in
       let parts = cut_behind line (joined rest) n k sum in
       record {
         whole = line ∷ c.whole;
@@ -90,17 +95,28 @@ cut_at (line ∷ rest) n all low = elim (cases_lt n (length line)) [
         rest = c.rest;
         m = c.m;
         is = ap (λ (l : List (List ℕ)). line ∷ l) c.is;
-        count = omega (arith, ap (λ (l : List ℕ). length (pieces l)) parts, lines_both line (take k (joined rest)), line_piece line (All-head IsLine line rest all), c.count);
+        count = omega (
+          arith,
+          ap (λ (l : List ℕ). length (pieces l)) parts,
+          lines_both line (take k (joined rest)),
+          line_piece line (All-head IsLine line rest all),
+          c.count,
+        );
         low = c.low;
-        text = parts ∙ ap (λ (l : List ℕ). line ++ l) c.text ∙ sym (append_assoc line (joined c.whole) (take c.m c.next));
+        text = parts ∙ ap (λ (l : List ℕ). line ++ l) c.text
+            ∙ sym (append_assoc line (joined c.whole) (take c.m c.next));
       }
 ]
 
 -- ---- lines that were copied, of which this number of bytes was written
 
-module _ {S : Type 0} (takes : S → List ℕ → S → Type 0) (source after : S) (old new : Option (List ℕ)) (lines : List (List ℕ)) (text : List ℕ) (are : AreLines lines text)
+module _ {S : Type 0}
+    (takes : S → List ℕ → S → Type 0) (source after : S) (old new : Option (List ℕ)) (lines : List (List ℕ))
+    (text : List ℕ)
+    (are : AreLines lines text)
     (n count : ℕ) (begun : count ≡ length (pieces (take n text)) + cond (ltb n (length text)) 1 0)
-    (took : count ≤ length lines → InTurn takes source (take count lines) after) (wrote : Appends old new (take n text)) where
+    (took : count ≤ length lines
+    → InTurn takes source (take count lines) after) (wrote : Appends old new (take n text)) where
   pub sent_all : n ≤ length text → length text ≤ n → SendsLines takes source after old new (Ok tt)
   sent_all within all =
       let whole : take n text ≡ text = take_all n text all in
@@ -122,9 +138,12 @@ module _ {S : Type 0} (takes : S → List ℕ → S → Type 0) (source after : 
       begun ∙ rw yes (omega (arith, c.count, ap (λ (l : List ℕ). length (pieces (take n l))) are.1)) in
       let split : lines ≡ (c.whole ++ c.next ∷ []) ++ c.rest = c.is ∙ sym (append_assoc c.whole (c.next ∷ []) c.rest) in
       let size : length (c.whole ++ c.next ∷ []) ≡ count = omega (arith, number, length-append c.whole (c.next ∷ [])) in
-      let these : take count lines ≡ c.whole ++ c.next ∷ [] = ap (take count) split ∙ take_at (c.whole ++ c.next ∷ []) c.rest count size in
-      let fits : count ≤ length lines = omega (arith, size, ap length split, length-append (c.whole ++ c.next ∷ []) c.rest) in
-      let kept : All IsLine (c.whole ++ c.next ∷ []) = all_front (c.whole ++ c.next ∷ []) c.rest (subst (All IsLine) split are.0) in (
+      let these : take count lines ≡ c.whole ++ c.next ∷ [] = ap (take count) split
+      ∙ take_at (c.whole ++ c.next ∷ []) c.rest count size in
+      let fits : count ≤ length lines
+      = omega (arith, size, ap length split, length-append (c.whole ++ c.next ∷ []) c.rest) in
+      let kept : All IsLine (c.whole ++ c.next ∷ [])
+      = all_front (c.whole ++ c.next ∷ []) c.rest (subst (All IsLine) split are.0) in (
         c.whole ++ c.next ∷ [],
         subst (λ (l : List (List ℕ)). InTurn takes source l after) these (took fits),
         kept,
@@ -134,14 +153,17 @@ module _ {S : Type 0} (takes : S → List ℕ → S → Type 0) (source after : 
       all_front : (a b : List (List ℕ)) → All IsLine (a ++ b) → All IsLine a
       all_front [] b all = All-nil IsLine
       all_front (line ∷ a) b all =
-          All-append IsLine (line ∷ []) a (All-push IsLine [] line (All-nil IsLine) (All-head IsLine line (a ++ b) all)) (all_front a b (All-tail IsLine line (a ++ b) all))
+          All-append IsLine (line ∷ []) a (All-push IsLine [] line (All-nil IsLine) (All-head IsLine line (a ++ b) all))
+          (all_front a b (All-tail IsLine line (a ++ b) all))
 
 -- ---- one line
 
-pub line_whole : (old new : Option (List ℕ)) (line : List ℕ) (n : ℕ) → length line ≤ n → Appends old new (take n line) → WritesLines old new (line ∷ []) (Ok tt)
+pub line_whole : (old new : Option (List ℕ)) (line : List ℕ) (n : ℕ) → length line ≤ n → Appends old new (take n line)
+    → WritesLines old new (line ∷ []) (Ok tt)
 line_whole old new line n all wrote = subst (Appends old new) (take_all n line all ∙ sym (append-nil line)) wrote
 
-pub line_front : (old new : Option (List ℕ)) (line : List ℕ) (n : ℕ) → n < length line → Appends old new (take n line) → WritesLines old new (line ∷ []) (Err WriteFailed)
+pub line_front : (old new : Option (List ℕ)) (line : List ℕ) (n : ℕ) → n < length line → Appends old new (take n line)
+    → WritesLines old new (line ∷ []) (Err WriteFailed)
 line_front old new line n low wrote = (refl, [], line, n, refl, low, wrote)
 
 -- ---- one after another
@@ -149,10 +171,12 @@ line_front old new line n low wrote = (refl, [], line, n, refl, low, wrote)
 writes_more : (a b c : Option (List ℕ)) (front lines : List (List ℕ)) (result : Result (Unit {0}) LinkFault)
     → Appends a b (joined front) → WritesLines b c lines result → WritesLines a c (front ++ lines) result
 writes_more a b c front lines (Ok u) h k =
-    subst (Appends a c) (sym (flat_map-append (λ (l : List ℕ). l) front lines)) (Appends-trans a b c (joined front) (joined lines) h k)
+    subst (Appends a c) (sym (flat_map-append (λ (l : List ℕ). l) front lines))
+    (Appends-trans a b c (joined front) (joined lines) h k)
 writes_more a b c front lines (Err fault) h k =
     let text : joined front ++ (joined k.1 ++ take k.3 k.2) ≡ joined (front ++ k.1) ++ take k.3 k.2 =
-    sym (append_assoc (joined front) (joined k.1) (take k.3 k.2)) ∙ ap (λ (l : List ℕ). l ++ take k.3 k.2) (sym (flat_map-append (λ (l : List ℕ). l) front k.1)) in (
+    sym (append_assoc (joined front) (joined k.1) (take k.3 k.2))
+    ∙ ap (λ (l : List ℕ). l ++ take k.3 k.2) (sym (flat_map-append (λ (l : List ℕ). l) front k.1)) in (
       k.0,
       front ++ k.1,
       k.2,
@@ -178,11 +202,17 @@ module _ {S : Type 0} (takes : S → List ℕ → S → Type 0) where
   -- lines of an unchanged source
   pub sends_copied : (s t t' u : S) (a b c : Option (List ℕ)) (result : Result (Unit {0}) LinkFault)
       → SendsLines takes s t a b (Ok tt) → t' ≡ t → SendsLines takes t' u b c result → SendsLines takes s u a c result
-  sends_copied s t t' u a b c result h same k = sends_more s t u a b c result h (subst (λ (x : S). SendsLines takes x u b c result) same k)
+  sends_copied s t t' u a b c result h same k
+      = sends_more s t u a b c result h (subst (λ (x : S). SendsLines takes x u b c result) same k)
 
   -- one line
   pub sends_large : (s t u : S) (a b c : Option (List ℕ)) (line text : List ℕ) (result : Result (Unit {0}) LinkFault)
-      → SendsLines takes s t a b (Ok tt) → IsLine line → takes t line u → text ≡ line → WritesLines b c (text ∷ []) result → SendsLines takes s u a c result
+      → SendsLines takes s t a b (Ok tt) → IsLine line → takes t line u → text ≡ line
+      → WritesLines b c (text ∷ []) result → SendsLines takes s u a c result
   sends_large s t u a b c line text result h is took same wrote =
-      sends_more s t u a b c result h
-      (line ∷ [], turn_one takes t line u took, All-push IsLine [] line (All-nil IsLine) is, subst (λ (l : List ℕ). WritesLines b c (l ∷ []) result) same wrote)
+      sends_more s t u a b c result h (
+        line ∷ [],
+        turn_one takes t line u took,
+        All-push IsLine [] line (All-nil IsLine) is,
+        subst (λ (l : List ℕ). WritesLines b c (l ∷ []) result) same wrote,
+      )

@@ -10,7 +10,8 @@ use Rattle.entry_codec.specs.Spelling.{Spells}
 use Rattle.line_streams.specs.Counting.{Parted, still}
 use Rattle.peer_links.specs.declared.lines.TheConstants.{LINE_END}
 use Rattle.peer_links.specs.declared.link.LinkFault.{LinkFault}
-use Rattle.peer_links.specs.declared.link.LinkFault.TheVariants.{ReadFailed, WriteFailed, TooManyLines, NoHello, LaneClosed, OutOfMemory}
+use Rattle.peer_links.specs.declared.link.LinkFault.TheVariants.{ReadFailed, WriteFailed, TooManyLines, NoHello}
+use Rattle.peer_links.specs.declared.link.LinkFault.TheVariants.{LaneClosed, OutOfMemory}
 use Rattle.line_streams.specs.declared.limit.TheConstants.{LINE_LIMIT}
 
 -- ---- the first line

@@ -1,5 +1,6 @@
 -- The lines that wait in an outbox, as plain data.
-use Rattle.std.specs.Prelude.{◌≡◌, ℕ, ◌-◌, ◌<◌, ◌≤◌, ◌⊎◌, Bool, true, false, List, [], ◌∷◌, ◌++◌, length, take, Result, Ok, Err, nat_le, if◌then◌else◌}
+use Rattle.std.specs.Prelude.{◌≡◌, ℕ, ◌-◌, ◌<◌, ◌≤◌, ◌⊎◌, Bool, true, false, List, [], ◌∷◌, ◌++◌, length, take, Result}
+use Rattle.std.specs.Prelude.{Ok, Err, nat_le, if◌then◌else◌}
 use Rattle.entry_codec.specs.Pieces.{IsLine}
 use Rattle.peer_links.specs.Sources.{AreLines}
 use Rattle.peer_links.specs.declared.outbox.PutError.{PutError}

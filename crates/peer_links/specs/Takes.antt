@@ -1,5 +1,6 @@
 -- The effect of the lines of a connection on the intake and on the port.
-use Rattle.std.specs.Prelude.{◌≡◌, ◌≢◌, ℕ, ◌+◌, ◌<◌, ◌≤◌, ◌⊎◌, Bool, true, false, List, [], ◌∷◌, ◌++◌, length, Option, Some, None, Result, Ok, Err, IsErr, IfErr}
+use Rattle.std.specs.Prelude.{◌≡◌, ◌≢◌, ℕ, ◌+◌, ◌<◌, ◌≤◌, ◌⊎◌, Bool, true, false, List, [], ◌∷◌, ◌++◌, length, Option}
+use Rattle.std.specs.Prelude.{Some, None, Result, Ok, Err, IsErr, IfErr}
 use Rattle.rights_types.specs.Messages.{MessageValue, QueryValue}
 use Rattle.rights_types.specs.Messages.MessageValue.{AQuery}
 use Rattle.rights_types.specs.declared.limits.TheConstants.{MAX_LINE}
@@ -15,7 +16,8 @@ use Rattle.site_core.specs.declared.fault.InboundError.TheVariants.{OutOfMemory 
 use Rattle.line_streams.specs.declared.limit.TheConstants.{LINE_LIMIT}
 use Rattle.link_intake.specs.Intakes.{IntakeValue, IntakeRefuses, LineLeaves}
 use Rattle.link_intake.specs.declared.intake.Arrived.{Arrived}
-use Rattle.link_intake.specs.declared.intake.Arrived.TheVariants.{Beat, Query as CameQuery, Ask as CameAsk, Deny as CameDenial}
+use Rattle.link_intake.specs.declared.intake.Arrived.TheVariants.{Beat, Query as CameQuery, Ask as CameAsk}
+use Rattle.link_intake.specs.declared.intake.Arrived.TheVariants.{Deny as CameDenial}
 use Rattle.link_intake.specs.declared.intake.IntakeError.{IntakeError}
 use Rattle.link_intake.specs.declared.intake.IntakeError.TheVariants.{Inbound, LaneClosed as FoundClosed}
 use Rattle.peer_links.specs.Links.{IsFedAll}
@@ -25,7 +27,8 @@ use Rattle.peer_links.specs.Ports.Heard.{AMessage, ALine, AState}
 use Rattle.peer_links.specs.declared.link.DeskMessage.{DeskMessage}
 use Rattle.peer_links.specs.declared.link.DeskMessage.TheVariants.{Query, Ask, Deny}
 use Rattle.peer_links.specs.declared.link.LinkFault.{LinkFault}
-use Rattle.peer_links.specs.declared.link.LinkFault.TheVariants.{ReadFailed, TooManyLines, LaneClosed, OutOfMemory as NoMemory}
+use Rattle.peer_links.specs.declared.link.LinkFault.TheVariants.{ReadFailed, TooManyLines, LaneClosed}
+use Rattle.peer_links.specs.declared.link.LinkFault.TheVariants.{OutOfMemory as NoMemory}
 
 -- the pieces that end in these bytes, which follow this stream
 abbrev pub pieces_behind : List ℕ → List ℕ → List (List ℕ)
@@ -61,7 +64,8 @@ asks_again Beat = true
 asks_again arrived = false
 
 -- the port received the message, if there is one
-abbrev pub HearsMessage : {S : Type 0} → (S → Heard → S → Type 0) → S → Option DeskMessage → Result (Unit {0}) OutOfMemory → S → Type 0
+abbrev pub HearsMessage : {S : Type 0} → (S → Heard → S → Type 0) → S → Option DeskMessage
+    → Result (Unit {0}) OutOfMemory → S → Type 0
 HearsMessage hears old None told new = (told ≡ Ok tt) × (new ≡ old)
 HearsMessage hears old (Some m) told new = hears old (AMessage m told) new
 
@@ -79,31 +83,37 @@ as_fault (Err _) = Err NoMemory
 
 module _ {A : Type 0} where
   -- the gap is queried, if there is one to query
-  pub record AsksGap (old : IntakeValue A) (again : Bool) (asked : Result (Unit {0}) OutOfMemory) (heard : List Heard) (new : IntakeValue A) : Type 0 where
+  pub record AsksGap (old : IntakeValue A) (again : Bool) (asked : Result (Unit {0}) OutOfMemory) (heard : List Heard)
+      (new : IntakeValue A) : Type 0 where
     pub query : Option QueryValue
     pub asks : QueryOf old.inbound again query new.inbound
     pub rest : new ≡ record old { inbound = new.inbound }
     pub hears : HearsQuery query asked heard
 
   -- the gap is queried, unless there was no memory for the message
-  abbrev pub AsksThen : Result (Unit {0}) OutOfMemory → IntakeValue A → Bool → Result (Unit {0}) LinkFault → List Heard → IntakeValue A → Type 0
+  abbrev pub AsksThen : Result (Unit {0}) OutOfMemory → IntakeValue A → Bool → Result (Unit {0}) LinkFault → List Heard
+      → IntakeValue A → Type 0
   AsksThen (Ok _) old again result heard new =
       (asked : Result (Unit {0}) OutOfMemory) × AsksGap old again asked heard new × (result ≡ as_fault asked)
   AsksThen (Err _) old again result heard new = (result ≡ Err NoMemory) × (heard ≡ []) × (new ≡ old)
 
   -- the port receives the message for the desk, if there is one, and then the gap is queried
-  abbrev pub HandsOver : IntakeValue A → Option DeskMessage → Bool → Result (Unit {0}) LinkFault → List Heard → IntakeValue A → Type 0
+  abbrev pub HandsOver : IntakeValue A → Option DeskMessage → Bool → Result (Unit {0}) LinkFault → List Heard
+      → IntakeValue A → Type 0
   HandsOver old None again result heard new = AsksThen (Ok tt) old again result heard new
   HandsOver old (Some m) again result heard new =
-      (told : Result (Unit {0}) OutOfMemory) × (rest : List Heard) × (heard ≡ AMessage m told ∷ rest) × AsksThen told old again result rest new
+      (told : Result (Unit {0}) OutOfMemory) × (rest : List Heard) × (heard ≡ AMessage m told ∷ rest)
+      × AsksThen told old again result rest new
 
   -- what follows the intake's result
-  abbrev pub Follows : IntakeValue A → Result Arrived IntakeError → Result (Unit {0}) LinkFault → List Heard → IntakeValue A → Type 0
+  abbrev pub Follows : IntakeValue A → Result Arrived IntakeError → Result (Unit {0}) LinkFault → List Heard
+      → IntakeValue A → Type 0
   Follows old (Ok arrived) result heard new = HandsOver old (message_in arrived) (asks_again arrived) result heard new
   Follows old (Err fault) result heard new = (result ≡ after_refusal fault) × (heard ≡ []) × (new ≡ old)
 
   -- the intake took the line, and the port received what came of it
-  pub record TakesLine (old : IntakeValue A) (line : List ℕ) (result : Result (Unit {0}) LinkFault) (heard : List Heard) (new : IntakeValue A) : Type 0 where
+  pub record TakesLine (old : IntakeValue A) (line : List ℕ) (result : Result (Unit {0}) LinkFault) (heard : List Heard)
+      (new : IntakeValue A) : Type 0 where
     pub came : Result Arrived IntakeError
     pub mid : IntakeValue A
     pub refused : IntakeRefuses old.inbound (reading line) came
@@ -127,7 +137,8 @@ module _ {A : Type 0} where
       × (heard ≡ AState state (length i.inbound.buffer.held))
 
   -- the piece was taken, and then the port received the state of the intake
-  pub record TakesPiece (old : IntakeValue A) (piece : List ℕ) (result : Result (Unit {0}) LinkFault) (heard : List Heard) (new : IntakeValue A) : Type 0 where
+  pub record TakesPiece (old : IntakeValue A) (piece : List ℕ) (result : Result (Unit {0}) LinkFault)
+      (heard : List Heard) (new : IntakeValue A) : Type 0 where
     pub told : List Heard
     pub shown : Heard
     pub takes : TakesOrSkips old piece result told new
@@ -144,7 +155,8 @@ module _ {A : Type 0} where
       × TakesPiece old piece (Ok tt) first mid × Takes mid pieces rest new × (heard ≡ first ++ rest)
 
   -- these pieces were taken in order, and the last of them failed
-  pub record Breaks (old : IntakeValue A) (pieces : List (List ℕ)) (fault : LinkFault) (heard : List Heard) (new : IntakeValue A) : Type 0 where
+  pub record Breaks (old : IntakeValue A) (pieces : List (List ℕ)) (fault : LinkFault) (heard : List Heard)
+      (new : IntakeValue A) : Type 0 where
     pub front : List (List ℕ)
     pub last : List ℕ
     pub cut : pieces ≡ front ++ last ∷ []
@@ -159,20 +171,26 @@ module _ {A : Type 0} where
   -- counted before reach the limit; at NoMemory, memory was refused for the first line of the rest, or for handling
   -- the last of these
   abbrev pub Stops : ℕ → IntakeValue A → List (List ℕ) → List (List ℕ) → LinkFault → List Heard → IntakeValue A → Type 0
-  Stops besides old pieces rest TooManyLines heard new = Takes old pieces heard new × (besides + length pieces ≡ LINE_LIMIT)
+  Stops besides old pieces rest TooManyLines heard new = Takes old pieces heard new
+      × (besides + length pieces ≡ LINE_LIMIT)
   Stops besides old pieces rest LaneClosed heard new = Breaks old pieces LaneClosed heard new
-  Stops besides old pieces rest NoMemory heard new = (Takes old pieces heard new × (rest ≢ [])) ⊎ Breaks old pieces NoMemory heard new
+  Stops besides old pieces rest NoMemory heard new = (Takes old pieces heard new × (rest ≢ []))
+      ⊎ Breaks old pieces NoMemory heard new
   Stops besides old pieces rest fault heard new = ⊥
 
   -- all of these pieces were taken, or a prefix of them before a fault
-  abbrev pub TakesTo : ℕ → IntakeValue A → List (List ℕ) → Result (Unit {0}) LinkFault → List Heard → IntakeValue A → Type 0
+  abbrev pub TakesTo : ℕ → IntakeValue A → List (List ℕ) → Result (Unit {0}) LinkFault → List Heard
+      → IntakeValue A → Type 0
   TakesTo besides old pieces (Ok _) heard new = Takes old pieces heard new
   TakesTo besides old pieces (Err ReadFailed) heard new = Takes old pieces heard new
   TakesTo besides old pieces (Err fault) heard new =
-      (front : List (List ℕ)) × (rest : List (List ℕ)) × (front ++ rest ≡ pieces) × Stops besides old front rest fault heard new
+      (front : List (List ℕ)) × (rest : List (List ℕ)) × (front ++ rest ≡ pieces)
+      × Stops besides old front rest fault heard new
 
 -- the pieces of this input, after all that the cutter was fed, were taken, and the port received what they say
-abbrev pub TakesInput : {A S : Type 0} → (S → Heard → S → Type 0) → ℕ → CutterView → List ℕ → IntakeValue A → S → Result (Unit {0}) LinkFault → IntakeValue A → S → Type 0
+abbrev pub TakesInput : {A S : Type 0} → (S → Heard → S → Type 0) → ℕ → CutterView → List ℕ → IntakeValue A → S
+    → Result (Unit {0}) LinkFault → IntakeValue A → S → Type 0
 TakesInput hears besides cutter input old before result new after =
     (stream : List ℕ) → IsFedAll cutter stream
-    → (heard : List Heard) × TakesTo besides old (pieces_behind stream input) result heard new × InTurn hears before heard after
+    → (heard : List Heard) × TakesTo besides old (pieces_behind stream input) result heard new
+    × InTurn hears before heard after

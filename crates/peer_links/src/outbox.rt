@@ -1,5 +1,6 @@
 //! The lines that wait to be sent to one peer.
-ghost use Rattle.std.specs.Prelude.{◌≡◌, ◌+◌, ◌≤◌, ◌==◌, ◌&&◌, not, false, true, [], ◌∷◌, ◌++◌, length, take, drop, IfOk, IfSome, IfNone};
+ghost use Rattle.std.specs.Prelude.{◌≡◌, ◌+◌, ◌≤◌, ◌==◌, ◌&&◌, not, false, true, [], ◌∷◌, ◌++◌, length, take, drop};
+ghost use Rattle.std.specs.Prelude.{IfOk, IfSome, IfNone};
 ghost use Rattle.std.specs.List.{All};
 ghost use Rattle.entry_codec.specs.Pieces.{IsLine};
 ghost use Rattle.peer_links.specs.Outboxes.{Puts, Batches, BeginsWith, TakesOldest, IsEmpty, front_in};

@@ -14,7 +14,8 @@ use base.Fml.{Lft, Share, ftrue, flft}
 use prog.Memory.{Memory, size, align, up}
 use prog.Routine.{Routine}
 use types.Logic.{Logic, sem}
-use types.Kit.{Item, Goal, Step, step, ‵, raw, ◌⊛◌, some, later, ◌$◌, ◌∵◌, !, qed, done, keep, move, drop, use1, split, join, fsplit, fjoin, feq_i, feq_l}
+use types.Kit.{Item, Goal, Step, step, ‵, raw, ◌⊛◌, some, later, ◌$◌, ◌∵◌, !, qed, done, keep, move, drop, use1, split}
+use types.Kit.{join, fsplit, fjoin, feq_i, feq_l}
 use types.Kit.{pick, check, show, await, updating, now as at_once}
 use contract.Monad.{Fun}
 use denote.Builtin.{bool, u64, RefOf}
@@ -54,12 +55,14 @@ module _ (Z : Al) where
 
   module _ {M : Type 1} {𝓤 : Ura M} {𝓛 : Logic 𝓤} {K : Type 0} {Γ : List (Item 𝓤)} {G : Goal 𝓤 𝓛.H} where
     pub shows_fields : K → (κ : Lft) (p : ℕ × ℕ) (h : Whole.Denot)
-        → Step K 𝓛 (‵ (seen Z κ (inner_at p) h.inner) ∷ ‵ (hidden_shr Left κ h.left (left_at p).0 (left_at p).1) ∷ Γ) G (‵ (hidden_shr Whole κ h p.0 p.1) ∷ Γ) G
+        → Step K 𝓛 (‵ (seen Z κ (inner_at p) h.inner) ∷ ‵ (hidden_shr Left κ h.left (left_at p).0 (left_at p).1) ∷ Γ) G
+        (‵ (hidden_shr Whole κ h p.0 p.1) ∷ Γ) G
     shows_fields t κ p h = step (λ next.
         unhide t $ fsplit t $ fsplit t $ use1 𝓛 (‵ (seen Z κ (inner_at p) h.inner)) (id⊢ 𝓤 _) $
         -- [the first field; the other fields; the gaps between fields]
         move t (2 ∷ []) $ drop t $ move t (1 ∷ []) $ fsplit t $
-        use1 𝓛 (‵ (hidden_shr Left κ h.left (left_at p).0 (left_at p).1)) (id⊢ 𝓤 _) $ move t (1 ∷ []) $ drop t $ move t (1 ∷ []) $ next)
+        use1 𝓛 (‵ (hidden_shr Left κ h.left (left_at p).0 (left_at p).1)) (id⊢ 𝓤 _) $ move t (1 ∷ []) $ drop t $ move t
+        (1 ∷ []) $ next)
 
 module _ {M : Type 1} {𝓤 : Ura M} (𝓛 : Logic 𝓤) (at_mem : Memory → SProp 𝓤) (run : Routine → Fun 𝓤) where
   open 𝓛 use {H, A}
@@ -73,12 +76,15 @@ module _ {M : Type 1} {𝓤 : Ura M} (𝓛 : Logic 𝓤) (at_mem : Memory → SP
 
     pub Asked-goes : ent 𝓤 (sep 𝓤 (sem 𝓛 (hidden_shr Left κ n p.0 p.1)) (A.lft κ q)) (Asked.pre asking)
     Asked-goes = qed 𝓛 (‵ (hidden_shr Left κ n p.0 p.1) ∷ ‵ (flft κ q) ∷ []) ∵
-        feq_i ! (List Val) (vptr p.0 p.1 ∷ []) (vptr p.0 p.1 ∷ []) refl $ fjoin ! $ nothing ! $ move ! (1 ∷ []) $ fjoin ! $
+        feq_i ! (List Val) (vptr p.0 p.1 ∷ []) (vptr p.0 p.1 ∷ []) refl $ fjoin ! $ nothing ! $ move !
+        (1 ∷ []) $ fjoin ! $
         nothing ! $ move ! (2 ∷ []) $ join ! $ join ! $ nothing ! $ move ! (1 ∷ []) $ join ! $ done !
 
-    pub Asked-gives : (v : Val) → ent 𝓤 (Asked.post asking v) (H.⇛ (ex 𝓤 (λ (t : Bool). guard 𝓤 (v ≡ vbool t) (A.lft κ q))))
+    pub Asked-gives : (v : Val)
+        → ent 𝓤 (Asked.post asking v) (H.⇛ (ex 𝓤 (λ (t : Bool). guard 𝓤 (v ≡ vbool t) (A.lft κ q))))
     Asked-gives v = qed 𝓛 (raw (Asked.post asking v) ∷ []) ∵ updating ! $
         use1 𝓛 (later (some (λ (t : Bool). ((‵ (flft κ q) ⊛ ‵ ftrue) ⊛ ‵ (bool.own_val t (v ∷ [])))
-        ⊛ some (λ (ws : Unit {0} × Unit {0}). ‵ (lasts refuses_next.ended (κ, tt) asking.0.3 ws) ⊛ ‵ ftrue)))) (id⊢ 𝓤 _) $ await ! tt $
+        ⊛ some (λ (ws : Unit {0} × Unit {0}). ‵ (lasts refuses_next.ended (κ, tt) asking.0.3 ws) ⊛ ‵ ftrue))))
+        (id⊢ 𝓤 _) $ await ! tt $
         pick ! (λ t. split ! $ split ! $ move ! (1 ∷ []) $ feq_l ! (λ e. split ! $ at_once ! $
         show ! (λ (x : Bool). guard 𝓤 (v ≡ vbool x) (A.lft κ q)) t $ check ! (ap only e) $ keep ! (0 ∷ []) $ done !))

@@ -5,7 +5,9 @@ use Rattle.request_queue.specs.declared.request.Status.TheVariants.{Waiting, Spe
 use Rattle.site_core.specs.declared.desk.requests.Spending.{Spending}
 use Rattle.site_core.specs.declared.desk.requests.Spending.TheVariants.{Spent, Queued}
 use Rattle.site_core.specs.declared.fault.DeskError.{DeskError}
-use Rattle.site_core.specs.declared.fault.DeskError.TheVariants.{Closed, BadCount, BadMove, BadAmount, NoSuchSite, SameSite, PeerClosed, LogFull, Short, OutOfMemory, QueueFull, QueueBusy, HeldTooMuch, TimeWentBack}
+use Rattle.site_core.specs.declared.fault.DeskError.TheVariants.{Closed, BadCount, BadMove, BadAmount, NoSuchSite}
+use Rattle.site_core.specs.declared.fault.DeskError.TheVariants.{SameSite, PeerClosed, LogFull, Short, OutOfMemory}
+use Rattle.site_core.specs.declared.fault.DeskError.TheVariants.{QueueFull, QueueBusy, HeldTooMuch, TimeWentBack}
 
 -- the number of a new entry
 abbrev pub number_text : ℕ → List ℕ

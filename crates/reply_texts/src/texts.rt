@@ -1,7 +1,8 @@
 //! One function for each kind of reply, which appends its text to the current reply. On `Err` the current reply may
 //! have a part of it, and the whole replies are unchanged.
 ghost use Rattle.std.specs.Prelude.{◌≡◌, ◌≤◌, ◌++◌, length, OnOk, IsOk};
-ghost use Rattle.reply_texts.specs.Texts.{number_text, spending_text, status_text, desk_error_name, error_text, bad_command};
+ghost use Rattle.reply_texts.specs.Texts.{number_text, spending_text, status_text, desk_error_name, error_text};
+ghost use Rattle.reply_texts.specs.Texts.{bad_command};
 
 use line_streams::Replies;
 use request_queue::Status;

@@ -1,5 +1,7 @@
 -- Laws of lists, independent of queues.
-use Rattle.std.proofs.Common.{◌≡◌, ℕ, suc, ◌+◌, ◌<◌, ◌≤◌, Bool, true, false, not, cond, ◌==◌, List, [], ◌∷◌, ◌++◌, length, get_or, take, drop, map, All, filter, count_by, position, Option, Some, None, refl, sym, ap, ◌∙◌, subst, arith}
+use Rattle.std.proofs.Common.{◌≡◌, ℕ, suc, ◌+◌, ◌<◌, ◌≤◌, Bool, true, false, not, cond, ◌==◌, List, [], ◌∷◌, ◌++◌}
+use Rattle.std.proofs.Common.{length, get_or, take, drop, map, All, filter, count_by, position, Option, Some, None}
+use Rattle.std.proofs.Common.{refl, sym, ap, ◌∙◌, subst, arith}
 use Rattle.std.specs.List.{position_or_len}
 use Rattle.std.specs.Map.{lookup}
 use Rattle.std.proofs.Math.Seq.{drop-cons}
@@ -10,7 +12,8 @@ use Rattle.std.proofs.lemmas.List.Quantifiers.{position-Some}
 use Rattle.std.proofs.lemmas.List.Sums.{sum_by-cons, fails_before_first}
 
 -- an index of a list is an index of an equal list
-pub place_in : {X : Type 0} (p : X → Bool) (seen xs : List X) (place : Option ℕ) → seen ≡ xs → place ≡ position p seen → position p xs ≡ place
+pub place_in : {X : Type 0} (p : X → Bool) (seen xs : List X) (place : Option ℕ) → seen ≡ xs → place ≡ position p seen
+    → position p xs ≡ place
 place_in p seen xs place same found = ap (position p) (sym same) ∙ sym found
 
 -- x, at index i, is the first element that passes a test
@@ -20,7 +23,8 @@ pub record IsFirst {X : Type 0} (p : X → Bool) (xs : List X) (i : ℕ) (x : X)
   pub before : All (λ y. p y ≡ false) (take i xs)
   pub parts : xs ≡ take i xs ++ x ∷ drop (suc i) xs
 
-pub first_that : {X : Type 0} (p : X → Bool) (xs : List X) (i : ℕ) (x : X) → position p xs ≡ Some i → x ≡ get_or xs i x → IsFirst p xs i x
+pub first_that : {X : Type 0} (p : X → Bool) (xs : List X) (i : ℕ) (x : X) → position p xs ≡ Some i → x ≡ get_or xs i x
+    → IsFirst p xs i x
 first_that {X} p xs i x found at =
     let h = position-Some p xs i x found in
     let long : length (take i xs) ≡ i = length-take-le i xs (omega (arith, h.0)) in
@@ -29,7 +33,8 @@ first_that {X} p xs i x found at =
       passes = subst (λ (y : X). p y ≡ true) (sym at) h.1;
       before = All-from_get_or (λ y. p y ≡ false) (take i xs) x
           (λ k lt. let le : k < i = omega (arith, long, lt) in ap p (get_or-take i xs k x le) ∙ h.2 k le);
-      parts = sym (take-append-drop i xs) ∙ ap (λ (ys : List X). take i xs ++ ys) (drop-cons xs i x h.0 ∙ ap (λ (y : X). y ∷ drop (suc i) xs) (sym at));
+      parts = sym (take-append-drop i xs)
+          ∙ ap (λ (ys : List X). take i xs ++ ys) (drop-cons xs i x h.0 ∙ ap (λ (y : X). y ∷ drop (suc i) xs) (sym at));
     }
 
 is_false : (b : Bool) (n : ℕ) → cond b (Some n) None ≡ None → b ≡ false
@@ -39,29 +44,35 @@ is_false false n e = refl
 -- if there is no such element, none passes
 pub none_passes : {X : Type 0} (p : X → Bool) (xs : List X) → position p xs ≡ None → All (λ y. p y ≡ false) xs
 none_passes p xs none k d lt =
-    let past : length xs ≤ position_or_len p xs = ltb-false (position_or_len p xs) (length xs) (is_false _ (position_or_len p xs) none) in
+    let past : length xs ≤ position_or_len p xs
+    = ltb-false (position_or_len p xs) (length xs) (is_false _ (position_or_len p xs) none) in
     fails_before_first p xs k d (omega (arith, past, lt))
 
 -- the first entry with this key has its value
-pub lookup_first : {X : Type 0} (t : ℕ) (before : List (ℕ × X)) (e : ℕ × X) (after : List (ℕ × X)) → All (λ x. (x.0 == t) ≡ false) before → (e.0 == t) ≡ true
+pub lookup_first : {X : Type 0} (t : ℕ) (before : List (ℕ × X)) (e : ℕ × X) (after : List (ℕ × X))
+    → All (λ x. (x.0 == t) ≡ false) before → (e.0 == t) ≡ true
     → lookup (λ k. k == t) (before ++ e ∷ after) ≡ Some e.1
 lookup_first {X} t [] e after none is = ap (λ (b : Bool). cond b (Some e.1) (lookup (λ k. k == t) after)) is
 lookup_first {X} t (x ∷ xs) e after none is =
-    ap (λ (b : Bool). cond b (Some x.1) (lookup (λ k. k == t) (xs ++ e ∷ after))) (All-head (λ y. (y.0 == t) ≡ false) x xs none)
+    ap (λ (b : Bool). cond b (Some x.1) (lookup (λ k. k == t) (xs ++ e ∷ after)))
+    (All-head (λ y. (y.0 == t) ≡ false) x xs none)
     ∙ lookup_first t xs e after (All-tail (λ y. (y.0 == t) ≡ false) x xs none) is
 
 -- no entry has this key
-pub lookup_none : {X : Type 0} (t : ℕ) (es : List (ℕ × X)) → All (λ x. (x.0 == t) ≡ false) es → lookup (λ k. k == t) es ≡ None
+pub lookup_none : {X : Type 0} (t : ℕ) (es : List (ℕ × X)) → All (λ x. (x.0 == t) ≡ false) es
+    → lookup (λ k. k == t) es ≡ None
 lookup_none {X} t [] none = refl
 lookup_none {X} t (x ∷ xs) none =
     ap (λ (b : Bool). cond b (Some x.1) (lookup (λ k. k == t) xs)) (All-head (λ y. (y.0 == t) ≡ false) x xs none)
     ∙ lookup_none t xs (All-tail (λ y. (y.0 == t) ≡ false) x xs none)
 
 -- removing a key that no entry has leaves a list unchanged
-pub others_stay : {X : Type 0} (t : ℕ) (es : List (ℕ × X)) → All (λ x. (x.0 == t) ≡ false) es → filter (λ x. not (x.0 == t)) es ≡ es
+pub others_stay : {X : Type 0} (t : ℕ) (es : List (ℕ × X)) → All (λ x. (x.0 == t) ≡ false) es
+    → filter (λ x. not (x.0 == t)) es ≡ es
 others_stay {X} t [] none = refl
 others_stay {X} t (x ∷ xs) none =
-    ap (λ (b : Bool). cond (not b) (x ∷ filter (λ (y : ℕ × X). not (y.0 == t)) xs) (filter (λ (y : ℕ × X). not (y.0 == t)) xs)) (All-head (λ y. (y.0 == t) ≡ false) x xs none)
+    ap (λ (b : Bool). cond (not b) (x ∷ filter (λ (y : ℕ × X). not (y.0 == t)) xs)
+    (filter (λ (y : ℕ × X). not (y.0 == t)) xs)) (All-head (λ y. (y.0 == t) ≡ false) x xs none)
     ∙ ap (λ (ys : List (ℕ × X)). x ∷ ys) (others_stay t xs (All-tail (λ y. (y.0 == t) ≡ false) x xs none))
 
 is_off : (b : Bool) (n : ℕ) → cond b 1 0 + n ≡ 0 → b ≡ false
@@ -69,7 +80,8 @@ is_off true n e = absurd (omega arith)
 is_off false n e = refl
 
 -- if a key is not among the keys, no entry has it
-pub not_among : {X : Type 0} (t : ℕ) (es : List (ℕ × X)) → count_by (λ k. k == t) (map (λ e. e.0) es) ≡ 0 → All (λ x. (x.0 == t) ≡ false) es
+pub not_among : {X : Type 0} (t : ℕ) (es : List (ℕ × X)) → count_by (λ k. k == t) (map (λ e. e.0) es) ≡ 0
+    → All (λ x. (x.0 == t) ≡ false) es
 not_among {X} t [] none = All-nil (λ y. (y.0 == t) ≡ false)
 not_among {X} t (x ∷ xs) none =
     let keys : List ℕ = map (λ (e : ℕ × X). e.0) xs in
@@ -79,7 +91,8 @@ not_among {X} t (x ∷ xs) none =
     All-cons (λ y. (y.0 == t) ≡ false) x xs here (not_among t xs rest)
 
 -- without the one entry with this key
-pub others_than : {X : Type 0} (t : ℕ) (before : List (ℕ × X)) (e : ℕ × X) (after : List (ℕ × X)) → All (λ x. (x.0 == t) ≡ false) before → (e.0 == t) ≡ true
+pub others_than : {X : Type 0} (t : ℕ) (before : List (ℕ × X)) (e : ℕ × X) (after : List (ℕ × X))
+    → All (λ x. (x.0 == t) ≡ false) before → (e.0 == t) ≡ true
     → All (λ x. (x.0 == t) ≡ false) after → filter (λ x. not (x.0 == t)) (before ++ e ∷ after) ≡ before ++ after
 others_than {X} t before e after first is last =
     let keep : ℕ × X → Bool = λ x. not (x.0 == t) in

@@ -1,5 +1,6 @@
 -- What each call of a queue returns and leaves.
-use Rattle.std.specs.Prelude.{◌≡◌, ℕ, ◌<◌, ◌≤◌, true, false, nat_lt, nat_le, ◌||◌, List, ◌∷◌, ◌++◌, Option, Some, None, Result, Ok, Err, if◌then◌else◌}
+use Rattle.std.specs.Prelude.{◌≡◌, ℕ, ◌<◌, ◌≤◌, true, false, nat_lt, nat_le, ◌||◌, List, ◌∷◌, ◌++◌, Option, Some, None}
+use Rattle.std.specs.Prelude.{Result, Ok, Err, if◌then◌else◌}
 use Rattle.std.specs.List.{All, slice_get, remove}
 use Rattle.rights_types.specs.declared.limits.TheConstants.{MAX_AMOUNT}
 use Rattle.request_queue.specs.declared.queue.TheConstants.{SLOTS, LAST_TICKET}
@@ -8,7 +9,8 @@ use Rattle.request_queue.specs.declared.request.Request.{Request}
 use Rattle.request_queue.specs.declared.request.Outcome.{Outcome}
 use Rattle.request_queue.specs.declared.request.Outcome.TheVariants.{Spent, Expired}
 use Rattle.request_queue.specs.declared.request.Status.{Status}
-use Rattle.request_queue.specs.declared.request.Status.TheVariants.{Waiting, Spent as SaysSpent, Expired as SaysExpired, Unknown}
+use Rattle.request_queue.specs.declared.request.Status.TheVariants.{Waiting, Spent as SaysSpent, Expired as SaysExpired}
+use Rattle.request_queue.specs.declared.request.Status.TheVariants.{Unknown}
 use Rattle.request_queue.specs.declared.fault.QueueError.{QueueError}
 use Rattle.request_queue.specs.declared.fault.QueueError.TheVariants.{BadAmount, QueueFull}
 

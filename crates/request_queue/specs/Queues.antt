@@ -1,5 +1,6 @@
 -- A queue: the requests that wait, in order, and a finite map from tickets to unread outcomes.
-use Rattle.std.specs.Prelude.{ℕ, ◌+◌, ◌<◌, ◌≤◌, Bool, not, nat_lt, ◌==◌, List, [], ◌∷◌, ◌++◌, length, map, count_by, Option, Some, None}
+use Rattle.std.specs.Prelude.{ℕ, ◌+◌, ◌<◌, ◌≤◌, Bool, not, nat_lt, ◌==◌, List, [], ◌∷◌, ◌++◌, length, map, count_by}
+use Rattle.std.specs.Prelude.{Option, Some, None}
 use Rattle.std.specs.List.{All, filter, list_any, sum_by}
 use Rattle.std.specs.Map.{lookup}
 use Rattle.rights_types.specs.Ranges.{IsAmount}
@@ -52,11 +53,16 @@ with_request q amount deadline =
 
 -- this request ended with this outcome, and the others wait
 abbrev pub settled : QueueValue → List Request → Request → Outcome → QueueValue
-settled q others r outcome = record { waiting = others; outcomes = q.outcomes ++ (r.ticket, outcome) ∷ []; next = q.next }
+settled q others r outcome
+    = record { waiting = others; outcomes = q.outcomes ++ (r.ticket, outcome) ∷ []; next = q.next }
 
 -- the queue once the outcome of this ticket was read
 abbrev pub without : QueueValue → ℕ → QueueValue
-without q t = record { waiting = q.waiting; outcomes = filter (λ (e : ℕ × Outcome). not (e.0 == t)) q.outcomes; next = q.next }
+without q t = record {
+  waiting = q.waiting;
+  outcomes = filter (λ (e : ℕ × Outcome). not (e.0 == t)) q.outcomes;
+  next = q.next;
+}
 
 -- the tickets of what takes up a slot
 abbrev pub tickets : QueueValue → List ℕ

@@ -25,10 +25,16 @@ none_from j (TakeBack k a) is out = rw (ne_eqb k j (λ e. out (omega (arith, e, 
 pub nothing_back : (j : ℕ) (ms : List Move) → All IsMove ms → (IsSite j → ⊥) → back j ms ≡ 0
 nothing_back j [] is out = back-nil j
 nothing_back j (m ∷ ms) is out =
-    omega (arith, back-cons j m ms, none_from j m (All-head IsMove m ms is) out, nothing_back j ms (All-tail IsMove m ms is) out)
+    omega (
+      arith,
+      back-cons j m ms,
+      none_from j m (All-head IsMove m ms is) out,
+      nothing_back j ms (All-tail IsMove m ms is) out,
+    )
 
 -- what was checked at each site holds for each number
-pub back_left : (b : BookValue) (ms : List Move) → All IsMove ms → ((j : ℕ) → 1 ≤ j → j ≤ 16 → back j ms ≤ (peer b j).given - (peer b j).back)
+pub back_left : (b : BookValue) (ms : List Move) → All IsMove ms
+    → ((j : ℕ) → 1 ≤ j → j ≤ 16 → back j ms ≤ (peer b j).given - (peer b j).back)
     → (j : ℕ) → back j ms ≤ (peer b j).given - (peer b j).back
 back_left b ms is tested zero = omega (arith, nothing_back 0 ms is (λ s. omega (arith, s.0)))
 back_left b ms is tested (suc i) =
@@ -45,7 +51,8 @@ pub other_account : (b : BookValue) (o : ℕ) → o ≢ b.me → account b o ≡
 other_account b o ne = rw (ne_eqb o b.me ne) refl
 
 -- moves with no cause to refuse them
-pub unrefused : (b : BookValue) (ms : List Move) → list_any (names_above (sites b)) ms ≡ false → list_any (names b.me) ms ≡ false → list_any (gives_to_closed b) ms ≡ false
+pub unrefused : (b : BookValue) (ms : List Move) → list_any (names_above (sites b)) ms ≡ false
+    → list_any (names b.me) ms ≡ false → list_any (gives_to_closed b) ms ≡ false
     → covers (held_by b) ms ≡ true → check_fault b ms ≡ None
 unfolding check_fault
 unrefused b ms within others unclosed covered = rw (within, others, unclosed, covered) refl
@@ -53,4 +60,5 @@ unrefused b ms within others unclosed covered = rw (within, others, unclosed, co
 -- a site may reclaim from another one, whatever it holds
 pub take_back_unrefused : (b : BookValue) (j n : ℕ) → j ≤ sites b → j ≢ b.me → check_fault b (TakeBack j n ∷ []) ≡ None
 take_back_unrefused b j n high ne =
-    unrefused b (TakeBack j n ∷ []) (rw (le-ltb (sites b) j high) refl) (rw (ne_eqb j b.me ne) refl) refl (rw (le-ltb (held_by b) 0 (omega arith)) refl)
+    unrefused b (TakeBack j n ∷ []) (rw (le-ltb (sites b) j high) refl) (rw (ne_eqb j b.me ne) refl) refl
+    (rw (le-ltb (held_by b) 0 (omega arith)) refl)

@@ -11,7 +11,8 @@ use Rattle.rights_book.specs.Books.{BookValue, sites, held_by}
 use Rattle.rights_book.specs.Checks.{names_above, gives_to_closed, check_fault}
 
 -- no cause was found: neither this one nor one of the others
-no_cause : {E : Type 0} (b : Bool) (x : E) (others : Option E) → cond b (Some x) others ≡ None → (b ≡ false) × (others ≡ None)
+no_cause : {E : Type 0} (b : Bool) (x : E) (others : Option E) → cond b (Some x) others ≡ None
+    → (b ≡ false) × (others ≡ None)
 no_cause true x others h = absurd cc
 no_cause false x others h = (refl, h)
 
@@ -40,8 +41,10 @@ one_named n (CloseAt f) is h = tt
 one_named n (TakeBack j a) is h = (is.0.0, ltb-false n j h)
 
 -- moves that name no site above n name the sites 1 to n
-pub named_within : (n : ℕ) (ms : List Move) → All IsMove ms → list_any (names_above n) ms ≡ false → All (NamesWithin n) ms
+pub named_within : (n : ℕ) (ms : List Move) → All IsMove ms → list_any (names_above n) ms ≡ false
+    → All (NamesWithin n) ms
 named_within n [] is h = All-nil (NamesWithin n)
 named_within n (m ∷ ms) is h =
     let p = or_parts (names_above n m) (list_any (names_above n) ms) h in
-    All-cons (NamesWithin n) m ms (one_named n m (All-head IsMove m ms is) p.0) (named_within n ms (All-tail IsMove m ms is) p.1)
+    All-cons (NamesWithin n) m ms (one_named n m (All-head IsMove m ms is) p.0)
+    (named_within n ms (All-tail IsMove m ms is) p.1)

@@ -13,7 +13,8 @@ use Rattle.rights_book.proofs.CallLaws.{other_account}
 use Rattle.rights_book.proofs.CheckLaws.{IsChecked}
 use Rattle.rights_book.proofs.BookLaws.{IsApplied, received_kept, received_risen}
 
-pub own_leaves : (old new : BookValue) (ms : List Move) → IsBook old → IsChecked old ms → old.own.closed ≡ false → Writes old ms new → OwnLeaves old ms new
+pub own_leaves : (old new : BookValue) (ms : List Move) → IsBook old → IsChecked old ms → old.own.closed ≡ false
+    → Writes old ms new → OwnLeaves old ms new
 own_leaves old new ms is checked unclosed w =
     let received = received_kept old new ms w in
     record {
@@ -45,10 +46,12 @@ own_leaves old new ms is checked unclosed w =
 account_me : (b : BookValue) (k : ℕ) → k ≡ b.me → account b k ≡ b.own
 account_me b k e = rw (eq-eqb k b.me e) refl
 
-pub apply_leaves : (old new : BookValue) (o : ℕ) (e : EntryValue) → IsBook old → o ≢ old.me → (peer old o).log.closed ≡ false → e.prev ≡ (peer old o).log.end
+pub apply_leaves : (old new : BookValue) (o : ℕ) (e : EntryValue) → IsBook old → o ≢ old.me
+    → (peer old o).log.closed ≡ false → e.prev ≡ (peer old o).log.end
     → Applies old o e.moves new → IsApplied old o e.moves new → ApplyLeaves old o e new
 apply_leaves old new o e is other unclosed next a f =
-    let received : received_by new ≡ received_by old + to old.me e.moves = received_risen old new o e.moves is other a f in
+    let received : received_by new ≡ received_by old + to old.me e.moves
+    = received_risen old new o e.moves is other a f in
     record {
       same_me = a.same_me;
       same_sites = a.same_sites;
@@ -56,7 +59,8 @@ apply_leaves old new o e is other unclosed next a f =
       same_given_to = f.given_same;
       same_back = f.back_same;
       applied = omega (arith, ap (λ (l : Account). l.end) f.log_here, next);
-      closed = ap (λ (l : Account). l.closed) (other_account new o (λ q. other (q ∙ a.same_me)) ∙ f.log_here) ∙ (rw unclosed refl);
+      closed = ap (λ (l : Account). l.closed) (other_account new o (λ q. other (q ∙ a.same_me)) ∙ f.log_here)
+          ∙ (rw unclosed refl);
       received_from = f.received_here;
       receives = received;
       holds = omega (
@@ -71,7 +75,8 @@ apply_leaves old new o e is other unclosed next a f =
       same_applied = f.log_other;
       same_account = λ k ne. elim (cases_eq k old.me) [
         | inl here ↦ account_me new k (here ∙ sym a.same_me) ∙ a.same_own ∙ sym (account_me old k here)
-        | inr there ↦ other_account new k (λ q. there (q ∙ a.same_me)) ∙ f.log_other k ne ∙ sym (other_account old k there)
+        | inr there ↦ other_account new k (λ q. there (q ∙ a.same_me)) ∙ f.log_other k ne
+            ∙ sym (other_account old k there)
       ];
       same_received_from = f.received_other;
     }

@@ -36,7 +36,8 @@ held_by b = (b.own.issued + received_by b + b.own.back) - (b.own.given + b.own.s
 
 -- the rights that it knows of site j
 abbrev pub known_by : BookValue → ℕ → ℤ
-known_by b j = let a = account b j in let p = peer b j in pos (a.issued + p.gifts + p.given + a.back) -ℤ pos (a.given + a.spent)
+known_by b j = let a = account b j in let p = peer b j in
+    pos (a.issued + p.gifts + p.given + a.back) -ℤ pos (a.given + a.spent)
 
 -- the book of site me among n, at the start
 abbrev pub new_book : ℕ → ℕ → BookValue

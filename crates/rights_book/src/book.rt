@@ -1,9 +1,11 @@
 //! The book of rights of one site.
-ghost use Rattle.std.specs.Prelude.{◌≡◌, ◌≢◌, ℕ, ◌+◌, ◌*◌, ◌-◌, ◌≤◌, pos, neg_ℤ, ◌≤ℤ◌, false, List, [], ◌∷◌, ◌++◌, length, IfOk, MatchResult};
+ghost use Rattle.std.specs.Prelude.{◌≡◌, ◌≢◌, ℕ, ◌+◌, ◌*◌, ◌-◌, ◌≤◌, pos, neg_ℤ, ◌≤ℤ◌, false, List, [], ◌∷◌, ◌++◌};
+ghost use Rattle.std.specs.Prelude.{length, IfOk, MatchResult};
 ghost use Rattle.std.specs.List.{list_any};
 ghost use Rattle.rights_types.specs.Entries.{EntryValue};
 ghost use Rattle.rights_types.specs.Chains.{moves_of, end, is_closed, AddsEntry};
-ghost use Rattle.rights_types.specs.Rights.{issued, spent, out, to, taken_back, back, held, received, sum_sites, IsNeverShort};
+ghost use Rattle.rights_types.specs.Rights.{issued, spent, out, to, taken_back, back, held, received, sum_sites};
+ghost use Rattle.rights_types.specs.Rights.{IsNeverShort};
 
 use crate::account::Account;
 use crate::check::{any_above, covers, gifts_to};
@@ -43,7 +45,8 @@ impl<A: Allocator> Model for Book<A> {
 }
 
 impl<A: Allocator> Book<A> {
-    ghost use Rattle.rights_book.specs.Books.{sites, peer, account, received_by, held_by, known_by, new_book, Writes, Applies, IsBook};
+    ghost use Rattle.rights_book.specs.Books.{sites, peer, account, received_by, held_by, known_by, new_book, Writes};
+    ghost use Rattle.rights_book.specs.Books.{Applies, IsBook};
     ghost use Rattle.rights_book.specs.Leaves.{OwnLeaves, ApplyLeaves};
     ghost use Rattle.rights_book.specs.Checks.{gives_to_closed, check_fault};
     ghost use Rattle.rights_book.specs.Known.{logs_at, known};
@@ -159,7 +162,8 @@ impl<A: Allocator> Book<A> {
         ensures value { result ≡ (peer self.now origin).log.end }
         ensures range { result ≤ MAX_NUMBER }
         ensures itself { origin ≡ self.now.me → result ≡ 0 }
-        ensures stands { (applied : ℕ → List EntryValue) → StandsForApplied applied self.now → result ≡ end (applied origin) }
+        ensures stands { (applied : ℕ → List EntryValue) → StandsForApplied applied self.now
+            → result ≡ end (applied origin) }
     {
         self.peer(origin).log.end
     }

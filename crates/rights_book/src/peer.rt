@@ -104,7 +104,8 @@ fn add_move_gift(peers: &mut [Peer], origin: SiteId, m: &Move)
 fn add_gift(peers: &mut [Peer], origin: SiteId, peer: SiteId, amount: Amount)
     requires { (j : ℕ) → 1 ≤ j → j ≤ length peers.old → (at_site peers.old j no_peer).gifts ≤ MAX_RECEIVED + MAX_TOTAL }
     ensures { (j : ℕ) → 1 ≤ j → j ≤ length peers.old →
-        at_site peers.new j no_peer ≡ with_gift (at_site peers.old j no_peer) origin j (if peer == j then amount else 0) }
+        at_site peers.new j no_peer
+        ≡ with_gift (at_site peers.old j no_peer) origin j (if peer == j then amount else 0) }
 {
     if peer != origin && peer.index() < peers.len() {
         peers[peer.index()].gifts += amount.value();

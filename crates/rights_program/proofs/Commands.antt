@@ -13,33 +13,49 @@ use Rattle.rights_program.specs.Endings.{Ending, MayEnd, reads}
 use Rattle.rights_program.specs.Scripts.{Answered, ending_of_script}
 use Rattle.rights_program.specs.declared.fault.ProgramError.TheVariants.{BadCommandLine}
 use Rattle.rights_program.specs.declared.version.TheConstants.{VERSION}
-use Rattle.rights_program.proofs.Endings.{script_may_stop, script_may_be_done, script_reads, script_not_bad, site_may_stop, site_may_be_done, site_reads, site_no_script, site_no_nothing, site_not_bad, help_may_stop, help_may_be_done, help_no_script, help_no_nothing, version_may_stop, version_may_be_done}
+use Rattle.rights_program.proofs.Endings.{script_may_stop, script_may_be_done, script_reads, script_not_bad}
+use Rattle.rights_program.proofs.Endings.{site_may_stop, site_may_be_done, site_reads, site_no_script, site_no_nothing}
+use Rattle.rights_program.proofs.Endings.{site_not_bad, help_may_stop, help_may_be_done, help_no_script}
+use Rattle.rights_program.proofs.Endings.{help_no_nothing, version_may_stop, version_may_be_done}
 
-pub script_ends : (a : Asked) (ended : Result (Unit {0}) ConversationError) → a ≡ script → MayEnd a (ending_of_script ended)
+pub script_ends : (a : Asked) (ended : Result (Unit {0}) ConversationError) → a ≡ script
+    → MayEnd a (ending_of_script ended)
 script_ends a (Ok done) same = script_may_be_done a same
 script_ends a (Err cause) same = script_may_stop a cause same
 
-pub command_may_end : (A : Type 0) (given left held holds : Option (List ℕ)) (a : Asked) (command : Command) (ending : Ending)
+pub command_may_end : (A : Type 0) (given left held holds : Option (List ℕ)) (a : Asked) (command : Command)
+    (ending : Ending)
     → MayAnswer a (Ok command) → Does A command given left held holds ending → MayEnd a ending
-command_may_end A given left held holds a Sim ending same (ended, is, talk, ends) = subst (λ e. MayEnd a e) (sym is) (script_ends a ended same)
-command_may_end A given left held holds a (Run config) ending runs (Ok done, is) = subst (λ e. MayEnd a e) (sym is) (site_may_be_done a config runs)
-command_may_end A given left held holds a (Run config) ending runs (Err cause, is) = subst (λ e. MayEnd a e) (sym is) (site_may_stop a config cause runs)
+command_may_end A given left held holds a Sim ending same (ended, is, talk, ends)
+    = subst (λ e. MayEnd a e) (sym is) (script_ends a ended same)
+command_may_end A given left held holds a (Run config) ending runs (Ok done, is)
+    = subst (λ e. MayEnd a e) (sym is) (site_may_be_done a config runs)
+command_may_end A given left held holds a (Run config) ending runs (Err cause, is)
+    = subst (λ e. MayEnd a e) (sym is) (site_may_stop a config cause runs)
 command_may_end A given left held holds a (Help text) (Ok done) wants printed = help_may_be_done a wants
-command_may_end A given left held holds a (Help text) (Err fault) wants (is, front) = subst (λ f. MayEnd a (Err f)) (sym is) (help_may_stop a wants)
+command_may_end A given left held holds a (Help text) (Err fault) wants (is, front)
+    = subst (λ f. MayEnd a (Err f)) (sym is) (help_may_stop a wants)
 command_may_end A given left held holds a Version (Ok done) same printed = version_may_be_done a same
-command_may_end A given left held holds a Version (Err fault) same (is, front) = subst (λ f. MayEnd a (Err f)) (sym is) (version_may_stop a same)
+command_may_end A given left held holds a Version (Err fault) same (is, front)
+    = subst (λ f. MayEnd a (Err f)) (sym is) (version_may_stop a same)
 
-pub script_answered : (A : Type 0) (given left held holds : Option (List ℕ)) (a : Asked) (command : Command) (ending : Ending)
-    → MayAnswer a (Ok command) → Does A command given left held holds ending → a ≡ script → Answered A given left held holds ending
+pub script_answered : (A : Type 0) (given left held holds : Option (List ℕ)) (a : Asked) (command : Command)
+    (ending : Ending)
+    → MayAnswer a (Ok command) → Does A command given left held holds ending → a ≡ script
+    → Answered A given left held holds ending
 script_answered A given left held holds a Sim ending may does same = does
-script_answered A given left held holds a (Run config) ending runs does same = absurd (site_no_script a config runs same)
+script_answered A given left held holds a (Run config) ending runs does same
+    = absurd (site_no_script a config runs same)
 script_answered A given left held holds a (Help text) ending wants does same = absurd (help_no_script a wants same)
 script_answered A given left held holds a Version ending is does same = cc
 
-pub version_printed : (A : Type 0) (given left held holds : Option (List ℕ)) (a : Asked) (command : Command) (ending : Ending)
-    → MayAnswer a (Ok command) → Does A command given left held holds ending → a ≡ version → Prints held holds VERSION.now ending
+pub version_printed : (A : Type 0) (given left held holds : Option (List ℕ)) (a : Asked) (command : Command)
+    (ending : Ending)
+    → MayAnswer a (Ok command) → Does A command given left held holds ending → a ≡ version
+    → Prints held holds VERSION.now ending
 version_printed A given left held holds a Sim ending may does same = cc
-version_printed A given left held holds a (Run config) ending runs does same = absurd (subst (λ a. RunsSite a config) same runs)
+version_printed A given left held holds a (Run config) ending runs does same
+    = absurd (subst (λ a. RunsSite a config) same runs)
 version_printed A given left held holds a (Help text) ending wants does same = absurd (subst WantsHelp same wants)
 version_printed A given left held holds a Version ending is does same = does
 
@@ -49,7 +65,8 @@ none_refused a words.Refused h same = subst MayRefuse same h
 none_refused a words.OutOfMemory h same = h same
 
 -- only a script and a site read
-pub text_where_none_reads : (a : Asked) (command : Command) → MayAnswer a (Ok command) → reads a ≡ false → IsText command
+pub text_where_none_reads : (a : Asked) (command : Command) → MayAnswer a (Ok command) → reads a ≡ false
+    → IsText command
 text_where_none_reads a Sim same none = absurd (script_reads a same none)
 text_where_none_reads a (Run config) runs none = absurd (site_reads a config runs none)
 text_where_none_reads a (Help text) wants none = tt
@@ -74,7 +91,15 @@ command_not_bad A given left held holds Version (Err fault) (is, front) bad = cc
 
 pub did_script : (A : Type 0) (given left held holds : Option (List ℕ)) (command : Command) (ending : Ending)
     → command ≡ Sim → Answered A given left held holds ending → Does A command given left held holds ending
-did_script A given left held holds command ending is done = subst (λ k. Does A k given left held holds ending) (sym is) done
+did_script A given left held holds command ending is done
+    = subst (λ k. Does A k given left held holds ending) (sym is) done
 
 -- how each command ends
-pub ruleset commands = (command_may_end, script_answered, version_printed, text_where_none_reads, nothing_is_no_command, command_not_bad)
+pub ruleset commands = (
+  command_may_end,
+  script_answered,
+  version_printed,
+  text_where_none_reads,
+  nothing_is_no_command,
+  command_not_bad,
+)

@@ -7,7 +7,9 @@ use Rattle.rights_program.specs.Endings.{MayBeDone, MayStop, reads}
 use Rattle.rights_program.specs.Faults.{fault_of_script, fault_of_site, fault_of_words, status_of}
 use Rattle.site_words.specs.Settings.{Settings}
 use Rattle.site_words.specs.Words.{MayAnswer, MayRefuse, RunsSite, WantsHelp}
-use Rattle.rights_program.specs.declared.fault.ProgramError.TheVariants.{BadCommandLine, CannotCreateStartFile, CannotListen, OutOfMemory, ReadFailed, StartedBefore, TooManyLines, WriteFailed}
+use Rattle.rights_program.specs.declared.fault.ProgramError.TheVariants.{BadCommandLine, CannotCreateStartFile}
+use Rattle.rights_program.specs.declared.fault.ProgramError.TheVariants.{CannotListen, OutOfMemory, ReadFailed}
+use Rattle.rights_program.specs.declared.fault.ProgramError.TheVariants.{StartedBefore, TooManyLines, WriteFailed}
 use Rattle.rights_program.specs.declared.fault.ProgramError.{ProgramError}
 use Rattle.site_words.specs.declared.fault.SiteFault.{SiteFault}
 use Rattle.site_words.specs.declared.fault.SiteFault.TheVariants as site_fault
@@ -145,4 +147,22 @@ pub version_may_be_done : (a : Asked) → a ≡ version → MayBeDone a
 version_may_be_done a same = subst MayBeDone (sym same) tt
 
 -- how each command may end
-pub ruleset endings = (words_may_stop, memory_may_stop, script_may_stop, script_reads, script_not_bad, site_may_stop, site_may_be_done, site_reads, site_no_script, site_no_nothing, site_not_bad, help_may_stop, help_may_be_done, help_no_script, help_no_nothing, version_may_stop, version_may_be_done)
+pub ruleset endings = (
+  words_may_stop,
+  memory_may_stop,
+  script_may_stop,
+  script_reads,
+  script_not_bad,
+  site_may_stop,
+  site_may_be_done,
+  site_reads,
+  site_no_script,
+  site_no_nothing,
+  site_not_bad,
+  help_may_stop,
+  help_may_be_done,
+  help_no_script,
+  help_no_nothing,
+  version_may_stop,
+  version_may_be_done,
+)

@@ -13,7 +13,8 @@ use Rattle.site_words.specs.declared.words.WordsFault.TheVariants as words
 pub none_ran : (A : Type 0) (given held : Option (List ℕ)) → Answered A given given held held (Err NoMemory)
 none_ran A given held = let ran = nothing_ran A given held in (Err script_fault.OutOfMemory, refl, ran.0, ran.1)
 
-pub none_answered : (A : Type 0) (given held : Option (List ℕ)) (asked : Asked) (fault : WordsFault) → MayAnswer asked (Err fault) → asked ≡ script
+pub none_answered : (A : Type 0) (given held : Option (List ℕ)) (asked : Asked) (fault : WordsFault)
+    → MayAnswer asked (Err fault) → asked ≡ script
     → Answered A given given held held (Err (fault_of_words fault))
 none_answered A given held asked words.Refused h same = absurd (subst MayRefuse same h)
 none_answered A given held asked words.OutOfMemory h same = none_ran A given held

@@ -21,9 +21,11 @@ Prints held holds text (Ok done) = Appends held holds text
 Prints held holds text (Err fault) = (fault ≡ WriteFailed) × FallsShort held holds text
 
 -- a script is answered, or the program ends as its site does, or a help text or the version is printed
-abbrev pub Does : Type 0 → Command → Option (List ℕ) → Option (List ℕ) → Option (List ℕ) → Option (List ℕ) → Ending → Type 0
+abbrev pub Does : Type 0 → Command → Option (List ℕ) → Option (List ℕ) → Option (List ℕ) → Option (List ℕ)
+    → Ending → Type 0
 Does A Sim given left held holds ending = Answered A given left held holds ending
-Does A (Run config) given left held holds ending = (ended : Result (Unit {0}) SiteFault) × (ending ≡ ending_of_site ended)
+Does A (Run config) given left held holds ending = (ended : Result (Unit {0}) SiteFault)
+    × (ending ≡ ending_of_site ended)
 Does A (Help text) given left held holds ending = Prints held holds text ending
 Does A Version given left held holds ending = Prints held holds VERSION.now ending
 

@@ -1,5 +1,6 @@
 -- How the program ends.
-use Rattle.std.specs.Prelude.{◌≡◌, ◌==◌, ◌⊎◌, ℕ, Bool, true, false, List, [], length, ⊤, Option, Result, Ok, Err, OnOk, OnErr}
+use Rattle.std.specs.Prelude.{◌≡◌, ◌==◌, ◌⊎◌, ℕ, Bool, true, false, List, [], length, ⊤, Option, Result, Ok, Err, OnOk}
+use Rattle.std.specs.Prelude.{OnErr}
 use Rattle.std.specs.Io.KnownBytes.{Appends}
 use Rattle.line_streams.specs.Fronts.{FallsShort}
 use Rattle.line_streams.specs.declared.write.OutputError.{OutputError}
@@ -9,7 +10,9 @@ use Rattle.site_words.specs.Settings.{Settings}
 use Rattle.site_words.specs.Words.{MayRefuse, RunsSite, WantsHelp}
 use Rattle.rights_program.specs.declared.fault.ProgramError.{ProgramError}
 use Rattle.rights_program.specs.declared.run.Ended.{Ended}
-use Rattle.rights_program.specs.declared.fault.ProgramError.TheVariants.{BadCommandLine, CannotCreateStartFile, CannotListen, OutOfMemory, StartedBefore, WriteFailed}
+use Rattle.rights_program.specs.declared.fault.ProgramError.TheVariants.{BadCommandLine, CannotCreateStartFile}
+use Rattle.rights_program.specs.declared.fault.ProgramError.TheVariants.{CannotListen, OutOfMemory, StartedBefore}
+use Rattle.rights_program.specs.declared.fault.ProgramError.TheVariants.{WriteFailed}
 
 -- done, or stopped by a fault
 abbrev pub Ending : Type 0

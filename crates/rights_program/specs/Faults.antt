@@ -3,7 +3,9 @@ use Rattle.std.specs.Prelude.{ℕ, List, [], ◌∷◌, ◌++◌, codes}
 use Rattle.std.specs.declared.io.ErrorKind.{ErrorKind}
 use Rattle.std.specs.declared.io.ErrorKind.TheVariants.{InvalidData}
 use Rattle.rights_program.specs.declared.fault.ProgramError.{ProgramError}
-use Rattle.rights_program.specs.declared.fault.ProgramError.TheVariants.{BadCommandLine, CannotCreateStartFile, CannotListen, OutOfMemory, ReadFailed, StartedBefore, TooManyLines, WriteFailed}
+use Rattle.rights_program.specs.declared.fault.ProgramError.TheVariants.{BadCommandLine, CannotCreateStartFile}
+use Rattle.rights_program.specs.declared.fault.ProgramError.TheVariants.{CannotListen, OutOfMemory, ReadFailed}
+use Rattle.rights_program.specs.declared.fault.ProgramError.TheVariants.{StartedBefore, TooManyLines, WriteFailed}
 use Rattle.site_words.specs.declared.words.WordsFault.{WordsFault}
 use Rattle.site_words.specs.declared.words.WordsFault.TheVariants as words
 use Rattle.site_words.specs.declared.fault.SiteFault.{SiteFault}

@@ -81,11 +81,13 @@ pub fn run_arguments<
     requires { F.IsAlwaysCallable run }
     ensures ends { (ending : Result (Unit {0}) ProgramError) × MayEnd (asked_by (arguments words.now)) ending
         × (asked_by (arguments words.now) ≡ script
-        → Answered Global (R.remaining reader.old) (R.remaining reader.new) (W.contents writer.old) (W.contents writer.new) ending)
+        → Answered Global (R.remaining reader.old) (R.remaining reader.new) (W.contents writer.old)
+        (W.contents writer.new) ending)
         × (asked_by (arguments words.now) ≡ version → ending ≢ Err ProgramError.OutOfMemory
         → Prints (W.contents writer.old) (W.contents writer.new) VERSION_LINE.now ending)
         × EndsWith result (E.contents errors.old) (E.contents errors.new) ending }
-    ensures refused { result.status ≡ 2 → MayRefuse (asked_by (arguments words.now)) × (reader.new ≡ reader.old) × (writer.new ≡ writer.old) }
+    ensures refused { result.status ≡ 2 → MayRefuse (asked_by (arguments words.now)) × (reader.new ≡ reader.old)
+        × (writer.new ≡ writer.old) }
     ensures unread { reads (asked_by (arguments words.now)) ≡ false → reader.new ≡ reader.old }
     ensures unwritten { asked_by (arguments words.now) ≡ nothing → writer.new ≡ writer.old }
     ensures quiet { result.status ≡ 0 → errors.new ≡ errors.old }
@@ -107,7 +109,8 @@ pub fn run_given<
     E: Write,
 >(alloc: Global, run: F, env: &V, reader: &mut R, writer: &mut W, errors: &mut E) -> Ended
     requires { F.IsAlwaysCallable run }
-    ensures { (ending : Result (Unit {0}) ProgramError) × EndsWith result (E.contents errors.old) (E.contents errors.new) ending }
+    ensures { (ending : Result (Unit {0}) ProgramError)
+        × EndsWith result (E.contents errors.old) (E.contents errors.new) ending }
 {
     match given_words(env) {
         Ok(words) => run_arguments(alloc, run, &words, reader, writer, errors),

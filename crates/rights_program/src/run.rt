@@ -50,7 +50,8 @@ fn carry_out<F: FnOnce(Config, &mut R, &mut W) -> Result<(), SiteFault>, R: Read
     writer: &mut W,
 ) -> Result<(), ProgramError>
     requires { F.IsAlwaysCallable run }
-    ensures does { Does Global command (R.remaining reader.old) (R.remaining reader.new) (W.contents writer.old) (W.contents writer.new) result }
+    ensures does { Does Global command (R.remaining reader.old) (R.remaining reader.new) (W.contents writer.old)
+        (W.contents writer.new) result }
     ensures unread { IsText command → reader.new ≡ reader.old }
 {
     match command {
@@ -73,7 +74,8 @@ fn run_command<F: FnOnce(Config, &mut R, &mut W) -> Result<(), SiteFault>, R: Re
     requires { F.IsAlwaysCallable run }
     ensures may { MayEnd (asked_by (texts words.now)) result }
     ensures answered { asked_by (texts words.now) ≡ script
-        → Answered Global (R.remaining reader.old) (R.remaining reader.new) (W.contents writer.old) (W.contents writer.new) result }
+        → Answered Global (R.remaining reader.old) (R.remaining reader.new) (W.contents writer.old)
+        (W.contents writer.new) result }
     ensures version { asked_by (texts words.now) ≡ version
         → Prints (W.contents writer.old) (W.contents writer.new) VERSION_LINE.now result }
     ensures unread { reads (asked_by (texts words.now)) ≡ false → reader.new ≡ reader.old }
@@ -98,11 +100,13 @@ pub fn run_words<
     // failed write may have stopped that.
     ensures ends { (ending : Result (Unit {0}) ProgramError) × MayEnd (asked_by (texts words.now)) ending
         × (asked_by (texts words.now) ≡ script
-        → Answered Global (R.remaining reader.old) (R.remaining reader.new) (W.contents writer.old) (W.contents writer.new) ending)
+        → Answered Global (R.remaining reader.old) (R.remaining reader.new) (W.contents writer.old)
+        (W.contents writer.new) ending)
         × (asked_by (texts words.now) ≡ version
         → Prints (W.contents writer.old) (W.contents writer.new) VERSION_LINE.now ending)
         × EndsWith result (E.contents errors.old) (E.contents errors.new) ending }
-    ensures refused { result.status ≡ 2 → MayRefuse (asked_by (texts words.now)) × (reader.new ≡ reader.old) × (writer.new ≡ writer.old) }
+    ensures refused { result.status ≡ 2 → MayRefuse (asked_by (texts words.now)) × (reader.new ≡ reader.old)
+        × (writer.new ≡ writer.old) }
     ensures unread { reads (asked_by (texts words.now)) ≡ false → reader.new ≡ reader.old }
     ensures unwritten { asked_by (texts words.now) ≡ nothing → writer.new ≡ writer.old }
     ensures quiet { result.status ≡ 0 → errors.new ≡ errors.old }

@@ -1,5 +1,6 @@
 -- Each run of the protocol as a run of the counter.
-use Rattle.std.proofs.Common.{◌≡◌, ℕ, ◌-◌, inl, inr, Bool, true, false, cond, eqb, List, [], ◌∷◌, ◌++◌, arith, refl, ap, ◌∙◌, subst}
+use Rattle.std.proofs.Common.{◌≡◌, ℕ, ◌-◌, inl, inr, Bool, true, false, cond, eqb, List, [], ◌∷◌, ◌++◌, arith, refl, ap}
+use Rattle.std.proofs.Common.{◌∙◌, subst}
 use Rattle.std.specs.Prelude.{map}
 use Rattle.rights_types.specs.Chains.{moves_of}
 use Rattle.rights_types.specs.Rights.{issued, to, back}
@@ -25,14 +26,17 @@ is_same old new same = λ t. record { R = λ i j. same.R i j t; U = λ i. same.U
 same_self : (c : Counter) → SameCounter c c
 same_self c = record { R = λ i j. refl; U = λ i. refl }
 
-then_run : (n : ℕ) (ops more : List Operation) (old mid new : Counter) → CounterRun n ops old mid → CounterRun n more mid new → CounterRun n (ops ++ more) old new
+then_run : (n : ℕ) (ops more : List Operation) (old mid new : Counter) → CounterRun n ops old mid
+    → CounterRun n more mid new → CounterRun n (ops ++ more) old new
 then_run n [] more old mid new run rest = subst (λ c. CounterRun n more c new) (is_same old mid run) rest
-then_run n (op ∷ ops) more old mid new run rest = (run.0, (run.1.0, run.1.1, then_run n ops more run.1.0 mid new run.1.2 rest))
+then_run n (op ∷ ops) more old mid new run rest
+    = (run.0, (run.1.0, run.1.1, then_run n ops more run.1.0 mid new run.1.2 rest))
 
 by_site : ℕ → Move → Operation
 by_site s m = record { by = s; move = m }
 
-moves_run : (n s : ℕ) (ms : List Move) (old new : Counter) → IsSiteOf n s → Operate n s ms old new → CounterRun n (map (by_site s) ms) old new
+moves_run : (n s : ℕ) (ms : List Move) (old new : Counter) → IsSiteOf n s → Operate n s ms old new
+    → CounterRun n (map (by_site s) ms) old new
 unfolding by_site
 moves_run n s [] old new site run = run
 moves_run n s (m ∷ ms) old new site run = (site, (run.0, run.1, moves_run n s ms run.0 new site run.2))
@@ -43,19 +47,29 @@ abbrev RunsTo : Lists → Lists → Type 0
 RunsTo old new = (ops : List Operation) × CounterRun old.count ops (state_of old) (state_of new)
 
 step_runs : (old : Lists) (change : Change) (new : Lists) → Invariant old → Step old change new → RunsTo old new
-step_runs old (Append s ms) new kept step =
-    (map (by_site s) ms, moves_run old.count s ms (state_of old) (state_of new) step.site (step_operates old (Append s ms) new kept step).state)
+step_runs old (Append s ms) new kept step = (
+  map (by_site s) ms,
+  moves_run old.count s ms (state_of old) (state_of new) step.site
+      (step_operates old (Append s ms) new kept step).state,
+)
 step_runs old (Offer s o e) new kept step = ([], step_operates old (Offer s o e) new kept step)
 step_runs old (Take s o) new kept step = elim (step_operates old (Take s o) new kept step) [
   | inl same ↦ ([], same)
   | inr back ↦ (
     map (by_site s) (TakeBack o back.0 ∷ []),
-    moves_run old.count s (TakeBack o back.0 ∷ []) (state_of old) (state_of new) step.site (state_of new, back.1, same_self (state_of new)),
+    moves_run old.count s (TakeBack o back.0 ∷ []) (state_of old) (state_of new) step.site (
+      state_of new,
+      back.1,
+      same_self (state_of new),
+    ),
   )
 ]
 step_runs old (CloseSite s heir) new kept step =
-    let ms : List Move = closing_moves old.count s (old.log s) (old.applied s) heir in
-    (map (by_site s) ms, moves_run old.count s ms (state_of old) (state_of new) step.site (step_operates old (CloseSite s heir) new kept step).state)
+    let ms : List Move = closing_moves old.count s (old.log s) (old.applied s) heir in (
+      map (by_site s) ms,
+      moves_run old.count s ms (state_of old) (state_of new) step.site
+          (step_operates old (CloseSite s heir) new kept step).state,
+    )
 step_runs old Nothing new kept step = ([], step_operates old Nothing new kept step)
 
 step_count : (old : Lists) (change : Change) (new : Lists) → Step old change new → new.count ≡ old.count
@@ -66,7 +80,8 @@ step_count old (CloseSite s heir) new step = step.others.count
 step_count old Nothing new step = step.count
 
 runs_to : (old : Lists) (changes : List Change) (new : Lists) → Invariant old → Runs old changes new → RunsTo old new
-runs_to old [] new kept run = ([], same_counter (λ k. moves_of (old.log k)) (λ k. moves_of (new.log k)) (λ k. ap moves_of (run.sites k).log))
+runs_to old [] new kept run
+    = ([], same_counter (λ k. moves_of (old.log k)) (λ k. moves_of (new.log k)) (λ k. ap moves_of (run.sites k).log))
 runs_to old (change ∷ changes) new kept run =
     let mid : Lists = run.0 in
     let first : RunsTo old mid = step_runs old change mid kept run.1 in
@@ -85,11 +100,19 @@ empty_cell i j = either (eqb j i) (issued []) (to j [] - back j []) issued-nil (
 empty_start : (n : ℕ) (w : Lists) → Start n w → EmptyCounter (state_of w)
 empty_start n w start =
     let none : (o : ℕ) → moves_of (w.log o) ≡ [] = λ o. ap moves_of (start.log o) ∙ moves_of-nil in
-    let nothing : SameCounter (counter_of (λ o. [])) (state_of w) = same_counter (λ o. []) (λ o. moves_of (w.log o)) none in
+    let nothing : SameCounter (counter_of (λ o. [])) (state_of w)
+    = same_counter (λ o. []) (λ o. moves_of (w.log o)) none in
     record { R = λ i j. nothing.R i j ∙ empty_cell i j; U = λ i. nothing.U i ∙ spent-nil }
 
-pub run_operates : (n : ℕ) (start : Lists) (changes : List Change) (new : Lists) → Start n start → Runs start changes new
+pub run_operates : (n : ℕ) (start : Lists) (changes : List Change) (new : Lists) → Start n start
+    → Runs start changes new
     → (ops : List Operation) × ((empty : Counter) × EmptyCounter empty × CounterRun n ops empty (state_of new))
 run_operates n start changes new at run =
-    let all : RunsTo start new = runs_to start changes new (start_kept n start at) run in
-    (all.0, (state_of start, empty_start n start at, subst (λ k. CounterRun k all.0 (state_of start) (state_of new)) at.count all.1))
+    let all : RunsTo start new = runs_to start changes new (start_kept n start at) run in (
+      all.0,
+      (
+        state_of start,
+        empty_start n start at,
+        subst (λ k. CounterRun k all.0 (state_of start) (state_of new)) at.count all.1,
+      ),
+    )

@@ -12,14 +12,17 @@ here i a = let e : eqb i i ≡ true = eq-eqb i i refl in rw e refl
 other : (j i a : ℕ) → j ≢ i → cond (eqb j i) 0 a ≡ a
 other j i a ne = rw (ne_eqb j i ne) refl
 
-pub others_same : (n i : ℕ) (f g : ℕ → ℕ) → ((j : ℕ) → IsSiteOf n j → j ≢ i → f j ≡ g j) → sum_others n i f ≡ sum_others n i g
-others_same n i f g h = sum_same n (λ j. cond (eqb j i) 0 (f j)) (λ j. cond (eqb j i) 0 (g j)) (λ j low high. elim (cases_eq j i) [
-  | inl e ↦ let at : eqb j i ≡ true = eq-eqb j i e in rw at refl
-  | inr ne ↦ let at : eqb j i ≡ false = ne_eqb j i ne in rw at (h j (low, high) ne)
-])
+pub others_same : (n i : ℕ) (f g : ℕ → ℕ) → ((j : ℕ) → IsSiteOf n j → j ≢ i → f j ≡ g j)
+    → sum_others n i f ≡ sum_others n i g
+others_same n i f g h = sum_same n (λ j. cond (eqb j i) 0 (f j)) (λ j. cond (eqb j i) 0 (g j))
+    (λ j low high. elim (cases_eq j i) [
+      | inl e ↦ let at : eqb j i ≡ true = eq-eqb j i e in rw at refl
+      | inr ne ↦ let at : eqb j i ≡ false = ne_eqb j i ne in rw at (h j (low, high) ne)
+    ])
 
 -- one term has risen
-pub others_risen : (n i o rise : ℕ) (f g : ℕ → ℕ) → IsSiteOf n o → o ≢ i → ((j : ℕ) → j ≢ i → j ≢ o → g j ≡ f j) → g o ≡ f o + rise → sum_others n i g ≡ sum_others n i f + rise
+pub others_risen : (n i o rise : ℕ) (f g : ℕ → ℕ) → IsSiteOf n o → o ≢ i → ((j : ℕ) → j ≢ i → j ≢ o → g j ≡ f j)
+    → g o ≡ f o + rise → sum_others n i g ≡ sum_others n i f + rise
 others_risen n i o rise f g site differ same risen =
     sum_risen n o rise (λ j. cond (eqb j i) 0 (f j)) (λ j. cond (eqb j i) 0 (g j)) site.0 site.1
     (λ j ne. elim (cases_eq j i) [
@@ -31,11 +34,13 @@ others_risen n i o rise f g site differ same risen =
 -- with the term that is left out, it is the whole sum
 pub others_and_one : (n i : ℕ) (f : ℕ → ℕ) → IsSiteOf n i → sum_sites n f ≡ sum_others n i f + f i
 others_and_one n i f site =
-    sum_risen n i (f i) (λ j. cond (eqb j i) 0 (f j)) f site.0 site.1 (λ j ne. sym (other j i (f j) ne)) (omega (arith, here i (f i)))
+    sum_risen n i (f i) (λ j. cond (eqb j i) 0 (f j)) f site.0 site.1 (λ j ne. sym (other j i (f j) ne))
+    (omega (arith, here i (f i)))
 
 pub others_add : (n i : ℕ) (f g : ℕ → ℕ) → sum_others n i (λ j. f j + g j) ≡ sum_others n i f + sum_others n i g
 others_add n i f g =
-    sum_same n (λ j. cond (eqb j i) 0 (f j + g j)) (λ j. cond (eqb j i) 0 (f j) + cond (eqb j i) 0 (g j)) (λ j low high. elim (cases_eq j i) [
+    sum_same n (λ j. cond (eqb j i) 0 (f j + g j)) (λ j. cond (eqb j i) 0 (f j) + cond (eqb j i) 0 (g j))
+    (λ j low high. elim (cases_eq j i) [
       | inl e ↦ let at : eqb j i ≡ true = eq-eqb j i e in rw at refl
       | inr ne ↦ let at : eqb j i ≡ false = ne_eqb j i ne in rw at refl
     ])

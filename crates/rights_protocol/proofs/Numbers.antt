@@ -1,5 +1,6 @@
 -- The frontier that a site writes, how many sites it knows as closed, and what it received.
-use Rattle.std.proofs.Common.{◌≡◌, ℕ, zero, suc, ◌+◌, ◌-◌, ◌<◌, ◌≤◌, Bool, true, false, cond, List, [], ◌∷◌, length, Some, arith, refl, ap, ◌∙◌}
+use Rattle.std.proofs.Common.{◌≡◌, ℕ, zero, suc, ◌+◌, ◌-◌, ◌<◌, ◌≤◌, Bool, true, false, cond, List, [], ◌∷◌, length}
+use Rattle.std.proofs.Common.{Some, arith, refl, ap, ◌∙◌}
 use Rattle.std.specs.Prelude.{map}
 use Rattle.std.specs.List.{slice_get, range_with_len}
 use Rattle.std.proofs.lemmas.List.{length-map}
@@ -33,7 +34,8 @@ map_same f g same [] = refl
 map_same f g same (x ∷ xs) = ap (λ y. y ∷ map f xs) (same x) ∙ ap (λ ys. g x ∷ ys) (map_same f g same xs)
 
 -- the frontier's number for a site
-pub number_at : (n o : ℕ) (applied : ℕ → List EntryValue) → IsSiteOf n o → slice_get (own_frontier n applied) (o - 1) ≡ Some (end (applied o))
+pub number_at : (n o : ℕ) (applied : ℕ → List EntryValue) → IsSiteOf n o
+    → slice_get (own_frontier n applied) (o - 1) ≡ Some (end (applied o))
 number_at n o applied of =
     let e : 1 + (o - 1) ≡ o = omega (arith, of.0) in
     get_range (λ k. end (applied k)) 1 n (o - 1) (omega (arith, of.0, of.1)) ∙ ap (λ k. Some (end (applied k))) e
@@ -41,7 +43,8 @@ number_at n o applied of =
 chain_ends : (o : ℕ) (es : List EntryValue) → IsChain o es → IsNumber (end es)
 chain_ends o es c = end_from-bound o false 0 es c (omega arith)
 
-pub is_frontier : (n : ℕ) (applied : ℕ → List EntryValue) → 2 ≤ n → n ≤ 16 → ((o : ℕ) → IsChain o (applied o)) → IsFrontier (own_frontier n applied)
+pub is_frontier : (n : ℕ) (applied : ℕ → List EntryValue) → 2 ≤ n → n ≤ 16 → ((o : ℕ) → IsChain o (applied o))
+    → IsFrontier (own_frontier n applied)
 is_frontier n applied some few chains =
     let f : ℕ → ℕ = λ k. end (applied k) in
     let long : length (own_frontier n applied) ≡ n = length-map (range_with_len 1 n) f ∙ length-range 1 n in
@@ -51,22 +54,28 @@ is_frontier n applied some few chains =
       each = All-map IsNumber f (range_with_len 1 n) (λ k d h. chain_ends _ (applied _) (chains _));
     }
 
-pub frontier_kept : (n : ℕ) (old new : ℕ → List EntryValue) → ((o : ℕ) → new o ≡ old o) → own_frontier n new ≡ own_frontier n old
-frontier_kept n old new same = map_same (λ k. end (new k)) (λ k. end (old k)) (λ k. ap end (same k)) (range_with_len 1 n)
+pub frontier_kept : (n : ℕ) (old new : ℕ → List EntryValue) → ((o : ℕ) → new o ≡ old o)
+    → own_frontier n new ≡ own_frontier n old
+frontier_kept n old new same
+    = map_same (λ k. end (new k)) (λ k. end (old k)) (λ k. ap end (same k)) (range_with_len 1 n)
 
 -- ---- sites known as closed
 
 abbrev closed_one : List EntryValue → ℕ
 closed_one es = cond (is_closed es) 1 0
 
-pub known_kept : (n : ℕ) (old new : ℕ → List EntryValue) → ((o : ℕ) → new o ≡ old o) → known_closed n new ≡ known_closed n old
-known_kept n old new same = sum_same n (λ o. closed_one (new o)) (λ o. closed_one (old o)) (λ o low high. ap closed_one (same o))
+pub known_kept : (n : ℕ) (old new : ℕ → List EntryValue) → ((o : ℕ) → new o ≡ old o)
+    → known_closed n new ≡ known_closed n old
+known_kept n old new same
+    = sum_same n (λ o. closed_one (new o)) (λ o. closed_one (old o)) (λ o low high. ap closed_one (same o))
 
-pub known_risen : (n o : ℕ) (e : EntryValue) (old new : ℕ → List EntryValue) → IsSiteOf n o → is_closed (old o) ≡ false → AddsEntry old o e new
+pub known_risen : (n o : ℕ) (e : EntryValue) (old new : ℕ → List EntryValue) → IsSiteOf n o → is_closed (old o) ≡ false
+    → AddsEntry old o e new
     → known_closed n new ≡ known_closed n old + cond (closes e) 1 0
 known_risen n o e old new of unclosed step =
     let was : closed_one (old o) ≡ 0 = ap (λ b. cond b 1 0) unclosed in
-    let now : closed_one (new o) ≡ cond (closes e) 1 0 = ap closed_one step.there ∙ ap (λ b. cond b 1 0) (closed-push false (old o) e) in
+    let now : closed_one (new o) ≡ cond (closes e) 1 0 = ap closed_one step.there
+    ∙ ap (λ b. cond b 1 0) (closed-push false (old o) e) in
     sum_risen n o (cond (closes e) 1 0) (λ k. closed_one (old k)) (λ k. closed_one (new k)) of.0 of.1
     (λ k ne. ap closed_one (step.elsewhere k ne)) (omega (arith, was, now))
 
@@ -75,26 +84,39 @@ one_at_most true = omega arith
 one_at_most false = omega arith
 
 -- at most all sites but itself
-pub known_few : (n s : ℕ) (applied : ℕ → List EntryValue) → IsSiteOf n s → applied s ≡ [] → known_closed n applied + 1 ≤ n
+pub known_few : (n s : ℕ) (applied : ℕ → List EntryValue) → IsSiteOf n s → applied s ≡ []
+    → known_closed n applied + 1 ≤ n
 known_few n s applied of itself =
-    omega (arith, sum_bound_but n s 1 (λ o. closed_one (applied o)) of.0 of.1 (ap closed_one itself) (λ o. one_at_most (is_closed (applied o))))
+    omega (
+      arith,
+      sum_bound_but n s 1 (λ o. closed_one (applied o)) of.0 of.1 (ap closed_one itself)
+          (λ o. one_at_most (is_closed (applied o))),
+    )
 
 -- ---- what a site received
 
-pub received_kept : (n s : ℕ) (old new : ℕ → List EntryValue) → ((o : ℕ) → new o ≡ old o) → received n s new ≡ received n s old
+pub received_kept : (n s : ℕ) (old new : ℕ → List EntryValue) → ((o : ℕ) → new o ≡ old o)
+    → received n s new ≡ received n s old
 unfolding received
-received_kept n s old new same = sum_same n (λ o. to s (moves_of (new o))) (λ o. to s (moves_of (old o))) (λ o low high. ap (λ es. to s (moves_of es)) (same o))
+received_kept n s old new same
+    = sum_same n (λ o. to s (moves_of (new o))) (λ o. to s (moves_of (old o)))
+    (λ o low high. ap (λ es. to s (moves_of es)) (same o))
 
-pub received_risen : (n s o : ℕ) (e : EntryValue) (old new : ℕ → List EntryValue) → IsSiteOf n o → AddsEntry old o e new → received n s new ≡ received n s old + to s e.moves
+pub received_risen : (n s o : ℕ) (e : EntryValue) (old new : ℕ → List EntryValue) → IsSiteOf n o → AddsEntry old o e new
+    → received n s new ≡ received n s old + to s e.moves
 unfolding received
 received_risen n s o e old new of step =
     sum_risen n o (to s e.moves) (λ k. to s (moves_of (old k))) (λ k. to s (moves_of (new k))) of.0 of.1
     (λ k ne. ap (λ es. to s (moves_of es)) (step.elsewhere k ne))
-    (ap (λ es. to s (moves_of es)) step.there ∙ ap (to s) (moves_of-push (old o) e) ∙ to-append s (moves_of (old o)) e.moves)
+    (ap (λ es. to s (moves_of es)) step.there ∙ ap (to s) (moves_of-push (old o) e)
+    ∙ to-append s (moves_of (old o)) e.moves)
 
-pub received_bound : (n s : ℕ) (applied : ℕ → List EntryValue) → n ≤ 16 → IsSiteOf n s → applied s ≡ [] → ((o : ℕ) → IsChain o (applied o)) → received n s applied ≤ 15000000000000000000
+pub received_bound : (n s : ℕ) (applied : ℕ → List EntryValue) → n ≤ 16 → IsSiteOf n s → applied s ≡ []
+    → ((o : ℕ) → IsChain o (applied o)) → received n s applied ≤ 15000000000000000000
 unfolding received
 received_bound n s applied few of itself chains =
-    let each : (o : ℕ) → to s (moves_of (applied o)) ≤ 1000000000000000000 = λ o. omega (arith, log-to o s (applied o) (chains o), chain_ends o (applied o) (chains o)) in
-    let none : to s (moves_of (applied s)) ≡ 0 = ap (λ es. to s (moves_of es)) itself ∙ ap (to s) moves_of-nil ∙ to-nil s in
+    let each : (o : ℕ) → to s (moves_of (applied o)) ≤ 1000000000000000000
+    = λ o. omega (arith, log-to o s (applied o) (chains o), chain_ends o (applied o) (chains o)) in
+    let none : to s (moves_of (applied s)) ≡ 0 = ap (λ es. to s (moves_of es)) itself ∙ ap (to s) moves_of-nil
+    ∙ to-nil s in
     omega (arith, sum_bound_but n s 1000000000000000000 (λ o. to s (moves_of (applied o))) of.0 of.1 none each)

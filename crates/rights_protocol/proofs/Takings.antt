@@ -1,5 +1,6 @@
 -- Laws of the entries that reclaim.
-use Rattle.std.proofs.Common.{◌≡◌, ◌≢◌, ℕ, ◌+◌, ◌≤◌, ◌⊎◌, inl, inr, Bool, true, false, cond, eqb, leb, List, [], ◌∷◌, ◌++◌, Option, Some, arith, refl, sym, ap, ◌∙◌}
+use Rattle.std.proofs.Common.{◌≡◌, ◌≢◌, ℕ, ◌+◌, ◌≤◌, ◌⊎◌, inl, inr, Bool, true, false, cond, eqb, leb, List, [], ◌∷◌}
+use Rattle.std.proofs.Common.{◌++◌, Option, Some, arith, refl, sym, ap, ◌∙◌}
 use Rattle.std.specs.Prelude.{map}
 use Rattle.std.specs.List.{list_any, filter}
 use Rattle.std.proofs.lemmas.Bool.{cases_Bool, cases_eq, eq-eqb, le-leb, ne_eqb, or_parts}
@@ -25,24 +26,32 @@ takes_one c e = list_any (takes_from c) e.moves
 
 takings_split : (c : ℕ) (xs ys : List EntryValue) → takings c (xs ++ ys) ≡ takings c xs ++ takings c ys
 takings_split c xs ys =
-    ap (map moves_in) (filter-append (takes_one c) xs ys) ∙ map-append moves_in (filter (takes_one c) xs) (filter (takes_one c) ys)
+    ap (map moves_in) (filter-append (takes_one c) xs ys)
+    ∙ map-append moves_in (filter (takes_one c) xs) (filter (takes_one c) ys)
 
-takings_last : (c : ℕ) (es : List EntryValue) (e : EntryValue) → takes_one c e ≡ false → takings c (es ++ e ∷ []) ≡ takings c es
+takings_last : (c : ℕ) (es : List EntryValue) (e : EntryValue) → takes_one c e ≡ false
+    → takings c (es ++ e ∷ []) ≡ takings c es
 takings_last c es e none =
     let last : takings c (e ∷ []) ≡ [] = rw none refl in
     takings_split c es (e ∷ []) ∙ ap (λ (xs : List (List Move)). takings c es ++ xs) last ∙ append-nil (takings c es)
 
 -- an entry that reclaims nothing from c, and gives it nothing if a frontier of c was applied
-pub taken_push : (s c : ℕ) (es : List EntryValue) (e : EntryValue) (k : Option (List ℕ)) → list_any (takes_from c) e.moves ≡ false
-    → ((numbers : List ℕ) → k ≡ Some numbers → to c e.moves ≡ 0) → takings c es ≡ one_taking c (owed s c es k) → takings c (es ++ e ∷ []) ≡ one_taking c (owed s c (es ++ e ∷ []) k)
-taken_push s c es e k none given old = takings_last c es e none ∙ old ∙ ap (one_taking c) (sym (owed_push s c es e k given))
+pub taken_push : (s c : ℕ) (es : List EntryValue) (e : EntryValue) (k : Option (List ℕ))
+    → list_any (takes_from c) e.moves ≡ false
+    → ((numbers : List ℕ) → k ≡ Some numbers → to c e.moves ≡ 0) → takings c es ≡ one_taking c (owed s c es k)
+    → takings c (es ++ e ∷ []) ≡ one_taking c (owed s c (es ++ e ∷ []) k)
+taken_push s c es e k none given old = takings_last c es e none ∙ old
+    ∙ ap (one_taking c) (sym (owed_push s c es e k given))
 
 -- the entry that reclaims what is owed
-pub taken_now : (s c n : ℕ) (es : List EntryValue) (e : EntryValue) (k : Option (List ℕ)) → takings c es ≡ [] → to c e.moves ≡ 0 → list_any (takes_from c) e.moves ≡ true
-    → e.moves ∷ [] ≡ one_taking c n → n ≡ owed s c es k → takings c (es ++ e ∷ []) ≡ one_taking c (owed s c (es ++ e ∷ []) k)
+pub taken_now : (s c n : ℕ) (es : List EntryValue) (e : EntryValue) (k : Option (List ℕ)) → takings c es ≡ []
+    → to c e.moves ≡ 0 → list_any (takes_from c) e.moves ≡ true
+    → e.moves ∷ [] ≡ one_taking c n → n ≡ owed s c es k
+    → takings c (es ++ e ∷ []) ≡ one_taking c (owed s c (es ++ e ∷ []) k)
 taken_now s c n es e k none given some one is =
     let last : takings c (e ∷ []) ≡ e.moves ∷ [] = rw some refl in
-    takings_split c es (e ∷ []) ∙ ap (λ (xs : List (List Move)). takings c es ++ xs) last ∙ ap (λ (xs : List (List Move)). xs ++ e.moves ∷ []) none
+    takings_split c es (e ∷ []) ∙ ap (λ (xs : List (List Move)). takings c es ++ xs) last
+    ∙ ap (λ (xs : List (List Move)). xs ++ e.moves ∷ []) none
     ∙ one ∙ ap (one_taking c) (is ∙ sym (owed_push s c es e k (λ numbers _. given)))
 
 -- ---- where they stand
@@ -60,29 +69,36 @@ none_beyond c f (e ∷ es) none = elim (cases_Bool (takes_one c e)) [
       ]
 ]
 
-beyond_split : (c f : ℕ) (es : List EntryValue) (e : EntryValue) → takings c (beyond f (es ++ e ∷ [])) ≡ takings c (beyond f es) ++ takings c (beyond f (e ∷ []))
-beyond_split c f es e = ap (takings c) (filter-append (λ (x : EntryValue). leb f x.prev) es (e ∷ [])) ∙ takings_split c (beyond f es) (beyond f (e ∷ []))
+beyond_split : (c f : ℕ) (es : List EntryValue) (e : EntryValue)
+    → takings c (beyond f (es ++ e ∷ [])) ≡ takings c (beyond f es) ++ takings c (beyond f (e ∷ []))
+beyond_split c f es e = ap (takings c) (filter-append (λ (x : EntryValue). leb f x.prev) es (e ∷ []))
+    ∙ takings_split c (beyond f es) (beyond f (e ∷ []))
 
 -- one more entry that reclaims nothing from c
-pub placed_push : (c f : ℕ) (es : List EntryValue) (e : EntryValue) → list_any (takes_from c) e.moves ≡ false → takings c (beyond f es) ≡ takings c es
+pub placed_push : (c f : ℕ) (es : List EntryValue) (e : EntryValue) → list_any (takes_from c) e.moves ≡ false
+    → takings c (beyond f es) ≡ takings c es
     → takings c (beyond f (es ++ e ∷ [])) ≡ takings c (es ++ e ∷ [])
 placed_push c f es e none old =
     let last : takings c (beyond f (e ∷ [])) ≡ [] = none_beyond c f (e ∷ []) (rw none refl) in
-    beyond_split c f es e ∙ ap (λ (xs : List (List Move)). takings c (beyond f es) ++ xs) last ∙ append-nil (takings c (beyond f es)) ∙ old
+    beyond_split c f es e ∙ ap (λ (xs : List (List Move)). takings c (beyond f es) ++ xs) last
+    ∙ append-nil (takings c (beyond f es)) ∙ old
     ∙ sym (takings_last c es e none)
 
 -- the first entry that reclaims from c
-pub placed_now : (c f : ℕ) (es : List EntryValue) (e : EntryValue) → takings c es ≡ [] → f ≤ e.prev → takings c (beyond f (es ++ e ∷ [])) ≡ takings c (es ++ e ∷ [])
+pub placed_now : (c f : ℕ) (es : List EntryValue) (e : EntryValue) → takings c es ≡ [] → f ≤ e.prev
+    → takings c (beyond f (es ++ e ∷ [])) ≡ takings c (es ++ e ∷ [])
 placed_now c f es e none at =
     let here : leb f e.prev ≡ true = le-leb f e.prev at in
     let last : beyond f (e ∷ []) ≡ e ∷ [] = rw here refl in
     let front : takings c (beyond f es) ≡ takings c es = none_beyond c f es none ∙ sym none in
-    beyond_split c f es e ∙ ap (λ (xs : List EntryValue). takings c (beyond f es) ++ takings c xs) last ∙ ap (λ (xs : List (List Move)). xs ++ takings c (e ∷ [])) front
+    beyond_split c f es e ∙ ap (λ (xs : List EntryValue). takings c (beyond f es) ++ takings c xs) last
+    ∙ ap (λ (xs : List (List Move)). xs ++ takings c (e ∷ [])) front
     ∙ sym (takings_split c es (e ∷ []))
 
 -- ---- what they reclaim
 
-back_split : (c : ℕ) (e : EntryValue) (es : List EntryValue) → back c (moves_of (e ∷ es)) ≡ back c e.moves + back c (moves_of es)
+back_split : (c : ℕ) (e : EntryValue) (es : List EntryValue)
+    → back c (moves_of (e ∷ es)) ≡ back c e.moves + back c (moves_of es)
 unfolding moves_of
 back_split c e es = back-append c e.moves (moves_of es)
 
@@ -129,14 +145,16 @@ pub taken_is : (c n : ℕ) (es : List EntryValue) → takings c es ≡ one_takin
 taken_is c n es h = each_taking c es ∙ ap (back_each c) h ∙ one_gives c n
 
 -- logs with the same reclaims reclaim the same amount
-pub same_takings : (c : ℕ) (xs ys : List EntryValue) → takings c xs ≡ takings c ys → back c (moves_of xs) ≡ back c (moves_of ys)
+pub same_takings : (c : ℕ) (xs ys : List EntryValue) → takings c xs ≡ takings c ys
+    → back c (moves_of xs) ≡ back c (moves_of ys)
 same_takings c xs ys same = each_taking c xs ∙ ap (back_each c) same ∙ sym (each_taking c ys)
 
 -- ---- an entry that is written
 
 -- nothing is reclaimed, or by one entry
 pub taking_cases : (s o : ℕ) (log : List EntryValue) (n : ℕ)
-    → ((n ≡ 0) × (map (entry_at_end s log) (one_taking o n) ≡ [])) ⊎ ((1 ≤ n) × (map (entry_at_end s log) (one_taking o n) ≡ entry_at_end s log (TakeBack o n ∷ []) ∷ []))
+    → ((n ≡ 0) × (map (entry_at_end s log) (one_taking o n) ≡ []))
+    ⊎ ((1 ≤ n) × (map (entry_at_end s log) (one_taking o n) ≡ entry_at_end s log (TakeBack o n ∷ []) ∷ []))
 taking_cases s o log n = elim (cases_eq n 0) [
   | inl e ↦ let none : eqb n 0 ≡ true = eq-eqb n 0 e in inl (e, rw none refl)
   | inr ne ↦ let some : eqb n 0 ≡ false = ne_eqb n 0 ne in inr (omega (arith, ne), rw some refl)

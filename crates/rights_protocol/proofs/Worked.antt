@@ -1,5 +1,6 @@
 -- The worked examples, by computation.
-use Rattle.std.proofs.Common.{◌≡◌, ◌+◌, ◌≤◌, eqb, inl, inr, true, false, List, [], ◌∷◌, ◌++◌, length, Some, None, arith, refl}
+use Rattle.std.proofs.Common.{◌≡◌, ◌+◌, ◌≤◌, eqb, inl, inr, true, false, List, [], ◌∷◌, ◌++◌, length, Some, None, arith}
+use Rattle.std.proofs.Common.{refl}
 use Rattle.std.specs.List.{Contains, All}
 use Rattle.std.proofs.lemmas.Bool.{ne_eqb}
 use Rattle.std.proofs.lemmas.List.Elements.{All-nil, All-cons}
@@ -13,7 +14,11 @@ use Rattle.rights_protocol.specs.Retiring.{entry_at_end}
 use Rattle.rights_protocol.specs.Writing.{is_plain}
 use Rattle.rights_protocol.specs.Changes.{Step}
 use Rattle.rights_protocol.specs.Changes.Change.{Append, Offer, Take, CloseSite}
-use Rattle.rights_protocol.specs.Examples.{empty_side, from_other, two, in_order, opening, leaving, leaver, held_back, both_came, Inherits, issuing, giving, closing, regaining, giver, closer, regainer, told_late, GiftComesBack, BothClose, IsGranted, second, third, three, last_held, one_missing, all_came, GapFills, ones, holder, IsTurnedAway}
+use Rattle.rights_protocol.specs.Examples.{empty_side, from_other, two, in_order, opening, leaving, leaver, held_back}
+use Rattle.rights_protocol.specs.Examples.{both_came, Inherits, issuing, giving, closing, regaining, giver, closer}
+use Rattle.rights_protocol.specs.Examples.{regainer, told_late, GiftComesBack, BothClose, IsGranted, second, third}
+use Rattle.rights_protocol.specs.Examples.{three, last_held, one_missing, all_came, GapFills, ones, holder}
+use Rattle.rights_protocol.specs.Examples.{IsTurnedAway}
 use Rattle.rights_protocol.proofs.TwoSites.{same, only_1, only_2, append_1, knows_none, reaches_2, takes_2, absent}
 
 abbrev IsPlain : Move → Type 0
@@ -37,7 +42,8 @@ open_it =
       unclosed = refl;
       some = omega arith;
       few = omega arith;
-      moves = all_3 IsMove (Issue 10) (Spend 4) (Give 2 3) (omega arith, omega arith) (omega arith, omega arith) ((omega arith, omega arith), (omega arith, omega arith));
+      moves = all_3 IsMove (Issue 10) (Spend 4) (Give 2 3) (omega arith, omega arith) (omega arith, omega arith)
+          ((omega arith, omega arith), (omega arith, omega arith));
       plain = all_3 IsPlain (Issue 10) (Spend 4) (Give 2 3) refl refl refl;
       within = all_3 (NamesWithin 2) (Issue 10) (Spend 4) (Give 2 3) tt tt (omega arith, omega arith);
       others = refl;
@@ -52,7 +58,15 @@ leave =
     let rest : held 2 1 (opening ∷ []) (λ o. from_other 1 o []) ≡ 3 = refl in
     record {
       site = (omega arith, omega arith);
-      may = record { unclosed = refl; inherits = record { site = (omega arith, omega arith); differ = omega arith; unclosed = refl; amount = omega (arith, rest) } };
+      may = record {
+        unclosed = refl;
+        inherits = record {
+          site = (omega arith, omega arith);
+          differ = omega arith;
+          unclosed = refl;
+          amount = omega (arith, rest);
+        };
+      };
       log = refl;
       links = λ o. record { reached = refl; put = refl; applied = refl };
       others = only_1 (in_order (opening ∷ []) [] []) leaver empty_side;
@@ -60,30 +74,55 @@ leave =
 
 hold_back : Step (two leaver empty_side) (Offer 2 1 leaving) (two leaver held_back)
 hold_back =
-    reaches_2 leaver empty_side leaving [] (1, omega arith, refl) (absent [] leaving refl) (inr (λ full. absurd (omega (arith, full))))
-    (record { rest = opening ∷ (leaving ∷ []); whole = refl; inside = All-nil (Contains (leaving ∷ [])); no_longer = absent (leaving ∷ []) opening refl })
+    reaches_2 leaver empty_side leaving [] (1, omega arith, refl) (absent [] leaving refl)
+    (inr (λ full. absurd (omega (arith, full))))
+    (record {
+      rest = opening ∷ (leaving ∷ []);
+      whole = refl;
+      inside = All-nil (Contains (leaving ∷ []));
+      no_longer = absent (leaving ∷ []) opening refl;
+    })
 
 both_come : Step (two leaver held_back) (Offer 2 1 opening) (two leaver (both_came []))
 both_come =
-    reaches_2 leaver held_back opening (opening ∷ (leaving ∷ [])) (0, omega arith, refl) (absent (leaving ∷ []) opening refl) (inl refl)
+    reaches_2 leaver held_back opening (opening ∷ (leaving ∷ [])) (0, omega arith, refl)
+    (absent (leaving ∷ []) opening refl) (inl refl)
     (record {
       rest = [];
       whole = refl;
-      inside = all_2 (Contains (leaving ∷ (opening ∷ []))) opening leaving (1, omega arith, refl) (0, omega arith, refl);
+      inside = all_2 (Contains (leaving ∷ (opening ∷ []))) opening leaving (1, omega arith, refl)
+          (0, omega arith, refl);
       no_longer = tt;
     })
 
 take_gift : Step (two leaver (both_came [])) (Take 2 1) (two leaver (both_came (opening ∷ [])))
 take_gift = takes_2 leaver (both_came []) opening [] refl refl refl
 
-take_heritage : Step (two leaver (both_came (opening ∷ []))) (Take 2 1) (two leaver (both_came (opening ∷ (leaving ∷ []))))
+take_heritage : Step (two leaver (both_came (opening ∷ []))) (Take 2 1)
+    (two leaver (both_came (opening ∷ (leaving ∷ []))))
 unfolding to moves_of
 take_heritage = takes_2 leaver (both_came (opening ∷ [])) leaving [] refl refl refl
 
 pub inherits : Inherits
 unfolding held way received issued spent out to back moves_of
 inherits = record {
-  run = (_, open_it, (_, leave, (_, hold_back, (_, both_come, (_, take_gift, (_, take_heritage, same leaver (both_came (opening ∷ (leaving ∷ [])))))))));
+  run = (
+    _,
+    open_it,
+    (
+      _,
+      leave,
+      (
+        _,
+        hold_back,
+        (
+          _,
+          both_come,
+          (_, take_gift, (_, take_heritage, same leaver (both_came (opening ∷ (leaving ∷ []))))),
+        ),
+      ),
+    ),
+  );
   before = record { held_1 = refl; held_2 = refl; way_1 = refl; way_2 = refl };
   given = record { held_1 = refl; held_2 = refl; way_1 = refl; way_2 = refl };
   closed = record { held_1 = refl; held_2 = refl; way_1 = refl; way_2 = refl };
@@ -92,8 +131,11 @@ inherits = record {
 
 -- ---- reclaiming
 
-append_one : (log : List EntryValue) (m : Move) → is_closed log ≡ false → IsMove m → is_plain m ≡ true → NamesWithin 2 m → names 1 m ≡ false → end log + 1 ≤ 999999900
-    → covers (held 2 1 log (λ o. from_other 1 o [])) (m ∷ []) ≡ true → Step (two (in_order log [] []) empty_side) (Append 1 (m ∷ [])) (two (in_order (log ++ entry_at_end 1 log (m ∷ []) ∷ []) [] []) empty_side)
+append_one : (log : List EntryValue) (m : Move) → is_closed log ≡ false → IsMove m → is_plain m ≡ true → NamesWithin 2 m
+    → names 1 m ≡ false → end log + 1 ≤ 999999900
+    → covers (held 2 1 log (λ o. from_other 1 o [])) (m ∷ []) ≡ true
+    → Step (two (in_order log [] []) empty_side) (Append 1 (m ∷ []))
+    (two (in_order (log ++ entry_at_end 1 log (m ∷ []) ∷ []) [] []) empty_side)
 append_one log m unclosed is plain within other fits holds =
     append_1 (in_order log [] []) empty_side (m ∷ []) (record {
       unclosed = unclosed;
@@ -112,19 +154,31 @@ issue_it : Step (two empty_side empty_side) (Append 1 issuing.moves) (two (in_or
 unfolding held received issued spent out to back moves_of
 issue_it = append_one [] (Issue 10) refl (omega arith, omega arith) refl tt refl (omega arith) refl
 
-give_it : Step (two (in_order (issuing ∷ []) [] []) empty_side) (Append 1 giving.moves) (two (in_order (issuing ∷ (giving ∷ [])) [] []) empty_side)
+give_it : Step (two (in_order (issuing ∷ []) [] []) empty_side) (Append 1 giving.moves)
+    (two (in_order (issuing ∷ (giving ∷ [])) [] []) empty_side)
 unfolding held received issued spent out to back moves_of
-give_it = append_one (issuing ∷ []) (Give 2 4) refl ((omega arith, omega arith), (omega arith, omega arith)) refl (omega arith, omega arith) refl (omega arith) refl
+give_it = append_one (issuing ∷ []) (Give 2 4) refl ((omega arith, omega arith), (omega arith, omega arith)) refl
+    (omega arith, omega arith) refl (omega arith) refl
 
-first_comes : Step (two (in_order (issuing ∷ (giving ∷ [])) [] []) empty_side) (Offer 2 1 issuing) (two (in_order (issuing ∷ (giving ∷ [])) [] []) (in_order [] (issuing ∷ []) []))
+first_comes : Step (two (in_order (issuing ∷ (giving ∷ [])) [] []) empty_side) (Offer 2 1 issuing)
+    (two (in_order (issuing ∷ (giving ∷ [])) [] []) (in_order [] (issuing ∷ []) []))
 first_comes =
-    reaches_2 (in_order (issuing ∷ (giving ∷ [])) [] []) empty_side issuing (issuing ∷ []) (0, omega arith, refl) (absent [] issuing refl) (inl refl)
-    (record { rest = giving ∷ []; whole = refl; inside = all_1 (Contains (issuing ∷ [])) issuing (0, omega arith, refl); no_longer = absent (issuing ∷ []) giving refl })
+    reaches_2 (in_order (issuing ∷ (giving ∷ [])) [] []) empty_side issuing (issuing ∷ []) (0, omega arith, refl)
+    (absent [] issuing refl) (inl refl)
+    (record {
+      rest = giving ∷ [];
+      whole = refl;
+      inside = all_1 (Contains (issuing ∷ [])) issuing (0, omega arith, refl);
+      no_longer = absent (issuing ∷ []) giving refl;
+    })
 
-take_first : Step (two (in_order (issuing ∷ (giving ∷ [])) [] []) (in_order [] (issuing ∷ []) [])) (Take 2 1) (two (in_order (issuing ∷ (giving ∷ [])) [] []) (in_order [] (issuing ∷ []) (issuing ∷ [])))
-take_first = takes_2 (in_order (issuing ∷ (giving ∷ [])) [] []) (in_order [] (issuing ∷ []) []) issuing [] refl refl refl
+take_first : Step (two (in_order (issuing ∷ (giving ∷ [])) [] []) (in_order [] (issuing ∷ []) [])) (Take 2 1)
+    (two (in_order (issuing ∷ (giving ∷ [])) [] []) (in_order [] (issuing ∷ []) (issuing ∷ [])))
+take_first = takes_2 (in_order (issuing ∷ (giving ∷ [])) [] []) (in_order [] (issuing ∷ []) []) issuing
+    [] refl refl refl
 
-close_it : Step (two (in_order (issuing ∷ (giving ∷ [])) [] []) (in_order [] (issuing ∷ []) (issuing ∷ []))) (CloseSite 2 None) (two (in_order (issuing ∷ (giving ∷ [])) [] []) closer)
+close_it : Step (two (in_order (issuing ∷ (giving ∷ [])) [] []) (in_order [] (issuing ∷ []) (issuing ∷ [])))
+    (CloseSite 2 None) (two (in_order (issuing ∷ (giving ∷ [])) [] []) closer)
 close_it = record {
   site = (omega arith, omega arith);
   may = record { unclosed = refl; inherits = tt };
@@ -133,7 +187,8 @@ close_it = record {
   others = only_2 (in_order (issuing ∷ (giving ∷ [])) [] []) (in_order [] (issuing ∷ []) (issuing ∷ [])) closer;
 }
 
-closing_comes : Step (two (in_order (issuing ∷ (giving ∷ [])) [] []) closer) (Offer 1 2 closing) (two (giver (issuing ∷ (giving ∷ []))) closer)
+closing_comes : Step (two (in_order (issuing ∷ (giving ∷ [])) [] []) closer) (Offer 1 2 closing)
+    (two (giver (issuing ∷ (giving ∷ []))) closer)
 closing_comes = record {
   site = (omega arith, omega arith);
   from = (omega arith, omega arith);
@@ -144,9 +199,15 @@ closing_comes = record {
     room = inl refl;
     log = refl;
     reached = refl;
-    put = record { rest = []; whole = refl; inside = all_1 (Contains (closing ∷ [])) closing (0, omega arith, refl); no_longer = tt };
+    put = record {
+      rest = [];
+      whole = refl;
+      inside = all_1 (Contains (closing ∷ [])) closing (0, omega arith, refl);
+      no_longer = tt;
+    };
     applied = refl;
-    links = λ k ne. let no : eqb k 2 ≡ false = ne_eqb k 2 ne in record { reached = rw no refl; put = rw no refl; applied = refl };
+    links = λ k ne. let no : eqb k 2 ≡ false
+        = ne_eqb k 2 ne in record { reached = rw no refl; put = rw no refl; applied = refl };
     others = only_1 (in_order (issuing ∷ (giving ∷ [])) [] []) (giver (issuing ∷ (giving ∷ []))) closer;
   });
 }
@@ -169,7 +230,8 @@ regain_it = record {
 
 gift_comes : Step (two regainer closer) (Offer 2 1 giving) (two regainer told_late)
 gift_comes =
-    reaches_2 regainer closer giving (issuing ∷ (giving ∷ [])) (1, omega arith, refl) (absent (issuing ∷ []) giving refl) (inl refl)
+    reaches_2 regainer closer giving (issuing ∷ (giving ∷ [])) (1, omega arith, refl)
+    (absent (issuing ∷ []) giving refl) (inl refl)
     (record {
       rest = regaining ∷ [];
       whole = refl;
@@ -189,7 +251,23 @@ takes_back = record {
       (
         _,
         first_comes,
-        (_, take_first, (_, close_it, (_, closing_comes, (_, regain_it, (_, gift_comes, (_, same regainer told_late, same regainer told_late)))))),
+        (
+          _,
+          take_first,
+          (
+            _,
+            close_it,
+            (
+              _,
+              closing_comes,
+              (
+                _,
+                regain_it,
+                (_, gift_comes, (_, same regainer told_late, same regainer told_late)),
+              ),
+            ),
+          ),
+        ),
       ),
     ),
   );
@@ -218,12 +296,20 @@ is_granted = record {
 
 hold_last : Step (two (in_order three [] []) empty_side) (Offer 2 1 third) (two (in_order three [] []) last_held)
 hold_last =
-    reaches_2 (in_order three [] []) empty_side third [] (2, omega arith, refl) (absent [] third refl) (inr (λ full. absurd (omega (arith, full))))
-    (record { rest = three; whole = refl; inside = All-nil (Contains (third ∷ [])); no_longer = absent (third ∷ []) issuing refl })
+    reaches_2 (in_order three [] []) empty_side third [] (2, omega arith, refl) (absent [] third refl)
+    (inr (λ full. absurd (omega (arith, full))))
+    (record {
+      rest = three;
+      whole = refl;
+      inside = All-nil (Contains (third ∷ []));
+      no_longer = absent (third ∷ []) issuing refl;
+    })
 
-first_of_three : Step (two (in_order three [] []) last_held) (Offer 2 1 issuing) (two (in_order three [] []) one_missing)
+first_of_three : Step (two (in_order three [] []) last_held) (Offer 2 1 issuing)
+    (two (in_order three [] []) one_missing)
 first_of_three =
-    reaches_2 (in_order three [] []) last_held issuing (issuing ∷ []) (0, omega arith, refl) (absent (third ∷ []) issuing refl) (inl refl)
+    reaches_2 (in_order three [] []) last_held issuing (issuing ∷ []) (0, omega arith, refl)
+    (absent (third ∷ []) issuing refl) (inl refl)
     (record {
       rest = second ∷ (third ∷ []);
       whole = refl;
@@ -233,11 +319,13 @@ first_of_three =
 
 fill_gap : Step (two (in_order three [] []) one_missing) (Offer 2 1 second) (two (in_order three [] []) all_came)
 fill_gap =
-    reaches_2 (in_order three [] []) one_missing second three (1, omega arith, refl) (absent (third ∷ (issuing ∷ [])) second refl) (inl refl)
+    reaches_2 (in_order three [] []) one_missing second three (1, omega arith, refl)
+    (absent (third ∷ (issuing ∷ [])) second refl) (inl refl)
     (record {
       rest = [];
       whole = refl;
-      inside = all_3 (Contains (third ∷ (issuing ∷ (second ∷ [])))) issuing second third (1, omega arith, refl) (2, omega arith, refl) (0, omega arith, refl);
+      inside = all_3 (Contains (third ∷ (issuing ∷ (second ∷ [])))) issuing second third (1, omega arith, refl)
+          (2, omega arith, refl) (0, omega arith, refl);
       no_longer = tt;
     })
 
@@ -268,5 +356,8 @@ turned_away =
       from = (omega arith, omega arith);
       differ = omega arith;
       sent = (65, omega (arith, sent), refl);
-      comes = inr (record { why = inr (λ e. omega (arith, e), omega (arith, held)); all = same (in_order (ones 0 66) [] []) holder });
+      comes = inr (record {
+        why = inr (λ e. omega (arith, e), omega (arith, held));
+        all = same (in_order (ones 0 66) [] []) holder;
+      });
     }

@@ -1,5 +1,6 @@
 -- The entries that a site writes: ordinary ones, those that reclaim, and closing ones.
-use Rattle.std.proofs.Common.{◌≡◌, ◌≢◌, ℕ, ◌≤◌, inl, inr, true, false, eqb, List, [], ◌∷◌, ◌++◌, Option, Some, None, arith, refl, sym, subst}
+use Rattle.std.proofs.Common.{◌≡◌, ◌≢◌, ℕ, ◌≤◌, inl, inr, true, false, eqb, List, [], ◌∷◌, ◌++◌, Option, Some, None}
+use Rattle.std.proofs.Common.{arith, refl, sym, subst}
 use Rattle.std.specs.Prelude.{IfSome}
 use Rattle.std.specs.List.{All, list_any}
 use Rattle.std.proofs.lemmas.Bool.{cases_eq, eq-eqb, ne_eqb, both_ways}
@@ -39,7 +40,8 @@ pub record Writable (n s : ℕ) (log : List EntryValue) (applied : ℕ → List 
   pub given : (c : ℕ) (numbers : List ℕ) → frontier (applied c) ≡ Some numbers → to c ms ≡ 0
 
 -- the rights that a site holds are what its log leaves of what it received
-pub held_is : (n s : ℕ) (log : List EntryValue) (applied : ℕ → List EntryValue) → All (NamesWithin n) (moves_of log) → covers (received n s applied) (moves_of log) ≡ true
+pub held_is : (n s : ℕ) (log : List EntryValue) (applied : ℕ → List EntryValue) → All (NamesWithin n) (moves_of log)
+    → covers (received n s applied) (moves_of log) ≡ true
     → held n s log applied ≡ rights_after (received n s applied) (moves_of log)
 unfolding held
 held_is n s log applied within covered =
@@ -87,7 +89,8 @@ plain_moves o (m ∷ ms) h =
       taking = λ c. rw (one.takes c) (rest.taking c);
     }
 
-pub append_writable : (n s : ℕ) (log : List EntryValue) (applied : ℕ → List EntryValue) (ms : List Move) → Ready n s log applied → MayAppend n s log applied ms → Writable n s log applied ms
+pub append_writable : (n s : ℕ) (log : List EntryValue) (applied : ℕ → List EntryValue) (ms : List Move)
+    → Ready n s log applied → MayAppend n s log applied ms → Writable n s log applied ms
 append_writable n s log applied ms k may =
     let plain : Plain s ms = plain_moves s ms may.plain in
     record {
@@ -112,7 +115,8 @@ pub back_gives_none : (c o n : ℕ) → to c (TakeBack o n ∷ []) ≡ 0
 unfolding to
 back_gives_none c o n = refl
 
-pub back_writable : (n s o amount : ℕ) (log : List EntryValue) (applied : ℕ → List EntryValue) → Ready n s log applied → IsSiteOf n o → s ≢ o → 1 ≤ amount → amount ≤ 1000000000000000000
+pub back_writable : (n s o amount : ℕ) (log : List EntryValue) (applied : ℕ → List EntryValue) → Ready n s log applied
+    → IsSiteOf n o → s ≢ o → 1 ≤ amount → amount ≤ 1000000000000000000
     → end log ≤ 999999999 → Writable n s log applied (TakeBack o amount ∷ [])
 back_writable n s o amount log applied k from differ low high fits =
     let other : eqb o s ≡ false = ne_eqb o s (λ e. differ (sym e)) in
@@ -128,7 +132,8 @@ back_writable n s o amount log applied k from differ low high fits =
         moves = All-cons IsMove (TakeBack o amount) [] (site_of n o k.few from, (low, high)) (All-nil IsMove);
       };
       named = All-cons (NamesWithin n) (TakeBack o amount) [] from (All-nil (NamesWithin n));
-      covered = covers_both (rights_after (received n s applied) (moves_of log)) (TakeBack o amount) [] (omega arith) refl;
+      covered = covers_both (rights_after (received n s applied) (moves_of log)) (TakeBack o amount) []
+          (omega arith) refl;
       given = λ c numbers h. back_gives_none c o amount;
     }
 
@@ -139,10 +144,12 @@ pub record Closing (n s : ℕ) (log : List EntryValue) (applied : ℕ → List E
   pub numbers : numbers_in ms ≡ Some (own_frontier n applied)
   pub none_taken : (c : ℕ) → list_any (takes_from c) ms ≡ false
 
-own_place : (n s : ℕ) (applied : ℕ → List EntryValue) → IsSiteOf n s → applied s ≡ [] → lacks_own_place s (CloseAt (own_frontier n applied)) ≡ false
+own_place : (n s : ℕ) (applied : ℕ → List EntryValue) → IsSiteOf n s → applied s ≡ []
+    → lacks_own_place s (CloseAt (own_frontier n applied)) ≡ false
 own_place n s applied site itself = rw (number_at n s applied site, itself) refl
 
-closing_alone : (n s : ℕ) (log : List EntryValue) (applied : ℕ → List EntryValue) → Ready n s log applied → end log ≤ 999999998 → Closing n s log applied (CloseAt (own_frontier n applied) ∷ [])
+closing_alone : (n s : ℕ) (log : List EntryValue) (applied : ℕ → List EntryValue) → Ready n s log applied
+    → end log ≤ 999999998 → Closing n s log applied (CloseAt (own_frontier n applied) ∷ [])
 closing_alone n s log applied k fits =
     let f : List ℕ = own_frontier n applied in
     record {
@@ -165,7 +172,8 @@ closing_alone n s log applied k fits =
       none_taken = λ c. refl;
     }
 
-closing_gift : (n s heir amount : ℕ) (log : List EntryValue) (applied : ℕ → List EntryValue) → Ready n s log applied → end log ≤ 999999998 → MayInherit n s log applied heir → amount ≡ held n s log applied → 1 ≤ amount
+closing_gift : (n s heir amount : ℕ) (log : List EntryValue) (applied : ℕ → List EntryValue) → Ready n s log applied
+    → end log ≤ 999999998 → MayInherit n s log applied heir → amount ≡ held n s log applied → 1 ≤ amount
     → Closing n s log applied (Give heir amount ∷ (CloseAt (own_frontier n applied) ∷ []))
 closing_gift n s heir amount log applied k fits inherit is some =
     let f : List ℕ = own_frontier n applied in
@@ -183,29 +191,40 @@ closing_gift n s heir amount log applied k fits inherit is some =
           places = rw (own_place n s applied k.site k.itself) refl;
           closing = refl;
           others = rw other refl;
-          moves = All-cons IsMove gift (CloseAt f ∷ []) (site_of n heir k.few inherit.site, (some, omega (arith, is, inherit.amount)))
+          moves = All-cons IsMove gift (CloseAt f ∷ []) (
+            site_of n heir k.few inherit.site,
+            (some, omega (arith, is, inherit.amount)),
+          )
               (All-cons IsMove (CloseAt f) [] (is_frontier n applied k.some k.few k.chains) (All-nil IsMove));
         };
-        named = All-cons (NamesWithin n) gift (CloseAt f ∷ []) inherit.site (All-cons (NamesWithin n) (CloseAt f) [] tt (All-nil (NamesWithin n)));
-        covered = covers_both r gift (CloseAt f ∷ []) (omega (arith, is, all)) (covers_both _ (CloseAt f) [] (omega arith) refl);
+        named = All-cons (NamesWithin n) gift (CloseAt f ∷ []) inherit.site
+            (All-cons (NamesWithin n) (CloseAt f) [] tt (All-nil (NamesWithin n)));
+        covered = covers_both r gift (CloseAt f ∷ []) (omega (arith, is, all))
+            (covers_both _ (CloseAt f) [] (omega arith) refl);
         given = λ c numbers h. nothing_to c (gift ∷ (CloseAt f ∷ []))
             (let closed : is_closed (applied c) ≡ true = has_closed (applied c) numbers h in
-            let apart : heir ≢ c = λ e. both_ways (is_closed (applied c)) (subst (λ k. is_closed (applied k) ≡ false) e inherit.unclosed) closed in
+            let apart : heir ≢ c = λ e. both_ways (is_closed (applied c))
+            (subst (λ k. is_closed (applied k) ≡ false) e inherit.unclosed) closed in
             let no : eqb heir c ≡ false = ne_eqb heir c apart in rw no refl);
       };
       numbers = refl;
       none_taken = λ c. refl;
     }
 
-closing_heritage : (n s heir amount : ℕ) (log : List EntryValue) (applied : ℕ → List EntryValue) → Ready n s log applied → end log ≤ 999999998 → MayInherit n s log applied heir → amount ≡ held n s log applied
+closing_heritage : (n s heir amount : ℕ) (log : List EntryValue) (applied : ℕ → List EntryValue) → Ready n s log applied
+    → end log ≤ 999999998 → MayInherit n s log applied heir → amount ≡ held n s log applied
     → Closing n s log applied (heritage heir amount ++ CloseAt (own_frontier n applied) ∷ [])
 closing_heritage n s heir amount log applied k fits inherit is =
     elim (cases_eq amount 0) [
       | inl e ↦ let none : eqb amount 0 ≡ true = eq-eqb amount 0 e in rw none (closing_alone n s log applied k fits)
-      | inr ne ↦ let some : eqb amount 0 ≡ false = ne_eqb amount 0 ne in rw some (closing_gift n s heir amount log applied k fits inherit is (omega (arith, ne)))
+      | inr ne ↦ let some : eqb amount 0 ≡ false
+          = ne_eqb amount 0 ne in rw some
+          (closing_gift n s heir amount log applied k fits inherit is (omega (arith, ne)))
     ]
 
-pub closing_writable : (n s : ℕ) (heir : Option ℕ) (log : List EntryValue) (applied : ℕ → List EntryValue) → Ready n s log applied → end log ≤ 999999998 → IfSome heir (MayInherit n s log applied)
+pub closing_writable : (n s : ℕ) (heir : Option ℕ) (log : List EntryValue) (applied : ℕ → List EntryValue)
+    → Ready n s log applied → end log ≤ 999999998 → IfSome heir (MayInherit n s log applied)
     → Closing n s log applied (closing_moves n s log applied heir)
 closing_writable n s None log applied k fits inherit = closing_alone n s log applied k fits
-closing_writable n s (Some heir) log applied k fits inherit = closing_heritage n s heir (held n s log applied) log applied k fits inherit refl
+closing_writable n s (Some heir) log applied k fits inherit
+    = closing_heritage n s heir (held n s log applied) log applied k fits inherit refl

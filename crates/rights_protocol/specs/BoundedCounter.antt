@@ -106,7 +106,8 @@ pub record Operation : Type 0 where
 -- these operations, one after another, each by one of n sites
 abbrev pub CounterRun : ℕ → List Operation → Counter → Counter → Type 0
 CounterRun n [] old new = SameCounter old new
-CounterRun n (op ∷ ops) old new = IsSiteOf n op.by × ((mid : Counter) × Operates n op.by op.move old mid × CounterRun n ops mid new)
+CounterRun n (op ∷ ops) old new
+    = IsSiteOf n op.by × ((mid : Counter) × Operates n op.by op.move old mid × CounterRun n ops mid new)
 
 pub record EmptyCounter (c : Counter) : Type 0 where
   pub R : (i j : ℕ) → c.R i j ≡ 0

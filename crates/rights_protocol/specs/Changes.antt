@@ -100,7 +100,8 @@ pub record Takes (old new : Lists) (s o : ℕ) : Type 0 where
 pub record Closes (old new : Lists) (s : ℕ) (heir : Option ℕ) : Type 0 where
   pub site : IsSiteOf old.count s
   pub may : MayClose old.count s (old.log s) (old.applied s) heir
-  pub log : new.log s ≡ old.log s ++ entry_at_end s (old.log s) (closing_moves old.count s (old.log s) (old.applied s) heir) ∷ []
+  pub log : new.log s ≡ old.log s ++ entry_at_end s (old.log s)
+      (closing_moves old.count s (old.log s) (old.applied s) heir) ∷ []
   pub links : (o : ℕ) → LinkStays old new s o
   pub others : OthersStay old new s
 

@@ -9,7 +9,8 @@ use Rattle.rights_protocol.specs.Writing.{closing_moves}
 use Rattle.rights_protocol.specs.Changes.{Change, Append, Offer, Take, CloseSite, Nothing, Step, Runs, Start}
 use Rattle.rights_protocol.specs.Invariant.{Invariant}
 use Rattle.rights_protocol.specs.Headline.{all_spent, all_issued}
-use Rattle.rights_protocol.specs.BoundedCounter.{Counter, local_rights, value, SameCounter, TakesBack, Operate, Operation, CounterRun, EmptyCounter, IsSafe}
+use Rattle.rights_protocol.specs.BoundedCounter.{Counter, local_rights, value, SameCounter, TakesBack, Operate}
+use Rattle.rights_protocol.specs.BoundedCounter.{Operation, CounterRun, EmptyCounter, IsSafe}
 use Rattle.rights_protocol.specs.CounterOfLists.{counter_of, state_of, state_at}
 
 -- ---- the counter alone
@@ -24,7 +25,8 @@ OwnRowOnly = (n i : ℕ) (moves : List Move) (old new : Counter) → Operate n i
 
 -- whatever operations the sites make from the start, nothing is overdrawn
 abbrev pub CounterIsSafe : Type 0
-CounterIsSafe = (n : ℕ) (ops : List Operation) (start new : Counter) → EmptyCounter start → CounterRun n ops start new → IsSafe n new
+CounterIsSafe = (n : ℕ) (ops : List Operation) (start new : Counter) → EmptyCounter start → CounterRun n ops start new
+    → IsSafe n new
 
 -- ---- the lists as a counter
 
@@ -57,13 +59,16 @@ pub record OperatesBoth (s : ℕ) (moves : List Move) (old new : Lists) : Type 0
 
 abbrev pub ByOperations : Lists → Change → Lists → Type 0
 ByOperations old (Append s moves) new = OperatesBoth s moves old new
-ByOperations old (CloseSite s heir) new = OperatesBoth s (closing_moves old.count s (old.log s) (old.applied s) heir) old new
-ByOperations old (Take s o) new = SameCounter (state_of old) (state_of new) ⊎ ((amount : ℕ) × TakesBack old.count s o amount (state_of old) (state_of new))
+ByOperations old (CloseSite s heir) new
+    = OperatesBoth s (closing_moves old.count s (old.log s) (old.applied s) heir) old new
+ByOperations old (Take s o) new = SameCounter (state_of old) (state_of new)
+    ⊎ ((amount : ℕ) × TakesBack old.count s o amount (state_of old) (state_of new))
 ByOperations old (Offer s o e) new = SameCounter (state_of old) (state_of new)
 ByOperations old Nothing new = SameCounter (state_of old) (state_of new)
 
 abbrev pub StepOperates : Type 0
-StepOperates = (old : Lists) (change : Change) (new : Lists) → Invariant old → Step old change new → ByOperations old change new
+StepOperates = (old : Lists) (change : Change) (new : Lists) → Invariant old → Step old change new
+    → ByOperations old change new
 
 -- so each run of the protocol is a run of the counter
 abbrev pub RunOperates : Type 0

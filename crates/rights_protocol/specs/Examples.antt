@@ -66,11 +66,17 @@ abbrev pub held_back : Side
 held_back = record { log = []; reached = leaving ∷ []; put = []; applied = [] }
 
 abbrev pub both_came : List EntryValue → Side
-both_came applied = record { log = []; reached = leaving ∷ (opening ∷ []); put = opening ∷ (leaving ∷ []); applied = applied }
+both_came applied = record {
+  log = [];
+  reached = leaving ∷ (opening ∷ []);
+  put = opening ∷ (leaving ∷ []);
+  applied = applied;
+}
 
 pub record Inherits : Type 0 where
   pub run : Runs (two empty_side empty_side)
-      (Append 1 opening.moves ∷ (CloseSite 1 (Some 2) ∷ (Offer 2 1 leaving ∷ (Offer 2 1 opening ∷ (Take 2 1 ∷ (Take 2 1 ∷ []))))))
+      (Append 1 opening.moves ∷ (CloseSite 1 (Some 2)
+      ∷ (Offer 2 1 leaving ∷ (Offer 2 1 opening ∷ (Take 2 1 ∷ (Take 2 1 ∷ []))))))
       (two leaver (both_came (opening ∷ (leaving ∷ []))))
   -- the gift is held by its giver, then in transit, then held by its receiver; then the inheritance follows
   pub before : Stands (two (in_order (opening ∷ []) [] []) empty_side) 3 0 3 0
@@ -107,7 +113,9 @@ told_late = in_order (closing ∷ []) (issuing ∷ (giving ∷ [])) (issuing ∷
 
 pub record GiftComesBack : Type 0 where
   pub run : Runs (two empty_side empty_side)
-      (Append 1 issuing.moves ∷ (Append 1 giving.moves ∷ (Offer 2 1 issuing ∷ (Take 2 1 ∷ (CloseSite 2 None ∷ (Offer 1 2 closing ∷ (Take 1 2 ∷ (Offer 2 1 giving ∷ (Nothing ∷ [])))))))))
+      (Append 1 issuing.moves ∷ (Append 1 giving.moves
+      ∷ (Offer 2 1 issuing ∷ (Take 2 1
+      ∷ (CloseSite 2 None ∷ (Offer 1 2 closing ∷ (Take 1 2 ∷ (Offer 2 1 giving ∷ (Nothing ∷ [])))))))))
       (two regainer told_late)
   pub owes : owed 1 2 (issuing ∷ (giving ∷ [])) (frontier (closing ∷ [])) ≡ 4
   pub takes : taking_back 1 2 (issuing ∷ (giving ∷ [])) closing ≡ regaining ∷ []
@@ -122,7 +130,8 @@ closing_too = entry 1 2 (CloseAt (0 ∷ (0 ∷ [])) ∷ [])
 
 pub record BothClose : Type 0 where
   pub owes : owed 1 2 (entry 1 0 (Issue 5 ∷ []) ∷ (entry 1 1 (Give 2 5 ∷ []) ∷ [])) (Some (0 ∷ (0 ∷ []))) ≡ 5
-  pub stays : Stands (two (in_order (entry 1 0 (Issue 5 ∷ []) ∷ (entry 1 1 (Give 2 5 ∷ []) ∷ (closing_too ∷ []))) (entry 2 0 (CloseAt (0 ∷ (0 ∷ [])) ∷ []) ∷ []) [])
+  pub stays : Stands (two (in_order (entry 1 0 (Issue 5 ∷ []) ∷ (entry 1 1 (Give 2 5 ∷ []) ∷ (closing_too ∷ [])))
+      (entry 2 0 (CloseAt (0 ∷ (0 ∷ [])) ∷ []) ∷ []) [])
       (in_order (entry 2 0 (CloseAt (0 ∷ (0 ∷ [])) ∷ []) ∷ []) [] [])) 0 0 5 0
 
 -- ---- a grant: site 1 grants 6 of 10 to site 2, which spends them
@@ -131,9 +140,12 @@ abbrev pub granting : EntryValue
 granting = entry 1 1 (Grant 2 6 1 ∷ [])
 
 pub record IsGranted : Type 0 where
-  pub before : Stands (two (in_order (issuing ∷ (granting ∷ [])) [] []) (in_order [] (issuing ∷ []) (issuing ∷ []))) 4 0 6 0
-  pub granted : Stands (two (in_order (issuing ∷ (granting ∷ [])) [] []) (in_order [] (issuing ∷ (granting ∷ [])) (issuing ∷ (granting ∷ [])))) 4 6 0 0
-  pub spent : Stands (two (in_order (issuing ∷ (granting ∷ [])) [] []) (in_order (entry 2 0 (Spend 6 ∷ []) ∷ []) (issuing ∷ (granting ∷ [])) (issuing ∷ (granting ∷ [])))) 4 0 0 0
+  pub before : Stands (two (in_order (issuing ∷ (granting ∷ [])) [] []) (in_order [] (issuing ∷ []) (issuing ∷ []))) 4 0
+      6 0
+  pub granted : Stands (two (in_order (issuing ∷ (granting ∷ [])) [] [])
+      (in_order [] (issuing ∷ (granting ∷ [])) (issuing ∷ (granting ∷ [])))) 4 6 0 0
+  pub spent : Stands (two (in_order (issuing ∷ (granting ∷ [])) [] [])
+      (in_order (entry 2 0 (Spend 6 ∷ []) ∷ []) (issuing ∷ (granting ∷ [])) (issuing ∷ (granting ∷ [])))) 4 0 0 0
 
 -- ---- a gap: the last of three entries comes first and is held; the others come, and then all once more
 
@@ -170,4 +182,5 @@ abbrev pub holder : Side
 holder = record { log = []; reached = ones 1 64; put = []; applied = [] }
 
 abbrev pub IsTurnedAway : Type 0
-IsTurnedAway = Step (two (in_order (ones 0 66) [] []) holder) (Offer 2 1 (entry 1 65 (Issue 1 ∷ []))) (two (in_order (ones 0 66) [] []) holder)
+IsTurnedAway = Step (two (in_order (ones 0 66) [] []) holder) (Offer 2 1 (entry 1 65 (Issue 1 ∷ [])))
+    (two (in_order (ones 0 66) [] []) holder)

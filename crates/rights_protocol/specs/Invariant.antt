@@ -28,7 +28,8 @@ pub record SiteInvariant (n s : ℕ) (log : List EntryValue) (applied : ℕ → 
   -- and from no other
   pub taken : (c : ℕ) → takings c log ≡ one_taking c (owed s c log (frontier (applied c)))
   -- and the entry that did so begins at its own position in that frontier, or after it: c has not applied it
-  pub placed : (c : ℕ) (numbers : List ℕ) (place : ℕ) → frontier (applied c) ≡ Some numbers → slice_get numbers (s - 1) ≡ Some place
+  pub placed : (c : ℕ) (numbers : List ℕ) (place : ℕ) → frontier (applied c) ≡ Some numbers
+      → slice_get numbers (s - 1) ≡ Some place
       → takings c (beyond place log) ≡ takings c log
   -- above the last number of an ordinary entry there is at most one reclaim for each site that is known to be closed
   pub fits : is_closed log ≡ false → end log ≤ LAST_APPEND + known_closed n applied

@@ -3,7 +3,8 @@ use Rattle.std.specs.Prelude.{◌≡◌, ◌≢◌, ℕ, ◌+◌, ◌<◌, ◌�
 use Rattle.rights_types.specs.Entries.{EntryValue}
 use Rattle.rights_types.specs.Chains.{end, is_closed, IsChain, moves_of, AddsEntry}
 use Rattle.rights_types.specs.Rights.{to, back, received, held}
-use Rattle.rights_types.specs.declared.limits.TheConstants.{MIN_SITES, MAX_SITES, LAST_APPEND, MAX_TOTAL, MAX_RECEIVED, MAX_HELD_RIGHTS}
+use Rattle.rights_types.specs.declared.limits.TheConstants.{MIN_SITES, MAX_SITES, LAST_APPEND, MAX_TOTAL, MAX_RECEIVED}
+use Rattle.rights_types.specs.declared.limits.TheConstants.{MAX_HELD_RIGHTS}
 use Rattle.rights_types.specs.declared.moves.Move.{Move}
 use Rattle.rights_protocol.specs.Lists.{Lists, IsSiteOf}
 use Rattle.rights_protocol.specs.Retiring.{frontier, owed, entry_at_end, taking_back}
@@ -15,17 +16,20 @@ use Rattle.rights_protocol.specs.Retirement.{AppliedClose, Promised}
 -- ---- every run
 
 -- P holds of the lists before the first of these changes, between any two and after the last
-abbrev pub AllAlong : (Lists → Type 0) → (old : Lists) → (changes : List Change) → (new : Lists) → Runs old changes new → Type 0
+abbrev pub AllAlong : (Lists → Type 0) → (old : Lists) → (changes : List Change) → (new : Lists)
+    → Runs old changes new → Type 0
 AllAlong P old [] new run = P old × P new
 AllAlong P old (change ∷ changes) new run = P old × AllAlong P run.0 changes new run.2
 
 -- all that is promised holds at each moment of each run from the start
 abbrev pub EveryMoment : Type 0
-EveryMoment = (n : ℕ) (start : Lists) (changes : List Change) (new : Lists) → Start n start → (run : Runs start changes new) → AllAlong Promised start changes new run
+EveryMoment = (n : ℕ) (start : Lists) (changes : List Change) (new : Lists) → Start n start
+    → (run : Runs start changes new) → AllAlong Promised start changes new run
 
 -- so it holds of the lists that a run leads to
 abbrev pub EveryRun : Type 0
-EveryRun = (n : ℕ) (start : Lists) (changes : List Change) (new : Lists) → Start n start → Runs start changes new → Promised new
+EveryRun = (n : ℕ) (start : Lists) (changes : List Change) (new : Lists) → Start n start → Runs start changes new
+    → Promised new
 
 -- ---- by what is kept
 
@@ -42,7 +46,8 @@ KeptPromises = (w : Lists) → Invariant w → Promised w
 
 -- a closed site stays closed, and no applied list of it changes
 abbrev pub ClosedForGood : Type 0
-ClosedForGood = (old : Lists) (changes : List Change) (new : Lists) (c : ℕ) → Runs old changes new → is_closed (old.log c) ≡ true
+ClosedForGood = (old : Lists) (changes : List Change) (new : Lists) (c : ℕ) → Runs old changes new
+    → is_closed (old.log c) ≡ true
     → (is_closed (new.log c) ≡ true) × ((o : ℕ) → new.applied c o ≡ old.applied c o)
 
 -- a closing entry that was applied stays applied
@@ -54,10 +59,13 @@ AppliedForGood = (old : Lists) (changes : List Change) (new : Lists) (s c : ℕ)
 
 -- each step of a site preserves the invariant of that site, in which no other site's log is named
 pub record SiteGoesOn (n s : ℕ) (log : List EntryValue) (applied : ℕ → List EntryValue) : Type 0 where
-  pub appends : (ms : List Move) → MayAppend n s log applied ms → SiteInvariant n s (log ++ entry_at_end s log ms ∷ []) applied
-  pub takes : (o : ℕ) (e : EntryValue) (now : ℕ → List EntryValue) → IsSiteOf n o → s ≢ o → is_closed log ≡ false → IsChain o (applied o ++ e ∷ [])
+  pub appends : (ms : List Move) → MayAppend n s log applied ms
+      → SiteInvariant n s (log ++ entry_at_end s log ms ∷ []) applied
+  pub takes : (o : ℕ) (e : EntryValue) (now : ℕ → List EntryValue) → IsSiteOf n o → s ≢ o → is_closed log ≡ false
+      → IsChain o (applied o ++ e ∷ [])
       → AddsEntry applied o e now → SiteInvariant n s (log ++ taking_back s o log e) now
-  pub closes : (heir : Option ℕ) → MayClose n s log applied heir → SiteInvariant n s (log ++ entry_at_end s log (closing_moves n s log applied heir) ∷ []) applied
+  pub closes : (heir : Option ℕ) → MayClose n s log applied heir
+      → SiteInvariant n s (log ++ entry_at_end s log (closing_moves n s log applied heir) ∷ []) applied
 
 -- and the invariant bounds the site's log and its book
 pub record SiteBounds (n s : ℕ) (log : List EntryValue) (applied : ℕ → List EntryValue) : Type 0 where
@@ -76,4 +84,5 @@ pub record SiteBounds (n s : ℕ) (log : List EntryValue) (applied : ℕ → Lis
 
 abbrev pub OneSite : Type 0
 OneSite = (n s : ℕ) (log : List EntryValue) (applied : ℕ → List EntryValue)
-    → MIN_SITES ≤ n → n ≤ MAX_SITES → IsSiteOf n s → SiteInvariant n s log applied → SiteGoesOn n s log applied × SiteBounds n s log applied
+    → MIN_SITES ≤ n → n ≤ MAX_SITES → IsSiteOf n s → SiteInvariant n s log applied
+    → SiteGoesOn n s log applied × SiteBounds n s log applied

@@ -12,11 +12,14 @@ AppliedClose w s c numbers = frontier (w.applied s c) ≡ Some numbers
 
 pub record Retirement (w : Lists) : Type 0 where
   -- the frontier of a closed site is what it has applied
-  pub frontier_is : (c : ℕ) → is_closed (w.log c) ≡ true → frontier (w.log c) ≡ Some (own_frontier w.count (w.applied c))
+  pub frontier_is : (c : ℕ) → is_closed (w.log c) ≡ true
+      → frontier (w.log c) ≡ Some (own_frontier w.count (w.applied c))
   -- a site that applied it reclaimed exactly what it gave beyond the frontier
-  pub taken_back : (s c : ℕ) (numbers : List ℕ) → AppliedClose w s c numbers → back c (moves_of (w.log s)) ≡ owed s c (w.log s) (Some numbers)
+  pub taken_back : (s c : ℕ) (numbers : List ℕ) → AppliedClose w s c numbers
+      → back c (moves_of (w.log s)) ≡ owed s c (w.log s) (Some numbers)
   -- by one entry, or by none if that is nothing
-  pub once : (s c : ℕ) (numbers : List ℕ) → AppliedClose w s c numbers → takings c (w.log s) ≡ one_taking c (owed s c (w.log s) (Some numbers))
+  pub once : (s c : ℕ) (numbers : List ℕ) → AppliedClose w s c numbers
+      → takings c (w.log s) ≡ one_taking c (owed s c (w.log s) (Some numbers))
   -- and from then on nothing is in transit from there to the closed site
   pub none_on_way : (s c : ℕ) (numbers : List ℕ) → IsSiteOf w.count s → AppliedClose w s c numbers → on_way w s c ≡ 0
   -- nothing is reclaimed before

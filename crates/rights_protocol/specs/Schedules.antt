@@ -91,16 +91,19 @@ LocalStep n s old Other new = SameLists old new
 -- these steps of s, one after another
 abbrev pub LocalRun : ℕ → ℕ → SiteLists → List LocalChange → SiteLists → Type 0
 LocalRun n s old [] new = SameLists old new
-LocalRun n s old (change ∷ changes) new = (mid : SiteLists) × LocalStep n s old change mid × LocalRun n s mid changes new
+LocalRun n s old (change ∷ changes) new = (mid : SiteLists) × LocalStep n s old change mid
+    × LocalRun n s mid changes new
 
 -- each step of a site preserves the invariant of that site
 abbrev pub LocalKeeps : Type 0
-LocalKeeps = (n s : ℕ) (old : SiteLists) (change : LocalChange) (new : SiteLists) → MIN_SITES ≤ n → n ≤ MAX_SITES → IsSiteOf n s
+LocalKeeps = (n s : ℕ) (old : SiteLists) (change : LocalChange) (new : SiteLists) → MIN_SITES ≤ n → n ≤ MAX_SITES
+    → IsSiteOf n s
     → SiteInvariant n s old.log old.applied → LocalStep n s old change new → SiteInvariant n s new.log new.applied
 
 -- so the invariant holds of a site after any such steps from the start, whatever the others did
 abbrev pub LocalRunKept : Type 0
-LocalRunKept = (n s : ℕ) (start : SiteLists) (changes : List LocalChange) (now : SiteLists) → MIN_SITES ≤ n → n ≤ MAX_SITES → IsSiteOf n s
+LocalRunKept = (n s : ℕ) (start : SiteLists) (changes : List LocalChange) (now : SiteLists) → MIN_SITES ≤ n
+    → n ≤ MAX_SITES → IsSiteOf n s
     → IsFresh start → LocalRun n s start changes now → SiteInvariant n s now.log now.applied
 
 -- ---- a cut
@@ -167,11 +170,13 @@ changes_of [] = []
 changes_of (turn ∷ turns) = changes_by turn.site turn.change ++ changes_of turns
 
 -- P holds before the first of these turns, between any two and after the last
-abbrev pub AtEachMoment : (P : Lists → Type 0) (n : ℕ) (old : ℕ → SiteLists) (turns : List Turn) (new : ℕ → SiteLists) → Schedule n old turns new → Type 0
+abbrev pub AtEachMoment : (P : Lists → Type 0) (n : ℕ) (old : ℕ → SiteLists) (turns : List Turn) (new : ℕ → SiteLists)
+    → Schedule n old turns new → Type 0
 AtEachMoment P n old [] new schedule = P (together n old) × P (together n new)
 AtEachMoment P n old (turn ∷ turns) new schedule = P (together n old) × AtEachMoment P n schedule.0 turns new schedule.2
 
-pub record FollowsProtocol (n : ℕ) (start : ℕ → SiteLists) (turns : List Turn) (now : ℕ → SiteLists) (schedule : Schedule n start turns now) : Type 0 where
+pub record FollowsProtocol (n : ℕ) (start : ℕ → SiteLists) (turns : List Turn)
+    (now : ℕ → SiteLists) (schedule : Schedule n start turns now) : Type 0 where
   -- it is a run of the protocol from its start, by these changes
   pub from_start : Start n (together n start)
   pub run : Runs (together n start) (changes_of turns) (together n now)

@@ -1,6 +1,7 @@
 -- What one site may write, given its own log and what it applied of the others. No other site's lists are named: each
 -- site decides by what it knows.
-use Rattle.std.specs.Prelude.{◌≡◌, ◌≢◌, ℕ, ◌+◌, ◌≤◌, Bool, true, false, ◌==◌, List, [], ◌∷◌, ◌++◌, length, Option, Some, None, IfSome, if◌then◌else◌}
+use Rattle.std.specs.Prelude.{◌≡◌, ◌≢◌, ℕ, ◌+◌, ◌≤◌, Bool, true, false, ◌==◌, List, [], ◌∷◌, ◌++◌, length, Option, Some}
+use Rattle.std.specs.Prelude.{None, IfSome, if◌then◌else◌}
 use Rattle.std.specs.List.{All, list_any}
 use Rattle.rights_types.specs.Entries.{EntryValue}
 use Rattle.rights_types.specs.Chains.{end, is_closed}
@@ -54,4 +55,5 @@ heritage heir n = if n == 0 then [] else Give heir n ∷ []
 -- frontier. Without an heir s keeps what it holds.
 abbrev pub closing_moves : ℕ → ℕ → List EntryValue → (ℕ → List EntryValue) → Option ℕ → List Move
 closing_moves n s log applied None = CloseAt (own_frontier n applied) ∷ []
-closing_moves n s log applied (Some heir) = heritage heir (held n s log applied) ++ CloseAt (own_frontier n applied) ∷ []
+closing_moves n s log applied (Some heir)
+    = heritage heir (held n s log applied) ++ CloseAt (own_frontier n applied) ∷ []

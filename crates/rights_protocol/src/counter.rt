@@ -1,5 +1,6 @@
 //! The Bounded Counter, alone and as formed by the lists of a system: laws on functions that do nothing.
-ghost use Rattle.rights_protocol.specs.CounterLaws.{OwnRowOnly, CounterIsSafe, KeptCounts, StepOperates, RunOperates, SmallCounter};
+ghost use Rattle.rights_protocol.specs.CounterLaws.{OwnRowOnly, CounterIsSafe, KeptCounts, StepOperates, RunOperates};
+ghost use Rattle.rights_protocol.specs.CounterLaws.{SmallCounter};
 
 /// An operation of a site changes only its own row of R and its own entry of U.
 pub fn own_row_only()

@@ -1,5 +1,6 @@
 //! The laws, on functions that do nothing.
-ghost use Rattle.rights_protocol.specs.Laws.{EveryMoment, EveryRun, StartKept, StepKeeps, KeptPromises, ClosedForGood, AppliedForGood, OneSite};
+ghost use Rattle.rights_protocol.specs.Laws.{EveryMoment, EveryRun, StartKept, StepKeeps, KeptPromises, ClosedForGood};
+ghost use Rattle.rights_protocol.specs.Laws.{AppliedForGood, OneSite};
 
 /// The headline and retirement hold at each moment of every run from the start.
 pub fn every_moment()

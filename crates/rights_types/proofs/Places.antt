@@ -1,6 +1,8 @@
 -- Laws of lists with an item for each site.
-use Rattle.std.proofs.Common.{◌≡◌, ◌≢◌, ℕ, suc, zero, ◌+◌, ◌<◌, ◌≤◌, ◌⊎◌, inl, inr, List, length, get_or, set, replicate, arith, refl, sym, ap, subst, add-one}
-use Rattle.std.proofs.lemmas.List.{length-set, get_or-set_same, get_or-set_other, get_or_past, get_or-replicate, length-replicate, set-get_or}
+use Rattle.std.proofs.Common.{◌≡◌, ◌≢◌, ℕ, suc, zero, ◌+◌, ◌<◌, ◌≤◌, ◌⊎◌, inl, inr, List, length, get_or, set}
+use Rattle.std.proofs.Common.{replicate, arith, refl, sym, ap, subst, add-one}
+use Rattle.std.proofs.lemmas.List.{length-set, get_or-set_same, get_or-set_other, get_or_past, get_or-replicate}
+use Rattle.std.proofs.lemmas.List.{length-replicate, set-get_or}
 use Rattle.std.proofs.lemmas.Bool.{cases_eq, cases_lt}
 use Rattle.rights_types.specs.Places.{at_site, set_site}
 
@@ -46,7 +48,8 @@ set_site_keeps P xs s x d low high each here k =
     ]
 
 -- a list of equal items
-pub at_site-replicate : {X : Type 0} (P : X → Type 0) (n s : ℕ) (x d : X) → (1 ≤ s → s ≤ n → P x) → P d → P (at_site (replicate n x) s d)
+pub at_site-replicate : {X : Type 0} (P : X → Type 0) (n s : ℕ) (x d : X) → (1 ≤ s → s ≤ n → P x) → P d
+    → P (at_site (replicate n x) s d)
 at_site-replicate P n zero x d here past = past
 at_site-replicate P n (suc i) x d here past =
     elim (cases_lt i n) [

@@ -1,11 +1,16 @@
 -- Sums over the sites 1 to n.
-use Rattle.std.proofs.Common.{◌≡◌, ◌≢◌, ℕ, suc, zero, ◌+◌, ◌*◌, ◌<◌, ◌≤◌, inl, inr, arith, refl, sym, eqb, cond, add-one}
+use Rattle.std.proofs.Common.{◌≡◌, ◌≢◌, ℕ, suc, zero, ◌+◌, ◌*◌, ◌<◌, ◌≤◌, inl, inr, arith, refl, sym, eqb, cond}
+use Rattle.std.proofs.Common.{add-one}
 use Rattle.std.proofs.lemmas.Bool.{eq-eqb, ne_eqb, cases_eq}
 use Rattle.rights_types.specs.Rights.{sum_sites}
 
 pub sum_same : (n : ℕ) (f g : ℕ → ℕ) → ((k : ℕ) → 1 ≤ k → k ≤ n → f k ≡ g k) → sum_sites n f ≡ sum_sites n g
 sum_same zero f g h = refl
-sum_same (suc n) f g h = omega (arith, sum_same n f g (λ k low high. h k low (omega arith)), h (suc n) (omega arith) (omega arith))
+sum_same (suc n) f g h = omega (
+  arith,
+  sum_same n f g (λ k low high. h k low (omega arith)),
+  h (suc n) (omega arith) (omega arith),
+)
 
 pub sum_add : (n : ℕ) (f g : ℕ → ℕ) → sum_sites n (λ k. f k + g k) ≡ sum_sites n f + sum_sites n g
 sum_add zero f g = refl
@@ -15,7 +20,8 @@ pub sum_zero : (n : ℕ) → sum_sites n (λ k. 0) ≡ 0
 sum_zero zero = refl
 sum_zero (suc n) = omega (arith, sum_zero n)
 
-pub sum_swap : (n m : ℕ) (f : ℕ → ℕ → ℕ) → sum_sites n (λ a. sum_sites m (λ b. f a b)) ≡ sum_sites m (λ b. sum_sites n (λ a. f a b))
+pub sum_swap : (n m : ℕ) (f : ℕ → ℕ → ℕ)
+    → sum_sites n (λ a. sum_sites m (λ b. f a b)) ≡ sum_sites m (λ b. sum_sites n (λ a. f a b))
 sum_swap zero m f = sym (sum_zero m)
 sum_swap (suc n) m f = omega (arith, sum_swap n m f, sum_add m (λ b. sum_sites n (λ a. f a b)) (λ b. f (suc n) b))
 
@@ -25,7 +31,11 @@ sum_next n f = rw add-one refl
 
 pub sum_le : (n : ℕ) (f g : ℕ → ℕ) → ((k : ℕ) → 1 ≤ k → k ≤ n → f k ≤ g k) → sum_sites n f ≤ sum_sites n g
 sum_le zero f g h = omega arith
-sum_le (suc n) f g h = omega (arith, sum_le n f g (λ k low high. h k low (omega arith)), h (suc n) (omega arith) (omega arith))
+sum_le (suc n) f g h = omega (
+  arith,
+  sum_le n f g (λ k low high. h k low (omega arith)),
+  h (suc n) (omega arith) (omega arith),
+)
 
 -- a term is at most the sum
 pub sum_term : (n k : ℕ) (f : ℕ → ℕ) → 1 ≤ k → k ≤ n → f k ≤ sum_sites n f
@@ -66,7 +76,8 @@ sum_fewer (suc n) k f h =
     ]
 
 -- one term has risen, and so has the sum
-pub sum_risen : (n o rise : ℕ) (f g : ℕ → ℕ) → 1 ≤ o → o ≤ n → ((k : ℕ) → k ≢ o → g k ≡ f k) → g o ≡ f o + rise → sum_sites n g ≡ sum_sites n f + rise
+pub sum_risen : (n o rise : ℕ) (f g : ℕ → ℕ) → 1 ≤ o → o ≤ n → ((k : ℕ) → k ≢ o → g k ≡ f k) → g o ≡ f o + rise
+    → sum_sites n g ≡ sum_sites n f + rise
 sum_risen zero o rise f g low high others here = absurd (omega arith)
 sum_risen (suc n) o rise f g low high others here =
     elim (cases_eq o (suc n)) [

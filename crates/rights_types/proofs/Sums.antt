@@ -1,14 +1,17 @@
 -- Laws of the sums over moves.
-use Rattle.std.proofs.Common.{◌≡◌, ℕ, ◌+◌, ◌-◌, ◌*◌, ◌<◌, ◌≤◌, Bool, true, false, List, [], ◌∷◌, ◌++◌, length, get_or, take, drop, arith, refl, sym, ap, ◌∙◌, eqb, ltb, cond, not}
+use Rattle.std.proofs.Common.{◌≡◌, ℕ, ◌+◌, ◌-◌, ◌*◌, ◌<◌, ◌≤◌, Bool, true, false, List, [], ◌∷◌, ◌++◌, length, get_or}
+use Rattle.std.proofs.Common.{take, drop, arith, refl, sym, ap, ◌∙◌, eqb, ltb, cond, not}
 use Rattle.std.specs.List.{sum_by, All, list_any}
 use Rattle.std.proofs.lemmas.Bool.{and_parts, or_parts, ltb-false, le-ltb, lt-ltb, not-true}
 use Rattle.std.proofs.lemmas.List.{append_assoc, append-nil, take-append-drop, at_drop_more}
 use Rattle.std.proofs.lemmas.List.Sums.{sum_by-append, sum_by-cons, sum_by-le, sum_by-le-sum_by, sum_by_more}
 use Rattle.std.proofs.lemmas.List.Elements.{All-weaker, All-head, All-tail, All-take}
-use Rattle.rights_types.specs.Moves.{IsMove, NamesWithin, names, issue_of, spend_of, gift_of, gift_to, take_back_of, take_back_from, gain_of, cost_of}
+use Rattle.rights_types.specs.Moves.{IsMove, NamesWithin, names, issue_of, spend_of, gift_of, gift_to, take_back_of}
+use Rattle.rights_types.specs.Moves.{take_back_from, gain_of, cost_of}
 use Rattle.rights_types.specs.Entries.{EntryValue}
 use Rattle.rights_types.specs.Chains.{moves_of, end, IsChain}
-use Rattle.rights_types.specs.Rights.{issued, spent, out, to, taken_back, back, sum_sites, covers, rights_after, IsNeverShort}
+use Rattle.rights_types.specs.Rights.{issued, spent, out, to, taken_back, back, sum_sites, covers, rights_after}
+use Rattle.rights_types.specs.Rights.{IsNeverShort}
 use Rattle.rights_types.specs.declared.moves.Move.{Move}
 use Rattle.rights_types.specs.declared.moves.Move.TheVariants.{Issue, Spend, Grant, Give, Close, CloseAt, TakeBack}
 use Rattle.rights_types.proofs.Chains.{end-count, all_moves}
@@ -21,7 +24,8 @@ moves_of-nil = refl
 pub moves_of-append : (xs ys : List EntryValue) → moves_of (xs ++ ys) ≡ moves_of xs ++ moves_of ys
 unfolding moves_of
 moves_of-append [] ys = refl
-moves_of-append (x ∷ xs) ys = ap (λ (ms : List Move). x.moves ++ ms) (moves_of-append xs ys) ∙ sym (append_assoc x.moves (moves_of xs) (moves_of ys))
+moves_of-append (x ∷ xs) ys = ap (λ (ms : List Move). x.moves ++ ms) (moves_of-append xs ys)
+    ∙ sym (append_assoc x.moves (moves_of xs) (moves_of ys))
 
 pub moves_of-push : (xs : List EntryValue) (e : EntryValue) → moves_of (xs ++ e ∷ []) ≡ moves_of xs ++ e.moves
 unfolding moves_of
@@ -52,7 +56,8 @@ unfolding back
 back-append s xs ys = sum_by-append (take_back_from s) xs ys
 
 -- the moves from index i on begin with the move at i
-pub next_move : (ms : List Move) (i : ℕ) (m : Move) → i < length ms → m ≡ get_or ms i m → drop i ms ≡ m ∷ drop (i + 1) ms
+pub next_move : (ms : List Move) (i : ℕ) (m : Move) → i < length ms → m ≡ get_or ms i m
+    → drop i ms ≡ m ∷ drop (i + 1) ms
 next_move ms i m lt is = at_drop_more (λ xs. xs) ms i m lt ∙ ap (λ (x : Move). x ∷ drop (i + 1) ms) (sym is)
 
 pub issued-cons : (m : Move) (ms : List Move) → issued (m ∷ ms) ≡ issue_of m + issued ms
@@ -116,15 +121,18 @@ nothing_to s (m ∷ ms) h =
     omega (arith, to-cons s m ms, no_gift s m p.0, nothing_to s ms p.1)
 
 -- one more of the first moves
-pub to-more : (s : ℕ) (ms : List Move) (i : ℕ) (d : Move) → i < length ms → to s (take (i + 1) ms) ≡ to s (take i ms) + gift_to s (get_or ms i d)
+pub to-more : (s : ℕ) (ms : List Move) (i : ℕ) (d : Move) → i < length ms
+    → to s (take (i + 1) ms) ≡ to s (take i ms) + gift_to s (get_or ms i d)
 unfolding to
 to-more s ms i d h = sum_by_more (gift_to s) ms i d h
 
-pub issued-more : (ms : List Move) (i : ℕ) (d : Move) → i < length ms → issued (take (i + 1) ms) ≡ issued (take i ms) + issue_of (get_or ms i d)
+pub issued-more : (ms : List Move) (i : ℕ) (d : Move) → i < length ms
+    → issued (take (i + 1) ms) ≡ issued (take i ms) + issue_of (get_or ms i d)
 unfolding issued
 issued-more ms i d h = sum_by_more issue_of ms i d h
 
-pub spent-more : (ms : List Move) (i : ℕ) (d : Move) → i < length ms → spent (take (i + 1) ms) ≡ spent (take i ms) + spend_of (get_or ms i d)
+pub spent-more : (ms : List Move) (i : ℕ) (d : Move) → i < length ms
+    → spent (take (i + 1) ms) ≡ spent (take i ms) + spend_of (get_or ms i d)
 unfolding spent
 spent-more ms i d h = sum_by_more spend_of ms i d h
 
@@ -179,7 +187,8 @@ spent-bound ms h = sum_by-le spend_of 1000000000 ms (All-weaker IsMove (λ m. sp
 
 pub to-bound : (s : ℕ) (ms : List Move) → All IsMove ms → to s ms ≤ length ms * 1000000000
 unfolding to
-to-bound s ms h = sum_by-le (gift_to s) 1000000000 ms (All-weaker IsMove (λ m. gift_to s m ≤ 1000000000) (gift_to-bound s) ms h)
+to-bound s ms h = sum_by-le (gift_to s) 1000000000 ms
+    (All-weaker IsMove (λ m. gift_to s m ≤ 1000000000) (gift_to-bound s) ms h)
 
 gift-bound : (m : Move) → IsMove m → gift_of m ≤ 1000000000
 gift-bound (Issue n) h = omega arith
@@ -205,17 +214,21 @@ out-bound ms h = sum_by-le gift_of 1000000000 ms (All-weaker IsMove (λ m. gift_
 
 pub taken_back-bound : (ms : List Move) → All IsMove ms → taken_back ms ≤ length ms * 1000000000000000000
 unfolding taken_back
-taken_back-bound ms h = sum_by-le take_back_of 1000000000000000000 ms (All-weaker IsMove (λ m. take_back_of m ≤ 1000000000000000000) take_back-bound ms h)
+taken_back-bound ms h = sum_by-le take_back_of 1000000000000000000 ms
+    (All-weaker IsMove (λ m. take_back_of m ≤ 1000000000000000000) take_back-bound ms h)
 
 -- a log issues, spends and gives to each site at most 10^9 for each of its numbers
 pub log-issued : (o : ℕ) (es : List EntryValue) → IsChain o es → issued (moves_of es) ≤ end es * 1000000000
-log-issued o es c = let n : end es ≡ length (moves_of es) = omega (arith, end-count o false 0 es c) in rw n (issued-bound (moves_of es) (all_moves o false 0 es c))
+log-issued o es c = let n : end es ≡ length (moves_of es)
+    = omega (arith, end-count o false 0 es c) in rw n (issued-bound (moves_of es) (all_moves o false 0 es c))
 
 pub log-spent : (o : ℕ) (es : List EntryValue) → IsChain o es → spent (moves_of es) ≤ end es * 1000000000
-log-spent o es c = let n : end es ≡ length (moves_of es) = omega (arith, end-count o false 0 es c) in rw n (spent-bound (moves_of es) (all_moves o false 0 es c))
+log-spent o es c = let n : end es ≡ length (moves_of es)
+    = omega (arith, end-count o false 0 es c) in rw n (spent-bound (moves_of es) (all_moves o false 0 es c))
 
 pub log-to : (o s : ℕ) (es : List EntryValue) → IsChain o es → to s (moves_of es) ≤ end es * 1000000000
-log-to o s es c = let n : end es ≡ length (moves_of es) = omega (arith, end-count o false 0 es c) in rw n (to-bound s (moves_of es) (all_moves o false 0 es c))
+log-to o s es c = let n : end es ≡ length (moves_of es)
+    = omega (arith, end-count o false 0 es c) in rw n (to-bound s (moves_of es) (all_moves o false 0 es c))
 
 at_least : (b : Bool) (n : ℕ) → cond b n 0 ≤ n
 at_least true n = omega arith
@@ -248,16 +261,19 @@ costs [] = refl
 costs (m ∷ ms) = simp sum_by-cons (omega (arith, costs ms))
 
 -- the first move is covered, and the others by what remains after it
-pub covers_parts : (r : ℕ) (m : Move) (ms : List Move) → covers r (m ∷ ms) ≡ true → (cost_of m ≤ r) × (covers ((r - cost_of m) + gain_of m) ms ≡ true)
+pub covers_parts : (r : ℕ) (m : Move) (ms : List Move) → covers r (m ∷ ms) ≡ true
+    → (cost_of m ≤ r) × (covers ((r - cost_of m) + gain_of m) ms ≡ true)
 covers_parts r m ms h =
     let p = and_parts (not (ltb r (cost_of m))) (covers ((r - cost_of m) + gain_of m) ms) h in
     (ltb-false r (cost_of m) (not-true (ltb r (cost_of m)) p.0), p.1)
 
-pub covers_both : (r : ℕ) (m : Move) (ms : List Move) → cost_of m ≤ r → covers ((r - cost_of m) + gain_of m) ms ≡ true → covers r (m ∷ ms) ≡ true
+pub covers_both : (r : ℕ) (m : Move) (ms : List Move) → cost_of m ≤ r → covers ((r - cost_of m) + gain_of m) ms ≡ true
+    → covers r (m ∷ ms) ≡ true
 covers_both r m ms le h = rw (le-ltb r (cost_of m) le, h) refl
 
 -- after a covered move, the others must be covered by what remains
-pub covers_next : (r : ℕ) (m : Move) (ms : List Move) → cost_of m ≤ r → covers r (m ∷ ms) ≡ covers ((r - cost_of m) + gain_of m) ms
+pub covers_next : (r : ℕ) (m : Move) (ms : List Move) → cost_of m ≤ r
+    → covers r (m ∷ ms) ≡ covers ((r - cost_of m) + gain_of m) ms
 covers_next r m ms le = rw (le-ltb r (cost_of m) le) refl
 
 -- a move that costs more than there is is not covered
@@ -271,7 +287,8 @@ after_by r (m ∷ ms) h =
     simp sum_by-cons (omega (arith, p.0, after_by ((r - cost_of m) + gain_of m) ms p.1))
 
 -- what remains, was spent and was given is what there was, was issued and was reclaimed
-pub rights_after_is : (r : ℕ) (ms : List Move) → covers r ms ≡ true → rights_after r ms + spent ms + out ms ≡ r + issued ms + taken_back ms
+pub rights_after_is : (r : ℕ) (ms : List Move) → covers r ms ≡ true
+    → rights_after r ms + spent ms + out ms ≡ r + issued ms + taken_back ms
 rights_after_is r ms h = omega (arith, after_by r ms h, gains ms, costs ms)
 
 -- more rights cover whatever fewer rights cover
@@ -279,9 +296,11 @@ pub covers-more : (r q : ℕ) (ms : List Move) → r ≤ q → covers r ms ≡ t
 covers-more r q [] le h = refl
 covers-more r q (m ∷ ms) le h =
     let p = covers_parts r m ms h in
-    covers_both q m ms (omega (arith, p.0)) (covers-more ((r - cost_of m) + gain_of m) ((q - cost_of m) + gain_of m) ms (omega (arith, p.0)) p.1)
+    covers_both q m ms (omega (arith, p.0))
+    (covers-more ((r - cost_of m) + gain_of m) ((q - cost_of m) + gain_of m) ms (omega (arith, p.0)) p.1)
 
-pub covers-append : (r : ℕ) (xs ys : List Move) → covers r xs ≡ true → covers (rights_after r xs) ys ≡ true → covers r (xs ++ ys) ≡ true
+pub covers-append : (r : ℕ) (xs ys : List Move) → covers r xs ≡ true → covers (rights_after r xs) ys ≡ true
+    → covers r (xs ++ ys) ≡ true
 covers-append r [] ys h k = k
 covers-append r (m ∷ xs) ys h k =
     let p = covers_parts r m xs h in
@@ -305,11 +324,13 @@ one_gift n (CloseAt f) h = sum_zero n
 one_gift n (TakeBack j a) h = sum_zero n
 
 -- a sum over moves by the site that each names, and the sum over those sites
-by_sites : (n : ℕ) (part : ℕ → Move → ℕ) (whole : Move → ℕ) → ((m : Move) → NamesWithin n m → sum_sites n (λ s. part s m) ≡ whole m)
+by_sites : (n : ℕ) (part : ℕ → Move → ℕ) (whole : Move → ℕ)
+    → ((m : Move) → NamesWithin n m → sum_sites n (λ s. part s m) ≡ whole m)
     → (ms : List Move) → All (NamesWithin n) ms → sum_sites n (λ s. sum_by (part s) ms) ≡ sum_by whole ms
 by_sites n part whole one [] h = sum_zero n
 by_sites n part whole one (m ∷ ms) h =
-    sum_same n (λ s. sum_by (part s) (m ∷ ms)) (λ s. part s m + sum_by (part s) ms) (λ s low high. sum_by-cons (part s) m ms)
+    sum_same n (λ s. sum_by (part s) (m ∷ ms)) (λ s. part s m + sum_by (part s) ms)
+    (λ s low high. sum_by-cons (part s) m ms)
     ∙ sum_add n (λ s. part s m) (λ s. sum_by (part s) ms)
     ∙ ap (λ k. sum_sites n (λ s. part s m) + k) (by_sites n part whole one ms (All-tail (NamesWithin n) m ms h))
     ∙ ap (λ k. k + sum_by whole ms) (one m (All-head (NamesWithin n) m ms h)) ∙ sym (sum_by-cons whole m ms)

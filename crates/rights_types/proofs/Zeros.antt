@@ -1,5 +1,6 @@
 -- The places after those that were written are 0.
-use Rattle.std.proofs.Common.{◌≡◌, ℕ, suc, ◌+◌, ◌-◌, ◌<◌, List, [], ◌∷◌, length, get_or, drop, ap, sym, ◌∙◌, arith, add-one}
+use Rattle.std.proofs.Common.{◌≡◌, ℕ, suc, ◌+◌, ◌-◌, ◌<◌, List, [], ◌∷◌, length, get_or, drop, ap, sym, ◌∙◌, arith}
+use Rattle.std.proofs.Common.{add-one}
 use Rattle.std.specs.Prelude.{replicate}
 use Rattle.std.proofs.Math.Seq.{drop-cons}
 
@@ -7,7 +8,8 @@ tail_of : List ℕ → List ℕ
 tail_of [] = []
 tail_of (x ∷ xs) = xs
 
-pub zeros_behind : (xs : List ℕ) (i : ℕ) → length xs ≡ 16 → i < 16 → drop i xs ≡ replicate (16 - i) 0 → drop (i + 1) xs ≡ replicate (16 - (i + 1)) 0
+pub zeros_behind : (xs : List ℕ) (i : ℕ) → length xs ≡ 16 → i < 16 → drop i xs ≡ replicate (16 - i) 0
+    → drop (i + 1) xs ≡ replicate (16 - (i + 1)) 0
 unfolding tail_of
 zeros_behind xs i long small zeros =
     let one : 16 - i ≡ suc (16 - suc i) = omega arith in

@@ -19,7 +19,8 @@ made : List ℕ → ℕ → Inside
 made numbers count = record { numbers = numbers; count = count }
 
 pub padded_again : (a : Inside) → IsPadded a.count a.numbers
-    → (let kept = take a.count a.numbers in let b : Inside = record { numbers = padded kept; count = length kept } in b) ≡ a
+    → (let kept = take a.count a.numbers in let b : Inside = record { numbers = padded kept; count = length kept } in b)
+    ≡ a
 unfolding made
 padded_again a h =
     ap (λ numbers. made numbers (length (take a.count a.numbers))) (places_again a.count a.numbers h)

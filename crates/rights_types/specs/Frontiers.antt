@@ -19,5 +19,6 @@ padded numbers = numbers ++ replicate (16 - length numbers) 0
 abbrev pub FrontierMade : List ℕ → Result (List ℕ) TypeError → Type 0
 FrontierMade numbers (Ok made) = IsFrontier numbers × (made ≡ numbers)
 FrontierMade numbers (Err BadCount) = (length numbers < MIN_SITES) ⊎ (MAX_SITES < length numbers)
-FrontierMade numbers (Err BadNumber) = (MIN_SITES ≤ length numbers) × (length numbers ≤ MAX_SITES) × Any (λ n. MAX_NUMBER < n) numbers
+FrontierMade numbers (Err BadNumber) = (MIN_SITES ≤ length numbers) × (length numbers ≤ MAX_SITES)
+    × Any (λ n. MAX_NUMBER < n) numbers
 FrontierMade numbers (Err _) = ⊥

@@ -1,5 +1,6 @@
 -- Messages between sites, as plain data.
-use Rattle.std.specs.Prelude.{◌≡◌, ◌≢◌, ℕ, ◌<◌, ◌≤◌, List, length, Result, Ok, Err, Some, None, nat_lt, ◌==◌, if◌then◌else◌, ◌||◌, not}
+use Rattle.std.specs.Prelude.{◌≡◌, ◌≢◌, ℕ, ◌<◌, ◌≤◌, List, length, Result, Ok, Err, Some, None, nat_lt, ◌==◌}
+use Rattle.std.specs.Prelude.{if◌then◌else◌, ◌||◌, not}
 use Rattle.std.specs.List.{All, list_any}
 use Rattle.rights_types.specs.Ranges.{IsSite, IsAmount, IsAskNumber, IsNumber}
 use Rattle.rights_types.specs.Entries.{EntryValue, IsEntry}

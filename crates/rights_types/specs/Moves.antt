@@ -1,5 +1,6 @@
 -- Moves, and the effect of each on rights.
-use Rattle.std.specs.Prelude.{ℕ, ◌+◌, ◌-◌, ◌≤◌, Bool, true, false, not, ◌==◌, ◌||◌, List, [], ◌∷◌, Option, Some, None, IfSome, if◌then◌else◌}
+use Rattle.std.specs.Prelude.{ℕ, ◌+◌, ◌-◌, ◌≤◌, Bool, true, false, not, ◌==◌, ◌||◌, List, [], ◌∷◌, Option, Some, None}
+use Rattle.std.specs.Prelude.{IfSome, if◌then◌else◌}
 use Rattle.std.specs.List.{slice_get}
 use Rattle.rights_types.specs.Ranges.{IsSite, IsAmount, IsAskNumber, IsTotal, IsFrontier}
 use Rattle.rights_types.specs.declared.moves.Move.{Move}

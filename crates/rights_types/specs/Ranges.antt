@@ -1,7 +1,8 @@
 -- The ranges of numbers.
 use Rattle.std.specs.Prelude.{ℕ, ◌≤◌, List, length}
 use Rattle.std.specs.List.{All}
-use Rattle.rights_types.specs.declared.limits.TheConstants.{MIN_SITES, MAX_SITES, MAX_AMOUNT, MAX_ASK, MAX_TOTAL, MAX_NUMBER}
+use Rattle.rights_types.specs.declared.limits.TheConstants.{MIN_SITES, MAX_SITES, MAX_AMOUNT, MAX_ASK, MAX_TOTAL}
+use Rattle.rights_types.specs.declared.limits.TheConstants.{MAX_NUMBER}
 
 abbrev pub IsSite : ℕ → Type 0
 IsSite n = (1 ≤ n) × (n ≤ MAX_SITES)

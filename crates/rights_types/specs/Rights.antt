@@ -1,10 +1,12 @@
 -- Sums over moves, and the rights that sites hold and that are in transit. The rights are those of the Bounded Counter
 -- with bound 0: R(i,i) is what i issued, R(i,j) what i gave to j, U(i) what i spent.
-use Rattle.std.specs.Prelude.{ℕ, zero, suc, ◌+◌, ◌-◌, ◌≤◌, Bool, true, not, nat_lt, ◌&&◌, List, [], ◌∷◌, length, take, drop}
+use Rattle.std.specs.Prelude.{ℕ, zero, suc, ◌+◌, ◌-◌, ◌≤◌, Bool, true, not, nat_lt, ◌&&◌, List, [], ◌∷◌, length, take}
+use Rattle.std.specs.Prelude.{drop}
 use Rattle.std.specs.List.{sum_by}
 use Rattle.rights_types.specs.Entries.{EntryValue}
 use Rattle.rights_types.specs.Chains.{moves_of}
-use Rattle.rights_types.specs.Moves.{issue_of, spend_of, gift_of, gift_to, take_back_of, take_back_from, gain_of, cost_of}
+use Rattle.rights_types.specs.Moves.{issue_of, spend_of, gift_of, gift_to, take_back_of, take_back_from, gain_of}
+use Rattle.rights_types.specs.Moves.{cost_of}
 use Rattle.rights_types.specs.declared.moves.Move.{Move}
 
 -- the sum of what these moves issue, spend, give away, give to j, reclaim, reclaim from j

@@ -1,7 +1,8 @@
 //! The moves of an entry.
 ghost use Rattle.std.specs.Prelude.{◌≡◌, ◌≤◌};
 ghost use Rattle.std.specs.List.{All, list_any};
-ghost use Rattle.rights_types.specs.Moves.{IsMove, is_close, peer_of, names, lacks_own_place, issue_of, spend_of, gift_to, gain_of, cost_of};
+ghost use Rattle.rights_types.specs.Moves.{IsMove, is_close, peer_of, names, lacks_own_place, issue_of, spend_of};
+ghost use Rattle.rights_types.specs.Moves.{gift_to, gain_of, cost_of};
 
 use crate::amount::{Amount, AskNumber, Total};
 use crate::frontier::Frontier;

@@ -1,5 +1,6 @@
 -- Asks and the answers to them.
-use Rattle.std.proofs.Common.{◌≡◌, ℕ, ◌+◌, ◌-◌, ◌≤◌, ◌≢◌, Bool, true, false, cond, eqb, List, [], ◌∷◌, ◌++◌, None, inl, inr, refl, sym, ap, subst, ◌∙◌, arith}
+use Rattle.std.proofs.Common.{◌≡◌, ℕ, ◌+◌, ◌-◌, ◌≤◌, ◌≢◌, Bool, true, false, cond, eqb, List, [], ◌∷◌, ◌++◌, None, inl}
+use Rattle.std.proofs.Common.{inr, refl, sym, ap, subst, ◌∙◌, arith}
 use Rattle.std.specs.Prelude.{◌||◌, ◌&&◌}
 use Rattle.std.proofs.lemmas.Bool.{cases_lt, eqb-true, ne_eqb, le-ltb}
 use Rattle.rights_types.specs.Chains.{moves_of, is_closed}
@@ -37,9 +38,11 @@ asks_changed d m is same answered = record {
 }
 
 -- a plan by the book, which is that of the ledger, is a plan by the logs
-pub planned : (d : DeskValue) (b : BookValue) (count : ℕ) (new : ManagerValue) → IsDesk d → IsLedger d.ledger → b ≡ d.ledger.book
+pub planned : (d : DeskValue) (b : BookValue) (count : ℕ) (new : ManagerValue) → IsDesk d → IsLedger d.ledger
+    → b ≡ d.ledger.book
     → Plans d.manager (of_book b) (total_of d.queue.waiting) count new
-    → ((log : List EntryValue) (applied : ℕ → List EntryValue) → StandsFor log applied b → sites b ≡ asked_sites d.manager
+    → ((log : List EntryValue) (applied : ℕ → List EntryValue) → StandsFor log applied b
+    → sites b ≡ asked_sites d.manager
     → Plans d.manager (of_logs (asked_sites d.manager) b.me log applied) (total_of d.queue.waiting) count new)
     → DeskPlans d count (record d { manager = new })
 planned d b count new is ledger same by_book by_logs =
@@ -47,11 +50,14 @@ planned d b count new is ledger same by_book by_logs =
       by_book = subst (λ (x : BookValue). Plans d.manager (of_book x) queued count new) same by_book;
       by_logs = λ applied has.
           let log : List EntryValue = d.ledger.log.entries in
-          let stands : StandsFor log applied b = subst (λ (x : BookValue). StandsFor log applied x) (sym same) (record { of_own = ledger.own; of_applied = has.in_book }) in
+          let stands : StandsFor log applied b
+          = subst (λ (x : BookValue). StandsFor log applied x) (sym same)
+          (record { of_own = ledger.own; of_applied = has.in_book }) in
           let me : b.me ≡ d.ledger.log.site = ap (λ (x : BookValue). x.me) same ∙ ledger.same_site in
           let as_many : sites b ≡ asked_sites d.manager = ap (λ (x : BookValue). sites x) same ∙ sym is.same_sites in
           subst (λ n. Plans d.manager (of_logs n d.ledger.log.site log applied) queued count new) is.same_sites
-          (subst (λ i. Plans d.manager (of_logs (asked_sites d.manager) i log applied) queued count new) me (by_logs log applied stands as_many));
+          (subst (λ i. Plans d.manager (of_logs (asked_sites d.manager) i log applied) queued count new) me
+          (by_logs log applied stands as_many));
       rest = refl;
     }
 
@@ -74,21 +80,26 @@ some_available false false false n most some le = (refl, refl, refl, le)
 -- if something is available
 pub can_grant : (d : DeskValue) (j n : ℕ) → 1 ≤ n → n ≤ available d j → CanGrant d j n
 can_grant d j n some le =
-    let p = some_available (has_closed d) (account d.ledger.book j).closed (is_full d 1) n (held_by d.ledger.book - total_of d.queue.waiting) some le in
+    let p = some_available (has_closed d) (account d.ledger.book j).closed (is_full d 1) n
+    (held_by d.ledger.book - total_of d.queue.waiting) some le in
     record { unclosed = p.0; open_peer = p.1; room = p.2; held = omega (arith, p.3) }
 
-pub grant_unrefused : (b : BookValue) (j n a : ℕ) → j ≤ sites b → j ≢ b.me → (account b j).closed ≡ false → n ≤ held_by b → check_fault b (Grant j n a ∷ []) ≡ None
+pub grant_unrefused : (b : BookValue) (j n a : ℕ) → j ≤ sites b → j ≢ b.me → (account b j).closed ≡ false
+    → n ≤ held_by b → check_fault b (Grant j n a ∷ []) ≡ None
 grant_unrefused b j n a high other unclosed within =
-    unrefused b (Grant j n a ∷ []) (rw (le-ltb (sites b) j high) refl) (rw (ne_eqb j b.me other) refl) (rw unclosed refl)
+    unrefused b (Grant j n a ∷ []) (rw (le-ltb (sites b) j high) refl) (rw (ne_eqb j b.me other) refl)
+    (rw unclosed refl)
     (covers_both (held_by b) (Grant j n a) [] (omega (arith, within)) refl)
 
 -- ---- a grant
 
 -- an ask that is granted now was not granted before
-not_yet : (d : DeskValue) (ask : AskValue) (n : ℕ) → IsDesk d → answer_of d ask ≡ Granted n → grant_count ask.asker ask.ask (moves_of d.ledger.log.entries) ≡ 0
+not_yet : (d : DeskValue) (ask : AskValue) (n : ℕ) → IsDesk d → answer_of d ask ≡ Granted n
+    → grant_count ask.asker ask.ask (moves_of d.ledger.log.entries) ≡ 0
 not_yet d ask n is now =
     elim (cases_lt 0 (grant_count ask.asker ask.ask (moves_of d.ledger.log.entries))) [
-      | inl some ↦ absurd (subst IsLate now (is.answered ask (omega (arith, some)) ask (available d ask.asker) refl (omega arith)))
+      | inl some ↦ absurd (subst IsLate now
+          (is.answered ask (omega (arith, some)) ask (available d ask.asker) refl (omega arith)))
       | inr none ↦ omega (arith, none)
     ]
 
@@ -104,15 +115,24 @@ at_most false = omega arith
 -- after an entry that grants, once the answer was noted
 pub wrote_grant : (old new : DeskValue) (ask : AskValue) (n : ℕ) → IsDesk old → answer_of old ask ≡ Granted n
     → WritesEntry old.ledger (Grant ask.asker n ask.ask ∷ []) new.ledger → SameSystem old.manager new.manager
-    → ((past : AskValue) → IsAnswered old.manager past → IsAnswered new.manager past) → IsAnswered new.manager ask → IsDesk new
+    → ((past : AskValue) → IsAnswered old.manager past → IsAnswered new.manager past)
+    → IsAnswered new.manager ask → IsDesk new
 wrote_grant old new ask n is now w same answered now_answered =
     let ms : List Move = Grant ask.asker n ask.ask ∷ [] in
     let before : List Move = moves_of old.ledger.log.entries in
-    let more : moves_of new.ledger.log.entries ≡ before ++ ms = ap (λ (l : LogValue). moves_of l.entries) w.log ∙ moves_with old.ledger.log ms in
+    let more : moves_of new.ledger.log.entries ≡ before ++ ms = ap (λ (l : LogValue). moves_of l.entries) w.log
+    ∙ moves_with old.ledger.log ms in
     let is_it : ℕ → ℕ → Bool = λ j a. eqb ask.asker j && eqb ask.ask a in
-    let counts : (j a : ℕ) → grant_count j a (moves_of new.ledger.log.entries) ≡ grant_count j a before + one_if (is_it j a) =
-    λ j a. omega (arith, ap (grant_count j a) more, grant_count-append j a before ms, grant_count-cons j a (Grant ask.asker n ask.ask) []) in
-    let opened : is_closed new.ledger.log.entries ≡ false = ap (λ (l : LogValue). is_closed l.entries) w.log ∙ closed_with old.ledger.log ms in
+    let counts : (j a : ℕ) → grant_count j a (moves_of new.ledger.log.entries)
+    ≡ grant_count j a before + one_if (is_it j a) =
+    λ j a. omega (
+      arith,
+      ap (grant_count j a) more,
+      grant_count-append j a before ms,
+      grant_count-cons j a (Grant ask.asker n ask.ask) [],
+    ) in
+    let opened : is_closed new.ledger.log.entries ≡ false = ap (λ (l : LogValue). is_closed l.entries) w.log
+    ∙ closed_with old.ledger.log ms in
     let none = not_yet old ask n is now in
     record {
       same_site = same.same_me ∙ is.same_site ∙ ap (λ (l : LogValue). l.site) (sym w.log);
@@ -121,15 +141,18 @@ wrote_grant old new ask n is now w same answered now_answered =
       once = λ j a. elim (cases_lt 0 (one_if (is_it j a))) [
         | inl some ↦
             let it = both (eqb ask.asker j) (eqb ask.ask a) (omega (arith, some)) in
-            let none_of_it : grant_count j a before ≡ 0 = rw (← eqb-true ask.asker j it.0, ← eqb-true ask.ask a it.1) none in
+            let none_of_it : grant_count j a before ≡ 0
+            = rw (← eqb-true ask.asker j it.0, ← eqb-true ask.ask a it.1) none in
             omega (arith, counts j a, none_of_it, at_most (is_it j a))
         | inr other ↦ omega (arith, counts j a, other, is.once j a)
       ];
       answered = λ past h. elim (cases_lt 0 (grant_count past.asker past.ask before)) [
         | inl some ↦ answered past (is.answered past (omega (arith, some)))
         | inr other ↦
-            let it = both (eqb ask.asker past.asker) (eqb ask.ask past.ask) (omega (arith, other, counts past.asker past.ask, h)) in
+            let it = both (eqb ask.asker past.asker) (eqb ask.ask past.ask)
+            (omega (arith, other, counts past.asker past.ask, h)) in
             let number : ask.ask ≡ past.ask = eqb-true ask.ask past.ask it.1 in
-            λ again most of_asker below. now_answered again most (of_asker ∙ sym (eqb-true ask.asker past.asker it.0)) (omega (arith, number, below))
+            λ again most of_asker below. now_answered again most (of_asker
+            ∙ sym (eqb-true ask.asker past.asker it.0)) (omega (arith, number, below))
       ];
     }

@@ -1,5 +1,6 @@
 -- What each call of a desk preserves.
-use Rattle.std.proofs.Common.{◌≡◌, ℕ, ◌+◌, ◌≤◌, Bool, true, false, not, cond, List, [], ◌∷◌, ◌++◌, length, None, refl, ap, sym, subst, ◌∙◌, arith}
+use Rattle.std.proofs.Common.{◌≡◌, ℕ, ◌+◌, ◌≤◌, Bool, true, false, not, cond, List, [], ◌∷◌, ◌++◌, length, None, refl}
+use Rattle.std.proofs.Common.{ap, sym, subst, ◌∙◌, arith}
 use Rattle.std.specs.List.{list_any}
 use Rattle.std.proofs.lemmas.Bool.{or_parts}
 use Rattle.std.proofs.lemmas.List.{length-replicate}
@@ -27,10 +28,12 @@ use Rattle.site_core.specs.Faults.{is_postable}
 abbrev pub one_if : Bool → ℕ
 one_if b = cond b 1 0
 
-pub grant_count-cons : (j a : ℕ) (m : Move) (ms : List Move) → grant_count j a (m ∷ ms) ≡ one_if (grants j a m) + grant_count j a ms
+pub grant_count-cons : (j a : ℕ) (m : Move) (ms : List Move)
+    → grant_count j a (m ∷ ms) ≡ one_if (grants j a m) + grant_count j a ms
 grant_count-cons j a m ms = sum_by-cons (λ x. one_if (grants j a x)) m ms
 
-pub grant_count-append : (j a : ℕ) (xs ys : List Move) → grant_count j a (xs ++ ys) ≡ grant_count j a xs + grant_count j a ys
+pub grant_count-append : (j a : ℕ) (xs ys : List Move)
+    → grant_count j a (xs ++ ys) ≡ grant_count j a xs + grant_count j a ys
 grant_count-append j a xs ys = sum_by-append (λ x. one_if (grants j a x)) xs ys
 
 -- moves that may be posted grant nothing, and neither close nor reclaim
@@ -109,8 +112,14 @@ pub kept : (old new : DeskValue) (ms : List Move) → IsDesk old → new.ledger.
     → ((past : AskValue) → IsAnswered old.manager past → IsAnswered new.manager past)
     → (is_closed new.ledger.log.entries ≡ true → new.queue.waiting ≡ []) → IsDesk new
 kept old new ms is site more none booked same answered idle =
-    let counts : (j a : ℕ) → grant_count j a (moves_of new.ledger.log.entries) ≡ grant_count j a (moves_of old.ledger.log.entries) =
-    λ j a. omega (arith, ap (grant_count j a) more, grant_count-append j a (moves_of old.ledger.log.entries) ms, none j a) in
+    let counts : (j a : ℕ) → grant_count j a (moves_of new.ledger.log.entries)
+    ≡ grant_count j a (moves_of old.ledger.log.entries) =
+    λ j a. omega (
+      arith,
+      ap (grant_count j a) more,
+      grant_count-append j a (moves_of old.ledger.log.entries) ms,
+      none j a,
+    ) in
     record {
       same_site = same.same_me ∙ is.same_site ∙ sym site;
       same_sites = same.same_sites ∙ is.same_sites ∙ sym booked;
@@ -120,24 +129,37 @@ kept old new ms is site more none booked same answered idle =
     }
 
 -- .. after an entry of moves that may be posted, and whatever became of the requests
-pub wrote : (old new : DeskValue) (ms : List Move) → IsDesk old → WritesEntry old.ledger ms new.ledger → any_unpostable ms ≡ false
+pub wrote : (old new : DeskValue) (ms : List Move) → IsDesk old → WritesEntry old.ledger ms new.ledger
+    → any_unpostable ms ≡ false
     → new.manager ≡ old.manager → IsDesk new
 wrote old new ms is w h same =
     let opened : is_closed new.ledger.log.entries ≡ false =
     ap (λ (l : LogValue). is_closed l.entries) w.log ∙ closed_with old.ledger.log ms ∙ unclosing ms (ordinary ms h) in
-    kept old new ms is (ap (λ (l : LogValue). l.site) w.log) (ap (λ (l : LogValue). moves_of l.entries) w.log ∙ moves_with old.ledger.log ms)
+    kept old new ms is (ap (λ (l : LogValue). l.site) w.log) (ap (λ (l : LogValue). moves_of l.entries) w.log
+    ∙ moves_with old.ledger.log ms)
     (λ j a. no_grants j a ms h) w.book.same_sites
-    (record { same_me = ap (λ (m : ManagerValue). m.me) same; same_sites = ap (λ (m : ManagerValue). length m.peers) same })
+    (record {
+      same_me = ap (λ (m : ManagerValue). m.me) same;
+      same_sites = ap (λ (m : ManagerValue). length m.peers) same;
+    })
     (λ past s. subst (λ (m : ManagerValue). IsAnswered m past) (sym same) s) (λ closed. absurd cc)
 
 -- .. whatever counts as published
-pub advanced : (d : DeskValue) (l : LedgerValue) (cursors : List ℕ) → IsDesk d → l ≡ record d.ledger { log = record d.ledger.log { cursors = cursors } }
+pub advanced : (d : DeskValue) (l : LedgerValue) (cursors : List ℕ) → IsDesk d
+    → l ≡ record d.ledger { log = record d.ledger.log { cursors = cursors } }
     → IsDesk (record d { ledger = l })
 advanced d l cursors is same =
     subst (λ (x : LedgerValue). IsDesk (record d { ledger = x })) (sym same)
-    (record { same_site = is.same_site; same_sites = is.same_sites; idle = is.idle; once = is.once; answered = is.answered })
+    (record {
+      same_site = is.same_site;
+      same_sites = is.same_sites;
+      idle = is.idle;
+      once = is.once;
+      answered = is.answered;
+    })
 
 -- ---- what a book lets a site write
 
 pub spend_unrefused : (b : BookValue) (n : ℕ) → n ≤ held_by b → check_fault b (Spend n ∷ []) ≡ None
-spend_unrefused b n within = unrefused b (Spend n ∷ []) refl refl refl (covers_both (held_by b) (Spend n) [] (omega (arith, within)) refl)
+spend_unrefused b n within
+    = unrefused b (Spend n ∷ []) refl refl refl (covers_both (held_by b) (Spend n) [] (omega (arith, within)) refl)

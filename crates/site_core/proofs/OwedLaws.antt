@@ -1,5 +1,6 @@
 -- What a log gave beyond a number, by reading it from its end.
-use Rattle.std.proofs.Common.{◌≡◌, ℕ, zero, suc, ◌+◌, ◌-◌, ◌<◌, ◌≤◌, Bool, List, [], ◌∷◌, ◌++◌, take, drop, Option, Some, ap, sym, ◌∙◌, arith, refl, drop-cons}
+use Rattle.std.proofs.Common.{◌≡◌, ℕ, zero, suc, ◌+◌, ◌-◌, ◌<◌, ◌≤◌, Bool, List, [], ◌∷◌, ◌++◌, take, drop, Option}
+use Rattle.std.proofs.Common.{Some, ap, sym, ◌∙◌, arith, refl, drop-cons}
 use Rattle.std.specs.List.{All, Contains, slice_get}
 use Rattle.std.proofs.Math.Seq.{take-suc}
 use Rattle.std.proofs.lemmas.Bool.{le-leb, lt-leb}
@@ -22,7 +23,8 @@ pub record IsBefore (es : List EntryValue) (i : ℕ) (e : EntryValue) : Type 0 w
   pub front : take i es ≡ take (i - 1) es ++ e ∷ []
   pub rest : drop (i - 1) es ≡ e ∷ drop i es
 
-pub entry_before : (es : List EntryValue) (i : ℕ) (e : EntryValue) {found : Option EntryValue} → 0 < i → found ≡ slice_get es (i - 1) → found ≡ Some e → IsBefore es i e
+pub entry_before : (es : List EntryValue) (i : ℕ) (e : EntryValue) {found : Option EntryValue} → 0 < i
+    → found ≡ slice_get es (i - 1) → found ≡ Some e → IsBefore es i e
 entry_before es i e some read is_e =
     let k : ℕ = i - 1 in
     let at : slice_get es k ≡ Some e = sym read ∙ is_e in
@@ -32,7 +34,8 @@ entry_before es i e some read is_e =
     record {
       place = place;
       at = at;
-      front = ap (λ n. take n es) (sym place) ∙ take-suc es k e within ∙ ap (λ (x : EntryValue). take k es ++ x ∷ []) is;
+      front = ap (λ n. take n es) (sym place) ∙ take-suc es k e within
+          ∙ ap (λ (x : EntryValue). take k es ++ x ∷ []) is;
       rest = drop-cons es k e within ∙ ap (λ (x : EntryValue). x ∷ drop (suc k) es) is ∙ ap (λ n. e ∷ drop n es) place;
     }
 
@@ -45,7 +48,8 @@ all_beyond f (e ∷ es) h =
     (ap (λ (xs : List EntryValue). e ∷ xs) (all_beyond f es (All-tail (λ (x : EntryValue). f ≤ x.prev) e es h)))
 
 -- if an entry of a chain begins before f and none after it does, exactly those after it do not
-pub those_behind : (o : ℕ) (b : Bool) (n f : ℕ) (es : List EntryValue) (k : ℕ) (e : EntryValue) → ChainFrom o b n es → slice_get es k ≡ Some e → e.prev < f
+pub those_behind : (o : ℕ) (b : Bool) (n f : ℕ) (es : List EntryValue) (k : ℕ) (e : EntryValue) → ChainFrom o b n es
+    → slice_get es k ≡ Some e → e.prev < f
     → All (λ (x : EntryValue). f ≤ x.prev) (drop (suc k) es) → beyond f es ≡ drop (suc k) es
 those_behind o b n f [] k e c at early later = absurd cc
 those_behind o b n f (x ∷ xs) zero e c at early later =
@@ -59,12 +63,15 @@ those_behind o b n f (x ∷ xs) (suc k) e c at early later =
 -- ---- what they give
 
 -- one more entry is read
-pub given_before : (c : ℕ) (es : List EntryValue) (i : ℕ) (e : EntryValue) → IsBefore es i e → to c (moves_of (take i es)) ≡ to c (moves_of (take (i - 1) es)) + to c e.moves
+pub given_before : (c : ℕ) (es : List EntryValue) (i : ℕ) (e : EntryValue) → IsBefore es i e
+    → to c (moves_of (take i es)) ≡ to c (moves_of (take (i - 1) es)) + to c e.moves
 given_before c es i e is =
-    ap (λ xs. to c (moves_of xs)) is.front ∙ ap (to c) (moves_of-push (take (i - 1) es) e) ∙ to-append c (moves_of (take (i - 1) es)) e.moves
+    ap (λ xs. to c (moves_of xs)) is.front ∙ ap (to c) (moves_of-push (take (i - 1) es) e)
+    ∙ to-append c (moves_of (take (i - 1) es)) e.moves
 
 -- what all entries give, before index i and from there on
-pub given_parts : (c : ℕ) (es : List EntryValue) (i : ℕ) → to c (moves_of es) ≡ to c (moves_of (take i es)) + to c (moves_of (drop i es))
+pub given_parts : (c : ℕ) (es : List EntryValue) (i : ℕ)
+    → to c (moves_of es) ≡ to c (moves_of (take i es)) + to c (moves_of (drop i es))
 given_parts c es i =
     ap (λ xs. to c (moves_of xs)) (sym (take-append-drop i es)) ∙ ap (to c) (moves_of-append (take i es) (drop i es))
     ∙ to-append c (moves_of (take i es)) (moves_of (drop i es))

@@ -1,5 +1,6 @@
 -- The protocol's fact of a site, by its log, its book and what it applied.
-use Rattle.std.proofs.Common.{◌≡◌, ◌≢◌, ℕ, ◌+◌, ◌<◌, ◌≤◌, eqb, true, false, List, [], ◌∷◌, ◌++◌, length, map, None, suc, refl, ap, sym, subst, ◌∙◌, arith}
+use Rattle.std.proofs.Common.{◌≡◌, ◌≢◌, ℕ, ◌+◌, ◌<◌, ◌≤◌, eqb, true, false, List, [], ◌∷◌, ◌++◌, length, map, None, suc}
+use Rattle.std.proofs.Common.{refl, ap, sym, subst, ◌∙◌, arith}
 use Rattle.std.specs.List.{All, list_any, range_with_len}
 use Rattle.std.proofs.lemmas.Bool.{or_parts, both_ways, ne_eqb}
 use Rattle.std.proofs.lemmas.List.{ext_get_or, get_or-map, length-map}
@@ -28,7 +29,8 @@ use Rattle.rights_book.specs.declared.peer.Peer.{Peer}
 use Rattle.rights_book.proofs.CallLaws.{other_account}
 use Rattle.rights_book.proofs.CheckLaws.{IsChecked, checked, named_within}
 use Rattle.rights_book.proofs.StandLaws.{held_stands}
-use Rattle.site_core.specs.Ledgers.{LedgerValue, IsLedger, HasApplied, frontier_of, IsWritable, SameApplied, MoreApplied, owed_by, with_takings}
+use Rattle.site_core.specs.Ledgers.{LedgerValue, IsLedger, HasApplied, frontier_of, IsWritable, SameApplied}
+use Rattle.site_core.specs.Ledgers.{MoreApplied, owed_by, with_takings}
 use Rattle.site_core.proofs.LedgerLaws.{no_cause, HasRoom, has_room}
 
 -- ---- what the book says, in the protocol's words
@@ -37,15 +39,18 @@ abbrev pub last_number : Peer → ℕ
 last_number p = p.log.end
 
 -- the book's frontier is that of what was applied
-pub frontier_applied : (b : BookValue) (applied : ℕ → List EntryValue) → StandsForApplied applied b → frontier_of b ≡ own_frontier (sites b) applied
+pub frontier_applied : (b : BookValue) (applied : ℕ → List EntryValue) → StandsForApplied applied b
+    → frontier_of b ≡ own_frontier (sites b) applied
 unfolding frontier_of
 frontier_applied b applied s =
     let f : ℕ → ℕ = λ o. end (applied o) in
     let long : length (map last_number b.peers) ≡ sites b = length-map b.peers last_number in
-    ext_get_or 0 (map last_number b.peers) (map f (range_with_len 1 (sites b))) (long ∙ sym (length-map-range_with_len f 1 (sites b)))
+    ext_get_or 0 (map last_number b.peers) (map f (range_with_len 1 (sites b))) (long
+    ∙ sym (length-map-range_with_len f 1 (sites b)))
     (λ i lt. (let within : i < sites b = omega (arith, long, lt) in
     let next : 1 + i ≡ suc i = omega arith in
-    get_or-map last_number b.peers i no_peer 0 within ∙ ap (λ (a : Account). a.end) (s.sums (suc i)) ∙ sym (get_or-map-range_with_len f 1 (sites b) i (suc i) 0 within next)))
+    get_or-map last_number b.peers i no_peer 0 within ∙ ap (λ (a : Account). a.end) (s.sums (suc i))
+    ∙ sym (get_or-map-range_with_len f 1 (sites b) i (suc i) 0 within next)))
 
 -- a ledger whose site applied this, as the protocol sees it
 pub record IsSiteState (applied : ℕ → List EntryValue) (l : LedgerValue) : Type 0 where
@@ -58,14 +63,16 @@ pub record IsSiteState (applied : ℕ → List EntryValue) (l : LedgerValue) : T
   pub itself : applied l.book.me ≡ []
   pub kept : SiteInvariant (sites l.book) l.log.site l.log.entries applied
 
-pub site_state : (l : LedgerValue) (applied : ℕ → List EntryValue) → IsLedger l → IsBook l.book → HasApplied applied l → IsSiteState applied l
+pub site_state : (l : LedgerValue) (applied : ℕ → List EntryValue) → IsLedger l → IsBook l.book → HasApplied applied l
+    → IsSiteState applied l
 site_state l applied is book h =
     let n : ℕ = sites l.book in
     record {
       some = book.some;
       few = book.few;
       site = subst (IsSiteOf n) is.same_site book.member;
-      held = held_stands l.book l.log.entries applied book (record { of_own = is.own; of_applied = h.in_book }) ∙ ap (λ s. held n s l.log.entries applied) is.same_site;
+      held = held_stands l.book l.log.entries applied book (record { of_own = is.own; of_applied = h.in_book })
+          ∙ ap (λ s. held n s l.log.entries applied) is.same_site;
       frontier = frontier_applied l.book applied h.in_book;
       closed = λ c ne. ap (λ (a : Account). a.closed) (other_account l.book c ne ∙ h.in_book.sums c);
       itself = h.in_book.none_own;
@@ -74,7 +81,11 @@ site_state l applied is book h =
 
 -- at the start nothing was applied
 pub none_applied : (l : LedgerValue) → l.log.entries ≡ [] → StandsForApplied (λ o. []) l.book → HasApplied (λ o. []) l
-none_applied l empty stands = record { in_book = stands; kept = site_starts (sites l.book) l.log.site l.log.entries (λ o. []) empty (λ o. refl) }
+none_applied l empty stands
+    = record {
+      in_book = stands;
+      kept = site_starts (sites l.book) l.log.site l.log.entries (λ o. []) empty (λ o. refl);
+    }
 
 -- ---- an ordinary entry
 
@@ -95,9 +106,11 @@ plain_moves (m ∷ ms) h =
 
 -- whoever gives nothing to a closed site does not give to this one
 not_it : (b : BookValue) (j c : ℕ) → (account b c).closed ≡ true → (account b j).closed ≡ false → eqb j c ≡ false
-not_it b j c shut free = ne_eqb j c (λ e. both_ways (account b c).closed (subst (λ k. (account b k).closed ≡ false) e free) shut)
+not_it b j c shut free = ne_eqb j c
+    (λ e. both_ways (account b c).closed (subst (λ k. (account b k).closed ≡ false) e free) shut)
 
-unnamed : (b : BookValue) (c : ℕ) (m : Move) → (account b c).closed ≡ true → is_special m ≡ false → gives_to_closed b m ≡ false → names c m ≡ false
+unnamed : (b : BookValue) (c : ℕ) (m : Move) → (account b c).closed ≡ true → is_special m ≡ false
+    → gives_to_closed b m ≡ false → names c m ≡ false
 unnamed b c (Issue n) shut h free = refl
 unnamed b c (Spend n) shut h free = refl
 unnamed b c (Grant j n a) shut h free = not_it b j c shut free
@@ -106,7 +119,8 @@ unnamed b c Close shut h free = refl
 unnamed b c (CloseAt f) shut h free = refl
 unnamed b c (TakeBack j n) shut h free = absurd cc
 
-none_named : (b : BookValue) (c : ℕ) (ms : List Move) → (account b c).closed ≡ true → list_any is_special ms ≡ false → list_any (gives_to_closed b) ms ≡ false → list_any (names c) ms ≡ false
+none_named : (b : BookValue) (c : ℕ) (ms : List Move) → (account b c).closed ≡ true → list_any is_special ms ≡ false
+    → list_any (gives_to_closed b) ms ≡ false → list_any (names c) ms ≡ false
 none_named b c [] shut h free = refl
 none_named b c (m ∷ ms) shut h free =
     let p = or_parts (is_special m) (list_any is_special ms) h in
@@ -121,7 +135,8 @@ open_receivers b ms h =
     let closed = no_cause (list_any (gives_to_closed b) ms) _ _ same.1 in
     closed.0
 
-pub may_append : (l : LedgerValue) (ms : List Move) (applied : ℕ → List EntryValue) → IsLedger l → All IsMove ms → IsWritable l ms → IsSiteState applied l
+pub may_append : (l : LedgerValue) (ms : List Move) (applied : ℕ → List EntryValue) → IsLedger l → All IsMove ms
+    → IsWritable l ms → IsSiteState applied l
     → MayAppend (sites l.book) l.log.site l.log.entries applied ms
 may_append l ms applied is ranges ok state =
     let room : HasRoom l.log ms = has_room l.log ms ok.room in
@@ -135,7 +150,8 @@ may_append l ms applied is ranges ok state =
       within = named_within (sites l.book) ms ranges tested.within;
       others = subst (λ s. list_any (names s) ms ≡ false) is.same_site tested.others;
       open_peers = λ c closed.
-          (let ne : c ≢ l.book.me = λ e. both_ways (is_closed (applied c)) (ap is_closed (ap applied e ∙ state.itself)) closed in
+          (let ne : c ≢ l.book.me = λ e. both_ways (is_closed (applied c)) (ap is_closed (ap applied e
+          ∙ state.itself)) closed in
           none_named l.book c ms (state.closed c ne ∙ closed) ok.plain (open_receivers l.book ms ok.covered));
       fits = room.within;
       holds = subst (λ r. covers r ms ≡ true) state.held tested.covered;
@@ -143,30 +159,39 @@ may_append l ms applied is ranges ok state =
 
 -- ---- what was applied is so still
 
-pub goes_on : (l : LedgerValue) (applied : ℕ → List EntryValue) → IsSiteState applied l → SiteGoesOn (sites l.book) l.log.site l.log.entries applied
-goes_on l applied state = site_goes_on (sites l.book) l.log.site l.log.entries applied state.some state.few state.site state.kept
+pub goes_on : (l : LedgerValue) (applied : ℕ → List EntryValue) → IsSiteState applied l
+    → SiteGoesOn (sites l.book) l.log.site l.log.entries applied
+goes_on l applied state = site_goes_on (sites l.book) l.log.site l.log.entries applied state.some state.few
+    state.site state.kept
 
 -- an entry that the protocol allows, in log and book
-pub same_applied : (old new : LedgerValue) (ms : List Move) → new.log ≡ with_entry old.log ms → sites new.book ≡ sites old.book
+pub same_applied : (old new : LedgerValue) (ms : List Move) → new.log ≡ with_entry old.log ms
+    → sites new.book ≡ sites old.book
     → ((applied : ℕ → List EntryValue) → StandsForApplied applied old.book → StandsForApplied applied new.book)
-    → ((applied : ℕ → List EntryValue) → HasApplied applied old → SiteInvariant (sites old.book) old.log.site (old.log.entries ++ entry_at_end old.log.site old.log.entries ms ∷ []) applied)
+    → ((applied : ℕ → List EntryValue) → HasApplied applied old
+    → SiteInvariant (sites old.book) old.log.site (old.log.entries ++ entry_at_end old.log.site old.log.entries ms
+    ∷ []) applied)
     → SameApplied old new
 same_applied old new ms log same in_book kept = record {
   in_book = in_book;
   all = λ applied h. record { in_book = in_book applied h.in_book; kept = rw (same, log) (kept applied h) };
 }
 
-pub written_applied : (old new : LedgerValue) (ms : List Move) → IsLedger old → IsBook old.book → All IsMove ms → IsWritable old ms → new.log ≡ with_entry old.log ms → sites new.book ≡ sites old.book
-    → ((applied : ℕ → List EntryValue) → StandsForApplied applied old.book → StandsForApplied applied new.book) → SameApplied old new
+pub written_applied : (old new : LedgerValue) (ms : List Move) → IsLedger old → IsBook old.book → All IsMove ms
+    → IsWritable old ms → new.log ≡ with_entry old.log ms → sites new.book ≡ sites old.book
+    → ((applied : ℕ → List EntryValue) → StandsForApplied applied old.book → StandsForApplied applied new.book)
+    → SameApplied old new
 written_applied old new ms is book ranges ok log same in_book =
     same_applied old new ms log same in_book
     (λ applied h. (let state : IsSiteState applied old = site_state old applied is book h in
     (goes_on old applied state).appends ms (may_append old ms applied is ranges ok state)))
 
 -- the next entry of another site, and what is reclaimed by it
-pub applied_more : (old new : LedgerValue) (o : ℕ) (e : EntryValue) → IsLedger old → IsBook old.book → 1 ≤ o → o ≤ sites old.book → o ≢ old.book.me → is_closed old.log.entries ≡ false
+pub applied_more : (old new : LedgerValue) (o : ℕ) (e : EntryValue) → IsLedger old → IsBook old.book → 1 ≤ o
+    → o ≤ sites old.book → o ≢ old.book.me → is_closed old.log.entries ≡ false
     → new.log ≡ with_takings old.log (one_taking o (owed_by old o e)) → sites new.book ≡ sites old.book
-    → ((applied later : ℕ → List EntryValue) → StandsForApplied applied old.book → AddsEntry applied o e later → StandsForApplied later new.book) → MoreApplied old o e new
+    → ((applied later : ℕ → List EntryValue) → StandsForApplied applied old.book → AddsEntry applied o e later
+    → StandsForApplied later new.book) → MoreApplied old o e new
 applied_more old new o e is book low high other unclosed log same in_book = record {
   in_book = in_book;
   all = λ applied later h adds chain.

@@ -1,5 +1,6 @@
 -- The result and effect of each call of a desk.
-use Rattle.std.specs.Prelude.{◌≡◌, ℕ, ◌-◌, ◌<◌, ◌≤◌, Bool, true, false, not, ◌||◌, List, [], ◌∷◌, ◌++◌, length, map, Option, Some, None, Ok, if◌then◌else◌}
+use Rattle.std.specs.Prelude.{◌≡◌, ℕ, ◌-◌, ◌<◌, ◌≤◌, Bool, true, false, not, ◌||◌, List, [], ◌∷◌, ◌++◌, length, map}
+use Rattle.std.specs.Prelude.{Option, Some, None, Ok, if◌then◌else◌}
 use Rattle.std.specs.List.{filter, slice_get}
 use Rattle.std.specs.Option.{option_map}
 use Rattle.rights_types.specs.Entries.{EntryValue}
@@ -17,7 +18,8 @@ use Rattle.request_queue.specs.declared.request.Outcome.TheVariants.{Expired}
 use Rattle.request_queue.specs.Queues.{QueueValue, is_late, total_of, front_of}
 use Rattle.request_queue.specs.Calls.{Puts, Serves}
 use Rattle.transfer_manager.specs.declared.answer.AskAnswer.{AskAnswer}
-use Rattle.transfer_manager.specs.declared.answer.AskAnswer.TheVariants.{Grant as Granted, Deny, RepeatedDeny, Repeated, OldAsk}
+use Rattle.transfer_manager.specs.declared.answer.AskAnswer.TheVariants.{Grant as Granted, Deny, RepeatedDeny, Repeated}
+use Rattle.transfer_manager.specs.declared.answer.AskAnswer.TheVariants.{OldAsk}
 use Rattle.transfer_manager.specs.Plans.{Plans, of_book, of_logs}
 use Rattle.transfer_manager.specs.AskAnswers.{answer_to, noted}
 use Rattle.site_core.specs.Ledgers.{HasApplied, WritesEntry, EntryKeeps, WritesClosing, AppliesEntry}
@@ -38,7 +40,8 @@ abbrev pub DeskSpends : DeskValue → ℕ → ℕ → Spending → DeskValue →
 DeskSpends old n deadline (Spent number) new =
     (can_spend old n ≡ true) × DeskWrites old (Spend n ∷ []) new × (number ≡ end new.ledger.log.entries)
 DeskSpends old n deadline (Queued ticket) new =
-    (can_spend old n ≡ false) × Puts old.queue n deadline (Ok ticket) new.queue × (new ≡ record old { queue = new.queue })
+    (can_spend old n ≡ false) × Puts old.queue n deadline (Ok ticket) new.queue
+    × (new ≡ record old { queue = new.queue })
 
 -- what the entry preserves, if the spend is served at once
 abbrev pub SpendKeeps : DeskValue → ℕ → Spending → DeskValue → Type 0
@@ -69,7 +72,8 @@ DeskServes old (Some (ticket, number)) new = ServesFront old ticket number new
 abbrev pub ServeKeeps : DeskValue → Option (ℕ × ℕ) → DeskValue → Type 0
 ServeKeeps old None new = Unit {0}
 ServeKeeps old (Some (ticket, number)) new =
-    (amount deadline : ℕ) → front_of old.queue.waiting ≡ Some (ticket, amount, deadline) → EntryKeeps old.ledger (Spend amount ∷ []) new.ledger
+    (amount deadline : ℕ) → front_of old.queue.waiting ≡ Some (ticket, amount, deadline)
+    → EntryKeeps old.ledger (Spend amount ∷ []) new.ledger
 
 -- the requests that are late at this time, and those that continue to wait
 abbrev pub late : ℕ → List Request → List Request
@@ -111,7 +115,10 @@ published_if log p None = log
 published_if log p (Some m) = published log p
 
 abbrev pub after_publish : DeskValue → ℕ → DeskValue
-after_publish d p = record d { ledger = record d.ledger { log = published_if d.ledger.log p (next_push d.ledger.log p) } }
+after_publish d p = record d {
+  ledger =
+      record d.ledger { log = published_if d.ledger.log p (next_push d.ledger.log p) };
+}
 
 -- all entries count as published to the peer, sent or not
 abbrev pub after_skip : DeskValue → ℕ → DeskValue
@@ -126,7 +133,8 @@ beat_of log = ABeat (record { origin = log.site; number = end log.entries })
 pub record DeskPlans (old : DeskValue) (count : ℕ) (new : DeskValue) : Type 0 where
   pub by_book : Plans old.manager (of_book old.ledger.book) (total_of old.queue.waiting) count new.manager
   pub by_logs : (applied : ℕ → List EntryValue) → HasApplied applied old.ledger
-      → Plans old.manager (of_logs (sites old.ledger.book) old.ledger.log.site old.ledger.log.entries applied) (total_of old.queue.waiting) count new.manager
+      → Plans old.manager (of_logs (sites old.ledger.book) old.ledger.log.site old.ledger.log.entries applied)
+      (total_of old.queue.waiting) count new.manager
   pub rest : new ≡ record old { manager = new.manager }
 
 -- the rights that an ask of site j can be granted

@@ -36,7 +36,8 @@ pub record IsDesk (d : DeskValue) : Type 0 where
   pub same_sites : asked_sites d.manager ≡ sites d.ledger.book
   pub idle : is_closed d.ledger.log.entries ≡ true → d.queue.waiting ≡ []
   pub once : (j a : ℕ) → grant_count j a (moves_of d.ledger.log.entries) ≤ 1
-  pub answered : (past : AskValue) → 1 ≤ grant_count past.asker past.ask (moves_of d.ledger.log.entries) → IsAnswered d.manager past
+  pub answered : (past : AskValue) → 1 ≤ grant_count past.asker past.ask (moves_of d.ledger.log.entries)
+      → IsAnswered d.manager past
 
 -- of a desk, whatever it wrote and applied: its log and book form a ledger, and at a closed site no spend waits
 pub record DeskSound (d : DeskValue) : Type 0 where

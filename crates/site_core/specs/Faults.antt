@@ -1,18 +1,22 @@
 -- Why a desk refuses: the first cause in the order of each call.
-use Rattle.std.specs.Prelude.{◌≡◌, ℕ, ◌+◌, Bool, true, false, not, nat_lt, nat_le, ◌==◌, ◌||◌, ◌&&◌, List, [], ◌∷◌, length, Option, Some, None, Result, Ok, Err, if◌then◌else◌}
+use Rattle.std.specs.Prelude.{◌≡◌, ℕ, ◌+◌, Bool, true, false, not, nat_lt, nat_le, ◌==◌, ◌||◌, ◌&&◌, List, [], ◌∷◌}
+use Rattle.std.specs.Prelude.{length, Option, Some, None, Result, Ok, Err, if◌then◌else◌}
 use Rattle.std.specs.List.{list_any}
 use Rattle.rights_types.specs.declared.limits.TheConstants.{MAX_AMOUNT, MAX_MOVES, LAST_APPEND}
 use Rattle.rights_types.specs.Chains.{end, is_closed}
 use Rattle.rights_types.specs.declared.moves.Move.{Move}
 use Rattle.rights_types.specs.declared.moves.Move.TheVariants.{Issue, Spend, Give}
 use Rattle.rights_book.specs.declared.fault.BookError.{BookError}
-use Rattle.rights_book.specs.declared.fault.BookError.TheVariants.{NoSuchSite as NoSite, SameSite as OwnSite, PeerClosed as Gone, Short as Lacking}
+use Rattle.rights_book.specs.declared.fault.BookError.TheVariants.{NoSuchSite as NoSite, SameSite as OwnSite}
+use Rattle.rights_book.specs.declared.fault.BookError.TheVariants.{PeerClosed as Gone, Short as Lacking}
 use Rattle.rights_book.specs.Books.{held_by, sites, account}
 use Rattle.rights_book.specs.Checks.{check_fault}
 use Rattle.request_queue.specs.declared.queue.TheConstants.{SLOTS, LAST_TICKET}
 use Rattle.request_queue.specs.Queues.{used, front_of}
 use Rattle.site_core.specs.declared.fault.DeskError.{DeskError}
-use Rattle.site_core.specs.declared.fault.DeskError.TheVariants.{Closed, BadCount, BadMove, BadAmount, NoSuchSite, SameSite, PeerClosed, LogFull, Short, OutOfMemory, QueueFull, QueueBusy, HeldTooMuch, TimeWentBack}
+use Rattle.site_core.specs.declared.fault.DeskError.TheVariants.{Closed, BadCount, BadMove, BadAmount, NoSuchSite}
+use Rattle.site_core.specs.declared.fault.DeskError.TheVariants.{SameSite, PeerClosed, LogFull, Short, OutOfMemory}
+use Rattle.site_core.specs.declared.fault.DeskError.TheVariants.{QueueFull, QueueBusy, HeldTooMuch, TimeWentBack}
 use Rattle.site_core.specs.Desks.{DeskValue}
 
 -- ---- entries that are posted

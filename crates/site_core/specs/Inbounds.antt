@@ -1,5 +1,6 @@
 -- The input from one other site.
-use Rattle.std.specs.Prelude.{◌≡◌, ℕ, ◌≤◌, Bool, true, false, not, ◌==◌, ◌||◌, List, [], ◌∷◌, ◌++◌, length, Option, Some, None, Result, Ok, Err, is_none, if◌then◌else◌}
+use Rattle.std.specs.Prelude.{◌≡◌, ℕ, ◌≤◌, Bool, true, false, not, ◌==◌, ◌||◌, List, [], ◌∷◌, ◌++◌, length, Option}
+use Rattle.std.specs.Prelude.{Some, None, Result, Ok, Err, is_none, if◌then◌else◌}
 use Rattle.std.specs.List.{list_any}
 use Rattle.rights_types.specs.declared.limits.TheConstants.{MIN_SITES, MAX_SITES}
 use Rattle.rights_types.specs.Entries.{EntryValue}
@@ -110,7 +111,8 @@ ready_in (Ready e ∷ vs) = e ∷ ready_in vs
 ready_in (v ∷ vs) = ready_in vs
 
 -- entries came, with these verdicts: on each, followed by Ready for each entry that it freed
-pub record EntriesCome {A : Type 0} (old : InboundValue) (es : List EntryValue) (verdicts : List (Verdict A)) (new : InboundValue) : Type 0 where
+pub record EntriesCome {A : Type 0} (old : InboundValue) (es : List EntryValue) (verdicts : List (Verdict A))
+    (new : InboundValue) : Type 0 where
   pub arrive : ArriveAll old.buffer [] es new.buffer verdicts
   -- whatever came, from one writer or not: the Ready entries continue the chain of what was delivered
   pub chain : (put : List EntryValue) → HasPut put old.buffer → HasPut (put ++ ready_in verdicts) new.buffer
@@ -143,6 +145,7 @@ Asks false gap asked q = Wants gap asked q
 pub record QueryOf (old : InboundValue) (again : Bool) (q : Option QueryValue) (new : InboundValue) : Type 0 where
   pub gap : Option QueryValue
   pub by_table : GapOf old.buffer gap
-  pub by_log : (es set put : List EntryValue) → Follows es set put old.buffer → GapIs old.buffer.me old.buffer.origin set put old.buffer.told gap
+  pub by_log : (es set put : List EntryValue) → Follows es set put old.buffer
+      → GapIs old.buffer.me old.buffer.origin set put old.buffer.told gap
   pub asks : Asks again gap old.buffer.asked q
   pub left : new ≡ record old { buffer = asked_for old.buffer q }

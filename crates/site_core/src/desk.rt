@@ -38,7 +38,8 @@ impl<A: Allocator> Model for Desk<A> {
 
     ghost view = { λ d. record { ledger = d.ledger; queue = d.queue; manager = d.manager; time = d.time } };
 
-    ghost invariant = { λ d. IsDesk (record { ledger = d.ledger; queue = d.queue; manager = d.manager; time = d.time }) };
+    ghost invariant = { λ d. IsDesk
+        (record { ledger = d.ledger; queue = d.queue; manager = d.manager; time = d.time }) };
 }
 
 impl<A: Allocator + Copy> Desk<A> {

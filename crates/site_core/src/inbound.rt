@@ -1,5 +1,6 @@
 //! The input from one other site.
-ghost use Rattle.std.specs.Prelude.{◌≡◌, ◌≢◌, ◌≤◌, ◌<◌, ◌+◌, true, [], ◌∷◌, ◌++◌, vec_capacity, Ok, None, Some, IfOk, IfErr, OnErr, MatchResult, IsSome, List, Option, length};
+ghost use Rattle.std.specs.Prelude.{◌≡◌, ◌≢◌, ◌≤◌, ◌<◌, ◌+◌, true, [], ◌∷◌, ◌++◌, vec_capacity, Ok, None, Some, IfOk};
+ghost use Rattle.std.specs.Prelude.{IfErr, OnErr, MatchResult, IsSome, List, Option, length};
 ghost use Rattle.std.specs.List.{All, list_any};
 ghost use Rattle.std.specs.Option.{option_map};
 ghost use Rattle.rights_types.specs.Entries.{EntryValue};
@@ -94,7 +95,8 @@ impl<A: Allocator> Model for Inbound<A> {
 }
 
 impl<A: Allocator + Copy> Inbound<A> {
-    ghost use Rattle.site_core.specs.Inbounds.{new_inbound, message_fault, InboundRefuses, BringsEntries, Arrives, QueryOf};
+    ghost use Rattle.site_core.specs.Inbounds.{new_inbound, message_fault, InboundRefuses, BringsEntries, Arrives};
+    ghost use Rattle.site_core.specs.Inbounds.{QueryOf};
 
     /// The input of site `me` from the origin, in a system of `sites` sites, 2 to 16. `OutOfMemory` if its memory is
     /// refused.
@@ -115,10 +117,12 @@ impl<A: Allocator + Copy> Inbound<A> {
     /// Takes a line in. A line that is refused should be skipped: it has changed nothing. Errors: see `InboundError`.
     pub fn on_line(&mut self, line: &[u8]) -> Result<Arrival<A>, InboundError>
         ensures refused { InboundRefuses self.old (reading line.now) result }
-        ensures ok { IfOk result (λ arrival. (m : MessageValue) × (reading line.now ≡ Ok m) × Arrives self.old m arrival self.new) }
+        ensures ok { IfOk result (λ arrival. (m : MessageValue) × (reading line.now ≡ Ok m)
+            × Arrives self.old m arrival self.new) }
         ensures err { OnErr result (self.new ≡ self.old) }
         // Only entries allocate.
-        ensures memory { IfErr result (λ fault. fault ≡ NoMemory → (m : MessageValue) × (reading line.now ≡ Ok m) × (has_entries m ≡ true)) }
+        ensures memory { IfErr result (λ fault. fault ≡ NoMemory → (m : MessageValue) × (reading line.now ≡ Ok m)
+            × (has_entries m ≡ true)) }
     {
         let message = self.read(line)?;
         Ok(self.take_in(message)?)
@@ -131,7 +135,8 @@ impl<A: Allocator + Copy> Inbound<A> {
         ensures refused { InboundRefuses self.now (reading line.now) result }
         ensures ok { IfOk result (λ m. reading line.now ≡ Ok (value_of m)) }
         // Only entries allocate.
-        ensures memory { IfErr result (λ fault. fault ≡ NoMemory → (m : MessageValue) × (reading line.now ≡ Ok m) × (has_entries m ≡ true)) }
+        ensures memory { IfErr result (λ fault. fault ≡ NoMemory → (m : MessageValue) × (reading line.now ≡ Ok m)
+            × (has_entries m ≡ true)) }
     {
         let message = match read_line(self.alloc, line) {
             Ok(message) => message,
@@ -148,7 +153,8 @@ impl<A: Allocator + Copy> Inbound<A> {
         requires origin { entry.origin ≡ self.old.buffer.origin }
         requires room { length verdicts.old.items + length self.old.buffer.held < vec_capacity verdicts.old }
         ensures arrives { (v : AVerdict A) × (freed : List EntryValue)
-            × (verdicts.new.items ≡ verdicts.old.items ++ v ∷ all_ready freed) × IsArrival self.old.buffer entry v freed self.new.buffer }
+            × (verdicts.new.items ≡ verdicts.old.items ++ v ∷ all_ready freed)
+            × IsArrival self.old.buffer entry v freed self.new.buffer }
         ensures rest { self.new ≡ record self.old { buffer = self.new.buffer } }
         ensures capacity { vec_capacity verdicts.new ≡ vec_capacity verdicts.old }
     {
@@ -252,7 +258,8 @@ impl<A: Allocator + Copy> Inbound<A> {
     pub fn state(&self) -> State
         ensures table { (gap : Option QueryValue) × GapOf self.now.buffer gap × StateOf gap result }
         ensures log { (es set put : List EntryValue) → Follows es set put self.now.buffer
-            → (gap : Option QueryValue) × GapIs self.now.buffer.me self.now.buffer.origin set put self.now.buffer.told gap × StateOf gap result }
+            → (gap : Option QueryValue)
+            × GapIs self.now.buffer.me self.now.buffer.origin set put self.now.buffer.told gap × StateOf gap result }
     {
         self.buffer.state()
     }

@@ -8,8 +8,10 @@ ghost use Rattle.rights_book.specs.Books.{sites};
 ghost use Rattle.transfer_manager.specs.declared.answer.AskAnswer.{AskAnswer};
 ghost use Rattle.site_core.specs.Ledgers.{EntryKeeps, ClosingKeeps, IsNextOf, ApplyKeeps};
 ghost use Rattle.site_core.specs.Desks.{DeskValue, DeskSound};
-ghost use Rattle.site_core.specs.Faults.{has_closed, post_fault, issue_fault, give_fault, spend_fault, serve_fault, close_fault};
-ghost use Rattle.site_core.specs.Calls.{DeskWrites, DeskSpends, SpendKeeps, DeskServes, ServeKeeps, answer_of, DeskAnswers, AnswerKeeps, DeskApplies, DeskCloses};
+ghost use Rattle.site_core.specs.Faults.{has_closed, post_fault, issue_fault, give_fault, spend_fault, serve_fault};
+ghost use Rattle.site_core.specs.Faults.{close_fault};
+ghost use Rattle.site_core.specs.Calls.{DeskWrites, DeskSpends, SpendKeeps, DeskServes, ServeKeeps, answer_of};
+ghost use Rattle.site_core.specs.Calls.{DeskAnswers, AnswerKeeps, DeskApplies, DeskCloses};
 ghost use Rattle.site_core.specs.declared.desk.requests.Spending.{Spending};
 
 /// What passed the tests of a desk, the protocol allows. The relation of each call says what was tested and what was
@@ -20,7 +22,8 @@ pub fn tested_is_allowed()
         → EntryKeeps d.ledger ms new.ledger }
     ensures issue { (d new : DeskValue) (n : ℕ) → DeskSound d → issue_fault d n ≡ None → DeskWrites d (Issue n ∷ []) new
         → EntryKeeps d.ledger (Issue n ∷ []) new.ledger }
-    ensures give { (d new : DeskValue) (j n : ℕ) → DeskSound d → give_fault d j n ≡ None → DeskWrites d (Give j n ∷ []) new
+    ensures give { (d new : DeskValue) (j n : ℕ) → DeskSound d → give_fault d j n ≡ None
+        → DeskWrites d (Give j n ∷ []) new
         → EntryKeeps d.ledger (Give j n ∷ []) new.ledger }
     ensures spend { (d new : DeskValue) (n deadline : ℕ) (spending : Spending) → DeskSound d → spend_fault d n ≡ None
         → DeskSpends d n deadline spending new → SpendKeeps d n spending new }
@@ -32,5 +35,6 @@ pub fn tested_is_allowed()
     ensures close { (d new : DeskValue) (heir : Option ℕ) → DeskSound d → close_fault d heir ≡ None
         → DeskCloses d heir new → ClosingKeeps d.ledger heir new.ledger }
     ensures apply { (d new : DeskValue) (o : ℕ) (e : EntryValue) → DeskSound d → has_closed d ≡ false
-        → IsNextOf d.ledger.book o e → (w : DeskApplies d o e new) → ApplyKeeps d.ledger o e w.entry.between new.ledger }
+        → IsNextOf d.ledger.book o e → (w : DeskApplies d o e new)
+        → ApplyKeeps d.ledger o e w.entry.between new.ledger }
 {}

@@ -1,5 +1,6 @@
 -- The replies to the lines of a body.
-use Rattle.std.specs.Prelude.{◌≡◌, ℕ, ◌-◌, ◌<◌, ◌≤◌, ◌⊎◌, Bool, true, false, List, [], ◌∷◌, ◌++◌, length, take, flat_map, codes, nat_eq, if◌then◌else◌, bytes_eq}
+use Rattle.std.specs.Prelude.{◌≡◌, ℕ, ◌-◌, ◌<◌, ◌≤◌, ◌⊎◌, Bool, true, false, List, [], ◌∷◌, ◌++◌, length, take}
+use Rattle.std.specs.Prelude.{flat_map, codes, nat_eq, if◌then◌else◌, bytes_eq}
 use Rattle.std.specs.List.{starts_with}
 use Rattle.bytes.specs.Filled.{Filled}
 use Rattle.line_streams.specs.Waiting.{Waiting}
@@ -83,7 +84,8 @@ module _ {S : Type 0} (answers : Answering S) where
   RepliesToOne old lines code replies new = (code ≡ 400) × (replies ≡ bad_command ∷ []) × (new ≡ old)
 
 -- the answer to the lines of a body, by whether its client waits for the outcome: if it does, there must be exactly one
-abbrev pub RepliesToBody : {S : Type 0} → (Bool → Answering S) → Bool → S → List (List ℕ) → ℕ → List (List ℕ) → S → Type 0
+abbrev pub RepliesToBody : {S : Type 0} → (Bool → Answering S) → Bool → S → List (List ℕ) → ℕ
+    → List (List ℕ) → S → Type 0
 RepliesToBody answers false = RepliesTo (answers false)
 RepliesToBody answers true = RepliesToOne (answers true)
 

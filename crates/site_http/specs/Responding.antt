@@ -10,7 +10,8 @@ use Rattle.site_http.specs.declared.page.TheConstants.{PAGE}
 use Rattle.site_http.specs.declared.route.Allowed.{Allowed}
 use Rattle.site_http.specs.declared.route.Allowed.TheVariants as Only
 use Rattle.site_http.specs.declared.route.Route.{Route}
-use Rattle.site_http.specs.declared.route.Route.TheVariants.{Commands, Wait, Status, Metrics, Health, Page, Foreign, NotAllowed, NotFound}
+use Rattle.site_http.specs.declared.route.Route.TheVariants.{Commands, Wait, Status, Metrics, Health, Page, Foreign}
+use Rattle.site_http.specs.declared.route.Route.TheVariants.{NotAllowed, NotFound}
 use Rattle.site_http.specs.Replying.{Answering, RepliesToBody, text_of}
 use Rattle.site_http.specs.Routing.{Leads}
 
@@ -35,11 +36,13 @@ IsHealth false r = IsResponse 200 plain (codes "ok" ++ 10 ∷ []) r
 -- the response of a service that turns every request away
 abbrev pub IsBusy : Response → Type 0
 IsBusy r =
-    IsResponse 503 (plain ++ (codes "retry-after", codes "1") ∷ (codes "connection", codes "close") ∷ []) (codes "error Busy" ++ 10 ∷ []) r
+    IsResponse 503 (plain ++ (codes "retry-after", codes "1") ∷ (codes "connection", codes "close") ∷ [])
+    (codes "error Busy" ++ 10 ∷ []) r
 
 module _ {S : Type 0} where
   -- the response to the lines of a body is their replies
-  pub record IsReplied (replies_to : S → List (List ℕ) → ℕ → List (List ℕ) → S → Type 0) (old : S) (body : List ℕ) (r : Response) (new : S) : Type 0 where
+  pub record IsReplied (replies_to : S → List (List ℕ) → ℕ → List (List ℕ) → S
+      → Type 0) (old : S) (body : List ℕ) (r : Response) (new : S) : Type 0 where
     pub code : ℕ
     pub replies : List (List ℕ)
     pub replied : replies_to old (lines_of body) code replies new
@@ -51,9 +54,11 @@ module _ {S : Type 0} where
 
   -- the same with a line feed after it
   abbrev pub TellsLine : (S → List ℕ → Type 0) → List ℕ → S → Response → Type 0
-  TellsLine says content_type old r = (text : List ℕ) × says old text × IsResponse 200 (headers_for content_type) (text ++ 10 ∷ []) r
+  TellsLine says content_type old r = (text : List ℕ) × says old text
+      × IsResponse 200 (headers_for content_type) (text ++ 10 ∷ []) r
 
-module _ {S : Type 0} (answers : Bool → Answering S) (status metrics : S → List ℕ → Type 0) (closed : S → Bool → Type 0) where
+module _ {S : Type 0} (answers : Bool → Answering S) (status metrics : S → List ℕ → Type 0)
+    (closed : S → Bool → Type 0) where
   -- the response to a request that changes nothing
   abbrev pub Shows : S → Route → Response → Type 0
   Shows old Status r = TellsLine status (codes "application/json") old r

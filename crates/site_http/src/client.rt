@@ -52,7 +52,8 @@ pub trait Client {
     /// Appends the metrics, which end in a line feed, to the whole replies.
     fn put_metrics(&self, replies: &mut Replies<Global>) -> Result<(), OutOfMemory>
         requires { IsEmpty replies.old }
-        ensures { OnOk result ((text : List ℕ) × metrics self.now text × (replies.new.whole ≡ replies.old.whole ++ text)) };
+        ensures { OnOk result ((text : List ℕ) × metrics self.now text
+            × (replies.new.whole ≡ replies.old.whole ++ text)) };
 
     fn is_closed(&self) -> bool
         ensures { closed self.now result };

@@ -1,7 +1,9 @@
 //! The replies to the lines of a body. No command is carried out whose reply finds no memory.
-ghost use Rattle.std.specs.Prelude.{◌≡◌, ◌≢◌, ℕ, ◌+◌, ◌<◌, ◌≤◌, false, List, [], ◌∷◌, ◌++◌, length, nat_le, IsOk, OnOk, OnErr};
+ghost use Rattle.std.specs.Prelude.{◌≡◌, ◌≢◌, ℕ, ◌+◌, ◌<◌, ◌≤◌, false, List, [], ◌∷◌, ◌++◌, length, nat_le, IsOk, OnOk};
+ghost use Rattle.std.specs.Prelude.{OnErr};
 ghost use Rattle.line_streams.specs.Talk.{lines_of};
-ghost use Rattle.site_http.specs.Replying.{bad_command, no_memory, status_of, text_of, AnswersEach, AnswersSome, RepliesTo, RepliesToBody, IsPut, KeepsRoom, WithinLimit};
+ghost use Rattle.site_http.specs.Replying.{bad_command, no_memory, status_of, text_of, AnswersEach, AnswersSome};
+ghost use Rattle.site_http.specs.Replying.{RepliesTo, RepliesToBody, IsPut, KeepsRoom, WithinLimit};
 
 use crate::client::{Client, LONGEST_REPLY};
 use crate::lines::{only_line, split_line, within_limit};
@@ -16,8 +18,8 @@ use std::alloc::Global;
 pub(crate) const LAST_ROOM: usize = 18;
 
 /// Once the replies to a body have this many bytes, the rest of it is not carried out, as if there were no memory. So a
-/// response has at most one reply more, and what says that it ends there. The longest body of any lines but `status` has
-/// fewer.
+/// response has at most one reply more, and what says that it ends there. The longest body of any lines but `status`
+/// has fewer.
 pub const MAX_REPLIES: usize = 20_000_000;
 
 /// Answers the lines of a body, and returns the status of the response. If the client waits for the outcome, the body
@@ -31,7 +33,9 @@ pub(crate) fn answer_body<C: Client>(
 ) -> StatusCode
     requires fresh { out.old.items ≡ [] }
     requires room { LAST_ROOM ≤ out.old.spare }
-    ensures { (told : List (List ℕ)) × RepliesToBody C.answers waits client.old (lines_of body.now) result told client.new × (out.new.items ≡ text_of told) }
+    ensures { (told : List (List ℕ))
+        × RepliesToBody C.answers waits client.old (lines_of body.now) result told client.new
+        × (out.new.items ≡ text_of told) }
 {
     match only_line(body) {
         Some(text) => answer_one(client, waits, text, replies, out),
@@ -55,7 +59,9 @@ fn answer_one<C: Client>(
 ) -> StatusCode
     requires fresh { out.old.items ≡ [] }
     requires room { LAST_ROOM ≤ out.old.spare }
-    ensures { (told : List (List ℕ)) × RepliesTo (C.answers waits) client.old ((text.now ++ 10 ∷ []) ∷ []) result told client.new × (out.new.items ≡ text_of told) }
+    ensures { (told : List (List ℕ))
+        × RepliesTo (C.answers waits) client.old ((text.now ++ 10 ∷ []) ∷ []) result told client.new
+        × (out.new.items ≡ text_of told) }
 {
     match answer_line(client, waits, text, replies, out) {
         Ok(()) => status_of_line(replies.whole()),
@@ -73,7 +79,8 @@ fn answer_many<C: Client>(
     requires fresh { out.old.items ≡ [] }
     requires room { LAST_ROOM ≤ out.old.spare }
     requires other { length (lines_of body.now) ≢ 1 }
-    ensures { (told : List (List ℕ)) × RepliesTo (C.answers false) client.old (lines_of body.now) result told client.new × (out.new.items ≡ text_of told) }
+    ensures { (told : List (List ℕ)) × RepliesTo (C.answers false) client.old (lines_of body.now) result told client.new
+        × (out.new.items ≡ text_of told) }
 {
     match answer_lines(client, body, replies, out) {
         Ok(()) => StatusCode::OK,
@@ -90,8 +97,12 @@ fn answer_lines<C: Client>(
 ) -> Result<(), OutOfMemory>
     requires fresh { out.old.items ≡ [] }
     requires room { LAST_ROOM ≤ out.old.spare }
-    ensures ok { OnOk result ((given : List (List ℕ)) × AnswersEach (C.answers false) client.old (lines_of body.now) given client.new × WithinLimit given × (out.new.items ≡ text_of given)) }
-    ensures err { OnErr result ((given : List (List ℕ)) × AnswersSome (C.answers false) client.old (lines_of body.now) given client.new × (out.new.items ≡ text_of given)) }
+    ensures ok { OnOk result ((given : List (List ℕ))
+        × AnswersEach (C.answers false) client.old (lines_of body.now) given client.new × WithinLimit given
+        × (out.new.items ≡ text_of given)) }
+    ensures err { OnErr result ((given : List (List ℕ))
+        × AnswersSome (C.answers false) client.old (lines_of body.now) given client.new
+        × (out.new.items ≡ text_of given)) }
     ensures room { LAST_ROOM ≤ out.new.spare }
 {
     let mut lines = body;
@@ -120,7 +131,8 @@ fn answer_line<C: Client>(
     replies: &mut Replies<Global>,
     out: &mut Rope,
 ) -> Result<(), OutOfMemory>
-    ensures ok { OnOk result ((reply : List ℕ) × C.answers waits client.old (text.now ++ 10 ∷ []) reply client.new × IsPut reply replies.new out.old out.new) }
+    ensures ok { OnOk result ((reply : List ℕ) × C.answers waits client.old (text.now ++ 10 ∷ []) reply client.new
+        × IsPut reply replies.new out.old out.new) }
     ensures err { OnErr result ((client.new ≡ client.old) × KeepsRoom out.old out.new) }
 {
     replies.clear();

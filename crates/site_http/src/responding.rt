@@ -3,7 +3,8 @@ ghost use Rattle.std.specs.Prelude.{◌≡◌, ◌≤◌, ℕ, Bool, List, [], �
 ghost use Rattle.http_server.specs.Response.{IsBlank, IsResponse, fields_of};
 ghost use Rattle.site_http.specs.Replying.{RepliesToBody};
 ghost use Rattle.site_http.specs.declared.page.TheConstants.{PAGE};
-ghost use Rattle.site_http.specs.Responding.{headers_for, plain, methods_of, IsHealth, IsReplied, Tells, TellsLine, Responds};
+ghost use Rattle.site_http.specs.Responding.{headers_for, plain, methods_of, IsHealth, IsReplied, Tells, TellsLine};
+ghost use Rattle.site_http.specs.Responding.{Responds};
 
 use crate::client::{Client, LONGEST_REPLY};
 use crate::page::page;
@@ -23,7 +24,8 @@ pub(crate) fn respond<C: Client>(
     response: &mut Response,
 ) -> Result<(), AllocError>
     requires { IsBlank response.old }
-    ensures ok { OnOk result (Responds C.answers C.status C.metrics C.closed client.old request.now response.new client.new) }
+    ensures ok { OnOk result (Responds C.answers C.status C.metrics C.closed client.old request.now response.new
+        client.new) }
     ensures err { OnErr result (client.new ≡ client.old) }
 {
     let body = request.body().as_slice();
@@ -118,7 +120,8 @@ fn show_page(response: &mut Response) -> Result<(), AllocError>
 
 fn refuse_method(response: &mut Response, allowed: Allowed) -> Result<(), AllocError>
     requires { IsBlank response.old }
-    ensures { OnOk result (IsResponse 405 (plain ++ (codes "allow", methods_of allowed) ∷ []) (codes "error Method" ++ 10 ∷ []) response.new) }
+    ensures { OnOk result (IsResponse 405 (plain ++ (codes "allow", methods_of allowed) ∷ [])
+        (codes "error Method" ++ 10 ∷ []) response.new) }
 {
     say(response, StatusCode::METHOD_NOT_ALLOWED, b"error Method\n")?;
     response.add_header(header::ALLOW, methods_of(allowed))

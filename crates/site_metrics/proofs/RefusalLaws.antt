@@ -1,5 +1,7 @@
 -- Each refusal has a name of its own.
-use Rattle.std.proofs.Common.{◌≡◌, ◌≢◌, ℕ, zero, suc, ◌+◌, ◌<◌, ◌≤◌, leb, Bool, true, false, true≢false, ◌&&◌, List, [], ◌++◌, length, take, get_or, Option, Some, None, IfNone, refl, ap, sym, ◌∙◌, arith, inl, inr}
+use Rattle.std.proofs.Common.{◌≡◌, ◌≢◌, ℕ, zero, suc, ◌+◌, ◌<◌, ◌≤◌, leb, Bool, true, false, true≢false, ◌&&◌, List, []}
+use Rattle.std.proofs.Common.{◌++◌, length, take, get_or, Option, Some, None, IfNone, refl, ap, sym, ◌∙◌, arith, inl}
+use Rattle.std.proofs.Common.{inr}
 use Rattle.std.proofs.lemmas.Bool.{cases_lt, leb-true}
 use Rattle.std.proofs.lemmas.Slice.Eq.{bytes_eq-Decides}
 use Rattle.std.specs.List.{flat_map, zip}
@@ -34,7 +36,8 @@ pub differ : (xs ys zs : List ℕ) → false ≡ bytes_eq xs ys → ys ≡ zs �
 differ xs ys zs other h e = true≢false (sym ((bytes_eq-Decides xs ys).1 (e ∙ sym h)) ∙ sym other)
 
 -- one more name, which differs from the others
-pub none_more : (name : List ℕ) (place : ℕ) → ((i : ℕ) → i < place → name ≢ get_or refusal_names i []) → name ≢ get_or refusal_names place [] → (i : ℕ) → i < place + 1 → name ≢ get_or refusal_names i []
+pub none_more : (name : List ℕ) (place : ℕ) → ((i : ℕ) → i < place → name ≢ get_or refusal_names i [])
+    → name ≢ get_or refusal_names place [] → (i : ℕ) → i < place + 1 → name ≢ get_or refusal_names i []
 none_more name place before here i lt = elim (cases_lt i place) [
   | inl less ↦ before i less
   | inr past ↦ let same : i ≡ place = omega (arith, lt, past) in rw same here
@@ -50,17 +53,23 @@ none_then None f h = f h
 none_then (Some x) f h = h
 
 -- the counts of one more name were appended
-pub name_more : (f : List ℕ × ℕ → List ℕ) (text before after counts : List ℕ) (place : ℕ) (name : List ℕ) → place < 15 → length counts ≡ 15
-    → before ≡ text ++ flat_map f (take place (zip refusal_names counts)) → name ≡ get_or refusal_names place [] → after ≡ before ++ f (name, get_or counts place 0)
+pub name_more : (f : List ℕ × ℕ → List ℕ) (text before after counts : List ℕ) (place : ℕ) (name : List ℕ) → place < 15
+    → length counts ≡ 15
+    → before ≡ text ++ flat_map f (take place (zip refusal_names counts)) → name ≡ get_or refusal_names place []
+    → after ≡ before ++ f (name, get_or counts place 0)
     → after ≡ text ++ flat_map f (take (place + 1) (zip refusal_names counts))
 name_more f text before after counts place name low long done named more =
     let all : List (List ℕ × ℕ) = zip refusal_names counts in
     let within : place < length all = omega (arith, length-zip refusal_names counts, long, low) in
     let item : get_or all place ([], 0) ≡ (name, get_or counts place 0) =
-    get_or-zip refusal_names counts place ([], 0) low (omega (arith, long, low)) ∙ ap (λ (n : List ℕ). (n, get_or counts place 0)) (sym named) in
-    more ∙ ap (λ (t : List ℕ). t ++ f (name, get_or counts place 0)) done ∙ ap (λ (e : List ℕ × ℕ). (text ++ flat_map f (take place all)) ++ f e) (sym item)
-    ∙ flat_map_more f text (take place all) (get_or all place ([], 0)) ∙ ap (λ (es : List (List ℕ × ℕ)). text ++ flat_map f es) (sym (take_more all place ([], 0) within))
+    get_or-zip refusal_names counts place ([], 0) low (omega (arith, long, low))
+    ∙ ap (λ (n : List ℕ). (n, get_or counts place 0)) (sym named) in
+    more ∙ ap (λ (t : List ℕ). t ++ f (name, get_or counts place 0)) done
+    ∙ ap (λ (e : List ℕ × ℕ). (text ++ flat_map f (take place all)) ++ f e) (sym item)
+    ∙ flat_map_more f text (take place all) (get_or all place ([], 0))
+    ∙ ap (λ (es : List (List ℕ × ℕ)). text ++ flat_map f es) (sym (take_more all place ([], 0) within))
 
 -- no name is longer
 pub short_name : (place : ℕ) → place < 15 → length (get_or refusal_names place []) ≤ 16
-short_name place low = leb-true (length (get_or refusal_names place [])) 16 (below (λ i. leb (length (get_or refusal_names i [])) 16) 15 refl place low)
+short_name place low = leb-true (length (get_or refusal_names place [])) 16
+    (below (λ i. leb (length (get_or refusal_names i [])) 16) 15 refl place low)

@@ -2,7 +2,8 @@
 use Rattle.std.specs.Prelude.{ℕ}
 use Rattle.site_metrics.specs.declared.metrics.PeerMetrics.{PeerMetrics}
 use Rattle.site_metrics.specs.declared.peer_value.PeerValue.{PeerValue}
-use Rattle.site_metrics.specs.declared.peer_value.PeerValue.TheVariants.{Applied, Buffering, Held, Receiving, Sending, Lines, Refused, Dropped, Waiting, WentBack}
+use Rattle.site_metrics.specs.declared.peer_value.PeerValue.TheVariants.{Applied, Buffering, Held, Receiving, Sending}
+use Rattle.site_metrics.specs.declared.peer_value.PeerValue.TheVariants.{Lines, Refused, Dropped, Waiting, WentBack}
 use Rattle.site_metrics.specs.Table.{bit}
 
 abbrev pub peer_value : PeerValue → PeerMetrics → ℕ

@@ -6,7 +6,8 @@ use Rattle.site_metrics.specs.declared.kind.Kind.TheVariants.{Gauge, Counter}
 use Rattle.site_metrics.specs.declared.metrics.Metrics.{Metrics}
 use Rattle.site_metrics.specs.declared.metrics.PeerMetrics.{PeerMetrics}
 use Rattle.site_metrics.specs.declared.peer_value.PeerValue.{PeerValue}
-use Rattle.site_metrics.specs.declared.peer_value.PeerValue.TheVariants.{Applied, Buffering, Held, Receiving, Sending, Lines, Refused, Dropped, Waiting, WentBack}
+use Rattle.site_metrics.specs.declared.peer_value.PeerValue.TheVariants.{Applied, Buffering, Held, Receiving, Sending}
+use Rattle.site_metrics.specs.declared.peer_value.PeerValue.TheVariants.{Lines, Refused, Dropped, Waiting, WentBack}
 use Rattle.site_metrics.specs.Format.{Sample, Family, exposition}
 use Rattle.site_metrics.specs.Refusals.{refusal_names}
 
@@ -53,36 +54,61 @@ rights_metrics m =
     ∷ counter (codes "rights_spent_total") (codes "Rights that the site spent.") (alone m.spent)
     ∷ counter (codes "rights_received_total") (codes "Rights that came from other sites.") (alone m.received)
     ∷ counter (codes "rights_given_total") (codes "Rights that went to other sites, taken back or not.") (alone m.given)
-    ∷ counter (codes "rights_taken_back_total") (codes "Rights taken back after the site they were given to closed.") (alone m.taken_back)
+    ∷ counter (codes "rights_taken_back_total") (codes "Rights taken back after the site they were given to closed.")
+    (alone m.taken_back)
     ∷ []
 
 abbrev pub state_metrics : Metrics → List Family
 state_metrics m =
     counter (codes "rights_log_number") (codes "Number of the last entry of the site's log.") (alone m.log_number)
     ∷ gauge (codes "rights_closed") (codes "1 once the site has closed, else 0.") (alone (bit m.closed))
-    ∷ gauge (codes "rights_requests_waiting") (codes "Slots of the queue taken by spends that wait.") (alone m.requests_waiting)
-    ∷ gauge (codes "rights_outcomes_unread") (codes "Slots of the queue taken by outcomes that nobody has read.") (alone m.outcomes_unread)
+    ∷ gauge (codes "rights_requests_waiting") (codes "Slots of the queue taken by spends that wait.")
+    (alone m.requests_waiting)
+    ∷ gauge (codes "rights_outcomes_unread") (codes "Slots of the queue taken by outcomes that nobody has read.")
+    (alone m.outcomes_unread)
     ∷ []
 
 abbrev pub client_metrics : Metrics → List Family
 client_metrics m =
     gauge (codes "rights_clients") (codes "HTTP connections that stand.") (alone m.clients)
-    ∷ counter (codes "rights_commands_total") (codes "Commands answered, of all clients and standard input.") (alone m.commands)
-    ∷ counter (codes "rights_commands_refused_total") (codes "Commands refused, by the name of the refusal.") (by_name m.refused)
+    ∷ counter (codes "rights_commands_total") (codes "Commands answered, of all clients and standard input.")
+    (alone m.commands)
+    ∷ counter (codes "rights_commands_refused_total") (codes "Commands refused, by the name of the refusal.")
+    (by_name m.refused)
     ∷ []
 
 -- the metric with this value of each peer
 abbrev pub peer_metric : PeerValue → List PeerMetrics → Family
-peer_metric Applied peers = counter (codes "rights_peer_applied") (codes "Number up to which the peer's log is applied.") (by_peer (λ p. p.applied) peers)
-peer_metric Buffering peers = gauge (codes "rights_peer_buffering") (codes "1 while entries of the peer wait for one that is missing, else 0.") (by_peer (λ p. bit p.buffering) peers)
-peer_metric Held peers = gauge (codes "rights_peer_entries_held") (codes "Entries of the peer that wait for one that is missing.") (by_peer (λ p. p.held) peers)
-peer_metric Receiving peers = gauge (codes "rights_peer_receiving") (codes "1 while a connection from the peer stands, else 0.") (by_peer (λ p. bit p.receiving) peers)
-peer_metric Sending peers = gauge (codes "rights_peer_sending") (codes "1 while a connection to the peer stands, else 0.") (by_peer (λ p. bit p.sending) peers)
-peer_metric Lines peers = counter (codes "rights_peer_lines_total") (codes "Lines that came from the peer.") (by_peer (λ p. p.lines) peers)
-peer_metric Refused peers = counter (codes "rights_peer_lines_refused_total") (codes "Lines from the peer that were skipped.") (by_peer (λ p. p.refused) peers)
-peer_metric Dropped peers = counter (codes "rights_peer_lines_dropped_total") (codes "Lines for the peer that found no room in the outbox, or were lost by a failed connection or write.") (by_peer (λ p. p.dropped) peers)
-peer_metric Waiting peers = gauge (codes "rights_peer_lines_waiting") (codes "Lines that wait in the peer's outbox.") (by_peer (λ p. p.waiting) peers)
-peer_metric WentBack peers = counter (codes "rights_peer_number_went_back_total") (codes "Beats of the peer below what was applied of its log: it was started anew, or runs twice.") (by_peer (λ p. p.went_back) peers)
+peer_metric Applied peers
+    = counter (codes "rights_peer_applied") (codes "Number up to which the peer's log is applied.")
+    (by_peer (λ p. p.applied) peers)
+peer_metric Buffering peers
+    = gauge (codes "rights_peer_buffering") (codes "1 while entries of the peer wait for one that is missing, else 0.")
+    (by_peer (λ p. bit p.buffering) peers)
+peer_metric Held peers = gauge (codes "rights_peer_entries_held")
+    (codes "Entries of the peer that wait for one that is missing.") (by_peer (λ p. p.held) peers)
+peer_metric Receiving peers
+    = gauge (codes "rights_peer_receiving") (codes "1 while a connection from the peer stands, else 0.")
+    (by_peer (λ p. bit p.receiving) peers)
+peer_metric Sending peers
+    = gauge (codes "rights_peer_sending") (codes "1 while a connection to the peer stands, else 0.")
+    (by_peer (λ p. bit p.sending) peers)
+peer_metric Lines peers = counter (codes "rights_peer_lines_total") (codes "Lines that came from the peer.")
+    (by_peer (λ p. p.lines) peers)
+peer_metric Refused peers
+    = counter (codes "rights_peer_lines_refused_total") (codes "Lines from the peer that were skipped.")
+    (by_peer (λ p. p.refused) peers)
+peer_metric Dropped peers
+    = counter (codes "rights_peer_lines_dropped_total")
+    (codes "Lines for the peer that found no room in the outbox, or were lost by a failed connection or write.")
+    (by_peer (λ p. p.dropped) peers)
+peer_metric Waiting peers
+    = gauge (codes "rights_peer_lines_waiting") (codes "Lines that wait in the peer's outbox.")
+    (by_peer (λ p. p.waiting) peers)
+peer_metric WentBack peers
+    = counter (codes "rights_peer_number_went_back_total")
+    (codes "Beats of the peer below what was applied of its log: it was started anew, or runs twice.")
+    (by_peer (λ p. p.went_back) peers)
 
 abbrev pub log_metrics : List PeerMetrics → List Family
 log_metrics peers = map (λ v. peer_metric v peers) (Applied ∷ Buffering ∷ Held ∷ Receiving ∷ Sending ∷ [])
@@ -91,7 +117,8 @@ abbrev pub line_metrics : List PeerMetrics → List Family
 line_metrics peers = map (λ v. peer_metric v peers) (Lines ∷ Refused ∷ Dropped ∷ Waiting ∷ WentBack ∷ [])
 
 abbrev pub all_metrics : Metrics → List PeerMetrics → List Family
-all_metrics m peers = rights_metrics m ++ (state_metrics m ++ (client_metrics m ++ (log_metrics peers ++ line_metrics peers)))
+all_metrics m peers = rights_metrics m
+    ++ (state_metrics m ++ (client_metrics m ++ (log_metrics peers ++ line_metrics peers)))
 
 -- the whole text of a site's metrics
 abbrev pub metrics_text : Metrics → List PeerMetrics → List ℕ

@@ -35,7 +35,8 @@ pub(crate) fn put_alone<A: Allocator>(
 ) -> Result<(), OutOfMemory>
     requires name { length name.now ≤ MAX_NAME }
     requires help { length help.now ≤ MAX_HELP }
-    ensures ok { OnOk result (replies.new.part ≡ replies.old.part ++ led_lines (family kind name.now help.now (alone value))) }
+    ensures ok { OnOk result (replies.new.part
+        ≡ replies.old.part ++ led_lines (family kind name.now help.now (alone value))) }
     ensures kept { replies.new.whole ≡ replies.old.whole }
     ensures room { HEAD_ROOM + SAMPLE_ROOM ≤ replies.old.room → IsOk result }
     ensures left { replies.old.room ≤ replies.new.room + (HEAD_ROOM + SAMPLE_ROOM) }
@@ -70,7 +71,8 @@ pub(crate) fn put_by_name<A: Allocator>(
 ) -> Result<(), OutOfMemory>
     requires name { length name.now ≤ MAX_NAME }
     requires help { length help.now ≤ MAX_HELP }
-    ensures ok { OnOk result (replies.new.part ≡ replies.old.part ++ led_lines (family kind name.now help.now (by_name counts.now))) }
+    ensures ok { OnOk result (replies.new.part
+        ≡ replies.old.part ++ led_lines (family kind name.now help.now (by_name counts.now))) }
     ensures kept { replies.new.whole ≡ replies.old.whole }
     ensures room { HEAD_ROOM + SAMPLE_ROOM * REFUSAL_COUNT ≤ replies.old.room → IsOk result }
     ensures left { replies.old.room ≤ replies.new.room + (HEAD_ROOM + SAMPLE_ROOM * REFUSAL_COUNT) }
@@ -87,7 +89,8 @@ fn put_led_head<A: Allocator>(
 ) -> Result<(), OutOfMemory>
     requires name { length name.now ≤ MAX_NAME }
     requires help { length help.now ≤ MAX_HELP }
-    ensures ok { OnOk result (replies.new.part ≡ replies.old.part ++ (10 ∷ help_line name.now help.now ++ 10 ∷ type_line name.now (kind_word kind))) }
+    ensures ok { OnOk result (replies.new.part
+        ≡ replies.old.part ++ (10 ∷ help_line name.now help.now ++ 10 ∷ type_line name.now (kind_word kind))) }
     ensures kept { replies.new.whole ≡ replies.old.whole }
     ensures room { HEAD_ROOM ≤ replies.old.room → IsOk result }
     ensures left { replies.old.room ≤ replies.new.room + HEAD_ROOM }
@@ -105,7 +108,8 @@ pub(crate) fn put_head<A: Allocator>(
 ) -> Result<(), OutOfMemory>
     requires name { length name.now ≤ MAX_NAME }
     requires help { length help.now ≤ MAX_HELP }
-    ensures ok { OnOk result (replies.new.part ≡ replies.old.part ++ (help_line name.now help.now ++ 10 ∷ type_line name.now (kind_word kind))) }
+    ensures ok { OnOk result (replies.new.part
+        ≡ replies.old.part ++ (help_line name.now help.now ++ 10 ∷ type_line name.now (kind_word kind))) }
     ensures kept { replies.new.whole ≡ replies.old.whole }
     ensures room { 225 ≤ replies.old.room → IsOk result }
     ensures left { replies.old.room ≤ replies.new.room + 225 }
@@ -138,7 +142,8 @@ pub(crate) fn put_value<A: Allocator>(
     value: u64,
 ) -> Result<(), OutOfMemory>
     requires { length name.now ≤ MAX_NAME }
-    ensures ok { OnOk result (replies.new.part ≡ replies.old.part ++ (10 ∷ sample_line name.now (record { labels = []; value = value }))) }
+    ensures ok { OnOk result (replies.new.part
+        ≡ replies.old.part ++ (10 ∷ sample_line name.now (record { labels = []; value = value }))) }
     ensures kept { replies.new.whole ≡ replies.old.whole }
     ensures room { SAMPLE_ROOM ≤ replies.old.room → IsOk result }
     ensures left { replies.old.room ≤ replies.new.room + SAMPLE_ROOM }
@@ -155,7 +160,8 @@ fn put_peer_values<A: Allocator>(
     value: PeerValue,
 ) -> Result<(), OutOfMemory>
     requires { length name.now ≤ MAX_NAME }
-    ensures ok { OnOk result (replies.new.part ≡ replies.old.part ++ flat_map (λ p. 10 ∷ sample_line name.now (peer_sample (peer_value value) p)) peers.now) }
+    ensures ok { OnOk result (replies.new.part
+        ≡ replies.old.part ++ flat_map (λ p. 10 ∷ sample_line name.now (peer_sample (peer_value value) p)) peers.now) }
     ensures kept { replies.new.whole ≡ replies.old.whole }
     ensures room { SAMPLE_ROOM * length peers.now ≤ replies.old.room → IsOk result }
     ensures left { replies.old.room ≤ replies.new.room + (SAMPLE_ROOM * length peers.now) }
@@ -173,7 +179,8 @@ fn put_peer_value<A: Allocator>(
     value: PeerValue,
 ) -> Result<(), OutOfMemory>
     requires { length name.now ≤ MAX_NAME }
-    ensures ok { OnOk result (replies.new.part ≡ replies.old.part ++ (10 ∷ sample_line name.now (peer_sample (peer_value value) peer.now))) }
+    ensures ok { OnOk result (replies.new.part
+        ≡ replies.old.part ++ (10 ∷ sample_line name.now (peer_sample (peer_value value) peer.now))) }
     ensures kept { replies.new.whole ≡ replies.old.whole }
     ensures room { SAMPLE_ROOM ≤ replies.old.room → IsOk result }
     ensures left { replies.old.room ≤ replies.new.room + SAMPLE_ROOM }
@@ -190,7 +197,9 @@ fn put_name_counts<A: Allocator>(
     counts: &[u64; REFUSAL_COUNT],
 ) -> Result<(), OutOfMemory>
     requires { length name.now ≤ MAX_NAME }
-    ensures ok { OnOk result (replies.new.part ≡ replies.old.part ++ flat_map (λ e. 10 ∷ sample_line name.now (name_sample e)) (zip refusal_names counts.now)) }
+    ensures ok { OnOk result
+        (replies.new.part ≡ replies.old.part
+        ++ flat_map (λ e. 10 ∷ sample_line name.now (name_sample e)) (zip refusal_names counts.now)) }
     ensures kept { replies.new.whole ≡ replies.old.whole }
     ensures room { SAMPLE_ROOM * REFUSAL_COUNT ≤ replies.old.room → IsOk result }
     ensures left { replies.old.room ≤ replies.new.room + (SAMPLE_ROOM * REFUSAL_COUNT) }
@@ -209,7 +218,8 @@ fn put_name_count<A: Allocator>(
 ) -> Result<(), OutOfMemory>
     requires name { length name.now ≤ MAX_NAME }
     requires refusal { length refusal.now ≤ 16 }
-    ensures ok { OnOk result (replies.new.part ≡ replies.old.part ++ (10 ∷ sample_line name.now (name_sample (refusal.now, count)))) }
+    ensures ok { OnOk result (replies.new.part
+        ≡ replies.old.part ++ (10 ∷ sample_line name.now (name_sample (refusal.now, count)))) }
     ensures kept { replies.new.whole ≡ replies.old.whole }
     ensures room { SAMPLE_ROOM ≤ replies.old.room → IsOk result }
     ensures left { replies.old.room ≤ replies.new.room + SAMPLE_ROOM }

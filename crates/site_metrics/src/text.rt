@@ -1,8 +1,10 @@
 //! The text of all metrics.
-ghost use Rattle.std.specs.Prelude.{◌≡◌, ◌++◌, [], drop, flat_map, length, ◌≤◌, ◌<◌, ◌+◌, ◌*◌, IfSome, IfNone, IsOk, OnOk, OnErr};
+ghost use Rattle.std.specs.Prelude.{◌≡◌, ◌++◌, [], drop, flat_map, length, ◌≤◌, ◌<◌, ◌+◌, ◌*◌, IfSome, IfNone, IsOk};
+ghost use Rattle.std.specs.Prelude.{OnOk, OnErr};
 ghost use Rattle.rights_types.specs.declared.limits.TheConstants.{MAX_SITES};
 ghost use Rattle.site_metrics.specs.Format.{led_lines};
-ghost use Rattle.site_metrics.specs.Table.{rights_metrics, state_metrics, client_metrics, log_metrics, line_metrics, all_metrics, metrics_text, bit};
+ghost use Rattle.site_metrics.specs.Table.{rights_metrics, state_metrics, client_metrics, log_metrics, line_metrics};
+ghost use Rattle.site_metrics.specs.Table.{all_metrics, metrics_text, bit};
 
 use crate::kind::Kind;
 use crate::metrics::{Metrics, PeerMetrics};
@@ -29,9 +31,11 @@ pub fn put_metrics<A: Allocator>(
     replies: &mut Replies<A>,
 ) -> Result<(), OutOfMemory>
     requires { replies.old.part ≡ [] }
-    ensures ok { OnOk result ((replies.new.whole ≡ replies.old.whole ++ metrics_text metrics.now peers.now) × (replies.new.part ≡ [])) }
+    ensures ok { OnOk result ((replies.new.whole ≡ replies.old.whole ++ metrics_text metrics.now peers.now)
+        × (replies.new.part ≡ [])) }
     ensures err { OnErr result ((replies.new.whole ≡ replies.old.whole) × (replies.new.part ≡ [])) }
-    ensures memory { length peers.now ≤ MAX_SITES → SITE_ROOM + PEER_ROOM * length peers.now ≤ replies.old.room → IsOk result }
+    ensures memory { length peers.now ≤ MAX_SITES → SITE_ROOM + PEER_ROOM * length peers.now ≤ replies.old.room
+        → IsOk result }
 {
     let Some(room) = room_of(peers.len()) else {
         return Err(OutOfMemory);
@@ -55,7 +59,8 @@ fn put_text<A: Allocator>(
     replies: &mut Replies<A>,
 ) -> Result<(), OutOfMemory>
     requires { replies.old.part ≡ [] }
-    ensures ok { OnOk result ((replies.new.whole ≡ replies.old.whole ++ metrics_text metrics.now peers.now) × (replies.new.part ≡ [])) }
+    ensures ok { OnOk result ((replies.new.whole ≡ replies.old.whole ++ metrics_text metrics.now peers.now)
+        × (replies.new.part ≡ [])) }
     ensures room { SITE_ROOM + PEER_ROOM * length peers.now ≤ replies.old.room → IsOk result }
 {
     put_all(metrics, peers, replies)?;
@@ -68,7 +73,8 @@ fn put_all<A: Allocator>(
     peers: &[PeerMetrics],
     replies: &mut Replies<A>,
 ) -> Result<(), OutOfMemory>
-    ensures ok { OnOk result (replies.new.part ≡ replies.old.part ++ drop 1 (flat_map led_lines (all_metrics metrics.now peers.now))) }
+    ensures ok { OnOk result (replies.new.part
+        ≡ replies.old.part ++ drop 1 (flat_map led_lines (all_metrics metrics.now peers.now))) }
     ensures kept { replies.new.whole ≡ replies.old.whole }
     ensures room { SITE_ROOM + PEER_ROOM * length peers.now ≤ replies.old.room → IsOk result × (1 ≤ replies.new.room) }
 {
@@ -84,7 +90,8 @@ const HELD: &[u8] = b"rights_held";
 
 /// The first metrics, with no line feed before them.
 fn put_rights<A: Allocator>(metrics: &Metrics, replies: &mut Replies<A>) -> Result<(), OutOfMemory>
-    ensures ok { OnOk result (replies.new.part ≡ replies.old.part ++ drop 1 (flat_map led_lines (rights_metrics metrics.now))) }
+    ensures ok { OnOk result (replies.new.part
+        ≡ replies.old.part ++ drop 1 (flat_map led_lines (rights_metrics metrics.now))) }
     ensures kept { replies.new.whole ≡ replies.old.whole }
     ensures room { 7 * (HEAD_ROOM + SAMPLE_ROOM) ≤ replies.old.room → IsOk result }
     ensures left { replies.old.room ≤ replies.new.room + (7 * (HEAD_ROOM + SAMPLE_ROOM)) }

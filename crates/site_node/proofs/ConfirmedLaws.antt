@@ -14,7 +14,8 @@ use Rattle.site_node.specs.declared.reply.Reply.TheVariants.{Number, Spending, O
 use Rattle.site_node.specs.declared.tick.Ticked.{Ticked}
 use Rattle.site_node.specs.Acting.{Acts}
 use Rattle.site_node.specs.Ticking.{ServesEach, Ticks}
-use Rattle.site_node.specs.Confirmed.{Turn, ACommand, ATick, HasTurn, HasTurns, CountsConfirmed, confirmed_as_issued, confirmed_as_spent, issued_in, spent_in}
+use Rattle.site_node.specs.Confirmed.{Turn, ACommand, ATick, HasTurn, HasTurns, CountsConfirmed, confirmed_as_issued}
+use Rattle.site_node.specs.Confirmed.{confirmed_as_spent, issued_in, spent_in}
 
 -- the seat counts this many more rights as issued, and this many as spent
 record Counts (was : SeatValue) (issued spent : ℕ) (now : SeatValue) : Type 0 where
@@ -32,7 +33,8 @@ same was now e =
 -- ---- commands
 
 acts : (old : KeptValue) (was : SeatValue) (command : DeskCommand) (reply : Reply) (new : KeptValue) (now : SeatValue)
-    → Acts old was command reply new now → Counts was (confirmed_as_issued command reply) (confirmed_as_spent command reply) now
+    → Acts old was command reply new now
+    → Counts was (confirmed_as_issued command reply) (confirmed_as_spent command reply) now
 acts old was (Issue amount) (Number n) new now h =
     let e = h.1.counted in
     let issued : now.issued ≡ was.issued + amount = ap (λ (s : SeatValue). s.issued) e in
@@ -85,7 +87,8 @@ serves old was (r ∷ others) new now h =
     let all : total_of (r ∷ others) ≡ r.amount + total_of others = sum_by-cons (λ (x : Request). x.amount) r others in
     record { issued_is = omega (arith, more.issued_is); spent_is = omega (arith, more.spent_is) }
 
-ticks : (old : KeptValue) (was : SeatValue) (time : ℕ) (served : List Request) (answer : Result Ticked DeskError) (new : KeptValue) (now : SeatValue)
+ticks : (old : KeptValue) (was : SeatValue) (time : ℕ) (served : List Request) (answer : Result Ticked DeskError)
+    (new : KeptValue) (now : SeatValue)
     → Ticks old was time served answer new now → Counts was 0 (total_of served) now
 ticks old was time served (Ok ticked) new now h = serves _ was served _ now h.serves.each
 ticks old was time served (Err fault) new now (inl h) =
@@ -96,12 +99,15 @@ ticks old was time served (Err fault) new now (inr h) = serves _ was served _ no
 
 -- ---- turns
 
-turn_counts : (was : SeatValue) (turn : Turn) (now : SeatValue) → HasTurn was turn now → Counts was (issued_in turn) (spent_in turn) now
+turn_counts : (was : SeatValue) (turn : Turn) (now : SeatValue) → HasTurn was turn now
+    → Counts was (issued_in turn) (spent_in turn) now
 turn_counts was (ACommand command reply) now h = acts h.0 was command reply h.1 now h.2
 turn_counts was (ATick time served answer) now h = ticks h.0 was time served answer h.1 now h.2
 
-pub turns_count : (was : SeatValue) (turns : List Turn) (now : SeatValue) → HasTurns was turns now → CountsConfirmed was turns now
-turns_count was [] now h = let c : Counts was 0 0 now = same was now h in record { issued = c.issued_is; spent = c.spent_is }
+pub turns_count : (was : SeatValue) (turns : List Turn) (now : SeatValue) → HasTurns was turns now
+    → CountsConfirmed was turns now
+turns_count was [] now h = let c : Counts was 0 0 now
+    = same was now h in record { issued = c.issued_is; spent = c.spent_is }
 turns_count was (turn ∷ turns) now h =
     let first : Counts was (issued_in turn) (spent_in turn) h.0 = turn_counts was turn h.0 h.1 in
     let rest : CountsConfirmed h.0 turns now = turns_count h.0 turns now h.2 in

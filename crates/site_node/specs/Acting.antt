@@ -20,7 +20,8 @@ use Rattle.site_node.specs.declared.reply.Reply.TheVariants.{Number, Spending as
 -- ---- what a command leaves that is not refused
 
 -- an entry issued this many rights, and its number is returned; the counter and the seat count them
-pub record HasIssued (old : KeptValue) (was : SeatValue) (amount number : ℕ) (new : KeptValue) (now : SeatValue) : Type 0 where
+pub record HasIssued (old : KeptValue) (was : SeatValue) (amount number : ℕ) (new : KeptValue)
+    (now : SeatValue) : Type 0 where
   pub entry : DeskWrites old.desk (Issues amount ∷ []) new.desk
   pub keeps : EntryKeeps old.desk.ledger (Issues amount ∷ []) new.desk.ledger
   pub at_end : number ≡ end new.desk.ledger.log.entries
@@ -28,7 +29,8 @@ pub record HasIssued (old : KeptValue) (was : SeatValue) (amount number : ℕ) (
   pub counted : now ≡ told_issued was amount
 
 -- an entry gave this many rights to the peer, and its number is returned
-pub record HasGiven (old : KeptValue) (was : SeatValue) (peer amount number : ℕ) (new : KeptValue) (now : SeatValue) : Type 0 where
+pub record HasGiven (old : KeptValue) (was : SeatValue) (peer amount number : ℕ) (new : KeptValue)
+    (now : SeatValue) : Type 0 where
   pub entry : DeskWrites old.desk (Gives peer amount ∷ []) new.desk
   pub keeps : EntryKeeps old.desk.ledger (Gives peer amount ∷ []) new.desk.ledger
   pub at_end : number ≡ end new.desk.ledger.log.entries
@@ -36,20 +38,23 @@ pub record HasGiven (old : KeptValue) (was : SeatValue) (peer amount number : �
   pub same_seat : now ≡ was
 
 -- the spend was served or waits, as the reply says; the counter and the seat count what was spent
-pub record HasSpent (old : KeptValue) (was : SeatValue) (amount deadline : ℕ) (spending : Spending) (new : KeptValue) (now : SeatValue) : Type 0 where
+pub record HasSpent (old : KeptValue) (was : SeatValue) (amount deadline : ℕ) (spending : Spending) (new : KeptValue)
+    (now : SeatValue) : Type 0 where
   pub desk : DeskSpends old.desk amount deadline spending new.desk
   pub keeps : SpendKeeps old.desk amount spending new.desk
   pub counter : new ≡ record old { desk = new.desk; spent = raised old.spent (spent_by amount spending) }
   pub counted : now ≡ told_spent was amount spending
 
 -- the state of a spend is returned; a final outcome frees its slot
-pub record HasReported (old : KeptValue) (was : SeatValue) (ticket : ℕ) (status : Status) (new : KeptValue) (now : SeatValue) : Type 0 where
+pub record HasReported (old : KeptValue) (was : SeatValue) (ticket : ℕ) (status : Status) (new : KeptValue)
+    (now : SeatValue) : Type 0 where
   pub outcome : TellsOutcome old.desk.queue ticket status new.desk.queue
   pub rest : new ≡ record old { desk = record old.desk { queue = new.desk.queue } }
   pub same_seat : now ≡ was
 
 -- the closing entry was written, and its number is returned
-pub record HasClosed (old : KeptValue) (was : SeatValue) (heir : Option ℕ) (number : ℕ) (new : KeptValue) (now : SeatValue) : Type 0 where
+pub record HasClosed (old : KeptValue) (was : SeatValue) (heir : Option ℕ) (number : ℕ) (new : KeptValue)
+    (now : SeatValue) : Type 0 where
   pub entry : DeskCloses old.desk heir new.desk
   pub keeps : ClosingKeeps old.desk.ledger heir new.desk.ledger
   pub at_end : number ≡ end new.desk.ledger.log.entries
@@ -59,7 +64,8 @@ pub record HasClosed (old : KeptValue) (was : SeatValue) (heir : Option ℕ) (nu
 -- ---- a command
 
 -- a refusal, for this cause or for lack of memory, and nothing changed
-pub record IsRefused (old : KeptValue) (was : SeatValue) (fault : Option DeskError) (Wants : Type 0) (cause : DeskError) (new : KeptValue) (now : SeatValue) : Type 0 where
+pub record IsRefused (old : KeptValue) (was : SeatValue) (fault : Option DeskError) (Wants : Type 0) (cause : DeskError)
+    (new : KeptValue) (now : SeatValue) : Type 0 where
   pub refuses : Refuses fault Wants cause
   pub same_desk : new ≡ old
   pub same_seat : now ≡ was
@@ -71,8 +77,10 @@ ActsIssue old was amount (Refused cause) new now = IsRefused old was (issue_faul
 ActsIssue old was amount reply new now = ⊥
 
 abbrev pub ActsGive : KeptValue → SeatValue → ℕ → ℕ → Reply → KeptValue → SeatValue → Type 0
-ActsGive old was peer amount (Number n) new now = (give_fault old.desk peer amount ≡ None) × HasGiven old was peer amount n new now
-ActsGive old was peer amount (Refused cause) new now = IsRefused old was (give_fault old.desk peer amount) Always cause new now
+ActsGive old was peer amount (Number n) new now = (give_fault old.desk peer amount ≡ None)
+    × HasGiven old was peer amount n new now
+ActsGive old was peer amount (Refused cause) new now
+    = IsRefused old was (give_fault old.desk peer amount) Always cause new now
 ActsGive old was peer amount reply new now = ⊥
 
 -- a spend may run out of memory only if it is served at once

@@ -45,7 +45,8 @@ module _ {S : Type 0} (takes : S → List ℕ → Bool → S → Type 0) where
   -- ---- entries
 
   -- the next entry for the peer was published, and its line offered
-  pub record OffersNext (old : KeptValue) (peer : ℕ) (before : S) (sent : ℕ) (new : KeptValue) (after : S) : Type 0 where
+  pub record OffersNext (old : KeptValue) (peer : ℕ) (before : S) (sent : ℕ) (new : KeptValue)
+      (after : S) : Type 0 where
     pub message : MessageValue
     pub next : next_entry old peer ≡ Some message
     pub offers : Offers message before sent after
@@ -55,7 +56,8 @@ module _ {S : Type 0} (takes : S → List ℕ → Bool → S → Type 0) where
   abbrev pub SendsMany : KeptValue → ℕ → S → ℕ → KeptValue → S → Type 0
   SendsMany old peer before zero new after = (new ≡ old) × (after ≡ before)
   SendsMany old peer before (suc n) new after =
-      (mid : KeptValue) × (between : S) × SendsMany old peer before n mid between × OffersNext mid peer between 1 new after
+      (mid : KeptValue) × (between : S) × SendsMany old peer before n mid between
+      × OffersNext mid peer between 1 new after
 
   -- none is left
   pub record NoneLeft (old : KeptValue) (peer : ℕ) (before : S) (new : KeptValue) (after : S) : Type 0 where
@@ -70,7 +72,8 @@ module _ {S : Type 0} (takes : S → List ℕ → Bool → S → Type 0) where
     pub skipped : new ≡ record lost { desk = after_skip lost.desk peer }
 
   -- the lines of this many entries found space; then no entry was left, or the line of the next one found no space
-  pub record OffersEntries (old : KeptValue) (peer : ℕ) (before : S) (sent : ℕ) (new : KeptValue) (after : S) : Type 0 where
+  pub record OffersEntries (old : KeptValue) (peer : ℕ) (before : S) (sent : ℕ) (new : KeptValue)
+      (after : S) : Type 0 where
     pub mid : KeptValue
     pub between : S
     pub many : SendsMany old peer before sent mid between
@@ -114,4 +117,5 @@ module _ {S : Type 0} (takes : S → List ℕ → Bool → S → Type 0) where
 
   abbrev pub StopsShort : KeptValue → ℕ → S → KeptValue → S → Type 0
   StopsShort old peer before new after =
-      StopsAtEntry old peer before new after ⊎ (StopsAtAsk old peer before new after ⊎ StopsAtBeat old peer before new after)
+      StopsAtEntry old peer before new after
+      ⊎ (StopsAtAsk old peer before new after ⊎ StopsAtBeat old peer before new after)

@@ -12,7 +12,8 @@ use Rattle.site_node.specs.declared.tick.Ticked.{Ticked}
 -- ---- serving
 
 -- this request was at the front and was served; the counter and the seat count its amount
-pub record ServesNext (old : KeptValue) (was : SeatValue) (request : Request) (new : KeptValue) (now : SeatValue) : Type 0 where
+pub record ServesNext (old : KeptValue) (was : SeatValue) (request : Request) (new : KeptValue)
+    (now : SeatValue) : Type 0 where
   pub first : old.desk.queue.waiting ≡ request ∷ new.desk.queue.waiting
   pub number : ℕ
   pub desk : ServesFront old.desk request.ticket number new.desk
@@ -36,12 +37,14 @@ ServesNextIf true old was new now = (request : Request) × ServesNext old was re
 ServesNextIf false old was new now = HasServedAll old × (new ≡ old) × (now ≡ was)
 
 -- these requests were served, and then no other could be
-pub record ServesAll (old : KeptValue) (was : SeatValue) (served : List Request) (new : KeptValue) (now : SeatValue) : Type 0 where
+pub record ServesAll (old : KeptValue) (was : SeatValue) (served : List Request) (new : KeptValue)
+    (now : SeatValue) : Type 0 where
   pub each : ServesEach old was served new now
   pub all : HasServedAll new
 
 -- these requests were served, and then the next one, which could be served, was refused
-pub record ServingFails (old : KeptValue) (was : SeatValue) (served : List Request) (fault : DeskError) (new : KeptValue) (now : SeatValue) : Type 0 where
+pub record ServingFails (old : KeptValue) (was : SeatValue) (served : List Request) (fault : DeskError)
+    (new : KeptValue) (now : SeatValue) : Type 0 where
   pub each : ServesEach old was served new now
   pub refuses : Refuses (serve_fault new.desk) (can_serve new.desk (front_of new.desk.queue.waiting) ≡ true) fault
 
@@ -58,7 +61,8 @@ pub record PlansAsks (old : KeptValue) (count : ℕ) (new : KeptValue) : Type 0 
   pub rest : new ≡ record old { desk = new.desk }
 
 -- everything late expired, then everything that could be was served, and then asks were planned for what still waits
-pub record HasTicked (old : KeptValue) (was : SeatValue) (time : ℕ) (served : List Request) (ticked : Ticked) (new : KeptValue) (now : SeatValue) : Type 0 where
+pub record HasTicked (old : KeptValue) (was : SeatValue) (time : ℕ) (served : List Request) (ticked : Ticked)
+    (new : KeptValue) (now : SeatValue) : Type 0 where
   pub in_time : KeptValue
   pub left : KeptValue
   pub expires : ExpiresAll old time ticked.expired in_time
@@ -67,14 +71,16 @@ pub record HasTicked (old : KeptValue) (was : SeatValue) (time : ℕ) (served : 
   pub plans : PlansAsks left ticked.asks new
 
 -- the time was refused, and nothing was done
-pub record TimeRefused (old : KeptValue) (was : SeatValue) (time : ℕ) (served : List Request) (fault : DeskError) (new : KeptValue) (now : SeatValue) : Type 0 where
+pub record TimeRefused (old : KeptValue) (was : SeatValue) (time : ℕ) (served : List Request) (fault : DeskError)
+    (new : KeptValue) (now : SeatValue) : Type 0 where
   pub refuses : expire_fault old.desk time ≡ Some fault
   pub none : served ≡ []
   pub same_desk : new ≡ old
   pub same_seat : now ≡ was
 
 -- everything late expired, and some requests were served before one was refused; nothing was planned
-pub record StopsServing (old : KeptValue) (was : SeatValue) (time : ℕ) (served : List Request) (fault : DeskError) (new : KeptValue) (now : SeatValue) : Type 0 where
+pub record StopsServing (old : KeptValue) (was : SeatValue) (time : ℕ) (served : List Request) (fault : DeskError)
+    (new : KeptValue) (now : SeatValue) : Type 0 where
   pub expired : ℕ
   pub in_time : KeptValue
   pub expires : ExpiresAll old time expired in_time

@@ -8,7 +8,8 @@ module _ {P : Type 0} (sends : P → ℕ → ℕ → P → Type 0) where
   abbrev pub SendsToFirst : ℕ → P → ℕ → P → Type 0
   SendsToFirst zero before sent after = (sent ≡ 0) × (after ≡ before)
   SendsToFirst (suc n) before sent after =
-      (mid : P) × (first : ℕ) × (last : ℕ) × SendsToFirst n before first mid × sends mid n last after × (sent ≡ first + last)
+      (mid : P) × (first : ℕ) × (last : ℕ) × SendsToFirst n before first mid × sends mid n last after
+      × (sent ≡ first + last)
 
   -- the first peers were sent what is due, one after another; at the next one memory ran out
   pub record StopsAtPeer (stops : P → ℕ → P → Type 0) (size : ℕ) (before after : P) : Type 0 where

@@ -6,5 +6,6 @@ ghost use Rattle.site_node.specs.Confirmed.{Turn, HasTurns, CountsConfirmed};
 
 /// After any turns of a client, its seat counts as issued and as spent exactly what the client was told in them.
 pub fn confirmed_is_counted()
-    ensures { (was : SeatValue) (turns : List Turn) (now : SeatValue) → HasTurns was turns now → CountsConfirmed was turns now }
+    ensures { (was : SeatValue) (turns : List Turn) (now : SeatValue) → HasTurns was turns now
+        → CountsConfirmed was turns now }
 {}

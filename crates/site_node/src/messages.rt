@@ -39,7 +39,8 @@ pub fn answer_ask<D: DeskNames, S: Sink>(
     requires asker { ask.now.asker ≤ D.id.sites }
     requires asked { ask.now.asked ≡ D.id.site }
     ensures ok { OnOk result (AnswersAsk S.takes kept.old ask.now sink.old kept.new sink.new) }
-    ensures err { OnErr result ((is_ignored (answer_of kept.old.desk ask.now) ≡ false) × (kept.new ≡ kept.old) × (sink.new ≡ sink.old)) }
+    ensures err { OnErr result ((is_ignored (answer_of kept.old.desk ask.now) ≡ false) × (kept.new ≡ kept.old)
+        × (sink.new ≡ sink.old)) }
 {
     // For the proof: the desk's site, and the number of sites in its system.
     let _ = kept.desk();

@@ -3,7 +3,8 @@ ghost use Rattle.std.specs.Prelude.{◌≡◌, ◌≢◌, ℕ, ◌+◌, ◌≤�
 ghost use Rattle.rights_types.specs.declared.limits.TheConstants.{MAX_NUMBER};
 ghost use Rattle.entry_codec.specs.Pieces.{IsLine};
 ghost use Rattle.site_core.specs.Calls.{beat_of};
-ghost use Rattle.site_node.specs.Sending.{OffersLine, Offers, OffersIf, OffersEntries, OffersDue, StopsAtEntry, StopsShort, due_ask};
+ghost use Rattle.site_node.specs.Sending.{OffersLine, Offers, OffersIf, OffersEntries, OffersDue, StopsAtEntry};
+ghost use Rattle.site_node.specs.Sending.{StopsShort, due_ask};
 
 use apply_lanes::{DeskNames, Kept};
 use rights_types::{MAX_NUMBER, OutOfMemory, SiteId};

@@ -41,8 +41,10 @@ pub fn serve_due<D: DeskNames>(
 
 /// Serves from the front until no request can be served, and returns how many were served.
 fn serve_all<D: DeskNames>(kept: &mut Kept<D>, seat: &mut Seat<D>) -> Result<u64, DeskError>
-    ensures ok { IfOk result (λ count. (served : List Request) × ServesAll kept.old seat.old served kept.new seat.new × (count ≡ length served)) }
-    ensures err { IfErr result (λ fault. (served : List Request) × ServingFails kept.old seat.old served fault kept.new seat.new) }
+    ensures ok { IfOk result (λ count. (served : List Request) × ServesAll kept.old seat.old served kept.new seat.new
+        × (count ≡ length served)) }
+    ensures err { IfErr result (λ fault. (served : List Request)
+        × ServingFails kept.old seat.old served fault kept.new seat.new) }
 {
     // For the proof: at most `SLOTS` requests wait.
     let _ = kept.desk();

@@ -1,5 +1,6 @@
 -- What the responses to a client's requests report to it is what its seat counts.
-use Rattle.std.proofs.Common.{◌≡◌, ◌∙◌, ◌⊎◌, ℕ, List, [], ◌∷◌, ◌++◌, append-nil, true, false, Option, Some, None, inl, inr, refl, ap, sym, subst}
+use Rattle.std.proofs.Common.{◌≡◌, ◌∙◌, ◌⊎◌, ℕ, List, [], ◌∷◌, ◌++◌, append-nil, true, false, Option, Some, None, inl}
+use Rattle.std.proofs.Common.{inr, refl, ap, sym, subst}
 use Rattle.http.specs.declared.request.Request.{Request}
 use Rattle.http.specs.Request.{body_of}
 use Rattle.std.specs.Io.KnownBytes.{Appends, Consumes}
@@ -21,25 +22,32 @@ use Rattle.site_node.proofs.ConfirmedLaws.{turns_count}
 use Rattle.site_http.specs.Replying.{Answering, AnswersEach, RepliesTo, RepliesToOne, text_of}
 use Rattle.site_http.specs.Responding.{RespondsBy}
 use Rattle.site_http.specs.declared.route.Route.{Route}
-use Rattle.site_http.specs.declared.route.Route.TheVariants.{Commands, Wait, Status as Shows, Metrics, Health, Page, Foreign, NotAllowed, NotFound}
+use Rattle.site_http.specs.declared.route.Route.TheVariants.{Commands, Wait, Status as Shows, Metrics, Health, Page}
+use Rattle.site_http.specs.declared.route.Route.TheVariants.{Foreign, NotAllowed, NotFound}
 use Rattle.site_server.specs.Replying.{asked, TellsStatus}
 use Rattle.site_server.specs.Measuring.{TellsMetrics, TellsClosed}
 use Rattle.site_server.specs.Settling.{Settles}
 use Rattle.site_server.specs.Connections.{ClientValue, Tells, TellsSettled, Answers, Responded}
 use Rattle.site_server.specs.Conversations.{IsTurn}
-use Rattle.site_server.specs.Requests.{IsSettledTurn, IsQueued, AreTurnsOf, AreBodyTurns, AreRouteTurns, AreCallsTurns, Conversed, CountsCalls}
+use Rattle.site_server.specs.Requests.{IsSettledTurn, IsQueued, AreTurnsOf, AreBodyTurns, AreRouteTurns, AreCallsTurns}
+use Rattle.site_server.specs.Requests.{Conversed, CountsCalls}
 use Rattle.site_server.proofs.ConfirmedLaws.{turns_of_line, both}
 
 -- a line has turns, which lead from one value of the seat to another
-module _ {S : Type 0} (seat : S → SeatValue) (is_turn : Option SiteCommand → List ℕ → List Turn → Type 0) (answers : Answering S)
-    (one : (old : S) (line reply : List ℕ) (new : S) → answers old line reply new → (turns : List Turn) × is_turn (asked line) reply turns × HasTurns (seat old) turns (seat new)) where
+module _ {S : Type 0} (seat : S → SeatValue)
+    (is_turn : Option SiteCommand → List ℕ → List Turn → Type 0) (answers : Answering S)
+    (one : (old : S) (line reply : List ℕ) (new : S) → answers old line reply new
+    → (turns : List Turn) × is_turn (asked line) reply turns × HasTurns (seat old) turns (seat new)) where
   pub turns_of_each : (old : S) (lines replies : List (List ℕ)) (new : S) → AnswersEach answers old lines replies new
       → (turns : List Turn) × AreTurnsOf is_turn lines replies turns × HasTurns (seat old) turns (seat new)
-  turns_of_each old [] replies new h = subst (λ (r : List (List ℕ)). (turns : List Turn) × AreTurnsOf is_turn [] r turns × HasTurns (seat old) turns (seat new)) (sym h.0) ([], refl, ap seat h.1)
+  turns_of_each old [] replies new h
+      = subst (λ (r : List (List ℕ)). (turns : List Turn) × AreTurnsOf is_turn [] r turns
+      × HasTurns (seat old) turns (seat new)) (sym h.0) ([], refl, ap seat h.1)
   turns_of_each old (line ∷ lines) replies new h =
       let first = one old line h.0 h.1 h.3 in
       let rest = turns_of_each h.1 lines h.2 new h.4 in
-      subst (λ (r : List (List ℕ)). (turns : List Turn) × AreTurnsOf is_turn (line ∷ lines) r turns × HasTurns (seat old) turns (seat new)) (sym h.5) (
+      subst (λ (r : List (List ℕ)). (turns : List Turn) × AreTurnsOf is_turn (line ∷ lines) r turns
+      × HasTurns (seat old) turns (seat new)) (sym h.5) (
         first.0 ++ rest.0,
         (first.0, rest.0, first.1, rest.1, refl),
         both (seat old) (seat h.1) (seat new) first.0 rest.0 first.2 rest.2,
@@ -52,7 +60,14 @@ module _ {S : Type 0} (seat : S → SeatValue) (is_turn : Option SiteCommand →
   turns_of_body old lines replies code r new (inl all) body =
       let found = turns_of_each old lines replies new all.each in (
         found.0,
-        record { carried = lines; left = []; parted = sym (append-nil lines); replies = replies; are_turns = found.1; replied = inl body },
+        record {
+          carried = lines;
+          left = [];
+          parted = sym (append-nil lines);
+          replies = replies;
+          are_turns = found.1;
+          replied = inl body;
+        },
         found.2,
       )
   turns_of_body old lines replies code r new (inr stop) body =
@@ -88,16 +103,21 @@ settled_text HasEnded id seat (Outcome status) settled text h says = inl (says �
 settled_text HasEnded id seat (Refused cause) settled text h says = inl (says ∙ ap reply_text h)
 
 module _ {P : Type 0} (size : P → ℕ) (sends : P → ℕ → ℕ → P → Type 0) (id : DeskId) where
-  tells_turns : (command : Option SiteCommand) (was : SeatValue) (before : P) (text : List ℕ) (now : SeatValue) (after : P)
+  tells_turns : (command : Option SiteCommand) (was : SeatValue) (before : P) (text : List ℕ)
+      (now : SeatValue) (after : P)
       → Tells size sends id command was before text now after
       → (turns : List Turn) × IsTurn command text turns × HasTurns was turns now
   tells_turns None was before text now after h = turns_of_line size sends id None was before text now after h
-  tells_turns (Some (AtDesk command)) was before text now after h = turns_of_line size sends id (Some (AtDesk command)) was before text now after h
-  tells_turns (Some (Tick time)) was before text now after h = turns_of_line size sends id (Some (Tick time)) was before text now after h
-  tells_turns (Some Status) was before text now after h = turns_of_line size sends id (Some Status) was before text now after h
+  tells_turns (Some (AtDesk command)) was before text now after h
+      = turns_of_line size sends id (Some (AtDesk command)) was before text now after h
+  tells_turns (Some (Tick time)) was before text now after h
+      = turns_of_line size sends id (Some (Tick time)) was before text now after h
+  tells_turns (Some Status) was before text now after h
+      = turns_of_line size sends id (Some Status) was before text now after h
   tells_turns (Some Quit) was before text now after h = ([], refl, h.1)
 
-  settled_turns : (HasEnded : Type 0) (command : Option SiteCommand) (was : SeatValue) (before : P) (text : List ℕ) (now : SeatValue) (after : P)
+  settled_turns : (HasEnded : Type 0) (command : Option SiteCommand) (was : SeatValue) (before : P) (text : List ℕ)
+      (now : SeatValue) (after : P)
       → TellsSettled size sends HasEnded id command was before text now after
       → (turns : List Turn) × IsSettledTurn command text turns × HasTurns was turns now
   settled_turns HasEnded None was before text now after h = tells_turns None was before text now after h
@@ -107,27 +127,34 @@ module _ {P : Type 0} (size : P → ℕ) (sends : P → ℕ → ℕ → P → Ty
         (c.reply, refl, settled_text HasEnded id now c.reply c.settled text c.settles c.says),
         (now, (c.at_desk.old, c.at_desk.new, c.at_desk.acts), refl),
       )
-  settled_turns HasEnded (Some (Tick time)) was before text now after h = tells_turns (Some (Tick time)) was before text now after h
-  settled_turns HasEnded (Some Status) was before text now after h = tells_turns (Some Status) was before text now after h
+  settled_turns HasEnded (Some (Tick time)) was before text now after h
+      = tells_turns (Some (Tick time)) was before text now after h
+  settled_turns HasEnded (Some Status) was before text now after h
+      = tells_turns (Some Status) was before text now after h
   settled_turns HasEnded (Some Quit) was before text now after h = tells_turns (Some Quit) was before text now after h
 
   module _ {B : Type 0} (has_ended : B → Type 0) where
-    one : (old : ClientValue P B) (line reply : List ℕ) (new : ClientValue P B) → Answers size sends has_ended id false old line reply new
+    one : (old : ClientValue P B) (line reply : List ℕ) (new : ClientValue P B)
+        → Answers size sends has_ended id false old line reply new
         → (turns : List Turn) × IsTurn (asked line) reply turns × HasTurns old.seat turns new.seat
     one old line reply new h = tells_turns (asked line) old.seat old.peers reply new.seat new.peers h
 
-    one_settled : (old : ClientValue P B) (line reply : List ℕ) (new : ClientValue P B) → Answers size sends has_ended id true old line reply new
+    one_settled : (old : ClientValue P B) (line reply : List ℕ) (new : ClientValue P B)
+        → Answers size sends has_ended id true old line reply new
         → (turns : List Turn) × IsSettledTurn (asked line) reply turns × HasTurns old.seat turns new.seat
     one_settled old line reply new h =
         settled_turns (has_ended old.signal) (asked line) old.seat old.peers reply new.seat new.peers h
 
     turns_of_route : (old : ClientValue P B) (route : Route) (body : List ℕ) (r : Response) (new : ClientValue P B)
-        → RespondsBy (Answers size sends has_ended id) (λ client text. TellsStatus id text) (λ client text. TellsMetrics id text) (λ client is_closed. TellsClosed id is_closed) old route body r new
+        → RespondsBy (Answers size sends has_ended id) (λ client text. TellsStatus id text)
+        (λ client text. TellsMetrics id text) (λ client is_closed. TellsClosed id is_closed) old route body r new
         → (turns : List Turn) × AreRouteTurns route body r turns × HasTurns old.seat turns new.seat
     turns_of_route old Commands body r new h =
-        turns_of_body (λ c. c.seat) IsTurn (Answers size sends has_ended id false) one old (lines_of body) h.replies h.code r new h.replied h.response.body
+        turns_of_body (λ c. c.seat) IsTurn (Answers size sends has_ended id false) one old
+        (lines_of body) h.replies h.code r new h.replied h.response.body
     turns_of_route old Wait body r new h =
-        turns_of_one (λ c. c.seat) IsSettledTurn (Answers size sends has_ended id true) one_settled old (lines_of body) h.replies h.code r new h.replied h.response.body
+        turns_of_one (λ c. c.seat) IsSettledTurn (Answers size sends has_ended id true) one_settled old
+        (lines_of body) h.replies h.code r new h.replied h.response.body
     turns_of_route old Shows body r new h = ([], refl, ap (λ (c : ClientValue P B). c.seat) h.1)
     turns_of_route old Metrics body r new h = ([], refl, ap (λ (c : ClientValue P B). c.seat) h.1)
     turns_of_route old Health body r new h = ([], refl, ap (λ (c : ClientValue P B). c.seat) h.1)
@@ -136,7 +163,8 @@ module _ {P : Type 0} (size : P → ℕ) (sends : P → ℕ → ℕ → P → Ty
     turns_of_route old (NotAllowed allowed) body r new h = ([], refl, ap (λ (c : ClientValue P B). c.seat) h.1)
     turns_of_route old NotFound body r new h = ([], refl, ap (λ (c : ClientValue P B). c.seat) h.1)
 
-    turns_of_calls : (old : ClientValue P B) (calls : List Call) (new : ClientValue P B) → Chain (Responded size sends has_ended id) old calls new
+    turns_of_calls : (old : ClientValue P B) (calls : List Call) (new : ClientValue P B)
+        → Chain (Responded size sends has_ended id) old calls new
         → (turns : List Turn) × AreCallsTurns calls turns × HasTurns old.seat turns new.seat
     turns_of_calls old [] new h = ([], refl, ap (λ (c : ClientValue P B). c.seat) h)
     turns_of_calls old (call ∷ calls) new h =
@@ -148,28 +176,40 @@ module _ {P : Type 0} (size : P → ℕ) (sends : P → ℕ → ℕ → P → Ty
           both old.seat next.seat new.seat first.0 rest.0 first.2 rest.2,
         )
 
-    pub counts_calls : (old : ClientValue P B) (calls : List Call) (new : ClientValue P B) → Chain (Responded size sends has_ended id) old calls new
+    pub counts_calls : (old : ClientValue P B) (calls : List Call) (new : ClientValue P B)
+        → Chain (Responded size sends has_ended id) old calls new
         → CountsCalls old.seat calls new.seat
     counts_calls old calls new h =
         let found = turns_of_calls old calls new h in
-        record { turns = found.0; are_turns = found.1; has_turns = found.2; counted = turns_count old.seat found.0 new.seat found.2 }
+        record {
+          turns = found.0;
+          are_turns = found.1;
+          has_turns = found.2;
+          counted = turns_count old.seat found.0 new.seat found.2;
+        }
 
 -- a connection from its beginning
-pub conversed : {S : Type 0} (answers : S → Request (List ℕ) → Response → S → Type 0) (config : Config) (given left held holds : Option (List ℕ)) (old first last new : S) (before after : History)
+pub conversed : {S : Type 0} (answers : S → Request (List ℕ) → Response → S
+    → Type 0) (config : Config) (given left held holds : Option (List ℕ)) (old first last new : S)
+    (before after : History)
     → first ≡ old → new ≡ last → before ≡ new_history → ∥ IsServed config after ∥₁
     → (more : List ℕ) × Consumes given left more × (after.received ≡ before.received ++ more)
     → (more : List ℕ) × Appends held holds more × (after.sent ≡ before.sent ++ more)
     → Calls answers first last before.calls after.calls
     → Conversed answers given left held holds old new
-conversed {S} answers config given left held holds old first last new before after begins ends fresh served read written calls =
+conversed {S} answers config given left held holds old first last new before after begins ends fresh served read
+    written calls =
     record {
       config = config;
       history = after;
       served = served;
-      read = subst (λ (m : List ℕ). Consumes given left m) (sym (read.2 ∙ ap (λ (h : History). h.received ++ read.0) fresh)) read.1;
-      written = subst (λ (m : List ℕ). Appends held holds m) (sym (written.2 ∙ ap (λ (h : History). h.sent ++ written.0) fresh)) written.1;
+      read = subst (λ (m : List ℕ). Consumes given left m)
+          (sym (read.2 ∙ ap (λ (h : History). h.received ++ read.0) fresh)) read.1;
+      written = subst (λ (m : List ℕ). Appends held holds m)
+          (sym (written.2 ∙ ap (λ (h : History). h.sent ++ written.0) fresh)) written.1;
       calls =
           subst (λ (s : S). Chain answers s after.calls new) begins
           (subst (λ (s : S). Chain answers first after.calls s) (sym ends)
-          (subst (λ (cs : List Call). Chain answers first cs last) (sym (calls.1 ∙ ap (λ (h : History). h.calls ++ calls.0) fresh)) calls.2));
+          (subst (λ (cs : List Call). Chain answers first cs last)
+          (sym (calls.1 ∙ ap (λ (h : History). h.calls ++ calls.0) fresh)) calls.2));
     }

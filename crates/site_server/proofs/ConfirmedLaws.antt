@@ -1,10 +1,12 @@
 -- What the replies to a client's lines report to it is what its seat counts.
-use Rattle.std.proofs.Common.{◌≡◌, ℕ, List, [], ◌∷◌, ◌++◌, Option, Some, None, Result, Ok, Err, inl, inr, refl, ap, sym, subst}
+use Rattle.std.proofs.Common.{◌≡◌, ℕ, List, [], ◌∷◌, ◌++◌, Option, Some, None, Result, Ok, Err, inl, inr, refl, ap, sym}
+use Rattle.std.proofs.Common.{subst}
 use Rattle.line_streams.specs.Handling.{Answering, LineGets, LinesGet}
 use Rattle.line_streams.specs.Talk.{Talk, Leaves}
 use Rattle.line_streams.specs.Waiting.{Waiting}
 use Rattle.line_streams.specs.declared.fault.ConversationError.{ConversationError}
-use Rattle.line_streams.specs.declared.fault.ConversationError.TheVariants.{ReadFailed, WriteFailed, OutOfMemory, TooManyLines}
+use Rattle.line_streams.specs.declared.fault.ConversationError.TheVariants.{ReadFailed, WriteFailed, OutOfMemory}
+use Rattle.line_streams.specs.declared.fault.ConversationError.TheVariants.{TooManyLines}
 use Rattle.line_streams.specs.declared.handler.EndedBy.{EndedBy}
 use Rattle.line_streams.specs.declared.handler.EndedBy.TheVariants.{Input, Handler}
 use Rattle.line_streams.specs.declared.handler.Goes.{Goes}
@@ -18,18 +20,24 @@ use Rattle.site_node.proofs.ConfirmedLaws.{turns_count}
 use Rattle.site_server.specs.Replying.{asked, Says, Gets, GetsBy}
 use Rattle.site_server.specs.Conversations.{IsTurn, AreTurns, CountsReplies}
 
-pub both : (was half now : SeatValue) (first rest : List Turn) → HasTurns was first half → HasTurns half rest now → HasTurns was (first ++ rest) now
+pub both : (was half now : SeatValue) (first rest : List Turn) → HasTurns was first half → HasTurns half rest now
+    → HasTurns was (first ++ rest) now
 both was half now [] rest h k = subst (λ (s : SeatValue). HasTurns s rest now) h k
 both was half now (turn ∷ first) rest h k = (h.0, h.1, both h.0 half now first rest h.2 k)
 
 module _ {P : Type 0} (size : P → ℕ) (sends : P → ℕ → ℕ → P → Type 0) (id : DeskId) where
   -- one line
-  pub turns_of_line : (command : Option SiteCommand) (was : SeatValue) (before : P) (text : List ℕ) (now : SeatValue) (after : P)
+  pub turns_of_line : (command : Option SiteCommand) (was : SeatValue) (before : P) (text : List ℕ)
+      (now : SeatValue) (after : P)
       → Says size sends id command was before text now after
       → (turns : List Turn) × IsTurn command text turns × HasTurns was turns now
   turns_of_line None was before text now after h = ([], refl, h.1)
   turns_of_line (Some (AtDesk command)) was before text now after h =
-      let c = h.0 in (ACommand command c.reply ∷ [], (c.reply, refl, c.says), (now, (c.at_desk.old, c.at_desk.new, c.at_desk.acts), refl))
+      let c = h.0 in (
+        ACommand command c.reply ∷ [],
+        (c.reply, refl, c.says),
+        (now, (c.at_desk.old, c.at_desk.new, c.at_desk.acts), refl),
+      )
   turns_of_line (Some (Tick time)) was before text now after h =
       let t = h.does.at_desk in
       (ATick time t.served h.does.ticked ∷ [], (t.served, h.does.ticked, refl), (now, (t.old, t.new, t.ticks), refl))
@@ -39,18 +47,23 @@ module _ {P : Type 0} (size : P → ℕ) (sends : P → ℕ → ℕ → P → Ty
   module _ {S : Type 0} (seat : S → SeatValue) (peers : S → P) where
     -- the replies of a handler with such a seat and such peers, and its state after a memory refusal
     abbrev pub Answers : Answering S
-    Answers before line reply after = Gets size sends id (asked line) (seat before) (peers before) reply (seat after) (peers after)
+    Answers before line reply after
+        = Gets size sends id (asked line) (seat before) (peers before) reply (seat after) (peers after)
 
     abbrev pub Fails : S → S → Type 0
     Fails before after = (seat after ≡ seat before) × (peers after ≡ peers before)
 
     -- the command of a line had this effect
-    pub line_gets : (goes : Goes) (command : Option SiteCommand) (line : List ℕ) (old new : S) (waits waits' : Waiting) → command ≡ asked line
-        → GetsBy size sends goes id command (seat old) (peers old) waits (seat new) (peers new) waits' → LineGets Answers goes old line new waits waits'
+    pub line_gets : (goes : Goes) (command : Option SiteCommand) (line : List ℕ) (old new : S) (waits waits' : Waiting)
+        → command ≡ asked line
+        → GetsBy size sends goes id command (seat old) (peers old) waits (seat new) (peers new) waits'
+        → LineGets Answers goes old line new waits waits'
     line_gets On command line old new waits waits' same h =
-        subst (λ (c : Option SiteCommand). GetsBy size sends On id c (seat old) (peers old) waits (seat new) (peers new) waits') same h
+        subst (λ (c : Option SiteCommand). GetsBy size sends On id c (seat old) (peers old) waits (seat new)
+        (peers new) waits') same h
     line_gets Ends command line old new waits waits' same h =
-        subst (λ (c : Option SiteCommand). GetsBy size sends Ends id c (seat old) (peers old) waits (seat new) (peers new) waits') same h
+        subst (λ (c : Option SiteCommand). GetsBy size sends Ends id c (seat old) (peers old) waits (seat new)
+        (peers new) waits') same h
 
     turns_of : (start : S) (lines : List (List ℕ)) (text : List ℕ) (state : S) → LinesGet Answers start lines text state
         → (turns : List Turn) × AreTurns lines text turns × HasTurns (seat start) turns (seat state)
@@ -64,7 +77,8 @@ module _ {P : Type 0} (size : P → ℕ) (sends : P → ℕ → ℕ → P → Ty
         )
 
     -- however a conversation ended, the seat is as after the last reply
-    seat_left : {given left held holds : Option (List ℕ)} (start after : S) (result : Result EndedBy ConversationError) (talk : Talk Answers start given left held holds)
+    seat_left : {given left held holds : Option (List ℕ)} (start after : S) (result : Result EndedBy ConversationError)
+        (talk : Talk Answers start given left held holds)
         → Leaves Fails result talk after → seat after ≡ seat talk.state
     seat_left start after (Ok Input) talk h = ap seat h
     seat_left start after (Ok Handler) talk h = h.ends.1
@@ -76,9 +90,16 @@ module _ {P : Type 0} (size : P → ℕ) (sends : P → ℕ → ℕ → P → Ty
     seat_left start after (Err OutOfMemory) talk (inr h) = h.0
     seat_left start after (Err TooManyLines) talk h = ap seat h
 
-    pub counts_replies : {given left held holds : Option (List ℕ)} (start after : S) (result : Result EndedBy ConversationError) (talk : Talk Answers start given left held holds)
+    pub counts_replies : {given left held holds : Option (List ℕ)} (start after : S)
+        (result : Result EndedBy ConversationError) (talk : Talk Answers start given left held holds)
         → Leaves Fails result talk after → CountsReplies (seat start) talk.lines talk.replies (seat after)
     counts_replies start after result talk left =
         let found = turns_of start talk.lines talk.replies talk.state talk.answered in
-        let has = subst (λ (s : SeatValue). HasTurns (seat start) found.0 s) (sym (seat_left start after result talk left)) found.2 in
-        record { turns = found.0; are_turns = found.1; has_turns = has; counted = turns_count (seat start) found.0 (seat after) has }
+        let has = subst (λ (s : SeatValue). HasTurns (seat start) found.0 s)
+        (sym (seat_left start after result talk left)) found.2 in
+        record {
+          turns = found.0;
+          are_turns = found.1;
+          has_turns = has;
+          counted = turns_count (seat start) found.0 (seat after) has;
+        }

@@ -8,8 +8,10 @@ use Rattle.apply_lanes.specs.declared.stopping.Report.{Report}
 use Rattle.site_server.specs.Ending.{StopsDesk}
 
 -- a report of the desk, from its seats and appliers
-pub stops : (id : DeskId) (seats : List SeatValue) (applied : List AppliedValue) (report : Report) → Reports seats applied report
-    → (kept : KeptValue) × IsKept id kept × (missing_of kept (length seats) (length applied) ≡ None) × ReportsDesk kept.desk report
+pub stops : (id : DeskId) (seats : List SeatValue) (applied : List AppliedValue) (report : Report)
+    → Reports seats applied report
+    → (kept : KeptValue) × IsKept id kept × (missing_of kept (length seats) (length applied) ≡ None)
+    × ReportsDesk kept.desk report
     → StopsDesk id report
 stops id seats applied report of_seats desk = record {
   seats = seats;

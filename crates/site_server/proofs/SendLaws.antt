@@ -19,7 +19,8 @@ use Rattle.site_server.specs.Measuring.{AreMetrics, TellsMetrics}
 use Rattle.site_server.specs.Outboxes.{HoldsBoth, SendsToPeer, StopsAtOutbox}
 use Rattle.site_server.specs.Replying.{AreViews, TellsStatus}
 
-module _ (id : DeskId) (peers : List PeerState) (place : ℕ) (other : PeerState) (old new : KeptValue) (before after : Lines) (within : place < length peers)
+module _ (id : DeskId) (peers : List PeerState) (place : ℕ) (other : PeerState) (old new : KeptValue)
+    (before after : Lines) (within : place < length peers)
     (valid : IsKept id old) where
   abbrev held : HoldsBoth id peers place
   held = record {
@@ -44,14 +45,16 @@ module _ (id : DeskId) (peers : List PeerState) (place : ℕ) (other : PeerState
   stops_at_outbox (Ok sent) stops = tt
   stops_at_outbox (Err fault) stops = (held, stops)
 
-pub tells_status : (id : DeskId) (view : DeskView) (peers slice : List PeerView) (old new : Waiting) (result : Result (Unit {0}) OutOfMemory)
+pub tells_status : (id : DeskId) (view : DeskView) (peers slice : List PeerView) (old new : Waiting)
+    (result : Result (Unit {0}) OutOfMemory)
     → AreViews id view peers → slice ≡ peers → OnOk result (AddsReply old new (status_text view slice))
     → OnOk result ((text : List ℕ) × TellsStatus id text × AddsReply old new text)
 tells_status id view peers slice old new (Ok done) views same adds =
     (status_text view slice, record { view = view; peers = peers; views = views; says = rw same refl }, adds)
 tells_status id view peers slice old new (Err fault) views same adds = tt
 
-pub tells_metrics : (id : DeskId) (metrics : Metrics) (peers slice : List PeerMetrics) (old new : Waiting) (result : Result (Unit {0}) OutOfMemory)
+pub tells_metrics : (id : DeskId) (metrics : Metrics) (peers slice : List PeerMetrics) (old new : Waiting)
+    (result : Result (Unit {0}) OutOfMemory)
     → AreMetrics id metrics peers → slice ≡ peers
     → OnOk result ((new.whole ≡ old.whole ++ metrics_text metrics slice) × (new.part ≡ []))
     → OnOk result ((text : List ℕ) × TellsMetrics id text × (new.whole ≡ old.whole ++ text))

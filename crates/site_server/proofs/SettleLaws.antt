@@ -25,6 +25,7 @@ pub tells_outcome : (id : DeskId) (was : SeatValue) (ticket : ℕ) (reply : Repl
     → ActsAtDesk id was (AsksOutcome ticket) reply now → still_waits reply ≡ false → TellsOutcome id was ticket reply
 tells_outcome id was ticket reply now h decided =
     record {
-      at_desk = subst (λ (s : SeatValue). ActsAtDesk id was (AsksOutcome ticket) reply s) (keeps_seat id was ticket reply now h) h;
+      at_desk = subst (λ (s : SeatValue). ActsAtDesk id was (AsksOutcome ticket) reply s)
+          (keeps_seat id was ticket reply now h) h;
       decided = decided;
     }

@@ -43,4 +43,5 @@ module _ {P : Type 0} (size : P → ℕ) (sends : P → ℕ → ℕ → P → Ty
 
     -- the response to a request of a client over a connection
     abbrev pub Responded : ClientValue P B → Request (List ℕ) → Response → ClientValue P B → Type 0
-    Responded = Responds Answers (λ client text. TellsStatus id text) (λ client text. TellsMetrics id text) (λ client is_closed. TellsClosed id is_closed)
+    Responded = Responds Answers (λ client text. TellsStatus id text) (λ client text. TellsMetrics id text)
+        (λ client is_closed. TellsClosed id is_closed)

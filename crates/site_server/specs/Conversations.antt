@@ -14,7 +14,8 @@ use Rattle.site_server.specs.Replying.{asked}
 
 -- a line is one turn if the desk carries out its command or it is a tick; otherwise it is none
 abbrev pub IsTurn : Option SiteCommand → List ℕ → List Turn → Type 0
-IsTurn (Some (AtDesk command)) text turns = (reply : Reply) × (turns ≡ ACommand command reply ∷ []) × (text ≡ reply_text reply)
+IsTurn (Some (AtDesk command)) text turns = (reply : Reply) × (turns ≡ ACommand command reply ∷ [])
+    × (text ≡ reply_text reply)
 IsTurn (Some (Tick time)) text turns =
     (served : List Request) × (ticked : Result Ticked DeskError) × (turns ≡ ATick time served ticked ∷ [])
 IsTurn command text turns = turns ≡ []
@@ -24,7 +25,8 @@ abbrev pub AreTurns : List (List ℕ) → List ℕ → List Turn → Type 0
 AreTurns [] text turns = (text ≡ []) × (turns ≡ [])
 AreTurns (line ∷ lines) text turns =
     (reply : List ℕ) × (more : List ℕ) × (first : List Turn) × (rest : List Turn)
-    × IsTurn (asked line) reply first × AreTurns lines more rest × (text ≡ (reply ++ 10 ∷ []) ++ more) × (turns ≡ first ++ rest)
+    × IsTurn (asked line) reply first × AreTurns lines more rest × (text ≡ (reply ++ 10 ∷ []) ++ more)
+    × (turns ≡ first ++ rest)
 
 -- what the replies to these lines report to the client as issued and as spent is what its seat counts in addition
 pub record CountsReplies (was : SeatValue) (lines : List (List ℕ)) (text : List ℕ) (now : SeatValue) : Type 0 where

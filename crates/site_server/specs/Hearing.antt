@@ -32,7 +32,8 @@ module _ {S : Type 0} (takes : S → List ℕ → Bool → S → Type 0) where
   Handles old message before (Err fault) new after = (new ≡ old) × (after ≡ before)
 
   -- the same, under the desk's lock
-  pub record HandlesAtDesk (id : DeskId) (message : DeskMessage) (before : S) (result : Result (Unit {0}) OutOfMemory) (after : S) : Type 0 where
+  pub record HandlesAtDesk (id : DeskId) (message : DeskMessage) (before : S) (result : Result (Unit {0}) OutOfMemory)
+      (after : S) : Type 0 where
     pub old : KeptValue
     pub new : KeptValue
     pub valid : IsKept id old

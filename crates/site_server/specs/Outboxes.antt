@@ -21,7 +21,8 @@ pub record HoldsBoth (id : DeskId) (peers : List PeerState) (place : ℕ) : Type
   pub after : Waiting
   pub valid : IsKept id old
 
--- .. all that is due to the peer was offered to its outbox; so many lines found room and were put, in order, and no others
+-- .. all that is due to the peer was offered to its outbox; so many lines found room and were put, in order, and no
+-- others
 abbrev pub SendsToPeer : DeskId → List PeerState → ℕ → ℕ → Type 0
 SendsToPeer id peers place sent =
     (h : HoldsBoth id peers place) × OffersDue PutsIf h.old h.peer.site h.before sent h.new h.after

@@ -1,5 +1,6 @@
 -- The reply to each line of a client at a running site, and its effect on the client's seat and on the peers.
-use Rattle.std.specs.Prelude.{◌≡◌, ℕ, ◌-◌, nat_le, List, [], length, take, Option, Some, None, Result, Ok, Err, if◌then◌else◌}
+use Rattle.std.specs.Prelude.{◌≡◌, ℕ, ◌-◌, nat_le, List, [], length, take, Option, Some, None, Result, Ok, Err}
+use Rattle.std.specs.Prelude.{if◌then◌else◌}
 use Rattle.std.specs.List.{All}
 use Rattle.rights_types.specs.declared.limits.TheConstants.{MAX_LINE}
 use Rattle.rights_book.specs.Books.{peer}
@@ -36,20 +37,23 @@ asked line = if nat_le (length line) MAX_LINE then command_of (take (length line
 -- ---- replies
 
 -- the desk carried out the command, under its lock, and this is the reply
-pub record ActsAtDesk (id : DeskId) (was : SeatValue) (command : DeskCommand) (reply : Reply) (now : SeatValue) : Type 0 where
+pub record ActsAtDesk (id : DeskId) (was : SeatValue) (command : DeskCommand) (reply : Reply)
+    (now : SeatValue) : Type 0 where
   pub old : KeptValue
   pub new : KeptValue
   pub valid : IsKept id old
   pub acts : Acts old was command reply new now
 
 -- the same, and this is the text of the reply
-pub record CarriesOut (id : DeskId) (was : SeatValue) (command : DeskCommand) (text : List ℕ) (now : SeatValue) : Type 0 where
+pub record CarriesOut (id : DeskId) (was : SeatValue) (command : DeskCommand) (text : List ℕ)
+    (now : SeatValue) : Type 0 where
   pub reply : Reply
   pub at_desk : ActsAtDesk id was command reply now
   pub says : text ≡ reply_text reply
 
 -- everything due at this time was done at the desk, under its lock
-pub record TicksAtDesk (id : DeskId) (was : SeatValue) (time : ℕ) (ticked : Result Ticked DeskError) (now : SeatValue) : Type 0 where
+pub record TicksAtDesk (id : DeskId) (was : SeatValue) (time : ℕ) (ticked : Result Ticked DeskError)
+    (now : SeatValue) : Type 0 where
   pub old : KeptValue
   pub new : KeptValue
   pub served : List Request
@@ -78,17 +82,20 @@ module _ {P : Type 0} (size : P → ℕ) (sends : P → ℕ → ℕ → P → Ty
   -- after a tick at the desk every peer is sent what is due to it, unless memory is refused; after a refusal no peer
   -- is
   abbrev pub ThenSends : Result Ticked DeskError → P → Result (Ticked × ℕ) DeskError → P → Type 0
-  ThenSends (Ok ticked) before (Ok (done, sent)) after = (done ≡ ticked) × SendsToFirst sends (size before) before sent after
+  ThenSends (Ok ticked) before (Ok (done, sent)) after
+      = (done ≡ ticked) × SendsToFirst sends (size before) before sent after
   ThenSends (Ok ticked) before (Err fault) after = fault ≡ OutOfMemory
   ThenSends (Err fault) before result after = (result ≡ Err fault) × (after ≡ before)
 
-  pub record TicksAndSends (id : DeskId) (was : SeatValue) (before : P) (time : ℕ) (result : Result (Ticked × ℕ) DeskError) (now : SeatValue) (after : P) : Type 0 where
+  pub record TicksAndSends (id : DeskId) (was : SeatValue) (before : P) (time : ℕ)
+      (result : Result (Ticked × ℕ) DeskError) (now : SeatValue) (after : P) : Type 0 where
     pub ticked : Result Ticked DeskError
     pub at_desk : TicksAtDesk id was time ticked now
     pub then_sends : ThenSends ticked before result after
 
   -- the same, and this is the text of the reply
-  pub record DoesDue (id : DeskId) (was : SeatValue) (before : P) (time : ℕ) (text : List ℕ) (now : SeatValue) (after : P) : Type 0 where
+  pub record DoesDue (id : DeskId) (was : SeatValue) (before : P) (time : ℕ) (text : List ℕ) (now : SeatValue)
+      (after : P) : Type 0 where
     pub result : Result (Ticked × ℕ) DeskError
     pub does : TicksAndSends id was before time result now after
     pub says : text ≡ tick_text result

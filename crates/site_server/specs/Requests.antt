@@ -25,7 +25,8 @@ use Rattle.site_server.specs.Conversations.{IsTurn}
 
 -- A connection from beginning to end: what was read from it and written to it has this history, whose calls lead from
 -- one state of the service to the other.
-pub record Conversed {S : Type 0} (answers : S → Request (List ℕ) → Response → S → Type 0) (given left held holds : Option (List ℕ)) (old new : S) : Type 0 where
+pub record Conversed {S : Type 0} (answers : S → Request (List ℕ) → Response → S
+    → Type 0) (given left held holds : Option (List ℕ)) (old new : S) : Type 0 where
   pub config : Config
   pub history : History
   pub served : ∥ IsServed config history ∥₁
@@ -75,7 +76,8 @@ AreCallTurns request r turns = (route : Route) × Leads request route × AreRout
 abbrev pub AreCallsTurns : List Call → List Turn → Type 0
 AreCallsTurns [] turns = turns ≡ []
 AreCallsTurns (call ∷ calls) turns =
-    (first : List Turn) × (rest : List Turn) × AreCallTurns call.0 call.1 first × AreCallsTurns calls rest × (turns ≡ first ++ rest)
+    (first : List Turn) × (rest : List Turn) × AreCallTurns call.0 call.1 first × AreCallsTurns calls rest
+    × (turns ≡ first ++ rest)
 
 -- what the responses to these requests report to the client as issued and as spent is what its seat counts in addition
 pub record CountsCalls (was : SeatValue) (calls : List Call) (now : SeatValue) : Type 0 where

@@ -29,7 +29,8 @@ Settles HasEnded id seat (Spending (Queued ticket)) settled =
 Settles HasEnded id seat reply settled = settled ≡ reply
 
 -- the desk carried out the command, under its lock, and this is the text of what the client finally gets
-pub record SettlesCommand (HasEnded : Type 0) (id : DeskId) (was : SeatValue) (command : DeskCommand) (text : List ℕ) (now : SeatValue) : Type 0 where
+pub record SettlesCommand (HasEnded : Type 0) (id : DeskId) (was : SeatValue) (command : DeskCommand) (text : List ℕ)
+    (now : SeatValue) : Type 0 where
   pub reply : Reply
   pub settled : Reply
   pub at_desk : ActsAtDesk id was command reply now

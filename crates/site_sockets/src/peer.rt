@@ -74,8 +74,8 @@ impl PeerState {
     }
 
     /// Makes room for so many lines in the outbox, if the peer takes those that wait there: blocks until they are sent,
-    /// for `MAX_STALL` milliseconds at most. Does not block again until they are, nor while the peer cannot be connected
-    /// to.
+    /// for `MAX_STALL` milliseconds at most. Does not block again until they are, nor while the peer cannot be
+    /// connected to.
     pub fn make_room<R: Wait + Clock>(&self, rt: &R, lines: usize) {
         let waiting = self.waiting(rt);
         if waiting == 0 || lines <= OUTBOX_LINES - waiting {

@@ -101,8 +101,8 @@ fn send_to<R: Net<Stream = TcpStream> + Wait + Clock + AllocGlobal + Eprint>(
     site.senders.finish(rt);
 }
 
-/// Logs it if the peer's address cannot be resolved. If events are not logged, the address is not looked up before a line
-/// is sent.
+/// Logs it if the peer's address cannot be resolved. If events are not logged, the address is not looked up before a
+/// line is sent.
 fn try_address<R: Net + Eprint>(rt: &R, peer: &PeerState) {
     let address = peer.address.as_str();
     if peer.events.are_logged() && address.to_socket_addrs(rt).is_err() {

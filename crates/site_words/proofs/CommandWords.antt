@@ -1,5 +1,7 @@
 -- The kinds of error that clap gives for the words are those of what they ask for.
-use Rattle.std.proofs.Common.{◌≢◌, ◌≡◌, ◌∙◌, ◌==◌, ◌||◌, ℕ, Bool, cond, codes, true, false, zero, suc, refl, sym, ap, ap₂, subst, arith, List, [], ◌∷◌, length, Option, Result, Ok, Err, inl, inr, ⊎_elim, Some, None, is_some, true≢false}
+use Rattle.std.proofs.Common.{◌≢◌, ◌≡◌, ◌∙◌, ◌==◌, ◌||◌, ℕ, Bool, cond, codes, true, false, zero, suc, refl, sym, ap}
+use Rattle.std.proofs.Common.{ap₂, subst, arith, List, [], ◌∷◌, length, Option, Result, Ok, Err, inl, inr, ⊎_elim, Some}
+use Rattle.std.proofs.Common.{None, is_some, true≢false}
 use Rattle.std.specs.Prelude.{⊤, option_and_then, option_map, slice_get}
 use Rattle.std.specs.List.{list_all}
 use Rattle.std.specs.Option.{option_map_or}
@@ -8,12 +10,16 @@ use Rattle.std.proofs.lemmas.Slice.Eq.{bytes_eq-Decides}
 use Rattle.std.proofs.lemmas.Bool.{and_parts, eqb-true}
 use Rattle.std.proofs.lemmas.Bool.Decides.{nat_tests}
 use Rattle.clap.specs.Lexer.{has_byte, long_of, name_and_value, short_of}
-use Rattle.clap.specs.Walk.{Row, finished, settled, walk, Names, Rule, Text, Walk, idle, long_or_other, nothing_held, short_or_plain, plain, subcommand_met, subcommand_or_other, walk_from}
-use Rattle.clap.specs.Simple.{App, HasMatchesOf, Shape, built, entered, is_simple, names_of, subcommand_of, subcommand_rows_of}
+use Rattle.clap.specs.Walk.{Row, finished, settled, walk, Names, Rule, Text, Walk, idle, long_or_other, nothing_held}
+use Rattle.clap.specs.Walk.{short_or_plain, plain, subcommand_met, subcommand_or_other, walk_from}
+use Rattle.clap.specs.Simple.{App, HasMatchesOf, Shape, built, entered, is_simple, names_of, subcommand_of}
+use Rattle.clap.specs.Simple.{subcommand_rows_of}
 use Rattle.clap.specs.declared.parser.matches.ArgMatches.{ArgMatches}
 use Rattle.clap.specs.Kinds.{HasKind, IsAmong, Kinds, or_else}
 use Rattle.clap.specs.Values.{kind_of}
-use Rattle.clap.specs.Faults.{bundle_fault, stray_fault, check_fault, defaults_fault, entered_fault, fault_of, is_simple_and_free, flag_word_fault, flags_fault, level_fault, other_fault, settle_fault, step_fault, turn_fault, walk_fault}
+use Rattle.clap.specs.Faults.{bundle_fault, stray_fault, check_fault, defaults_fault, entered_fault, fault_of}
+use Rattle.clap.specs.Faults.{is_simple_and_free, flag_word_fault, flags_fault, level_fault, other_fault, settle_fault}
+use Rattle.clap.specs.Faults.{step_fault, turn_fault, walk_fault}
 use Rattle.clap.specs.declared.error.Error.{Error}
 use Rattle.clap.specs.declared.error.kind.ErrorKind.{ErrorKind}
 use Rattle.clap.specs.declared.error.kind.ErrorKind.TheVariants as kind
@@ -22,7 +28,8 @@ use Rattle.clap.proofs.FaultLemmas.{fault_ends, stopped_fault}
 use Rattle.clap.proofs.LexerLemmas.{name_and_value-without}
 use Rattle.clap.proofs.OnLiterals.{clap_on_literals}
 use Rattle.clap.proofs.WalkLemmas.{bundle_ends, walk_stopped}
-use Rattle.site_words.specs.Asked.{Asked, asked_behind_dashes, asked_behind_sim, asked_of_clap, asked_of_site, asks_for_help, help, nothing, script, site, version}
+use Rattle.site_words.specs.Asked.{Asked, asked_behind_dashes, asked_behind_sim, asked_of_clap, asked_of_site}
+use Rattle.site_words.specs.Asked.{asks_for_help, help, nothing, script, site, version}
 use Rattle.site_words.specs.CommandLine.{app}
 use Rattle.site_words.specs.Words.{AnswersMet, MayAnswer, MayRefuse, RunsBy, WantsHelp, is_refusal}
 use Rattle.site_words.specs.declared.words.Command.{Command}
@@ -47,7 +54,8 @@ abbrev help_or_nothing : Bool → Asked
 help_or_nothing asks = cond asks help nothing
 
 -- a step that fails decides, whatever follows
-first_decides : (asks : Bool) (first next : Kinds) → FaultsAs (help_or_nothing asks) first → FaultsAs (help_or_nothing asks) (or_else first next)
+first_decides : (asks : Bool) (first next : Kinds) → FaultsAs (help_or_nothing asks) first
+    → FaultsAs (help_or_nothing asks) (or_else first next)
 first_decides true first next h = ap (λ k. or_else k next) h
 first_decides false [] next h = absurd h
 first_decides false (k ∷ ks) next h = h
@@ -69,7 +77,8 @@ lacks c (x ∷ xs) none zero lt = let parts = or_parts (x == c) (has_byte c xs) 
 lacks c (x ∷ xs) none (suc i) lt = lacks c xs (or_parts (x == c) (has_byte c xs) none).1 i (omega arith)
 
 -- a text in which clap sees the flag `help` with no value
-whole_name : (text : Text) (has : Bool) → has_byte 61 text ≡ has → is_long_help (Some (name_and_value text)) ≡ true → text ≡ codes "help"
+whole_name : (text : Text) (has : Bool) → has_byte 61 text ≡ has → is_long_help (Some (name_and_value text)) ≡ true
+    → text ≡ codes "help"
 whole_name text true has asks =
     let bad : false ≡ true = rw has at asks in
     absurd (true≢false (sym bad))
@@ -188,20 +197,28 @@ module _ (name : Text) (is_leaf required : Bool) (word : Text) where
   long_asks false long (Some v) e = rw e refl
 
   -- a bundle whose first flag is read: it is the flag for help, or an unknown one
-  first_flag_asks : (flag : ℕ) (is_h : Bool) (f : ℕ) (fs : List ℕ) → (104 == flag) ≡ is_h → slice_get (chars (f ∷ fs)) 0 ≡ Some flag
+  first_flag_asks : (flag : ℕ) (is_h : Bool) (f : ℕ) (fs : List ℕ) → (104 == flag) ≡ is_h
+      → slice_get (chars (f ∷ fs)) 0 ≡ Some flag
       → FaultsAs (help_or_nothing is_h) (short_turn here (Some (f ∷ fs)) word)
   unfolding flags_fault
   first_flag_asks flag true f fs h first = rw (first, h) refl
   first_flag_asks flag false f fs h first = rw (first, h) refl
 
-  short_asks : (short : Option Text) → FaultsAs (help_or_nothing (option_map_or (λ flag. 104 == flag) (first_of_flags short) false)) (short_turn here short word)
+  short_asks : (short : Option Text)
+      → FaultsAs (help_or_nothing (option_map_or (λ flag. 104 == flag) (first_of_flags short) false))
+      (short_turn here short word)
   short_asks None = strays name is_leaf required
   short_asks (Some flags) = by_first flags (slice_get (chars flags) 0) refl
     where
       by_first : (flags : Text) (first : Option ℕ) → slice_get (chars flags) 0 ≡ first
-          → FaultsAs (help_or_nothing (option_map_or (λ flag. 104 == flag) (slice_get (chars flags) 0) false)) (short_turn here (Some flags) word)
+          → FaultsAs (help_or_nothing (option_map_or (λ flag. 104 == flag) (slice_get (chars flags) 0) false))
+          (short_turn here (Some flags) word)
       by_first flags None e =
-          rw (e, sym (fault_ends rules false (length flags) flags 0 nothing_held (sym e)), sym (bundle_ends rules (length flags) flags 0 plain nothing_held (sym e))) (strays name is_leaf required)
+          rw (
+            e,
+            sym (fault_ends rules false (length flags) flags 0 nothing_held (sym e)),
+            sym (bundle_ends rules (length flags) flags 0 plain nothing_held (sym e)),
+          ) (strays name is_leaf required)
       by_first [] (Some flag) e = absurd (no_first flag e)
       by_first (f ∷ fs) (Some flag) e = rw e (first_flag_asks flag (104 == flag) f fs refl e)
 
@@ -213,9 +230,11 @@ module _ (name : Text) (is_leaf required : Bool) (word : Text) where
   word_asks : bytes_eq word (codes "--") ≡ false → FaultsAs (help_or_nothing (asks_for_help word)) (turn None)
   word_asks no_dashes = go (long_of word) refl
     where
-      go : (long : Option (Text × Option Text)) → long_of word ≡ long → FaultsAs (help_or_nothing (asks_for_help word)) (turn None)
+      go : (long : Option (Text × Option Text)) → long_of word ≡ long
+          → FaultsAs (help_or_nothing (asks_for_help word)) (turn None)
       go (Some (long, v)) e =
-          rw (no_dashes, long_help word, no_short_flags word (long, v) e, e) (long_asks (bytes_eq (codes "help") long) long v refl)
+          rw (no_dashes, long_help word, no_short_flags word (long, v) e, e)
+          (long_asks (bytes_eq (codes "help") long) long v refl)
       go None e = rw (no_dashes, long_help word, e) (short_asks (short_of word))
 
   -- and so of the level that it begins
@@ -230,7 +249,8 @@ module _ (name : Text) (is_leaf required : Bool) (word : Text) where
 sim : Shape
 sim = level (codes "sim") true false
 
-behind_dashes : (rest : List Text) → FaultsAs (asked_behind_sim (codes "--" ∷ rest)) (level_fault sim [] nothing_held (codes "--" ∷ rest) false [])
+behind_dashes : (rest : List Text)
+    → FaultsAs (asked_behind_sim (codes "--" ∷ rest)) (level_fault sim [] nothing_held (codes "--" ∷ rest) false [])
 unfolding clap_on_literals sim
 behind_dashes [] = refl
 behind_dashes (word ∷ rest) = refl
@@ -240,13 +260,17 @@ unfolding clap_on_literals sim
 behind_sim [] = refl
 behind_sim (word ∷ rest) = go (bytes_eq word (codes "--")) refl
   where
-    go : (ends : Bool) → bytes_eq word (codes "--") ≡ ends → FaultsAs (asked_behind_sim (word ∷ rest)) (level_fault sim [] nothing_held (word ∷ rest) false [])
+    go : (ends : Bool) → bytes_eq word (codes "--") ≡ ends
+        → FaultsAs (asked_behind_sim (word ∷ rest)) (level_fault sim [] nothing_held (word ∷ rest) false [])
     go true e =
         let is : word ≡ codes "--" = (bytes_eq-Decides word (codes "--")).0 e in
-        subst (λ w. FaultsAs (asked_behind_sim (w ∷ rest)) (level_fault sim [] nothing_held (w ∷ rest) false [])) (sym is) (behind_dashes rest)
+        subst (λ w. FaultsAs (asked_behind_sim (w ∷ rest)) (level_fault sim [] nothing_held (w ∷ rest) false []))
+        (sym is) (behind_dashes rest)
     go false e =
-        let asks : FaultsAs (help_or_nothing (asks_for_help word)) (level_fault sim [] nothing_held (word ∷ rest) false []) =
-        level_asks (codes "sim") true false word [] rest false [] (asks_for_help word) (word_asks (codes "sim") true false word e) in
+        let asks : FaultsAs (help_or_nothing (asks_for_help word))
+        (level_fault sim [] nothing_held (word ∷ rest) false []) =
+        level_asks (codes "sim") true false word [] rest false [] (asks_for_help word)
+        (word_asks (codes "sim") true false word e) in
         let asked_is : asked_behind_sim (word ∷ rest) ≡ help_or_nothing (asks_for_help word) = rw e refl in
         subst (λ a. FaultsAs a (level_fault sim [] nothing_held (word ∷ rest) false [])) (sym asked_is) asks
 
@@ -271,9 +295,12 @@ unfolding clap_on_literals sim
 sim_named rest =
     let names = names_of (built app) in
     let start = walk_from nothing_held in
-    let walked_to : walk rules names nothing_held (codes "sim" ∷ rest) ≡ at_sim rest = sym (walk_stopped rules names start (codes "sim") [] rest) in
-    let passed : walk_fault (built app).top names start (codes "sim" ∷ rest) ≡ [] = stopped_fault (built app).top names start (codes "sim", []) rest in
-    let below : fault_of app (codes "sim" ∷ rest) ≡ or_else (level_fault sim [] nothing_held rest false []) [] = ap₂ behind_walk walked_to passed in
+    let walked_to : walk rules names nothing_held (codes "sim" ∷ rest) ≡ at_sim rest
+    = sym (walk_stopped rules names start (codes "sim") [] rest) in
+    let passed : walk_fault (built app).top names start (codes "sim" ∷ rest) ≡ []
+    = stopped_fault (built app).top names start (codes "sim", []) rest in
+    let below : fault_of app (codes "sim" ∷ rest) ≡ or_else (level_fault sim [] nothing_held rest false []) []
+    = ap₂ behind_walk walked_to passed in
     subst (FaultsAs (asked_behind_sim rest)) (sym (below ∙ or_else-nil _)) (behind_sim rest)
 
 dashes_first : (rest : List Text) → FaultsAs (asked_of_clap (codes "--" ∷ rest)) (fault_of app (codes "--" ∷ rest))
@@ -292,7 +319,8 @@ faults_as_asked [] = refl
 faults_as_asked (word ∷ rest) =
     go (bytes_eq (codes "sim") word) (bytes_eq (codes "run") word) (bytes_eq word (codes "--")) refl refl refl
   where
-    go : (names_sim names_run ends : Bool) → bytes_eq (codes "sim") word ≡ names_sim → bytes_eq (codes "run") word ≡ names_run
+    go : (names_sim names_run ends : Bool) → bytes_eq (codes "sim") word ≡ names_sim
+        → bytes_eq (codes "run") word ≡ names_run
         → bytes_eq word (codes "--") ≡ ends → FaultsAs (asked_of_clap (word ∷ rest)) (fault_of app (word ∷ rest))
     go true names_run ends e r f =
         let is : codes "sim" ≡ word = (bytes_eq-Decides (codes "sim") word).0 e in
@@ -309,10 +337,12 @@ faults_as_asked (word ∷ rest) =
         let asks = asks_for_help word in
         let none_met : subcommand_met (names_of a) idle word ≡ None = rw (e, r) refl in
         let first : FaultsAs (help_or_nothing asks) (turn_fault a.top (names_of a) (walk_from nothing_held) word) =
-        subst (λ o. FaultsAs (help_or_nothing asks) (turn (codes "rights-site") false true word o)) (sym none_met) (word_asks (codes "rights-site") false true word f) in
+        subst (λ o. FaultsAs (help_or_nothing asks) (turn (codes "rights-site") false true word o)) (sym none_met)
+        (word_asks (codes "rights-site") false true word f) in
         let asked_is : asked_of_clap (word ∷ rest) ≡ help_or_nothing asks = rw (e, r) refl in
         subst (λ x. FaultsAs x (fault_of app (word ∷ rest))) (sym asked_is)
-        (level_asks (codes "rights-site") false true word (names_of a) rest (is_some (entered a stop)) (entered_fault a stop) asks first)
+        (level_asks (codes "rights-site") false true word (names_of a) rest (is_some (entered a stop))
+        (entered_fault a stop) asks first)
 
 -- ---- the command that the words name
 
@@ -325,7 +355,8 @@ MetAs script met = option_map (λ m. m.0) met ≡ Some (codes "sim")
 MetAs (site kinds rows) met = met ≡ Some (codes "run", rows)
 MetAs asked met = ⊤
 
-behind_sim_met : (rest : List Text) (met : Met) → option_map (λ m. m.0) met ≡ Some (codes "sim") → MetAs (asked_behind_sim rest) met
+behind_sim_met : (rest : List Text) (met : Met) → option_map (λ m. m.0) met ≡ Some (codes "sim")
+    → MetAs (asked_behind_sim rest) met
 behind_sim_met [] met h = h
 behind_sim_met (word ∷ rest) met h = go (bytes_eq word (codes "--")) (asks_for_help word) rest
   where
@@ -367,10 +398,12 @@ met_as_asked (word ∷ rest) = go (bytes_eq (codes "sim") word) (bytes_eq (codes
     unmet true = tt
     unmet false = tt
 
-    go : (names_sim names_run : Bool) → bytes_eq (codes "sim") word ≡ names_sim → bytes_eq (codes "run") word ≡ names_run → MetAs (asked_of_clap (word ∷ rest)) met
+    go : (names_sim names_run : Bool) → bytes_eq (codes "sim") word ≡ names_sim
+        → bytes_eq (codes "run") word ≡ names_run → MetAs (asked_of_clap (word ∷ rest)) met
     go true names_run e r =
         let is : codes "sim" ≡ word = (bytes_eq-Decides (codes "sim") word).0 e in
-        subst (λ w. MetAs (asked_of_clap (w ∷ rest)) (subcommand_of app (w ∷ rest))) is (behind_sim_met rest _ (sim_met rest))
+        subst (λ w. MetAs (asked_of_clap (w ∷ rest)) (subcommand_of app (w ∷ rest))) is
+        (behind_sim_met rest _ (sim_met rest))
     go false true e r =
         let is : codes "run" ≡ word = (bytes_eq-Decides (codes "run") word).0 r in
         subst (λ w. MetAs (asked_of_clap (w ∷ rest)) (subcommand_of app (w ∷ rest))) is (run_met rest)
@@ -406,7 +439,8 @@ refusal_asked : (a : Asked) (kinds : Kinds) (k : ErrorKind) → FaultsAs a kinds
     → (k ≡ kind.DisplayHelp → ⊥) → is_refusal k ≡ true → MayRefuse a
 refusal_asked script kinds k h among other refusal = absurd (subst (IsAmong k) h among)
 refusal_asked (site known rows) kinds k h among other refusal = inl (k, subst (IsAmong k) h among, refusal)
-refusal_asked help kinds k h among other refusal = absurd (⊎_elim other (λ none. absurd none) (subst (IsAmong k) h among))
+refusal_asked help kinds k h among other refusal
+    = absurd (⊎_elim other (λ none. absurd none) (subst (IsAmong k) h among))
 refusal_asked version kinds k h among other refusal = absurd h
 refusal_asked nothing kinds k h among other refusal = tt
 
@@ -436,7 +470,8 @@ pub no_version : (words : List Text) → asked_of_clap words ≢ version
 no_version words same = subst (λ (a : Asked). FaultsAs a (fault_of app words)) same (faults_as_asked words)
 
 -- the result for a parsed command is what was asked for
-pub parsed_answers : (a : Asked) (met : Met) (r : Result Command WordsFault) → ParsedAs a met → AnswersMet met r → MayAnswer a r
+pub parsed_answers : (a : Asked) (met : Met) (r : Result Command WordsFault) → ParsedAs a met → AnswersMet met r
+    → MayAnswer a r
 parsed_answers script met r parsed h = subst (MayAnswer script) (sym (h.0 parsed)) refl
 parsed_answers (site kinds rows) met r parsed h = go r (h.1 rows parsed.1)
   where
@@ -458,16 +493,21 @@ module _ (told : App) (words : List Text) (is : told ≡ app) where
   told_simple : is_simple_and_free told ≡ true
   told_simple = ap is_simple_and_free is ∙ simple
 
-  pub parsed_asks : (m : ArgMatches) → (is_simple_and_free told ≡ true → fault_of told words ≡ []) → HasMatchesOf told words m
+  pub parsed_asks : (m : ArgMatches) → (is_simple_and_free told ≡ true → fault_of told words ≡ [])
+      → HasMatchesOf told words m
       → ParsedAs (asked_of_clap words) (subcommand_rows_of m)
   parsed_asks m h found =
-      let met : subcommand_rows_of m ≡ subcommand_of app words = (found (ap is_simple is ∙ is_simple_too)).1 ∙ ap (λ a. subcommand_of a words) is in
-      subst (ParsedAs (asked_of_clap words)) (sym met) (parsed_as (asked_of_clap words) _ _ faults (h told_simple) (met_as_asked words))
+      let met : subcommand_rows_of m ≡ subcommand_of app words = (found (ap is_simple is ∙ is_simple_too)).1
+      ∙ ap (λ a. subcommand_of a words) is in
+      subst (ParsedAs (asked_of_clap words)) (sym met)
+      (parsed_as (asked_of_clap words) _ _ faults (h told_simple) (met_as_asked words))
 
-  pub help_error_asks : (e : Error) → (is_simple_and_free told ≡ true → HasKind (fault_of told words) e) → kind_of e ≡ kind.DisplayHelp → WantsHelp (asked_of_clap words)
+  pub help_error_asks : (e : Error) → (is_simple_and_free told ≡ true → HasKind (fault_of told words) e)
+      → kind_of e ≡ kind.DisplayHelp → WantsHelp (asked_of_clap words)
   help_error_asks e h shown = ⊎_elim
       (λ (memory : kind_of e ≡ kind.OutOfMemory). absurd (differ (sym shown ∙ memory)))
-      (λ (among : IsAmong (kind_of e) (fault_of told words)). help_asked (asked_of_clap words) _ faults (subst (λ k. IsAmong k (fault_of told words)) shown among))
+      (λ (among : IsAmong (kind_of e) (fault_of told words)). help_asked (asked_of_clap words) _ faults
+      (subst (λ k. IsAmong k (fault_of told words)) shown among))
       (h told_simple)
     where
       differ : ◌≡◌ {A = ErrorKind} kind.DisplayHelp kind.OutOfMemory → ⊥
@@ -477,5 +517,6 @@ module _ (told : App) (words : List Text) (is : told ≡ app) where
       → (kind_of e ≡ kind.DisplayHelp → ⊥) → (kind_of e ≡ kind.OutOfMemory → ⊥) → MayRefuse (asked_of_clap words)
   other_error_asks e h not_help not_memory = ⊎_elim
       (λ (memory : kind_of e ≡ kind.OutOfMemory). absurd (not_memory memory))
-      (λ (among : IsAmong (kind_of e) (fault_of told words)). refusal_asked (asked_of_clap words) _ (kind_of e) faults among not_help (refuses (kind_of e) not_help not_memory))
+      (λ (among : IsAmong (kind_of e) (fault_of told words)). refusal_asked (asked_of_clap words) _
+      (kind_of e) faults among not_help (refuses (kind_of e) not_help not_memory))
       (h told_simple)

@@ -1,5 +1,6 @@
 -- What clap's getters say of the values that it found.
-use Rattle.std.proofs.Common.{◌≡◌, ◌≢◌, ◌∙◌, ◌<◌, ◌^◌, ℕ, Bool, true, false, List, Option, Some, None, Result, Ok, Err, refl, sym, subst, ap}
+use Rattle.std.proofs.Common.{◌≡◌, ◌≢◌, ◌∙◌, ◌<◌, ◌^◌, ℕ, Bool, true, false, List, Option, Some, None, Result, Ok, Err}
+use Rattle.std.proofs.Common.{refl, sym, subst, ap}
 use Rattle.std.specs.Prelude.{IfSome, MatchOption, MatchResult}
 use Rattle.std.specs.Option.{ok_or}
 use Rattle.std.specs.Str.Parse.{IsNumeral, ParsesBool, ParsesUnsigned, digits_value, without_leading_plus}
@@ -14,7 +15,8 @@ abbrev pub MayFind : {E : Type 0} → Found → Text → Result (Option ℕ) E �
 MayFind f option r = MatchResult r (MayHaveNumber (rows_of f) option)
     (λ _. (n : Option ℕ) → IfSome n (λ m. m < 2 ^ 64) → MayHaveNumber (rows_of f) option n → ⊥)
 
-module _ {E : Type 0} (G : List ℕ → Result ℕ E → Type 0) (reads : (u : List ℕ) (x : Result ℕ E) → G u x → ParsesUnsigned 64 10 u x)
+module _ {E : Type 0} (G : List ℕ → Result ℕ E → Type 0) (reads : (u : List ℕ) (x : Result ℕ E) → G u x
+    → ParsesUnsigned 64 10 u x)
     (f : Found) (option : Text) where
   abbrev pub Finds : Option ℕ → Type 0
   Finds r = MatchOption r ((n : ℕ) → n < 2 ^ 64 → HasNumber (rows_of f) option n → ⊥) (HasNumber (rows_of f) option)
@@ -45,7 +47,8 @@ module _ {E : Type 0} (G : List ℕ → Result ℕ E → Type 0) (reads : (u : L
       go (Some t) is = read_of t r is (value t is)
 
   -- the same, if lack of one refuses the words
-  pub number_or_refused : (r : Option ℕ) → (one_text f option ≡ None → r ≡ None) → ((t : Text) → one_text f option ≡ Some t → ReadsOne G t r)
+  pub number_or_refused : (r : Option ℕ) → (one_text f option ≡ None → r ≡ None)
+      → ((t : Text) → one_text f option ≡ Some t → ReadsOne G t r)
       → MatchResult (ok_or r Refused) (HasNumber (rows_of f) option)
       (λ fault. (fault ≡ Refused) × ((n : ℕ) → n < 2 ^ 64 → HasNumber (rows_of f) option n → ⊥))
   number_or_refused r none value = go r (number_found r none value)
@@ -81,7 +84,8 @@ abbrev FindsFlag : Found → Text → Option Bool → Type 0
 FindsFlag f flag r = MatchOption r ((set : Bool) → HasFlag (rows_of f) flag set → ⊥) (HasFlag (rows_of f) flag)
 
 module _ (E : Type 0) (f : Found) (flag : Text) where
-  read_flag : (t : Text) (r : Option Bool) → one_text f flag ≡ Some t → ReadsOne {E = E} ParsesBool t r → FindsFlag f flag r
+  read_flag : (t : Text) (r : Option Bool) → one_text f flag ≡ Some t → ReadsOne {E = E} ParsesBool t r
+      → FindsFlag f flag r
   read_flag t (Some true) is read = sym (one_text-rows f flag) ∙ is ∙ ap Some read
   read_flag t (Some false) is read = sym (one_text-rows f flag) ∙ is ∙ ap Some read
   read_flag t None is read = go
@@ -101,7 +105,8 @@ module _ (E : Type 0) (f : Found) (flag : Text) where
       differ e = cc
 
       go : (o : Option Text) → one_text f flag ≡ o → FindsFlag f flag r
-      go None is = subst (FindsFlag f flag) (sym (none is)) (λ set has. differ (sym has ∙ sym (one_text-rows f flag) ∙ is))
+      go None is = subst (FindsFlag f flag) (sym (none is)) (λ set has. differ (sym has
+          ∙ sym (one_text-rows f flag) ∙ is))
       go (Some t) is = read_flag t r is (value t is)
 
   pub flag_or_refused : (r : Option Bool) → (one_text f flag ≡ None → r ≡ None)

@@ -26,7 +26,8 @@ abbrev any_u64 : ValueParser
 any_u64 = Unsigned 0 18446744073709551615
 
 -- the bounds of a range of numbers
-pub narrowed : (p r : ValueParser) (a b : ℤ) (least most : ℕ) → p ≡ any_u64 → a ≡ pos least → b ≡ pos most → NarrowsTo p (Some a) (Some b) r
+pub narrowed : (p r : ValueParser) (a b : ℤ) (least most : ℕ) → p ≡ any_u64 → a ≡ pos least → b ≡ pos most
+    → NarrowsTo p (Some a) (Some b) r
     → NarrowsTo any_u64 (Some (pos least)) (Some (pos most)) r
 narrowed p r a b least most any low high h =
     subst (λ (b : ℤ). NarrowsTo any_u64 (Some (pos least)) (Some b) r) high

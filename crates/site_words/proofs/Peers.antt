@@ -1,5 +1,7 @@
 -- The other sites, and the words that name them.
-use Rattle.std.proofs.Common.{◌≡◌, ◌≢◌, ◌∙◌, ◌==◌, ◌<◌, ◌≤◌, ◌+◌, ◌++◌, ℕ, Bool, true, false, zero, suc, List, [], ◌∷◌, length, map, refl, sym, ap, ap₂, subst, arith, get_or, ◌^◌, Bor, Some, None, inl, inr, true≢false}
+use Rattle.std.proofs.Common.{◌≡◌, ◌≢◌, ◌∙◌, ◌==◌, ◌<◌, ◌≤◌, ◌+◌, ◌++◌, ℕ, Bool, true, false, zero, suc, List, [], ◌∷◌}
+use Rattle.std.proofs.Common.{length, map, refl, sym, ap, ap₂, subst, arith, get_or, ◌^◌, Bor, Some, None, inl, inr}
+use Rattle.std.proofs.Common.{true≢false}
 use Rattle.std.specs.Prelude.{◌⊎◌, decimal}
 use Rattle.std.proofs.lemmas.Str.Pattern.{IsSplitOnceResult, split_after}
 use Rattle.entry_codec.proofs.Bytes.{decimal_lacks}
@@ -18,17 +20,21 @@ no_break n fits i lt e =
     true≢false bad
 
 -- a word with no `=` names no peer
-pub unsplit : (site : ℕ) (word address : Text) → site < 2 ^ 64 → IsSplitOnceResult 61 word None → word ≢ decimal site ++ 61 ∷ address
-unsplit site word address fits cases same = split_after 61 word (decimal site) address None cases (omega arith) same (no_break site fits)
+pub unsplit : (site : ℕ) (word address : Text) → site < 2 ^ 64 → IsSplitOnceResult 61 word None
+    → word ≢ decimal site ++ 61 ∷ address
+unsplit site word address fits cases same
+    = split_after 61 word (decimal site) address None cases (omega arith) same (no_break site fits)
 
 -- a word that names a peer is its number up to the first `=`
-pub split_number : (site : ℕ) (word address : Text) (number rest : Bor Text) → site < 2 ^ 64 → IsSplitOnceResult 61 word (Some (number, rest))
+pub split_number : (site : ℕ) (word address : Text) (number rest : Bor Text) → site < 2 ^ 64
+    → IsSplitOnceResult 61 word (Some (number, rest))
     → word ≡ decimal site ++ 61 ∷ address → number.now ≡ decimal site
 split_number site word address number rest fits cases same =
     (split_after 61 word (decimal site) address (Some (number, rest)) cases (omega arith) same (no_break site fits)).0
 
 contains_before : (xs : List ℕ) (x y : ℕ) → Contains xs y → Contains (xs ++ x ∷ []) y
-contains_before xs x y has = (has.0, omega (arith, has.1, length_push xs x), get_or_append_left xs (x ∷ []) y has.0 has.1 ∙ has.2)
+contains_before xs x y has
+    = (has.0, omega (arith, has.1, length_push xs x), get_or_append_left xs (x ∷ []) y has.0 has.1 ∙ has.2)
 
 -- each site but this one is among the others
 pub others_contains : (id n site : ℕ) → 1 ≤ site → site ≤ n → site ≢ id → Contains (others id n) site
@@ -54,7 +60,8 @@ abbrev pub AreUpTo : List Text → ℕ → ℕ → List Peer → Type 0
 AreUpTo words id n ps = (map (λ p. p.site) ps ≡ others id n) × All (IsNamed words) ps
 
 -- and up to the next, which is this one
-pub own_passed : (words : List Text) (id n : ℕ) (ps : List Peer) → n + 1 ≡ id → AreUpTo words id n ps → AreUpTo words id (n + 1) ps
+pub own_passed : (words : List Text) (id n : ℕ) (ps : List Peer) → n + 1 ≡ id → AreUpTo words id n ps
+    → AreUpTo words id (n + 1) ps
 own_passed words id n ps own before =
     let next : suc n ≡ n + 1 = omega arith in
     let e : (suc n == id) ≡ true = eq-eqb (suc n) id (next ∙ own) in
@@ -62,7 +69,8 @@ own_passed words id n ps own before =
     (subst (λ k. map (λ (p : Peer). p.site) ps ≡ others id k) next more, before.1)
 
 -- or another one
-pub peer_added : (words : List Text) (id n : ℕ) (ps qs : List Peer) (p : Peer) → qs ≡ ps ++ p ∷ [] → n + 1 ≢ id → p.site ≡ n + 1
+pub peer_added : (words : List Text) (id n : ℕ) (ps qs : List Peer) (p : Peer) → qs ≡ ps ++ p ∷ [] → n + 1 ≢ id
+    → p.site ≡ n + 1
     → IsNamed words p → AreUpTo words id n ps → AreUpTo words id (n + 1) qs
 peer_added words id n ps qs p grown other site named before =
     let next : suc n ≡ n + 1 = omega arith in
@@ -70,8 +78,10 @@ peer_added words id n ps qs p grown other site named before =
     let listed : map (λ p. p.site) (ps ++ p ∷ []) ≡ others id n ++ suc n ∷ [] =
     map_push (λ (p : Peer). p.site) ps p ∙ ap₂ (λ (xs : List ℕ) (x : ℕ). xs ++ x ∷ []) before.0 (site ∙ sym next) in
     let more : map (λ p. p.site) (ps ++ p ∷ []) ≡ others id (suc n) = rw e listed in
-    let both : AreUpTo words id (n + 1) (ps ++ p ∷ []) =
-    (subst (λ k. map (λ (p : Peer). p.site) (ps ++ p ∷ []) ≡ others id k) next more, All-push (IsNamed words) ps p before.1 named) in
+    let both : AreUpTo words id (n + 1) (ps ++ p ∷ []) = (
+      subst (λ k. map (λ (p : Peer). p.site) (ps ++ p ∷ []) ≡ others id k) next more,
+      All-push (IsNamed words) ps p before.1 named,
+    ) in
     subst (AreUpTo words id (n + 1)) (sym grown) both
 
 up_to : (i k : ℕ) → k < i + 1 → (k < i) ⊎ (k ≡ i)
@@ -89,8 +99,10 @@ pub one_more : (words : List (Bor Text)) (i site : ℕ) (d : Bor Text) → i < l
 one_more words i site d within before here p k same lt named = elim (up_to i k lt) [
   | inl below ↦ before p k same below named
   | inr is ↦
-      let read : slice_index_or (texts words) i (peer_word p) ≡ peer_word p = subst (λ n. slice_index_or (texts words) n (peer_word p) ≡ peer_word p) is named in
-      here p.address (sym (get_or-map (λ (s : Bor Text). s.now) words i d (peer_word p) within) ∙ read ∙ ap (λ (n : ℕ). decimal n ++ 61 ∷ p.address) same)
+      let read : slice_index_or (texts words) i (peer_word p) ≡ peer_word p
+      = subst (λ n. slice_index_or (texts words) n (peer_word p) ≡ peer_word p) is named in
+      here p.address (sym (get_or-map (λ (s : Bor Text). s.now) words i d (peer_word p) within) ∙ read
+      ∙ ap (λ (n : ℕ). decimal n ++ 61 ∷ p.address) same)
 ]
 
 no_peer : Peer
@@ -103,8 +115,10 @@ lacking id sites listen words options lacks s valid has =
     let k = lacks.1.0 in
     let peer : Peer = slice_index_or s.peers k no_peer in
     let listed : map (λ p. p.site) s.peers ≡ others id sites = rw (← has.same_id, ← has.same_sites) valid.peers in
-    let within : k < length s.peers = omega (arith, lacks.1.1, ap length listed, length-map s.peers (λ (p : Peer). p.site)) in
+    let within : k < length s.peers
+    = omega (arith, lacks.1.1, ap length listed, length-map s.peers (λ (p : Peer). p.site)) in
     let site : peer.site ≡ lacks.0 =
-    sym (get_or-map (λ (p : Peer). p.site) s.peers k no_peer lacks.0 within) ∙ ap (λ (l : List ℕ). get_or l k lacks.0) listed ∙ lacks.1.2 in
+    sym (get_or-map (λ (p : Peer). p.site) s.peers k no_peer lacks.0 within)
+    ∙ ap (λ (l : List ℕ). get_or l k lacks.0) listed ∙ lacks.1.2 in
     let named : IsNamed words peer = has.names.each k no_peer within in
     lacks.2 peer.address (subst (λ n. IsNamed words (record { site = n; address = peer.address })) site named)

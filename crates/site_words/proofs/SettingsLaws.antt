@@ -1,15 +1,18 @@
 -- Settings that are asked for, or refused.
-use Rattle.std.proofs.Common.{◌≡◌, ◌∙◌, ◌<◌, ◌^◌, ℕ, Bool, true, false, List, Option, Some, None, Result, Ok, Err, refl, sym, ap, subst, arith, codes}
+use Rattle.std.proofs.Common.{◌≡◌, ◌∙◌, ◌<◌, ◌^◌, ℕ, Bool, true, false, List, Option, Some, None, Result, Ok, Err, refl}
+use Rattle.std.proofs.Common.{sym, ap, subst, arith, codes}
 use Rattle.std.specs.Prelude.{IfSome, MatchResult}
 use Rattle.std.specs.Str.Parse.{digits_value, without_leading_plus}
 use Rattle.clap.specs.Walk.{Row, Text, all_of, first_of}
-use Rattle.site_words.specs.Settings.{AreFound, HasFlag, HasNumber, HasValues, IsFound, IsSettings, IsTick, MayHaveNumber, Names, Options, Settings}
+use Rattle.site_words.specs.Settings.{AreFound, HasFlag, HasNumber, HasValues, IsFound, IsSettings, IsTick}
+use Rattle.site_words.specs.Settings.{MayHaveNumber, Names, Options, Settings}
 use Rattle.site_words.specs.Words.{IsSetBy}
 use Rattle.site_words.specs.declared.words.WordsFault.{WordsFault}
 use Rattle.site_words.specs.declared.words.WordsFault.TheVariants.{OutOfMemory, Refused}
 
 -- a refusal is right if no settings fit
-pub refused_by : (Fits : Settings → Type 0) (fault : WordsFault) → (fault ≡ Refused → (s : Settings) → IsSettings s → Fits s → ⊥)
+pub refused_by : (Fits : Settings → Type 0) (fault : WordsFault)
+    → (fault ≡ Refused → (s : Settings) → IsSettings s → Fits s → ⊥)
     → IsSetBy Fits (Err fault)
 refused_by Fits Refused none = none refl
 refused_by Fits OutOfMemory none = tt
@@ -37,7 +40,8 @@ abbrev pub MayBeOptions : List Row → Result Options WordsFault → Type 0
 MayBeOptions rows r = MatchResult r (AreFound rows)
     (λ fault. (fault ≡ Refused) × ((o : Options) → IfSome o.tick IsTick → AreFound rows o → ⊥))
 
-tick_once : (rows : List Row) (n m : Option ℕ) → MayHaveNumber rows (codes "tick") n → MayHaveNumber rows (codes "tick") m → n ≡ m
+tick_once : (rows : List Row) (n m : Option ℕ) → MayHaveNumber rows (codes "tick") n
+    → MayHaveNumber rows (codes "tick") m → n ≡ m
 tick_once rows None None one two = refl
 tick_once rows None (Some m) one two = absurd (none_some (sym one ∙ two.1))
 tick_once rows (Some n) None one two = absurd (none_some (sym two ∙ one.1))
@@ -65,9 +69,12 @@ options_once rows o p one two =
     ∙ ap (λ (l : Bool). options_with p.http p.tick p.once l) log))
 
 -- the settings of the values that clap found are those that it found
-pub values_found : (rows : List Row) (id sites : ℕ) (listen : Text) (words : List Text) (options : Options) → HasNumber rows (codes "id") id
-    → HasNumber rows (codes "sites") sites → first_of (codes "listen") rows ≡ Some listen → all_of (codes "peer") rows ≡ Some words
-    → AreFound rows options → (r : Result Settings WordsFault) → IsSetBy (HasValues id sites listen words options) r → IsSetBy (IsFound rows) r
+pub values_found : (rows : List Row) (id sites : ℕ) (listen : Text) (words : List Text) (options : Options)
+    → HasNumber rows (codes "id") id
+    → HasNumber rows (codes "sites") sites → first_of (codes "listen") rows ≡ Some listen
+    → all_of (codes "peer") rows ≡ Some words
+    → AreFound rows options → (r : Result Settings WordsFault) → IsSetBy (HasValues id sites listen words options) r
+    → IsSetBy (IsFound rows) r
 values_found rows id sites listen words options has_id has_sites has_listen has_words has_options (Ok s) set = (
   set.0,
   record {
@@ -80,11 +87,13 @@ values_found rows id sites listen words options has_id has_sites has_listen has_
     options = subst (AreFound rows) (sym set.1.same_options) has_options;
   },
 )
-values_found rows id sites listen words options has_id has_sites has_listen has_words has_options (Err Refused) set = λ s valid found. set s valid (record {
-  same_id = number_once rows (codes "id") s.id id found.id has_id;
-  same_sites = number_once rows (codes "sites") s.sites sites found.sites has_sites;
-  same_listen = some_same (sym found.listen ∙ has_listen);
-  same_options = options_once rows s.options options found.options has_options;
-  names = subst (λ ws. Names ws s) (some_same (sym found.given ∙ has_words)) found.peers;
-})
-values_found rows id sites listen words options has_id has_sites has_listen has_words has_options (Err OutOfMemory) set = tt
+values_found rows id sites listen words options has_id has_sites has_listen has_words has_options (Err Refused) set
+    = λ s valid found. set s valid (record {
+      same_id = number_once rows (codes "id") s.id id found.id has_id;
+      same_sites = number_once rows (codes "sites") s.sites sites found.sites has_sites;
+      same_listen = some_same (sym found.listen ∙ has_listen);
+      same_options = options_once rows s.options options found.options has_options;
+      names = subst (λ ws. Names ws s) (some_same (sym found.given ∙ has_words)) found.peers;
+    })
+values_found rows id sites listen words options has_id has_sites has_listen has_words has_options (Err OutOfMemory) set
+    = tt

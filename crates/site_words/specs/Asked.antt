@@ -1,5 +1,6 @@
 -- What the program's words ask for.
-use Rattle.std.specs.Prelude.{◌||◌, ◌==◌, ℕ, Bool, false, List, [], ◌∷◌, Option, if◌then◌else◌, bytes_eq, chars, codes, option_and_then, slice_get}
+use Rattle.std.specs.Prelude.{◌||◌, ◌==◌, ℕ, Bool, false, List, [], ◌∷◌, Option, if◌then◌else◌, bytes_eq, chars, codes}
+use Rattle.std.specs.Prelude.{option_and_then, slice_get}
 use Rattle.std.specs.Option.{option_map_or}
 use Rattle.clap.specs.Faults.{fault_of}
 use Rattle.clap.specs.Kinds.{Kinds}

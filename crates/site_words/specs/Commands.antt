@@ -3,7 +3,9 @@ use Rattle.std.specs.Prelude.{ℕ, List, [], ◌∷◌, Option, Some, None, code
 use Rattle.entry_codec.specs.Moves.{◌>>=◌}
 use Rattle.line_streams.specs.Words.{words_of, named, alone, first_number, only_number, optional_site, site_and_number}
 use Rattle.site_words.specs.declared.commands.Name.{Name}
-use Rattle.site_words.specs.declared.commands.Name.TheVariants.{Issue as AnIssue, Give as AGive, Spend as ASpend, Outcome as AnOutcome, Tick as ATick, Status as AStatus, Close as AClose, Quit as AQuit}
+use Rattle.site_words.specs.declared.commands.Name.TheVariants.{Issue as AnIssue, Give as AGive, Spend as ASpend}
+use Rattle.site_words.specs.declared.commands.Name.TheVariants.{Outcome as AnOutcome, Tick as ATick, Status as AStatus}
+use Rattle.site_words.specs.declared.commands.Name.TheVariants.{Close as AClose, Quit as AQuit}
 use Rattle.site_words.specs.declared.commands.DeskCommand.TheVariants.{Issue, Give, Spend, Outcome, Close}
 use Rattle.site_words.specs.declared.commands.SiteCommand.{SiteCommand}
 use Rattle.site_words.specs.declared.commands.SiteCommand.TheVariants.{AtDesk, Tick, Status, Quit}

@@ -1,5 +1,6 @@
 -- The configuration of one site, and the words that give it.
-use Rattle.std.specs.Prelude.{◌≡◌, ◌≤◌, ◌+◌, ◌==◌, ◌++◌, ℕ, zero, suc, Bool, true, false, List, [], ◌∷◌, Option, Some, None, IfSome, Contains, codes, length, map, decimal, if◌then◌else◌}
+use Rattle.std.specs.Prelude.{◌≡◌, ◌≤◌, ◌+◌, ◌==◌, ◌++◌, ℕ, zero, suc, Bool, true, false, List, [], ◌∷◌, Option, Some}
+use Rattle.std.specs.Prelude.{None, IfSome, Contains, codes, length, map, decimal, if◌then◌else◌}
 use Rattle.std.specs.List.{All}
 use Rattle.std.specs.Str.Parse.{IsNumeral, digits_value, without_leading_plus}
 use Rattle.clap.specs.Walk.{Row, Text, all_of, first_of, one_of}
@@ -59,7 +60,8 @@ pub record Names (words : List Text) (s : Settings) : Type 0 where
   pub count : length words + 1 ≡ s.sites
 
 -- the settings have these values, and the peers are those that the words name
-pub record HasValues (id sites : ℕ) (listen : Text) (words : List Text) (options : Options) (s : Settings) : Type 0 where
+pub record HasValues (id sites : ℕ) (listen : Text) (words : List Text) (options : Options)
+    (s : Settings) : Type 0 where
   pub same_id : s.id ≡ id
   pub same_sites : s.sites ≡ sites
   pub same_listen : s.listen ≡ listen

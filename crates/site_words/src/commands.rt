@@ -1,7 +1,8 @@
 //! The commands of a running site.
 ghost use Rattle.std.specs.Prelude.{◌≡◌};
 ghost use Rattle.line_streams.specs.Words.{words_left};
-ghost use Rattle.site_words.specs.Commands.{issue_in, give_in, spend_in, outcome_in, close_in, command_by, name_of, command_of};
+ghost use Rattle.site_words.specs.Commands.{issue_in, give_in, spend_in, outcome_in, close_in, command_by, name_of};
+ghost use Rattle.site_words.specs.Commands.{command_of};
 
 use line_streams::{
     alone, first_number, named, only_number, optional_site, site_and_number, split_word,

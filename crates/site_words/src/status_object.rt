@@ -52,7 +52,8 @@ fn put_number(
     key: &str,
     number: u64,
 ) -> Result<(), OutOfMemory>
-    ensures { OnOk result (members_view members.new.entries ≡ with_member key.now (whole number) (members_view members.old.entries)) }
+    ensures { OnOk result (members_view members.new.entries
+        ≡ with_member key.now (whole number) (members_view members.old.entries)) }
 {
     Ok(put(members, alloc, key, Value::from(number))?)
 }

@@ -1,12 +1,14 @@
 //! The command line, parsed by the crate `clap`.
-ghost use Rattle.std.specs.Prelude.{◌≡◌, ◌<◌, ◌^◌, ℕ, Option, Bool, [], ◌∷◌, codes, false, true, IfOk, IfSome, MatchResult};
+ghost use Rattle.std.specs.Prelude.{◌≡◌, ◌<◌, ◌^◌, ℕ, Option, Bool, [], ◌∷◌, codes, false, true, IfOk, IfSome};
+ghost use Rattle.std.specs.Prelude.{MatchResult};
 ghost use Rattle.clap.specs.Matches.{found_of};
 ghost use Rattle.clap.specs.Simple.{app_of, new_shape, shape_of, subcommand_rows_of};
 ghost use Rattle.clap.specs.Walk.{rows_of, rule_of, texts};
 ghost use Rattle.clap.specs.declared.builder.command.Command.TheViews.{out-Command};
 ghost use Rattle.rights_types.specs.declared.limits.TheConstants.{MIN_SITES, MAX_SITES};
 ghost use Rattle.site_words.specs.Asked.{asked_by, asked_of_clap, asks_for_version};
-ghost use Rattle.site_words.specs.CommandLine.{app, flag_rule, number_rule, option_rule, peer_rule, required_shape, run_numbers_shape, run_shape, tick_rule, value_rule};
+ghost use Rattle.site_words.specs.CommandLine.{app, flag_rule, number_rule, option_rule, peer_rule, required_shape};
+ghost use Rattle.site_words.specs.CommandLine.{run_numbers_shape, run_shape, tick_rule, value_rule};
 ghost use Rattle.site_words.specs.Settings.{AreFound, HasFlag, HasNumber, IsFound, IsTick, MayHaveNumber, Options};
 ghost use Rattle.site_words.specs.declared.config.TheConstants.{MAX_TICK, MIN_TICK};
 ghost use Rattle.site_words.specs.Words.{AnswersMet, IsSetBy, MayAnswer};
@@ -274,7 +276,8 @@ fn number_of(matches: &ArgMatches<'_>, option: &str) -> Result<u64, WordsFault>
 fn optional_number_of(matches: &ArgMatches<'_>, option: &str) -> Result<Option<u64>, WordsFault>
     ensures { MatchResult result (MayHaveNumber (rows_of (found_of matches.now)) option.now)
         (λ fault. (fault ≡ WordsFault.Refused)
-        × ((n : Option ℕ) → IfSome n (λ m. m < 2 ^ 64) → MayHaveNumber (rows_of (found_of matches.now)) option.now n → ⊥)) }
+        × ((n : Option ℕ) → IfSome n (λ m. m < 2 ^ 64)
+        → MayHaveNumber (rows_of (found_of matches.now)) option.now n → ⊥)) }
 {
     match matches.try_get_one(option) {
         Ok(number) => Ok(number),

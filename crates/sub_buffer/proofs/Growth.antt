@@ -10,9 +10,11 @@ use Rattle.sub_buffer.specs.Buffers.{BufferValue}
 use Rattle.sub_buffer.specs.Follows.{Follows}
 
 within_longer : (es more set : List EntryValue) → All (Contains es) set → All (Contains (es ++ more)) set
-within_longer es more set within = All-weaker (Contains es) (Contains (es ++ more)) (λ x i. Contains-append_left es more x i) set within
+within_longer es more set within
+    = All-weaker (Contains es) (Contains (es ++ more)) (λ x i. Contains-append_left es more x i) set within
 
-pub follows_longer : (b : BufferValue) (es more set put : List EntryValue) → IsChain b.origin (es ++ more) → Follows es set put b → Follows (es ++ more) set put b
+pub follows_longer : (b : BufferValue) (es more set put : List EntryValue) → IsChain b.origin (es ++ more)
+    → Follows es set put b → Follows (es ++ more) set put b
 follows_longer b es more set put c f = record {
   log = c;
   of_log = within_longer es more set f.of_log;
@@ -24,7 +26,8 @@ follows_longer b es more set put c f = record {
   told = f.told;
 }
 
-pub longest_stays : (o : ℕ) (es more set put : List EntryValue) → IsChain o (es ++ more) → All (Contains es) set → IsLongest set es put → IsLongest set (es ++ more) put
+pub longest_stays : (o : ℕ) (es more set put : List EntryValue) → IsChain o (es ++ more) → All (Contains es) set
+    → IsLongest set es put → IsLongest set (es ++ more) put
 longest_stays o es more set put c within long = record {
   rest = long.rest ++ more;
   whole = sym (append_assoc put long.rest more) ∙ ap (λ xs. xs ++ more) long.whole;
@@ -36,7 +39,8 @@ longest_stays o es more set put c within long = record {
     unheard : (xs : List EntryValue) → es ++ more ≡ es ++ xs → HeadNotIn set xs
     unheard [] is = tt
     unheard (x ∷ xs) is = λ i.
-        not_before o es x (chain_left o _ _ es more c) (omega (arith, (chain_right o _ _ es (x ∷ xs) (subst (IsChain o) is c)).2))
+        not_before o es x (chain_left o _ _ es more c)
+        (omega (arith, (chain_right o _ _ es (x ∷ xs) (subst (IsChain o) is c)).2))
         (All-contains (Contains es) set x within i)
 
     no_longer : (rest : List EntryValue) → HeadNotIn set rest → HeadNotIn set (rest ++ more)

@@ -1,5 +1,6 @@
 -- What holds of every buffer holds after a change, and what the code's tests say of a buffer.
-use Rattle.std.proofs.Common.{◌≡◌, ◌≢◌, ℕ, ◌+◌, ◌<◌, ◌≤◌, Bool, true, false, List, inl, inr, length, get_or, drop, Option, Some, None, arith, refl, sym, ◌∙◌, subst}
+use Rattle.std.proofs.Common.{◌≡◌, ◌≢◌, ℕ, ◌+◌, ◌<◌, ◌≤◌, Bool, true, false, List, inl, inr, length, get_or, drop}
+use Rattle.std.proofs.Common.{Option, Some, None, arith, refl, sym, ◌∙◌, subst}
 use Rattle.std.specs.Option.{is_some}
 use Rattle.std.proofs.lemmas.Bool.{cases_lt}
 use Rattle.sub_buffer.specs.declared.buffer.State.TheVariants.{Normal, Buffering}
@@ -14,10 +15,12 @@ use Rattle.sub_buffer.specs.Table.{IsAhead}
 use Rattle.sub_buffer.specs.Gaps.{GapOf, AsksGap, StateOf}
 use Rattle.sub_buffer.proofs.Orders.{order_onward, order_drop, length_onward, later_onward, first_least, place_none}
 
-pub keeps_deliver : (b : BufferValue) (e : EntryValue) (last : ℕ) (closed : Bool) (hs : List EntryValue) → IsBuffer b → own e ≤ b.told → last ≡ own e → hs ≡ onward last b.held
+pub keeps_deliver : (b : BufferValue) (e : EntryValue) (last : ℕ) (closed : Bool) (hs : List EntryValue) → IsBuffer b
+    → own e ≤ b.told → last ≡ own e → hs ≡ onward last b.held
     → IsBuffer (record b { last = last; closed = closed; held = hs })
 keeps_deliver b e last closed hs ok heard at kept =
-    subst (λ (ys : List EntryValue). IsBuffer (record b { last = last; closed = closed; held = ys })) (sym kept) (record {
+    subst (λ (ys : List EntryValue). IsBuffer (record b { last = last; closed = closed; held = ys }))
+    (sym kept) (record {
       me = ok.me;
       origin = ok.origin;
       differ = ok.differ;
@@ -30,7 +33,8 @@ keeps_deliver b e last closed hs ok heard at kept =
       of_origin = All-filter _ (λ x. x.origin ≡ b.origin) b.held ok.of_origin;
     })
 
-pub keeps_pop : (b : BufferValue) (hs : List EntryValue) → IsBuffer b → hs ≡ drop 1 b.held → IsBuffer (record b { held = hs })
+pub keeps_pop : (b : BufferValue) (hs : List EntryValue) → IsBuffer b → hs ≡ drop 1 b.held
+    → IsBuffer (record b { held = hs })
 keeps_pop b hs ok rest =
     subst (λ (ys : List EntryValue). IsBuffer (record b { held = ys })) (sym rest) (record {
       me = ok.me;
@@ -46,7 +50,8 @@ keeps_pop b hs ok rest =
     })
 
 -- if the first held entry is not the next one, none is
-pub not_first : (n : ℕ) (es : List EntryValue) (e : EntryValue) → InOrder es → All (λ x. n ≤ x.prev) es → e ≡ get_or es 0 e → e.prev ≢ n → HasPrev n es → ⊥
+pub not_first : (n : ℕ) (es : List EntryValue) (e : EntryValue) → InOrder es → All (λ x. n ≤ x.prev) es
+    → e ≡ get_or es 0 e → e.prev ≢ n → HasPrev n es → ⊥
 not_first n es e order later is other (x, i, at) =
     let some : 0 < length es = omega (arith, i.1) in
     let low : n ≤ e.prev = subst (λ (y : EntryValue). n ≤ y.prev) (sym is) (later 0 e some) in
@@ -54,8 +59,10 @@ not_first n es e order later is other (x, i, at) =
     omega (arith, other, low, least, at)
 
 -- an entry for which there is a place is ahead
-pub is_ahead : (b : BufferValue) (e : EntryValue) (k : ℕ) → b.last < e.prev → b.closed ≡ false → IsPlace e.prev b.held k → IsAhead b e
-is_ahead b e k later unclosed place = record { later = later; unclosed = unclosed; new = place_none e.prev b.held k place }
+pub is_ahead : (b : BufferValue) (e : EntryValue) (k : ℕ) → b.last < e.prev → b.closed ≡ false → IsPlace e.prev b.held k
+    → IsAhead b e
+is_ahead b e k later unclosed place
+    = record { later = later; unclosed = unclosed; new = place_none e.prev b.held k place }
 
 -- if there is no first held entry, none is held
 pub none_held : (es : List EntryValue) (len : ℕ) → len ≡ length es → (0 < len → false ≡ true) → length es ≡ 0
@@ -67,7 +74,8 @@ none_held es len is none = elim (cases_lt 0 (length es)) [
 -- ---- gaps
 
 -- the numbers from the last one on to the end of the gap can be asked for
-pub can_ask : (b : BufferValue) (n : ℕ) → IsBuffer b → b.last < b.told → n ≤ b.told → IsQuery (record { asker = b.me; origin = b.origin; first = b.last + 1; last = n })
+pub can_ask : (b : BufferValue) (n : ℕ) → IsBuffer b → b.last < b.told → n ≤ b.told
+    → IsQuery (record { asker = b.me; origin = b.origin; first = b.last + 1; last = n })
 can_ask b n ok more within = record {
   asker = ok.me;
   origin = ok.origin;
@@ -77,8 +85,10 @@ can_ask b n ok more within = record {
 }
 
 -- the first held entry begins at a number that was seen
-pub first_told : (b : BufferValue) (e : EntryValue) → IsBuffer b → 0 < length b.held → e ≡ get_or b.held 0 e → e.prev ≤ b.told
-first_told b e ok some is = let heard : own e ≤ b.told = subst (λ (y : EntryValue). own y ≤ b.told) (sym is) (ok.heard 0 e some) in omega arith
+pub first_told : (b : BufferValue) (e : EntryValue) → IsBuffer b → 0 < length b.held → e ≡ get_or b.held 0 e
+    → e.prev ≤ b.told
+first_told b e ok some is = let heard : own e ≤ b.told
+    = subst (λ (y : EntryValue). own y ≤ b.told) (sym is) (ok.heard 0 e some) in omega arith
 
 pub buffering : (gap : Option QueryValue) → is_some gap ≡ true → StateOf gap Buffering
 buffering None some = absurd cc
@@ -88,7 +98,8 @@ pub normal : (gap : Option QueryValue) → is_some gap ≡ false → StateOf gap
 normal None none = refl
 normal (Some q) none = absurd cc
 
-pub gap_behind : (b : BufferValue) (e : EntryValue) (n : ℕ) (q : QueryValue) → IsBuffer b → b.last < b.told → b.closed ≡ false → n ≢ b.last → 0 < length b.held → e ≡ get_or b.held 0 e → n ≡ e.prev
+pub gap_behind : (b : BufferValue) (e : EntryValue) (n : ℕ) (q : QueryValue) → IsBuffer b → b.last < b.told
+    → b.closed ≡ false → n ≢ b.last → 0 < length b.held → e ≡ get_or b.held 0 e → n ≡ e.prev
     → q ≡ record { asker = b.me; origin = b.origin; first = b.last + 1; last = n } → GapOf b (Some q)
 gap_behind b e n q ok more unclosed other some is at asks = (
   more,
@@ -98,11 +109,17 @@ gap_behind b e n q ok more unclosed other some is at asks = (
     asker = refl;
     origin = refl;
     first = refl;
-    last = inr (e, (0, some, sym is), sym at, λ f i. omega (arith, at, All-contains (λ y. e.prev ≤ y.prev) b.held f (first_least b.held e ok.in_order is) i));
+    last = inr (
+      e,
+      (0, some, sym is),
+      sym at,
+      λ f i. omega (arith, at, All-contains (λ y. e.prev ≤ y.prev) b.held f (first_least b.held e ok.in_order is) i),
+    );
   }),
 )
 
-pub gap_empty : (b : BufferValue) (n : ℕ) (q : QueryValue) → b.last < b.told → b.closed ≡ false → length b.held ≡ 0 → n ≡ b.told
+pub gap_empty : (b : BufferValue) (n : ℕ) (q : QueryValue) → b.last < b.told → b.closed ≡ false
+    → length b.held ≡ 0 → n ≡ b.told
     → q ≡ record { asker = b.me; origin = b.origin; first = b.last + 1; last = n } → GapOf b (Some q)
 gap_empty b n q more unclosed none at asks = (
   more,

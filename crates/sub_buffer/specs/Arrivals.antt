@@ -30,14 +30,16 @@ MayFree (Ready x) freed = Unit {0}
 MayFree v freed = freed ≡ []
 
 -- of an entry e of the log: its verdict v; with what it freed, put is the longest prefix of what reached the buffer
-abbrev pub SettledArrival : {A : Type 0} → List EntryValue → List EntryValue → List EntryValue → EntryValue → Verdict A → List EntryValue → ℕ → BufferValue → Type 0
+abbrev pub SettledArrival : {A : Type 0} → List EntryValue → List EntryValue → List EntryValue → EntryValue → Verdict A
+    → List EntryValue → ℕ → BufferValue → Type 0
 SettledArrival es set put e v freed told new =
     let later : List EntryValue = reached_after set e v in
     let longer : List EntryValue = put_after put v ++ freed in
     SettledVerdict set put e v × Follows es later longer new × IsLongest later es longer × (new.told ≡ max told (own e))
 
 -- the verdict v on the entry e, and the held entries that e freed
-pub record Arrives {A : Type 0} (old : BufferValue) (e : EntryValue) (v : Verdict A) (freed : List EntryValue) (new : BufferValue) : Type 0 where
+pub record Arrives {A : Type 0} (old : BufferValue) (e : EntryValue) (v : Verdict A) (freed : List EntryValue)
+    (new : BufferValue) : Type 0 where
   -- whatever came: the verdict is that of the table, and then each held entry that became next was delivered
   pub table : (mid : BufferValue) × OfferLeaves old e v mid × PopsLeave mid freed new
   pub settled : IsSettled new
@@ -47,12 +49,15 @@ pub record Arrives {A : Type 0} (old : BufferValue) (e : EntryValue) (v : Verdic
   pub frees : MayFree v freed
   pub chain : (put : List EntryValue) → HasPut put old → HasPut (put_after put v ++ freed) new
   -- if e is an entry of the log es, of which put was delivered
-  pub log : (es set put : List EntryValue) → Contains es e → Follows es set put old → SettledArrival es set put e v freed old.told new
+  pub log : (es set put : List EntryValue) → Contains es e → Follows es set put old
+      → SettledArrival es set put e v freed old.told new
 
 -- entries arrived one after another: to the verdicts before are added the verdict on each, and Ready for each held
 -- entry that it freed
-abbrev pub ArriveAll : {A : Type 0} → BufferValue → List (Verdict A) → List EntryValue → BufferValue → List (Verdict A) → Type 0
+abbrev pub ArriveAll : {A : Type 0} → BufferValue → List (Verdict A) → List EntryValue → BufferValue
+    → List (Verdict A) → Type 0
 ArriveAll old before [] new after = (new ≡ old) × (after ≡ before)
 ArriveAll {A} old before (e ∷ es) new after =
-    (mid : BufferValue) × (between : List (Verdict A)) × (v : Verdict A) × (freed : List EntryValue) × (between ≡ before ++ v ∷ all_ready freed)
+    (mid : BufferValue) × (between : List (Verdict A)) × (v : Verdict A) × (freed : List EntryValue)
+    × (between ≡ before ++ v ∷ all_ready freed)
     × Arrives old e v freed mid × ArriveAll mid between es new after

@@ -1,5 +1,6 @@
 -- The buffer of a subscriber for the entries of one origin, as plain data.
-use Rattle.std.specs.Prelude.{◌≡◌, ◌≢◌, ℕ, ◌<◌, ◌≤◌, ◌⊎◌, Bool, true, false, not, nat_lt, List, [], ◌∷◌, ◌++◌, length, Option, None, max}
+use Rattle.std.specs.Prelude.{◌≡◌, ◌≢◌, ℕ, ◌<◌, ◌≤◌, ◌⊎◌, Bool, true, false, not, nat_lt, List, [], ◌∷◌, ◌++◌, length}
+use Rattle.std.specs.Prelude.{Option, None, max}
 use Rattle.std.specs.List.{All, AllPairs, Contains, filter}
 use Rattle.rights_types.specs.Ranges.{IsSite, IsNumber}
 use Rattle.rights_types.specs.Entries.{EntryValue, own, closes}

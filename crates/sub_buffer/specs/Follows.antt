@@ -1,6 +1,7 @@
 -- A buffer compared with its origin's log. Here es is that log; set has the entries of it that reached the buffer,
 -- that is, were offered and not answered Full, each listed once; and put has the entries that the buffer delivered.
-use Rattle.std.specs.Prelude.{◌≡◌, ◌≢◌, ◌+◌, ◌≤◌, ◌⊎◌, ◌↔◌, List, [], ◌∷◌, ◌++◌, length, Option, Some, None, Result, Ok, Err}
+use Rattle.std.specs.Prelude.{◌≡◌, ◌≢◌, ◌+◌, ◌≤◌, ◌⊎◌, ◌↔◌, List, [], ◌∷◌, ◌++◌, length, Option, Some, None, Result, Ok}
+use Rattle.std.specs.Prelude.{Err}
 use Rattle.std.specs.List.{All, Contains}
 use Rattle.rights_types.specs.Entries.{EntryValue, own}
 use Rattle.rights_types.specs.Chains.{end, is_closed, IsChain, IsPrefix, IsLongest, IsBeyond, IsFull}
@@ -53,10 +54,12 @@ StaysLongest es set put (Ready x) = Unit {0}
 StaysLongest es set put v = IsLongest set es put
 
 -- an offer of an entry e of the log
-abbrev pub SettledOffer : {A E : Type 0} → List EntryValue → List EntryValue → List EntryValue → EntryValue → Result (Verdict A) E → BufferValue → Type 0
+abbrev pub SettledOffer : {A E : Type 0} → List EntryValue → List EntryValue → List EntryValue → EntryValue
+    → Result (Verdict A) E → BufferValue → Type 0
 SettledOffer es set put e (Err fault) new = ⊥
 SettledOffer es set put e (Ok v) new =
-    SettledVerdict set put e v × Follows es (reached_after set e v) (put_after put v) new × StaysLongest es (reached_after set e v) put v
+    SettledVerdict set put e v × Follows es (reached_after set e v) (put_after put v) new
+    × StaysLongest es (reached_after set e v) put v
 
 -- ---- whether or not put is the longest prefix
 
@@ -73,11 +76,14 @@ VerdictAdds set e Held later = (¬ Contains set e) × (later ≡ set ++ e ∷ []
 VerdictAdds set e AfterClose later = ⊥
 
 -- an offer of an entry e of the log
-abbrev pub OfferFollows : {A E : Type 0} → List EntryValue → List EntryValue → List EntryValue → EntryValue → Result (Verdict A) E → BufferValue → Type 0
+abbrev pub OfferFollows : {A E : Type 0} → List EntryValue → List EntryValue → List EntryValue → EntryValue
+    → Result (Verdict A) E → BufferValue → Type 0
 OfferFollows es set put e (Err fault) new = ⊥
-OfferFollows es set put e (Ok v) new = (later : List EntryValue) × VerdictAdds set e v later × Follows es later (put_after put v) new
+OfferFollows es set put e (Ok v) new = (later : List EntryValue) × VerdictAdds set e v later
+    × Follows es later (put_after put v) new
 
 -- the held entry that is returned is the next one of the log; none is returned exactly if put is the longest prefix
 abbrev pub PopFollows : List EntryValue → List EntryValue → List EntryValue → Option EntryValue → BufferValue → Type 0
 PopFollows es set put None new = IsLongest set es put × Follows es set put new
-PopFollows es set put (Some e) new = (¬ IsLongest set es put) × IsBeyond set put e × (e.prev ≡ end put) × Follows es set (put ++ e ∷ []) new
+PopFollows es set put (Some e) new = (¬ IsLongest set es put) × IsBeyond set put e × (e.prev ≡ end put)
+    × Follows es set (put ++ e ∷ []) new

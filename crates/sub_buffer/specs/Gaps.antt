@@ -25,7 +25,8 @@ pub record AsksGap (s o n told : ℕ) (Waits : EntryValue → Type 0) (q : Query
 abbrev pub GapOf : BufferValue → Option QueryValue → Type 0
 GapOf b None = (b.told ≤ b.last) ⊎ (b.closed ≡ true) ⊎ HasPrev b.last b.held
 GapOf b (Some q) =
-    (b.last < b.told) × (b.closed ≡ false) × (¬ HasPrev b.last b.held) × AsksGap b.me b.origin b.last b.told (Contains b.held) q
+    (b.last < b.told) × (b.closed ≡ false) × (¬ HasPrev b.last b.held)
+    × AsksGap b.me b.origin b.last b.told (Contains b.held) q
 
 -- there is a gap after put: a later number was seen, and put does not end in a closing move
 abbrev pub HasGap : List EntryValue → ℕ → Type 0

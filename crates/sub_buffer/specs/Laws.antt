@@ -8,12 +8,15 @@ use Rattle.sub_buffer.specs.Follows.{Follows}
 
 -- a buffer that follows a log continues to follow it as the log grows
 abbrev pub FollowsLonger : Type 0
-FollowsLonger = (b : BufferValue) (es more set put : List EntryValue) → IsChain b.origin (es ++ more) → Follows es set put b → Follows (es ++ more) set put b
+FollowsLonger = (b : BufferValue) (es more set put : List EntryValue) → IsChain b.origin (es ++ more)
+    → Follows es set put b → Follows (es ++ more) set put b
 
 -- what is the longest prefix of the set, which contains only entries of the log, stays the longest as the log grows
 abbrev pub LongestStays : Type 0
-LongestStays = (o : ℕ) (es more set put : List EntryValue) → IsChain o (es ++ more) → All (Contains es) set → IsLongest set es put → IsLongest set (es ++ more) put
+LongestStays = (o : ℕ) (es more set put : List EntryValue) → IsChain o (es ++ more) → All (Contains es) set
+    → IsLongest set es put → IsLongest set (es ++ more) put
 
 -- a buffer that follows a log is settled exactly if put is the longest prefix
 abbrev pub SettledIsLongest : Type 0
-SettledIsLongest = (b : BufferValue) (es set put : List EntryValue) → Follows es set put b → IsSettled b ↔ IsLongest set es put
+SettledIsLongest = (b : BufferValue) (es set put : List EntryValue) → Follows es set put b
+    → IsSettled b ↔ IsLongest set es put

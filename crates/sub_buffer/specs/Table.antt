@@ -1,5 +1,6 @@
 -- The result and effect of each call of a buffer, for any entries, whether of one chain or not.
-use Rattle.std.specs.Prelude.{◌≡◌, ℕ, ◌<◌, ◌≤◌, ◌⊎◌, true, false, if◌then◌else◌, List, [], ◌∷◌, length, Option, Some, None}
+use Rattle.std.specs.Prelude.{◌≡◌, ℕ, ◌<◌, ◌≤◌, ◌⊎◌, true, false, if◌then◌else◌, List, [], ◌∷◌, length, Option, Some}
+use Rattle.std.specs.Prelude.{None}
 use Rattle.std.specs.List.{Contains}
 use Rattle.rights_types.specs.Entries.{EntryValue, own}
 use Rattle.sub_buffer.specs.Buffers.{BufferValue, HasPrev, IsSettled, told_of, delivered, with_held}
@@ -18,7 +19,8 @@ abbrev pub OfferLeaves : {A : Type 0} → BufferValue → EntryValue → Verdict
 OfferLeaves old e Repeat new =
     ((e.prev < old.last) ⊎ ((old.last < e.prev) × (old.closed ≡ false) × HasPrev e.prev old.held)) × (new ≡ old)
 OfferLeaves old e AfterClose new = (old.last ≤ e.prev) × (old.closed ≡ true) × (new ≡ old)
-OfferLeaves old e (Ready x) new = (x ≡ e) × (e.prev ≡ old.last) × (old.closed ≡ false) × (new ≡ delivered (told_of old (own e)) e)
+OfferLeaves old e (Ready x) new = (x ≡ e) × (e.prev ≡ old.last) × (old.closed ≡ false)
+    × (new ≡ delivered (told_of old (own e)) e)
 OfferLeaves old e Full new = IsAhead old e × (length old.held ≡ MAX_HELD) × (new ≡ told_of old (own e))
 OfferLeaves old e Held new = IsAhead old e × (length old.held < MAX_HELD) × (new ≡ with_held (told_of old (own e)) e)
 

@@ -24,7 +24,9 @@ impl<A: Allocator> SubBuffer<A> {
         requires of_origin { entry.origin ≡ self.old.origin }
         requires settled { IsSettled self.old }
         requires room { length verdicts.old.items + length self.old.held < vec_capacity verdicts.old }
-        ensures arrives { (v : Verdict A) × (freed : List EntryValue) × (verdicts.new.items ≡ verdicts.old.items ++ v ∷ all_ready freed) × Arrives self.old entry v freed self.new }
+        ensures arrives { (v : Verdict A) × (freed : List EntryValue)
+            × (verdicts.new.items ≡ verdicts.old.items ++ v ∷ all_ready freed)
+            × Arrives self.old entry v freed self.new }
         ensures capacity { vec_capacity verdicts.new ≡ vec_capacity verdicts.old }
     {
         match self.judge(entry) {
@@ -56,7 +58,8 @@ impl<A: Allocator> SubBuffer<A> {
     // Delivers the held entries that have become next, one after another.
     fn free_held(&mut self, verdicts: &mut Vec<Verdict<A>, A>)
         requires room { length verdicts.old.items + length self.old.held ≤ vec_capacity verdicts.old }
-        ensures freed { (freed : List EntryValue) × (verdicts.new.items ≡ verdicts.old.items ++ all_ready freed) × Frees self.old freed self.new }
+        ensures freed { (freed : List EntryValue) × (verdicts.new.items ≡ verdicts.old.items ++ all_ready freed)
+            × Frees self.old freed self.new }
         ensures capacity { vec_capacity verdicts.new ≡ vec_capacity verdicts.old }
     {
         while let Some(held) = self.pop_ready() {

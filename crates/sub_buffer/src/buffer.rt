@@ -1,5 +1,6 @@
 //! The buffer, its state and its gap.
-ghost use Rattle.std.specs.Prelude.{◌≡◌, ◌≢◌, ℕ, ◌+◌, ◌<◌, ◌≤◌, ◌++◌, ◌∷◌, [], List, IfOk, IfSome, MatchResult, Option, Some, IsTrue, ◌↔◌, length, max};
+ghost use Rattle.std.specs.Prelude.{◌≡◌, ◌≢◌, ℕ, ◌+◌, ◌<◌, ◌≤◌, ◌++◌, ◌∷◌, [], List, IfOk, IfSome, MatchResult, Option};
+ghost use Rattle.std.specs.Prelude.{Some, IsTrue, ◌↔◌, length, max};
 ghost use Rattle.std.specs.List.{Contains};
 ghost use Rattle.std.specs.Option.{option_to_list};
 ghost use Rattle.rights_types.specs.Ranges.{IsNumber};
@@ -44,13 +45,31 @@ impl<A: Allocator> Model for SubBuffer<A> {
 
     ghost Value = { BufferValue };
 
-    ghost view = { λ b. record { me = b.me; origin = b.origin; last = b.last; told = b.told; closed = b.closed; held = b.held.items; asked = b.asked } };
+    ghost view = { λ b. record {
+      me = b.me;
+      origin = b.origin;
+      last = b.last;
+      told = b.told;
+      closed = b.closed;
+      held = b.held.items;
+      asked = b.asked;
+    } };
 
-    ghost invariant = { λ b. IsBuffer (record { me = b.me; origin = b.origin; last = b.last; told = b.told; closed = b.closed; held = b.held.items; asked = b.asked }) × (MAX_HELD ≤ deque_capacity b.held) };
+    ghost invariant = { λ b. IsBuffer
+        (record {
+          me = b.me;
+          origin = b.origin;
+          last = b.last;
+          told = b.told;
+          closed = b.closed;
+          held = b.held.items;
+          asked = b.asked;
+        }) × (MAX_HELD ≤ deque_capacity b.held) };
 }
 
 impl<A: Allocator> SubBuffer<A> {
-    ghost use Rattle.sub_buffer.specs.Buffers.{IsBuffer, IsSettled, SamePair, new_buffer, told_of, delivered, with_held};
+    ghost use Rattle.sub_buffer.specs.Buffers.{IsBuffer, IsSettled, SamePair, new_buffer, told_of, delivered};
+    ghost use Rattle.sub_buffer.specs.Buffers.{with_held};
     ghost use Rattle.sub_buffer.specs.Table.{OfferLeaves, PopLeaves, after_beat, more_held};
     ghost use Rattle.sub_buffer.specs.Follows.{HasPut, Follows, put_after, SettledOffer, OfferFollows, PopFollows};
     ghost use Rattle.sub_buffer.specs.Gaps.{GapOf, GapIs, StateOf, Wants, asked_for};
@@ -61,7 +80,8 @@ impl<A: Allocator> SubBuffer<A> {
         requires { origin ≢ me }
         ensures buffer { IfOk result (λ b. b ≡ new_buffer me origin) }
         ensures chain { IfOk result (λ b. HasPut [] b) }
-        ensures follows { IfOk result (λ b. (es : List EntryValue) → IsChain origin es → Follows es [] [] b × IsLongest [] es []) }
+        ensures follows { IfOk result (λ b. (es : List EntryValue) → IsChain origin es
+            → Follows es [] [] b × IsLongest [] es []) }
         ensures settled { IfOk result (λ b. IsSettled b) }
     {
         Ok(SubBuffer {
@@ -78,16 +98,20 @@ impl<A: Allocator> SubBuffer<A> {
     /// Offers an entry. `WrongOrigin` if it is of another origin. After `Ready`, and before the next offer, call
     /// `pop_ready` until it returns `None`: only then are the verdicts those of the log. `arrive` does both.
     pub fn offer(&mut self, entry: Entry<A>) -> Result<Verdict<A>, BufferError>
-        ensures refused { MatchResult result (λ v. entry.origin ≡ self.old.origin) (λ fault. (fault ≡ WrongOrigin) × (entry.origin ≢ self.old.origin) × (self.new ≡ self.old)) }
+        ensures refused { MatchResult result (λ v. entry.origin ≡ self.old.origin) (λ fault. (fault ≡ WrongOrigin)
+            × (entry.origin ≢ self.old.origin) × (self.new ≡ self.old)) }
         ensures table { IfOk result (λ v. OfferLeaves self.old entry v self.new) }
         ensures pair { SamePair self.old self.new }
-        ensures chain { IfOk result (λ v. (put : List EntryValue) → HasPut put self.old → HasPut (put_after put v) self.new) }
+        ensures chain { IfOk result (λ v. (put : List EntryValue) → HasPut put self.old
+            → HasPut (put_after put v) self.new) }
         ensures count { IfOk result (λ v. length self.new.held ≤ length self.old.held + more_held v) }
 
         // For an entry of the log es. The second part is for a put that is the longest prefix of what reached the
         // buffer.
-        ensures follows { (es set put : List EntryValue) → Contains es entry → Follows es set put self.old → OfferFollows es set put entry result self.new × (self.new.told ≡ max self.old.told (own entry)) }
-        ensures settled { (es set put : List EntryValue) → Contains es entry → Follows es set put self.old → IsLongest set es put → SettledOffer es set put entry result self.new }
+        ensures follows { (es set put : List EntryValue) → Contains es entry → Follows es set put self.old
+            → OfferFollows es set put entry result self.new × (self.new.told ≡ max self.old.told (own entry)) }
+        ensures settled { (es set put : List EntryValue) → Contains es entry → Follows es set put self.old
+            → IsLongest set es put → SettledOffer es set put entry result self.new }
     {
         if entry.origin() != self.origin {
             return Err(BufferError::WrongOrigin);
@@ -165,7 +189,8 @@ impl<A: Allocator> SubBuffer<A> {
         ensures table { PopLeaves self.old result self.new }
         ensures pair { SamePair self.old self.new }
         ensures chain { (put : List EntryValue) → HasPut put self.old → HasPut (put ++ option_to_list result) self.new }
-        ensures follows { (es set put : List EntryValue) → Follows es set put self.old → PopFollows es set put result self.new }
+        ensures follows { (es set put : List EntryValue) → Follows es set put self.old
+            → PopFollows es set put result self.new }
         ensures fewer { IfSome result (λ _. length self.new.held < length self.old.held) }
     {
         self.pop_next()
@@ -205,7 +230,9 @@ impl<A: Allocator> SubBuffer<A> {
     /// `Buffering` if there is a gap.
     pub fn state(&self) -> State
         ensures table { (gap : Option QueryValue) × GapOf self.now gap × StateOf gap result }
-        ensures gap { (es set put : List EntryValue) → Follows es set put self.now → IsLongest set es put → (gap : Option QueryValue) × GapIs self.now.me self.now.origin set put self.now.told gap × StateOf gap result }
+        ensures gap { (es set put : List EntryValue) → Follows es set put self.now → IsLongest set es put
+            → (gap : Option QueryValue) × GapIs self.now.me self.now.origin set put self.now.told gap
+            × StateOf gap result }
     {
         if self.missing().is_some() {
             State::Buffering
@@ -217,7 +244,8 @@ impl<A: Allocator> SubBuffer<A> {
     /// The first gap, as a query to the origin; None if no number is known to be missing.
     pub fn gap(&self) -> Option<Query>
         ensures table { GapOf self.now result }
-        ensures gap { (es set put : List EntryValue) → Follows es set put self.now → IsLongest set es put → GapIs self.now.me self.now.origin set put self.now.told result }
+        ensures gap { (es set put : List EntryValue) → Follows es set put self.now → IsLongest set es put
+            → GapIs self.now.me self.now.origin set put self.now.told result }
     {
         self.missing()
     }
@@ -240,8 +268,11 @@ impl<A: Allocator> SubBuffer<A> {
 
     /// The gap, if it differs from the one that was asked for last. From then on it counts as asked for.
     pub fn want(&mut self) -> Option<Query>
-        ensures table { (gap : Option QueryValue) × GapOf self.old gap × Wants gap self.old.asked result × (self.new ≡ asked_for self.old result) }
-        ensures gap { (es set put : List EntryValue) → Follows es set put self.old → IsLongest set es put → (gap : Option QueryValue) × GapIs self.old.me self.old.origin set put self.old.told gap × Wants gap self.old.asked result }
+        ensures table { (gap : Option QueryValue) × GapOf self.old gap × Wants gap self.old.asked result
+            × (self.new ≡ asked_for self.old result) }
+        ensures gap { (es set put : List EntryValue) → Follows es set put self.old → IsLongest set es put
+            → (gap : Option QueryValue) × GapIs self.old.me self.old.origin set put self.old.told gap
+            × Wants gap self.old.asked result }
         ensures pair { SamePair self.old self.new }
         ensures settled { IsSettled self.old → IsSettled self.new }
         ensures chain { (put : List EntryValue) → HasPut put self.old → HasPut put self.new }
@@ -284,7 +315,8 @@ impl<A: Allocator> SubBuffer<A> {
     /// The gap, even if it was asked for last. From then on it counts as asked for.
     pub fn want_again(&mut self) -> Option<Query>
         ensures table { GapOf self.old result × (self.new ≡ asked_for self.old result) }
-        ensures gap { (es set put : List EntryValue) → Follows es set put self.old → IsLongest set es put → GapIs self.old.me self.old.origin set put self.old.told result }
+        ensures gap { (es set put : List EntryValue) → Follows es set put self.old → IsLongest set es put
+            → GapIs self.old.me self.old.origin set put self.old.told result }
         ensures pair { SamePair self.old self.new }
         ensures settled { IsSettled self.old → IsSettled self.new }
         ensures chain { (put : List EntryValue) → HasPut put self.old → HasPut put self.new }

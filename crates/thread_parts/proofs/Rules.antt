@@ -1,5 +1,6 @@
 -- Each operation preserves the rule of a lane.
-use Rattle.std.proofs.Common.{◌≡◌, ◌≢◌, ℕ, zero, suc, Bool, true, false, true≢false, List, [], ◌∷◌, ◌++◌, length, set, sym, refl, ap, ◌∙◌, subst, ⊎_elim, append_assoc}
+use Rattle.std.proofs.Common.{◌≡◌, ◌≢◌, ℕ, zero, suc, Bool, true, false, true≢false, List, [], ◌∷◌, ◌++◌, length, set}
+use Rattle.std.proofs.Common.{sym, refl, ap, ◌∙◌, subst, ⊎_elim, append_assoc}
 use mathlib.Core.Option.{some, some-ne-none}
 use lib.ListN.{get_elem?}
 use Rattle.atomic_table.proofs.Lists.{at_set, at_snoc}
@@ -19,7 +20,8 @@ module _ {A : Type 0} where
   Each F views = (pass : ℕ) (v : Hand A) → get_elem? views pass ≡ some v → F pass v
 
   -- the index just past the end is that of an appended item
-  at_end : (views : List (Hand A)) (v w : Hand A) (j : ℕ) → get_elem? views j ≢ some w → get_elem? (views ++ v ∷ []) j ≡ some w → j ≡ length views
+  at_end : (views : List (Hand A)) (v w : Hand A) (j : ℕ) → get_elem? views j ≢ some w
+      → get_elem? (views ++ v ∷ []) j ≡ some w → j ≡ length views
   at_end [] v w zero apart is = refl
   at_end [] v w (suc j) apart is = absurd (some-ne-none w (sym is))
   at_end (u ∷ us) v w zero apart is = absurd (apart is)
@@ -44,7 +46,8 @@ module _ {A : Type 0} where
             (λ j u other is. absurd (other (at_end [] first u j (λ x. some-ne-none u (sym x)) is))),
       )
 
-  pub sends : (n pass : ℕ) (v : Hand A) (x : Item A) → v.puts ≡ true → IsItemChain (v.put ++ x ∷ []) → Pushes IsInOrder n pass v x (Sends v x)
+  pub sends : (n pass : ℕ) (v : Hand A) (x : Item A) → v.puts ≡ true → IsItemChain (v.put ++ x ∷ [])
+      → Pushes IsInOrder n pass v x (Sends v x)
   sends n pass v x may chain items views room h at =
       let w : Hand A = hand v.puts v.takes (v.put ++ x ∷ []) v.taken in
       let mine = h.6 pass v at in
@@ -85,7 +88,8 @@ module _ {A : Type 0} where
         (refl, subst IsItemChain (sym taken_is) (front_chain taken items (subst IsItemChain put_is h.5))),
       )
 
-  pub forks : (pass : ℕ) (v : Hand A) → v.puts ≡ true → v.takes ≡ true → Forks IsInOrder pass v (hand true false v.put []) (hand false true [] v.taken)
+  pub forks : (pass : ℕ) (v : Hand A) → v.puts ≡ true → v.takes ≡ true
+      → Forks IsInOrder pass v (hand true false v.put []) (hand false true [] v.taken)
   forks pass v puts takes items views h at =
       let left : Hand A = hand true false v.put [] in
       let right : Hand A = hand false true [] v.taken in
@@ -103,7 +107,11 @@ module _ {A : Type 0} where
         λ j u is. ⊎_elim (λ x. ((old j u x).0, λ p. absurd ((old j u x).1 p)))
             (λ (same : right ≡ u). (
               (λ p. absurd (no_hand u.puts (sym (ap (λ (y : Hand A). y.puts) same)) p)),
-              λ p. (at_end vs right u j (λ x. (old j u x).1 p) is, ap (λ (y : Hand A). y.taken) (sym same) ∙ (mine.1 takes).1),
+              λ p. (
+                at_end vs right u j (λ x. (old j u x).1 p) is,
+                ap (λ (y : Hand A). y.taken) (sym same)
+                    ∙ (mine.1 takes).1,
+              ),
             )) (at_snoc vs right u j is),
       )
 
@@ -113,7 +121,8 @@ module _ {A : Type 0} where
       let both : Hand A = hand true true v.put u.taken in
       let mine = h.6 pass v at in
       let vs : List (Hand A) = set views pass both in
-      let was : get_elem? views other ≡ some u = ⊎_elim (λ x. absurd (two x.0)) (λ x. x.1) (at_set views pass other both u at_other) in
+      let was : get_elem? views other ≡ some u
+      = ⊎_elim (λ x. absurd (two x.0)) (λ x. x.1) (at_set views pass other both u at_other) in
       let theirs = (h.6 other u was).1 takes in
       let Now : ℕ → Hand A → Type 0 = λ j y. j ≢ other → Fits h.0 pass h.2 h.3 j y in
       let now : Each Now vs = each_set Now views pass both (λ _. ((λ _. mine.0 puts), λ _. (refl, theirs.1)))
@@ -124,7 +133,10 @@ module _ {A : Type 0} where
         h.3,
         h.4,
         h.5,
-        each_set (Fits h.0 pass h.2 h.3) vs other (hand false false [] []) ((λ p. absurd (no_hand false refl p)), λ p. absurd (no_hand false refl p))
+        each_set (Fits h.0 pass h.2 h.3) vs other (hand false false [] []) (
+          (λ p. absurd (no_hand false refl p)),
+          λ p. absurd (no_hand false refl p),
+        )
             (λ j y apart is. now j y is apart),
       )
 

@@ -24,7 +24,8 @@ module _ {A : Type 0} where
 
   -- a chain of entries, and at most one End, last
   abbrev pub IsItemChain : List (Item A) → Type 0
-  IsItemChain items = (o : ℕ) × (es : List EntryValue) × (ended : Bool) × IsChain o es × (items ≡ items_of es ++ end_if ended)
+  IsItemChain items = (o : ℕ) × (es : List EntryValue) × (ended : Bool) × IsChain o es
+      × (items ≡ items_of es ++ end_if ended)
 
   -- the entry continues the chain of these items, all of which are entries, and none of which closes it
   abbrev pub Continues : List (Item A) → EntryValue → Type 0

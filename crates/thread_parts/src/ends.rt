@@ -1,7 +1,9 @@
 //! The two ends of a lane.
-ghost use Rattle.std.specs.Prelude.{◌≡◌, ◌≤◌, [], ◌∷◌, ◌++◌, true, false, Some, None, IfOk, OnOk, OnErr, IsErr, IsNone, IfSome, IfNone, OnSome, MatchResult, IfErr};
+ghost use Rattle.std.specs.Prelude.{◌≡◌, ◌≤◌, [], ◌∷◌, ◌++◌, true, false, Some, None, IfOk, OnOk, OnErr, IsErr, IsNone};
+ghost use Rattle.std.specs.Prelude.{IfSome, IfNone, OnSome, MatchResult, IfErr};
 ghost use Rattle.rights_types.specs.Entries.{EntryValue};
-ghost use Rattle.thread_parts.specs.Items.{MayBeFirst, Continues, Precedes, MayCome, IsOpen, IsItemChain, IsEnded, Leaves};
+ghost use Rattle.thread_parts.specs.Items.{MayBeFirst, Continues, Precedes, MayCome, IsOpen, IsItemChain, IsEnded};
+ghost use Rattle.thread_parts.specs.Items.{Leaves};
 ghost use Rattle.thread_parts.specs.declared.item.Item.{Item};
 
 use crate::item::Item;
@@ -40,9 +42,14 @@ impl<A: Allocator> Model for Inlet<A> {
 
     ghost Value = { InletValue A };
 
-    ghost view = { λ i. record { lane = lane_of (ruled_capacity (sends_on i.sender)) i.pass; put = (hand_of i.pass).put; dead = i.dead } };
+    ghost view = { λ i. record {
+      lane = lane_of (ruled_capacity (sends_on i.sender)) i.pass;
+      put = (hand_of i.pass).put;
+      dead = i.dead;
+    } };
 
-    ghost invariant = { λ i. IsSeatAt (sends_on i.sender) i.pass × (hand_of i.pass ≡ hand true false (hand_of i.pass).put []) × IsItemChain (hand_of i.pass).put };
+    ghost invariant = { λ i. IsSeatAt (sends_on i.sender) i.pass
+        × (hand_of i.pass ≡ hand true false (hand_of i.pass).put []) × IsItemChain (hand_of i.pass).put };
 }
 
 /// The end of a lane that takes items.
@@ -63,9 +70,14 @@ impl<A: Allocator> Model for Outlet<A> {
 
     ghost Value = { OutletValue A };
 
-    ghost view = { λ o. record { lane = lane_of (ruled_capacity (receives_on o.receiver)) o.pass; taken = (hand_of o.pass).taken; dead = o.dead } };
+    ghost view = { λ o. record {
+      lane = lane_of (ruled_capacity (receives_on o.receiver)) o.pass;
+      taken = (hand_of o.pass).taken;
+      dead = o.dead;
+    } };
 
-    ghost invariant = { λ o. IsSeatAt (receives_on o.receiver) o.pass × (hand_of o.pass ≡ hand false true [] (hand_of o.pass).taken) × IsItemChain (hand_of o.pass).taken };
+    ghost invariant = { λ o. IsSeatAt (receives_on o.receiver) o.pass
+        × (hand_of o.pass ≡ hand false true [] (hand_of o.pass).taken) × IsItemChain (hand_of o.pass).taken };
 }
 
 /// The two ends of a new lane, which holds at most `capacity` items, 1 to `MAX_LANE`. Its memory is requested here;
@@ -112,7 +124,8 @@ impl<A: Allocator> Inlet<A> {
         ensures ok { OnOk result ((self.new.put ≡ self.old.put ++ Item.Entry entry ∷ []) × (self.new.dead ≡ false)) }
         ensures open { OnOk result (IsOpen self.new.put) }
         ensures next { OnOk result ((f : EntryValue) → Precedes entry f → Continues self.new.put f) }
-        ensures err { IfErr result (λ e. (e.entry ≡ Some entry) × (self.new.put ≡ self.old.put) × (self.new.dead ≡ true)) }
+        ensures err { IfErr result (λ e. (e.entry ≡ Some entry) × (self.new.put ≡ self.old.put)
+            × (self.new.dead ≡ true)) }
         ensures dead { self.old.dead ≡ true → IsErr result }
     {
         match self.send(rt, Item::Entry(entry)) {
@@ -168,7 +181,8 @@ impl<A: Allocator> Outlet<A> {
         ensures chain { OnOk result (IsItemChain self.new.taken) }
         ensures continues { IfOk result (λ x. MayCome x self.old.taken) }
         ensures next { IfOk result (λ x. Leaves x self.new.taken) }
-        ensures err { IfErr result (λ e. (e.entry ≡ None) × (self.new.taken ≡ self.old.taken) × (self.new.dead ≡ true)) }
+        ensures err { IfErr result (λ e. (e.entry ≡ None) × (self.new.taken ≡ self.old.taken)
+            × (self.new.dead ≡ true)) }
         ensures dead { self.old.dead ≡ true → IsErr result }
     {
         match self.receive(rt) {

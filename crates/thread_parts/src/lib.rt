@@ -1,5 +1,5 @@
-//! What the threads of a site share besides its desk: a lane, over which the entries of one log go in order; a counter, a
-//! sum that each of them adds to; and a view, a snapshot of a desk.
+//! What the threads of a site share besides its desk: a lane, over which the entries of one log go in order; a counter,
+//! a sum that each of them adds to; and a view, a snapshot of a desk.
 #![tactic(auto)]
 
 mod ends;

@@ -75,7 +75,9 @@ impl<L: Ledger> ShardedCounter<L> {
 
     /// A new shard, which has added 0. `None` if the counter has no shard left.
     pub fn split(&mut self) -> Option<Shard<L>>
-        ensures some { IfSome result (λ p. (p ≡ 0) × (self.new ≡ record { sum = self.old.sum; left = self.new.left; returned = self.old.returned }) × (self.new.left + 1 ≡ self.old.left)) }
+        ensures some { IfSome result (λ p. (p ≡ 0)
+            × (self.new ≡ record { sum = self.old.sum; left = self.new.left; returned = self.old.returned })
+            × (self.new.left + 1 ≡ self.old.left)) }
         ensures none { IfNone result ((self.old.left ≡ 0) × (self.new ≡ self.old)) }
     {
         if self.left == 0 {
@@ -89,7 +91,11 @@ impl<L: Ledger> ShardedCounter<L> {
     /// Adds to the sum, and to what the shard added.
     pub fn add(&mut self, shard: &mut Shard<L>, amount: u64)
         requires { self.old.sum + amount < 2 ^ 64 }
-        ensures sum { self.new ≡ record { sum = self.old.sum + amount; left = self.old.left; returned = self.old.returned } }
+        ensures sum { self.new ≡ record {
+          sum = self.old.sum + amount;
+          left = self.old.left;
+          returned = self.old.returned;
+        } }
         ensures added { shard.new ≡ shard.old + amount }
         ensures within { shard.new ≤ self.new.sum }
     {
@@ -103,7 +109,11 @@ impl<L: Ledger> ShardedCounter<L> {
     pub fn collect(&mut self, shard: Shard<L>) -> u64
         requires { self.old.left + 1 < 2 ^ 64 }
         ensures added { result ≡ shard }
-        ensures sum { self.new ≡ record { sum = self.old.sum; left = self.old.left + 1; returned = self.old.returned + shard } }
+        ensures sum { self.new ≡ record {
+          sum = self.old.sum;
+          left = self.old.left + 1;
+          returned = self.old.returned + shard;
+        } }
         ensures within { self.new.returned ≤ self.new.sum }
     {
         let Shard { added, share } = shard;

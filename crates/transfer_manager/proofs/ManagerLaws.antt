@@ -1,13 +1,16 @@
 -- What holds of every manager.
-use Rattle.std.proofs.Common.{◌≡◌, ℕ, ◌+◌, ◌<◌, ◌≤◌, Bool, true, false, cond, eqb, List, length, take, get_or, set, inl, inr, refl, sym, ap, ◌∙◌, subst, arith}
+use Rattle.std.proofs.Common.{◌≡◌, ℕ, ◌+◌, ◌<◌, ◌≤◌, Bool, true, false, cond, eqb, List, length, take, get_or, set, inl}
+use Rattle.std.proofs.Common.{inr, refl, sym, ap, ◌∙◌, subst, arith}
 use Rattle.std.specs.Prelude.{replicate, None}
 use Rattle.std.proofs.Math.Seq.{take-set-lt}
 use Rattle.std.proofs.lemmas.List.{length-replicate, length-take, take-replicate, get_or-take, get_or_default}
 use Rattle.std.proofs.lemmas.Bool.{ne_eqb}
 use Rattle.rights_types.specs.Places.{at_site}
-use Rattle.rights_types.proofs.Places.{at_site-index, set_site-index, at_site-replicate, at_set_site, length-set_site, set_site_keeps}
+use Rattle.rights_types.proofs.Places.{at_site-index, set_site-index, at_site-replicate, at_set_site, length-set_site}
+use Rattle.rights_types.proofs.Places.{set_site_keeps}
 use Rattle.transfer_manager.specs.declared.peer_asks.PeerAsks.{PeerAsks}
-use Rattle.transfer_manager.specs.Managers.{ManagerValue, sites, asks, no_asks, with_asks, new_manager, with_ask, with_asked, with_ended, ended, IsPeerAsks, IsManager}
+use Rattle.transfer_manager.specs.Managers.{ManagerValue, sites, asks, no_asks, with_asks, new_manager, with_ask}
+use Rattle.transfer_manager.specs.Managers.{with_asked, with_ended, ended, IsPeerAsks, IsManager}
 
 pub no_asks_is : IsPeerAsks no_asks
 no_asks_is = record { numbers = omega arith; asked = tt }
@@ -51,12 +54,14 @@ ends_is : (b : Bool) (p : PeerAsks) → IsPeerAsks p → IsPeerAsks (cond b (wit
 ends_is true p is = record { numbers = is.numbers; asked = tt }
 ends_is false p is = is
 
-ends_none : (b : Bool) (p : PeerAsks) → p.outstanding ≡ None → (let q : PeerAsks = cond b (without p) p in q.outstanding ≡ None)
+ends_none : (b : Bool) (p : PeerAsks) → p.outstanding ≡ None
+    → (let q : PeerAsks = cond b (without p) p in q.outstanding ≡ None)
 ends_none true p h = refl
 ends_none false p h = h
 
 -- an ask that ended
-pub ended_is : (m new : ManagerValue) (j ask : ℕ) → new ≡ ended m j ask → IsManager m → 1 ≤ j → j ≤ sites m → IsManager new
+pub ended_is : (m new : ManagerValue) (j ask : ℕ) → new ≡ ended m j ask → IsManager m → 1 ≤ j → j ≤ sites m
+    → IsManager new
 ended_is m new j ask same is low high =
     let p : PeerAsks = asks m j in
     rw same (with_asks_is m j (with_ended p ask) is low high (ends_is (eqb p.last_ask ask) p (is.each j)) (λ e.
@@ -71,7 +76,8 @@ index_inside : (n i j : ℕ) (ps : List PeerAsks) → i + 1 ≡ j → j ≤ leng
 index_inside n i j ps at high = omega (arith, at, high, length-take n ps)
 
 -- the asks at the index of site j
-asks_read : (me n i j : ℕ) (ps : List PeerAsks) (d : PeerAsks) → i + 1 ≡ j → j ≤ length (take n ps) → get_or ps i d ≡ asks (front me n ps) j
+asks_read : (me n i j : ℕ) (ps : List PeerAsks) (d : PeerAsks) → i + 1 ≡ j → j ≤ length (take n ps)
+    → get_or ps i d ≡ asks (front me n ps) j
 asks_read me n i j ps d at high =
     sym (get_or-take n ps i d (index_inside n i j ps at high)) ∙ get_or_default (take n ps) i d no_asks (omega arith)
     ∙ sym (at_site-index (take n ps) i j no_asks at)
@@ -81,30 +87,37 @@ asks_set : (me n i j : ℕ) (ps : List PeerAsks) (p q : PeerAsks) → i + 1 ≡ 
     → front me n (set ps i p) ≡ with_asks (front me n ps) j q
 asks_set me n i j ps p q at high is =
     let made : List PeerAsks → ManagerValue = λ xs. record { me = me; peers = xs } in
-    ap made (take-set-lt n ps i p (index_inside n i j ps at high)) ∙ ap made (sym (set_site-index (take n ps) i j p at)) ∙ ap (with_asks (front me n ps) j) is
+    ap made (take-set-lt n ps i p (index_inside n i j ps at high)) ∙ ap made (sym (set_site-index (take n ps) i j p at))
+    ∙ ap (with_asks (front me n ps) j) is
 
 -- an ask ended at the index of site j
 pub ended_set : (me n i j ask : ℕ) (ps : List PeerAsks) (d p : PeerAsks) → i + 1 ≡ j → j ≤ length (take n ps)
     → p ≡ with_ended (get_or ps i d) ask → front me n (set ps i p) ≡ ended (front me n ps) j ask
 ended_set me n i j ask ps d p at high ends =
-    asks_set me n i j ps p (with_ended (asks (front me n ps) j) ask) at high (ends ∙ ap (λ q. with_ended q ask) (asks_read me n i j ps d at high))
+    asks_set me n i j ps p (with_ended (asks (front me n ps) j) ask) at high (ends
+    ∙ ap (λ q. with_ended q ask) (asks_read me n i j ps d at high))
 
 -- an answer noted there
 abbrev pub answered : PeerAsks → ℕ → Bool → PeerAsks
 answered p n g = record p { last_answered = n; granted = g }
 
-pub answered_set : (me n i j number k : ℕ) (g : Bool) (ps : List PeerAsks) (d : PeerAsks) → i + 1 ≡ j → j ≤ length (take n ps) → number ≡ k
-    → front me n (set ps i (answered (get_or ps i d) number g)) ≡ with_asks (front me n ps) j (answered (asks (front me n ps) j) k g)
+pub answered_set : (me n i j number k : ℕ) (g : Bool) (ps : List PeerAsks) (d : PeerAsks) → i + 1 ≡ j
+    → j ≤ length (take n ps) → number ≡ k
+    → front me n (set ps i (answered (get_or ps i d) number g))
+    ≡ with_asks (front me n ps) j (answered (asks (front me n ps) j) k g)
 answered_set me n i j number k g ps d at high same =
     let old : PeerAsks = asks (front me n ps) j in
-    asks_set me n i j ps (answered (get_or ps i d) number g) (answered old k g) at high (ap (λ (p : PeerAsks). answered p number g) (asks_read me n i j ps d at high)
+    asks_set me n i j ps (answered (get_or ps i d) number g) (answered old k g) at high
+    (ap (λ (p : PeerAsks). answered p number g) (asks_read me n i j ps d at high)
     ∙ ap (λ (l : ℕ). answered old l g) same)
 
-pub answered_is : (m new : ManagerValue) (j n : ℕ) (g : Bool) → new ≡ with_asks m j (answered (asks m j) n g) → IsManager m → 1 ≤ j → j ≤ sites m
+pub answered_is : (m new : ManagerValue) (j n : ℕ) (g : Bool) → new ≡ with_asks m j (answered (asks m j) n g)
+    → IsManager m → 1 ≤ j → j ≤ sites m
     → IsManager new
 answered_is m new j n g same is low high =
     let p : PeerAsks = asks m j in
-    rw same (with_asks_is m j (answered p n g) is low high (record { numbers = (is.each j).numbers; asked = (is.each j).asked })
+    rw same (with_asks_is m j (answered p n g) is low high
+    (record { numbers = (is.each j).numbers; asked = (is.each j).asked })
     (λ e. subst (λ k. (asks m k).outstanding ≡ None) (sym e) is.none_own))
 
 pub with_asked_none : (p : PeerAsks) (n : ℕ) → n ≡ 0 → with_asked p n ≡ p

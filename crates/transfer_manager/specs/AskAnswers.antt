@@ -19,7 +19,8 @@ answer_to m ask available =
 
 -- the asks once this ask was answered, by a grant or not
 abbrev pub with_answer : ManagerValue → AskValue → Bool → ManagerValue
-with_answer m ask granted = with_asks m ask.asker (record (asks m ask.asker) { last_answered = ask.ask; granted = granted })
+with_answer m ask granted
+    = with_asks m ask.asker (record (asks m ask.asker) { last_answered = ask.ask; granted = granted })
 
 -- the asks after this answer was recorded
 abbrev pub noted : ManagerValue → AskValue → AskAnswer → ManagerValue
@@ -46,4 +47,5 @@ IsLate _ = Unit {0}
 
 -- whatever is available, no ask of this asker with this number or a smaller one is ever granted again
 abbrev pub IsAnswered : ManagerValue → AskValue → Type 0
-IsAnswered m ask = (again : AskValue) (available : ℕ) → again.asker ≡ ask.asker → again.ask ≤ ask.ask → IsLate (answer_to m again available)
+IsAnswered m ask = (again : AskValue) (available : ℕ) → again.asker ≡ ask.asker → again.ask ≤ ask.ask
+    → IsLate (answer_to m again available)

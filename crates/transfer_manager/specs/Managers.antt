@@ -1,5 +1,6 @@
 -- The asks between one site and each other, as plain data.
-use Rattle.std.specs.Prelude.{◌≡◌, ℕ, ◌+◌, ◌≤◌, false, ◌==◌, List, length, replicate, Option, Some, None, IfSome, option_map, if◌then◌else◌}
+use Rattle.std.specs.Prelude.{◌≡◌, ℕ, ◌+◌, ◌≤◌, false, ◌==◌, List, length, replicate, Option, Some, None, IfSome}
+use Rattle.std.specs.Prelude.{option_map, if◌then◌else◌}
 use Rattle.rights_types.specs.declared.limits.TheConstants.{MIN_SITES, MAX_SITES, MAX_ASK}
 use Rattle.rights_types.specs.Ranges.{IsAmount}
 use Rattle.rights_types.specs.Messages.{AskValue}

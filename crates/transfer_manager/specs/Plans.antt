@@ -1,5 +1,6 @@
 -- What a site asks of each peer.
-use Rattle.std.specs.Prelude.{◌≡◌, ℕ, ◌-◌, ◌≤◌, min, Bool, not, is_none, nat_lt, ◌==◌, ◌&&◌, ◌||◌, None, List, ℤ, pos, negsuc, if◌then◌else◌}
+use Rattle.std.specs.Prelude.{◌≡◌, ℕ, ◌-◌, ◌≤◌, min, Bool, not, is_none, nat_lt, ◌==◌, ◌&&◌, ◌||◌, None, List, ℤ, pos}
+use Rattle.std.specs.Prelude.{negsuc, if◌then◌else◌}
 use Rattle.rights_types.specs.declared.limits.TheConstants.{MAX_AMOUNT, MAX_ASK}
 use Rattle.rights_types.specs.Entries.{EntryValue}
 use Rattle.rights_types.specs.Chains.{is_closed}
@@ -23,7 +24,8 @@ of_book b = record { known = known_by b; closed = λ j. (account b j).closed; he
 -- .. according to the logs that site me of n sites has: its own, and of each other one what it applied
 abbrev pub of_logs : ℕ → ℕ → List EntryValue → (ℕ → List EntryValue) → Knowledge
 of_logs n me log applied =
-    let logs = logs_at me log applied in record { known = λ j. known n j logs; closed = λ j. is_closed (logs j); held = held n me log applied }
+    let logs = logs_at me log applied in
+    record { known = λ j. known n j logs; closed = λ j. is_closed (logs j); held = held n me log applied }
 
 -- without the outstanding ask, if site j is known to have closed
 abbrev pub without_closed : Knowledge → ℕ → PeerAsks → PeerAsks
@@ -44,7 +46,8 @@ above_zero (negsuc n) = 0
 -- site j, with these asks, is eligible: it is not me, has no ask outstanding, is not known to have closed, has an ask
 -- number left, and is known to have rights
 abbrev pub is_eligible : ℕ → Knowledge → ℕ → PeerAsks → Bool
-is_eligible me k j p = not (j == me) && is_none p.outstanding && not (k.closed j) && nat_lt p.last_ask MAX_ASK && nat_lt 0 (above_zero (k.known j))
+is_eligible me k j p = not (j == me) && is_none p.outstanding && not (k.closed j) && nat_lt p.last_ask MAX_ASK && nat_lt
+    0 (above_zero (k.known j))
 
 -- the rights that an eligible site is known to have; 0 for any other site
 abbrev pub eligible_rights : ℕ → Knowledge → ℕ → PeerAsks → ℕ

@@ -69,7 +69,8 @@ impl Manager {
         ensures plans { Plans self.old (of_book book.now) (total_of queue.now.waiting) result self.new }
         ensures plans_by_logs { (log : List EntryValue) (applied : ℕ → List EntryValue) → StandsFor log applied book.now
             → book_sites book.now ≡ sites self.old
-            → Plans self.old (of_logs (sites self.old) book.now.me log applied) (total_of queue.now.waiting) result self.new }
+            → Plans self.old (of_logs (sites self.old) book.now.me log applied)
+            (total_of queue.now.waiting) result self.new }
         ensures answered { (past : AskValue) → IsAnswered self.old past → IsAnswered self.new past }
         ensures range { result ≤ MAX_SITES }
     {

@@ -5,7 +5,8 @@ ghost use Rattle.rights_types.specs.Rights.{sum_sites};
 ghost use Rattle.rights_book.specs.Books.{IsBook, held_by};
 ghost use Rattle.request_queue.specs.Queues.{total_of};
 ghost use Rattle.transfer_manager.specs.Managers.{no_asks, amount_of, with_asked, IsPeerAsks};
-ghost use Rattle.transfer_manager.specs.Plans.{of_book, without_closed, eligible_rights, rights_before, amount_asked, count_asked};
+ghost use Rattle.transfer_manager.specs.Plans.{of_book, without_closed, eligible_rights, rights_before, amount_asked};
+ghost use Rattle.transfer_manager.specs.Plans.{count_asked};
 
 use crate::peer_asks::PeerAsks;
 use request_queue::RequestQueue;
@@ -74,8 +75,10 @@ pub(crate) fn ask_each(peers: &mut [PeerAsks], rights: &[u128], need: u64) -> u6
     requires bounded { (j : ℕ) → at_site rights.now j 0 ≤ MAX_KNOWN }
     requires numbers { (j : ℕ) → 0 < at_site rights.now j 0 → (at_site peers.old j no_asks).last_ask < MAX_ASK }
     ensures each { (j : ℕ) → 1 ≤ j → j ≤ length peers.old → at_site peers.new j no_asks
-        ≡ with_asked (at_site peers.old j no_asks) (amount_asked (length peers.old) (λ i. at_site rights.now i 0) need j) }
-    ensures count { result ≡ count_asked (length peers.old) (amount_asked (length peers.old) (λ i. at_site rights.now i 0) need) }
+        ≡ with_asked (at_site peers.old j no_asks)
+        (amount_asked (length peers.old) (λ i. at_site rights.now i 0) need j) }
+    ensures count { result ≡ count_asked (length peers.old)
+        (amount_asked (length peers.old) (λ i. at_site rights.now i 0) need) }
 {
     let mut count = 0;
     for place in 0..peers.len() {

@@ -1,5 +1,6 @@
 -- The values of a line's words, and lines that are too long.
-use Rattle.std.proofs.Common.{◌≡◌, ◌==◌, ℕ, ◌<◌, List, [], ◌∷◌, ◌++◌, length, true, Option, Some, None, Result, Ok, Err, OnErr, refl, sym, ap, ◌∙◌, arith, take, ◌-◌, ◌≤◌, length-append, append_assoc, append-nil}
+use Rattle.std.proofs.Common.{◌≡◌, ◌==◌, ℕ, ◌<◌, List, [], ◌∷◌, ◌++◌, length, true, Option, Some, None, Result, Ok, Err}
+use Rattle.std.proofs.Common.{OnErr, refl, sym, ap, ◌∙◌, arith, take, ◌-◌, ◌≤◌, length-append, append_assoc, append-nil}
 use Rattle.std.proofs.lemmas.Bool.{le-leb, lt-leb}
 use Rattle.std.proofs.lemmas.List.{take_at}
 use Rattle.std.specs.Option.{option_map}

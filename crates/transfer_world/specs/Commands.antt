@@ -1,20 +1,30 @@
 -- The command of a line: its words, parted at each single space, and what they spell.
-use Rattle.std.specs.Prelude.{◌≡◌, ℕ, ◌-◌, Bool, true, false, nat_le, List, [], ◌∷◌, ◌++◌, length, take, Option, Some, None, if◌then◌else◌, codes}
+use Rattle.std.specs.Prelude.{◌≡◌, ℕ, ◌-◌, Bool, true, false, nat_le, List, [], ◌∷◌, ◌++◌, length, take, Option, Some}
+use Rattle.std.specs.Prelude.{None, if◌then◌else◌, codes}
 use Rattle.std.specs.List.{join_with_byte}
 use Rattle.std.specs.Option.{option_map}
 use Rattle.std.specs.Borrow.{Bor}
 use Rattle.rights_types.specs.declared.moves.Move.{Move}
 use Rattle.rights_types.specs.declared.limits.TheConstants.{MIN_SITES, MAX_SITES, MAX_LINE}
 use Rattle.entry_codec.specs.Moves.{◌>>=◌, only_number as only_in, move_of}
-use Rattle.line_streams.specs.Words.{words_of, named, alone, first_site, first_number, only_site, only_number, optional_site, site_and_number}
+use Rattle.line_streams.specs.Words.{words_of, named, alone, first_site, first_number, only_site, only_number}
+use Rattle.line_streams.specs.Words.{optional_site, site_and_number}
 use Rattle.world_core.specs.declared.event.Event.{Event}
-use Rattle.world_core.specs.declared.event.Event.TheVariants.{Post, Issue, Give, Spend, Serve, Expire, Status, Plan, Ask, Publish, Beat, Query, Arrive, Noise, Take, Close}
+use Rattle.world_core.specs.declared.event.Event.TheVariants.{Post, Issue, Give, Spend, Serve, Expire, Status, Plan}
+use Rattle.world_core.specs.declared.event.Event.TheVariants.{Ask, Publish, Beat, Query, Arrive, Noise, Take, Close}
 use Rattle.transfer_world.specs.declared.script.word.SiteWord.{SiteWord}
-use Rattle.transfer_world.specs.declared.script.word.SiteWord.TheVariants.{Issue as SaysIssue, Give as SaysGive, Spend as SaysSpend, Serve as SaysServe, Expire as SaysExpire, Status as SaysStatus, Plan as SaysPlan, Arrive as SaysArrive, Close as SaysClose}
+use Rattle.transfer_world.specs.declared.script.word.SiteWord.TheVariants.{Issue as SaysIssue, Give as SaysGive}
+use Rattle.transfer_world.specs.declared.script.word.SiteWord.TheVariants.{Spend as SaysSpend, Serve as SaysServe}
+use Rattle.transfer_world.specs.declared.script.word.SiteWord.TheVariants.{Expire as SaysExpire, Status as SaysStatus}
+use Rattle.transfer_world.specs.declared.script.word.SiteWord.TheVariants.{Plan as SaysPlan, Arrive as SaysArrive}
+use Rattle.transfer_world.specs.declared.script.word.SiteWord.TheVariants.{Close as SaysClose}
 use Rattle.transfer_world.specs.declared.script.word.LinkWord.{LinkWord}
-use Rattle.transfer_world.specs.declared.script.word.LinkWord.TheVariants.{Ask as SaysAsk, Publish as SaysPublish, Beat as SaysBeat, Query as SaysQuery, Requery as SaysRequery, Take as SaysTake}
+use Rattle.transfer_world.specs.declared.script.word.LinkWord.TheVariants.{Ask as SaysAsk, Publish as SaysPublish}
+use Rattle.transfer_world.specs.declared.script.word.LinkWord.TheVariants.{Beat as SaysBeat, Query as SaysQuery}
+use Rattle.transfer_world.specs.declared.script.word.LinkWord.TheVariants.{Requery as SaysRequery, Take as SaysTake}
 use Rattle.transfer_world.specs.declared.script.word.Word.{Word}
-use Rattle.transfer_world.specs.declared.script.word.Word.TheVariants.{Sites as SaysSites, Post as SaysPost, AtSite, OnLink, Noise as SaysNoise, Report as SaysReport}
+use Rattle.transfer_world.specs.declared.script.word.Word.TheVariants.{Sites as SaysSites, Post as SaysPost, AtSite}
+use Rattle.transfer_world.specs.declared.script.word.Word.TheVariants.{OnLink, Noise as SaysNoise, Report as SaysReport}
 use Rattle.transfer_world.specs.declared.script.commands.ScriptCommand.{ScriptCommand}
 use Rattle.transfer_world.specs.declared.script.commands.ScriptCommand.TheVariants.{Sites, Act, Report}
 

@@ -1,5 +1,6 @@
 -- The text of each reply, without the line feed at its end.
-use Rattle.std.specs.Prelude.{ℕ, ◌-◌, ◌==◌, Bool, List, [], ◌∷◌, ◌++◌, length, take, Option, Some, None, Result, Ok, Err, if◌then◌else◌, decimal, codes}
+use Rattle.std.specs.Prelude.{ℕ, ◌-◌, ◌==◌, Bool, List, [], ◌∷◌, ◌++◌, length, take, Option, Some, None, Result, Ok}
+use Rattle.std.specs.Prelude.{Err, if◌then◌else◌, decimal, codes}
 use Rattle.std.specs.List.{flat_map}
 use Rattle.std.specs.Option.{option_map}
 use Rattle.rights_types.specs.Chains.{end, moves_of, is_closed}
@@ -11,9 +12,13 @@ use Rattle.world_core.specs.Worlds.{log, put, applied, count, sites_of, packet, 
 use Rattle.world_core.specs.declared.reply.EntryVerdict.{EntryVerdict}
 use Rattle.world_core.specs.declared.reply.EntryVerdict.TheVariants.{Ready, Held, Repeat, AfterClose, Full}
 use Rattle.world_core.specs.declared.reply.Reply.{Reply}
-use Rattle.world_core.specs.declared.reply.Reply.TheVariants.{Number, Spent, Queued, Served, Expired, Tells, Asks, Packet, Verdicts, HeardBeat, Granted, Denied, GrantedBefore, Old, Noted, Refused, Taken, TakenBack, Nothing}
+use Rattle.world_core.specs.declared.reply.Reply.TheVariants.{Number, Spent, Queued, Served, Expired, Tells, Asks}
+use Rattle.world_core.specs.declared.reply.Reply.TheVariants.{Packet, Verdicts, HeardBeat, Granted, Denied}
+use Rattle.world_core.specs.declared.reply.Reply.TheVariants.{GrantedBefore, Old, Noted, Refused, Taken, TakenBack}
+use Rattle.world_core.specs.declared.reply.Reply.TheVariants.{Nothing}
 use Rattle.world_core.specs.declared.fault.WorldError.{WorldError}
-use Rattle.world_core.specs.declared.fault.WorldError.TheVariants.{Ended, NoSuchSite, NoPacket, NotForSite, Forged, Desk, OutOfMemory}
+use Rattle.world_core.specs.declared.fault.WorldError.TheVariants.{Ended, NoSuchSite, NoPacket, NotForSite, Forged}
+use Rattle.world_core.specs.declared.fault.WorldError.TheVariants.{Desk, OutOfMemory}
 
 abbrev pub error_name : WorldError → List ℕ
 error_name Ended = codes "Ended"

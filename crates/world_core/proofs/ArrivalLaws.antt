@@ -1,5 +1,6 @@
 -- The content of packets: the message that a packet's line spells, which no link refuses.
-use Rattle.std.proofs.Common.{◌≡◌, ℕ, zero, suc, ◌-◌, ◌<◌, eqb, get_or, Bool, true, false, List, [], ◌∷◌, length, Option, Some, None, Result, Ok, Err, refl, sym, ap, subst, ◌∙◌, arith, inl, inr}
+use Rattle.std.proofs.Common.{◌≡◌, ℕ, zero, suc, ◌-◌, ◌<◌, eqb, get_or, Bool, true, false, List, [], ◌∷◌, length}
+use Rattle.std.proofs.Common.{Option, Some, None, Result, Ok, Err, refl, sym, ap, subst, ◌∙◌, arith, inl, inr}
 use Rattle.std.specs.Prelude.{◌≢◌, if◌then◌else◌}
 use Rattle.std.specs.Result.{IsErrAnd}
 use Rattle.std.specs.List.{All, Contains, slice_get}
@@ -18,7 +19,8 @@ use Rattle.entry_codec.specs.declared.fault.LineError.{LineError}
 use Rattle.entry_codec.specs.Reading.{reading, has_entries}
 use Rattle.entry_codec.specs.Spelling.{Spells}
 use Rattle.entry_codec.proofs.Lines.{reading_again}
-use Rattle.site_core.specs.Inbounds.{InboundValue, sender, is_for, entries_of, is_foreign, has_foreign, message_fault, line_fault, InboundRefuses}
+use Rattle.site_core.specs.Inbounds.{InboundValue, sender, is_for, entries_of, is_foreign, has_foreign, message_fault}
+use Rattle.site_core.specs.Inbounds.{line_fault, InboundRefuses}
 use Rattle.site_core.specs.declared.fault.InboundError.{InboundError}
 use Rattle.site_core.specs.declared.fault.InboundError.TheVariants.{Line, WrongOrigin, BadSite, OutOfMemory}
 use Rattle.world_core.specs.Values.{LinkValue, BodyValue, PacketValue, WorldValue}

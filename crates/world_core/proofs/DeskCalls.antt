@@ -3,7 +3,9 @@ use Rattle.std.proofs.Common.{◌≡◌, ℕ, Option, None, Result, Ok, Err, ref
 use Rattle.std.specs.Result.{IsErrAnd}
 use Rattle.std.proofs.lemmas.Result.{err_from_is_err_and}
 use Rattle.site_core.specs.declared.fault.DeskError.{DeskError}
-use Rattle.site_core.specs.declared.fault.DeskError.TheVariants.{Closed, BadCount, BadMove, BadAmount, NoSuchSite, SameSite, PeerClosed, LogFull, Short, OutOfMemory, QueueFull, QueueBusy, HeldTooMuch, TimeWentBack}
+use Rattle.site_core.specs.declared.fault.DeskError.TheVariants.{Closed, BadCount, BadMove, BadAmount, NoSuchSite}
+use Rattle.site_core.specs.declared.fault.DeskError.TheVariants.{SameSite, PeerClosed, LogFull, Short, OutOfMemory}
+use Rattle.site_core.specs.declared.fault.DeskError.TheVariants.{QueueFull, QueueBusy, HeldTooMuch, TimeWentBack}
 use Rattle.site_core.specs.Desks.{DeskValue}
 use Rattle.site_core.specs.Faults.{DeskRefuses}
 use Rattle.world_core.specs.Values.{WorldValue}

@@ -1,5 +1,6 @@
 -- Events at a desk preserve the invariant of the world.
-use Rattle.std.proofs.Common.{◌≡◌, ◌≢◌, ℕ, ◌≤◌, true, false, inl, inr, List, [], ◌∷◌, ◌++◌, length, Option, Some, None, refl, ap, sym, subst, ◌∙◌, arith, append-nil}
+use Rattle.std.proofs.Common.{◌≡◌, ◌≢◌, ℕ, ◌≤◌, true, false, inl, inr, List, [], ◌∷◌, ◌++◌, length, Option, Some, None}
+use Rattle.std.proofs.Common.{refl, ap, sym, subst, ◌∙◌, arith, append-nil}
 use Rattle.std.specs.List.{All, Contains}
 use Rattle.std.proofs.lemmas.Bool.{both_ways}
 use Rattle.std.proofs.lemmas.List.{length-append}
@@ -23,10 +24,12 @@ use Rattle.rights_book.specs.Books.{BookValue, sites, IsBook}
 use Rattle.request_queue.specs.Queues.{QueueValue}
 use Rattle.transfer_manager.specs.Managers.{ended}
 use Rattle.transfer_manager.specs.declared.answer.AskAnswer.{AskAnswer}
-use Rattle.transfer_manager.specs.declared.answer.AskAnswer.TheVariants.{Grant as Granted, Deny, RepeatedDeny, Repeated, OldAsk}
+use Rattle.transfer_manager.specs.declared.answer.AskAnswer.TheVariants.{Grant as Granted, Deny, RepeatedDeny, Repeated}
+use Rattle.transfer_manager.specs.declared.answer.AskAnswer.TheVariants.{OldAsk}
 use Rattle.sub_buffer.specs.Follows.{Follows}
 use Rattle.sub_buffer.proofs.Growth.{follows_longer}
-use Rattle.site_core.specs.Ledgers.{LedgerValue, HasApplied, SameApplied, IsWritable, WritesEntry, WritesClosing, ClosesAs, closing_by}
+use Rattle.site_core.specs.Ledgers.{LedgerValue, HasApplied, SameApplied, IsWritable, WritesEntry, WritesClosing}
+use Rattle.site_core.specs.Ledgers.{ClosesAs, closing_by}
 use Rattle.site_core.specs.Calls.{next_push, published_if, after_publish, answer_of, DeskAnswers}
 use Rattle.site_core.specs.Desks.{DeskValue, DeskSound, new_desk}
 use Rattle.site_core.specs.Faults.{has_closed}

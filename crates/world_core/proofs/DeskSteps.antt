@@ -7,20 +7,26 @@ use Rattle.rights_protocol.specs.Lists.{IsSiteOf}
 use Rattle.site_core.specs.declared.fault.DeskError.{DeskError}
 use Rattle.site_core.specs.Desks.{DeskValue}
 use Rattle.site_core.specs.Ledgers.{IsWritable}
-use Rattle.site_core.specs.Faults.{has_closed, post_fault, issue_fault, give_fault, spend_fault, serve_fault, expire_fault, close_fault, can_spend, can_serve}
+use Rattle.site_core.specs.Faults.{has_closed, post_fault, issue_fault, give_fault, spend_fault, serve_fault}
+use Rattle.site_core.specs.Faults.{expire_fault, close_fault, can_spend, can_serve}
 use Rattle.site_core.specs.Calls.{DeskWrites, in_time}
-use Rattle.site_core.proofs.Tested.{post_writable, issue_writable, give_writable, spend_unclosed, spend_writable, serve_writable, CanClose, can_close}
+use Rattle.site_core.proofs.Tested.{post_writable, issue_writable, give_writable, spend_unclosed, spend_writable}
+use Rattle.site_core.proofs.Tested.{serve_writable, CanClose, can_close}
 use Rattle.request_queue.specs.Queues.{QueueValue, front_of}
 use Rattle.request_queue.specs.Calls.{TellsOutcome}
 use Rattle.request_queue.specs.declared.request.Status.{Status}
-use Rattle.request_queue.specs.declared.request.Status.TheVariants.{Waiting, Spent as SaysSpent, Expired as SaysExpired, Unknown}
+use Rattle.request_queue.specs.declared.request.Status.TheVariants.{Waiting, Spent as SaysSpent, Expired as SaysExpired}
+use Rattle.request_queue.specs.declared.request.Status.TheVariants.{Unknown}
 use Rattle.world_core.specs.Values.{WorldValue}
 use Rattle.world_core.specs.Worlds.{count, desk, with_desk}
 use Rattle.world_core.specs.Faults.{site_fault}
-use Rattle.world_core.specs.DeskEvents.{AtDesk, Always, Never, Writes, Spends, Serves, Expires, TellsStatus, PlansAsks, Closes, PostHappens, IssueHappens, GiveHappens, SpendHappens, ServeHappens, ExpireHappens, StatusHappens, PlanHappens, CloseHappens}
+use Rattle.world_core.specs.DeskEvents.{AtDesk, Always, Never, Writes, Spends, Serves, Expires, TellsStatus, PlansAsks}
+use Rattle.world_core.specs.DeskEvents.{Closes, PostHappens, IssueHappens, GiveHappens, SpendHappens, ServeHappens}
+use Rattle.world_core.specs.DeskEvents.{ExpireHappens, StatusHappens, PlanHappens, CloseHappens}
 use Rattle.world_core.specs.Sound.{IsWorld}
 use Rattle.world_core.specs.declared.reply.Reply.{Reply}
-use Rattle.world_core.specs.declared.reply.Reply.TheVariants.{Number, Spent, Queued, Served, Expired, Tells, Asks, Nothing}
+use Rattle.world_core.specs.declared.reply.Reply.TheVariants.{Number, Spent, Queued, Served, Expired, Tells, Asks}
+use Rattle.world_core.specs.declared.reply.Reply.TheVariants.{Nothing}
 use Rattle.world_core.specs.declared.fault.WorldError.{WorldError}
 use Rattle.world_core.specs.declared.fault.WorldError.TheVariants.{Desk, OutOfMemory}
 use Rattle.world_core.proofs.WorldGoesOn.{WorldGoesOn, unchanged}

@@ -7,7 +7,8 @@ use Rattle.world_core.specs.Step.{wants_memory, Attempts, Happens, Step}
 use Rattle.world_core.specs.declared.event.Event.{Event}
 use Rattle.world_core.specs.declared.reply.Reply.{Reply}
 use Rattle.world_core.specs.declared.fault.WorldError.{WorldError}
-use Rattle.world_core.specs.declared.fault.WorldError.TheVariants.{Ended, NoSuchSite, NoPacket, NotForSite, Forged, Desk, OutOfMemory}
+use Rattle.world_core.specs.declared.fault.WorldError.TheVariants.{Ended, NoSuchSite, NoPacket, NotForSite, Forged}
+use Rattle.world_core.specs.declared.fault.WorldError.TheVariants.{Desk, OutOfMemory}
 
 -- an attempt that did not run out of memory happened
 attempt_happens : {A : Type 0} (w new : WorldValue) (event : Event A) (outcome : Result (Reply A) WorldError)

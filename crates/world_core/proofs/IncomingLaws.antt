@@ -1,5 +1,6 @@
 -- The lists of a link, and their capacity, as entries arrive.
-use Rattle.std.proofs.Common.{◌≡◌, ◌+◌, ◌≤◌, append_assoc, map, IfSome, vec_capacity, drop, get_or, ℕ, List, [], ◌∷◌, ◌++◌, length, length-append, ap, arith, refl, sym, ◌∙◌}
+use Rattle.std.proofs.Common.{◌≡◌, ◌+◌, ◌≤◌, append_assoc, map, IfSome, vec_capacity, drop, get_or, ℕ, List, [], ◌∷◌}
+use Rattle.std.proofs.Common.{◌++◌, length, length-append, ap, arith, refl, sym, ◌∙◌}
 use Rattle.std.specs.Prelude.{Option, Some, None, IsSome, MatchOption, unwrap_or}
 use Rattle.std.specs.Option.{option_map}
 use Rattle.std.proofs.lemmas.List.{length-map}

@@ -1,5 +1,6 @@
 -- Entries, beats and queries on a link preserve the invariant of the world.
-use Rattle.std.proofs.Common.{◌≡◌, ◌≢◌, ℕ, ◌≤◌, ◌⊎◌, inl, inr, Bool, true, false, cond, List, [], ◌∷◌, ◌++◌, length, arith, refl, sym, ap, ◌∙◌, subst, Option, Some, None}
+use Rattle.std.proofs.Common.{◌≡◌, ◌≢◌, ℕ, ◌≤◌, ◌⊎◌, inl, inr, Bool, true, false, cond, List, [], ◌∷◌, ◌++◌, length}
+use Rattle.std.proofs.Common.{arith, refl, sym, ap, ◌∙◌, subst, Option, Some, None}
 use Rattle.std.specs.List.{All, Contains}
 use Rattle.std.proofs.lemmas.Bool.{cases_eq}
 use Rattle.std.proofs.lemmas.List.{append-nil}
@@ -17,7 +18,8 @@ use Rattle.sub_buffer.specs.Follows.{Follows, reached_after}
 use Rattle.sub_buffer.specs.Gaps.{asked_for}
 use Rattle.sub_buffer.specs.Table.{after_beat}
 use Rattle.sub_buffer.specs.declared.verdict.Verdict.{Verdict as BufferVerdict}
-use Rattle.sub_buffer.specs.declared.verdict.Verdict.TheVariants.{Ready as IsReady, Held as IsHeld, Repeat as IsRepeat, AfterClose as IsAfterClose, Full as IsLost}
+use Rattle.sub_buffer.specs.declared.verdict.Verdict.TheVariants.{Ready as IsReady, Held as IsHeld, Repeat as IsRepeat}
+use Rattle.sub_buffer.specs.declared.verdict.Verdict.TheVariants.{AfterClose as IsAfterClose, Full as IsLost}
 use Rattle.sub_buffer.proofs.Missing.{follows_asked}
 use Rattle.sub_buffer.proofs.Offers.{follows_beat}
 use Rattle.site_core.specs.Ledgers.{HasApplied}

@@ -1,5 +1,6 @@
 -- The effect of entries of a log on a link.
-use Rattle.std.proofs.Common.{zero-add, suc-add, ◌≡◌, ◌+◌, ◌≤◌, ℕ, max, List, [], ◌∷◌, ◌++◌, length, length-append, take, drop, ap, arith, refl, sym, subst, ◌∙◌, append-nil, append_assoc}
+use Rattle.std.proofs.Common.{zero-add, suc-add, ◌≡◌, ◌+◌, ◌≤◌, ℕ, max, List, [], ◌∷◌, ◌++◌, length, length-append}
+use Rattle.std.proofs.Common.{take, drop, ap, arith, refl, sym, subst, ◌∙◌, append-nil, append_assoc}
 use Rattle.std.specs.Prelude.{Bool, true, false, Option, Some, None}
 use Rattle.std.specs.Option.{option_map}
 use Rattle.std.specs.List.{All, Contains, slice_get}
@@ -18,7 +19,8 @@ use Rattle.sub_buffer.specs.declared.verdict.Verdict.TheVariants.{Ready, Held, R
 use Rattle.site_core.specs.Inbounds.{InboundValue}
 use Rattle.world_core.specs.Values.{LinkValue}
 use Rattle.world_core.specs.LinkEvents.{reported_all, LinkTakes, LinkTakesAll, with_applied}
-use Rattle.world_core.specs.IncomingLists.{reached_by, reached_in, gone_in, put_in, link_of, NoneAhead, SameLists, IncomingTakes, IsIncoming}
+use Rattle.world_core.specs.IncomingLists.{reached_by, reached_in, gone_in, put_in, link_of, NoneAhead, SameLists}
+use Rattle.world_core.specs.IncomingLists.{IncomingTakes, IsIncoming}
 use Rattle.world_core.specs.declared.link.incoming.Incoming.{Incoming}
 use Rattle.world_core.specs.declared.reply.EntryVerdict.{EntryVerdict}
 use Rattle.world_core.proofs.IncomingLaws.{some_is}

@@ -19,7 +19,8 @@ use Rattle.site_core.specs.Desks.{DeskValue}
 use Rattle.site_core.specs.Calls.{answer_of, denial_of, DeskAnswers}
 use Rattle.world_core.specs.Values.{LinkValue, PacketValue, WorldValue}
 use Rattle.world_core.specs.Worlds.{count, desk, with_desk, log, link}
-use Rattle.world_core.specs.LinkEvents.{SendsIf, LinkTakesAll, EntriesArrive, EntriesCome, heard, BeatComes, DenialComes, QueryComes, AskComesBy, AskComes}
+use Rattle.world_core.specs.LinkEvents.{SendsIf, LinkTakesAll, EntriesArrive, EntriesCome, heard, BeatComes}
+use Rattle.world_core.specs.LinkEvents.{DenialComes, QueryComes, AskComesBy, AskComes}
 use Rattle.world_core.specs.Sound.{LinkSound, IsWorld}
 use Rattle.world_core.specs.declared.reply.EntryVerdict.{EntryVerdict}
 use Rattle.world_core.specs.declared.reply.Reply.{Reply}

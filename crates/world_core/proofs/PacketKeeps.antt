@@ -1,5 +1,6 @@
 -- Packets that arrive preserve the invariant of the world.
-use Rattle.std.proofs.Common.{◌≡◌, ℕ, ◌-◌, ◌<◌, Bool, true, false, cond, eqb, List, [], ◌∷◌, length, refl, sym, ◌∙◌, subst, Option, Some, None, Result, Ok, Err}
+use Rattle.std.proofs.Common.{◌≡◌, ℕ, ◌-◌, ◌<◌, Bool, true, false, cond, eqb, List, [], ◌∷◌, length, refl, sym, ◌∙◌}
+use Rattle.std.proofs.Common.{subst, Option, Some, None, Result, Ok, Err}
 use Rattle.std.specs.Prelude.{MatchOption}
 use Rattle.std.specs.List.{All, Contains, filter, slice_get}
 use Rattle.std.proofs.lemmas.Bool.{eqb-true}
@@ -23,10 +24,12 @@ use Rattle.world_core.specs.Values.{BodyValue, PacketValue, WorldValue}
 use Rattle.world_core.specs.Values.BodyValue.{EntryAt, Text}
 use Rattle.world_core.specs.Worlds.{count, desk, with_desk, log, line_of, packet, body_text}
 use Rattle.world_core.specs.Faults.{is_site, delivery_fault, arrive_fault}
-use Rattle.world_core.specs.LinkEvents.{SendsIf, EntriesCome, BeatComes, Denies, AskComesBy, DenialComes, MessageComes, PacketComes}
+use Rattle.world_core.specs.LinkEvents.{SendsIf, EntriesCome, BeatComes, Denies, AskComesBy, DenialComes, MessageComes}
+use Rattle.world_core.specs.LinkEvents.{PacketComes}
 use Rattle.world_core.specs.Sound.{IsSaid, MayCome, IsBody, IsSent, IsWorld}
 use Rattle.world_core.specs.declared.reply.Reply.{Reply}
-use Rattle.world_core.specs.declared.reply.Reply.TheVariants.{Verdicts, HeardBeat, Granted, Denied, GrantedBefore, Old, Noted, Nothing}
+use Rattle.world_core.specs.declared.reply.Reply.TheVariants.{Verdicts, HeardBeat, Granted, Denied, GrantedBefore, Old}
+use Rattle.world_core.specs.declared.reply.Reply.TheVariants.{Noted, Nothing}
 use Rattle.world_core.specs.declared.fault.WorldError.{WorldError}
 use Rattle.world_core.specs.declared.fault.WorldError.TheVariants.{NotForSite, NoSuchSite, OutOfMemory}
 use Rattle.world_core.proofs.WorldGoesOn.{WorldGoesOn, unchanged, goes_then}

@@ -1,5 +1,6 @@
 -- Packets as they are stored, if one is added or read.
-use Rattle.std.proofs.Common.{◌≡◌, ℕ, ◌<◌, Bool, true, false, if◌then◌else◌, get_or, length, length-append, List, [], ◌∷◌, ◌++◌, ap, arith, refl, sym, subst, ◌∙◌}
+use Rattle.std.proofs.Common.{◌≡◌, ℕ, ◌<◌, Bool, true, false, if◌then◌else◌, get_or, length, length-append, List, []}
+use Rattle.std.proofs.Common.{◌∷◌, ◌++◌, ap, arith, refl, sym, subst, ◌∙◌}
 use Rattle.std.specs.List.{All}
 use Rattle.std.proofs.Math.Seq.{get_or-append_seam}
 use Rattle.std.proofs.lemmas.List.{get_or_append_left, get_or-map, map-append}

@@ -1,5 +1,6 @@
 -- Lines that are sent preserve the invariant of the world.
-use Rattle.std.proofs.Common.{◌≡◌, ◌≢◌, ℕ, ◌<◌, inl, inr, Bool, true, false, List, [], ◌∷◌, ◌++◌, length, arith, refl, sym, ap, ◌∙◌, subst, Option, Some, None, Result, Ok, Err}
+use Rattle.std.proofs.Common.{◌≡◌, ◌≢◌, ℕ, ◌<◌, inl, inr, Bool, true, false, List, [], ◌∷◌, ◌++◌, length, arith, refl}
+use Rattle.std.proofs.Common.{sym, ap, ◌∙◌, subst, Option, Some, None, Result, Ok, Err}
 use Rattle.std.specs.Prelude.{IfSome}
 use Rattle.std.specs.List.{All, slice_get}
 use Rattle.std.specs.Option.{option_map}
@@ -20,7 +21,8 @@ use Rattle.world_core.specs.Values.{PacketValue, WorldValue}
 use Rattle.world_core.specs.Values.BodyValue.{EntryAt, Text}
 use Rattle.world_core.specs.Worlds.{count, desk, with_desk, log, lists_of, with_packet, ended}
 use Rattle.world_core.specs.Faults.{link_fault}
-use Rattle.world_core.specs.LinkEvents.{Sends, SendsIf, AskHappens, BeatHappens, Publishes, PublishHappens, Asked, QueryHappens}
+use Rattle.world_core.specs.LinkEvents.{Sends, SendsIf, AskHappens, BeatHappens, Publishes, PublishHappens, Asked}
+use Rattle.world_core.specs.LinkEvents.{QueryHappens}
 use Rattle.world_core.specs.Sound.{SiteSound, LinkSound, IsSaid, IsSent, IsWorld}
 use Rattle.world_core.specs.declared.reply.Reply.{Reply}
 use Rattle.world_core.specs.declared.reply.Reply.TheVariants.{Packet, Nothing}

@@ -1,5 +1,6 @@
 -- The start satisfies the invariant of a world.
-use Rattle.std.proofs.Common.{◌≡◌, ℕ, suc, zero, ◌≤◌, ◌⊎◌, inl, inr, Bool, true, false, cond, eqb, List, [], length, map, arith, refl, sym, ap, ◌∙◌, subst, Option, Some, None}
+use Rattle.std.proofs.Common.{◌≡◌, ℕ, suc, zero, ◌≤◌, ◌⊎◌, inl, inr, Bool, true, false, cond, eqb, List, [], length}
+use Rattle.std.proofs.Common.{map, arith, refl, sym, ap, ◌∙◌, subst, Option, Some, None}
 use Rattle.std.specs.List.{All, range_with_len}
 use Rattle.std.proofs.lemmas.Bool.{cases_lt, eq-eqb, ne_eqb}
 use Rattle.std.proofs.lemmas.List.{length-replicate, get_or_past}
@@ -23,7 +24,8 @@ use Rattle.site_core.specs.Inbounds.{is_foreign}
 use Rattle.site_core.proofs.LedgerLaws.{new_is_ledger}
 use Rattle.site_core.proofs.Protocol.{none_applied}
 use Rattle.world_core.specs.Values.{LinkValue}
-use Rattle.world_core.specs.Worlds.{count, desk, log, row, link, list_of, applied, lists_of, new_link, link_to, new_row, start}
+use Rattle.world_core.specs.Worlds.{count, desk, log, row, link, list_of, applied, lists_of, new_link, link_to, new_row}
+use Rattle.world_core.specs.Worlds.{start}
 use Rattle.world_core.specs.Sound.{SiteSound, LinkSound, IsSent, IsWorld}
 use Rattle.world_core.proofs.LinkKeeps.{same_lists}
 

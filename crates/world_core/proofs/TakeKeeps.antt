@@ -1,6 +1,7 @@
 -- A take preserves the invariant of the world: the site applies one more entry, and its desk may reclaim because of
 -- it.
-use Rattle.std.proofs.Common.{◌≡◌, ◌≢◌, ℕ, Bool, true, false, cond, eqb, inl, inr, List, [], ◌∷◌, ◌++◌, length, map, Option, Some, None, Result, Ok, Err, refl, ap, sym, subst, ◌∙◌, arith, append-nil}
+use Rattle.std.proofs.Common.{◌≡◌, ◌≢◌, ℕ, Bool, true, false, cond, eqb, inl, inr, List, [], ◌∷◌, ◌++◌, length, map}
+use Rattle.std.proofs.Common.{Option, Some, None, Result, Ok, Err, refl, ap, sym, subst, ◌∙◌, arith, append-nil}
 use Rattle.std.specs.List.{slice_get}
 use Rattle.std.proofs.lemmas.Bool.{both_ways}
 use Rattle.rights_types.specs.Entries.{EntryValue}
@@ -35,7 +36,8 @@ use Rattle.world_core.specs.declared.fault.WorldError.{WorldError}
 use Rattle.world_core.specs.declared.fault.WorldError.TheVariants.{OutOfMemory}
 use Rattle.world_core.proofs.WorldGoesOn.{Leads, leads, WorldGoesOn, unchanged}
 use Rattle.world_core.proofs.Native.{NativeLog, native_taking, native_push}
-use Rattle.world_core.proofs.DeskKeeps.{desk_there, desk_elsewhere, same_count, LogsGoOn, link_goes_on, all_sent_go_on, DeskGoesOn, logs_longer, native_still, IsDeskOf, desks_still, each_desk}
+use Rattle.world_core.proofs.DeskKeeps.{desk_there, desk_elsewhere, same_count, LogsGoOn, link_goes_on, all_sent_go_on}
+use Rattle.world_core.proofs.DeskKeeps.{DeskGoesOn, logs_longer, native_still, IsDeskOf, desks_still, each_desk}
 use Rattle.world_core.proofs.LinkKeeps.{same_lists, link_cases, link_there, link_elsewhere, width_kept, list_kept}
 use Rattle.world_core.proofs.SendKeeps.{Ends, ends_known}
 

@@ -9,14 +9,17 @@ use Rattle.world_core.specs.Step.{Attempts, Happens, Step, Runs}
 use Rattle.world_core.specs.Sound.{IsWorld}
 use Rattle.world_core.specs.Headline.{Headline}
 use Rattle.world_core.specs.declared.event.Event.{Event}
-use Rattle.world_core.specs.declared.event.Event.TheVariants.{Post, Issue, Give, Spend, Serve, Expire, Status, Plan, Ask, Publish, Beat, Query, Arrive, Noise, Take, Close}
+use Rattle.world_core.specs.declared.event.Event.TheVariants.{Post, Issue, Give, Spend, Serve, Expire, Status, Plan}
+use Rattle.world_core.specs.declared.event.Event.TheVariants.{Ask, Publish, Beat, Query, Arrive, Noise, Take, Close}
 use Rattle.world_core.specs.declared.reply.Reply.{Reply}
 use Rattle.world_core.specs.declared.fault.WorldError.{WorldError}
 use Rattle.world_core.specs.declared.fault.WorldError.TheVariants.{OutOfMemory}
 use Rattle.world_core.proofs.EventPlaces.{place_known}
 use Rattle.world_core.proofs.WorldGoesOn.{WorldGoesOn, unchanged, goes_then}
-use Rattle.world_core.proofs.DeskSteps.{post_keeps, issue_keeps, give_keeps, spend_keeps, serve_keeps, expire_keeps, status_keeps, plan_keeps, close_keeps}
-use Rattle.world_core.proofs.SendKeeps.{ends_known, ask_keeps, publish_keeps, beat_event_keeps, query_keeps, ended_world}
+use Rattle.world_core.proofs.DeskSteps.{post_keeps, issue_keeps, give_keeps, spend_keeps, serve_keeps, expire_keeps}
+use Rattle.world_core.proofs.DeskSteps.{status_keeps, plan_keeps, close_keeps}
+use Rattle.world_core.proofs.SendKeeps.{ends_known, ask_keeps, publish_keeps, beat_event_keeps, query_keeps}
+use Rattle.world_core.proofs.SendKeeps.{ended_world}
 use Rattle.world_core.proofs.PacketKeeps.{packet_keeps}
 use Rattle.world_core.proofs.StartLaws.{start_world}
 use Rattle.world_core.proofs.TakeKeeps.{take_keeps}

@@ -8,12 +8,14 @@ use Rattle.request_queue.specs.Calls.{TellsOutcome}
 use Rattle.site_core.specs.declared.desk.requests.Spending.TheVariants.{Spent as SpentAt, Queued as QueuedAs}
 use Rattle.site_core.specs.declared.fault.DeskError.{DeskError}
 use Rattle.site_core.specs.Desks.{DeskValue}
-use Rattle.site_core.specs.Faults.{post_fault, issue_fault, give_fault, spend_fault, serve_fault, expire_fault, close_fault, can_spend, can_serve}
+use Rattle.site_core.specs.Faults.{post_fault, issue_fault, give_fault, spend_fault, serve_fault, expire_fault}
+use Rattle.site_core.specs.Faults.{close_fault, can_spend, can_serve}
 use Rattle.site_core.specs.Calls.{DeskWrites, DeskSpends, DeskServes, DeskExpires, DeskPlans, DeskCloses}
 use Rattle.world_core.specs.Values.{WorldValue}
 use Rattle.world_core.specs.Worlds.{desk, with_desk}
 use Rattle.world_core.specs.declared.reply.Reply.{Reply}
-use Rattle.world_core.specs.declared.reply.Reply.TheVariants.{Number, Spent, Queued, Served, Expired, Tells, Asks, Nothing}
+use Rattle.world_core.specs.declared.reply.Reply.TheVariants.{Number, Spent, Queued, Served, Expired, Tells, Asks}
+use Rattle.world_core.specs.declared.reply.Reply.TheVariants.{Nothing}
 use Rattle.world_core.specs.declared.fault.WorldError.{WorldError}
 use Rattle.world_core.specs.declared.fault.WorldError.TheVariants.{Desk, OutOfMemory}
 

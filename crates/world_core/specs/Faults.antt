@@ -3,7 +3,8 @@ use Rattle.std.specs.Prelude.{ℕ, Bool, not, ◌&&◌, nat_le, ◌==◌, Option
 use Rattle.world_core.specs.Values.{PacketValue, WorldValue}
 use Rattle.world_core.specs.Worlds.{count, packet}
 use Rattle.world_core.specs.declared.event.Event.{Event}
-use Rattle.world_core.specs.declared.event.Event.TheVariants.{Post, Issue, Give, Spend, Serve, Expire, Status, Plan, Ask, Publish, Beat, Query, Arrive, Noise, Take, Close}
+use Rattle.world_core.specs.declared.event.Event.TheVariants.{Post, Issue, Give, Spend, Serve, Expire, Status, Plan}
+use Rattle.world_core.specs.declared.event.Event.TheVariants.{Ask, Publish, Beat, Query, Arrive, Noise, Take, Close}
 use Rattle.world_core.specs.declared.fault.WorldError.{WorldError}
 use Rattle.world_core.specs.declared.fault.WorldError.TheVariants.{Ended, NoSuchSite, NoPacket, NotForSite}
 

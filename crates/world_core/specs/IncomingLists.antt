@@ -1,5 +1,6 @@
 -- How a link stores its lists, and their capacity.
-use Rattle.std.specs.Prelude.{◌≡◌, Bool, true, false, ℕ, ◌+◌, ◌*◌, ◌≤◌, max, List, [], ◌∷◌, ◌++◌, length, take, Option, Some, None, IfSome, vec_capacity}
+use Rattle.std.specs.Prelude.{◌≡◌, Bool, true, false, ℕ, ◌+◌, ◌*◌, ◌≤◌, max, List, [], ◌∷◌, ◌++◌, length, take, Option}
+use Rattle.std.specs.Prelude.{Some, None, IfSome, vec_capacity}
 use Rattle.std.specs.Option.{option_map}
 use Rattle.rights_types.specs.Entries.{EntryValue, own}
 use Rattle.rights_types.specs.declared.limits.TheConstants.{MAX_HELD}

@@ -1,5 +1,6 @@
 -- Events between two sites: lines that are sent, lines that arrive, and entries that are taken.
-use Rattle.std.specs.Prelude.{◌≡◌, ◌≢◌, ℕ, ◌+◌, ◌⊎◌, Bool, true, false, List, [], ◌∷◌, ◌++◌, length, map, max, Option, Some, None, Result, Ok, Err, MatchOption}
+use Rattle.std.specs.Prelude.{◌≡◌, ◌≢◌, ℕ, ◌+◌, ◌⊎◌, Bool, true, false, List, [], ◌∷◌, ◌++◌, length, map, max, Option}
+use Rattle.std.specs.Prelude.{Some, None, Result, Ok, Err, MatchOption}
 use Rattle.std.specs.List.{slice_get}
 use Rattle.std.specs.Option.{option_map}
 use Rattle.rights_types.specs.Entries.{EntryValue, own}
@@ -17,7 +18,8 @@ use Rattle.sub_buffer.specs.Arrivals.{Arrives}
 use Rattle.sub_buffer.specs.Follows.{SettledVerdict, put_after, reached_after}
 use Rattle.sub_buffer.specs.Table.{after_beat}
 use Rattle.sub_buffer.specs.declared.verdict.Verdict.{Verdict as BufferVerdict}
-use Rattle.sub_buffer.specs.declared.verdict.Verdict.TheVariants.{Ready as IsReady, Held as IsHeld, Repeat as IsRepeat, AfterClose as IsAfterClose, Full as IsFull}
+use Rattle.sub_buffer.specs.declared.verdict.Verdict.TheVariants.{Ready as IsReady, Held as IsHeld, Repeat as IsRepeat}
+use Rattle.sub_buffer.specs.declared.verdict.Verdict.TheVariants.{AfterClose as IsAfterClose, Full as IsFull}
 use Rattle.transfer_manager.specs.Managers.{outstanding_ask, ended}
 use Rattle.transfer_manager.specs.declared.answer.AskAnswer.{AskAnswer}
 use Rattle.transfer_manager.specs.declared.answer.AskAnswer.TheVariants.{Grant, Deny, RepeatedDeny, Repeated, OldAsk}
@@ -31,7 +33,9 @@ use Rattle.world_core.specs.Worlds.{desk, with_desk, log, link, with_link, put, 
 use Rattle.world_core.specs.declared.reply.EntryVerdict.{EntryVerdict}
 use Rattle.world_core.specs.declared.reply.EntryVerdict.TheVariants.{Ready, Held, Repeat, AfterClose, Full}
 use Rattle.world_core.specs.declared.reply.Reply.{Reply}
-use Rattle.world_core.specs.declared.reply.Reply.TheVariants.{Packet, Verdicts, HeardBeat, Granted, Denied, GrantedBefore, Old, Noted, Refused, Taken, TakenBack, Nothing}
+use Rattle.world_core.specs.declared.reply.Reply.TheVariants.{Packet, Verdicts, HeardBeat, Granted, Denied}
+use Rattle.world_core.specs.declared.reply.Reply.TheVariants.{GrantedBefore, Old, Noted, Refused, Taken, TakenBack}
+use Rattle.world_core.specs.declared.reply.Reply.TheVariants.{Nothing}
 use Rattle.world_core.specs.declared.fault.WorldError.{WorldError}
 use Rattle.world_core.specs.declared.fault.WorldError.TheVariants.{Forged, OutOfMemory}
 

@@ -3,10 +3,13 @@ use Rattle.std.specs.Prelude.{◌≡◌, Bool, true, false, List, [], ◌∷◌,
 use Rattle.world_core.specs.Values.{WorldValue}
 use Rattle.world_core.specs.Worlds.{ended, packet}
 use Rattle.world_core.specs.Faults.{fault_of}
-use Rattle.world_core.specs.DeskEvents.{PostHappens, IssueHappens, GiveHappens, SpendHappens, ServeHappens, ExpireHappens, StatusHappens, PlanHappens, CloseHappens}
-use Rattle.world_core.specs.LinkEvents.{AskHappens, PublishHappens, BeatHappens, QueryHappens, PacketComes, NoiseHappens, TakeHappens}
+use Rattle.world_core.specs.DeskEvents.{PostHappens, IssueHappens, GiveHappens, SpendHappens, ServeHappens}
+use Rattle.world_core.specs.DeskEvents.{ExpireHappens, StatusHappens, PlanHappens, CloseHappens}
+use Rattle.world_core.specs.LinkEvents.{AskHappens, PublishHappens, BeatHappens, QueryHappens, PacketComes}
+use Rattle.world_core.specs.LinkEvents.{NoiseHappens, TakeHappens}
 use Rattle.world_core.specs.declared.event.Event.{Event}
-use Rattle.world_core.specs.declared.event.Event.TheVariants.{Post, Issue, Give, Spend, Serve, Expire, Status, Plan, Ask, Publish, Beat, Query, Arrive, Noise, Take, Close}
+use Rattle.world_core.specs.declared.event.Event.TheVariants.{Post, Issue, Give, Spend, Serve, Expire, Status, Plan}
+use Rattle.world_core.specs.declared.event.Event.TheVariants.{Ask, Publish, Beat, Query, Arrive, Noise, Take, Close}
 use Rattle.world_core.specs.declared.reply.Reply.{Reply}
 use Rattle.world_core.specs.declared.fault.WorldError.{WorldError}
 use Rattle.world_core.specs.declared.fault.WorldError.TheVariants.{OutOfMemory}

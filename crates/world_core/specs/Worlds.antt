@@ -1,5 +1,6 @@
 -- The lists of a world, and the rights over them.
-use Rattle.std.specs.Prelude.{ℕ, ◌-◌, false, true, ◌==◌, List, [], ◌∷◌, ◌++◌, length, Option, Some, None, map, if◌then◌else◌}
+use Rattle.std.specs.Prelude.{ℕ, ◌-◌, false, true, ◌==◌, List, [], ◌∷◌, ◌++◌, length, Option, Some, None, map}
+use Rattle.std.specs.Prelude.{if◌then◌else◌}
 use Rattle.std.specs.List.{slice_get, range_with_len}
 use Rattle.rights_types.specs.Places.{at_site, set_site}
 use Rattle.rights_types.specs.Entries.{EntryValue}

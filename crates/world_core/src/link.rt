@@ -1,5 +1,6 @@
 //! What a site has of the log of one other site.
-ghost use Rattle.std.specs.Prelude.{◌≡◌, ◌≢◌, ◌≤◌, ◌∷◌, [], Ok, None, Some, true, IfOk, IfErr, OnErr, MatchResult, IsSome, List, Option, length};
+ghost use Rattle.std.specs.Prelude.{◌≡◌, ◌≢◌, ◌≤◌, ◌∷◌, [], Ok, None, Some, true, IfOk, IfErr, OnErr, MatchResult};
+ghost use Rattle.std.specs.Prelude.{IsSome, List, Option, length};
 ghost use Rattle.std.specs.List.{All, Contains, slice_get};
 ghost use Rattle.std.specs.Option.{option_copied, option_map};
 ghost use Rattle.rights_types.specs.Entries.{EntryValue};

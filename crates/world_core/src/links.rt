@@ -1,6 +1,7 @@
 //! What a site has of the logs of all others. Each call here finds the link of its origin and hands itself on to it;
 //! its clauses say what becomes of the whole row, which is the part of a world that an event changes.
-ghost use Rattle.std.specs.Prelude.{◌≡◌, ◌≤◌, ◌∷◌, [], Ok, None, Some, true, IfOk, IfErr, OnErr, MatchResult, IsSome, List, Option, length};
+ghost use Rattle.std.specs.Prelude.{◌≡◌, ◌≤◌, ◌∷◌, [], Ok, None, Some, true, IfOk, IfErr, OnErr, MatchResult, IsSome};
+ghost use Rattle.std.specs.Prelude.{List, Option, length};
 ghost use Rattle.std.specs.List.{All, Contains, slice_get};
 ghost use Rattle.std.specs.Option.{option_copied, option_map};
 ghost use Rattle.rights_types.specs.Entries.{EntryValue};

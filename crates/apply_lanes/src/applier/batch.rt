@@ -56,9 +56,10 @@ impl<D: DeskNames, G: Gate, A: Allocator> Applier<D, G, A> {
         }
     }
 
-    // Applies or drops the entry in hand, and then those that wait on the lane, at most `MAX_BATCH` in all, at the value
-    // under the lock. It waits for none. Returns how many, and `false` if End was taken. Errors: those of `apply_in`,
-    // which concern the entry then in hand; the entries before it were applied or dropped. It passes no gate.
+    // Applies or drops the entry in hand, and then those that wait on the lane, at most `MAX_BATCH` in all, at the
+    // value under the lock. It waits for none. Returns how many, and `false` if End was taken. Errors: those of
+    // `apply_in`, which concern the entry then in hand; the entries before it were applied or dropped. It passes no
+    // gate.
     fn apply_ready<R: Wait, B: Allocator + Copy>(
         &mut self,
         rt: &R,

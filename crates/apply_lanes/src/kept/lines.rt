@@ -19,7 +19,9 @@ use std::alloc::Allocator;
 impl<D: DeskNames, A: Allocator + Copy> Kept<D, A> {
     /// The line of the outstanding ask to that peer. `None` if there is none.
     pub fn ask_line(&self, peer: SiteId) -> Result<Option<Vec<u8, A>>, OutOfMemory>
-        ensures line { IfOk result (λ line. LineOf (λ l. l.items) (option_map (λ ask. AnAsk ask) (outstanding_ask self.now.desk.manager peer)) line) }
+        ensures line { IfOk result
+            (λ line. LineOf (λ l. l.items)
+            (option_map (λ ask. AnAsk ask) (outstanding_ask self.now.desk.manager peer)) line) }
         ensures memory { outstanding_ask self.now.desk.manager peer ≡ None → IsOk result }
     {
         self.desk.ask_line(peer)
@@ -54,7 +56,8 @@ impl<D: DeskNames, A: Allocator + Copy> Kept<D, A> {
     /// The line of the answer to a query. Errors: those of `Desk::on_query`.
     pub fn on_query(&self, query: &Query) -> Result<Vec<u8, A>, ReadError>
         ensures refused { ReadRefuses (query_fault self.now.desk.ledger.log query.now) result }
-        ensures ok { IfOk result (λ line. Spells (AnAnswer (answer_to_query query.now self.now.desk.ledger.log)) line.items) }
+        ensures ok { IfOk result (λ line. Spells (AnAnswer (answer_to_query query.now self.now.desk.ledger.log))
+            line.items) }
     {
         self.desk.on_query(query)
     }

@@ -1,5 +1,6 @@
 //! Calls under the lock that change a desk: those of seats, which issue and spend, and all others.
-ghost use Rattle.std.specs.Prelude.{◌≡◌, ℕ, ◌<◌, ◌≤◌, ◌∷◌, [], true, None, Some, IfOk, IfErr, IfSome, OnOk, OnErr, IsOk, List, length};
+ghost use Rattle.std.specs.Prelude.{◌≡◌, ℕ, ◌<◌, ◌≤◌, ◌∷◌, [], true, None, Some, IfOk, IfErr, IfSome, OnOk, OnErr};
+ghost use Rattle.std.specs.Prelude.{IsOk, List, length};
 ghost use Rattle.rights_types.specs.Chains.{end};
 ghost use Rattle.rights_types.specs.declared.moves.Move.TheVariants.{Issue as Issues, Give as Gives};
 ghost use Rattle.rights_book.specs.Books.{sites};
@@ -7,9 +8,12 @@ ghost use Rattle.request_queue.specs.Queues.{front_of};
 ghost use Rattle.request_queue.specs.declared.queue.TheConstants.{SLOTS};
 ghost use Rattle.request_queue.specs.Calls.{TellsOutcome};
 ghost use Rattle.transfer_manager.specs.Managers.{ended};
-ghost use Rattle.site_core.specs.Faults.{can_spend, can_serve, issue_fault, give_fault, spend_fault, serve_fault, expire_fault, close_fault, DeskRefuses};
+ghost use Rattle.site_core.specs.Faults.{can_spend, can_serve, issue_fault, give_fault, spend_fault, serve_fault};
+ghost use Rattle.site_core.specs.Faults.{expire_fault, close_fault, DeskRefuses};
 ghost use Rattle.site_core.specs.Ledgers.{EntryKeeps, ClosingKeeps};
-ghost use Rattle.site_core.specs.Calls.{DeskWrites, DeskSpends, SpendKeeps, DeskServes, ServeKeeps, DeskExpires, DeskPlans, DeskCloses, answer_of, is_ignored, denial_of, LineOf, DeskAnswers, AnswerKeeps};
+ghost use Rattle.site_core.specs.Calls.{DeskWrites, DeskSpends, SpendKeeps, DeskServes, ServeKeeps, DeskExpires};
+ghost use Rattle.site_core.specs.Calls.{DeskPlans, DeskCloses, answer_of, is_ignored, denial_of, LineOf, DeskAnswers};
+ghost use Rattle.site_core.specs.Calls.{AnswerKeeps};
 ghost use Rattle.site_core.specs.declared.fault.DeskError.TheVariants.{OutOfMemory as NoMemory};
 ghost use Rattle.rights_protocol.specs.Schedules.LocalChange.{Write, Retire, Other};
 ghost use Rattle.apply_lanes.specs.Steps.{StepsBy, spend_change, serve_change, answer_change};
@@ -23,7 +27,8 @@ use site_core::{AskReply, DeskError, Spending};
 use std::alloc::Allocator;
 
 impl<D: DeskNames, A: Allocator + Copy> Kept<D, A> {
-    ghost use Rattle.apply_lanes.specs.Kepts.{raised, told_issued, told_spent, told_served, spent_by, without_amount, amount_of, IsFront};
+    ghost use Rattle.apply_lanes.specs.Kepts.{raised, told_issued, told_spent, told_served, spent_by, without_amount};
+    ghost use Rattle.apply_lanes.specs.Kepts.{amount_of, IsFront};
 
     /// Creates rights, with one entry, whose number is returned.
     pub fn issue(&mut self, seat: &mut Seat<D>, amount: u64) -> Result<u64, DeskError>
@@ -32,7 +37,8 @@ impl<D: DeskNames, A: Allocator + Copy> Kept<D, A> {
         ensures keeps { OnOk result (EntryKeeps self.old.desk.ledger (Issues amount ∷ []) self.new.desk.ledger) }
         ensures step { OnOk result (StepsBy D.id self.old.desk (Write (Issues amount ∷ [])) self.new.desk) }
         ensures number { IfOk result (λ n. n ≡ end self.new.desk.ledger.log.entries) }
-        ensures counters { OnOk result (self.new ≡ record self.old { desk = self.new.desk; issued = raised self.old.issued amount }) }
+        ensures counters { OnOk result
+            (self.new ≡ record self.old { desk = self.new.desk; issued = raised self.old.issued amount }) }
         ensures told { OnOk result (seat.new ≡ told_issued seat.old amount) }
         ensures err { OnErr result ((self.new ≡ self.old) × (seat.new ≡ seat.old)) }
     {
@@ -52,10 +58,13 @@ impl<D: DeskNames, A: Allocator + Copy> Kept<D, A> {
         deadline: u64,
     ) -> Result<Spending, DeskError>
         ensures refused { DeskRefuses (spend_fault self.old.desk amount) result }
-        ensures ok { OnOk result (IfOk result (λ spending. DeskSpends self.old.desk amount deadline spending self.new.desk)) }
+        ensures ok { OnOk result (IfOk result
+            (λ spending. DeskSpends self.old.desk amount deadline spending self.new.desk)) }
         ensures keeps { IfOk result (λ spending. SpendKeeps self.old.desk amount spending self.new.desk) }
-        ensures step { IfOk result (λ spending. StepsBy D.id self.old.desk (spend_change amount spending) self.new.desk) }
-        ensures counters { IfOk result (λ spending. self.new ≡ record self.old { desk = self.new.desk; spent = raised self.old.spent (spent_by amount spending) }) }
+        ensures step { IfOk result
+            (λ spending. StepsBy D.id self.old.desk (spend_change amount spending) self.new.desk) }
+        ensures counters { IfOk result (λ spending. self.new
+            ≡ record self.old { desk = self.new.desk; spent = raised self.old.spent (spent_by amount spending) }) }
         ensures told { IfOk result (λ spending. seat.new ≡ told_spent seat.old amount spending) }
         ensures err { OnErr result ((self.new ≡ self.old) × (seat.new ≡ seat.old)) }
         ensures memory { IfErr result (λ fault. fault ≡ NoMemory → can_spend self.old.desk amount ≡ true) }
@@ -78,12 +87,15 @@ impl<D: DeskNames, A: Allocator + Copy> Kept<D, A> {
         ensures keeps { IfOk result (λ served. ServeKeeps self.old.desk (without_amount served) self.new.desk) }
         ensures step { IfOk result (λ served. StepsBy D.id self.old.desk (serve_change served) self.new.desk) }
         ensures front { IfOk result (λ served. IfSome served (IsFront self.old.desk.queue.waiting)) }
-        ensures fewer { IfOk result (λ served. IfSome served (λ _. length self.new.desk.queue.waiting < length self.old.desk.queue.waiting)) }
+        ensures fewer { IfOk result
+            (λ served. IfSome served (λ _. length self.new.desk.queue.waiting < length self.old.desk.queue.waiting)) }
         ensures few { length self.old.desk.queue.waiting ≤ SLOTS }
-        ensures counters { IfOk result (λ served. self.new ≡ record self.old { desk = self.new.desk; spent = raised self.old.spent (amount_of served) }) }
+        ensures counters { IfOk result (λ served. self.new
+            ≡ record self.old { desk = self.new.desk; spent = raised self.old.spent (amount_of served) }) }
         ensures told { IfOk result (λ served. seat.new ≡ told_served seat.old (amount_of served)) }
         ensures err { OnErr result ((self.new ≡ self.old) × (seat.new ≡ seat.old)) }
-        ensures memory { IfErr result (λ fault. fault ≡ NoMemory → can_serve self.old.desk (front_of self.old.desk.queue.waiting) ≡ true) }
+        ensures memory { IfErr result (λ fault. fault ≡ NoMemory
+            → can_serve self.old.desk (front_of self.old.desk.queue.waiting) ≡ true) }
     {
         let before = self.desk.spent();
         let Some((ticket, number)) = self.desk.serve()? else {
@@ -146,7 +158,8 @@ impl<D: DeskNames, A: Allocator + Copy> Kept<D, A> {
         ensures answer { IfOk result (λ reply. reply.answer ≡ answer_of self.old.desk ask.now) }
         ensures ok { IfOk result (λ reply. DeskAnswers self.old.desk ask.now reply.answer reply.number self.new.desk) }
         ensures keeps { IfOk result (λ reply. AnswerKeeps self.old.desk ask.now reply.answer self.new.desk) }
-        ensures step { IfOk result (λ reply. StepsBy D.id self.old.desk (answer_change ask.now reply.answer) self.new.desk) }
+        ensures step { IfOk result
+            (λ reply. StepsBy D.id self.old.desk (answer_change ask.now reply.answer) self.new.desk) }
         ensures line { IfOk result (λ reply. LineOf (λ (l : List ℕ). l) (denial_of ask.now reply.answer) reply.line) }
         ensures err { OnErr result (self.new ≡ self.old) }
         ensures rest { self.new ≡ record self.old { desk = self.new.desk } }
@@ -158,7 +171,10 @@ impl<D: DeskNames, A: Allocator + Copy> Kept<D, A> {
     /// That peer denied the ask with this number. Only the outstanding ask can be ended by it.
     pub fn on_deny(&mut self, peer: SiteId, ask: AskNumber)
         requires site { peer ≤ sites self.old.desk.ledger.book }
-        ensures ends { self.new ≡ record self.old { desk = record self.old.desk { manager = ended self.old.desk.manager peer ask } } }
+        ensures ends { self.new ≡ record self.old {
+          desk =
+              record self.old.desk { manager = ended self.old.desk.manager peer ask };
+        } }
         ensures step { StepsBy D.id self.old.desk Other self.new.desk }
     {
         self.desk.on_deny(peer, ask);

@@ -1,5 +1,6 @@
 //! The incoming lines of a peer.
-ghost use Rattle.std.specs.Prelude.{◌≡◌, ℕ, ◌+◌, ◌<◌, ◌≤◌, ◌++◌, [], ◌∷◌, false, List, length, take, OnOk, IfOk, IfErr, IfSome, IsErrOf, MatchResult};
+ghost use Rattle.std.specs.Prelude.{◌≡◌, ℕ, ◌+◌, ◌<◌, ◌≤◌, ◌++◌, [], ◌∷◌, false, List, length, take, OnOk, IfOk, IfErr};
+ghost use Rattle.std.specs.Prelude.{IfSome, IsErrOf, MatchResult};
 ghost use Rattle.std.specs.Io.KnownBytes.{Consumes, IsAtEnd};
 ghost use Rattle.line_streams.specs.Counting.{counts_for, still};
 ghost use Rattle.peer_links.specs.Links.{IsFedAll, LinkGave, LinkEnds, IsOfIntake, MayFail};
@@ -7,7 +8,8 @@ ghost use Rattle.peer_links.specs.Lines.{IsPiece};
 ghost use Rattle.sub_buffer.specs.Buffers.{SamePair};
 ghost use Rattle.peer_links.specs.Ports.{Heard, AcceptsPeer};
 ghost use Rattle.peer_links.specs.Turns.{InTurn};
-ghost use Rattle.peer_links.specs.Takes.{TakesInput, TakesLine, TakesPiece, AsksGap, HearsMessage, message_in, asks_again, after_refusal};
+ghost use Rattle.peer_links.specs.Takes.{TakesInput, TakesLine, TakesPiece, AsksGap, HearsMessage, message_in};
+ghost use Rattle.peer_links.specs.Takes.{asks_again, after_refusal};
 ghost use Rattle.peer_links.specs.declared.link.LinkFault.{LinkFault};
 
 use crate::lines::{Piece, next_piece};

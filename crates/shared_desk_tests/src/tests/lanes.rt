@@ -28,7 +28,8 @@ fn lane_of<R: Abort>(rt: &R, alloc: Global, places: usize) -> (Inlet, Outlet)
 
 /// An entry of site 2 that issues one right.
 fn one(alloc: Global, prev: u64) -> Option<Entry>
-    ensures { IfSome result (λ e. IsEntry e × (e.origin ≡ 2) × (e.prev ≡ prev) × (closes e ≡ false) × (own e ≡ prev + 1)) }
+    ensures { IfSome result (λ e. IsEntry e × (e.origin ≡ 2) × (e.prev ≡ prev) × (closes e ≡ false)
+        × (own e ≡ prev + 1)) }
 {
     let mut moves = Vec::new(alloc);
     moves.push(Move::Issue(Amount::known(1))).ok()?;

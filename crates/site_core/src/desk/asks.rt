@@ -7,7 +7,8 @@ ghost use Rattle.rights_book.specs.Books.{sites};
 ghost use Rattle.transfer_manager.specs.Managers.{asks, outstanding_ask, ended};
 ghost use Rattle.transfer_manager.specs.AskAnswers.{IfNew, IsWithin, noted};
 ghost use Rattle.transfer_manager.specs.declared.answer.AskAnswer.TheVariants.{Grant as Grants};
-ghost use Rattle.site_core.specs.Calls.{DeskPlans, available, answer_of, is_ignored, denial, denial_of, LineOf, DeskAnswers, AnswerKeeps};
+ghost use Rattle.site_core.specs.Calls.{DeskPlans, available, answer_of, is_ignored, denial, denial_of, LineOf};
+ghost use Rattle.site_core.specs.Calls.{DeskAnswers, AnswerKeeps};
 
 use crate::desk::Desk;
 use crate::line::Line;
@@ -37,7 +38,9 @@ impl<A: Allocator + Copy> Desk<A> {
 
     /// The line of the outstanding ask to that peer; None if none is outstanding.
     pub fn ask_line(&self, peer: SiteId) -> Result<Option<Vec<u8, A>>, OutOfMemory>
-        ensures line { IfOk result (λ line. LineOf (λ l. l.items) (option_map (λ ask. AnAsk ask) (outstanding_ask self.now.manager peer)) line) }
+        ensures line { IfOk result
+            (λ line. LineOf (λ l. l.items)
+            (option_map (λ ask. AnAsk ask) (outstanding_ask self.now.manager peer)) line) }
         ensures memory { outstanding_ask self.now.manager peer ≡ None → IsOk result }
     {
         let Some(ask) = self.manager.outstanding(peer) else {

@@ -2,8 +2,10 @@
 ghost use Rattle.std.specs.Prelude.{◌≡◌, ◌≢◌, ℕ, ◌+◌, ◌*◌, ◌≤◌, true, pos, List, [], length};
 ghost use Rattle.rights_types.specs.Entries.{EntryValue};
 ghost use Rattle.rights_types.specs.Chains.{end, is_closed, moves_of, IsChain};
-ghost use Rattle.rights_types.specs.Rights.{issued, spent, out, to, back, taken_back, held, received, sum_sites, IsNeverShort};
-ghost use Rattle.rights_types.specs.declared.limits.TheConstants.{MIN_SITES, MAX_SITES, MAX_NUMBER, MAX_AMOUNT, MAX_TOTAL, MAX_RECEIVED, MAX_HELD_RIGHTS};
+ghost use Rattle.rights_types.specs.Rights.{issued, spent, out, to, back, taken_back, held, received, sum_sites};
+ghost use Rattle.rights_types.specs.Rights.{IsNeverShort};
+ghost use Rattle.rights_types.specs.declared.limits.TheConstants.{MIN_SITES, MAX_SITES, MAX_NUMBER, MAX_AMOUNT};
+ghost use Rattle.rights_types.specs.declared.limits.TheConstants.{MAX_TOTAL, MAX_RECEIVED, MAX_HELD_RIGHTS};
 ghost use Rattle.rights_book.specs.Books.{sites, peer, account, received_by, held_by, known_by};
 ghost use Rattle.rights_book.specs.Known.{logs_at, known};
 ghost use Rattle.rights_book.specs.StandsFor.{StandsForOwn, StandsForApplied};
@@ -64,14 +66,18 @@ impl<A: Allocator + Copy> Desk<A> {
     pub fn held(&self) -> u64
         ensures value { result ≡ held_by self.now.ledger.book }
         ensures range { result ≤ MAX_HELD_RIGHTS }
-        ensures balance { result + out (moves_of self.now.ledger.log.entries) + spent (moves_of self.now.ledger.log.entries)
-            ≡ issued (moves_of self.now.ledger.log.entries) + sum_sites (sites self.now.ledger.book) (λ o. (peer self.now.ledger.book o).received) + taken_back (moves_of self.now.ledger.log.entries) }
+        ensures balance { result + out (moves_of self.now.ledger.log.entries)
+            + spent (moves_of self.now.ledger.log.entries)
+            ≡ issued (moves_of self.now.ledger.log.entries) + sum_sites (sites self.now.ledger.book)
+            (λ o. (peer self.now.ledger.book o).received) + taken_back (moves_of self.now.ledger.log.entries) }
         ensures applied { (applied : ℕ → List EntryValue) → StandsForApplied applied self.now.ledger.book
             → result ≡ held (sites self.now.ledger.book) self.now.ledger.log.site self.now.ledger.log.entries applied }
 
         // No prefix of the log, even one that ends within its last entry, gives or spends what was not held.
         ensures never_short { (applied : ℕ → List EntryValue) → StandsForApplied applied self.now.ledger.book
-            → IsNeverShort (sites self.now.ledger.book) (received (sites self.now.ledger.book) self.now.ledger.log.site applied) (moves_of self.now.ledger.log.entries) }
+            → IsNeverShort (sites self.now.ledger.book)
+            (received (sites self.now.ledger.book) self.now.ledger.log.site applied)
+            (moves_of self.now.ledger.log.entries) }
     {
         self.ledger.book().held()
     }
@@ -183,7 +189,9 @@ impl<A: Allocator + Copy> Desk<A> {
         ensures value { result ≡ known_by self.now.ledger.book site }
         ensures itself { site ≡ self.now.ledger.log.site → result ≡ pos (held_by self.now.ledger.book) }
         ensures applied { (applied : ℕ → List EntryValue) → StandsForApplied applied self.now.ledger.book
-            → site ≤ sites self.now.ledger.book → result ≡ known (sites self.now.ledger.book) site (logs_at self.now.ledger.log.site self.now.ledger.log.entries applied) }
+            → site ≤ sites self.now.ledger.book
+            → result ≡ known (sites self.now.ledger.book) site
+            (logs_at self.now.ledger.log.site self.now.ledger.log.entries applied) }
     {
         self.ledger.book().known(site)
     }
@@ -204,7 +212,8 @@ impl<A: Allocator + Copy> Desk<A> {
     pub fn applied(&self, origin: SiteId) -> u64
         ensures value { result ≡ (peer self.now.ledger.book origin).log.end }
         ensures range { result ≤ MAX_NUMBER }
-        ensures applied { (applied : ℕ → List EntryValue) → StandsForApplied applied self.now.ledger.book → result ≡ end (applied origin) }
+        ensures applied { (applied : ℕ → List EntryValue) → StandsForApplied applied self.now.ledger.book
+            → result ≡ end (applied origin) }
     {
         self.ledger.book().applied(origin)
     }

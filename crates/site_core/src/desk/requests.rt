@@ -59,10 +59,12 @@ impl<A: Allocator + Copy> Desk<A> {
         ensures refused { DeskRefuses (serve_fault self.old) result }
         ensures ok { IfOk result (λ served. DeskServes self.old served self.new) }
         ensures keeps { IfOk result (λ served. ServeKeeps self.old served self.new) }
-        ensures fewer { IfOk result (λ served. IfSome served (λ _. length self.new.queue.waiting < length self.old.queue.waiting)) }
+        ensures fewer { IfOk result
+            (λ served. IfSome served (λ _. length self.new.queue.waiting < length self.old.queue.waiting)) }
         ensures few { length self.old.queue.waiting ≤ SLOTS }
         ensures err { OnErr result (self.new ≡ self.old) }
-        ensures memory { IfErr result (λ fault. fault ≡ NoMemory → can_serve self.old (front_of self.old.queue.waiting) ≡ true) }
+        ensures memory { IfErr result (λ fault. fault ≡ NoMemory
+            → can_serve self.old (front_of self.old.queue.waiting) ≡ true) }
     {
         let Some((ticket, amount, _deadline)) = self.queue.front() else {
             return Ok(None);

@@ -34,7 +34,8 @@ impl<A: Allocator + Copy> Desk<A> {
         ensures ok { OnOk result (DeskApplies self.old origin entry.now self.new) }
         ensures keeps { OnOk result ((h : DeskApplies self.old origin entry.now self.new)
             → ApplyKeeps self.old.ledger origin entry.now h.entry.between self.new.ledger) }
-        ensures number { IfOk result (λ n. n ≡ number_of_taking (owed_by self.old.ledger origin entry.now) self.new.ledger.log) }
+        ensures number { IfOk result
+            (λ n. n ≡ number_of_taking (owed_by self.old.ledger origin entry.now) self.new.ledger.log) }
         ensures err { OnErr result (self.new ≡ self.old) }
         ensures memory { numbers_in entry.now.moves ≡ None → IsOk result }
     {

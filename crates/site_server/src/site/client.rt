@@ -8,7 +8,8 @@ ghost use Rattle.line_streams.specs.Talk.{Talk, EndsBy};
 ghost use Rattle.line_streams.specs.Waiting.{AddsReply};
 ghost use Rattle.reply_texts.specs.Texts.{bad_command};
 ghost use Rattle.site_words.specs.Status.{status_text};
-ghost use Rattle.site_server.specs.Replying.{asked, ActsAtDesk, CarriesOut, TicksAtDesk, AreViews, IsApplied, TellsStatus, TicksAndSends, DoesDue, Gets, GetsBy};
+ghost use Rattle.site_server.specs.Replying.{asked, ActsAtDesk, CarriesOut, TicksAtDesk, AreViews, IsApplied};
+ghost use Rattle.site_server.specs.Replying.{TellsStatus, TicksAndSends, DoesDue, Gets, GetsBy};
 ghost use Rattle.site_server.specs.Conversations.{CountsReplies};
 
 use crate::site::outboxes::Outboxes;
@@ -151,7 +152,9 @@ impl<'a, D: DeskNames, R: Wait, P: Peers + Drop, B: TickSignal + Drop> SiteClien
         reader: &mut I,
         writer: &mut W,
     ) -> Result<EndedBy, ConversationError>
-        ensures ends { (talk : Talk (λ before line text after. Gets P.size P.sends D.id (asked line) before.seat before.peers text after.seat after.peers)
+        ensures ends { (talk : Talk
+            (λ before line text after. Gets P.size P.sends D.id (asked line) before.seat before.peers text
+            after.seat after.peers)
             self.old (I.remaining reader.old) (I.remaining reader.new) (W.contents writer.old) (W.contents writer.new))
             × EndsBy result talk × CountsReplies self.old.seat talk.lines talk.replies self.new.seat }
         ensures all { result ≡ Ok EndedBy.Input → IsAtEnd (I.remaining reader.new) }
@@ -166,7 +169,8 @@ impl<'a, D: DeskNames, R: Wait, P: Peers + Drop, B: TickSignal + Drop> SiteClien
         replies: &mut Replies<A>,
     ) -> Result<(), OutOfMemory>
         requires { replies.old.part ≡ [] }
-        ensures ok { OnOk result ((text : List ℕ) × CarriesOut D.id self.old.seat command text self.new.seat × AddsReply replies.old replies.new text) }
+        ensures ok { OnOk result ((text : List ℕ) × CarriesOut D.id self.old.seat command text self.new.seat
+            × AddsReply replies.old replies.new text) }
         ensures short { OnOk result (length replies.new.whole ≤ length replies.old.whole + REPLY_ROOM) }
         ensures err { OnErr result ((self.new ≡ self.old) × (replies.new.whole ≡ replies.old.whole)) }
         ensures rest { self.new ≡ record self.old { seat = self.new.seat } }
@@ -193,7 +197,9 @@ impl<'a, D: DeskNames, R: Wait, P: Peers + Drop, B: TickSignal + Drop> SiteClien
     /// Does everything due at this time, and adds the reply.
     fn tick<A: Allocator>(&mut self, time: u64, replies: &mut Replies<A>) -> Result<(), OutOfMemory>
         requires { replies.old.part ≡ [] }
-        ensures ok { OnOk result ((text : List ℕ) × DoesDue P.size P.sends D.id self.old.seat self.old.peers time text self.new.seat self.new.peers × AddsReply replies.old replies.new text) }
+        ensures ok { OnOk result ((text : List ℕ)
+            × DoesDue P.size P.sends D.id self.old.seat self.old.peers time text self.new.seat self.new.peers
+            × AddsReply replies.old replies.new text) }
         ensures short { OnOk result (length replies.new.whole ≤ length replies.old.whole + TICK_ROOM) }
         ensures err { OnErr result ((self.new ≡ self.old) × (replies.new.whole ≡ replies.old.whole)) }
     {
@@ -206,7 +212,8 @@ impl<'a, D: DeskNames, R: Wait, P: Peers + Drop, B: TickSignal + Drop> SiteClien
 
     /// Does everything due at this time, which is the wall clock's, with no reply.
     pub(crate) fn tick_alone(&mut self, time: u64)
-        ensures { (outcome : Result (Ticked × ℕ) DeskError) × TicksAndSends P.size P.sends D.id self.old.seat self.old.peers time outcome self.new.seat self.new.peers }
+        ensures { (outcome : Result (Ticked × ℕ) DeskError)
+            × TicksAndSends P.size P.sends D.id self.old.seat self.old.peers time outcome self.new.seat self.new.peers }
     {
         let _ = self.tick_and_send(time);
     }
@@ -214,7 +221,8 @@ impl<'a, D: DeskNames, R: Wait, P: Peers + Drop, B: TickSignal + Drop> SiteClien
     /// Does what is due at the desk under its lock, and then sends each peer what is due to it. In between, entries
     /// of peers may be applied.
     fn tick_and_send(&mut self, time: u64) -> Result<(Ticked, u64), DeskError>
-        ensures { TicksAndSends P.size P.sends D.id self.old.seat self.old.peers time result self.new.seat self.new.peers }
+        ensures { TicksAndSends P.size P.sends D.id self.old.seat self.old.peers time result self.new.seat
+            self.new.peers }
     {
         let ticked = self.tick_at_desk(time);
         self.signal.notify();
@@ -286,8 +294,10 @@ impl<'a, D: DeskNames, R: Wait, P: Peers + Drop, B: TickSignal + Drop> SiteClien
         replies: &mut Replies<A>,
     ) -> Result<Goes, OutOfMemory>
         requires { replies.old.part ≡ [] }
-        ensures ok { IfOk result (λ goes. GetsBy P.size P.sends goes D.id command self.old.seat self.old.peers replies.old self.new.seat self.new.peers replies.new) }
-        ensures short { OnOk result ((length replies.new.whole ≤ length replies.old.whole + TICK_ROOM) ⊎ (self.new ≡ self.old)) }
+        ensures ok { IfOk result (λ goes. GetsBy P.size P.sends goes D.id command self.old.seat self.old.peers
+            replies.old self.new.seat self.new.peers replies.new) }
+        ensures short { OnOk result ((length replies.new.whole ≤ length replies.old.whole + TICK_ROOM)
+            ⊎ (self.new ≡ self.old)) }
         ensures err { OnErr result ((self.new ≡ self.old) × (replies.new.whole ≡ replies.old.whole)) }
     {
         match command {
@@ -305,7 +315,8 @@ impl<D: DeskNames, R: Wait, P: Peers + Drop, B: TickSignal + Drop> LineHandler
     for SiteClient<'_, D, R, P, B> {
     ghost use Rattle.site_server.specs.Replying.{asked, Gets};
 
-    ghost answers = { λ before line text after. Gets P.size P.sends D.id (asked line) before.seat before.peers text after.seat after.peers };
+    ghost answers = { λ before line text after. Gets P.size P.sends D.id (asked line) before.seat before.peers text
+        after.seat after.peers };
 
     // No command was carried out whose reply had no room.
     ghost fails = { λ before after. (after.seat ≡ before.seat) × (after.peers ≡ before.peers) };

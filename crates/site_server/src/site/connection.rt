@@ -23,8 +23,11 @@ impl<D: DeskNames, R: Wait, P: Peers + Drop, B: TickSignal + Drop> SiteClient<'_
         replies: &mut Replies<Global>,
     ) -> Result<(), OutOfMemory>
         requires { replies.old.part ≡ [] }
-        ensures ok { OnOk result ((text : List ℕ) × Tells P.size P.sends D.id command self.old.seat self.old.peers text self.new.seat self.new.peers × AddsReply replies.old replies.new text) }
-        ensures short { OnOk result ((length replies.new.whole ≤ length replies.old.whole + TICK_ROOM) ⊎ (self.new ≡ self.old)) }
+        ensures ok { OnOk result ((text : List ℕ)
+            × Tells P.size P.sends D.id command self.old.seat self.old.peers text self.new.seat self.new.peers
+            × AddsReply replies.old replies.new text) }
+        ensures short { OnOk result ((length replies.new.whole ≤ length replies.old.whole + TICK_ROOM)
+            ⊎ (self.new ≡ self.old)) }
         ensures err { OnErr result (self.new ≡ self.old) }
     {
         if self.site.is_over() {
@@ -46,8 +49,11 @@ impl<D: DeskNames, R: Wait, P: Peers + Drop, B: TickSignal + Drop> SiteClient<'_
         replies: &mut Replies<Global>,
     ) -> Result<(), OutOfMemory>
         requires { replies.old.part ≡ [] }
-        ensures ok { OnOk result ((text : List ℕ) × TellsSettled P.size P.sends (B.has_ended self.old.signal) D.id command self.old.seat self.old.peers text self.new.seat self.new.peers × AddsReply replies.old replies.new text) }
-        ensures short { OnOk result ((length replies.new.whole ≤ length replies.old.whole + TICK_ROOM) ⊎ (self.new ≡ self.old)) }
+        ensures ok { OnOk result ((text : List ℕ)
+            × TellsSettled P.size P.sends (B.has_ended self.old.signal) D.id command self.old.seat self.old.peers text
+            self.new.seat self.new.peers × AddsReply replies.old replies.new text) }
+        ensures short { OnOk result ((length replies.new.whole ≤ length replies.old.whole + TICK_ROOM)
+            ⊎ (self.new ≡ self.old)) }
         ensures err { OnErr result (self.new ≡ self.old) }
     {
         match command {
@@ -64,8 +70,11 @@ impl<D: DeskNames, R: Wait, P: Peers + Drop, B: TickSignal + Drop> SiteClient<'_
         replies: &mut Replies<Global>,
     ) -> Result<(), OutOfMemory>
         requires { replies.old.part ≡ [] }
-        ensures ok { OnOk result ((text : List ℕ) × TellsBy P.size P.sends waits (B.has_ended self.old.signal) D.id command self.old.seat self.old.peers text self.new.seat self.new.peers × AddsReply replies.old replies.new text) }
-        ensures short { OnOk result ((length replies.new.whole ≤ length replies.old.whole + TICK_ROOM) ⊎ (self.new ≡ self.old)) }
+        ensures ok { OnOk result ((text : List ℕ)
+            × TellsBy P.size P.sends waits (B.has_ended self.old.signal) D.id command self.old.seat self.old.peers text
+            self.new.seat self.new.peers × AddsReply replies.old replies.new text) }
+        ensures short { OnOk result ((length replies.new.whole ≤ length replies.old.whole + TICK_ROOM)
+            ⊎ (self.new ≡ self.old)) }
         ensures err { OnErr result (self.new ≡ self.old) }
     {
         if waits {

@@ -77,7 +77,8 @@ impl<D: DeskNames, R: Wait, P: Peers + Drop, B: TickSignal + Drop> SiteClient<'_
         replies: &mut Replies<A>,
     ) -> Result<(), OutOfMemory>
         requires { replies.old.part ≡ [] }
-        ensures { OnOk result ((text : List ℕ) × TellsMetrics D.id text × (replies.new.whole ≡ replies.old.whole ++ text)) }
+        ensures { OnOk result ((text : List ℕ) × TellsMetrics D.id text
+            × (replies.new.whole ≡ replies.old.whole ++ text)) }
     {
         let (metrics, peers) = self.metrics()?;
         put_metrics(&metrics, peers.as_slice(), replies)

@@ -44,7 +44,8 @@ impl Sink for LockedOutbox<'_> {
     }
 }
 
-/// The outbox of one peer, whose lock is taken for each line. In between other threads put lines too, and one takes them.
+/// The outbox of one peer, whose lock is taken for each line. In between other threads put lines too, and one takes
+/// them.
 #[derive(Drop)]
 pub(crate) struct PeerOutbox<'a, R: Wait> {
     rt: &'a R,
@@ -96,8 +97,8 @@ impl<'a, D: DeskNames, R: Wait + Clock> Outboxes<'a, D, R> {
         log.len().saturating_sub(log.cursor(peer)) + 2
     }
 
-    /// Offers everything due to the peer at this index to its outbox, under the desk's lock and the outbox's, and returns
-    /// how many lines it accepted.
+    /// Offers everything due to the peer at this index to its outbox, under the desk's lock and the outbox's, and
+    /// returns how many lines it accepted.
     fn send_to(&self, place: usize) -> Result<u64, OutOfMemory>
         requires { place < length self.now.peers.now }
         ensures sends { IfOk result (λ sent. SendsToPeer D.id self.now.peers.now place sent) }

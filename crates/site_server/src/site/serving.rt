@@ -31,7 +31,8 @@ fn converse<C: Client + Drop, I: Read, W: Write>(
     writer: &mut W,
 ) -> C
     ensures { Conversed (Responds C.answers C.status C.metrics C.closed)
-        (I.remaining reader.old) (I.remaining reader.new) (W.contents writer.old) (W.contents writer.new) client result }
+        (I.remaining reader.old) (I.remaining reader.new) (W.contents writer.old)
+        (W.contents writer.new) client result }
 {
     let mut connection = Connection::new(alloc, keys, service_config());
     let mut service = ClientService::new(alloc, client);
@@ -57,7 +58,8 @@ fn answer_requests<
     writer: &mut W,
 ) -> SiteClient<'a, D, R, P, B>
     ensures { (talk : Conversed (Responded P.size P.sends B.has_ended D.id)
-        (I.remaining reader.old) (I.remaining reader.new) (W.contents writer.old) (W.contents writer.new) client.entry result)
+        (I.remaining reader.old) (I.remaining reader.new) (W.contents writer.old)
+        (W.contents writer.new) client.entry result)
         × CountsCalls client.entry.seat talk.history.calls result.seat }
 {
     converse(alloc, keys, client, reader, writer)

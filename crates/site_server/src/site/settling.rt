@@ -26,7 +26,9 @@ impl<D: DeskNames, R: Wait, P: Peers + Drop, B: TickSignal + Drop> SiteClient<'_
         replies: &mut Replies<A>,
     ) -> Result<(), OutOfMemory>
         requires { replies.old.part ≡ [] }
-        ensures ok { OnOk result ((text : List ℕ) × SettlesCommand (B.has_ended self.old.signal) D.id self.old.seat command text self.new.seat × AddsReply replies.old replies.new text) }
+        ensures ok { OnOk result ((text : List ℕ)
+            × SettlesCommand (B.has_ended self.old.signal) D.id self.old.seat command text self.new.seat
+            × AddsReply replies.old replies.new text) }
         ensures short { OnOk result (length replies.new.whole ≤ length replies.old.whole + REPLY_ROOM) }
         ensures err { OnErr result (self.new ≡ self.old) }
         ensures rest { self.new ≡ record self.old { seat = self.new.seat } }

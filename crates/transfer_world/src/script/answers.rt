@@ -3,7 +3,8 @@ ghost use Rattle.std.specs.Prelude.{◌≡◌, ◌<◌, ℕ, List, [], ◌∷◌
 ghost use Rattle.std.specs.Option.{option_copied};
 ghost use Rattle.line_streams.specs.Waiting.{AddsReply};
 ghost use Rattle.line_streams.specs.Handling.{IsGiven};
-ghost use Rattle.transfer_world.specs.Replies.{error_name, verdict_text, verdicts_text, unended, packet_reply, reply_text, outcome_text};
+ghost use Rattle.transfer_world.specs.Replies.{error_name, verdict_text, verdicts_text, unended, packet_reply};
+ghost use Rattle.transfer_world.specs.Replies.{reply_text, outcome_text};
 ghost use Rattle.transfer_world.specs.Script.{CommandGets, LineGets};
 
 use crate::script::commands::{ScriptCommand, read_command};

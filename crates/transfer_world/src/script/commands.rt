@@ -3,7 +3,9 @@ ghost use Rattle.std.specs.Prelude.{◌≡◌, ℕ, List, [], ◌≤◌, length,
 ghost use Rattle.entry_codec.specs.Parts.{Finds};
 ghost use Rattle.line_streams.specs.Words.{words_of, words_left};
 ghost use Rattle.line_streams.specs.Handling.{IsGiven};
-ghost use Rattle.transfer_world.specs.Commands.{moves_in, two_sites, site_event, link_event, event_on_link, post_of, noise_parts, noise_of, sites_of, act, command_by, command_in, command_of, takes_memory, TakeMemory};
+ghost use Rattle.transfer_world.specs.Commands.{moves_in, two_sites, site_event, link_event, event_on_link, post_of};
+ghost use Rattle.transfer_world.specs.Commands.{noise_parts, noise_of, sites_of, act, command_by, command_in};
+ghost use Rattle.transfer_world.specs.Commands.{command_of, takes_memory, TakeMemory};
 
 use crate::script::word::{LinkWord, SiteWord, Word, first_word};
 use entry_codec::read_move;

@@ -1,7 +1,8 @@
 //! The report on all sites and pairs.
 ghost use Rattle.std.specs.Prelude.{◌≡◌, ◌++◌, ◌≤◌, Bool, OnOk, codes};
 ghost use Rattle.world_core.specs.Worlds.{count};
-ghost use Rattle.transfer_world.specs.Replies.{bit, site_line, pair_line, other_line, pair_lines, total_text, report_text};
+ghost use Rattle.transfer_world.specs.Replies.{bit, site_line, pair_line, other_line, pair_lines, total_text};
+ghost use Rattle.transfer_world.specs.Replies.{report_text};
 
 use line_streams::Replies;
 use rights_types::{OutOfMemory, SiteId};

@@ -1,5 +1,6 @@
 //! The input from an origin's log, and the list in which it was delivered.
-ghost use Rattle.std.specs.Prelude.{◌≡◌, ◌+◌, ◌<◌, ◌≤◌, if◌then◌else◌, [], ◌∷◌, ◌++◌, ◌↔◌, ℕ, None, Some, true, IfOk, IfSome, OnOk, IsSome, IsTrue, List, length, map, take, drop, vec_capacity};
+ghost use Rattle.std.specs.Prelude.{◌≡◌, ◌+◌, ◌<◌, ◌≤◌, if◌then◌else◌, [], ◌∷◌, ◌++◌, ◌↔◌, ℕ, None, Some, true, IfOk};
+ghost use Rattle.std.specs.Prelude.{IfSome, OnOk, IsSome, IsTrue, List, length, map, take, drop, vec_capacity};
 ghost use Rattle.std.specs.Option.{option_map, is_some};
 ghost use Rattle.rights_types.specs.Entries.{EntryValue};
 ghost use Rattle.rights_types.specs.declared.limits.TheConstants.{MAX_ANSWER, MAX_HELD};

@@ -1,7 +1,8 @@
 //! Events at the desk of one site.
 ghost use Rattle.std.specs.Prelude.{◌≡◌, None};
 ghost use Rattle.world_core.specs.Faults.{site_fault};
-ghost use Rattle.world_core.specs.DeskEvents.{PostHappens, IssueHappens, GiveHappens, SpendHappens, ServeHappens, ExpireHappens, StatusHappens, PlanHappens, CloseHappens};
+ghost use Rattle.world_core.specs.DeskEvents.{PostHappens, IssueHappens, GiveHappens, SpendHappens, ServeHappens};
+ghost use Rattle.world_core.specs.DeskEvents.{ExpireHappens, StatusHappens, PlanHappens, CloseHappens};
 
 use crate::fault::WorldError;
 use crate::keeping::Keeping;

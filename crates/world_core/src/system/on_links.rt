@@ -1,7 +1,8 @@
 //! Lines that are sent, noise, and entries that are taken.
 ghost use Rattle.std.specs.Prelude.{◌≡◌, None};
 ghost use Rattle.world_core.specs.Faults.{link_fault};
-ghost use Rattle.world_core.specs.LinkEvents.{AskHappens, PublishHappens, BeatHappens, QueryHappens, NoiseHappens, TakeHappens};
+ghost use Rattle.world_core.specs.LinkEvents.{AskHappens, PublishHappens, BeatHappens, QueryHappens, NoiseHappens};
+ghost use Rattle.world_core.specs.LinkEvents.{TakeHappens};
 ghost use Rattle.world_core.specs.Sound.{IsWorld};
 
 use crate::fault::WorldError;

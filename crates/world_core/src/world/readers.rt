@@ -6,7 +6,8 @@ ghost use Rattle.rights_types.specs.Rights.{issued, spent, to, sum_sites};
 ghost use Rattle.rights_protocol.specs.Lists.{IsSiteOf};
 ghost use Rattle.site_core.specs.Desks.{new_desk};
 ghost use Rattle.world_core.specs.Sound.{LinkSound, IsWorld};
-ghost use Rattle.world_core.specs.Worlds.{desk, link as link_of, log, reached, put, applied, count, packet, packet_text, held_by, on_way};
+ghost use Rattle.world_core.specs.Worlds.{desk, link as link_of, log, reached, put, applied, count, packet};
+ghost use Rattle.world_core.specs.Worlds.{packet_text, held_by, on_way};
 
 use super::World;
 use crate::keeping::{ForReaders, Keeping};

@@ -7,5 +7,11 @@ abbrev pub invariant-loop-one : goal.invariant-loop-one
 invariant-loop-one g l =
     (l.yielded ++ into_iter_items l.one-iterator ≡ into_iter_items l.initial.one-iterator)
     × (into_iter_len l.one-iterator ≡ length (into_iter_items l.one-iterator))
-    × (l.number ≡ record l.initial.number { left = l.initial.number.left + length l.yielded; returned = all_numbers l.yielded })
-    × (l.received ≡ record l.initial.received { left = l.initial.received.left + length l.yielded; returned = all_received l.yielded })
+    × (l.number ≡ record l.initial.number {
+      left = l.initial.number.left + length l.yielded;
+      returned = all_numbers l.yielded;
+    })
+    × (l.received ≡ record l.initial.received {
+      left = l.initial.received.left + length l.yielded;
+      returned = all_received l.yielded;
+    })

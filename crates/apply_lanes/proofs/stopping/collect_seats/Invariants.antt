@@ -7,7 +7,14 @@ abbrev pub invariant-loop-seat : goal.invariant-loop-seat
 invariant-loop-seat g l =
     (l.yielded ++ into_iter_items l.seat-iterator ≡ into_iter_items l.initial.seat-iterator)
     × (into_iter_len l.seat-iterator ≡ length (into_iter_items l.seat-iterator))
-    × (l.told_issued ≡ all_issued l.yielded) × (l.told_spent ≡ all_spent l.yielded) × (l.told_served ≡ all_served l.yielded)
-    × (l.issued ≡ record l.initial.issued { left = l.initial.issued.left + length l.yielded; returned = all_issued l.yielded })
-    × (l.spent ≡ record l.initial.spent { left = l.initial.spent.left + length l.yielded; returned = all_spent l.yielded + all_served l.yielded })
+    × (l.told_issued ≡ all_issued l.yielded) × (l.told_spent ≡ all_spent l.yielded)
+    × (l.told_served ≡ all_served l.yielded)
+    × (l.issued ≡ record l.initial.issued {
+      left = l.initial.issued.left + length l.yielded;
+      returned = all_issued l.yielded;
+    })
+    × (l.spent ≡ record l.initial.spent {
+      left = l.initial.spent.left + length l.yielded;
+      returned = all_spent l.yielded + all_served l.yielded;
+    })
     × (l.issued.returned ≤ l.issued.sum) × (l.spent.returned ≤ l.spent.sum)

@@ -4,5 +4,8 @@ use Rattle.thread_parts.proofs.Items.{begins_chain}
 use Rattle.bench.proofs.lane.put_all.Goals as goal
 
 pub loop-number-init : goal.loop-number-init
-loop-number-init g c =
-    ((λ f of at valid. subst (λ l. Continues l f) (sym c.requires) (begins_chain f (record { prev = at; valid = valid }))), ([], c.requires))
+loop-number-init g c = (
+  (λ f of at valid. subst (λ l. Continues l f) (sym c.requires)
+      (begins_chain f (record { prev = at; valid = valid }))),
+  ([], c.requires),
+)

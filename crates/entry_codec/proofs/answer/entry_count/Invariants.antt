@@ -7,7 +7,8 @@ use Rattle.entry_codec.proofs.answer.entry_count.Given as goal
 
 abbrev pub invariant-loop-rest : goal.invariant-loop-rest
 invariant-loop-rest l = record {
-  read : AreReadUpTo l.count (entries_of (1 + l.count) l.origin (parts_left l.rest)) (entries_of 1 l.origin (parts_left l.parts));
+  read : AreReadUpTo l.count (entries_of (1 + l.count) l.origin (parts_left l.rest))
+      (entries_of 1 l.origin (parts_left l.parts));
   room : l.count + length (left 59 l.rest) ≤ 16385;
   short : IfSome l.rest (λ text. length text.now ≤ 16384);
   slots : length l.kept ≡ 17;

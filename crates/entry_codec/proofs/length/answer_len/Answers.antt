@@ -9,8 +9,10 @@ use Rattle.entry_codec.proofs.length.answer_len.Goals as goal
 pub loop-entry-init : goal.loop-entry-init
 loop-entry-init g c =
     let a = c.args.answer.now in
-    let origin = c.digit_count.ensures.value ∙ ap (λ n. length (decimal n)) (c.number.ensures.value ∙ c.origin.ensures.value) in
-    let asker = c.digit_count-2.ensures.value ∙ ap (λ n. length (decimal n)) (c.number-2.ensures.value ∙ c.asker.ensures.value) in (
+    let origin = c.digit_count.ensures.value
+    ∙ ap (λ n. length (decimal n)) (c.number.ensures.value ∙ c.origin.ensures.value) in
+    let asker = c.digit_count-2.ensures.value
+    ∙ ap (λ n. length (decimal n)) (c.number-2.ensures.value ∙ c.asker.ensures.value) in (
       omega (arith, origin, asker, length-append (decimal a.origin) (32 ∷ decimal a.asker)),
       omega (arith, c.digit_count.ensures.small, c.digit_count-2.ensures.small),
     )
@@ -20,7 +22,8 @@ loop-entry-preserved g c =
     let items = c.entries-entry-items.result.now in
     let i = c.loop-entry.entry-index in
     let more = ap length (behind_more 59 entry_text items i c.entry-item.result c.loop-entry-test.true) in
-    let both = length-append (behind 59 entry_text (take i items)) (59 ∷ entry_text (get_or items i c.entry-item.result)) in
+    let both = length-append (behind 59 entry_text (take i items))
+    (59 ∷ entry_text (get_or items i c.entry-item.result)) in
     let item = ap (λ (e : EntryValue). length (entry_text e)) c.entry-item.is in
     let so_far = c.loop-entry.invariant in (
       omega (arith, more, both, item, so_far.0, c.entry_len.ensures.value),

@@ -8,8 +8,12 @@ returns-in_err-peer c = rw c.from_residual.ensures (give_none c.args.values.now 
 
 pub returns-in_err-amount : goal.returns-in_err-amount
 returns-in_err-amount c =
-    rw c.from_residual-in_err-amount.ensures (give_first c.args.values.now c.in_ok-peer.peer c.in_ok-peer.rest c.in_ok-peer.ensures.value ∙ ap (λ o. o >>= gave c.in_ok-peer.peer) c.in_err-amount.ensures.value)
+    rw c.from_residual-in_err-amount.ensures
+    (give_first c.args.values.now c.in_ok-peer.peer c.in_ok-peer.rest c.in_ok-peer.ensures.value
+    ∙ ap (λ o. o >>= gave c.in_ok-peer.peer) c.in_err-amount.ensures.value)
 
 pub returns : goal.returns
 returns c =
-    rw (c.known.ensures, c.known-2.ensures) (give_first c.args.values.now c.in_ok-peer.peer c.in_ok-peer.rest c.in_ok-peer.ensures.value ∙ ap (λ o. o >>= gave c.in_ok-peer.peer) c.in_ok-amount.ensures.value)
+    rw (c.known.ensures, c.known-2.ensures)
+    (give_first c.args.values.now c.in_ok-peer.peer c.in_ok-peer.rest c.in_ok-peer.ensures.value
+    ∙ ap (λ o. o >>= gave c.in_ok-peer.peer) c.in_ok-amount.ensures.value)

@@ -8,18 +8,24 @@ returns-in_err-peer c = rw c.from_residual.ensures (grant_none c.args.values.now
 
 pub returns-in_err-amount : goal.returns-in_err-amount
 returns-in_err-amount c =
-    rw c.from_residual-in_err-amount.ensures (grant_peer c.args.values.now c.in_ok-peer.peer c.in_ok-peer.rest c.in_ok-peer.ensures.value c.in_err-amount.ensures.value)
+    rw c.from_residual-in_err-amount.ensures
+    (grant_peer c.args.values.now c.in_ok-peer.peer c.in_ok-peer.rest c.in_ok-peer.ensures.value
+    c.in_err-amount.ensures.value)
 
 pub returns-in_err-ask : goal.returns-in_err-ask
 returns-in_err-ask c =
     let j = c.in_ok-peer.peer in
     let n = c.in_ok-amount.amount in
-    rw c.from_residual-in_err-ask.ensures (grant_first c.args.values.now j n c.in_ok-peer.rest c.in_ok-amount.rest c.in_ok-peer.ensures.value c.in_ok-amount.ensures.value
+    rw c.from_residual-in_err-ask.ensures
+    (grant_first c.args.values.now j n c.in_ok-peer.rest c.in_ok-amount.rest c.in_ok-peer.ensures.value
+    c.in_ok-amount.ensures.value
     ∙ ap (λ o. o >>= granted j n) c.in_err-ask.ensures.value)
 
 pub returns : goal.returns
 returns c =
     let j = c.in_ok-peer.peer in
     let n = c.in_ok-amount.amount in
-    rw (c.known.ensures, c.known-2.ensures, c.known-3.ensures) (grant_first c.args.values.now j n c.in_ok-peer.rest c.in_ok-amount.rest c.in_ok-peer.ensures.value c.in_ok-amount.ensures.value
+    rw (c.known.ensures, c.known-2.ensures, c.known-3.ensures)
+    (grant_first c.args.values.now j n c.in_ok-peer.rest c.in_ok-amount.rest c.in_ok-peer.ensures.value
+    c.in_ok-amount.ensures.value
     ∙ ap (λ o. o >>= granted j n) c.in_ok-ask.ensures.value)

@@ -8,14 +8,18 @@ pub overflow_mul-value : goal.overflow_mul-value
 overflow_mul-value c =
     let text = c.args.text.now in
     let long = length-take-le c.min.result text (omega (arith, c.min.ensures)) in
-    let small = tenfold text c.loop-count.count c.loop-count.value (omega (arith, c.loop-count-test.true, long, c.min.ensures)) (omega (arith, c.loop-count-test.true, long, c.min.ensures)) c.loop-count.invariant in
+    let small = tenfold text c.loop-count.count c.loop-count.value
+    (omega (arith, c.loop-count-test.true, long, c.min.ensures))
+    (omega (arith, c.loop-count-test.true, long, c.min.ensures)) c.loop-count.invariant in
     omega (arith, small)
 
 pub overflow_add-value : goal.overflow_add-value
 overflow_add-value c =
     let text = c.args.text.now in
     let long = length-take-le c.min.result text (omega (arith, c.min.ensures)) in
-    let small = tenfold text c.loop-count.count c.loop-count.value (omega (arith, c.loop-count-test.true, long, c.min.ensures)) (omega (arith, c.loop-count-test.true, long, c.min.ensures)) c.loop-count.invariant in
+    let small = tenfold text c.loop-count.count c.loop-count.value
+    (omega (arith, c.loop-count-test.true, long, c.min.ensures))
+    (omega (arith, c.loop-count-test.true, long, c.min.ensures)) c.loop-count.invariant in
     let digit = c.in-Some.ensures in
     omega (arith, small, digit.0)
 
@@ -26,4 +30,5 @@ loop-count-preserved c =
     let long = length-take-le c.min.result text (omega (arith, c.min.ensures)) in
     let below : count < c.min.result = omega (arith, c.loop-count-test.true, long) in
     let digit = c.in-Some.ensures in
-    reads_more text count c.loop-count.value c.in-Some.digit (omega (arith, below, c.min.ensures)) digit.0 (digit.1 ∙ ap digit_value (get_or-take c.min.result text count 0 below)) c.loop-count.invariant
+    reads_more text count c.loop-count.value c.in-Some.digit (omega (arith, below, c.min.ensures)) digit.0 (digit.1
+    ∙ ap digit_value (get_or-take c.min.result text count 0 below)) c.loop-count.invariant

@@ -3,13 +3,33 @@ use Rattle.entry_codec.proofs.Digits.{last_eight, length_by_eight, in_parts}
 use Rattle.entry_codec.proofs.put.put_up_to_twelve.Goals as goal
 
 pub put_up_to_four-at-requires-clause-room : goal.put_up_to_four-at-requires-clause-room
-put_up_to_four-at-requires-clause-room c = omega (arith, c.requires.room, length_by_eight c.args.number c.if-number-lt-EIGHT_DIGITS.false (omega (arith, c.requires.small)))
+put_up_to_four-at-requires-clause-room c
+    = omega (
+      arith,
+      c.requires.room,
+      length_by_eight c.args.number c.if-number-lt-EIGHT_DIGITS.false
+          (omega (arith, c.requires.small)),
+    )
 
 pub put_eight-requires-clause-room : goal.put_eight-requires-clause-room
-put_eight-requires-clause-room c = omega (arith, c.requires.room, length_by_eight c.args.number c.if-number-lt-EIGHT_DIGITS.false (omega (arith, c.requires.small)), c.put_up_to_four-at.ensures.end, c.put_up_to_four-at.auto.buffer)
+put_eight-requires-clause-room c
+    = omega (
+      arith,
+      c.requires.room,
+      length_by_eight c.args.number c.if-number-lt-EIGHT_DIGITS.false
+          (omega (arith, c.requires.small)),
+      c.put_up_to_four-at.ensures.end,
+      c.put_up_to_four-at.auto.buffer,
+    )
 
 pub returns-clause-end : goal.returns-clause-end
-returns-clause-end c = omega (arith, length_by_eight c.args.number c.if-number-lt-EIGHT_DIGITS.false (omega (arith, c.requires.small)), c.put_up_to_four-at.ensures.end, c.put_eight.ensures.end)
+returns-clause-end c = omega (
+  arith,
+  length_by_eight c.args.number c.if-number-lt-EIGHT_DIGITS.false (omega (arith, c.requires.small)),
+  c.put_up_to_four-at.ensures.end,
+  c.put_eight.ensures.end,
+)
 
 pub returns-clause-text : goal.returns-clause-text
-returns-clause-text c = in_parts _ _ _ _ _ _ c.put_up_to_four-at.ensures.text c.put_eight.ensures.text (last_eight c.args.number c.if-number-lt-EIGHT_DIGITS.false (omega (arith, c.requires.small)))
+returns-clause-text c = in_parts _ _ _ _ _ _ c.put_up_to_four-at.ensures.text c.put_eight.ensures.text
+    (last_eight c.args.number c.if-number-lt-EIGHT_DIGITS.false (omega (arith, c.requires.small)))

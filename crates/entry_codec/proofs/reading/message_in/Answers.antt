@@ -3,7 +3,8 @@ use Rattle.entry_codec.proofs.Lines.{one_entry}
 use Rattle.entry_codec.proofs.reading.message_in.Goals as goal
 
 pub returns-in-Ok-clause-value : goal.returns-in-Ok-clause-value
-returns-in-Ok-clause-value g c = one_entry c.args.text.now c.in-Some.fields.now c.in-Ok.entry c.in-Some.ensures c.in-Ok.ensures
+returns-in-Ok-clause-value g c
+    = one_entry c.args.text.now c.in-Some.fields.now c.in-Ok.entry c.in-Some.ensures c.in-Ok.ensures
 
 pub returns-in-Err-OutOfMemory-clause-value : goal.returns-in-Err-OutOfMemory-clause-value
 returns-in-Err-OutOfMemory-clause-value g c =

@@ -9,4 +9,5 @@ pub returns-clause-found : goal.returns-clause-found
 returns-clause-found g c = is_found value_of c.args.line.now c.message_of_line.result c.message_of_line.ensures.value
 
 pub returns-clause-only : goal.returns-clause-only
-returns-clause-only g c = λ m h. subst (λ read. Gives value_of c.message_of_line.result read) (ap reading h.1 ∙ reading_again m h.0) c.message_of_line.ensures.value
+returns-clause-only g c = λ m h. subst (λ read. Gives value_of c.message_of_line.result read) (ap reading h.1
+    ∙ reading_again m h.0) c.message_of_line.ensures.value

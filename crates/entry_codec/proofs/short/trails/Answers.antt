@@ -7,4 +7,8 @@ returns-then-is_some c = rw (some_left 32 c.args.fields c.is_some.result c.is_so
 
 pub returns-else-is_some : goal.returns-else-is_some
 returns-else-is_some c =
-    rw (some_left 32 c.args.fields c.is_some.result c.is_some.ensures, c.if-is_some.false, some_others c.args.others c.is_some-else-is_some.result c.is_some-else-is_some.ensures) refl
+    rw (
+      some_left 32 c.args.fields c.is_some.result c.is_some.ensures,
+      c.if-is_some.false,
+      some_others c.args.others c.is_some-else-is_some.result c.is_some-else-is_some.ensures,
+    ) refl

@@ -10,5 +10,13 @@ put_byte-requires g c = omega (arith, c.put_entry-at.ensures.end, c.requires, c.
 
 pub returns : goal.returns
 returns g c =
-    sym (take_all c.put_byte.result c.put_byte.new.buffer (omega (arith, c.put_byte.ensures.end, c.put_entry-at.ensures.end, c.requires, c.put_entry-at.auto.buffer, c.put_byte.auto.buffer)))
+    sym (take_all c.put_byte.result c.put_byte.new.buffer
+    (omega (
+      arith,
+      c.put_byte.ensures.end,
+      c.put_entry-at.ensures.end,
+      c.requires,
+      c.put_entry-at.auto.buffer,
+      c.put_byte.auto.buffer,
+    )))
     ∙ c.put_byte.ensures.text ∙ ap (λ (t : List ℕ). t ++ 10 ∷ []) c.put_entry-at.ensures.text

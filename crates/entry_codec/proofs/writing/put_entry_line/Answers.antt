@@ -12,7 +12,13 @@ put_entry_of-at-requires-clause-room c =
 pub put_byte-requires : goal.put_byte-requires
 put_byte-requires c =
     let e : EntryValue = record { origin = c.args.origin; prev = c.args.prev; moves = c.args.moves.now } in
-    omega (arith, entry_room e c.requires.valid, c.requires.room, c.put_entry_of-at.ensures.end, c.put_entry_of-at.auto.buffer)
+    omega (
+      arith,
+      entry_room e c.requires.valid,
+      c.requires.room,
+      c.put_entry_of-at.ensures.end,
+      c.put_entry_of-at.auto.buffer,
+    )
 
 pub returns-clause-text : goal.returns-clause-text
 returns-clause-text c =

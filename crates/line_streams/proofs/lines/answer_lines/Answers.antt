@@ -9,5 +9,6 @@ returns-in_err-buffer-clause-ends g c =
 
 pub returns-in_err-conversation-clause-ends : goal.returns-in_err-conversation-clause-ends
 returns-in_err-conversation-clause-ends g c =
-    let p = err_from_is_err_and c.from_residual-in_err-conversation.result c.from_residual-in_err-conversation.ensures.1 in
+    let p = err_from_is_err_and c.from_residual-in_err-conversation.result
+    c.from_residual-in_err-conversation.ensures.1 in
     rw (p.1, p.2) (nothing_ran g.H.LineHandler.answers g.H.LineHandler.fails _ _ _)

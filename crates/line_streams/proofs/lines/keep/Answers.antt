@@ -4,7 +4,8 @@ use Rattle.line_streams.proofs.lines.keep.Goals as goal
 
 pub returns-in_ok-extend_from_slice : goal.returns-in_ok-extend_from_slice
 returns-in_ok-extend_from_slice g c =
-    let all : c.len-room.result ≡ length c.args.carry.now.items = omega (arith, c.args.carry.now.ok.0, c.len-room.ensures) in
+    let all : c.len-room.result ≡ length c.args.carry.now.items
+    = omega (arith, c.args.carry.now.ok.0, c.len-room.ensures) in
     c.in_ok-extend_from_slice.ensures.items
     ∙ ap (λ (n : ℕ). c.args.carry.now.items ++ take (16384 - n) c.args.bytes.now) all
     ∙ sym (take_over 16384 c.args.carry.now.items c.args.bytes.now c.requires)
@@ -12,4 +13,5 @@ returns-in_ok-extend_from_slice g c =
 pub returns-in_ok-extend_from_slice-2 : goal.returns-in_ok-extend_from_slice-2
 returns-in_ok-extend_from_slice-2 g c =
     c.in_ok-extend_from_slice-2.ensures.items
-    ∙ sym (take_under 16384 c.args.carry.now.items c.args.bytes.now c.requires (omega (arith, c.args.carry.now.ok.0, c.len-room.ensures, c.if-bytes-room.false)))
+    ∙ sym (take_under 16384 c.args.carry.now.items c.args.bytes.now c.requires
+    (omega (arith, c.args.carry.now.ok.0, c.len-room.ensures, c.if-bytes-room.false)))

@@ -4,10 +4,12 @@ use Rattle.line_streams.proofs.words.named.Goals as goal
 
 pub returns-then-eq : goal.returns-then-eq
 returns-then-eq g c =
-    let here = named_at c.args.table.now c.loop-name.name-index c.loop-name-item.result c.args.text.now (omega arith) c.loop-name-item.is in
+    let here = named_at c.args.table.now c.loop-name.name-index c.loop-name-item.result c.args.text.now
+    (omega arith) c.loop-name-item.is in
     sym (c.loop-name.invariant ∙ here ∙ rw (← c.if-eq.ensures) refl)
 
 pub loop-name-preserved : goal.loop-name-preserved
 loop-name-preserved g c =
-    let here = named_at c.args.table.now c.loop-name.name-index c.loop-name-item.result c.args.text.now (omega arith) c.loop-name-item.is in
+    let here = named_at c.args.table.now c.loop-name.name-index c.loop-name-item.result c.args.text.now
+    (omega arith) c.loop-name-item.is in
     c.loop-name.invariant ∙ here ∙ rw (← c.if-eq.ensures) refl

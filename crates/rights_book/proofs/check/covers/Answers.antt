@@ -20,14 +20,18 @@ loop-m-preserved c =
     let left = c.loop-m.left in
     let rest = drop (c.loop-m.m-index + 1) c.args.moves.now in
     let next = next_move c.args.moves.now c.loop-m.m-index m c.loop-m-test.true c.m-item.is in
-    let so_far : covers left (m ∷ rest) ≡ covers c.args.rights c.args.moves.now = ap (covers left) (sym next) ∙ c.loop-m.invariant.covered in
+    let so_far : covers left (m ∷ rest) ≡ covers c.args.rights c.args.moves.now = ap (covers left) (sym next)
+    ∙ c.loop-m.invariant.covered in
     let le : cost_of m ≤ left = omega (arith, c.cost-cost.ensures.value, c.if-cost-left.false) in
-    let step : (left - cost_of m) + gain_of m ≡ (left - c.cost-cost.result) + c.gain.result = omega (arith, c.cost-cost.ensures.value, c.gain.ensures.value) in
+    let step : (left - cost_of m) + gain_of m ≡ (left - c.cost-cost.result) + c.gain.result
+    = omega (arith, c.cost-cost.ensures.value, c.gain.ensures.value) in
     record {
-      covered = subst (λ r. covers r rest ≡ covers c.args.rights c.args.moves.now) step (sym (covers_next left m rest le) ∙ so_far);
+      covered = subst (λ r. covers r rest ≡ covers c.args.rights c.args.moves.now) step
+          (sym (covers_next left m rest le) ∙ so_far);
       bound = omega (arith, c.loop-m.invariant.bound, c.gain.ensures.range);
     }
 
 pub returns : goal.returns
 returns c =
-    ap (covers c.loop-m.left) (sym (drop_all c.loop-m.m-index c.args.moves.now c.loop-m-test.false)) ∙ c.loop-m.invariant.covered
+    ap (covers c.loop-m.left) (sym (drop_all c.loop-m.m-index c.args.moves.now c.loop-m-test.false))
+    ∙ c.loop-m.invariant.covered

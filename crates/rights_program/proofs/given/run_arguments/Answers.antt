@@ -8,5 +8,10 @@ use Rattle.rights_program.proofs.given.run_arguments.Goals as goal
 
 pub returns-in-Err-clause-ends : goal.returns-in-Err-clause-ends
 returns-in-Err-clause-ends g c =
-    let asked = asked_by (arguments c.args.words.now) in
-    (Err OutOfMemory, memory_may_stop asked, (λ same. none_ran Global _ _), (λ same other. absurd (other refl)), (c.report.ensures.status, c.report.ensures.says))
+    let asked = asked_by (arguments c.args.words.now) in (
+      Err OutOfMemory,
+      memory_may_stop asked,
+      (λ same. none_ran Global _ _),
+      (λ same other. absurd (other refl)),
+      (c.report.ensures.status, c.report.ensures.says),
+    )

@@ -11,8 +11,10 @@ use Rattle.rights_program.proofs.run.run_command.Goals as goal
 pub returns-in_err-command-clause-answered : goal.returns-in_err-command-clause-answered
 returns-in_err-command-clause-answered g c same =
     let p = err_from_is_err_and c.from_residual.result c.from_residual.ensures.1 in
-    subst (λ (e : Ending). Answered Global (g.R.Read.remaining c.args.reader.now) (g.R.Read.remaining c.args.reader.now) (g.W.Write.contents c.args.writer.now) (g.W.Write.contents c.args.writer.now) e) (sym (p.1 ∙ ap Err p.2))
-    (none_answered Global (g.R.Read.remaining c.args.reader.now) (g.W.Write.contents c.args.writer.now) (asked_by (texts c.args.words.now)) c.in_err-command.field-0.0 c.in_err-command.ensures same)
+    subst (λ (e : Ending). Answered Global (g.R.Read.remaining c.args.reader.now) (g.R.Read.remaining c.args.reader.now)
+    (g.W.Write.contents c.args.writer.now) (g.W.Write.contents c.args.writer.now) e) (sym (p.1 ∙ ap Err p.2))
+    (none_answered Global (g.R.Read.remaining c.args.reader.now) (g.W.Write.contents c.args.writer.now)
+    (asked_by (texts c.args.words.now)) c.in_err-command.field-0.0 c.in_err-command.ensures same)
 
 pub returns-in_err-command-clause-version : goal.returns-in_err-command-clause-version
 returns-in_err-command-clause-version g c same =

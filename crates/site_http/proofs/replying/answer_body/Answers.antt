@@ -7,6 +7,7 @@ pub returns-then-waits : goal.returns-then-waits
 returns-then-waits g c =
     let line = bad_command ++ 10 ∷ [] in (
       bad_command ∷ [],
-      rw (c.if-waits.true, c.refuse.ensures.status) (refused_many (g.C.Client.answers true) c.args.client.now _ c.in-None.ensures.other),
+      rw (c.if-waits.true, c.refuse.ensures.status)
+          (refused_many (g.C.Client.answers true) c.args.client.now _ c.in-None.ensures.other),
       c.refuse.ensures.text ∙ ap (λ (l : List ℕ). l ++ line) c.requires.fresh ∙ sym (append-nil line),
     )

@@ -12,7 +12,8 @@ returns-clause-ok g c =
       got.1,
       record {
         whole = whole;
-        text = put.0 ∙ ap (λ (l : List ℕ). l ++ c.reply.new.replies.whole) c.in_ok-reserve.ensures.kept ∙ ap (λ (l : List ℕ). c.args.out.now.items ++ l) whole;
+        text = put.0 ∙ ap (λ (l : List ℕ). l ++ c.reply.new.replies.whole) c.in_ok-reserve.ensures.kept
+            ∙ ap (λ (l : List ℕ). c.args.out.now.items ++ l) whole;
         room = put.1;
       },
     )) c.put_reply.ensures.ok

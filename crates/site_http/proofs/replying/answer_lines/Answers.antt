@@ -12,14 +12,17 @@ loop-text-preserved g c =
     let given = inv.answered.1 in
     let put = c.in_ok-answer_line.ensures.ok in
     let line = c.in-Some.text.now ++ 10 ∷ [] in
-    let below = leb-false MAX_REPLIES (length (text_of given)) (ap (λ (l : List ℕ). leb MAX_REPLIES (length l)) (sym inv.answered.5) ∙ sym c.is_full.ensures ∙ c.if-is_full.false) in
+    let below = leb-false MAX_REPLIES (length (text_of given))
+    (ap (λ (l : List ℕ). leb MAX_REPLIES (length l)) (sym inv.answered.5) ∙ sym c.is_full.ensures
+    ∙ c.if-is_full.false) in
     record {
       answered = (
         done ++ line ∷ [],
         given ++ put.0 ∷ [],
         answers_more (g.C.Client.answers false) _ _ _ done given line put.0 inv.answered.2 put.1,
         within_more given put.0 below,
-        inv.answered.4 ∙ ap (λ (l : List (List ℕ)). done ++ l) c.in-Some.ensures.first ∙ sym (append_assoc done (line ∷ []) (lines_of c.in-Some.more.now)),
+        inv.answered.4 ∙ ap (λ (l : List (List ℕ)). done ++ l) c.in-Some.ensures.first
+            ∙ sym (append_assoc done (line ∷ []) (lines_of c.in-Some.more.now)),
         put.2.text ∙ ap (λ (l : List ℕ). l ++ (put.0 ++ 10 ∷ [])) inv.answered.5 ∙ sym (text_more given put.0),
       );
       room = put.2.room;

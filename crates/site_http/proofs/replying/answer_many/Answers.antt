@@ -5,8 +5,15 @@ use Rattle.site_http.proofs.replying.answer_many.Goals as goal
 
 pub returns-in-Ok : goal.returns-in-Ok
 returns-in-Ok g c =
-    let ok = c.in-Ok.ensures.ok in
-    (ok.0, inl (record { each = ok.1; within = ok.2; status = status_of_many (g.C.Client.answers false) _ _ _ ok.0 c.requires.other ok.1 }), ok.3)
+    let ok = c.in-Ok.ensures.ok in (
+      ok.0,
+      inl (record {
+        each = ok.1;
+        within = ok.2;
+        status = status_of_many (g.C.Client.answers false) _ _ _ ok.0 c.requires.other ok.1;
+      }),
+      ok.3,
+    )
 
 pub returns-in-Err : goal.returns-in-Err
 returns-in-Err g c =

@@ -5,7 +5,8 @@ use Rattle.site_metrics.proofs.refusals.place_of.Goals as goal
 
 pub loop-place-preserved : goal.loop-place-preserved
 loop-place-preserved c =
-    let other = differ c.args.name.now c.refusal_name.result.now (get_or refusal_names c.loop-place.place []) c.if-eq.ensures c.refusal_name.ensures.name in
+    let other = differ c.args.name.now c.refusal_name.result.now (get_or refusal_names c.loop-place.place [])
+    c.if-eq.ensures c.refusal_name.ensures.name in
     none_more c.args.name.now c.loop-place.place c.loop-place.invariant other
 
 pub returns-clause-none : goal.returns-clause-none

@@ -7,7 +7,8 @@ use Rattle.site_metrics.proofs.samples.put_name_counts.Given as goal
 
 abbrev pub invariant-loop-place : goal.invariant-loop-place
 invariant-loop-place g l = record {
-  text : l.replies.part ≡ l.initial.replies.part ++ flat_map (λ e. 10 ∷ sample_line l.name (name_sample e)) (take l.place (zip refusal_names l.counts));
+  text : l.replies.part ≡ l.initial.replies.part ++ flat_map (λ e. 10 ∷ sample_line l.name (name_sample e))
+      (take l.place (zip refusal_names l.counts));
   room : l.initial.replies.room ≤ l.replies.room + 96 * l.place;
   kept : l.replies.whole ≡ l.fn.replies.whole;
 }

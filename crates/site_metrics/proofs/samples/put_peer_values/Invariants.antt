@@ -7,7 +7,8 @@ use Rattle.site_metrics.proofs.samples.put_peer_values.Given as goal
 
 abbrev pub invariant-loop-peer : goal.invariant-loop-peer
 invariant-loop-peer g l = record {
-  text : l.replies.part ≡ l.initial.replies.part ++ flat_map (λ p. 10 ∷ sample_line l.name (peer_sample (peer_value l.value) p)) (take l.peer-index l.peers);
+  text : l.replies.part ≡ l.initial.replies.part
+      ++ flat_map (λ p. 10 ∷ sample_line l.name (peer_sample (peer_value l.value) p)) (take l.peer-index l.peers);
   room : l.initial.replies.room ≤ l.replies.room + 96 * l.peer-index;
   kept : l.replies.whole ≡ l.fn.replies.whole;
 }

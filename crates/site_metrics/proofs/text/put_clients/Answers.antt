@@ -5,4 +5,5 @@ use Rattle.site_metrics.proofs.text.put_clients.Goals as goal
 
 pub returns-clause-ok : goal.returns-clause-ok
 returns-clause-ok g c =
-    on_ok_weaker c.put_by_name.result (λ last. last ∙ rw (c.in_ok-put_alone-2.ensures.ok, c.in_ok-put_alone.ensures.ok) (three _ _ _ _)) c.put_by_name.ensures.ok
+    on_ok_weaker c.put_by_name.result (λ last. last
+    ∙ rw (c.in_ok-put_alone-2.ensures.ok, c.in_ok-put_alone.ensures.ok) (three _ _ _ _)) c.put_by_name.ensures.ok

@@ -5,4 +5,10 @@ use Rattle.site_metrics.proofs.text.put_logs.Goals as goal
 
 pub returns-clause-ok : goal.returns-clause-ok
 returns-clause-ok g c =
-    on_ok_weaker c.put_by_peer-5.result (λ last. last ∙ rw (c.in_ok-put_by_peer-4.ensures.ok, c.in_ok-put_by_peer-3.ensures.ok, c.in_ok-put_by_peer-2.ensures.ok, c.in_ok-put_by_peer.ensures.ok) (five _ _ _ _ _ _)) c.put_by_peer-5.ensures.ok
+    on_ok_weaker c.put_by_peer-5.result (λ last. last
+    ∙ rw (
+      c.in_ok-put_by_peer-4.ensures.ok,
+      c.in_ok-put_by_peer-3.ensures.ok,
+      c.in_ok-put_by_peer-2.ensures.ok,
+      c.in_ok-put_by_peer.ensures.ok,
+    ) (five _ _ _ _ _ _)) c.put_by_peer-5.ensures.ok

@@ -5,4 +5,10 @@ use Rattle.site_metrics.proofs.text.put_state.Goals as goal
 
 pub returns-clause-ok : goal.returns-clause-ok
 returns-clause-ok g c =
-    on_ok_weaker c.put_alone-4.result (λ last. last ∙ rw (c.in_ok-put_alone-3.ensures.ok, c.in_ok-put_alone-2.ensures.ok, c.in_ok-put_alone.ensures.ok, c.bit.ensures) (four _ _ _ _ _)) c.put_alone-4.ensures.ok
+    on_ok_weaker c.put_alone-4.result (λ last. last
+    ∙ rw (
+      c.in_ok-put_alone-3.ensures.ok,
+      c.in_ok-put_alone-2.ensures.ok,
+      c.in_ok-put_alone.ensures.ok,
+      c.bit.ensures,
+    ) (four _ _ _ _ _)) c.put_alone-4.ensures.ok

@@ -6,4 +6,5 @@ use Rattle.site_words.proofs.config.address_among.Given as goal
 
 -- no word so far names the site
 abbrev pub invariant-loop-word : goal.invariant-loop-word
-invariant-loop-word l = (p : Peer) (k : ℕ) → p.site ≡ l.site → k < l.word-index → slice_index_or (texts l.words) k (peer_word p) ≢ peer_word p
+invariant-loop-word l = (p : Peer) (k : ℕ) → p.site ≡ l.site → k < l.word-index
+    → slice_index_or (texts l.words) k (peer_word p) ≢ peer_word p

@@ -21,8 +21,10 @@ loop-index-preserved c =
     let found : IsNamed words (record { site = c.loop-index.index + 1; address = c.in_ok-address.address.now }) =
     rw c.in_ok-address.ensures.ok_part at c.address_among.ensures in
     let kept : IsNamed words (record { site = c.loop-index.index + 1; address = address }) =
-    subst (λ a. IsNamed words (record { site = c.loop-index.index + 1; address = a })) (sym c.in_ok-from_str.ensures.ok) found in
+    subst (λ a. IsNamed words (record { site = c.loop-index.index + 1; address = a }))
+    (sym c.in_ok-from_str.ensures.ok) found in
     let named : IsNamed words (record { site = c.known.result; address = address }) =
     subst (λ n. IsNamed words (record { site = n; address = address })) (sym c.known.ensures) kept in
-    peer_added words c.args.id c.loop-index.index c.loop-index.peers.items c.push.new.self.items _ c.in_ok-push.ensures.items
+    peer_added words c.args.id c.loop-index.index c.loop-index.peers.items c.push.new.self.items _
+    c.in_ok-push.ensures.items
     c.if-number-id.false c.known.ensures named c.loop-index.invariant

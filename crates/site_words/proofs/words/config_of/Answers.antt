@@ -28,7 +28,8 @@ returns-in_err-listen c =
     let f = found_of c.args.matches.now in
     let Fits = IsFound (rows_of f) in
     subst (IsSetBy Fits) (sym (p.1 ∙ ap Err p.2)) (refused_by Fits c.in_err-listen.field-0.0 (λ refused s valid found.
-    let bad : None ≡ Some s.listen = sym (ap (option_map (λ s. s.now)) c.in_err-listen.ensures.ok_part) ∙ c.get_str.ensures
+    let bad : None ≡ Some s.listen = sym (ap (option_map (λ s. s.now)) c.in_err-listen.ensures.ok_part)
+    ∙ c.get_str.ensures
     ∙ first_value-rows f (codes "listen") ∙ found.listen in cc))
 
 pub returns-in_err-peers : goal.returns-in_err-peers
@@ -37,7 +38,8 @@ returns-in_err-peers c =
     let f = found_of c.args.matches.now in
     let Fits = IsFound (rows_of f) in
     subst (IsSetBy Fits) (sym (p.1 ∙ ap Err p.2)) (refused_by Fits c.in_err-peers.field-0.0 (λ refused s valid found.
-    let bad : None ≡ Some found.words = sym (ap (option_map (λ s. map (λ v. v.now) s.now)) c.in_err-peers.ensures.ok_part) ∙ c.get_strs.ensures
+    let bad : None ≡ Some found.words
+    = sym (ap (option_map (λ s. map (λ v. v.now) s.now)) c.in_err-peers.ensures.ok_part) ∙ c.get_strs.ensures
     ∙ raw_values-rows f (codes "peer") ∙ found.given in cc))
 
 pub returns-in_err-options : goal.returns-in_err-options
@@ -50,7 +52,10 @@ returns-in_err-options c =
 pub returns : goal.returns
 returns c =
     let f = found_of c.args.matches.now in
-    let listen = sym (first_value-rows f (codes "listen")) ∙ (sym c.get_str.ensures ∙ ap (option_map (λ s. s.now)) c.in_ok-listen.ensures.ok_part) in
-    let peers = sym (raw_values-rows f (codes "peer")) ∙ (sym c.get_strs.ensures ∙ ap (option_map (λ s. map (λ v. v.now) s.now)) c.in_ok-peers.ensures.ok_part) in
-    values_found (rows_of f) c.in_ok-id.id c.in_ok-sites.sites c.in_ok-listen.listen.now (texts c.in_ok-peers.peers.now) c.in_ok-options.options
+    let listen = sym (first_value-rows f (codes "listen"))
+    ∙ (sym c.get_str.ensures ∙ ap (option_map (λ s. s.now)) c.in_ok-listen.ensures.ok_part) in
+    let peers = sym (raw_values-rows f (codes "peer"))
+    ∙ (sym c.get_strs.ensures ∙ ap (option_map (λ s. map (λ v. v.now) s.now)) c.in_ok-peers.ensures.ok_part) in
+    values_found (rows_of f) c.in_ok-id.id c.in_ok-sites.sites c.in_ok-listen.listen.now
+    (texts c.in_ok-peers.peers.now) c.in_ok-options.options
     c.in_ok-id.ensures c.in_ok-sites.ensures listen peers c.in_ok-options.ensures c.of_words.result c.of_words.ensures

@@ -7,4 +7,5 @@ use Rattle.site_words.proofs.words.parser.Goals as goal
 pub returns : goal.returns
 returns c =
     let run_is : shape_of c.in_ok-run.run' ≡ run_shape = ap (λ a. a.top) c.in_ok-run.ensures.0 in
-    IfOk-weaker c.subcommand.result _ _ (λ parser added. added.shape c.in_ok-run.ensures.1 ∙ ap₂ with_subcommand c.in_ok-script_parser.ensures run_is) c.subcommand.ensures
+    IfOk-weaker c.subcommand.result _ _ (λ parser added. added.shape c.in_ok-run.ensures.1
+    ∙ ap₂ with_subcommand c.in_ok-script_parser.ensures run_is) c.subcommand.ensures

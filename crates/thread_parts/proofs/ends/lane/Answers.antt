@@ -10,15 +10,21 @@ another-other-requires-clause-rule g c = forks _ _ (search rules) (search rules)
 
 pub invariant_of-inlet : goal.invariant_of-inlet
 invariant_of-inlet g c =
-    let put_is = ap (λ (v : Hand _). v.put) c.another-other.ensures.rule.0 ∙ ap (λ (v : Hand _). v.put) c.in_ok-sender.ensures.3 in
+    let put_is = ap (λ (v : Hand _). v.put) c.another-other.ensures.rule.0
+    ∙ ap (λ (v : Hand _). v.put) c.in_ok-sender.ensures.3 in
     ((search rules, search rules, search rules, search rules), search rules, subst IsItemChain (sym put_is) empty_chain)
 
 pub invariant_of-outlet : goal.invariant_of-outlet
 invariant_of-outlet g c =
-    let taken_is = ap (λ (v : Hand _). v.taken) c.another-other.ensures.rule.1 ∙ ap (λ (v : Hand _). v.taken) c.in_ok-sender.ensures.3 in
-    ((search rules, search rules, search rules, search rules), search rules, subst IsItemChain (sym taken_is) empty_chain)
+    let taken_is = ap (λ (v : Hand _). v.taken) c.another-other.ensures.rule.1
+    ∙ ap (λ (v : Hand _). v.taken) c.in_ok-sender.ensures.3 in (
+      (search rules, search rules, search rules, search rules),
+      search rules,
+      subst IsItemChain (sym taken_is) empty_chain,
+    )
 
 pub returns-clause-first : goal.returns-clause-first
 returns-clause-first g c e first =
-    let put_is = ap (λ (v : Hand _). v.put) c.another-other.ensures.rule.0 ∙ ap (λ (v : Hand _). v.put) c.in_ok-sender.ensures.3 in
+    let put_is = ap (λ (v : Hand _). v.put) c.another-other.ensures.rule.0
+    ∙ ap (λ (v : Hand _). v.put) c.in_ok-sender.ensures.3 in
     subst (λ l. Continues l e) (sym put_is) (begins_chain e first)

@@ -18,9 +18,13 @@ another-requires-clause-rule g c = forks _ _ (search rules) (search rules)
 
 pub invariant_of-outlet : goal.invariant_of-outlet
 invariant_of-outlet g c =
-    let taken_is = ap (λ (v : Hand _). v.taken) c.another.ensures.rule.1 ∙ ap (λ (v : Hand _). v.taken) c.learn_as.ensures.channel.2
-    ∙ ap (λ (v : Hand _). v.taken) c.absorb.ensures.rule in
-    ((search rules, search rules, search rules, search rules), search rules, subst IsItemChain (sym taken_is) c.outlet.invariant.2)
+    let taken_is = ap (λ (v : Hand _). v.taken) c.another.ensures.rule.1
+    ∙ ap (λ (v : Hand _). v.taken) c.learn_as.ensures.channel.2
+    ∙ ap (λ (v : Hand _). v.taken) c.absorb.ensures.rule in (
+      (search rules, search rules, search rules, search rules),
+      search rules,
+      subst IsItemChain (sym taken_is) c.outlet.invariant.2,
+    )
 
 pub returns-clause-whole : goal.returns-clause-whole
 returns-clause-whole g c is =

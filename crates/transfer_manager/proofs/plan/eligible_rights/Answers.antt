@@ -17,20 +17,28 @@ loop-place-preserved g c =
     let xs : List ℕ = c.loop-place.rights in
     let x = c.rights_if_eligible.result in
     let long : i < length xs = omega (arith, c.loop-place.invariant.whole, c.loop-place-test.true, c.requires) in
-    let here : c.index-peers-place.result ≡ at_site peers (i + 1) no_asks = get_or_read peers i c.index-peers-place.result c.loop-place-test.true c.index-peers-place.is no_asks ∙ sym (at_site-index peers i (i + 1) no_asks refl) in
+    let here : c.index-peers-place.result ≡ at_site peers (i + 1) no_asks
+    = get_or_read peers i c.index-peers-place.result c.loop-place-test.true c.index-peers-place.is no_asks
+    ∙ sym (at_site-index peers i (i + 1) no_asks refl) in
     let value : x ≡ eligible_rights me k (i + 1) (at_site peers (i + 1) no_asks) =
-    c.rights_if_eligible.ensures.value ∙ ap (λ s. eligible_rights me k s c.index-peers-place.result) c.site_at.ensures ∙ ap (eligible_rights me k (i + 1)) here in
+    c.rights_if_eligible.ensures.value ∙ ap (λ s. eligible_rights me k s c.index-peers-place.result) c.site_at.ensures
+    ∙ ap (eligible_rights me k (i + 1)) here in
     record {
       whole = length-set xs i x ∙ c.loop-place.invariant.whole;
-      written = next_written 0 (λ j old. eligible_rights me k j (at_site peers j no_asks)) (replicate 16 0) xs i x c.loop-place.invariant.written long value;
-      bounded = subst (λ (ys : List ℕ). (j : ℕ) → at_site ys j 0 ≤ 1000000017000000000000000000) (set_site-index xs i (i + 1) x refl)
-          (set_site_keeps (λ j n. n ≤ 1000000017000000000000000000) xs (i + 1) x 0 (omega arith) (omega arith) c.loop-place.invariant.bounded c.rights_if_eligible.ensures.range);
+      written = next_written 0 (λ j old. eligible_rights me k j (at_site peers j no_asks))
+          (replicate 16 0) xs i x c.loop-place.invariant.written long value;
+      bounded = subst (λ (ys : List ℕ). (j : ℕ)
+          → at_site ys j 0 ≤ 1000000017000000000000000000) (set_site-index xs i (i + 1) x refl)
+          (set_site_keeps (λ j n. n ≤ 1000000017000000000000000000) xs (i + 1) x 0 (omega arith)
+          (omega arith) c.loop-place.invariant.bounded c.rights_if_eligible.ensures.range);
     }
 
 pub loop-place-init : goal.loop-place-init
 loop-place-init g c =
     record {
       whole = refl;
-      written = none_written 0 (λ j old. eligible_rights c.args.me (of_book c.args.book.now) j (at_site c.args.peers.now j no_asks)) (replicate 16 0);
-      bounded = λ j. at_site-replicate (λ (n : ℕ). n ≤ 1000000017000000000000000000) 16 j 0 0 (λ low high. omega arith) (omega arith);
+      written = none_written 0 (λ j old. eligible_rights c.args.me (of_book c.args.book.now) j
+          (at_site c.args.peers.now j no_asks)) (replicate 16 0);
+      bounded = λ j. at_site-replicate (λ (n : ℕ). n ≤ 1000000017000000000000000000) 16 j 0 0 (λ low high. omega arith)
+          (omega arith);
     }

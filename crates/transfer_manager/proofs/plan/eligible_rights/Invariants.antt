@@ -8,6 +8,7 @@ use Rattle.transfer_manager.proofs.plan.eligible_rights.Given as goal
 abbrev pub invariant-loop-place : goal.invariant-loop-place
 invariant-loop-place g l = record {
   whole : length l.rights ≡ 16;
-  written : IsWritten 0 (λ j old. eligible_rights l.me (of_book l.book) j (at_site l.peers j no_asks)) (replicate 16 0) l.rights l.place;
+  written : IsWritten 0 (λ j old. eligible_rights l.me (of_book l.book) j (at_site l.peers j no_asks))
+      (replicate 16 0) l.rights l.place;
   bounded : (j : ℕ) → at_site l.rights j 0 ≤ 1000000017000000000000000000;
 }

@@ -15,4 +15,11 @@ overflow_add-before c =
     let most : ℕ = 1000000017000000000000000000 in
     let before = sum_bound i most (λ k. if is_before rights k j then rights k else 0)
     (λ k. at_most (is_before rights k j) (rights k) most (c.requires.bounded k)) in
-    omega (arith, before, at_site-index c.args.rights.now i (i + 1) 0 refl, c.requires.bounded (i + 1), c.loop-other.invariant, c.requires.few)
+    omega (
+      arith,
+      before,
+      at_site-index c.args.rights.now i (i + 1) 0 refl,
+      c.requires.bounded (i + 1),
+      c.loop-other.invariant,
+      c.requires.few,
+    )

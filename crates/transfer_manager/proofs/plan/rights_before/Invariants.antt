@@ -7,4 +7,5 @@ use Rattle.transfer_manager.proofs.plan.rights_before.Given as goal
 
 abbrev pub invariant-loop-other : goal.invariant-loop-other
 invariant-loop-other l =
-    l.before ≡ sum_sites l.other (λ i. if is_before (λ k. at_site l.rights k 0) i (l.place + 1) then at_site l.rights i 0 else 0)
+    l.before ≡ sum_sites l.other
+    (λ i. if is_before (λ k. at_site l.rights k 0) i (l.place + 1) then at_site l.rights i 0 else 0)

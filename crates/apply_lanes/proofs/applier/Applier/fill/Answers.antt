@@ -8,7 +8,11 @@ invariant_of-self g c =
     let i = c.self.invariant in
     let none : c.self.inside.hand ≡ None = search (rules, none_of) in
     let more : c.take.new.self.taken ≡ c.self.inside.outlet.taken ++ Entry c.in-Ok-Entry.entry ∷ [] = search rules in
-    record { site = i.site; other = i.other; counted = counted_take _ _ _ _ i.counted none c.if-self.false more c.in-Ok-Entry.ensures.chain }
+    record {
+      site = i.site;
+      other = i.other;
+      counted = counted_take _ _ _ _ i.counted none c.if-self.false more c.in-Ok-Entry.ensures.chain;
+    }
 
 pub returns-in-Ok-Entry-clause-counted : goal.returns-in-Ok-Entry-clause-counted
 returns-in-Ok-Entry-clause-counted g c = (invariant_of-self g c).counted

@@ -8,17 +8,20 @@ pub returns-then-not-branch-clause-ok : goal.returns-then-not-branch-clause-ok
 returns-then-not-branch-clause-ok g c =
     let id = g.D.DeskNames.id in
     let passes = g.G.Gate.passes in
-    let last = subst (λ more. Steps passes id c.loop-count.self more c.step.new.self) c.if-not-branch.true c.in_ok-step.ensures.ok in
+    let last = subst (λ more. Steps passes id c.loop-count.self more c.step.new.self) c.if-not-branch.true
+    c.in_ok-step.ensures.ok in
     (c.loop-count.self, c.loop-count.invariant.0, last)
 
 pub loop-count-preserved : goal.loop-count-preserved
 loop-count-preserved g c =
     let id = g.D.DeskNames.id in
     let passes = g.G.Gate.passes in
-    let one = subst (λ more. Steps passes id c.loop-count.self more c.step.new.self) c.if-not-branch.false c.in_ok-step.ensures.ok in
+    let one = subst (λ more. Steps passes id c.loop-count.self more c.step.new.self) c.if-not-branch.false
+    c.in_ok-step.ensures.ok in
     let same = step_same passes id c.loop-count.self c.step.new.self one in
     let count : suc c.loop-count.count ≡ c.loop-count.count + 1 = omega arith in (
-      subst (λ n. Advances passes id c.args.self.now n c.step.new.self) count (c.loop-count.self, c.loop-count.invariant.0, one),
+      subst (λ n. Advances passes id c.args.self.now n c.step.new.self) count
+          (c.loop-count.self, c.loop-count.invariant.0, one),
       same.0 ∙ c.loop-count.invariant.1,
       same.1 ∙ c.loop-count.invariant.2,
     )

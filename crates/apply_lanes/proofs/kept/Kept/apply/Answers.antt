@@ -11,7 +11,8 @@ use Rattle.apply_lanes.proofs.kept.Kept.apply.Goals as goal
 pub add-requires : goal.add-requires
 add-requires g c =
     let i = c.self.invariant in
-    let bound = numbers_bound c.self.inside.desk.ledger.book _ _ _ _ i.matches_book (omega (arith, i.same_sites, i.few)) in
+    let bound = numbers_bound c.self.inside.desk.ledger.book _ _ _ _ i.matches_book
+    (omega (arith, i.same_sites, i.few)) in
     omega (arith, bound, c.own.ensures.value, c.prev.ensures.value, c.own.ensures.valid.few)
 
 pub invariant_of-self-2 : goal.invariant_of-self-2
@@ -22,10 +23,17 @@ invariant_of-self-2 g c =
     let keeps = c.in_ok-apply.ensures.keeps c.in_ok-apply.ensures.ok in
     let next = rw (← c.self.view_is) at c.requires.next in
     let live = rw (← c.self.view_is) at c.requires.unclosed in
-    let count : c.own.result - c.prev.result ≡ length e.moves = omega (arith, c.own.ensures.value, c.prev.ensures.value) in
+    let count : c.own.result - c.prev.result ≡ length e.moves
+    = omega (arith, c.own.ensures.value, c.prev.ensures.value) in
     let gift : c.received.result - c.received-before.result ≡ to g.D.DeskNames.id.site e.moves =
-    omega (arith, c.received.ensures.value, c.received-before.ensures.value, gift_is _ _ c.apply.new.self _ _ i applies keeps) in
-    kept_apply _ _ c.apply.new.self _ _ _ _ i applies keeps c.number.ensures.range.0 c.requires.site next live c.requires.own c.own.ensures.valid
+    omega (
+      arith,
+      c.received.ensures.value,
+      c.received-before.ensures.value,
+      gift_is _ _ c.apply.new.self _ _ i applies keeps,
+    ) in
+    kept_apply _ _ c.apply.new.self _ _ _ _ i applies keeps c.number.ensures.range.0 c.requires.site next live
+    c.requires.own c.own.ensures.valid
     (subst (λ n. c.add.new.self ≡ raised c.self.inside.number n) count c.add.ensures.sum)
     (subst (λ n. c.add-2.new.self ≡ raised c.self.inside.received n) gift c.add-2.ensures.sum)
 
@@ -41,8 +49,10 @@ returns-clause-added g c = search rules
 pub returns-clause-keeps : goal.returns-clause-keeps
 returns-clause-keeps g c =
     let keeps : (h : DeskApplies c.self.inside.desk c.args.origin c.args.entry.now c.apply.new.self)
-    → ApplyKeeps c.self.inside.desk.ledger c.args.origin c.args.entry.now h.entry.between c.apply.new.self.ledger = c.in_ok-apply.ensures.keeps in
-    subst (λ (k : KeptValue). (h : DeskApplies k.desk c.args.origin c.args.entry.now c.apply.new.self) → ApplyKeeps k.desk.ledger c.args.origin c.args.entry.now h.entry.between c.apply.new.self.ledger)
+    → ApplyKeeps c.self.inside.desk.ledger c.args.origin c.args.entry.now h.entry.between c.apply.new.self.ledger
+    = c.in_ok-apply.ensures.keeps in
+    subst (λ (k : KeptValue). (h : DeskApplies k.desk c.args.origin c.args.entry.now c.apply.new.self)
+    → ApplyKeeps k.desk.ledger c.args.origin c.args.entry.now h.entry.between c.apply.new.self.ledger)
     c.self.view_is keeps
 
 pub returns-clause-step : goal.returns-clause-step
@@ -55,5 +65,6 @@ returns-clause-step g c =
     let unclosed = rw (← c.self.view_is) at c.requires.open in
     let id = g.D.DeskNames.id in
     seen id _ _ (Apply c.args.origin c.args.entry.now) c.apply.new.self c.self.view_is
-    (steps_apply id _ c.apply.new.self c.args.origin c.args.entry.now i applies keeps c.number.ensures.range.0 c.requires.site c.requires.other unclosed
+    (steps_apply id _ c.apply.new.self c.args.origin c.args.entry.now i applies keeps c.number.ensures.range.0
+    c.requires.site c.requires.other unclosed
     live next c.requires.own c.own.ensures.valid)

@@ -17,4 +17,5 @@ returns-clause-balance g c =
 
 pub returns-clause-protocol : goal.returns-clause-protocol
 returns-clause-protocol g c =
-    subst (λ (k : KeptValue). HasProtocol g.D.DeskNames.id k) c.self.view_is (protocol_of g.D.DeskNames.id _ c.self.invariant)
+    subst (λ (k : KeptValue). HasProtocol g.D.DeskNames.id k) c.self.view_is
+    (protocol_of g.D.DeskNames.id _ c.self.invariant)

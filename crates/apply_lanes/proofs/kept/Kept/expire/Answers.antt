@@ -5,4 +5,5 @@ use Rattle.apply_lanes.proofs.kept.Kept.expire.Goals as goal
 pub returns-clause-step : goal.returns-clause-step
 returns-clause-step g c =
     seen g.D.DeskNames.id _ _ Other c.expire.new.self c.self.view_is
-    (steps_expire g.D.DeskNames.id c.self.inside.desk c.expire.new.self c.args.time c.expire.result c.expire.ensures.ok c.expire.ensures.err)
+    (steps_expire g.D.DeskNames.id c.self.inside.desk c.expire.new.self c.args.time c.expire.result c.expire.ensures.ok
+    c.expire.ensures.err)

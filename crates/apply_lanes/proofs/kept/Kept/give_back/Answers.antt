@@ -10,7 +10,8 @@ pub invariant_of-self-2 : goal.invariant_of-self-2
 invariant_of-self-2 g c =
     let wrote = c.in_ok-give_back.ensures.ok.entry in
     let keeps = c.in_ok-give_back.ensures.keeps in
-    kept_write _ _ _ _ _ _ _ _ c.self.invariant wrote.log keeps.leaves keeps.applied (issued-give _ _) (spent-give _ _) (raised_none _)
+    kept_write _ _ _ _ _ _ _ _ c.self.invariant wrote.log keeps.leaves keeps.applied (issued-give _ _) (spent-give _ _)
+    (raised_none _)
     (raised_none _)
 
 pub returns-clause-step : goal.returns-clause-step
@@ -18,4 +19,5 @@ returns-clause-step g c =
     let id = g.D.DeskNames.id in
     let moves : List Move = Give c.args.peer c.args.amount ∷ [] in
     seen id _ _ (Write moves) c.give_back.new.self c.self.view_is
-    (steps_write id _ c.give_back.new.self moves c.self.invariant c.in_ok-give_back.ensures.ok.entry c.in_ok-give_back.ensures.keeps)
+    (steps_write id _ c.give_back.new.self moves c.self.invariant c.in_ok-give_back.ensures.ok.entry
+    c.in_ok-give_back.ensures.keeps)

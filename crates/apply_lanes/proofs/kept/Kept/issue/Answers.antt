@@ -11,7 +11,8 @@ pub invariant_of-self-2 : goal.invariant_of-self-2
 invariant_of-self-2 g c =
     let wrote = c.in_ok-number.ensures.ok.entry in
     let keeps = c.in_ok-number.ensures.keeps in
-    kept_write _ _ _ _ _ _ _ _ c.self.invariant wrote.log keeps.leaves keeps.applied (issued-issue _) (spent-issue _) c.add.ensures.sum
+    kept_write _ _ _ _ _ _ _ _ c.self.invariant wrote.log keeps.leaves keeps.applied (issued-issue _)
+    (spent-issue _) c.add.ensures.sum
     (raised_none _)
 
 pub returns-clause-counters : goal.returns-clause-counters
@@ -25,4 +26,5 @@ returns-clause-step g c =
     let id = g.D.DeskNames.id in
     let moves : List Move = Issue c.args.amount ∷ [] in
     seen id _ _ (Write moves) c.issue.new.self c.self.view_is
-    (steps_write id _ c.issue.new.self moves c.self.invariant c.in_ok-number.ensures.ok.entry c.in_ok-number.ensures.keeps)
+    (steps_write id _ c.issue.new.self moves c.self.invariant c.in_ok-number.ensures.ok.entry
+    c.in_ok-number.ensures.keeps)

@@ -7,4 +7,5 @@ use Rattle.apply_lanes.proofs.kept.Kept.on_deny.Goals as goal
 pub returns-clause-step : goal.returns-clause-step
 returns-clause-step g c =
     seen g.D.DeskNames.id _ _ Other c.on_deny.new.self c.self.view_is
-    (steps_none g.D.DeskNames.id c.self.inside.desk c.on_deny.new.self (ap (λ (d : DeskValue). d.ledger) c.on_deny.ensures))
+    (steps_none g.D.DeskNames.id c.self.inside.desk c.on_deny.new.self
+    (ap (λ (d : DeskValue). d.ledger) c.on_deny.ensures))

@@ -7,4 +7,5 @@ use Rattle.apply_lanes.proofs.kept.Kept.plan.Goals as goal
 pub returns-clause-step : goal.returns-clause-step
 returns-clause-step g c =
     seen g.D.DeskNames.id _ _ Other c.plan.new.self c.self.view_is
-    (steps_none g.D.DeskNames.id c.self.inside.desk c.plan.new.self (ap (λ (d : DeskValue). d.ledger) c.plan.ensures.rest))
+    (steps_none g.D.DeskNames.id c.self.inside.desk c.plan.new.self
+    (ap (λ (d : DeskValue). d.ledger) c.plan.ensures.rest))

@@ -18,9 +18,12 @@ pub returns-clause-memory : goal.returns-clause-memory
 returns-clause-memory g c = search rules
 
 pub invariant_of-self : goal.invariant_of-self
-invariant_of-self g c = kept_publish _ _ c.publish.new.self c.args.peer c.publish.result c.self.invariant c.publish.ensures.ok c.publish.ensures.err
+invariant_of-self g c = kept_publish _ _ c.publish.new.self c.args.peer c.publish.result c.self.invariant
+    c.publish.ensures.ok c.publish.ensures.err
 
 pub returns-clause-step : goal.returns-clause-step
 returns-clause-step g c =
-    subst (λ (k : KeptValue). OnOk c.publish.result (StepsBy g.D.DeskNames.id k.desk Other c.publish.new.self)) c.self.view_is
-    (steps_publish_if g.D.DeskNames.id c.self.inside.desk c.publish.new.self c.args.peer c.publish.result c.publish.ensures.ok)
+    subst (λ (k : KeptValue). OnOk c.publish.result (StepsBy g.D.DeskNames.id k.desk Other c.publish.new.self))
+    c.self.view_is
+    (steps_publish_if g.D.DeskNames.id c.self.inside.desk c.publish.new.self c.args.peer c.publish.result
+    c.publish.ensures.ok)

@@ -9,15 +9,22 @@ use Rattle.apply_lanes.proofs.kept.Kept.serve.Goals as goal
 pub invariant_of-self-2 : goal.invariant_of-self-2
 invariant_of-self-2 g c =
     let ticket = c.in_ok-ticket.ensures in
-    let front = served c.self.inside.desk c.serve.new.self _ _ _ _ _ ticket.ok ticket.keeps c.in-Some.is c.spent-before.ensures.booked c.spent.ensures.booked in
-    kept_write _ _ _ _ _ _ _ _ c.self.invariant front.serves.entry.log front.keeps.leaves front.keeps.applied (issued-spend _) (spent-spend _ ∙ front.amount) (raised_none _)
+    let front = served c.self.inside.desk c.serve.new.self _ _ _ _ _ ticket.ok ticket.keeps c.in-Some.is
+    c.spent-before.ensures.booked c.spent.ensures.booked in
+    kept_write _ _ _ _ _ _ _ _ c.self.invariant front.serves.entry.log front.keeps.leaves front.keeps.applied
+    (issued-spend _) (spent-spend _ ∙ front.amount) (raised_none _)
     c.add.ensures.sum
 
 pub returns-clause-front : goal.returns-clause-front
 returns-clause-front g c =
     let ticket = c.in_ok-ticket.ensures in
-    let front = served c.self.inside.desk c.serve.new.self _ _ _ _ _ ticket.ok ticket.keeps c.in-Some.is c.spent-before.ensures.booked c.spent.ensures.booked in
-    subst (λ (k : KeptValue). IsFront k.desk.queue.waiting (c.in-Some.ticket, c.in-Some.number, c.spent.result - c.spent-before.result)) c.self.view_is
+    let front = served c.self.inside.desk c.serve.new.self _ _ _ _ _ ticket.ok ticket.keeps c.in-Some.is
+    c.spent-before.ensures.booked c.spent.ensures.booked in
+    subst (λ (k : KeptValue). IsFront k.desk.queue.waiting (
+      c.in-Some.ticket,
+      c.in-Some.number,
+      c.spent.result - c.spent-before.result,
+    )) c.self.view_is
     (front.serves.deadline, rw (← front.amount) front.serves.front)
 
 pub returns-clause-counters : goal.returns-clause-counters
@@ -30,8 +37,11 @@ pub returns-clause-step : goal.returns-clause-step
 returns-clause-step g c =
     let id = g.D.DeskNames.id in
     let ticket = c.in_ok-ticket.ensures in
-    let front = served c.self.inside.desk c.serve.new.self _ _ _ _ _ ticket.ok ticket.keeps c.in-Some.is c.spent-before.ensures.booked c.spent.ensures.booked in
-    let step = steps_serve id _ c.serve.new.self c.in-Some.ticket c.in-Some.number front.serves.amount c.self.invariant front.serves.entry front.keeps in
+    let front = served c.self.inside.desk c.serve.new.self _ _ _ _ _ ticket.ok ticket.keeps c.in-Some.is
+    c.spent-before.ensures.booked c.spent.ensures.booked in
+    let step = steps_serve id _ c.serve.new.self c.in-Some.ticket c.in-Some.number front.serves.amount c.self.invariant
+    front.serves.entry front.keeps in
     let spent : ℕ = c.spent.result - c.spent-before.result in
     seen id _ _ (serve_change (Some (c.in-Some.ticket, c.in-Some.number, spent))) c.serve.new.self c.self.view_is
-    (subst (λ n. StepsBy id c.self.inside.desk (serve_change (Some (c.in-Some.ticket, c.in-Some.number, n))) c.serve.new.self) front.amount step)
+    (subst (λ n. StepsBy id c.self.inside.desk (serve_change (Some (c.in-Some.ticket, c.in-Some.number, n)))
+    c.serve.new.self) front.amount step)

@@ -7,10 +7,12 @@ use Rattle.apply_lanes.proofs.StepLaws.{seen, steps_skip}
 use Rattle.apply_lanes.proofs.kept.Kept.skip_unpublished.Goals as goal
 
 pub invariant_of-self : goal.invariant_of-self
-invariant_of-self g c = kept_skip _ _ c.skip_unpublished.new.self c.args.peer c.self.invariant c.skip_unpublished.ensures
+invariant_of-self g c = kept_skip _ _ c.skip_unpublished.new.self c.args.peer c.self.invariant
+    c.skip_unpublished.ensures
 
 pub returns-clause-step : goal.returns-clause-step
 returns-clause-step g c =
     let id = g.D.DeskNames.id in
     seen id _ _ Other c.skip_unpublished.new.self c.self.view_is
-    (subst (λ (d : DeskValue). StepsBy id c.self.inside.desk Other d) (sym c.skip_unpublished.ensures) (steps_skip id c.self.inside.desk c.args.peer))
+    (subst (λ (d : DeskValue). StepsBy id c.self.inside.desk Other d) (sym c.skip_unpublished.ensures)
+    (steps_skip id c.self.inside.desk c.args.peer))

@@ -7,9 +7,12 @@ use Rattle.apply_lanes.proofs.kept.Kept.spend.Goals as goal
 
 pub invariant_of-self-in-Spent : goal.invariant_of-self-in-Spent
 invariant_of-self-in-Spent g c =
-    let spends = subst (λ s. DeskSpends c.self.inside.desk c.args.amount c.args.deadline s c.spend.new.self) c.in-Spent.is c.in_ok-spending.ensures.ok in
-    let keeps = subst (λ s. SpendKeeps c.self.inside.desk c.args.amount s c.spend.new.self) c.in-Spent.is c.in_ok-spending.ensures.keeps in
-    kept_write _ _ _ _ _ _ _ _ c.self.invariant spends.1.entry.log keeps.leaves keeps.applied (issued-spend _) (spent-spend _) (raised_none _)
+    let spends = subst (λ s. DeskSpends c.self.inside.desk c.args.amount c.args.deadline s c.spend.new.self)
+    c.in-Spent.is c.in_ok-spending.ensures.ok in
+    let keeps = subst (λ s. SpendKeeps c.self.inside.desk c.args.amount s c.spend.new.self) c.in-Spent.is
+    c.in_ok-spending.ensures.keeps in
+    kept_write _ _ _ _ _ _ _ _ c.self.invariant spends.1.entry.log keeps.leaves keeps.applied (issued-spend _)
+    (spent-spend _) (raised_none _)
     c.add.ensures.sum
 
 pub invariant_of-seat : goal.invariant_of-seat

@@ -11,4 +11,5 @@ returns-clause-outcome g c = search rules
 pub returns-clause-step : goal.returns-clause-step
 returns-clause-step g c =
     seen g.D.DeskNames.id _ _ Other c.status.new.self c.self.view_is
-    (steps_none g.D.DeskNames.id c.self.inside.desk c.status.new.self (ap (λ (d : DeskValue). d.ledger) c.status.ensures.rest))
+    (steps_none g.D.DeskNames.id c.self.inside.desk c.status.new.self
+    (ap (λ (d : DeskValue). d.ledger) c.status.ensures.rest))

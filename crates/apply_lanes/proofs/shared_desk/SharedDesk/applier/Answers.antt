@@ -19,7 +19,8 @@ returns-clause-ok g c =
     let old : KeptValue = c.deref_mut.result.now in
     let new : KeptValue = c.applier.new.self in
     IfOk-weaker c.applier.result (λ a. GivesApplier id old c.args.origin c.args.outlet c.args.gate a new)
-    (λ a. (k : KeptValue) × (l : KeptValue) × IsKept id k × IsKept id l × GivesApplier id k c.args.origin c.args.outlet c.args.gate a l)
+    (λ a. (k : KeptValue) × (l : KeptValue) × IsKept id k × IsKept id l
+    × GivesApplier id k c.args.origin c.args.outlet c.args.gate a l)
     (λ a h. (old, new, c.applier.ensures.before, c.applier.ensures.after, h)) c.applier.ensures.ok
 
 pub returns-clause-err : goal.returns-clause-err
@@ -28,5 +29,6 @@ returns-clause-err g c =
     let old : KeptValue = c.deref_mut.result.now in
     let new : KeptValue = c.applier.new.self in
     IfErr-weaker c.applier.result (λ e. Admits id old.admitted c.args.origin (Some e.cause) × (new ≡ old))
-    (λ e. (k : KeptValue) × IsKept id k × Admits id k.admitted c.args.origin (Some e.cause)) (λ e h. (old, c.applier.ensures.before, h.0))
+    (λ e. (k : KeptValue) × IsKept id k × Admits id k.admitted c.args.origin (Some e.cause))
+    (λ e h. (old, c.applier.ensures.before, h.0))
     c.applier.ensures.err

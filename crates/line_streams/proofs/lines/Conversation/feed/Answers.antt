@@ -6,8 +6,10 @@ use Rattle.line_streams.specs.Going.{Fails}
 use Rattle.line_streams.proofs.CountLaws.{line_more, line_none, line_some, counts_lines, counts_still, counts_within}
 use Rattle.line_streams.proofs.CutLaws.{cut_found, cut_none}
 use Rattle.line_streams.proofs.LineLaws.{goes_on}
-use Rattle.line_streams.proofs.FeedLaws.{going_next, closed_next, going_end, going_written, stopped_in, stopped_in_write}
-use Rattle.line_streams.proofs.lines.Conversation.feed.Goals.{else-at-eq0-via-then-at-eq0+else-not-is_empty, else-at-eq0-via-else-at-eq0}
+use Rattle.line_streams.proofs.FeedLaws.{going_next, closed_next, going_end, going_written, stopped_in}
+use Rattle.line_streams.proofs.FeedLaws.{stopped_in_write}
+use Rattle.line_streams.proofs.lines.Conversation.feed.Goals.{else-at-eq0-via-then-at-eq0+else-not-is_empty}
+use Rattle.line_streams.proofs.lines.Conversation.feed.Goals.{else-at-eq0-via-else-at-eq0}
 use Rattle.line_streams.proofs.lines.Conversation.feed.Goals as goal
 
 short_front : (xs : List ℕ) → length (take 16384 xs) ≤ 16384
@@ -45,19 +47,25 @@ loop-length-preserved g c =
       counted = omega (arith, inv.counted, line.count, c.in_ok-count_one.ensures.more, more);
       moves = λ some. omega (arith, more);
       going = λ start input held h.
-          let next = going_next g.H.LineHandler.answers start input bytes at _ held _ _ _ (inv.going start input held h) n _ _ _ inv.within c.in-Some.ensures (rw on at line.line) line.ended in
-          going_written g.H.LineHandler.answers start _ _ held _ _ _ next _ _ write.whole.0 write.whole.1 write.whole.2 write.ready;
+          let next = going_next g.H.LineHandler.answers start input bytes at _ held _ _ _
+          (inv.going start input held h) n _ _ _ inv.within c.in-Some.ensures (rw on at line.line) line.ended in
+          going_written g.H.LineHandler.answers start _ _ held _ _ _ next _ _ write.whole.0 write.whole.1
+          write.whole.2 write.ready;
     }
 
 pub returns-in_err-end_line-clause-fed : goal.returns-in_err-end_line-clause-fed
 returns-in_err-end_line-clause-fed g c = λ start input held h.
     let p = err_from_is_err_and c.from_residual.result c.from_residual.ensures.1 in
-    rw (p.1, p.2) (stopped_in g.H.LineHandler.answers start input c.args.bytes.now c.loop-length.at _ held _ _ _ (c.loop-length.invariant.going start input held h) (Fails g.H.LineHandler.fails c.end_line.new.handler) c.in_err-end_line.ensures.err _ c.in_err-end_line.ensures.kept)
+    rw (p.1, p.2) (stopped_in g.H.LineHandler.answers start input c.args.bytes.now c.loop-length.at _ held _ _ _
+    (c.loop-length.invariant.going start input held h) (Fails g.H.LineHandler.fails c.end_line.new.handler)
+    c.in_err-end_line.ensures.err _ c.in_err-end_line.ensures.kept)
 
 pub returns-in_err-keep-clause-fed : goal.returns-in_err-keep-clause-fed
 returns-in_err-keep-clause-fed g c = λ start input held h.
     let p = err_from_is_err_and c.from_residual-in_err-keep.result c.from_residual-in_err-keep.ensures.1 in
-    rw (p.1, p.2) (stopped_in g.H.LineHandler.answers start input c.args.bytes.now c.loop-length.at _ held _ _ _ (c.loop-length.invariant.going start input held h) (Fails g.H.LineHandler.fails c.loop-length.handler) (inl refl) _ refl)
+    rw (p.1, p.2) (stopped_in g.H.LineHandler.answers start input c.args.bytes.now c.loop-length.at _ held _ _ _
+    (c.loop-length.invariant.going start input held h) (Fails g.H.LineHandler.fails c.loop-length.handler)
+    (inl refl) _ refl)
 
 pub returns-in_err-count_one-clause-fed : goal.returns-in_err-count_one-clause-fed
 returns-in_err-count_one-clause-fed g c = λ start input held h.
@@ -65,8 +73,12 @@ returns-in_err-count_one-clause-fed g c = λ start input held h.
     let inv = c.loop-length.invariant in
     let line = c.in_ok-end_line.ensures in
     let on = goes_on _ c.in_default-2.not-Ends in
-    let next = going_next g.H.LineHandler.answers start input c.args.bytes.now c.loop-length.at _ held _ _ _ (inv.going start input held h) c.in-Some.length _ _ _ inv.within c.in-Some.ensures (rw on at line.line) line.ended in
-    rw (p.1, p.2, c.in_err-count_one.ensures.many.0) (stopped_in g.H.LineHandler.answers start input c.args.bytes.now (c.loop-length.at + (c.in-Some.length + 1)) _ held _ _ _ next (λ state. c.end_line.new.handler ≡ state) refl _ refl)
+    let next = going_next g.H.LineHandler.answers start input c.args.bytes.now c.loop-length.at _ held _ _ _
+    (inv.going start input held h) c.in-Some.length _ _ _ inv.within c.in-Some.ensures
+    (rw on at line.line) line.ended in
+    rw (p.1, p.2, c.in_err-count_one.ensures.many.0)
+    (stopped_in g.H.LineHandler.answers start input c.args.bytes.now (c.loop-length.at + (c.in-Some.length + 1)) _
+    held _ _ _ next (λ state. c.end_line.new.handler ≡ state) refl _ refl)
 
 pub returns-in_err-pass_on-clause-fed : goal.returns-in_err-pass_on-clause-fed
 returns-in_err-pass_on-clause-fed g c = λ start input held h.
@@ -74,29 +86,39 @@ returns-in_err-pass_on-clause-fed g c = λ start input held h.
     let inv = c.loop-length.invariant in
     let line = c.in_ok-end_line.ensures in
     let on = goes_on _ c.in_default-2.not-Ends in
-    let next = going_next g.H.LineHandler.answers start input c.args.bytes.now c.loop-length.at _ held _ _ _ (inv.going start input held h) c.in-Some.length _ _ _ inv.within c.in-Some.ensures (rw on at line.line) line.ended in
+    let next = going_next g.H.LineHandler.answers start input c.args.bytes.now c.loop-length.at _ held _ _ _
+    (inv.going start input held h) c.in-Some.length _ _ _ inv.within c.in-Some.ensures
+    (rw on at line.line) line.ended in
     let part = c.in_err-pass_on.ensures.front in
-    rw (p.1, p.2) (stopped_in_write g.H.LineHandler.answers start input c.args.bytes.now (c.loop-length.at + (c.in-Some.length + 1)) _ held _ _ _ next (λ state. c.end_line.new.handler ≡ state) refl _ part.0 part.1 part.2)
+    rw (p.1, p.2) (stopped_in_write g.H.LineHandler.answers start input c.args.bytes.now
+    (c.loop-length.at + (c.in-Some.length + 1)) _ held _ _ _ next (λ state. c.end_line.new.handler
+    ≡ state) refl _ part.0 part.1 part.2)
 
 pub returns-in_err-count_one-2-clause-fed : goal.returns-in_err-count_one-2-clause-fed
 returns-in_err-count_one-2-clause-fed g c = λ start input held h.
-    let p = err_from_is_err_and c.from_residual-in_err-count_one-2.result c.from_residual-in_err-count_one-2.ensures.1 in
+    let p = err_from_is_err_and c.from_residual-in_err-count_one-2.result
+    c.from_residual-in_err-count_one-2.ensures.1 in
     rw (p.1, p.2, c.in_err-count_one-2.ensures.many.0)
-    (stopped_in g.H.LineHandler.answers start input c.args.bytes.now c.loop-length.at _ held _ _ _ (c.loop-length.invariant.going start input held h) (λ state. c.loop-length.handler ≡ state) refl _ refl)
+    (stopped_in g.H.LineHandler.answers start input c.args.bytes.now c.loop-length.at _ held _ _ _
+    (c.loop-length.invariant.going start input held h) (λ state. c.loop-length.handler ≡ state) refl _ refl)
 
 pub returns-in_ok-count_one-2-clause-short : goal.returns-in_ok-count_one-2-clause-short
 returns-in_ok-count_one-2-clause-short g c = rw (c.in_ok-keep.ensures) (short_front _)
 
 pub returns-in_ok-count_one-2-clause-fed : goal.returns-in_ok-count_one-2-clause-fed
 returns-in_ok-count_one-2-clause-fed g c = λ start input held h.
-    going_end g.H.LineHandler.answers start input c.args.bytes.now c.loop-length.at _ held _ _ _ (c.loop-length.invariant.going start input held h) c.memchr.result _ c.in_default.not-Some c.memchr.ensures c.in_ok-keep.ensures
+    going_end g.H.LineHandler.answers start input c.args.bytes.now c.loop-length.at _ held _ _ _
+    (c.loop-length.invariant.going start input held h) c.memchr.result _ c.in_default.not-Some c.memchr.ensures
+    c.in_ok-keep.ensures
 
 pub returns-else-at-eq0-clause-short : goal.returns-else-at-eq0-clause-short
 returns-else-at-eq0-clause-short g c = rw (c.in_ok-keep.ensures) (short_front _)
 
 pub returns-else-at-eq0-clause-fed : goal.returns-else-at-eq0-clause-fed
 returns-else-at-eq0-clause-fed g c = λ start input held h.
-    going_end g.H.LineHandler.answers start input c.args.bytes.now c.loop-length.at _ held _ _ _ (c.loop-length.invariant.going start input held h) c.memchr.result _ c.in_default.not-Some c.memchr.ensures c.in_ok-keep.ensures
+    going_end g.H.LineHandler.answers start input c.args.bytes.now c.loop-length.at _ held _ _ _
+    (c.loop-length.invariant.going start input held h) c.memchr.result _ c.in_default.not-Some c.memchr.ensures
+    c.in_ok-keep.ensures
 
 pub returns-in_err-count_one-clause-many : goal.returns-in_err-count_one-clause-many
 returns-in_err-count_one-clause-many g c = λ e.
@@ -107,7 +129,16 @@ returns-in_err-count_one-clause-many g c = λ e.
     let bytes = c.args.bytes.now in
     let cut = cut_found bytes at n inv.within c.in-Some.ensures in
     let more = line_more (take at bytes) _ (take (at + (n + 1)) bytes) cut.1 cut.2 in
-    omega (arith, inv.counted, c.in_ok-end_line.ensures.count, more, line_some bytes (at + (n + 1)), counts_within bytes, full.more, full.many.1)
+    omega (
+      arith,
+      inv.counted,
+      c.in_ok-end_line.ensures.count,
+      more,
+      line_some bytes (at + (n + 1)),
+      counts_within bytes,
+      full.more,
+      full.many.1,
+    )
 
 pub returns-in_err-count_one-2-clause-many : goal.returns-in_err-count_one-2-clause-many
 returns-in_err-count_one-2-clause-many g c = λ e.
@@ -134,7 +165,8 @@ returns-else-at-eq0-clause-counts g c = λ on some.
     let none = cut_none bytes c.loop-length.at c.memchr.result c.in_default.not-Some c.memchr.ensures in
     let same = line_none bytes c.loop-length.at none in
     elim c.else-at-eq0.branch [
-      | else-at-eq0-via-then-at-eq0+else-not-is_empty w ↦ absurd (omega (arith, some, eqb-true (length bytes) 0 (sym w.if-not-is_empty.ensures)))
+      | else-at-eq0-via-then-at-eq0+else-not-is_empty w ↦ absurd
+          (omega (arith, some, eqb-true (length bytes) 0 (sym w.if-not-is_empty.ensures)))
       | else-at-eq0-via-else-at-eq0 w ↦
           let lines = counts_lines bytes (omega (arith, same, inv.moves (omega (arith, w.if-at-eq0)))) in
           omega (arith, inv.counted, same, lines)
@@ -143,4 +175,6 @@ returns-else-at-eq0-clause-counts g c = λ on some.
 pub returns-in-Ends-clause-fed : goal.returns-in-Ends-clause-fed
 returns-in-Ends-clause-fed g c = λ start input held h.
     let inv = c.loop-length.invariant in
-    closed_next g.H.LineHandler.answers start input c.args.bytes.now c.loop-length.at _ held _ _ _ (inv.going start input held h) c.in-Some.length c.end_line.new.handler c.end_line.new.self.replies inv.within c.in-Some.ensures (rw (c.in-Ends.is) at c.in_ok-end_line.ensures.line)
+    closed_next g.H.LineHandler.answers start input c.args.bytes.now c.loop-length.at _ held _ _ _
+    (inv.going start input held h) c.in-Some.length c.end_line.new.handler c.end_line.new.self.replies inv.within
+    c.in-Some.ensures (rw (c.in-Ends.is) at c.in_ok-end_line.ensures.line)

@@ -13,8 +13,10 @@ invariant-loop-length g l = record {
   counted : l.self.count ≡ l.fn.self.count + length (pieces (take l.at l.bytes));
   moves : 0 < l.at → 0 < length (pieces (take l.at l.bytes));
   going : (start : g.row.H.Denot) (input : List ℕ) (held : Option (List ℕ))
-      → Going g.H.LineHandler.answers start input l.fn.handler held (g.W.Write.contents l.fn.writer) l.fn.self.replies l.fn.self.carry.items
-      → Going g.H.LineHandler.answers start (input ++ take l.at l.bytes) l.handler held (g.W.Write.contents l.writer) l.self.replies l.self.carry.items;
+      → Going g.H.LineHandler.answers start input l.fn.handler held (g.W.Write.contents l.fn.writer) l.fn.self.replies
+      l.fn.self.carry.items
+      → Going g.H.LineHandler.answers start (input ++ take l.at l.bytes) l.handler held
+      (g.W.Write.contents l.writer) l.self.replies l.self.carry.items;
 }
 
 abbrev pub decreases-loop-length : goal.decreases-loop-length

@@ -13,7 +13,15 @@ reads-init g c =
       written = new.0;
       short = omega (arith, ap length new.1);
       few = omega (arith, new.2);
-      going = ([], [], Consumes-nil _, none_parted, new.2, going_new g.H.LineHandler.answers g.H.LineHandler.fails c.args.handler.now (g.W.Write.contents c.args.writer.now) _ _ c.args.self.now.count new);
+      going = (
+        [],
+        [],
+        Consumes-nil _,
+        none_parted,
+        new.2,
+        going_new g.H.LineHandler.answers g.H.LineHandler.fails c.args.handler.now
+            (g.W.Write.contents c.args.writer.now) _ _ c.args.self.now.count new,
+      );
     }
 
 pub reads-preserved : goal.reads-preserved
@@ -34,14 +42,21 @@ reads-preserved g c =
         Consumes-trans _ _ _ before.1 bytes before.2 c.in_ok-length.ensures.bytes.0,
         parted_more before.0 before.1 bytes before.3 some,
         omega (arith, before.4, fed.counts (ap Ok on) some, counted_more before.0 before.1 bytes),
-        going_all g.H.LineHandler.answers g.H.LineHandler.fails c.args.handler.now _ _ _ _ _ _ _ _ (rw on at (fed.fed c.args.handler.now before.1 _ before.5)) wrote.whole wrote.empty,
+        going_all g.H.LineHandler.answers g.H.LineHandler.fails c.args.handler.now _ _ _ _ _ _ _ _
+            (rw on at (fed.fed c.args.handler.now before.1 _ before.5)) wrote.whole wrote.empty,
       );
     }
 
 pub returns-then-not-can_go_on-clause-ran : goal.returns-then-not-can_go_on-clause-ran
 returns-then-not-can_go_on-clause-ran g c =
-    let before = c.reads.invariant.going in
-    (before.0, before.1, before.2, before.3, ran_stopped g.H.LineHandler.answers g.H.LineHandler.fails c.args.handler.now before.0 before.1 _ _ _ _ _ before.5)
+    let before = c.reads.invariant.going in (
+      before.0,
+      before.1,
+      before.2,
+      before.3,
+      ran_stopped g.H.LineHandler.answers g.H.LineHandler.fails c.args.handler.now before.0 before.1 _ _ _
+          _ _ before.5,
+    )
 
 pub returns-in_err-feed-clause-ran : goal.returns-in_err-feed-clause-ran
 returns-in_err-feed-clause-ran g c =
@@ -55,7 +70,9 @@ returns-in_err-feed-clause-ran g c =
       before.1 ++ bytes,
       Consumes-trans _ _ _ before.1 bytes before.2 c.in_ok-length.ensures.bytes.0,
       parted_more before.0 before.1 bytes before.3 some,
-      ran_err g.H.LineHandler.answers g.H.LineHandler.fails c.args.handler.now (before.0 ++ bytes ∷ []) (before.1 ++ bytes) c.feed.new.handler _ _ c.feed.new.self.replies c.feed.new.self.carry.items _ (fed.fed c.args.handler.now before.1 _ before.5)
+      ran_err g.H.LineHandler.answers g.H.LineHandler.fails c.args.handler.now (before.0 ++ bytes ∷ [])
+          (before.1 ++ bytes) c.feed.new.handler _ _ c.feed.new.self.replies c.feed.new.self.carry.items _
+          (fed.fed c.args.handler.now before.1 _ before.5)
           (λ e. omega (arith, before.4, fed.many (ap Err e), counted_more before.0 before.1 bytes)),
     )
 
@@ -69,7 +86,8 @@ returns-in-Ends-clause-ran g c =
       before.1 ++ bytes,
       Consumes-trans _ _ _ before.1 bytes before.2 c.in_ok-length.ensures.bytes.0,
       parted_more before.0 before.1 bytes before.3 some,
-      ran_closed g.H.LineHandler.answers g.H.LineHandler.fails c.args.handler.now (before.0 ++ bytes ∷ []) (before.1 ++ bytes) c.feed.new.handler _ _ c.feed.new.self.replies c.feed.new.self.carry.items
+      ran_closed g.H.LineHandler.answers g.H.LineHandler.fails c.args.handler.now (before.0 ++ bytes ∷ [])
+          (before.1 ++ bytes) c.feed.new.handler _ _ c.feed.new.self.replies c.feed.new.self.carry.items
           (rw (c.in-Ends.is) at (fed.fed c.args.handler.now before.1 _ before.5)),
     )
 
@@ -86,7 +104,8 @@ returns-in_err-write_to-clause-ran g c =
       before.1 ++ bytes,
       Consumes-trans _ _ _ before.1 bytes before.2 c.in_ok-length.ensures.bytes.0,
       parted_more before.0 before.1 bytes before.3 some,
-      ran_written g.H.LineHandler.answers g.H.LineHandler.fails c.args.handler.now (before.0 ++ bytes ∷ []) _ _ _ _ _ _ _ [] (rw on at (fed.fed c.args.handler.now before.1 _ before.5)) c.in_err-write_to.ensures.front,
+      ran_written g.H.LineHandler.answers g.H.LineHandler.fails c.args.handler.now (before.0 ++ bytes ∷ []) _ _ _ _ _ _
+          _ [] (rw on at (fed.fed c.args.handler.now before.1 _ before.5)) c.in_err-write_to.ensures.front,
     )
 
 pub returns-clause-ran : goal.returns-clause-ran

@@ -11,9 +11,11 @@ invariant-reads g l = record {
   written : IsEmpty l.self.replies;
   short : length l.self.carry.items ≤ 16384;
   few : l.self.count < 1000000000;
-  going : (chunks : List (List ℕ)) × (input : List ℕ) × Consumes (g.R.Read.remaining l.fn.reader) (g.R.Read.remaining l.reader) input
+  going : (chunks : List (List ℕ)) × (input : List ℕ)
+      × Consumes (g.R.Read.remaining l.fn.reader) (g.R.Read.remaining l.reader) input
       × Parted chunks input × (l.self.count ≡ length (pieces input) + still chunks)
-      × Going g.H.LineHandler.answers l.fn.handler input l.handler (g.W.Write.contents l.fn.writer) (g.W.Write.contents l.writer) l.self.replies l.self.carry.items;
+      × Going g.H.LineHandler.answers l.fn.handler input l.handler (g.W.Write.contents l.fn.writer)
+      (g.W.Write.contents l.writer) l.self.replies l.self.carry.items;
 }
 
 abbrev pub decreases-reads : goal.decreases-reads

@@ -15,19 +15,22 @@ take_in-requires-clause-few g c = let came = c.in-Ok.ensures.ok in few_come _ ca
 pub take_in-requires-clause-entries : goal.take_in-requires-clause-entries
 take_in-requires-clause-entries g c =
     let came = c.in-Ok.ensures.ok in
-    can_take _ came.0 _ _ c.self.invariant (search rules) (ap (λ (i : IntakeValue _). i.finished) c.self.view_is ∙ c.requires) came.2
+    can_take _ came.0 _ _ c.self.invariant (search rules) (ap (λ (i : IntakeValue _). i.finished) c.self.view_is
+    ∙ c.requires) came.2
 
 pub invariant_of-self-2 : goal.invariant_of-self-2
 invariant_of-self-2 g c =
     let came = c.in-Ok.ensures.ok in
-    still_intake _ _ came.0 c.in-Ok.arrival c.take_in.result c.self.invariant (search rules) (ap (λ (i : IntakeValue _). i.finished) c.self.view_is ∙ c.requires) came.2
+    still_intake _ _ came.0 c.in-Ok.arrival c.take_in.result c.self.invariant (search rules)
+    (ap (λ (i : IntakeValue _). i.finished) c.self.view_is ∙ c.requires) came.2
     (c.take_in.ensures.ok, c.take_in.ensures.err)
 
 pub returns-clause-leaves : goal.returns-clause-leaves
 returns-clause-leaves g c =
     let came = c.in-Ok.ensures.ok in
     rw (← c.self.view_is) (line_leaves _ _ _ c.in-Ok.arrival c.take_in.result
-    (record { message = came.0; read_as = came.1; arrives = came.2; lane = c.take_in.ensures.lane }) (c.take_in.ensures.ok, c.take_in.ensures.err))
+    (record { message = came.0; read_as = came.1; arrives = came.2; lane = c.take_in.ensures.lane })
+    (c.take_in.ensures.ok, c.take_in.ensures.err))
 
 pub invariant_of-self : goal.invariant_of-self
 invariant_of-self g c = search rules
@@ -89,5 +92,6 @@ pub returns-clause-log : goal.returns-clause-log
 returns-clause-log g c es reached of_log h =
     let came = c.in-Ok.ensures.ok in
     let receives = subst (Receives es reached) (sym c.self.view_is) h in
-    receives_arrival es reached _ _ _ came.0 c.in-Ok.arrival c.take_in.result receives of_log came.1 (search rules) (ap (λ (i : IntakeValue _). i.finished) c.self.view_is ∙ c.requires)
+    receives_arrival es reached _ _ _ came.0 c.in-Ok.arrival c.take_in.result receives of_log came.1 (search rules)
+    (ap (λ (i : IntakeValue _). i.finished) c.self.view_is ∙ c.requires)
     came.2 (c.take_in.ensures.ok, c.take_in.ensures.err)

@@ -8,7 +8,8 @@ returns-then-byte-eq-LINE_END g c =
     let inv = c.bytes.invariant in
     let b = c.in-Some.byte in
     let one = byte_read _ _ c.in_ok-byte.field-0 b c.in-Some.is c.in_ok-byte.ensures.some in
-    let fed = push_byte c.bytes.cutter c.push.new.self inv.0 b c.push.result inv.4 inv.3 c.push.ensures.count (c.push.ensures.fed inv.0 [] inv.4) in
+    let fed = push_byte c.bytes.cutter c.push.new.self inv.0 b c.push.result inv.4 inv.3 c.push.ensures.count
+    (c.push.ensures.fed inv.0 [] inv.4) in
     record {
       read = (
         inv.0 ++ b ∷ [],
@@ -24,7 +25,8 @@ bytes-preserved g c =
     let inv = c.bytes.invariant in
     let b = c.in-Some.byte in
     let one = byte_read _ _ c.in_ok-byte.field-0 b c.in-Some.is c.in_ok-byte.ensures.some in
-    let fed = push_byte c.bytes.cutter c.push.new.self inv.0 b c.push.result inv.4 inv.3 c.push.ensures.count (c.push.ensures.fed inv.0 [] inv.4) in (
+    let fed = push_byte c.bytes.cutter c.push.new.self inv.0 b c.push.result inv.4 inv.3 c.push.ensures.count
+    (c.push.ensures.fed inv.0 [] inv.4) in (
       inv.0 ++ b ∷ [],
       Consumes-trans _ _ _ inv.0 (b ∷ []) inv.1 one,
       omega (arith, inv.2, length-append inv.0 (b ∷ [])),

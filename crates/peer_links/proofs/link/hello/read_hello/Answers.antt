@@ -15,19 +15,28 @@ returns-in_err-read_first-clause-read g c =
 pub speaker-requires : goal.speaker-requires
 speaker-requires g c =
     let r = c.in_ok-read_first.ensures.read in
-    let whole = given_whole c.read_first.new.cutter c.next_line.new.self r.0 c.in_ok-line.field-0 _ r.3.0 r.3.1 (c.in-Some-Line.is ∙ ap Some c.in-Some-Line.field-0-is) c.in_ok-line.ensures.cut c.in_ok-line.ensures.given in
+    let whole = given_whole c.read_first.new.cutter c.next_line.new.self r.0 c.in_ok-line.field-0 _ r.3.0 r.3.1
+    (c.in-Some-Line.is ∙ ap Some c.in-Some-Line.field-0-is) c.in_ok-line.ensures.cut c.in_ok-line.ensures.given in
     subst IsLine (sym whole.0.0) r.3.0
 
 pub returns-in-Some-Line-clause-read : goal.returns-in-Some-Line-clause-read
 returns-in-Some-Line-clause-read g c =
     let r = c.in_ok-read_first.ensures.read in
-    let whole = given_whole c.read_first.new.cutter c.next_line.new.self r.0 c.in_ok-line.field-0 _ r.3.0 r.3.1 (c.in-Some-Line.is ∙ ap Some c.in-Some-Line.field-0-is) c.in_ok-line.ensures.cut c.in_ok-line.ensures.given in
-    (r.0, r.1, inr r.3.0, r.2, subst (λ (text : List ℕ). ReadsHello text c.speaker.result) whole.0.0 c.speaker.ensures, λ _. inl r.3.0)
+    let whole = given_whole c.read_first.new.cutter c.next_line.new.self r.0 c.in_ok-line.field-0 _ r.3.0 r.3.1
+    (c.in-Some-Line.is ∙ ap Some c.in-Some-Line.field-0-is) c.in_ok-line.ensures.cut c.in_ok-line.ensures.given in (
+      r.0,
+      r.1,
+      inr r.3.0,
+      r.2,
+      subst (λ (text : List ℕ). ReadsHello text c.speaker.result) whole.0.0 c.speaker.ensures,
+      λ _. inl r.3.0,
+    )
 
 pub returns-in-Some-Long-clause-read : goal.returns-in-Some-Long-clause-read
 returns-in-Some-Long-clause-read g c =
     let r = c.in_ok-read_first.ensures.read in
-    let whole = given_whole c.read_first.new.cutter c.next_line.new.self r.0 c.in_ok-line.field-0 _ r.3.0 r.3.1 (c.in-Some-Long.is ∙ ap Some c.in-Some-Long.field-0-is) c.in_ok-line.ensures.cut c.in_ok-line.ensures.given in
+    let whole = given_whole c.read_first.new.cutter c.next_line.new.self r.0 c.in_ok-line.field-0 _ r.3.0 r.3.1
+    (c.in-Some-Long.is ∙ ap Some c.in-Some-Long.field-0-is) c.in_ok-line.ensures.cut c.in_ok-line.ensures.given in
     absurd (omega (arith, whole.0, r.2))
 
 pub unreachable-requires : goal.unreachable-requires

@@ -9,8 +9,16 @@ use Rattle.peer_links.proofs.link.reading.ask_for_gap.Goals as goal
 pub returns-in_err-query : goal.returns-in_err-query
 returns-in_err-query g c =
     let p = err_from_is_err_and c.from_residual.result c.from_residual.ensures.1 in
-    let query = c.in_err-query.ensures.query in
-    ([], record { query = query.0; asks = query.1; rest = c.in_err-query.ensures.rest; hears = query_lacks query.0 _ p.0 p.1 query.2 }, refl)
+    let query = c.in_err-query.ensures.query in (
+      [],
+      record {
+        query = query.0;
+        asks = query.1;
+        rest = c.in_err-query.ensures.rest;
+        hears = query_lacks query.0 _ p.0 p.1 query.2;
+      },
+      refl,
+    )
 
 pub line-requires : goal.line-requires
 line-requires g c =
@@ -21,6 +29,11 @@ pub returns-in-Some : goal.returns-in-Some
 returns-in-Some g c =
     let query = c.in_ok-query.ensures.query in (
       ALine c.in-Some.query.items ∷ [],
-      record { query = query.0; asks = query.1; rest = c.in_ok-query.ensures.rest; hears = query_heard query.0 c.in_ok-query.field-0 c.in-Some.query c.in-Some.is query.2 },
+      record {
+        query = query.0;
+        asks = query.1;
+        rest = c.in_ok-query.ensures.rest;
+        hears = query_heard query.0 c.in_ok-query.field-0 c.in-Some.query c.in-Some.is query.2;
+      },
       turn_one g.P.Port.hears _ _ _ c.line.ensures,
     )

@@ -1,4 +1,5 @@
-use Rattle.std.proofs.Common.{ℕ, ◌+◌, ◌<◌, List, [], ◌∷◌, ◌++◌, length, take, Ok, Err, refl, sym, ap, subst, ◌∙◌, arith, append-nil, append_assoc, length-take}
+use Rattle.std.proofs.Common.{ℕ, ◌+◌, ◌<◌, List, [], ◌∷◌, ◌++◌, length, take, Ok, Err, refl, sym, ap, subst, ◌∙◌, arith}
+use Rattle.std.proofs.Common.{append-nil, append_assoc, length-take}
 use Rattle.std.specs.Io.KnownBytes.{Consumes}
 use Rattle.std.proofs.lemmas.Result.{err_from_is_err_and}
 use Rattle.line_streams.specs.Counting.{still}
@@ -17,7 +18,14 @@ reads-init g c =
       c.requires.unfinished,
       refl,
       c.requires.cutter,
-      (none.0, none.1, λ stream h. rw none.2 (subst (IsFedAll c.args.cutter.now) (sym (append-nil stream)) h, ([], (refl, refl), refl))),
+      (
+        none.0,
+        none.1,
+        λ stream h. rw none.2 (
+          subst (IsFedAll c.args.cutter.now) (sym (append-nil stream)) h,
+          ([], (refl, refl), refl),
+        ),
+      ),
       same_pair _,
     )
 
@@ -31,7 +39,8 @@ returns-in_err-length-clause-gave g c =
 pub returns-then-length-eq0-clause-gave : goal.returns-then-length-eq0-clause-gave
 returns-then-length-eq0-clause-gave g c =
     let inv = c.reads.invariant in
-    let nothing = subst (Consumes _ _) (ap (λ (n : ℕ). take n c.read_some.new.room) c.if-length-eq0.true) c.in_ok-length.ensures.bytes.0 in
+    let nothing = subst (Consumes _ _) (ap (λ (n : ℕ). take n c.read_some.new.room) c.if-length-eq0.true)
+    c.in_ok-length.ensures.bytes.0 in
     let same = gave_same _ _ _ inv.5.0 nothing in
     (same.0, omega (arith, same.1, inv.5.1, inv.1), λ stream h. rw same.2 (inv.5.2 stream h).1)
 
@@ -53,10 +62,13 @@ reads-preserved g c =
         λ stream h.
             let t = inv.5.2 stream h in
             rw more.2 (
-              subst (IsFedAll c.take_block.new.cutter) (append_assoc stream inv.5.0.input bytes) (block.fed (stream ++ inv.5.0.input) t.0),
-              block_taken g.P.Port.hears _ _ _ _ _ _ (pieces_behind stream inv.5.0.input) t.1 (still inv.5.0.chunks + still (bytes ∷ [])) (c.reads.count + still (bytes ∷ []))
+              subst (IsFedAll c.take_block.new.cutter) (append_assoc stream inv.5.0.input bytes)
+                  (block.fed (stream ++ inv.5.0.input) t.0),
+              block_taken g.P.Port.hears _ _ _ _ _ _ (pieces_behind stream inv.5.0.input) t.1
+                  (still inv.5.0.chunks + still (bytes ∷ [])) (c.reads.count + still (bytes ∷ []))
                   (pieces_behind (stream ++ inv.5.0.input) bytes) _ (Ok tt)
-                  (omega (arith, inv.5.1, behind_count stream inv.5.0.input)) (behind_both stream inv.5.0.input bytes) (block.takes (stream ++ inv.5.0.input) t.0),
+                  (omega (arith, inv.5.1, behind_count stream inv.5.0.input)) (behind_both stream inv.5.0.input bytes)
+                  (block.takes (stream ++ inv.5.0.input) t.0),
             ),
       ),
       pairs_both _ _ _ inv.6 block.pair,
@@ -75,10 +87,12 @@ returns-in_err-take_block-clause-gave g c =
       ends_block more.0 _ block.may (λ e. omega (arith, more.1, block.many (ap Err e))),
       λ stream h.
           let t = inv.5.2 stream h in
-          block_taken g.P.Port.hears _ c.reads.intake c.take_block.new.intake _ _ _ (pieces_behind stream inv.5.0.input) t.1 (still more.0.chunks) (c.reads.count + still (bytes ∷ []))
+          block_taken g.P.Port.hears _ c.reads.intake c.take_block.new.intake _ _ _ (pieces_behind stream inv.5.0.input)
+          t.1 (still more.0.chunks) (c.reads.count + still (bytes ∷ []))
           (pieces_behind (stream ++ inv.5.0.input) bytes) _ (Err c.in_err-take_block.field-0.0)
           (omega (arith, inv.5.1, more.3, behind_count stream inv.5.0.input))
-          (ap (pieces_behind stream) more.2 ∙ behind_both stream inv.5.0.input bytes) (block.takes (stream ++ inv.5.0.input) t.0),
+          (ap (pieces_behind stream) more.2
+          ∙ behind_both stream inv.5.0.input bytes) (block.takes (stream ++ inv.5.0.input) t.0),
     )
 
 pub take_block-requires-clause-accepts : goal.take_block-requires-clause-accepts

@@ -8,11 +8,13 @@ use Rattle.peer_links.proofs.link.reading.read_link.Given as goal
 
 abbrev pub invariant-reads : goal.invariant-reads
 invariant-reads g l =
-    (length l.room ≡ 16384) × (l.count < 1000000000) × (l.intake.finished ≡ false) × (l.intake.inlet.lane ≡ l.fn.intake.inlet.lane)
+    (length l.room ≡ 16384) × (l.count < 1000000000) × (l.intake.finished ≡ false)
+    × (l.intake.inlet.lane ≡ l.fn.intake.inlet.lane)
     × ((stream : List ℕ) × IsFedAll l.cutter stream)
     × ((gave : LinkGave (g.I.Read.remaining l.fn.reader) (g.I.Read.remaining l.reader)) × (l.count ≡ counted gave)
     × ((stream : List ℕ) → IsFedAll l.fn.cutter stream → IsFedAll l.cutter (stream ++ gave.input)
-    × ((heard : List Heard) × Takes l.fn.intake (pieces_behind stream gave.input) heard l.intake × InTurn g.P.Port.hears l.fn.port heard l.port)))
+    × ((heard : List Heard) × Takes l.fn.intake (pieces_behind stream gave.input) heard l.intake
+    × InTurn g.P.Port.hears l.fn.port heard l.port)))
     × SamePair l.fn.intake.inbound.buffer l.intake.inbound.buffer
 
 abbrev pub decreases-reads : goal.decreases-reads

@@ -1,4 +1,5 @@
-use Rattle.std.proofs.Common.{◌≡◌, ◌≢◌, ℕ, ◌+◌, ◌<◌, List, [], ◌∷◌, ◌++◌, length, take, inl, sym, ap, subst, ◌∙◌, arith, length-drop}
+use Rattle.std.proofs.Common.{◌≡◌, ◌≢◌, ℕ, ◌+◌, ◌<◌, List, [], ◌∷◌, ◌++◌, length, take, inl, sym, ap, subst, ◌∙◌, arith}
+use Rattle.std.proofs.Common.{length-drop}
 use Rattle.std.proofs.lemmas.List.{take_all, take_rest}
 use Rattle.entry_codec.specs.Pieces.{pieces}
 use Rattle.line_streams.proofs.CountLaws.{counts_lines, counts_still, counts_within, line_some}
@@ -9,7 +10,8 @@ use Rattle.std.proofs.lemmas.Result.{err_from_is_err_and}
 use Rattle.peer_links.specs.Takes.{pieces_behind}
 use Rattle.peer_links.specs.declared.link.LinkFault.TheVariants.{TooManyLines, OutOfMemory}
 use Rattle.peer_links.proofs.PairLaws.{pairs_both, accepts_still}
-use Rattle.peer_links.proofs.TakeLaws.{behind_count, front_behind, next_text, next_none, more_taken, one_breaks, to_stop, to_count}
+use Rattle.peer_links.proofs.TakeLaws.{behind_count, front_behind, next_text, next_none, more_taken, one_breaks}
+use Rattle.peer_links.proofs.TakeLaws.{to_stop, to_count}
 use Rattle.peer_links.proofs.link.reading.take_block.Goals as goal
 
 pub returns-then-at-eq0-clause-fed : goal.returns-then-at-eq0-clause-fed
@@ -17,15 +19,18 @@ returns-then-at-eq0-clause-fed g c =
     let inv = c.pieces.invariant in
     let next = c.in_ok-piece.ensures in
     let bytes = c.args.bytes.now in
-    on_ok c.count_one.result (fed_all _ _ _ _ (take_rest bytes c.pieces.at) _ _ inv.6 _ c.in_default.not-Some next.none inv.0 _ next.fed)
+    on_ok c.count_one.result (fed_all _ _ _ _ (take_rest bytes c.pieces.at) _ _ inv.6 _ c.in_default.not-Some next.none
+    inv.0 _ next.fed)
 
 pub returns-then-at-eq0-clause-counts : goal.returns-then-at-eq0-clause-counts
 returns-then-at-eq0-clause-counts g c =
     let inv = c.pieces.invariant in
     let next = c.in_ok-piece.ensures in
     let bytes = c.args.bytes.now in
-    let same = no_line _ _ _ _ (take_rest bytes c.pieces.at) _ _ inv.6 _ c.requires.cutter next.piece c.in_default.not-Some next.none inv.0 in
-    let none : length (pieces (take c.pieces.at bytes)) ≡ 0 = ap (λ (n : ℕ). length (pieces (take n bytes))) c.if-at-eq0.true in
+    let same = no_line _ _ _ _ (take_rest bytes c.pieces.at) _ _ inv.6 _ c.requires.cutter next.piece
+    c.in_default.not-Some next.none inv.0 in
+    let none : length (pieces (take c.pieces.at bytes)) ≡ 0
+    = ap (λ (n : ℕ). length (pieces (take n bytes))) c.if-at-eq0.true in
     on_ok c.count_one.result (omega (arith, c.count_one.ensures.more, inv.2, none, counts_still bytes (same ∙ none)))
 
 pub returns-else-at-eq0-clause-fed : goal.returns-else-at-eq0-clause-fed
@@ -40,7 +45,8 @@ returns-else-at-eq0-clause-counts g c =
     let inv = c.pieces.invariant in
     let next = c.in_ok-piece.ensures in
     let bytes = c.args.bytes.now in
-    let same = no_line _ _ _ _ (take_rest bytes c.pieces.at) _ _ inv.6 _ c.requires.cutter next.piece c.in_default.not-Some next.none inv.0 in
+    let same = no_line _ _ _ _ (take_rest bytes c.pieces.at) _ _ inv.6 _ c.requires.cutter next.piece
+    c.in_default.not-Some next.none inv.0 in
     let moved : 0 < c.pieces.at = omega (arith, c.if-at-eq0.false) in
     let some : 0 < length (pieces bytes) = omega (arith, inv.3 moved, same) in
     omega (arith, inv.2, same, counts_lines bytes some)
@@ -52,15 +58,30 @@ returns-in_err-count_one-clause-many g c = λ _.
     let bytes = c.args.bytes.now in
     let one = one_line _ _ _ _ (take_rest bytes c.pieces.at) _ _ inv.6 _ c.requires.cutter next.piece _ c.in-Some.is in
     let full = c.in_err-count_one.ensures in
-    omega (arith, full.more, full.many.1, inv.2, one, line_some bytes (c.pieces.at + c.in_ok-piece.taken), counts_within bytes)
+    omega (
+      arith,
+      full.more,
+      full.many.1,
+      inv.2,
+      one,
+      line_some bytes (c.pieces.at + c.in_ok-piece.taken),
+      counts_within bytes,
+    )
 
 pub returns-in_err-piece-clause-takes : goal.returns-in_err-piece-clause-takes
 returns-in_err-piece-clause-takes g c = λ stream h.
     let p = err_from_is_err_and c.from_residual.result c.from_residual.ensures.1 in
     let t = c.pieces.invariant.7 stream h in
-    let more = c.in_err-piece.ensures.memory (stream ++ take c.pieces.at c.args.bytes.now) (c.pieces.invariant.6 stream h) in
-    let ends = subst (λ (l : List ℕ). pieces_behind (stream ++ take c.pieces.at c.args.bytes.now) l ≢ []) (take_rest c.args.bytes.now c.pieces.at) more.ends in
-    rw (p.1, p.2) (t.0, to_stop (c.args.count.now + still (c.args.bytes.now ∷ [])) _ _ _ _ _ OutOfMemory t.0 (front_behind stream c.args.bytes.now c.pieces.at) (inl (t.1, ends)), t.2)
+    let more = c.in_err-piece.ensures.memory (stream ++ take c.pieces.at c.args.bytes.now)
+    (c.pieces.invariant.6 stream h) in
+    let ends = subst (λ (l : List ℕ). pieces_behind (stream ++ take c.pieces.at c.args.bytes.now) l ≢ [])
+    (take_rest c.args.bytes.now c.pieces.at) more.ends in
+    rw (p.1, p.2) (
+      t.0,
+      to_stop (c.args.count.now + still (c.args.bytes.now ∷ [])) _ _ _ _ _ OutOfMemory t.0
+          (front_behind stream c.args.bytes.now c.pieces.at) (inl (t.1, ends)),
+      t.2,
+    )
 
 pub returns-then-at-eq0-clause-takes : goal.returns-then-at-eq0-clause-takes
 returns-then-at-eq0-clause-takes g c = λ stream h.
@@ -68,11 +89,28 @@ returns-then-at-eq0-clause-takes g c = λ stream h.
     let next = c.in_ok-piece.ensures in
     let bytes = c.args.bytes.now in
     let t = inv.7 stream h in
-    let whole = next_none _ _ _ _ (take_rest bytes c.pieces.at) _ _ inv.6 _ stream h next.piece c.in_default.not-Some next.none inv.0 in
-    let same = no_line _ _ _ _ (take_rest bytes c.pieces.at) _ _ inv.6 _ c.requires.cutter next.piece c.in_default.not-Some next.none inv.0 in
-    let none : length (pieces (take c.pieces.at bytes)) ≡ 0 = ap (λ (n : ℕ). length (pieces (take n bytes))) c.if-at-eq0.true in
-    let sum : (c.args.count.now + still (c.args.bytes.now ∷ [])) + length (pieces_behind stream bytes) ≡ c.count_one.new.count = omega (arith, c.count_one.ensures.more, inv.2, none, same, counts_still bytes (same ∙ none), behind_count stream bytes) in
-    (t.0, to_count (c.args.count.now + still (c.args.bytes.now ∷ [])) c.count_one.new.count _ _ _ c.count_one.result t.0 c.count_one.ensures.many sum (rw (sym whole) t.1), t.2)
+    let whole = next_none _ _ _ _ (take_rest bytes c.pieces.at) _ _ inv.6 _ stream h next.piece c.in_default.not-Some
+    next.none inv.0 in
+    let same = no_line _ _ _ _ (take_rest bytes c.pieces.at) _ _ inv.6 _ c.requires.cutter next.piece
+    c.in_default.not-Some next.none inv.0 in
+    let none : length (pieces (take c.pieces.at bytes)) ≡ 0
+    = ap (λ (n : ℕ). length (pieces (take n bytes))) c.if-at-eq0.true in
+    let sum : (c.args.count.now + still (c.args.bytes.now ∷ [])) + length (pieces_behind stream bytes)
+    ≡ c.count_one.new.count = omega (
+      arith,
+      c.count_one.ensures.more,
+      inv.2,
+      none,
+      same,
+      counts_still bytes (same
+          ∙ none),
+      behind_count stream bytes,
+    ) in (
+      t.0,
+      to_count (c.args.count.now + still (c.args.bytes.now ∷ [])) c.count_one.new.count _ _ _ c.count_one.result t.0
+          c.count_one.ensures.many sum (rw (sym whole) t.1),
+      t.2,
+    )
 
 pub returns-else-at-eq0-clause-takes : goal.returns-else-at-eq0-clause-takes
 returns-else-at-eq0-clause-takes g c = λ stream h.
@@ -80,7 +118,8 @@ returns-else-at-eq0-clause-takes g c = λ stream h.
     let next = c.in_ok-piece.ensures in
     let bytes = c.args.bytes.now in
     let t = inv.7 stream h in
-    let whole = next_none _ _ _ _ (take_rest bytes c.pieces.at) _ _ inv.6 _ stream h next.piece c.in_default.not-Some next.none inv.0 in
+    let whole = next_none _ _ _ _ (take_rest bytes c.pieces.at) _ _ inv.6 _ stream h next.piece c.in_default.not-Some
+    next.none inv.0 in
     (t.0, rw (sym whole) t.1, t.2)
 
 pub returns-in_err-take_piece-clause-takes : goal.returns-in_err-take_piece-clause-takes
@@ -89,8 +128,10 @@ returns-in_err-take_piece-clause-takes g c = λ stream h.
     let inv = c.pieces.invariant in
     let bytes = c.args.bytes.now in
     let piece = c.in_err-take_piece.ensures in
-    let text = next_text _ _ _ _ (take_rest bytes c.pieces.at) _ _ inv.6 _ stream h c.in_ok-piece.ensures.piece _ c.in-Some.is in
-    rw (p.1, p.2) (one_breaks g.P.Port.hears _ _ _ _ _ _ _ (inv.7 stream h) (c.args.count.now + still (c.args.bytes.now ∷ [])) text.0 _ _ _ piece.may text.3 (piece.takes text.0 text.1))
+    let text = next_text _ _ _ _ (take_rest bytes c.pieces.at) _ _ inv.6 _ stream h c.in_ok-piece.ensures.piece _
+    c.in-Some.is in
+    rw (p.1, p.2) (one_breaks g.P.Port.hears _ _ _ _ _ _ _ (inv.7 stream h)
+    (c.args.count.now + still (c.args.bytes.now ∷ [])) text.0 _ _ _ piece.may text.3 (piece.takes text.0 text.1))
 
 pub returns-in_err-count_one-clause-takes : goal.returns-in_err-count_one-clause-takes
 returns-in_err-count_one-clause-takes g c = λ stream h.
@@ -98,14 +139,31 @@ returns-in_err-count_one-clause-takes g c = λ stream h.
     let inv = c.pieces.invariant in
     let bytes = c.args.bytes.now in
     let piece = c.in_ok-take_piece.ensures in
-    let text = next_text _ _ _ _ (take_rest bytes c.pieces.at) _ _ inv.6 _ stream h c.in_ok-piece.ensures.piece _ c.in-Some.is in
+    let text = next_text _ _ _ _ (take_rest bytes c.pieces.at) _ _ inv.6 _ stream h c.in_ok-piece.ensures.piece _
+    c.in-Some.is in
     let more = more_taken g.P.Port.hears _ _ _ _ _ _ _ (inv.7 stream h) text.0 _ (piece.takes text.0 text.1) in
     let next = c.in_ok-piece.ensures in
     let one = one_line _ _ _ _ (take_rest bytes c.pieces.at) _ _ inv.6 _ c.requires.cutter next.piece _ c.in-Some.is in
     let some : 0 < length (pieces bytes) = omega (arith, one, line_some bytes (c.pieces.at + c.in_ok-piece.taken)) in
     let full = c.in_err-count_one.ensures in
-    let sum : (c.args.count.now + still (c.args.bytes.now ∷ [])) + length (pieces_behind stream (take c.pieces.at bytes) ++ text.0 ∷ []) ≡ 1000000000 = omega (arith, full.more, full.many.1, inv.2, one, counts_lines bytes some, ap length text.2, behind_count stream (take (c.pieces.at + c.in_ok-piece.taken) bytes)) in
-    rw (p.1, p.2, full.many.0) (more.0, to_stop (c.args.count.now + still (c.args.bytes.now ∷ [])) _ _ _ _ _ TooManyLines more.0 text.3 (more.1, sum), more.2)
+    let sum : (c.args.count.now + still (c.args.bytes.now ∷ []))
+    + length (pieces_behind stream (take c.pieces.at bytes) ++ text.0 ∷ []) ≡ 1000000000
+    = omega (
+      arith,
+      full.more,
+      full.many.1,
+      inv.2,
+      one,
+      counts_lines bytes some,
+      ap length text.2,
+      behind_count stream (take (c.pieces.at + c.in_ok-piece.taken) bytes),
+    ) in
+    rw (p.1, p.2, full.many.0) (
+      more.0,
+      to_stop (c.args.count.now + still (c.args.bytes.now ∷ [])) _ _ _ _ _ TooManyLines more.0 text.3
+          (more.1, sum),
+      more.2,
+    )
 
 pub pieces-preserved : goal.pieces-preserved
 pieces-preserved g c =
@@ -132,12 +190,14 @@ pieces-preserved g c =
 
 pub returns-clause-fed : goal.returns-clause-fed
 returns-clause-fed g c = λ stream h.
-    let whole : take c.pieces.at c.args.bytes.now ≡ c.args.bytes.now = take_all c.pieces.at c.args.bytes.now (omega (arith, c.pieces-test.false)) in
+    let whole : take c.pieces.at c.args.bytes.now ≡ c.args.bytes.now
+    = take_all c.pieces.at c.args.bytes.now (omega (arith, c.pieces-test.false)) in
     subst (λ (l : List ℕ). IsFedAll c.pieces.cutter (stream ++ l)) whole (c.pieces.invariant.6 stream h)
 
 pub returns-clause-takes : goal.returns-clause-takes
 returns-clause-takes g c = λ stream h.
-    let whole : take c.pieces.at c.args.bytes.now ≡ c.args.bytes.now = take_all c.pieces.at c.args.bytes.now (omega (arith, c.pieces-test.false)) in
+    let whole : take c.pieces.at c.args.bytes.now ≡ c.args.bytes.now
+    = take_all c.pieces.at c.args.bytes.now (omega (arith, c.pieces-test.false)) in
     rw (sym whole) (c.pieces.invariant.7 stream h)
 
 pub take_piece-requires-clause-accepts : goal.take_piece-requires-clause-accepts

@@ -14,7 +14,8 @@ invariant-pieces g l =
     × (l.intake.finished ≡ false) × (l.intake.inlet.lane ≡ l.fn.intake.inlet.lane)
     × ((stream : List ℕ) → IsFedAll l.fn.cutter stream → IsFedAll l.cutter (stream ++ take l.at l.bytes))
     × ((stream : List ℕ) → IsFedAll l.fn.cutter stream → (heard : List Heard)
-    × Takes l.fn.intake (pieces_behind stream (take l.at l.bytes)) heard l.intake × InTurn g.P.Port.hears l.fn.port heard l.port)
+    × Takes l.fn.intake (pieces_behind stream (take l.at l.bytes)) heard l.intake
+    × InTurn g.P.Port.hears l.fn.port heard l.port)
     × SamePair l.fn.intake.inbound.buffer l.intake.inbound.buffer
 
 abbrev pub decreases-pieces : goal.decreases-pieces

@@ -3,7 +3,8 @@ use Rattle.std.specs.Io.KnownBytes.{Appends}
 use Rattle.peer_links.proofs.link.writing.write_front.Given as goal
 
 abbrev pub invariant-writes : goal.invariant-writes
-invariant-writes g l = (l.done ≤ length l.text) × Appends (g.W.Write.contents l.fn.writer) (g.W.Write.contents l.writer) (take l.done l.text)
+invariant-writes g l = (l.done ≤ length l.text)
+    × Appends (g.W.Write.contents l.fn.writer) (g.W.Write.contents l.writer) (take l.done l.text)
 
 abbrev pub decreases-writes : goal.decreases-writes
 decreases-writes g l = length l.text - l.done

@@ -7,7 +7,8 @@ use Rattle.peer_links.proofs.outbox.Queue.copy_front.Given as goal
 abbrev pub invariant-lines : goal.invariant-lines
 invariant-lines g l =
     (length l.room ≡ length l.fn.room) × (l.filled ≤ length l.room) × (l.count ≤ length l.self.lines)
-    × (joined (front_in (length l.room) l.self.lines) ≡ take l.filled l.room ++ joined (front_in (length l.room - l.filled) (drop l.count l.self.lines)))
+    × (joined (front_in (length l.room) l.self.lines)
+    ≡ take l.filled l.room ++ joined (front_in (length l.room - l.filled) (drop l.count l.self.lines)))
 
 abbrev pub decreases-lines : goal.decreases-lines
 decreases-lines g l = length l.self.lines - l.count

@@ -7,7 +7,8 @@ use Rattle.entry_codec.proofs.Lines.{is_line}
 use Rattle.program_tests.proofs.tests.outbox.beat.Goals as goal
 
 -- what spells a beat is a line
-spelled : {X E : Type 0} (r : Result (Vec ℕ X) E) (b : BeatValue) → IfOk r (λ text. Spells (ABeat b) text.items) → IfOk r (λ line. IsLine line.items)
+spelled : {X E : Type 0} (r : Result (Vec ℕ X) E) (b : BeatValue) → IfOk r (λ text. Spells (ABeat b) text.items)
+    → IfOk r (λ line. IsLine line.items)
 spelled (Ok line) b h = is_line (ABeat b) line.items h
 spelled (Err e) b h = tt
 

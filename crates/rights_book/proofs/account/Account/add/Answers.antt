@@ -14,7 +14,8 @@ loop-m-preserved c =
     let rest = drop (c.loop-m.m-index + 1) ms in
     let next = next_move ms c.loop-m.m-index m c.loop-m-test.true c.m-item.is in
     record {
-      added = ap (λ (x : Account). with_moves x rest) c.add_move.ensures.added ∙ with_moves-cons a m rest ∙ ap (with_moves a) (sym next) ∙ c.loop-m.invariant.added;
+      added = ap (λ (x : Account). with_moves x rest) c.add_move.ensures.added ∙ with_moves-cons a m rest
+          ∙ ap (with_moves a) (sym next) ∙ c.loop-m.invariant.added;
       valid = c.add_move.ensures.valid;
       end = omega (arith, ap (λ (x : Account). x.end) c.add_move.ensures.added, c.loop-m.invariant.end);
     }

@@ -11,7 +11,8 @@ use Rattle.rights_book.proofs.book.Book.apply.Goals as goal
 pub add_gifts-requires-clause-fits : goal.add_gifts-requires-clause-fits
 add_gifts-requires-clause-fits g c =
     let x : BookValue = record { me = c.self.inside.me; own = c.self.inside.own; peers = c.self.inside.peers.items } in
-    rw c.deref_mut.ensures.value (λ j low high. omega (arith, c.self.invariant.gifts_within j, (bounded x c.self.invariant).applies))
+    rw c.deref_mut.ensures.value
+    (λ j low high. omega (arith, c.self.invariant.gifts_within j, (bounded x c.self.invariant).applies))
 
 pub invariant_of-self : goal.invariant_of-self
 invariant_of-self g c =
@@ -23,11 +24,14 @@ invariant_of-self g c =
     let whole : length gs ≡ c.self.inside.peers.len = omega (arith, c.add_gifts.auto.peers, c.deref_mut.ensures.len) in
     let high : o ≤ sites x = rw (← c.self.view_is) at c.requires.site in
     let other = rw (← c.self.view_is) at c.requires.other in
-    let read : it ≡ get_or gs c.index.result it = rw (with_items_is c.self.inside.peers gs whole) at c.index_mut-peer.ensures.value in
-    let b = booked_by x o c.index.result ms _ _ gs it _ _ c.index.ensures.value high c.moves-moves.ensures.value c.deref_mut.ensures.value c.add_gifts.auto.peers c.add_gifts.ensures
+    let read : it ≡ get_or gs c.index.result it
+    = rw (with_items_is c.self.inside.peers gs whole) at c.index_mut-peer.ensures.value in
+    let b = booked_by x o c.index.result ms _ _ gs it _ _ c.index.ensures.value high c.moves-moves.ensures.value
+    c.deref_mut.ensures.value c.add_gifts.auto.peers c.add_gifts.ensures
     read c.add.ensures.added c.gifts_to.ensures.value in
     rw (with_items_is c.self.inside.peers gs whole)
-    (applied_book x _ o ms c.self.invariant (omega (arith, c.index.ensures.value)) high other c.moves-moves.ensures.valid.moves (b.kept c.add.ensures.valid) b.applies)
+    (applied_book x _ o ms c.self.invariant (omega (arith, c.index.ensures.value)) high other
+    c.moves-moves.ensures.valid.moves (b.kept c.add.ensures.valid) b.applies)
 
 pub returns : goal.returns
 returns g c =
@@ -40,9 +44,12 @@ returns g c =
     let low : 1 ≤ o = omega (arith, c.index.ensures.value) in
     let high : o ≤ sites x = rw (← c.self.view_is) at c.requires.site in
     let other = rw (← c.self.view_is) at c.requires.other in
-    let read : it ≡ get_or gs c.index.result it = rw (with_items_is c.self.inside.peers gs whole) at c.index_mut-peer.ensures.value in
-    let y : BookValue = with_peer x gs c.index.result (record it { log = c.add.new.self; received = it.received + c.gifts_to.result }) in
-    let b = booked_by x o c.index.result ms _ _ gs it _ _ c.index.ensures.value high c.moves-moves.ensures.value c.deref_mut.ensures.value c.add_gifts.auto.peers c.add_gifts.ensures
+    let read : it ≡ get_or gs c.index.result it
+    = rw (with_items_is c.self.inside.peers gs whole) at c.index_mut-peer.ensures.value in
+    let y : BookValue = with_peer x gs c.index.result
+    (record it { log = c.add.new.self; received = it.received + c.gifts_to.result }) in
+    let b = booked_by x o c.index.result ms _ _ gs it _ _ c.index.ensures.value high c.moves-moves.ensures.value
+    c.deref_mut.ensures.value c.add_gifts.auto.peers c.add_gifts.ensures
     read c.add.ensures.added c.gifts_to.ensures.value in
     let facts = applied_facts x y o ms low high b.applies in
     let unclosed = rw (← c.self.view_is) at c.requires.unclosed in
@@ -51,5 +58,6 @@ returns g c =
       applies = b.applies;
       leaves = apply_leaves x y o c.args.entry.now c.self.invariant other unclosed next b.applies facts;
       stands_own = λ log s. own_applied x y o ms log c.self.invariant other b.applies facts s;
-      stands_applied = λ applied later s adds. applied_applied x y o c.args.entry.now applied later c.self.invariant low high other unclosed next b.applies facts s adds;
+      stands_applied = λ applied later s adds. applied_applied x y o c.args.entry.now applied later c.self.invariant low
+          high other unclosed next b.applies facts s adds;
     })

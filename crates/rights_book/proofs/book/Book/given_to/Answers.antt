@@ -5,4 +5,8 @@ use Rattle.rights_book.proofs.book.Book.given_to.Goals as goal
 
 pub returns-clause-range : goal.returns-clause-range
 returns-clause-range g c =
-    omega (arith, ap (λ (p : Peer). p.given) c.peer.ensures.value, (bounded c.args.self.now c.peer.ensures.valid).gives_to c.args.site)
+    omega (
+      arith,
+      ap (λ (p : Peer). p.given) c.peer.ensures.value,
+      (bounded c.args.self.now c.peer.ensures.valid).gives_to c.args.site,
+    )

@@ -24,7 +24,8 @@ returns-clause-range g c =
 pub returns-clause-stands : goal.returns-clause-stands
 returns-clause-stands g c =
     let x : BookValue = record { me = c.self.inside.me; own = c.self.inside.own; peers = c.self.inside.peers.items } in
-    let received : c.received.result ≡ received_by x = subst (λ (b : BookValue). c.received.result ≡ received_by b) (sym c.self.view_is) c.received.ensures.value in
+    let received : c.received.result ≡ received_by x
+    = subst (λ (b : BookValue). c.received.result ≡ received_by b) (sym c.self.view_is) c.received.ensures.value in
     rw (← c.self.view_is) (λ log applied s. omega (arith, received, held_stands x log applied c.self.invariant s))
 
 pub returns-clause-never_short : goal.returns-clause-never_short
@@ -35,6 +36,7 @@ returns-clause-never_short g c =
 pub returns-clause-stands_known : goal.returns-clause-stands_known
 returns-clause-stands_known g c =
     let x : BookValue = record { me = c.self.inside.me; own = c.self.inside.own; peers = c.self.inside.peers.items } in
-    let received : c.received.result ≡ received_by x = subst (λ (b : BookValue). c.received.result ≡ received_by b) (sym c.self.view_is) c.received.ensures.value in
+    let received : c.received.result ≡ received_by x
+    = subst (λ (b : BookValue). c.received.result ≡ received_by b) (sym c.self.view_is) c.received.ensures.value in
     let value : _ ≡ held_by x = omega (arith, received) in
     rw (← c.self.view_is) (λ log applied s. ap pos value ∙ held_known_stands x log applied c.self.invariant s)

@@ -21,4 +21,5 @@ returns-clause-range g c =
     let bounds = known_bounds b c.peer-peer.ensures.valid j in
     let small = small_difference (gained b j) (parted b j) (omega (arith, bounds.0)) (omega (arith, bounds.1)) in
     rw (c.account-log.ensures.value, c.peer-peer.ensures.value)
-    (subst (λ (z : ℤ). (neg_ℤ (pos 2000000000000000000) ≤ℤ z) × (z ≤ℤ pos 1000000017000000000000000000)) (sym small) (difference_range _ _ _ _ bounds.0 bounds.1))
+    (subst (λ (z : ℤ). (neg_ℤ (pos 2000000000000000000) ≤ℤ z) × (z ≤ℤ pos 1000000017000000000000000000)) (sym small)
+    (difference_range _ _ _ _ bounds.0 bounds.1))

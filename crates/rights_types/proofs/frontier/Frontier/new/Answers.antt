@@ -17,7 +17,9 @@ loop-i-preserved c =
     let small : i < 16 = omega (arith, c.if-count-gt-MAX_SITES.false) in
     let room : i < length kept = omega (arith, so_far.0) in (
       length-set kept i number ∙ so_far.0,
-      take_more_set kept i number room ∙ ap (λ (xs : List ℕ). xs ++ number ∷ []) so_far.1 ∙ sym (take_more numbers i 0 more),
+      take_more_set kept i number room ∙ ap (λ (xs : List ℕ). xs ++ number ∷ []) so_far.1
+          ∙ sym (take_more numbers i 0 more),
       drop-set-lt (i + 1) kept i number (omega arith) ∙ zeros_behind kept i so_far.0 small so_far.2,
-      rw (take_more numbers i 0 more) (All-push IsNumber (take i numbers) number so_far.3 c.if-numbers-i-gt-MAX_NUMBER.false),
+      rw (take_more numbers i 0 more)
+          (All-push IsNumber (take i numbers) number so_far.3 c.if-numbers-i-gt-MAX_NUMBER.false),
     )

@@ -4,5 +4,9 @@ use Rattle.thread_parts.proofs.Items.{begins_chain}
 use Rattle.shared_desk_tests.proofs.tests.lanes.put_all.Goals as goal
 
 pub loop-number-init : goal.loop-number-init
-loop-number-init g c =
-    ((λ f of at valid. subst (λ l. Continues l f) (sym c.requires) (begins_chain f (record { prev = at; valid = valid }))), ([], c.requires), refl)
+loop-number-init g c = (
+  (λ f of at valid. subst (λ l. Continues l f) (sym c.requires)
+      (begins_chain f (record { prev = at; valid = valid }))),
+  ([], c.requires),
+  refl,
+)

@@ -5,5 +5,7 @@ use Rattle.site_core.proofs.desk.Desk.expire.Goals as goal
 
 pub invariant_of-self : goal.invariant_of-self
 invariant_of-self g c =
-    kept _ _ [] c.self.invariant refl (sym (append-nil _)) (λ j a. refl) refl (record { same_me = refl; same_sites = refl }) (λ past s. s)
-    (λ closed. none_waits c.self.inside.queue c.args.time _ _ c.expire_late-count.ensures (c.self.invariant.idle closed))
+    kept _ _ [] c.self.invariant refl (sym (append-nil _)) (λ j a. refl) refl
+    (record { same_me = refl; same_sites = refl }) (λ past s. s)
+    (λ closed. none_waits c.self.inside.queue c.args.time _ _ c.expire_late-count.ensures
+    (c.self.invariant.idle closed))

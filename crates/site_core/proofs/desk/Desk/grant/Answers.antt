@@ -12,12 +12,20 @@ use Rattle.site_core.proofs.desk.Desk.grant.Goals as goal
 
 pub write-requires-clause-covered : goal.write-requires-clause-covered
 write-requires-clause-covered g c =
-    let old : DeskValue = record { ledger = c.self.inside.ledger; queue = c.self.inside.queue; manager = c.self.inside.manager; time = c.self.inside.time } in
+    let old : DeskValue = record {
+      ledger = c.self.inside.ledger;
+      queue = c.self.inside.queue;
+      manager = c.self.inside.manager;
+      time = c.self.inside.time;
+    } in
     let j : ℕ = c.args.ask.now.asker in
     let n : ℕ = c.args.amount in
-    let within : n ≤ available old j = subst (λ (d : DeskValue). n ≤ available d j) (sym c.self.view_is) c.requires.within.2 in
-    let high : j ≤ sites old.ledger.book = subst (λ (d : DeskValue). j ≤ sites d.ledger.book) (sym c.self.view_is) c.requires.site in
-    let mine : c.args.ask.now.asked ≡ old.ledger.book.me = subst (λ (d : DeskValue). c.args.ask.now.asked ≡ d.ledger.book.me) (sym c.self.view_is) c.requires.mine in
+    let within : n ≤ available old j
+    = subst (λ (d : DeskValue). n ≤ available d j) (sym c.self.view_is) c.requires.within.2 in
+    let high : j ≤ sites old.ledger.book
+    = subst (λ (d : DeskValue). j ≤ sites d.ledger.book) (sym c.self.view_is) c.requires.site in
+    let mine : c.args.ask.now.asked ≡ old.ledger.book.me
+    = subst (λ (d : DeskValue). c.args.ask.now.asked ≡ d.ledger.book.me) (sym c.self.view_is) c.requires.mine in
     let other : j ≢ old.ledger.book.me = λ e. c.asker.ensures.valid.differ (mine ∙ sym e) in
     let can = can_grant old j n c.requires.within.0 within in
     subst (λ k. check_fault old.ledger.book (Grant k n c.ask.result ∷ []) ≡ None) (sym c.asker.ensures.value)
@@ -25,11 +33,19 @@ write-requires-clause-covered g c =
 
 pub invariant_of-self-2 : goal.invariant_of-self-2
 invariant_of-self-2 g c =
-    let old : DeskValue = record { ledger = c.self.inside.ledger; queue = c.self.inside.queue; manager = c.self.inside.manager; time = c.self.inside.time } in
+    let old : DeskValue = record {
+      ledger = c.self.inside.ledger;
+      queue = c.self.inside.queue;
+      manager = c.self.inside.manager;
+      time = c.self.inside.time;
+    } in
     let new : DeskValue = record old { ledger = c.write.new.self; manager = c.note_answer.new.self } in
     let ask : AskValue = c.args.ask.now in
-    let now : answer_of old ask ≡ Granted c.args.amount = subst (λ (d : DeskValue). answer_of d ask ≡ Granted c.args.amount) (sym c.self.view_is) c.requires.answer in
+    let now : answer_of old ask ≡ Granted c.args.amount
+    = subst (λ (d : DeskValue). answer_of d ask ≡ Granted c.args.amount) (sym c.self.view_is) c.requires.answer in
     let wrote : WritesEntry old.ledger (Grant ask.asker c.args.amount ask.ask ∷ []) new.ledger =
     subst (λ a. WritesEntry old.ledger (Grant ask.asker c.args.amount a ∷ []) new.ledger) c.ask.ensures.value
-    (subst (λ j. WritesEntry old.ledger (Grant j c.args.amount c.ask.result ∷ []) new.ledger) c.asker.ensures.value c.in_ok-number.ensures.ok) in
-    wrote_grant old new ask c.args.amount c.self.invariant now wrote c.note_answer.ensures.same c.note_answer.ensures.answered c.note_answer.ensures.once
+    (subst (λ j. WritesEntry old.ledger (Grant j c.args.amount c.ask.result ∷ []) new.ledger) c.asker.ensures.value
+    c.in_ok-number.ensures.ok) in
+    wrote_grant old new ask c.args.amount c.self.invariant now wrote c.note_answer.ensures.same
+    c.note_answer.ensures.answered c.note_answer.ensures.once

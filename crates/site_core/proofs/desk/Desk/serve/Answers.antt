@@ -5,7 +5,8 @@ use Rattle.site_core.proofs.desk.Desk.serve.Goals as goal
 
 pub write-requires-clause-covered : goal.write-requires-clause-covered
 write-requires-clause-covered g c =
-    let held : c.held.result ≡ held_by c.self.inside.ledger.book = c.held.ensures.value ∙ ap held_by c.book.ensures.value in
+    let held : c.held.result ≡ held_by c.self.inside.ledger.book = c.held.ensures.value
+    ∙ ap held_by c.book.ensures.value in
     spend_unrefused c.self.inside.ledger.book _ (omega (arith, held, c.value.ensures.value, c.if-held-value.false))
 
 pub invariant_of-self-2 : goal.invariant_of-self-2

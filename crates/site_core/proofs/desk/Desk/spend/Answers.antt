@@ -5,7 +5,8 @@ use Rattle.site_core.proofs.desk.Desk.spend.Goals as goal
 
 pub write-requires-clause-covered : goal.write-requires-clause-covered
 write-requires-clause-covered g c =
-    let held : c.held.result ≡ held_by c.self.inside.ledger.book = c.held.ensures.value ∙ ap held_by c.book.ensures.value in
+    let held : c.held.result ≡ held_by c.self.inside.ledger.book = c.held.ensures.value
+    ∙ ap held_by c.book.ensures.value in
     spend_unrefused c.self.inside.ledger.book _ (omega (arith, held, c.in-Ok.ensures.ok))
 
 pub invariant_of-self-then-held-amount : goal.invariant_of-self-then-held-amount

@@ -5,7 +5,8 @@ use Rattle.site_core.proofs.desk.requests.expire_late.Given as goal
 
 abbrev pub invariant-loop-ticket : goal.invariant-loop-ticket
 invariant-loop-ticket g l = record {
-  goes_on : (count : ℕ) (new : QueueValue) → ExpiresLate l.queue l.time count new → ExpiresLate l.initial.queue l.time (count + l.count) new;
+  goes_on : (count : ℕ) (new : QueueValue) → ExpiresLate l.queue l.time count new
+      → ExpiresLate l.initial.queue l.time (count + l.count) new;
   few : l.count + length l.queue.waiting ≤ 32;
 }
 

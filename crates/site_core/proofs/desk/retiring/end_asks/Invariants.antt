@@ -7,7 +7,8 @@ use Rattle.site_core.proofs.desk.retiring.end_asks.Given as goal
 
 abbrev pub invariant-loop-m : goal.invariant-loop-m
 invariant-loop-m l = record {
-  ended : after_grants l.me l.origin (drop l.m-index l.moves) l.manager ≡ after_grants l.me l.origin l.moves l.initial.manager;
+  ended : after_grants l.me l.origin (drop l.m-index l.moves) l.manager
+      ≡ after_grants l.me l.origin l.moves l.initial.manager;
   same : SameSystem l.initial.manager l.manager;
   answered : (past : AskValue) → IsAnswered l.initial.manager past → IsAnswered l.manager past;
 }

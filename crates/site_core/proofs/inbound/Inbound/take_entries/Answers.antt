@@ -18,6 +18,7 @@ invariant_of-self g c =
 
 pub returns-clause-ok : goal.returns-clause-ok
 returns-clause-ok g c =
-    let few : length c.arrive_all.new.verdicts.items ≤ 94 = omega (arith, c.arrive_all.new.verdicts.ok, c.arrive_all.ensures.capacity, c.in_ok-verdicts.ensures.exact) in
+    let few : length c.arrive_all.new.verdicts.items ≤ 94
+    = omega (arith, c.arrive_all.new.verdicts.ok, c.arrive_all.ensures.capacity, c.in_ok-verdicts.ensures.exact) in
     let come = rw c.in_ok-verdicts.ensures.items at c.arrive_all.ensures.arrive in
     rw (← c.self.view_is) (entries_come _ c.args.entries.items _ _ come few)

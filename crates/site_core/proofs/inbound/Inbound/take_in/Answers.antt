@@ -7,4 +7,5 @@ take_entry-requires g c = from_origin c.args.self.now (AnEntry c.in-Push.entry) 
 
 pub take_entries-requires-clause-origin : goal.take_entries-requires-clause-origin
 take_entries-requires-clause-origin g c =
-    rw c.into_entries.ensures.value (all_from_origin c.args.self.now c.in-Answer.answer c.into_entries.ensures.valid (rw c.in-Answer.is at c.requires))
+    rw c.into_entries.ensures.value (all_from_origin c.args.self.now c.in-Answer.answer c.into_entries.ensures.valid
+    (rw c.in-Answer.is at c.requires))

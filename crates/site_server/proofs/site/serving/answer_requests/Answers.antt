@@ -2,5 +2,8 @@ use Rattle.site_server.proofs.CallLaws.{counts_calls}
 use Rattle.site_server.proofs.site.serving.answer_requests.Goals as goal
 
 pub returns : goal.returns
-returns g c =
-    (c.converse.ensures, counts_calls g.P.Peers.size g.P.Peers.sends g.D.DeskNames.id g.B.TickSignal.has_ended c.args.client c.converse.ensures.history.calls c.converse.result c.converse.ensures.calls)
+returns g c = (
+  c.converse.ensures,
+  counts_calls g.P.Peers.size g.P.Peers.sends g.D.DeskNames.id g.B.TickSignal.has_ended
+      c.args.client c.converse.ensures.history.calls c.converse.result c.converse.ensures.calls,
+)

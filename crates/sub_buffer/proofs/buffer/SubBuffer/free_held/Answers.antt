@@ -14,11 +14,20 @@ loop-held-preserved g c =
     record {
       freed = (
         h.0 ++ e ∷ [],
-        c.push_reserved.ensures.items ∙ ap (λ vs. vs ++ Ready e ∷ []) h.1 ∙ append_assoc before (all_ready h.0) (Ready e ∷ [])
+        c.push_reserved.ensures.items ∙ ap (λ vs. vs ++ Ready e ∷ []) h.1
+            ∙ append_assoc before (all_ready h.0) (Ready e ∷ [])
             ∙ ap (λ vs. before ++ vs) (sym (map-append (λ (x : EntryValue). Ready x) h.0 (e ∷ []))),
-        freeing_one _ _ _ h.0 e h.2 c.in-Some.ensures.table (omega (arith, c.in-Some.ensures.fewer)) c.in-Some.ensures.chain c.in-Some.ensures.follows,
+        freeing_one _ _ _ h.0 e h.2 c.in-Some.ensures.table (omega (arith, c.in-Some.ensures.fewer))
+            c.in-Some.ensures.chain c.in-Some.ensures.follows,
       );
-      room = omega (arith, c.loop-held.invariant.room, c.in-Some.ensures.fewer, ap (λ vs. length vs) c.push_reserved.ensures.items, length-append c.loop-held.verdicts.items (Ready e ∷ []), c.push_reserved.ensures.capacity);
+      room = omega (
+        arith,
+        c.loop-held.invariant.room,
+        c.in-Some.ensures.fewer,
+        ap (λ vs. length vs) c.push_reserved.ensures.items,
+        length-append c.loop-held.verdicts.items (Ready e ∷ []),
+        c.push_reserved.ensures.capacity,
+      );
       capacity = c.push_reserved.ensures.capacity ∙ c.loop-held.invariant.capacity;
     }
 

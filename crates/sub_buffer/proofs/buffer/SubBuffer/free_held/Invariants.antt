@@ -6,7 +6,8 @@ use Rattle.sub_buffer.proofs.buffer.SubBuffer.free_held.Given as goal
 
 abbrev pub invariant-loop-held : goal.invariant-loop-held
 invariant-loop-held g l = record {
-  freed : (freed : List EntryValue) × (l.verdicts.items ≡ l.initial.verdicts.items ++ all_ready freed) × Freeing l.initial.self freed l.self;
+  freed : (freed : List EntryValue) × (l.verdicts.items ≡ l.initial.verdicts.items ++ all_ready freed)
+      × Freeing l.initial.self freed l.self;
   room : length l.verdicts.items + length l.self.held ≤ vec_capacity l.verdicts;
   capacity : vec_capacity l.verdicts ≡ vec_capacity l.initial.verdicts;
 }

@@ -10,19 +10,31 @@ pub returns-in_default-clause-table : goal.returns-in_default-clause-table
 returns-in_default-clause-table g c =
     let i = c.self.inside in
     let e : EntryValue = c.args.entry in
-    let waits : HasPrev e.prev i.held.items = subst (λ n. HasPrev n i.held.items) c.prev-prev.ensures.value c.in_default.ensures in
+    let waits : HasPrev e.prev i.held.items
+    = subst (λ n. HasPrev n i.held.items) c.prev-prev.ensures.value c.in_default.ensures in
     let far : i.last < e.prev = omega (arith, c.prev-prev.ensures.value) in
-    subst (λ (v : BufferValue). ((e.prev < v.last) ⊎ ((v.last < e.prev) × (v.closed ≡ false) × HasPrev e.prev v.held)) × (v ≡ v)) c.self.view_is
+    subst (λ (v : BufferValue). ((e.prev < v.last) ⊎ ((v.last < e.prev) × (v.closed ≡ false) × HasPrev e.prev v.held))
+    × (v ≡ v)) c.self.view_is
     (inr (far, c.if-self.false, waits), refl)
 
 pub returns-then-len-eq-MAX_HELD-clause-table : goal.returns-then-len-eq-MAX_HELD-clause-table
 returns-then-len-eq-MAX_HELD-clause-table g c =
     let i = c.self.inside in
     let e : EntryValue = c.args.entry in
-    let b : BufferValue = record { me = i.me; origin = i.origin; last = i.last; told = i.told; closed = i.closed; held = i.held.items; asked = i.asked } in
-    let place : IsPlace e.prev i.held.items c.in-Some.place = subst (λ n. IsPlace n i.held.items c.in-Some.place) c.prev-prev.ensures.value c.in-Some.ensures in
+    let b : BufferValue = record {
+      me = i.me;
+      origin = i.origin;
+      last = i.last;
+      told = i.told;
+      closed = i.closed;
+      held = i.held.items;
+      asked = i.asked;
+    } in
+    let place : IsPlace e.prev i.held.items c.in-Some.place
+    = subst (λ n. IsPlace n i.held.items c.in-Some.place) c.prev-prev.ensures.value c.in-Some.ensures in
     let far : i.last < e.prev = omega (arith, c.prev-prev.ensures.value) in
-    let same : length c.self-2.inside.held.items ≡ length c.args.self.now.held = ap (λ (v : BufferValue). length v.held) (c.self-2.view_is ∙ c.hear-2.ensures) in (
+    let same : length c.self-2.inside.held.items ≡ length c.args.self.now.held
+    = ap (λ (v : BufferValue). length v.held) (c.self-2.view_is ∙ c.hear-2.ensures) in (
       subst (λ (v : BufferValue). IsAhead v e) c.self.view_is (is_ahead b e c.in-Some.place far c.if-self.false place),
       omega (arith, same, c.self-2.inside.held.ok.0, c.len.ensures, c.if-len-eq-MAX_HELD.true),
       c.hear-2.ensures ∙ ap (told_of c.args.self.now) c.own-own.ensures.value,
@@ -32,11 +44,29 @@ pub returns-clause-table : goal.returns-clause-table
 returns-clause-table g c =
     let i = c.self.inside in
     let e : EntryValue = c.args.entry in
-    let b : BufferValue = record { me = i.me; origin = i.origin; last = i.last; told = i.told; closed = i.closed; held = i.held.items; asked = i.asked } in
-    let place : IsPlace e.prev i.held.items c.in-Some.place = subst (λ n. IsPlace n i.held.items c.in-Some.place) c.prev-prev.ensures.value c.in-Some.ensures in
+    let b : BufferValue = record {
+      me = i.me;
+      origin = i.origin;
+      last = i.last;
+      told = i.told;
+      closed = i.closed;
+      held = i.held.items;
+      asked = i.asked;
+    } in
+    let place : IsPlace e.prev i.held.items c.in-Some.place
+    = subst (λ n. IsPlace n i.held.items c.in-Some.place) c.prev-prev.ensures.value c.in-Some.ensures in
     let far : i.last < e.prev = omega (arith, c.prev-prev.ensures.value) in
-    let same : length c.self-2.inside.held.items ≡ length c.args.self.now.held = ap (λ (v : BufferValue). length v.held) (c.self-2.view_is ∙ c.hear-2.ensures) in (
+    let same : length c.self-2.inside.held.items ≡ length c.args.self.now.held
+    = ap (λ (v : BufferValue). length v.held) (c.self-2.view_is ∙ c.hear-2.ensures) in (
       subst (λ (v : BufferValue). IsAhead v e) c.self.view_is (is_ahead b e c.in-Some.place far c.if-self.false place),
-      omega (arith, same, c.self-2.inside.held.ok.0, c.len.ensures, c.if-len-eq-MAX_HELD.false, c.self-2.invariant.0.few),
-      c.hold.ensures ∙ ap (λ (v : BufferValue). with_held v e) (c.hear-2.ensures ∙ ap (told_of c.args.self.now) c.own-own.ensures.value),
+      omega (
+        arith,
+        same,
+        c.self-2.inside.held.ok.0,
+        c.len.ensures,
+        c.if-len-eq-MAX_HELD.false,
+        c.self-2.invariant.0.few,
+      ),
+      c.hold.ensures ∙ ap (λ (v : BufferValue). with_held v e) (c.hear-2.ensures
+          ∙ ap (told_of c.args.self.now) c.own-own.ensures.value),
     )

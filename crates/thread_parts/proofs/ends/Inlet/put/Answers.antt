@@ -10,7 +10,8 @@ pub returns-in-Ok-clause-open : goal.returns-in-Ok-clause-open
 returns-in-Ok-clause-open g c = subst IsOpen (sym c.in-Ok.ensures.ok.0) (open_push _ _ (c.requires.1, c.requires.2))
 
 pub returns-in-Ok-clause-next : goal.returns-in-Ok-clause-next
-returns-in-Ok-clause-next g c f follows = subst (λ l. Continues l f) (sym c.in-Ok.ensures.ok.0) (continues_on _ _ f c.requires follows)
+returns-in-Ok-clause-next g c f follows
+    = subst (λ l. Continues l f) (sym c.in-Ok.ensures.ok.0) (continues_on _ _ f c.requires follows)
 
 pub returns-in-Ok-clause-lane : goal.returns-in-Ok-clause-lane
 returns-in-Ok-clause-lane g c = search rules

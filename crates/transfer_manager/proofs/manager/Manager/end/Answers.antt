@@ -11,7 +11,8 @@ invariant_of-self c =
 
 pub returns-clause-ended : goal.returns-clause-ended
 returns-clause-ended c =
-    rw (← c.self.view_is) (ended_set c.self.inside.me _ _ _ _ _ _ _ c.index.ensures.value (rw (← c.self.view_is) at c.requires) c.end.ensures)
+    rw (← c.self.view_is) (ended_set c.self.inside.me _ _ _ _ _ _ _ c.index.ensures.value
+    (rw (← c.self.view_is) at c.requires) c.end.ensures)
 
 pub returns-clause-answered : goal.returns-clause-answered
 returns-clause-answered c =

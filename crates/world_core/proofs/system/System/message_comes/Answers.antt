@@ -129,11 +129,13 @@ returns-in_ok-verdicts-in-Answer g c =
     let verdicts = c.in_ok-verdicts-in-Answer.verdicts in
     let t = c.in_ok-verdicts-in-Answer.ensures.ok in
     let come =
-    entries_arrive g.row.A.Denot _ w _ _ c.args.from _ c.take_answer.new.self t.0 t.1 c.into_entries-entries.result.items
+    entries_arrive g.row.A.Denot _ w _ _ c.args.from _ c.take_answer.new.self t.0 t.1
+    c.into_entries-entries.result.items
     verdicts c.requires.kept at t.2 t.3 (t.4 (log w c.args.from) logged) in
     let left = with_row_at (world_of c.self-in-Answer.inside) c.index-in-Answer.result c.take_answer.new.self in
     comes g start (Answer c.in-Answer.answer) (Ok (Verdicts verdicts)) _ c.in-Answer.is
-    (subst (λ (es : List EntryValue). EntriesCome {A = g.row.A.Denot} w c.args.site c.args.from es (Ok (Verdicts verdicts))
+    (subst (λ (es : List EntryValue). EntriesCome {A = g.row.A.Denot} w c.args.site c.args.from es
+    (Ok (Verdicts verdicts))
     left) same come)
 
 pub returns-in-Query : goal.returns-in-Query

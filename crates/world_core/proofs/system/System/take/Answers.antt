@@ -11,7 +11,8 @@ use Rattle.world_core.proofs.EventPlaces.{link_known, Lent, lent, unchanged, Len
 use Rattle.world_core.proofs.LinkCalls.{all_applied, CanApply, can_apply, takes}
 use Rattle.world_core.proofs.system.System.take.Given as given
 use Rattle.world_core.proofs.system.System.take.Goals as goal
-use Rattle.world_core.proofs.system.System.take.Goals.{After-index_mut-desk, After-index-3, After-own-number, in-None, in-Some-back}
+use Rattle.world_core.proofs.system.System.take.Goals.{After-index_mut-desk, After-index-3, After-own-number, in-None}
+use Rattle.world_core.proofs.system.System.take.Goals.{in-Some-back}
 
 -- the desk that is borrowed is that of the site
 lent_desk : (g : given.Over) (c : goal.After-index_mut-desk g)

@@ -10,7 +10,13 @@ loop-m-preserved c =
     let rest = drop (c.loop-m.m-index + 1) c.args.moves.now in
     let next = next_move c.args.moves.now c.loop-m.m-index m c.loop-m-test.true c.m-item.is in
     record {
-      value = omega (arith, c.loop-m.invariant.value, c.taken_back_by-sum.ensures.value, ap (back c.args.site) next, back-cons c.args.site m rest);
+      value = omega (
+        arith,
+        c.loop-m.invariant.value,
+        c.taken_back_by-sum.ensures.value,
+        ap (back c.args.site) next,
+        back-cons c.args.site m rest,
+      );
       bound = omega (arith, c.loop-m.invariant.bound, c.taken_back_by-sum.ensures.range);
     }
 

@@ -3,4 +3,5 @@ use Rattle.site_server.proofs.site.client.SiteClient.outcome.Given as goal
 
 abbrev pub invariant-ticks : goal.invariant-ticks
 invariant-ticks g l =
-    (goal.iterator-ticks g).can_next l.iterator' × (goal.iterator-ticks g).is_finite l.iterator' × (l.self ≡ l.initial.self)
+    (goal.iterator-ticks g).can_next l.iterator' × (goal.iterator-ticks g).is_finite l.iterator'
+    × (l.self ≡ l.initial.self)
