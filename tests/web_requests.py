@@ -247,6 +247,31 @@ def sixty_three_clients():
         wait_for("a seat is free", lambda: sites.command("issue 1")[0] == 200)
 
 
+def all_that_are_turned_away_are_answered():
+    with alone() as sites, ExitStack() as stack:
+        for _ in range(MOST_CLIENTS):
+            expect(stack.enter_context(sites.client()).command("issue 1")[0], 200)
+        further = [stack.enter_context(sites.client()) for _ in range(100)]
+        for client in further:
+            client.send(post("issue 1"))
+        for client in further:
+            expect_served(client.read(), 503, what="one of many that are turned away together")
+        expect(sites.end().told_issued, MOST_CLIENTS)
+
+
+def the_last_response_frees_the_place():
+    with alone() as sites, ExitStack() as stack:
+        last = request("POST", "/", b"issue 1", "connection: close")
+        for _ in range(2):
+            clients = [stack.enter_context(sites.client()) for _ in range(MOST_CLIENTS)]
+            for client in clients:
+                expect_served(client.ask(last), 200)
+            # They are not closed, and still others get their places soon.
+            since = time.monotonic()
+            wait_for("a place is free", lambda: sites.command("issue 1")[0] == 200)
+            expect(time.monotonic() - since < 0.8, True, "a place was free before the connections were closed")
+
+
 def two_hundred_at_once():
     with alone() as sites:
         told = []
@@ -255,7 +280,7 @@ def two_hundred_at_once():
             while True:
                 with suppress(ConnectionError), sites.client() as client:
                     client.send(post("issue 1"))
-                    # Where many are turned away together, some are closed without a word.
+                    # Where very many are turned away together, some are closed without a word.
                     answer = client.read(may_end=True)
                     if answer is not None and answer.status == 200:
                         told.append(answer.body)
@@ -523,6 +548,7 @@ TESTS = [
     each_target, the_page, other_targets_and_methods, the_status_of_one_command, bodies_of_several_lines, the_longest_line,
     no_web_page_can_spend, the_longest_body, the_most_replies, a_body_that_is_waited_for, the_longest_head,
     heads_that_are_refused, connections_that_are_closed_when_asked, sixty_three_clients, two_hundred_at_once,
+    all_that_are_turned_away_are_answered, the_last_response_frees_the_place,
     no_thread_and_no_seat_is_left, memory_of_connections, pipelines_of_a_hundred, one_byte_at_a_time, half_requests, slow_readers, slow_senders,
     noise, reads_that_are_interrupted,
 ]

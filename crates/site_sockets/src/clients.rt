@@ -13,8 +13,9 @@ use std::sync::atomic::{AtomicBool, Ordering};
 use std::time::{Clock, Duration};
 use std::{io, thread};
 
-/// How many clients may be in the process of being turned away at a time. A further one is closed.
-const TURNED_AWAY: usize = 8;
+/// How many connections may be closing at a time: those that are turned away, and those that have got their last
+/// response. A further one that would be turned away is closed.
+const CLOSING: usize = 192;
 
 /// How many seconds a client may send nothing, or accept none of the bytes written to it.
 const IDLE_SECONDS: u64 = 60;
@@ -29,7 +30,7 @@ const REST_MILLISECONDS: u64 = 10;
 #[derive(Drop)]
 pub enum Accepted {
     Client(TcpStream, usize),
-    /// All places of clients are taken. The connection has this place until it is turned away.
+    /// All places of clients are taken. The connection has this place among the closing ones.
     TurnedAway(TcpStream, usize),
 }
 
@@ -40,7 +41,7 @@ pub struct Clients {
     /// Whether it is logged to standard error that clients are turned away.
     log: bool,
     pool: ConnectionPool,
-    turned_away: ConnectionPool,
+    closing: ConnectionPool,
     /// Whether the last connection was turned away.
     is_full: AtomicBool,
 }
@@ -55,7 +56,7 @@ impl Clients {
             listener,
             log,
             pool: ConnectionPool::new(alloc, CLIENTS)?,
-            turned_away: ConnectionPool::new(alloc, TURNED_AWAY)?,
+            closing: ConnectionPool::new(alloc, CLOSING)?,
             is_full: AtomicBool::new(false),
         })
     }
@@ -89,7 +90,7 @@ impl Clients {
             return Some(Accepted::Client(stream, place));
         }
         self.note_full(rt, &stream);
-        let place = self.turned_away.enter(rt, &stream)?;
+        let place = self.closing.enter(rt, &stream)?;
         Some(Accepted::TurnedAway(stream, place))
     }
 
@@ -110,21 +111,39 @@ impl Clients {
         ClientStream::new(&self.pool, stream, place)
     }
 
-    /// Frees the place of a client that has disconnected.
+    /// Frees the place of a client.
     pub fn leave<R: Wait>(&self, rt: &R, place: usize) {
         self.pool.leave(rt, place);
     }
 
-    /// Frees the place of a client that has been turned away.
-    pub fn leave_turned_away<R: Wait>(&self, rt: &R, place: usize) {
-        self.turned_away.leave(rt, place);
+    /// Frees the place of a client that is turned away.
+    pub fn leave_closing<R: Wait>(&self, rt: &R, place: usize) {
+        self.closing.leave(rt, place);
+    }
+
+    /// Closes the connection of a client that has got its last response, and frees its place: first, if there is one
+    /// among the closing ones, since a client may connect again before it closes this connection.
+    pub fn finish<R: Wait + Clock>(&self, rt: &R, stream: &TcpStream, place: usize) {
+        let Some(closing) = self.closing.enter(rt, stream) else {
+            close_gracefully(rt, stream);
+            self.pool.leave(rt, place);
+            return;
+        };
+        self.pool.leave(rt, place);
+        self.finish_closing(rt, stream, closing);
+    }
+
+    /// Closes the connection of a client that is turned away, and frees its place.
+    pub fn finish_closing<R: Wait + Clock>(&self, rt: &R, stream: &TcpStream, place: usize) {
+        close_gracefully(rt, stream);
+        self.closing.leave(rt, place);
     }
 
     /// Accepts no further client, and lets no further request begin. Waits until the requests that have begun are
     /// answered, or the time is over.
     pub(crate) fn end<R: Net<Stream = TcpStream> + Wait + Clock>(&self, rt: &R, time: Duration) {
         self.pool.end(rt);
-        self.turned_away.end(rt);
+        self.closing.end(rt);
         wake(rt, &self.listener);
         self.pool.wait_until_empty(rt, time);
     }
@@ -132,7 +151,7 @@ impl Clients {
     /// Shuts down the connections of all clients.
     pub(crate) fn close<R: Wait>(&self, rt: &R) {
         self.pool.close(rt);
-        self.turned_away.close(rt);
+        self.closing.close(rt);
     }
 }
 
@@ -160,7 +179,7 @@ pub fn bounded_reader<'a, R: Clock>(
 
 /// Ends the output, and discards input for a second at most: closing a stream with unread input would destroy the
 /// output that was sent last.
-pub fn close_gracefully<R: Clock>(rt: &R, stream: &TcpStream) {
+fn close_gracefully<R: Clock>(rt: &R, stream: &TcpStream) {
     if stream.shutdown(Shutdown::Write).is_err() {
         return;
     }

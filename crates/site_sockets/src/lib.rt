@@ -17,7 +17,7 @@ mod tick_notifier;
 
 pub use acceptor::begin_acceptor;
 pub use client_stream::ClientStream;
-pub use clients::{Accepted, Clients, bounded_reader, close_gracefully};
+pub use clients::{Accepted, Clients, bounded_reader};
 pub use connection_slot::{Connection, ConnectionSlot};
 pub use deadline_reader::DeadlineReader;
 pub use events::{LinkEvents, SkipCause};

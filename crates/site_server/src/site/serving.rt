@@ -11,7 +11,7 @@ use apply_lanes::DeskNames;
 use http_server::{Connection, serve};
 use site_http::{Busy, Client, ClientService, service_config};
 use site_node::Peers;
-use site_sockets::{Accepted, Clients, Site, bounded_reader, close_gracefully};
+use site_sockets::{Accepted, Clients, Site, bounded_reader};
 use std::alloc::Global;
 use std::hash::RandomState;
 use std::io::{Eprint, Read, Write};
@@ -97,8 +97,7 @@ fn serve_client<D: DeskNames, R: Wait + Clock + RandomSource + AllocGlobal>(
     place: usize,
 ) {
     seat_client(rt, site, clients, &shared, &stream, place);
-    close_gracefully(rt, &stream);
-    clients.leave(rt, place);
+    clients.finish(rt, &stream, place);
 }
 
 /// Responds to a client that all places are taken. The client has a second to send its request.
@@ -109,8 +108,7 @@ fn turn_away<R: Wait + Clock + RandomSource + AllocGlobal>(
     place: usize,
 ) {
     let _ = answer_busy(rt, &stream);
-    close_gracefully(rt, &stream);
-    clients.leave_turned_away(rt, place);
+    clients.finish_closing(rt, &stream, place);
 }
 
 fn answer_busy<R: Wait + Clock + RandomSource + AllocGlobal>(
@@ -162,7 +160,7 @@ fn begin_turning_away<'s, E, R: Wait + Clock + RandomSource + AllocGlobal + Sync
         .spawn(move || turn_away(rt, clients, stream, place))
         .is_err()
     {
-        clients.leave_turned_away(rt, place);
+        clients.leave_closing(rt, place);
     }
 }
 
