@@ -79,54 +79,19 @@ counts_more {A} vs i v c within is so_far r h p a f er eh ep ea ef =
     λ j. record { ready = eqr j; held = eqh j; repeat = eqp j; after_close = eqa j; full = eqf j }
 
 -- a verdict counts for its own kind only
-by_kind : {A : Type 0} (c : VerdictCounts) (v : Verdict A) → with_verdict c v ≡ record {
-  ready = c.ready + cond (is_ready v) 1 0;
-  held = c.held + cond (is_held v) 1 0;
-  repeat = c.repeat + cond (is_repeat v) 1 0;
-  after_close = c.after_close + cond (is_after_close v) 1 0;
-  full = c.full + cond (is_full v) 1 0;
-}
-by_kind c (Ready e) = λ j. record c {
-  held = none c.held j;
-  repeat = none c.repeat j;
-  after_close = none c.after_close j;
-  full = none c.full j;
-  ready = c.ready + 1;
-}
-by_kind c Held = λ j. record c {
-  ready = none c.ready j;
-  repeat = none c.repeat j;
-  after_close = none c.after_close j;
-  full = none c.full j;
-  held = c.held + 1;
-}
-by_kind c Repeat = λ j. record c {
-  ready = none c.ready j;
-  held = none c.held j;
-  after_close = none c.after_close j;
-  full = none c.full j;
-  repeat = c.repeat + 1;
-}
-by_kind c AfterClose = λ j. record c {
-  ready = none c.ready j;
-  held = none c.held j;
-  repeat = none c.repeat j;
-  full = none c.full j;
-  after_close = c.after_close + 1;
-}
-by_kind c Full = λ j. record c {
-  ready = none c.ready j;
-  held = none c.held j;
-  repeat = none c.repeat j;
-  after_close = none c.after_close j;
-  full = c.full + 1;
-}
-
 pub counts_step : {A : Type 0} (vs : List (Verdict A)) (i : ℕ) (v : Verdict A) (c d : VerdictCounts) → i < length vs
     → v ≡ get_or vs i v
     → c ≡ counts_of (take i vs) → d ≡ with_verdict c v → d ≡ counts_of (take (i + 1) vs)
-counts_step vs i v c d within is so_far now =
-    now ∙ by_kind c v ∙ counts_more vs i v c within is so_far _ _ _ _ _ refl refl refl refl refl
+counts_step vs i (Ready e) c d within is so_far now =
+    now ∙ counts_more vs i _ c within is so_far _ _ _ _ _ refl (none _) (none _) (none _) (none _)
+counts_step vs i Held c d within is so_far now =
+    now ∙ counts_more vs i _ c within is so_far _ _ _ _ _ (none _) refl (none _) (none _) (none _)
+counts_step vs i Repeat c d within is so_far now =
+    now ∙ counts_more vs i _ c within is so_far _ _ _ _ _ (none _) (none _) refl (none _) (none _)
+counts_step vs i AfterClose c d within is so_far now =
+    now ∙ counts_more vs i _ c within is so_far _ _ _ _ _ (none _) (none _) (none _) refl (none _)
+counts_step vs i Full c d within is so_far now =
+    now ∙ counts_more vs i _ c within is so_far _ _ _ _ _ (none _) (none _) (none _) (none _) refl
 
 one_kind : {A : Type 0} (v : Verdict A)
     → cond (is_ready v) 1 0 + cond (is_held v) 1 0 + cond (is_repeat v) 1 0 + cond (is_after_close v) 1 0

@@ -1,7 +1,8 @@
 -- Settings that are asked for, or refused.
 use Rattle.std.proofs.Common.{◌≡◌, ◌∙◌, ◌<◌, ◌^◌, ℕ, Bool, true, false, List, Option, Some, None, Result, Ok, Err, refl}
 use Rattle.std.proofs.Common.{sym, ap, subst, arith, codes}
-use Rattle.std.specs.Prelude.{IfSome, MatchResult}
+use Rattle.std.specs.Prelude.{IfSome, IsErrAnd, MatchResult}
+use Rattle.std.proofs.lemmas.Result.{err_from_is_err_and}
 use Rattle.std.specs.Str.Parse.{digits_value, without_leading_plus}
 use Rattle.clap.specs.Walk.{Row, Text, all_of, first_of}
 use Rattle.site_words.specs.Settings.{AreFound, HasFlag, HasNumber, HasValues, IsFound, IsSettings, IsTick}
@@ -16,6 +17,13 @@ pub refused_by : (Fits : Settings → Type 0) (fault : WordsFault)
     → IsSetBy Fits (Err fault)
 refused_by Fits Refused none = none refl
 refused_by Fits OutOfMemory none = tt
+
+-- .. also where `?` returns it
+pub refused_on : (Fits : Settings → Type 0) (r : Result Settings WordsFault) (fault : WordsFault)
+    → IsErrAnd r (λ e. e ≡ fault) → (fault ≡ Refused → (s : Settings) → IsSettings s → Fits s → ⊥) → IsSetBy Fits r
+refused_on Fits r fault err none =
+    let p = err_from_is_err_and r err in
+    subst (IsSetBy Fits) (sym (p.1 ∙ ap Err p.2)) (refused_by Fits fault none)
 
 some_same : {X : Type 0} {x y : X} → Some x ≡ Some y → x ≡ y
 some_same e = cc

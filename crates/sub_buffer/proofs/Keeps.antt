@@ -59,10 +59,13 @@ not_first n es e order later is other (x, i, at) =
     omega (arith, other, low, least, at)
 
 -- an entry for which there is a place is ahead
-pub is_ahead : (b : BufferValue) (e : EntryValue) (k : ℕ) → b.last < e.prev → b.closed ≡ false → IsPlace e.prev b.held k
-    → IsAhead b e
-is_ahead b e k later unclosed place
-    = record { later = later; unclosed = unclosed; new = place_none e.prev b.held k place }
+pub is_ahead : (b : BufferValue) (e : EntryValue) (n k : ℕ) → n ≡ e.prev → b.last < n → b.closed ≡ false
+    → IsPlace n b.held k → IsAhead b e
+is_ahead b e n k prev later unclosed place = record {
+  later = omega (arith, prev);
+  unclosed = unclosed;
+  new = subst (λ m. HasPrev m b.held → ⊥) prev (place_none n b.held k place);
+}
 
 -- if there is no first held entry, none is held
 pub none_held : (es : List EntryValue) (len : ℕ) → len ≡ length es → (0 < len → false ≡ true) → length es ≡ 0
@@ -118,10 +121,10 @@ gap_behind b e n q ok more unclosed other some is at asks = (
   }),
 )
 
-pub gap_empty : (b : BufferValue) (n : ℕ) (q : QueryValue) → b.last < b.told → b.closed ≡ false
+pub gap_empty : (b : BufferValue) (n : ℕ) (q : QueryValue) → IsBuffer b → b.last < b.told → b.closed ≡ false
     → length b.held ≡ 0 → n ≡ b.told
     → q ≡ record { asker = b.me; origin = b.origin; first = b.last + 1; last = n } → GapOf b (Some q)
-gap_empty b n q more unclosed none at asks = (
+gap_empty b n q _ more unclosed none at asks = (
   more,
   unclosed,
   λ (e, i, same). omega (arith, i.1, none),

@@ -1,20 +1,17 @@
 use Rattle.std.proofs.Common.{◌∷◌, [], ◌++◌, ℕ, List, ap, sym, ◌∙◌, arith}
-use Rattle.rights_types.specs.Entries.{EntryValue}
 use Rattle.entry_codec.proofs.Behind.{entry_line_is}
 use Rattle.entry_codec.proofs.Room.{entry_room}
 use Rattle.entry_codec.proofs.writing.put_entry_line.Goals as goal
 
 pub put_entry_of-at-requires-clause-room : goal.put_entry_of-at-requires-clause-room
 put_entry_of-at-requires-clause-room c =
-    let e : EntryValue = record { origin = c.args.origin; prev = c.args.prev; moves = c.args.moves.now } in
-    omega (arith, entry_room e c.requires.valid, c.requires.room)
+    omega (arith, entry_room _ c.requires.valid, c.requires.room)
 
 pub put_byte-requires : goal.put_byte-requires
 put_byte-requires c =
-    let e : EntryValue = record { origin = c.args.origin; prev = c.args.prev; moves = c.args.moves.now } in
     omega (
       arith,
-      entry_room e c.requires.valid,
+      entry_room _ c.requires.valid,
       c.requires.room,
       c.put_entry_of-at.ensures.end,
       c.put_entry_of-at.auto.buffer,
@@ -22,10 +19,8 @@ put_byte-requires c =
 
 pub returns-clause-text : goal.returns-clause-text
 returns-clause-text c =
-    let e : EntryValue = record { origin = c.args.origin; prev = c.args.prev; moves = c.args.moves.now } in
-    c.put_byte.ensures.text ∙ ap (λ (t : List ℕ). t ++ 10 ∷ []) c.put_entry_of-at.ensures.text ∙ sym (entry_line_is e)
+    c.put_byte.ensures.text ∙ ap (λ (t : List ℕ). t ++ 10 ∷ []) c.put_entry_of-at.ensures.text ∙ sym (entry_line_is _)
 
 pub returns-clause-fits : goal.returns-clause-fits
 returns-clause-fits c =
-    let e : EntryValue = record { origin = c.args.origin; prev = c.args.prev; moves = c.args.moves.now } in
-    omega (arith, entry_room e c.requires.valid, c.put_entry_of-at.ensures.end, c.put_byte.ensures.end)
+    omega (arith, entry_room _ c.requires.valid, c.put_entry_of-at.ensures.end, c.put_byte.ensures.end)

@@ -1,53 +1,46 @@
-use Rattle.std.proofs.Common.{◌≡◌, ◌∙◌, sym, ap, subst, arith, codes, map, option_map, Some, None, Err}
-use Rattle.std.proofs.lemmas.Result.{err_from_is_err_and}
+use Rattle.std.proofs.Common.{◌≡◌, ◌∙◌, sym, ap, arith, codes, map, option_map, Some, None}
 use Rattle.clap.specs.Matches.{found_of}
 use Rattle.clap.specs.Walk.{rows_of, texts}
 use Rattle.clap.proofs.WalkLemmas.{first_value-rows, raw_values-rows}
 use Rattle.site_words.specs.Settings.{IsFound}
-use Rattle.site_words.specs.Words.{IsSetBy}
-use Rattle.site_words.proofs.SettingsLaws.{refused_by, values_found}
+use Rattle.site_words.proofs.SettingsLaws.{refused_on, values_found}
 use Rattle.site_words.proofs.words.config_of.Goals as goal
 
 pub returns-in_err-id : goal.returns-in_err-id
 returns-in_err-id c =
-    let p = err_from_is_err_and c.from_residual.result c.from_residual.ensures.1 in
-    let Fits = IsFound (rows_of (found_of c.args.matches.now)) in
-    subst (IsSetBy Fits) (sym (p.1 ∙ ap Err p.2)) (refused_by Fits c.in_err-id.field-0.0
-    (λ refused s valid found. c.in_err-id.ensures.1 s.id (omega (arith, valid.site.1)) found.id))
+    refused_on (IsFound (rows_of (found_of c.args.matches.now))) c.from_residual.result c.in_err-id.field-0.0
+    c.from_residual.ensures.1
+    (λ refused s valid found. c.in_err-id.ensures.1 s.id (omega (arith, valid.site.1)) found.id)
 
 pub returns-in_err-sites : goal.returns-in_err-sites
 returns-in_err-sites c =
-    let p = err_from_is_err_and c.from_residual-in_err-sites.result c.from_residual-in_err-sites.ensures.1 in
-    let Fits = IsFound (rows_of (found_of c.args.matches.now)) in
-    subst (IsSetBy Fits) (sym (p.1 ∙ ap Err p.2)) (refused_by Fits c.in_err-sites.field-0.0
-    (λ refused s valid found. c.in_err-sites.ensures.1 s.sites (omega (arith, valid.most)) found.sites))
+    refused_on (IsFound (rows_of (found_of c.args.matches.now))) c.from_residual-in_err-sites.result
+    c.in_err-sites.field-0.0 c.from_residual-in_err-sites.ensures.1
+    (λ refused s valid found. c.in_err-sites.ensures.1 s.sites (omega (arith, valid.most)) found.sites)
 
 pub returns-in_err-listen : goal.returns-in_err-listen
 returns-in_err-listen c =
-    let p = err_from_is_err_and c.from_residual-in_err-listen.result c.from_residual-in_err-listen.ensures.1 in
     let f = found_of c.args.matches.now in
-    let Fits = IsFound (rows_of f) in
-    subst (IsSetBy Fits) (sym (p.1 ∙ ap Err p.2)) (refused_by Fits c.in_err-listen.field-0.0 (λ refused s valid found.
+    refused_on (IsFound (rows_of f)) c.from_residual-in_err-listen.result c.in_err-listen.field-0.0
+    c.from_residual-in_err-listen.ensures.1 (λ refused s valid found.
     let bad : None ≡ Some s.listen = sym (ap (option_map (λ s. s.now)) c.in_err-listen.ensures.ok_part)
     ∙ c.get_str.ensures
-    ∙ first_value-rows f (codes "listen") ∙ found.listen in cc))
+    ∙ first_value-rows f (codes "listen") ∙ found.listen in cc)
 
 pub returns-in_err-peers : goal.returns-in_err-peers
 returns-in_err-peers c =
-    let p = err_from_is_err_and c.from_residual-in_err-peers.result c.from_residual-in_err-peers.ensures.1 in
     let f = found_of c.args.matches.now in
-    let Fits = IsFound (rows_of f) in
-    subst (IsSetBy Fits) (sym (p.1 ∙ ap Err p.2)) (refused_by Fits c.in_err-peers.field-0.0 (λ refused s valid found.
+    refused_on (IsFound (rows_of f)) c.from_residual-in_err-peers.result c.in_err-peers.field-0.0
+    c.from_residual-in_err-peers.ensures.1 (λ refused s valid found.
     let bad : None ≡ Some found.words
     = sym (ap (option_map (λ s. map (λ v. v.now) s.now)) c.in_err-peers.ensures.ok_part) ∙ c.get_strs.ensures
-    ∙ raw_values-rows f (codes "peer") ∙ found.given in cc))
+    ∙ raw_values-rows f (codes "peer") ∙ found.given in cc)
 
 pub returns-in_err-options : goal.returns-in_err-options
 returns-in_err-options c =
-    let p = err_from_is_err_and c.from_residual-in_err-options.result c.from_residual-in_err-options.ensures.1 in
-    let Fits = IsFound (rows_of (found_of c.args.matches.now)) in
-    subst (IsSetBy Fits) (sym (p.1 ∙ ap Err p.2)) (refused_by Fits c.in_err-options.field-0.0
-    (λ refused s valid found. c.in_err-options.ensures.1 s.options valid.tick found.options))
+    refused_on (IsFound (rows_of (found_of c.args.matches.now))) c.from_residual-in_err-options.result
+    c.in_err-options.field-0.0 c.from_residual-in_err-options.ensures.1
+    (λ refused s valid found. c.in_err-options.ensures.1 s.options valid.tick found.options)
 
 pub returns : goal.returns
 returns c =

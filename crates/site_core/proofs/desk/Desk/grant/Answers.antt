@@ -1,11 +1,9 @@
 use Rattle.std.proofs.Common.{◌≡◌, ◌≢◌, ◌≤◌, [], ◌∷◌, None, ℕ, sym, subst, ◌∙◌}
-use Rattle.rights_types.specs.Messages.{AskValue}
 use Rattle.rights_types.specs.declared.moves.Move.TheVariants.{Grant}
 use Rattle.rights_book.specs.Books.{sites}
 use Rattle.rights_book.specs.Checks.{check_fault}
 use Rattle.transfer_manager.specs.declared.answer.AskAnswer.TheVariants.{Grant as Granted}
 use Rattle.site_core.specs.Desks.{DeskValue}
-use Rattle.site_core.specs.Ledgers.{WritesEntry}
 use Rattle.site_core.specs.Calls.{available, answer_of}
 use Rattle.site_core.proofs.AskLaws.{can_grant, grant_unrefused, wrote_grant}
 use Rattle.site_core.proofs.desk.Desk.grant.Goals as goal
@@ -33,19 +31,8 @@ write-requires-clause-covered g c =
 
 pub invariant_of-self-2 : goal.invariant_of-self-2
 invariant_of-self-2 g c =
-    let old : DeskValue = record {
-      ledger = c.self.inside.ledger;
-      queue = c.self.inside.queue;
-      manager = c.self.inside.manager;
-      time = c.self.inside.time;
-    } in
-    let new : DeskValue = record old { ledger = c.write.new.self; manager = c.note_answer.new.self } in
-    let ask : AskValue = c.args.ask.now in
-    let now : answer_of old ask ≡ Granted c.args.amount
-    = subst (λ (d : DeskValue). answer_of d ask ≡ Granted c.args.amount) (sym c.self.view_is) c.requires.answer in
-    let wrote : WritesEntry old.ledger (Grant ask.asker c.args.amount ask.ask ∷ []) new.ledger =
-    subst (λ a. WritesEntry old.ledger (Grant ask.asker c.args.amount a ∷ []) new.ledger) c.ask.ensures.value
-    (subst (λ j. WritesEntry old.ledger (Grant j c.args.amount c.ask.result ∷ []) new.ledger) c.asker.ensures.value
-    c.in_ok-number.ensures.ok) in
-    wrote_grant old new ask c.args.amount c.self.invariant now wrote c.note_answer.ensures.same
+    let now = subst (λ (d : DeskValue). answer_of d c.args.ask.now ≡ Granted c.args.amount) (sym c.self.view_is)
+    c.requires.answer in
+    let wrote = rw (c.ask.ensures.value, c.asker.ensures.value) at c.in_ok-number.ensures.ok in
+    wrote_grant _ _ c.args.ask.now c.args.amount c.self.invariant now wrote c.note_answer.ensures.same
     c.note_answer.ensures.answered c.note_answer.ensures.once

@@ -9,47 +9,30 @@ use Rattle.sub_buffer.proofs.buffer.SubBuffer.missing.Goals.{in-Some, in-None}
 pub known-requires : goal.known-requires
 known-requires g c =
     let i = c.self.inside in
-    let b : BufferValue = record {
-      me = i.me;
-      origin = i.origin;
-      last = i.last;
-      told = i.told;
-      closed = i.closed;
-      held = i.held.items;
-      asked = i.asked;
-    } in
     let within : c.match-front.end ≤ i.told = elim c.match-front.branch [
       | in-Some w ↦ omega (
         arith,
         w.end-is,
         w.prev-end.ensures.value,
-        first_told b w.in-Some.first.now c.self.invariant.0
+        first_told _ w.in-Some.first.now c.self.invariant.0
             (omega (arith, w.in-Some.ensures.variant.0 refl, i.held.ok.0)) w.in-Some.ensures.lookup,
       )
       | in-None w ↦ omega (arith, w.end-is)
     ] in
-    can_ask b c.match-front.end c.self.invariant.0 c.if-self-2.false within
+    can_ask _ c.match-front.end c.self.invariant.0 c.if-self-2.false within
 
 pub returns : goal.returns
 returns g c =
     let i = c.self.inside in
-    let b : BufferValue = record {
-      me = i.me;
-      origin = i.origin;
-      last = i.last;
-      told = i.told;
-      closed = i.closed;
-      held = i.held.items;
-      asked = i.asked;
-    } in
     subst (λ (v : BufferValue). GapOf v (Some c.known.result)) c.self.view_is
     (elim c.match-front.branch [
-      | in-Some w ↦ gap_behind b w.in-Some.first.now c.match-front.end c.known.result c.self.invariant.0
+      | in-Some w ↦ gap_behind _ w.in-Some.first.now c.match-front.end c.known.result c.self.invariant.0
           c.if-self-2.false c.if-self.false c.if-end-self.false
           (omega (arith, w.in-Some.ensures.variant.0 refl, i.held.ok.0)) w.in-Some.ensures.lookup (w.end-is
           ∙ w.prev-end.ensures.value) c.known.ensures
-      | in-None w ↦ gap_empty b c.match-front.end c.known.result c.if-self-2.false c.if-self.false
-          (none_held i.held.items i.held.len i.held.ok.0 w.in-None.ensures.variant.1) w.end-is c.known.ensures
+      | in-None w ↦ gap_empty _ c.match-front.end c.known.result c.self.invariant.0 c.if-self-2.false
+          c.if-self.false (none_held i.held.items i.held.len i.held.ok.0 w.in-None.ensures.variant.1) w.end-is
+          c.known.ensures
     ])
 
 pub returns-then-end-self : goal.returns-then-end-self

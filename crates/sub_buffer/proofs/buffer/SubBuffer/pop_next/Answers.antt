@@ -13,17 +13,7 @@ returns-then-prev-self-clause-table g c =
     (inr (subst (λ (v : BufferValue). HasPrev v.last v.held → ⊥) c.self.view_is none), refl)
 
 pub invariant_of-self-2 : goal.invariant_of-self-2
-invariant_of-self-2 g c =
-    let i = c.self.inside in
-    let b : BufferValue = record {
-      me = i.me;
-      origin = i.origin;
-      last = i.last;
-      told = i.told;
-      closed = i.closed;
-      held = i.held.items;
-      asked = i.asked;
-    } in (
-      keeps_pop b c.pop_front.new.self.items c.self.invariant.0 c.in_ok-entry.ensures.rest,
-      omega (arith, c.self.invariant.1, c.in_ok-entry.ensures.capacity),
-    )
+invariant_of-self-2 g c = (
+  keeps_pop _ c.pop_front.new.self.items c.self.invariant.0 c.in_ok-entry.ensures.rest,
+  omega (arith, c.self.invariant.1, c.in_ok-entry.ensures.capacity),
+)
