@@ -7,3 +7,4 @@ pub mod CarryLaws
 pub mod LineLaws
 pub mod FeedLaws
 pub mod RunLaws
+pub mod FirstPlace

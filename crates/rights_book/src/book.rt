@@ -29,9 +29,9 @@ pub const MAX_KNOWN: u128 = 1_000_000_017_000_000_000_000_000_000;
 /// Readers take constant time however long the logs are, and only `new` allocates.
 #[derive(Drop)]
 pub struct Book<A: Allocator = Global> {
+    peers: Vec<Peer, A>,
     me: SiteId,
     own: Account,
-    peers: Vec<Peer, A>,
 }
 
 impl<A: Allocator> Model for Book<A> {

@@ -12,8 +12,6 @@ use rights_types::{Amount, MAX_MOVES, MAX_RECEIVED, MAX_TOTAL, Move, SiteId};
 /// What a book knows of one site. For the book's own site it has only the gifts to it.
 #[derive(Clone, Copy)]
 pub(crate) struct Peer {
-    /// The sums of what was applied of the site's log.
-    pub(crate) log: Account,
     /// What it gave to the book's site.
     pub(crate) received: u64,
     /// What sites gave to it in the entries that were applied.
@@ -22,6 +20,8 @@ pub(crate) struct Peer {
     pub(crate) given: u64,
     /// What the book's site reclaimed from it.
     pub(crate) back: u64,
+    /// The sums of what was applied of the site's log.
+    pub(crate) log: Account,
 }
 
 impl Peer {

@@ -79,8 +79,8 @@ pub enum Arrival<A: Allocator = Global> {
 /// its owner passes entries to an applier, and other messages to the desk.
 #[derive(Drop)]
 pub struct Inbound<A: Allocator = Global> {
-    buffer: SubBuffer<A>,
     sites: u64,
+    buffer: SubBuffer<A>,
     alloc: A,
 }
 

@@ -28,12 +28,12 @@ pub enum State {
 /// The buffer of one site for the entries of one other site, the origin. Only `new` allocates.
 #[derive(Drop)]
 pub struct SubBuffer<A: Allocator = Global> {
-    held: VecDeque<Entry<A>, A>,
     me: SiteId,
     origin: SiteId,
+    closed: bool,
     last: u64,
     told: u64,
-    closed: bool,
+    held: VecDeque<Entry<A>, A>,
     asked: Option<Query>,
 }
 

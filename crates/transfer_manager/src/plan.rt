@@ -98,27 +98,31 @@ fn amount_asked(rights: &[u128], place: usize, need: u64) -> u64
     ensures value { result ≡ amount_asked (length rights.now) (λ i. at_site rights.now i 0) need (place + 1) }
     ensures range { result ≤ MAX_AMOUNT }
 {
-    let left = (need as u128).saturating_sub(rights_before(rights, place));
-    rights[place].min(left).min(MAX_AMOUNT as u128) as u64
+    let left = need_after(rights, place, need);
+    rights[place].min(left as u128).min(MAX_AMOUNT as u128) as u64
 }
 
-// The rights of the sites that come before the one at this index: those that have more, and those that have the same
-// and a smaller number.
-fn rights_before(rights: &[u128], place: usize) -> u128
+// What is still needed after the sites that come before the one at this index: those that have more, and those that
+// have the same and a smaller number.
+fn need_after(rights: &[u128], place: usize, need: u64) -> u64
     requires few { length rights.now ≤ MAX_SITES }
     requires place { place < length rights.now }
     requires bounded { (j : ℕ) → at_site rights.now j 0 ≤ MAX_KNOWN }
-    ensures { result ≡ rights_before (length rights.now) (λ i. at_site rights.now i 0) (place + 1) }
+    ensures { result ≡ need - rights_before (length rights.now) (λ i. at_site rights.now i 0) (place + 1) }
 {
     let own = rights[place];
-    let mut before = 0;
+    let mut left = need as u128;
     for other in 0..rights.len() {
+        // Mostly a few sites have all that is needed.
+        if left == 0 {
+            return 0;
+        }
         let has = rights[other];
         if has > own || has == own && other < place {
-            before += has;
+            left = left.saturating_sub(has);
         }
     }
-    before
+    left as u64
 }
 
 // The rights that the site is known to have if it is eligible, else 0. A peer is eligible if it has no ask

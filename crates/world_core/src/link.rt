@@ -33,8 +33,8 @@ use std::marker::{Model, PhantomData};
 /// The input from an origin's log at a site, and how many of the delivered entries that are still stored were applied.
 #[derive(Drop)]
 pub(crate) struct Link<A: Allocator, K: Keeping> {
-    incoming: Incoming<A, K>,
     applied: usize,
+    incoming: Incoming<A, K>,
 }
 
 impl<A: Allocator, K: Keeping> Model for Link<A, K> {

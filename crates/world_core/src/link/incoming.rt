@@ -31,9 +31,9 @@ const MANY: usize = 32;
 #[derive(Drop)]
 pub(super) struct Incoming<A: Allocator, K: Keeping> {
     pub(super) of: PhantomData<K>,
+    pub(super) put: Vec<Entry<A>, A>,
     pub(super) inbound: Inbound<A>,
     pub(super) gone: History<Entry<A>>,
-    pub(super) put: Vec<Entry<A>, A>,
     pub(super) seen: History<Entry<A>>,
     pub(super) apart: Option<Vec<Entry<A>, A>>,
 }

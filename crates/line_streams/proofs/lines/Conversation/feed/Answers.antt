@@ -108,7 +108,7 @@ returns-in_ok-count_one-2-clause-short g c = rw (c.in_ok-keep.ensures) (short_fr
 pub returns-in_ok-count_one-2-clause-fed : goal.returns-in_ok-count_one-2-clause-fed
 returns-in_ok-count_one-2-clause-fed g c = λ start input held h.
     going_end g.H.LineHandler.answers start input c.args.bytes.now c.loop-length.at _ held _ _ _
-    (c.loop-length.invariant.going start input held h) c.memchr.result _ c.in_default.not-Some c.memchr.ensures
+    (c.loop-length.invariant.going start input held h) c.line_length.result _ c.in_default.not-Some c.line_length.ensures
     c.in_ok-keep.ensures
 
 pub returns-else-at-eq0-clause-short : goal.returns-else-at-eq0-clause-short
@@ -117,7 +117,7 @@ returns-else-at-eq0-clause-short g c = rw (c.in_ok-keep.ensures) (short_front _)
 pub returns-else-at-eq0-clause-fed : goal.returns-else-at-eq0-clause-fed
 returns-else-at-eq0-clause-fed g c = λ start input held h.
     going_end g.H.LineHandler.answers start input c.args.bytes.now c.loop-length.at _ held _ _ _
-    (c.loop-length.invariant.going start input held h) c.memchr.result _ c.in_default.not-Some c.memchr.ensures
+    (c.loop-length.invariant.going start input held h) c.line_length.result _ c.in_default.not-Some c.line_length.ensures
     c.in_ok-keep.ensures
 
 pub returns-in_err-count_one-clause-many : goal.returns-in_err-count_one-clause-many
@@ -144,7 +144,7 @@ pub returns-in_err-count_one-2-clause-many : goal.returns-in_err-count_one-2-cla
 returns-in_err-count_one-2-clause-many g c = λ e.
     let inv = c.loop-length.invariant in
     let bytes = c.args.bytes.now in
-    let none = cut_none bytes c.loop-length.at c.memchr.result c.in_default.not-Some c.memchr.ensures in
+    let none = cut_none bytes c.loop-length.at c.line_length.result c.in_default.not-Some c.line_length.ensures in
     let start = ap (λ (n : ℕ). length (pieces (take n bytes))) c.if-at-eq0.true in
     let still = counts_still bytes (omega (arith, line_none bytes c.loop-length.at none, start)) in
     omega (arith, inv.counted, start, still, c.in_err-count_one-2.ensures.more, c.in_err-count_one-2.ensures.many.1)
@@ -153,7 +153,7 @@ pub returns-in_ok-count_one-2-clause-counts : goal.returns-in_ok-count_one-2-cla
 returns-in_ok-count_one-2-clause-counts g c = λ on some.
     let inv = c.loop-length.invariant in
     let bytes = c.args.bytes.now in
-    let none = cut_none bytes c.loop-length.at c.memchr.result c.in_default.not-Some c.memchr.ensures in
+    let none = cut_none bytes c.loop-length.at c.line_length.result c.in_default.not-Some c.line_length.ensures in
     let start = ap (λ (n : ℕ). length (pieces (take n bytes))) c.if-at-eq0.true in
     let still = counts_still bytes (omega (arith, line_none bytes c.loop-length.at none, start)) in
     omega (arith, inv.counted, start, still, c.in_ok-count_one-2.ensures.more)
@@ -162,7 +162,7 @@ pub returns-else-at-eq0-clause-counts : goal.returns-else-at-eq0-clause-counts
 returns-else-at-eq0-clause-counts g c = λ on some.
     let inv = c.loop-length.invariant in
     let bytes = c.args.bytes.now in
-    let none = cut_none bytes c.loop-length.at c.memchr.result c.in_default.not-Some c.memchr.ensures in
+    let none = cut_none bytes c.loop-length.at c.line_length.result c.in_default.not-Some c.line_length.ensures in
     let same = line_none bytes c.loop-length.at none in
     elim c.else-at-eq0.branch [
       | else-at-eq0-via-then-at-eq0+else-not-is_empty w ↦ absurd
