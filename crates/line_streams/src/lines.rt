@@ -13,7 +13,7 @@ ghost use Rattle.std.specs.Io.KnownBytes.{ReadConsumes};
 
 use crate::fault::ConversationError;
 use crate::handler::{EndedBy, Goes, LineHandler};
-use crate::limit::LINE_LIMIT;
+use crate::limit::{LINE_LIMIT, count_line};
 use crate::read::read_some;
 use crate::replies::{BLOCK, Replies};
 use memchr::memchr;
@@ -44,20 +44,6 @@ fn keep<A: Allocator>(carry: &mut Vec<u8, A>, bytes: &[u8]) -> Result<(), OutOfM
         carry.extend_from_slice(&bytes[..room])?;
     } else {
         carry.extend_from_slice(bytes)?;
-    }
-    Ok(())
-}
-
-/// Counts one more. `TooManyLines` if the count reaches the limit.
-fn count_one(count: &mut u64) -> Result<(), ConversationError>
-    requires { count.old < LINE_LIMIT }
-    ensures more { count.new ≡ count.old + 1 }
-    ensures few { OnOk result (count.new < LINE_LIMIT) }
-    ensures many { IfErr result (λ fault. (fault ≡ ConversationError.TooManyLines) × (count.new ≡ LINE_LIMIT)) }
-{
-    *count += 1;
-    if *count == LINE_LIMIT {
-        return Err(ConversationError::TooManyLines);
     }
     Ok(())
 }
@@ -130,12 +116,12 @@ impl<A: Allocator> Conversation<A> {
                 return Ok(Goes::Ends);
             }
             at += length + 1;
-            count_one(&mut self.count)?;
+            count_line(&mut self.count)?;
             self.replies.pass_on(writer)?;
         }
         keep(&mut self.carry, &bytes[at..])?;
         if at == 0 && !bytes.is_empty() {
-            count_one(&mut self.count)?;
+            count_line(&mut self.count)?;
         }
         Ok(Goes::On)
     }
