@@ -2,7 +2,9 @@
 ghost use Rattle.std.specs.Prelude.{◌≡◌};
 ghost use Rattle.line_streams.specs.declared.fault.ConversationError.TheVariants.{ReadFailed, WriteFailed};
 ghost use Rattle.line_streams.specs.declared.fault.ConversationError.TheVariants.{OutOfMemory as NoMemory};
+ghost use Rattle.line_streams.specs.declared.fault.ConversationError.TheVariants.{TooManyLines as TooMany};
 
+use crate::limit::TooManyLines;
 use crate::read::InputError;
 use crate::write::OutputError;
 use rights_types::OutOfMemory;
@@ -41,5 +43,13 @@ impl From<OutputError> for ConversationError {
 
     fn from(_error: OutputError) -> ConversationError {
         ConversationError::WriteFailed
+    }
+}
+
+impl From<TooManyLines> for ConversationError {
+    ghost from_gives = { λ _ e. e ≡ TooMany };
+
+    fn from(_error: TooManyLines) -> ConversationError {
+        ConversationError::TooManyLines
     }
 }

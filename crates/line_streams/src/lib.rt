@@ -14,7 +14,7 @@ mod write;
 
 pub use fault::ConversationError;
 pub use handler::{EndedBy, Goes, LineHandler};
-pub use limit::LINE_LIMIT;
+pub use limit::{LINE_LIMIT, TooManyLines, count_line};
 pub use lines::answer_lines;
 pub use put::MAX_DIGITS;
 pub use read::{InputError, read_some};

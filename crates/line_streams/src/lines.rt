@@ -14,7 +14,7 @@ ghost use Rattle.std.specs.Io.KnownBytes.{ReadConsumes};
 
 use crate::fault::ConversationError;
 use crate::handler::{EndedBy, Goes, LineHandler};
-use crate::limit::LINE_LIMIT;
+use crate::limit::{LINE_LIMIT, count_line};
 use crate::read::read_some;
 use crate::replies::{BLOCK, Replies};
 use memchr::memchr_iter;
@@ -56,20 +56,6 @@ fn line_length(text: &[u8]) -> Option<usize>
     ensures { IsFirstByte (is_byte 10) text.now result }
 {
     memchr_iter(b'\n', text).next()
-}
-
-/// Counts one more. `TooManyLines` if the count reaches the limit.
-fn count_one(count: &mut u64) -> Result<(), ConversationError>
-    requires { count.old < LINE_LIMIT }
-    ensures more { count.new ≡ count.old + 1 }
-    ensures few { OnOk result (count.new < LINE_LIMIT) }
-    ensures many { IfErr result (λ fault. (fault ≡ ConversationError.TooManyLines) × (count.new ≡ LINE_LIMIT)) }
-{
-    *count += 1;
-    if *count == LINE_LIMIT {
-        return Err(ConversationError::TooManyLines);
-    }
-    Ok(())
 }
 
 /// The text of a line as a handler gets it, or None if the line is too long. `text` has at least its first `MAX_LINE`
@@ -140,12 +126,12 @@ impl<A: Allocator> Conversation<A> {
                 return Ok(Goes::Ends);
             }
             at += length + 1;
-            count_one(&mut self.count)?;
+            count_line(&mut self.count)?;
             self.replies.pass_on(writer)?;
         }
         keep(&mut self.carry, &bytes[at..])?;
         if at == 0 && !bytes.is_empty() {
-            count_one(&mut self.count)?;
+            count_line(&mut self.count)?;
         }
         Ok(Goes::On)
     }

@@ -1,6 +1,6 @@
 -- What was read from a connection, read by read, and the effect of its lines.
 use Rattle.std.proofs.Common.{◌≡◌, ℕ, ◌+◌, ◌<◌, ◌≤◌, List, [], ◌∷◌, ◌++◌, length, take, drop, Vec, Option, Some, None}
-use Rattle.std.proofs.Common.{Result, Ok, Err, OnOk, IfNone, refl, sym, ap, subst, ◌∙◌, arith, inl, inr, append-nil}
+use Rattle.std.proofs.Common.{Err, IfNone, refl, sym, ap, subst, ◌∙◌, arith, inl, inr, append-nil}
 use Rattle.std.proofs.Common.{append_assoc, length-append, length-drop}
 use Rattle.std.specs.Prelude.{option_map}
 use Rattle.std.specs.Io.KnownBytes.{Consumes, Keeps}
@@ -74,10 +74,6 @@ ends_block gave NoHello may many
     = elim may [ inl i ↦ elim i [ inl e ↦ absurd cc | inr e ↦ absurd cc ] | inr e ↦ absurd cc ]
 
 -- ---- the pieces of one read
-
-pub on_ok : {X E P : Type 0} (r : Result X E) → P → OnOk r P
-on_ok (Ok x) p = p
-on_ok (Err e) p = tt
 
 one_ended : {A : Type 0} (o : Option (Piece A)) (p : Piece A) (ended : List (List ℕ)) → o ≡ Some p → IsGivenFor o ended
     → length ended ≡ 1

@@ -1,6 +1,6 @@
 -- The effect of the lines of a connection, one after another.
 use Rattle.std.proofs.Common.{◌≡◌, ◌≢◌, ℕ, ◌+◌, ◌≤◌, Bool, List, [], ◌∷◌, ◌++◌, length, take, drop, Vec, Option, Some}
-use Rattle.std.proofs.Common.{None, Result, Ok, Err, IfErr, IfNone, refl, sym, ap, subst, ◌∙◌, arith, inl, inr}
+use Rattle.std.proofs.Common.{None, Result, Ok, Err, IfNone, refl, sym, ap, subst, ◌∙◌, arith, inl, inr}
 use Rattle.std.proofs.Common.{append-nil, append_assoc, length-append}
 use Rattle.std.specs.Prelude.{option_map, IsSome}
 use Rattle.std.proofs.lemmas.List.{append_cancel_left, take-append-drop}
@@ -12,7 +12,6 @@ use Rattle.memchr.specs.Find.{IsFirstByte, is_byte}
 use Rattle.entry_codec.proofs.Pieces.{pieces_append, rest_append, one_piece}
 use Rattle.entry_codec.specs.Cutter.{CutterView}
 use Rattle.line_streams.proofs.CountLaws.{lines_both}
-use Rattle.line_streams.specs.declared.limit.TheConstants.{LINE_LIMIT}
 use Rattle.link_intake.specs.Intakes.{IntakeValue}
 use Rattle.peer_links.specs.Links.{IsFedAll, IsOfIntake}
 use Rattle.peer_links.specs.Ports.{Heard}
@@ -282,20 +281,6 @@ module _ {A : Type 0} where
         ∙ ap (λ (l : List (List ℕ)). a ++ l) y.2,
     stops_after n j old mid new a y.0 y.1 NoHello h k e x y.3,
   )
-
-  -- counting one line too many ends the connection
-  pub to_count : (n count : ℕ) (old new : IntakeValue A) (all : List (List ℕ)) (result : Result (Unit {0}) LinkFault)
-      (heard : List Heard)
-      → IfErr result (λ fault. (fault ≡ TooManyLines) × (count ≡ LINE_LIMIT)) → n + length all ≡ count
-      → Takes old all heard new → TakesTo n old all result heard new
-  to_count n count old new all (Ok u) heard many e h = h
-  to_count n count old new all (Err fault) heard many e h =
-      subst (λ (fault : LinkFault). TakesTo n old all (Err fault) heard new) (sym many.0) (
-        all,
-        [],
-        append-nil all,
-        (h, e ∙ many.1),
-      )
 
 -- ---- the effect of both
 

@@ -5,13 +5,14 @@ ghost use Rattle.peer_links.specs.Ports.{Heard};
 ghost use Rattle.peer_links.specs.Ports.Heard.{AMessage, ALine, AState};
 ghost use Rattle.peer_links.specs.declared.link.DeskMessage.{DeskMessage};
 ghost use Rattle.peer_links.specs.declared.link.LinkFault.TheVariants.{ReadFailed, OutOfMemory as NoMemory};
+ghost use Rattle.peer_links.specs.declared.link.LinkFault.TheVariants.{TooManyLines as TooMany};
 
 mod hello;
 mod reading;
 mod writing;
 
 pub use hello::read_hello;
-use line_streams::InputError;
+use line_streams::{InputError, TooManyLines};
 pub use reading::read_link;
 use rights_types::{Ask, Deny, OutOfMemory, Query};
 use site_core::InboundError;
@@ -49,6 +50,14 @@ impl From<InputError> for LinkFault {
 
     fn from(_fault: InputError) -> LinkFault {
         LinkFault::ReadFailed
+    }
+}
+
+impl From<TooManyLines> for LinkFault {
+    ghost from_gives = { λ _ fault. fault ≡ TooMany };
+
+    fn from(_error: TooManyLines) -> LinkFault {
+        LinkFault::TooManyLines
     }
 }
 

@@ -317,7 +317,10 @@ impl<A: Allocator> LineSource for &Outbox<A> {
 
     fn next_batch<R: Wait>(&mut self, rt: &R, room: &mut [u8]) -> Batch<A> {
         let batch = LineSource::next_batch(&mut *self.ready(rt), rt, room);
-        self.taken.notify_all();
+        // Lines that are copied wait on until `take_front`.
+        if matches!(batch, Batch::Large(_)) {
+            self.taken.notify_all();
+        }
         batch
     }
 

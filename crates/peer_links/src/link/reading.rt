@@ -15,7 +15,7 @@ ghost use Rattle.peer_links.specs.declared.link.LinkFault.{LinkFault};
 use crate::lines::{Piece, next_piece};
 use crate::link::{DeskMessage, LinkFault, Port, Skipped};
 use entry_codec::LineCutter;
-use line_streams::{LINE_LIMIT, read_some};
+use line_streams::{LINE_LIMIT, count_line, read_some};
 use link_intake::{Arrived, Intake, IntakeError};
 use rights_types::OutOfMemory;
 use site_core::InboundError;
@@ -59,20 +59,6 @@ pub fn read_link<R: Wait, I: Read, P: Port>(
     }
 }
 
-/// Counts one more. `TooManyLines` if the count reaches the limit.
-fn count_one(count: &mut u64) -> Result<(), LinkFault>
-    requires { count.old < LINE_LIMIT }
-    ensures more { count.new ≡ count.old + 1 }
-    ensures few { OnOk result (count.new < LINE_LIMIT) }
-    ensures many { IfErr result (λ fault. (fault ≡ LinkFault.TooManyLines) × (count.new ≡ LINE_LIMIT)) }
-{
-    *count += 1;
-    if *count == LINE_LIMIT {
-        return Err(LinkFault::TooManyLines);
-    }
-    Ok(())
-}
-
 /// Takes in the lines that end in the bytes of one read, and counts them. If no line ends in them, the read counts
 /// as one.
 fn take_block<R: Wait, P: Port>(
@@ -104,10 +90,13 @@ fn take_block<R: Wait, P: Port>(
     'pieces: while at < bytes.len() {
         let (piece, taken) = next_piece(cutter, &bytes[at..])?;
         let Some(piece) = piece else {
-            return if at == 0 { count_one(count) } else { Ok(()) };
+            if at == 0 {
+                count_line(count)?;
+            }
+            return Ok(());
         };
         take_piece(rt, piece, intake, port)?;
-        count_one(count)?;
+        count_line(count)?;
         at += taken;
     }
     Ok(())

@@ -43,8 +43,8 @@ loop-length-preserved g c =
       ready = write.ready;
       room = write.room;
       short = omega (arith, ap length line.ended);
-      few = c.in_ok-count_one.ensures.few;
-      counted = omega (arith, inv.counted, line.count, c.in_ok-count_one.ensures.more, more);
+      few = c.in_ok-count_line.ensures.few;
+      counted = omega (arith, inv.counted, line.count, c.in_ok-count_line.ensures.more, more);
       moves = λ some. omega (arith, more);
       going = λ start input held h.
           let next = going_next g.H.LineHandler.answers start input bytes at _ held _ _ _
@@ -67,16 +67,16 @@ returns-in_err-keep-clause-fed g c = λ start input held h.
     (c.loop-length.invariant.going start input held h) (Fails g.H.LineHandler.fails c.loop-length.handler)
     (inl refl) _ refl)
 
-pub returns-in_err-count_one-clause-fed : goal.returns-in_err-count_one-clause-fed
-returns-in_err-count_one-clause-fed g c = λ start input held h.
-    let p = err_from_is_err_and c.from_residual-in_err-count_one.result c.from_residual-in_err-count_one.ensures.1 in
+pub returns-in_err-count_line-clause-fed : goal.returns-in_err-count_line-clause-fed
+returns-in_err-count_line-clause-fed g c = λ start input held h.
+    let p = err_from_is_err_and c.from_residual-in_err-count_line.result c.from_residual-in_err-count_line.ensures.1 in
     let inv = c.loop-length.invariant in
     let line = c.in_ok-end_line.ensures in
     let on = goes_on _ c.in_default-2.not-Ends in
     let next = going_next g.H.LineHandler.answers start input c.args.bytes.now c.loop-length.at _ held _ _ _
     (inv.going start input held h) c.in-Some.length _ _ _ inv.within c.in-Some.ensures
     (rw on at line.line) line.ended in
-    rw (p.1, p.2, c.in_err-count_one.ensures.many.0)
+    rw (p.1, p.2)
     (stopped_in g.H.LineHandler.answers start input c.args.bytes.now (c.loop-length.at + (c.in-Some.length + 1)) _
     held _ _ _ next (λ state. c.end_line.new.handler ≡ state) refl _ refl)
 
@@ -94,19 +94,19 @@ returns-in_err-pass_on-clause-fed g c = λ start input held h.
     (c.loop-length.at + (c.in-Some.length + 1)) _ held _ _ _ next (λ state. c.end_line.new.handler
     ≡ state) refl _ part.0 part.1 part.2)
 
-pub returns-in_err-count_one-2-clause-fed : goal.returns-in_err-count_one-2-clause-fed
-returns-in_err-count_one-2-clause-fed g c = λ start input held h.
-    let p = err_from_is_err_and c.from_residual-in_err-count_one-2.result
-    c.from_residual-in_err-count_one-2.ensures.1 in
-    rw (p.1, p.2, c.in_err-count_one-2.ensures.many.0)
+pub returns-in_err-count_line-2-clause-fed : goal.returns-in_err-count_line-2-clause-fed
+returns-in_err-count_line-2-clause-fed g c = λ start input held h.
+    let p = err_from_is_err_and c.from_residual-in_err-count_line-2.result
+    c.from_residual-in_err-count_line-2.ensures.1 in
+    rw (p.1, p.2)
     (stopped_in g.H.LineHandler.answers start input c.args.bytes.now c.loop-length.at _ held _ _ _
     (c.loop-length.invariant.going start input held h) (λ state. c.loop-length.handler ≡ state) refl _ refl)
 
-pub returns-in_ok-count_one-2-clause-short : goal.returns-in_ok-count_one-2-clause-short
-returns-in_ok-count_one-2-clause-short g c = rw (c.in_ok-keep.ensures) (short_front _)
+pub returns-in_ok-count_line-2-clause-short : goal.returns-in_ok-count_line-2-clause-short
+returns-in_ok-count_line-2-clause-short g c = rw (c.in_ok-keep.ensures) (short_front _)
 
-pub returns-in_ok-count_one-2-clause-fed : goal.returns-in_ok-count_one-2-clause-fed
-returns-in_ok-count_one-2-clause-fed g c = λ start input held h.
+pub returns-in_ok-count_line-2-clause-fed : goal.returns-in_ok-count_line-2-clause-fed
+returns-in_ok-count_line-2-clause-fed g c = λ start input held h.
     going_end g.H.LineHandler.answers start input c.args.bytes.now c.loop-length.at _ held _ _ _
     (c.loop-length.invariant.going start input held h) c.line_length.result _ c.in_default.not-Some c.line_length.ensures
     c.in_ok-keep.ensures
@@ -120,9 +120,9 @@ returns-else-at-eq0-clause-fed g c = λ start input held h.
     (c.loop-length.invariant.going start input held h) c.line_length.result _ c.in_default.not-Some c.line_length.ensures
     c.in_ok-keep.ensures
 
-pub returns-in_err-count_one-clause-many : goal.returns-in_err-count_one-clause-many
-returns-in_err-count_one-clause-many g c = λ e.
-    let full = c.in_err-count_one.ensures in
+pub returns-in_err-count_line-clause-many : goal.returns-in_err-count_line-clause-many
+returns-in_err-count_line-clause-many g c = λ e.
+    let full = c.in_err-count_line.ensures in
     let inv = c.loop-length.invariant in
     let at = c.loop-length.at in
     let n = c.in-Some.length in
@@ -137,26 +137,26 @@ returns-in_err-count_one-clause-many g c = λ e.
       line_some bytes (at + (n + 1)),
       counts_within bytes,
       full.more,
-      full.many.1,
+      full.many,
     )
 
-pub returns-in_err-count_one-2-clause-many : goal.returns-in_err-count_one-2-clause-many
-returns-in_err-count_one-2-clause-many g c = λ e.
+pub returns-in_err-count_line-2-clause-many : goal.returns-in_err-count_line-2-clause-many
+returns-in_err-count_line-2-clause-many g c = λ e.
     let inv = c.loop-length.invariant in
     let bytes = c.args.bytes.now in
     let none = cut_none bytes c.loop-length.at c.line_length.result c.in_default.not-Some c.line_length.ensures in
     let start = ap (λ (n : ℕ). length (pieces (take n bytes))) c.if-at-eq0.true in
     let still = counts_still bytes (omega (arith, line_none bytes c.loop-length.at none, start)) in
-    omega (arith, inv.counted, start, still, c.in_err-count_one-2.ensures.more, c.in_err-count_one-2.ensures.many.1)
+    omega (arith, inv.counted, start, still, c.in_err-count_line-2.ensures.more, c.in_err-count_line-2.ensures.many)
 
-pub returns-in_ok-count_one-2-clause-counts : goal.returns-in_ok-count_one-2-clause-counts
-returns-in_ok-count_one-2-clause-counts g c = λ on some.
+pub returns-in_ok-count_line-2-clause-counts : goal.returns-in_ok-count_line-2-clause-counts
+returns-in_ok-count_line-2-clause-counts g c = λ on some.
     let inv = c.loop-length.invariant in
     let bytes = c.args.bytes.now in
     let none = cut_none bytes c.loop-length.at c.line_length.result c.in_default.not-Some c.line_length.ensures in
     let start = ap (λ (n : ℕ). length (pieces (take n bytes))) c.if-at-eq0.true in
     let still = counts_still bytes (omega (arith, line_none bytes c.loop-length.at none, start)) in
-    omega (arith, inv.counted, start, still, c.in_ok-count_one-2.ensures.more)
+    omega (arith, inv.counted, start, still, c.in_ok-count_line-2.ensures.more)
 
 pub returns-else-at-eq0-clause-counts : goal.returns-else-at-eq0-clause-counts
 returns-else-at-eq0-clause-counts g c = λ on some.

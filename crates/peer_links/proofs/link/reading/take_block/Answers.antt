@@ -1,29 +1,28 @@
 use Rattle.std.proofs.Common.{◌≡◌, ◌≢◌, ℕ, ◌+◌, ◌<◌, List, [], ◌∷◌, ◌++◌, length, take, inl, sym, ap, subst, ◌∙◌, arith}
-use Rattle.std.proofs.Common.{length-drop}
+use Rattle.std.proofs.Common.{length-drop, append-nil}
 use Rattle.std.proofs.lemmas.List.{take_all, take_rest}
 use Rattle.entry_codec.specs.Pieces.{pieces}
 use Rattle.line_streams.proofs.CountLaws.{counts_lines, counts_still, counts_within, line_some}
 use Rattle.line_streams.specs.Counting.{still}
 use Rattle.peer_links.specs.Links.{IsFedAll}
-use Rattle.peer_links.proofs.ReadLaws.{on_ok, fed_more, fed_all, one_line, no_line}
+use Rattle.peer_links.proofs.ReadLaws.{fed_more, fed_all, one_line, no_line}
 use Rattle.std.proofs.lemmas.Result.{err_from_is_err_and}
 use Rattle.peer_links.specs.Takes.{pieces_behind}
 use Rattle.peer_links.specs.declared.link.LinkFault.TheVariants.{TooManyLines, OutOfMemory}
 use Rattle.peer_links.proofs.PairLaws.{pairs_both, accepts_still}
 use Rattle.peer_links.proofs.TakeLaws.{behind_count, front_behind, next_text, next_none, more_taken, one_breaks}
-use Rattle.peer_links.proofs.TakeLaws.{to_stop, to_count}
+use Rattle.peer_links.proofs.TakeLaws.{to_stop}
 use Rattle.peer_links.proofs.link.reading.take_block.Goals as goal
 
-pub returns-then-at-eq0-clause-fed : goal.returns-then-at-eq0-clause-fed
-returns-then-at-eq0-clause-fed g c =
+pub returns-in_ok-count_line-clause-fed : goal.returns-in_ok-count_line-clause-fed
+returns-in_ok-count_line-clause-fed g c =
     let inv = c.pieces.invariant in
     let next = c.in_ok-piece.ensures in
     let bytes = c.args.bytes.now in
-    on_ok c.count_one.result (fed_all _ _ _ _ (take_rest bytes c.pieces.at) _ _ inv.6 _ c.in_default.not-Some next.none
-    inv.0 _ next.fed)
+    fed_all _ _ _ _ (take_rest bytes c.pieces.at) _ _ inv.6 _ c.in_default.not-Some next.none inv.0 _ next.fed
 
-pub returns-then-at-eq0-clause-counts : goal.returns-then-at-eq0-clause-counts
-returns-then-at-eq0-clause-counts g c =
+pub returns-in_ok-count_line-clause-counts : goal.returns-in_ok-count_line-clause-counts
+returns-in_ok-count_line-clause-counts g c =
     let inv = c.pieces.invariant in
     let next = c.in_ok-piece.ensures in
     let bytes = c.args.bytes.now in
@@ -31,7 +30,7 @@ returns-then-at-eq0-clause-counts g c =
     c.in_default.not-Some next.none inv.0 in
     let none : length (pieces (take c.pieces.at bytes)) ≡ 0
     = ap (λ (n : ℕ). length (pieces (take n bytes))) c.if-at-eq0.true in
-    on_ok c.count_one.result (omega (arith, c.count_one.ensures.more, inv.2, none, counts_still bytes (same ∙ none)))
+    omega (arith, c.in_ok-count_line.ensures.more, inv.2, none, counts_still bytes (same ∙ none))
 
 pub returns-else-at-eq0-clause-fed : goal.returns-else-at-eq0-clause-fed
 returns-else-at-eq0-clause-fed g c =
@@ -51,17 +50,17 @@ returns-else-at-eq0-clause-counts g c =
     let some : 0 < length (pieces bytes) = omega (arith, inv.3 moved, same) in
     omega (arith, inv.2, same, counts_lines bytes some)
 
-pub returns-in_err-count_one-clause-many : goal.returns-in_err-count_one-clause-many
-returns-in_err-count_one-clause-many g c = λ _.
+pub returns-in_err-count_line-2-clause-many : goal.returns-in_err-count_line-2-clause-many
+returns-in_err-count_line-2-clause-many g c = λ _.
     let inv = c.pieces.invariant in
     let next = c.in_ok-piece.ensures in
     let bytes = c.args.bytes.now in
     let one = one_line _ _ _ _ (take_rest bytes c.pieces.at) _ _ inv.6 _ c.requires.cutter next.piece _ c.in-Some.is in
-    let full = c.in_err-count_one.ensures in
+    let full = c.in_err-count_line-2.ensures in
     omega (
       arith,
       full.more,
-      full.many.1,
+      full.many,
       inv.2,
       one,
       line_some bytes (c.pieces.at + c.in_ok-piece.taken),
@@ -83,8 +82,9 @@ returns-in_err-piece-clause-takes g c = λ stream h.
       t.2,
     )
 
-pub returns-then-at-eq0-clause-takes : goal.returns-then-at-eq0-clause-takes
-returns-then-at-eq0-clause-takes g c = λ stream h.
+pub returns-in_err-count_line-clause-takes : goal.returns-in_err-count_line-clause-takes
+returns-in_err-count_line-clause-takes g c = λ stream h.
+    let p = err_from_is_err_and c.from_residual-in_err-count_line.result c.from_residual-in_err-count_line.ensures.1 in
     let inv = c.pieces.invariant in
     let next = c.in_ok-piece.ensures in
     let bytes = c.args.bytes.now in
@@ -95,22 +95,35 @@ returns-then-at-eq0-clause-takes g c = λ stream h.
     c.in_default.not-Some next.none inv.0 in
     let none : length (pieces (take c.pieces.at bytes)) ≡ 0
     = ap (λ (n : ℕ). length (pieces (take n bytes))) c.if-at-eq0.true in
-    let sum : (c.args.count.now + still (c.args.bytes.now ∷ [])) + length (pieces_behind stream bytes)
-    ≡ c.count_one.new.count = omega (
+    let full = c.in_err-count_line.ensures in
+    let sum : (c.args.count.now + still (c.args.bytes.now ∷ [])) + length (pieces_behind stream bytes) ≡ 1000000000
+    = omega (
       arith,
-      c.count_one.ensures.more,
+      full.more,
+      full.many,
       inv.2,
       none,
       same,
       counts_still bytes (same
           ∙ none),
       behind_count stream bytes,
-    ) in (
+    ) in
+    rw (p.1, p.2) (
       t.0,
-      to_count (c.args.count.now + still (c.args.bytes.now ∷ [])) c.count_one.new.count _ _ _ c.count_one.result t.0
-          c.count_one.ensures.many sum (rw (sym whole) t.1),
+      to_stop (c.args.count.now + still (c.args.bytes.now ∷ [])) _ _ _ _ _ TooManyLines t.0
+          (sym (append-nil (pieces_behind stream bytes))) (rw (sym whole) t.1, sum),
       t.2,
     )
+
+pub returns-in_ok-count_line-clause-takes : goal.returns-in_ok-count_line-clause-takes
+returns-in_ok-count_line-clause-takes g c = λ stream h.
+    let inv = c.pieces.invariant in
+    let next = c.in_ok-piece.ensures in
+    let bytes = c.args.bytes.now in
+    let t = inv.7 stream h in
+    let whole = next_none _ _ _ _ (take_rest bytes c.pieces.at) _ _ inv.6 _ stream h next.piece c.in_default.not-Some
+    next.none inv.0 in
+    (t.0, rw (sym whole) t.1, t.2)
 
 pub returns-else-at-eq0-clause-takes : goal.returns-else-at-eq0-clause-takes
 returns-else-at-eq0-clause-takes g c = λ stream h.
@@ -133,9 +146,9 @@ returns-in_err-take_piece-clause-takes g c = λ stream h.
     rw (p.1, p.2) (one_breaks g.P.Port.hears _ _ _ _ _ _ _ (inv.7 stream h)
     (c.args.count.now + still (c.args.bytes.now ∷ [])) text.0 _ _ _ piece.may text.3 (piece.takes text.0 text.1))
 
-pub returns-in_err-count_one-clause-takes : goal.returns-in_err-count_one-clause-takes
-returns-in_err-count_one-clause-takes g c = λ stream h.
-    let p = err_from_is_err_and c.from_residual-in_err-count_one.result c.from_residual-in_err-count_one.ensures.1 in
+pub returns-in_err-count_line-2-clause-takes : goal.returns-in_err-count_line-2-clause-takes
+returns-in_err-count_line-2-clause-takes g c = λ stream h.
+    let p = err_from_is_err_and c.from_residual-in_err-count_line-2.result c.from_residual-in_err-count_line-2.ensures.1 in
     let inv = c.pieces.invariant in
     let bytes = c.args.bytes.now in
     let piece = c.in_ok-take_piece.ensures in
@@ -145,20 +158,20 @@ returns-in_err-count_one-clause-takes g c = λ stream h.
     let next = c.in_ok-piece.ensures in
     let one = one_line _ _ _ _ (take_rest bytes c.pieces.at) _ _ inv.6 _ c.requires.cutter next.piece _ c.in-Some.is in
     let some : 0 < length (pieces bytes) = omega (arith, one, line_some bytes (c.pieces.at + c.in_ok-piece.taken)) in
-    let full = c.in_err-count_one.ensures in
+    let full = c.in_err-count_line-2.ensures in
     let sum : (c.args.count.now + still (c.args.bytes.now ∷ []))
     + length (pieces_behind stream (take c.pieces.at bytes) ++ text.0 ∷ []) ≡ 1000000000
     = omega (
       arith,
       full.more,
-      full.many.1,
+      full.many,
       inv.2,
       one,
       counts_lines bytes some,
       ap length text.2,
       behind_count stream (take (c.pieces.at + c.in_ok-piece.taken) bytes),
     ) in
-    rw (p.1, p.2, full.many.0) (
+    rw (p.1, p.2) (
       more.0,
       to_stop (c.args.count.now + still (c.args.bytes.now ∷ [])) _ _ _ _ _ TooManyLines more.0 text.3
           (more.1, sum),
@@ -172,7 +185,7 @@ pieces-preserved g c =
     let bytes = c.args.bytes.now in
     let rest = take_rest bytes c.pieces.at in
     let one = one_line _ _ _ _ rest _ _ inv.6 _ c.requires.cutter next.piece _ c.in-Some.is in
-    let count = c.in_ok-count_one.ensures in
+    let count = c.in_ok-count_line-2.ensures in
     let piece = c.in_ok-take_piece.ensures in (
       omega (arith, inv.0, next.within, ap length rest, length-drop c.pieces.at bytes),
       count.few,
@@ -206,5 +219,5 @@ take_piece-requires-clause-accepts g c = accepts_still g.P.Port.accepts _ _ c.pi
 pub returns-in_err-take_piece-clause-pair : goal.returns-in_err-take_piece-clause-pair
 returns-in_err-take_piece-clause-pair g c = pairs_both _ _ _ c.pieces.invariant.8 c.in_err-take_piece.ensures.pair
 
-pub returns-in_err-count_one-clause-pair : goal.returns-in_err-count_one-clause-pair
-returns-in_err-count_one-clause-pair g c = pairs_both _ _ _ c.pieces.invariant.8 c.in_ok-take_piece.ensures.pair
+pub returns-in_err-count_line-2-clause-pair : goal.returns-in_err-count_line-2-clause-pair
+returns-in_err-count_line-2-clause-pair g c = pairs_both _ _ _ c.pieces.invariant.8 c.in_ok-take_piece.ensures.pair
