@@ -1,5 +1,7 @@
 -- How the program may end, by what was asked for.
-use Rattle.std.proofs.Common.{◌≡◌, ◌≢◌, ◌∙◌, false, refl, sym, ap, subst, Err, arith, inl, inr, true≢false}
+use Rattle.std.proofs.Common.{◌≡◌, ◌≢◌, ◌∙◌, ◌⊎◌, false, refl, sym, ap, subst, Err, arith, inl, inr, true≢false}
+use Rattle.clap.specs.Kinds.{IsAmong}
+use Rattle.clap.specs.declared.error.kind.ErrorKind.TheVariants as kind
 use Rattle.line_streams.specs.declared.fault.ConversationError.{ConversationError}
 use Rattle.line_streams.specs.declared.fault.ConversationError.TheVariants as script_fault
 use Rattle.site_words.specs.Asked.{Asked, help, nothing, script, site, version}
@@ -52,6 +54,10 @@ two_is_bad ReadFailed is = absurd (omega (arith, is))
 two_is_bad WriteFailed is = absurd (omega (arith, is))
 two_is_bad OutOfMemory is = absurd (omega (arith, is))
 two_is_bad TooManyLines is = absurd (omega (arith, is))
+
+pub either : {A B C : Type 0} → (A → C) → (B → C) → A ⊎ B → C
+either f g (inl a) = f a
+either f g (inr b) = g b
 
 -- a script
 pub script_may_be_done : (a : Asked) → a ≡ script → MayBeDone a
@@ -108,6 +114,21 @@ site_no_script a s runs same = subst (λ a. RunsSite a s) same runs
 
 pub site_no_nothing : (a : Asked) (s : Settings) → RunsSite a s → a ≡ nothing → ⊥
 site_no_nothing a s runs same = subst (λ a. RunsSite a s) same runs
+
+pub site_no_help : (a : Asked) (s : Settings) → RunsSite a s → WantsHelp a → ⊥
+site_no_help script s runs wants = absurd runs
+site_no_help (site kinds rows) s runs wants = subst (IsAmong kind.DisplayHelp) runs.0 wants
+site_no_help help s runs wants = absurd runs
+site_no_help version s runs wants = absurd runs
+site_no_help nothing s runs wants = absurd runs
+
+pub site_no_refusal : (a : Asked) (s : Settings) → RunsSite a s → MayRefuse a → ⊥
+site_no_refusal script s runs h = absurd runs
+site_no_refusal (site kinds rows) s runs (inl (k, among, is)) = subst (IsAmong k) runs.0 among
+site_no_refusal (site kinds rows) s runs (inr h) = h.1 s runs.1.0 runs.1.1
+site_no_refusal help s runs h = absurd runs
+site_no_refusal version s runs h = absurd runs
+site_no_refusal nothing s runs h = absurd runs
 
 pub site_not_bad : (cause : SiteFault) → fault_of_site cause ≢ BadCommandLine
 site_not_bad site_fault.StartedBefore same = cc

@@ -1,18 +1,17 @@
 //! The command-line arguments of the process.
-ghost use Rattle.std.specs.Prelude.{◌≡◌, ◌≢◌, Err, IfErr, IfOk, Result, drop, false, map};
+ghost use Rattle.std.specs.Prelude.{◌≡◌, ◌⊎◌, Err, IfErr, IfOk, List, drop, false, map};
 ghost use Rattle.std.specs.IoError.{error_kind};
 ghost use Rattle.std.specs.String.{string_bytes};
 ghost use Rattle.std.specs.declared.alloc.Global.{Global};
-ghost use Rattle.clap.specs.Walk.{texts};
-ghost use Rattle.site_words.specs.Asked.{asked_by, nothing, script, version};
+ghost use Rattle.clap.specs.Walk.{Text, texts};
+ghost use Rattle.site_words.specs.Asked.{asked_by, nothing};
 ghost use Rattle.site_words.specs.Words.{MayRefuse};
 ghost use Rattle.rights_program.specs.Arguments.{arguments};
-ghost use Rattle.rights_program.specs.Commands.{Prints};
-ghost use Rattle.rights_program.specs.Endings.{EndsWith, MayEnd, MayStop, reads};
+ghost use Rattle.rights_program.specs.Commands.{RunsOn};
+ghost use Rattle.rights_program.specs.Endings.{EndsWith, MayStop, reads};
 ghost use Rattle.rights_program.specs.Faults.{fault_of_given};
-ghost use Rattle.rights_program.specs.Scripts.{Answered};
+ghost use Rattle.rights_program.specs.Runs.{Ends};
 ghost use Rattle.rights_program.specs.declared.fault.ProgramError.{ProgramError};
-ghost use Rattle.rights_program.specs.declared.version.TheConstants.{VERSION as VERSION_LINE};
 
 use crate::fault::ProgramError;
 use crate::run::{Ended, report, run_words};
@@ -79,13 +78,12 @@ pub fn run_arguments<
     errors: &mut E,
 ) -> Ended
     requires { F.IsAlwaysCallable run }
-    ensures ends { (ending : Result (Unit {0}) ProgramError) × MayEnd (asked_by (arguments words.now)) ending
-        × (asked_by (arguments words.now) ≡ script
-        → Answered Global (R.remaining reader.old) (R.remaining reader.new) (W.contents writer.old)
-        (W.contents writer.new) ending)
-        × (asked_by (arguments words.now) ≡ version → ending ≢ Err ProgramError.OutOfMemory
-        → Prints (W.contents writer.old) (W.contents writer.new) VERSION_LINE.now ending)
-        × EndsWith result (E.contents errors.old) (E.contents errors.new) ending }
+    ensures ends { Ends Global (RunsOn F.FnOnce run reader.old reader.new writer.old writer.new)
+        ((reader.new ≡ reader.old) × (writer.new ≡ writer.old)) (asked_by (arguments words.now))
+        (R.remaining reader.old) (R.remaining reader.new) (W.contents writer.old) (W.contents writer.new)
+        (E.contents errors.old) (E.contents errors.new) result
+        ⊎ (EndsWith result (E.contents errors.old) (E.contents errors.new) (Err ProgramError.OutOfMemory)
+        × (reader.new ≡ reader.old) × (writer.new ≡ writer.old)) }
     ensures refused { result.status ≡ 2 → MayRefuse (asked_by (arguments words.now)) × (reader.new ≡ reader.old)
         × (writer.new ≡ writer.old) }
     ensures unread { reads (asked_by (arguments words.now)) ≡ false → reader.new ≡ reader.old }
@@ -99,8 +97,8 @@ pub fn run_arguments<
     run_words(alloc, run, behind_name(&texts), reader, writer, errors)
 }
 
-/// Runs the program on the arguments of its process. If they cannot be read, the cause is printed to `errors`. No
-/// contract says what the arguments are; all else is `run_arguments`.
+/// Runs the program on the arguments of its process: the same as `run_arguments` on some arguments, since no contract
+/// says what they are. If they cannot be read, the cause is printed to `errors`, and nothing is read or written.
 pub fn run_given<
     F: FnOnce(Config, &mut R, &mut W) -> Result<(), SiteFault>,
     V: Env + Alloc,
@@ -109,8 +107,13 @@ pub fn run_given<
     E: Write,
 >(alloc: Global, run: F, env: &V, reader: &mut R, writer: &mut W, errors: &mut E) -> Ended
     requires { F.IsAlwaysCallable run }
-    ensures { (ending : Result (Unit {0}) ProgramError)
-        × EndsWith result (E.contents errors.old) (E.contents errors.new) ending }
+    ensures { ((words : List Text) × Ends Global (RunsOn F.FnOnce run reader.old reader.new writer.old writer.new)
+        ((reader.new ≡ reader.old) × (writer.new ≡ writer.old)) (asked_by words)
+        (R.remaining reader.old) (R.remaining reader.new) (W.contents writer.old) (W.contents writer.new)
+        (E.contents errors.old) (E.contents errors.new) result)
+        ⊎ ((fault : ProgramError) × MayStop nothing fault
+        × EndsWith result (E.contents errors.old) (E.contents errors.new) (Err fault)
+        × (reader.new ≡ reader.old) × (writer.new ≡ writer.old)) }
 {
     match given_words(env) {
         Ok(words) => run_arguments(alloc, run, &words, reader, writer, errors),

@@ -3,9 +3,10 @@ ghost use Rattle.std.specs.Prelude.{◌≡◌, false, Result, Err};
 ghost use Rattle.std.specs.declared.alloc.Global.{Global};
 ghost use Rattle.clap.specs.Walk.{texts};
 ghost use Rattle.site_words.specs.Asked.{asked_by, nothing, script, version};
-ghost use Rattle.rights_program.specs.Commands.{Does, IsText, Prints};
-ghost use Rattle.rights_program.specs.Endings.{EndsWith, MayEnd, Says, reads};
+ghost use Rattle.rights_program.specs.Commands.{Does, EndsAsSite, IsText, Prints, RunsOn};
+ghost use Rattle.rights_program.specs.Endings.{IsRun, MayEnd, Says, reads};
 ghost use Rattle.rights_program.specs.Faults.{line_of, status_of};
+ghost use Rattle.rights_program.specs.Runs.{Ends};
 ghost use Rattle.rights_program.specs.Scripts.{Answered};
 ghost use Rattle.site_words.specs.Words.{MayRefuse};
 ghost use Rattle.rights_program.specs.declared.fault.ProgramError.{ProgramError};
@@ -40,6 +41,19 @@ pub(crate) fn report<E: Write>(errors: &mut E, fault: ProgramError) -> Ended
     }
 }
 
+/// Runs a site with this configuration on these streams.
+fn run_site<F: FnOnce(Config, &mut R, &mut W) -> Result<(), SiteFault>, R: Read, W: Write>(
+    run: F,
+    config: Config,
+    reader: &mut R,
+    writer: &mut W,
+) -> Result<(), SiteFault>
+    requires { F.IsAlwaysCallable run }
+    ensures { RunsOn F.FnOnce run reader.old reader.new writer.old writer.new config result }
+{
+    run(config, reader, writer)
+}
+
 /// Carries out a command: runs a script, runs a site by `run`, or prints a help text or the version whole.
 #[tactic(auto, using(crate::proofs::Commands::commands))]
 fn carry_out<F: FnOnce(Config, &mut R, &mut W) -> Result<(), SiteFault>, R: Read, W: Write>(
@@ -50,13 +64,13 @@ fn carry_out<F: FnOnce(Config, &mut R, &mut W) -> Result<(), SiteFault>, R: Read
     writer: &mut W,
 ) -> Result<(), ProgramError>
     requires { F.IsAlwaysCallable run }
-    ensures does { Does Global command (R.remaining reader.old) (R.remaining reader.new) (W.contents writer.old)
-        (W.contents writer.new) result }
+    ensures does { Does Global (RunsOn F.FnOnce run reader.old reader.new writer.old writer.new) command
+        (R.remaining reader.old) (R.remaining reader.new) (W.contents writer.old) (W.contents writer.new) result }
     ensures unread { IsText command → reader.new ≡ reader.old }
 {
     match command {
         Command::Sim => Ok(run_last_script(alloc, reader, writer)?),
-        Command::Run(config) => Ok(run(config, reader, writer)?),
+        Command::Run(config) => Ok(run_site(run, config, reader, writer)?),
         Command::Help(text) => Ok(write_whole(writer, text.as_bytes())?),
         Command::Version => Ok(write_whole(writer, VERSION)?),
     }
@@ -78,6 +92,9 @@ fn run_command<F: FnOnce(Config, &mut R, &mut W) -> Result<(), SiteFault>, R: Re
         (W.contents writer.new) result }
     ensures version { asked_by (texts words.now) ≡ version
         → Prints (W.contents writer.old) (W.contents writer.new) VERSION_LINE.now result }
+    ensures site { IsRun (asked_by (texts words.now))
+        → EndsAsSite (RunsOn F.FnOnce run reader.old reader.new writer.old writer.new)
+        ((reader.new ≡ reader.old) × (writer.new ≡ writer.old)) (asked_by (texts words.now)) result }
     ensures unread { reads (asked_by (texts words.now)) ≡ false → reader.new ≡ reader.old }
     ensures unwritten { asked_by (texts words.now) ≡ nothing → writer.new ≡ writer.old }
     ensures refused { result ≡ Err ProgramError.BadCommandLine → (reader.new ≡ reader.old) × (writer.new ≡ writer.old) }
@@ -97,14 +114,12 @@ pub fn run_words<
     requires { F.IsAlwaysCallable run }
     // The status and the line on `errors` are those of one ending, which the words allow. If the words ask for a
     // script, the script was answered, and ended in that way. If they ask for the version, it was printed, and only a
-    // failed write may have stopped that.
-    ensures ends { (ending : Result (Unit {0}) ProgramError) × MayEnd (asked_by (texts words.now)) ending
-        × (asked_by (texts words.now) ≡ script
-        → Answered Global (R.remaining reader.old) (R.remaining reader.new) (W.contents writer.old)
-        (W.contents writer.new) ending)
-        × (asked_by (texts words.now) ≡ version
-        → Prints (W.contents writer.old) (W.contents writer.new) VERSION_LINE.now ending)
-        × EndsWith result (E.contents errors.old) (E.contents errors.new) ending }
+    // failed write may have stopped that. If they give a configuration, `run` was called with it on these streams, and
+    // ended in that way, or memory ran out before.
+    ensures ends { Ends Global (RunsOn F.FnOnce run reader.old reader.new writer.old writer.new)
+        ((reader.new ≡ reader.old) × (writer.new ≡ writer.old)) (asked_by (texts words.now))
+        (R.remaining reader.old) (R.remaining reader.new) (W.contents writer.old) (W.contents writer.new)
+        (E.contents errors.old) (E.contents errors.new) result }
     ensures refused { result.status ≡ 2 → MayRefuse (asked_by (texts words.now)) × (reader.new ≡ reader.old)
         × (writer.new ≡ writer.old) }
     ensures unread { reads (asked_by (texts words.now)) ≡ false → reader.new ≡ reader.old }

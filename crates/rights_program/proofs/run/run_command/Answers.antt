@@ -1,10 +1,11 @@
-use Rattle.std.proofs.Common.{◌∙◌, sym, ap, subst, Err, Global}
+use Rattle.std.proofs.Common.{◌∙◌, inl, refl, sym, ap, subst, Err, Global}
 use Rattle.std.proofs.lemmas.Result.{err_from_is_err_and}
 use Rattle.clap.specs.Walk.{texts}
 use Rattle.site_words.specs.Asked.{asked_by}
 use Rattle.rights_program.specs.Endings.{Ending}
+use Rattle.rights_program.specs.Faults.{fault_of_words}
 use Rattle.rights_program.specs.Scripts.{Answered}
-use Rattle.rights_program.proofs.Commands.{none_refused}
+use Rattle.rights_program.proofs.Commands.{none_refused, site_not_refused}
 use Rattle.rights_program.proofs.ScriptLaws.{none_answered}
 use Rattle.rights_program.proofs.run.run_command.Goals as goal
 
@@ -19,3 +20,10 @@ returns-in_err-command-clause-answered g c same =
 pub returns-in_err-command-clause-version : goal.returns-in_err-command-clause-version
 returns-in_err-command-clause-version g c same =
     absurd (none_refused (asked_by (texts c.args.words.now)) c.in_err-command.field-0.0 c.in_err-command.ensures same)
+
+pub returns-in_err-command-clause-site : goal.returns-in_err-command-clause-site
+returns-in_err-command-clause-site g c found =
+    let p = err_from_is_err_and c.from_residual.result c.from_residual.ensures.1 in
+    let none = site_not_refused (asked_by (texts c.args.words.now)) c.in_err-command.field-0.0
+    c.in_err-command.ensures found in
+    inl (p.1 ∙ ap Err (p.2 ∙ ap fault_of_words none), (refl {a = c.args.reader.now}, refl {a = c.args.writer.now}))
