@@ -14,10 +14,10 @@ module _ (test : ℕ → Bool) (hay : List ℕ) where
         | inr f ↦
             let later = no_place n (i + 1) (sym (cond-false _ _ _ f) ∙ h) in
             λ k low high p.
-                elim (cases_eq k i) [
-                  | inl e ↦ absurd (false≢true (sym f ∙ subst (λ j. test (get_or hay j 0) ≡ true) e p))
-                  | inr ne ↦ later k (omega arith) (omega arith) p
-                ]
+            elim (cases_eq k i) [
+              | inl e ↦ absurd (false≢true (sym f ∙ subst (λ j. test (get_or hay j 0) ≡ true) e p))
+              | inr ne ↦ later k (omega arith) (omega arith) p
+            ]
       ]
 
   first_place : (n i k : ℕ) (rest : List ℕ) → places_from test hay i n ≡ k ∷ rest
