@@ -1,6 +1,7 @@
 //! The input from one other site.
 ghost use Rattle.std.specs.Prelude.{◌≡◌, ◌≢◌, ◌≤◌, ◌<◌, ◌+◌, true, [], ◌∷◌, ◌++◌, vec_capacity, Ok, None, Some, IfOk};
-ghost use Rattle.std.specs.Prelude.{IfErr, OnErr, MatchResult, IsSome, List, Option, length};
+ghost use Rattle.std.specs.Prelude.{IfErr, OnErr, MatchResult, IsSome, List, Option, length, IsTrue, IsFalse, false};
+ghost use Rattle.std.specs.Prelude.{◌↔◌};
 ghost use Rattle.std.specs.List.{All, list_any};
 ghost use Rattle.std.specs.Option.{option_map};
 ghost use Rattle.rights_types.specs.Entries.{EntryValue};
@@ -15,6 +16,7 @@ ghost use Rattle.sub_buffer.specs.Follows.{Follows};
 ghost use Rattle.sub_buffer.specs.Table.{after_beat};
 ghost use Rattle.sub_buffer.specs.Arrivals.{all_ready, Arrives as IsArrival};
 ghost use Rattle.sub_buffer.specs.declared.verdict.Verdict.{Verdict as AVerdict};
+ghost use Rattle.sub_buffer.specs.declared.verdict.Verdict.TheVariants.{Ready};
 ghost use Rattle.site_core.specs.Calls.{LineOf};
 ghost use Rattle.site_core.specs.declared.fault.InboundError.TheVariants.{OutOfMemory as NoMemory};
 ghost use Rattle.site_core.specs.Inbounds.{sender, is_for, entries_of, is_foreign, has_foreign};
@@ -161,6 +163,21 @@ impl<A: Allocator + Copy> Inbound<A> {
         self.buffer.arrive(entry, verdicts);
     }
 
+    /// Takes in one entry of the origin if it is the next one and none is held, as in most arrivals: the verdict is
+    /// `Ready`, and nothing is freed. Otherwise nothing changes, and the entry is for `arrive`.
+    #[inline(always)]
+    pub fn arrive_next(&mut self, entry: &Entry<A>) -> bool
+        requires { entry.now.origin ≡ self.old.buffer.origin }
+        ensures next { IsTrue result ↔ (entry.now.prev ≡ self.old.buffer.last) × (self.old.buffer.closed ≡ false)
+            × (self.old.buffer.held ≡ []) }
+        ensures arrives { IsTrue result
+            → IsArrival {A = A} self.old.buffer entry.now (Ready entry.now) [] self.new.buffer }
+        ensures rest { self.new ≡ record self.old { buffer = self.new.buffer } }
+        ensures same { IsFalse result → self.new ≡ self.old }
+    {
+        self.buffer.arrive_next(entry)
+    }
+
     /// Takes in a beat of the origin.
     pub fn hear(&mut self, number: u64)
         requires { IsNumber number }
@@ -170,6 +187,7 @@ impl<A: Allocator + Copy> Inbound<A> {
     }
 
     // The errors of the sender, the addressee and the system.
+    #[inline(always)]
     fn check(&self, message: &Message<A>) -> Result<(), InboundError>
         ensures { MatchResult result
             (λ _. message_fault self.now (value_of message.now) ≡ None)

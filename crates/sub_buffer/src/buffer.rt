@@ -1,6 +1,6 @@
 //! The buffer, its state and its gap.
 ghost use Rattle.std.specs.Prelude.{◌≡◌, ◌≢◌, ℕ, ◌+◌, ◌<◌, ◌≤◌, ◌++◌, ◌∷◌, [], List, IfOk, IfSome, MatchResult, Option};
-ghost use Rattle.std.specs.Prelude.{Some, IsTrue, ◌↔◌, length, max};
+ghost use Rattle.std.specs.Prelude.{Some, IsTrue, IsFalse, false, ◌↔◌, length, max};
 ghost use Rattle.std.specs.List.{Contains};
 ghost use Rattle.std.specs.Option.{option_to_list};
 ghost use Rattle.rights_types.specs.Ranges.{IsNumber};
@@ -72,6 +72,8 @@ impl<A: Allocator> SubBuffer<A> {
     ghost use Rattle.sub_buffer.specs.Buffers.{with_held};
     ghost use Rattle.sub_buffer.specs.Table.{OfferLeaves, PopLeaves, after_beat, more_held};
     ghost use Rattle.sub_buffer.specs.Follows.{HasPut, Follows, put_after, SettledOffer, OfferFollows, PopFollows};
+    ghost use Rattle.sub_buffer.specs.Arrivals.{Arrives};
+    ghost use Rattle.sub_buffer.specs.declared.verdict.Verdict.TheVariants.{Ready};
     ghost use Rattle.sub_buffer.specs.Gaps.{GapOf, GapIs, StateOf, Wants, asked_for};
     ghost use Rattle.sub_buffer.specs.declared.verdict.BufferError.TheVariants.{WrongOrigin};
 
@@ -149,6 +151,24 @@ impl<A: Allocator> SubBuffer<A> {
         }
         self.hold(place, entry);
         Verdict::Held
+    }
+
+    /// Takes in an entry of the origin if it is the next one and no entry is held, as in most arrivals: the verdict is
+    /// `Ready`, and nothing is freed. Otherwise nothing changes, and the entry is for `arrive`.
+    #[inline(always)]
+    pub fn arrive_next(&mut self, entry: &Entry<A>) -> bool
+        requires { entry.now.origin ≡ self.old.origin }
+        ensures next { IsTrue result
+            ↔ (entry.now.prev ≡ self.old.last) × (self.old.closed ≡ false) × (self.old.held ≡ []) }
+        ensures arrives { IsTrue result → Arrives {A = A} self.old entry.now (Ready entry.now) [] self.new }
+        ensures same { IsFalse result → self.new ≡ self.old }
+    {
+        if self.closed || !self.held.is_empty() || entry.prev() != self.last {
+            return false;
+        }
+        self.hear(entry.own());
+        self.deliver(entry);
+        true
     }
 
     // Notes that the log has the number.

@@ -26,6 +26,11 @@ pub lists_nothing : {A V : Type 0} (items : V → List EntryValue) (apart : Opti
 lists_nothing items None v e h = refl
 lists_nothing items (Some l) v e h = ap (λ es. Some es) (sym (h (items l)))
 
+pub none_apart : {A V : Type 0} (items : V → List EntryValue) (apart : Option V) (v : BufferVerdict A)
+    (e : EntryValue) → apart ≡ None
+    → option_map items apart ≡ option_map (λ l. reached_after (items l) e v) apart
+none_apart items apart v e none = rw none refl
+
 pub some_is : {X : Type 0} (x y : X) → Some x ≡ Some y → x ≡ y
 some_is x y h = ap (λ o. unwrap_or o x) h
 

@@ -1,11 +1,13 @@
 //! The input from an origin's log, and the list in which it was delivered.
 ghost use Rattle.std.specs.Prelude.{◌≡◌, ◌+◌, ◌<◌, ◌≤◌, if◌then◌else◌, [], ◌∷◌, ◌++◌, ◌↔◌, ℕ, None, Some, true, IfOk};
-ghost use Rattle.std.specs.Prelude.{IfSome, OnOk, IsSome, IsTrue, List, length, map, take, drop, vec_capacity};
+ghost use Rattle.std.specs.Prelude.{IfSome, OnOk, IsSome, IsTrue, IsFalse, List, length, map, take, drop, vec_capacity};
 ghost use Rattle.std.specs.Option.{option_map, is_some};
 ghost use Rattle.rights_types.specs.Entries.{EntryValue};
 ghost use Rattle.rights_types.specs.declared.limits.TheConstants.{MAX_ANSWER, MAX_HELD};
 ghost use Rattle.sub_buffer.specs.Follows.{reached_after};
+ghost use Rattle.sub_buffer.specs.Arrivals.{Arrives};
 ghost use Rattle.sub_buffer.specs.declared.verdict.Verdict.{Verdict as AVerdict};
+ghost use Rattle.sub_buffer.specs.declared.verdict.Verdict.TheVariants.{Ready as IsReady};
 ghost use Rattle.site_core.specs.Inbounds.{ready_in};
 ghost use Rattle.world_core.specs.LinkEvents.{reported as as_reported};
 ghost use Rattle.world_core.specs.IncomingLists.{reached_in, NoneAhead, HasRoom, SameLists, IncomingTakes};
@@ -144,10 +146,34 @@ impl<A: Allocator + Copy, K: Keeping> Incoming<A, K> {
         ensures room { (n : ℕ) → HasRoom (n + 1) self.old scratch.old → HasRoom n self.new scratch.new }
     {
         let seen = self.seen.and(&entry);
+        if self.arrive_next(&entry) {
+            self.seen = seen;
+            let verdict = self.put_ready(BufferVerdict::Ready(entry));
+            scratch.reported.push_reserved(verdict);
+            return;
+        }
         self.inbound.arrive(entry, &mut scratch.verdicts);
         self.see(seen, &scratch.verdicts);
         self.list(copy, &scratch.verdicts);
         self.settle(scratch);
+    }
+
+    // Whether the entry is the next one while none is held, and there is no separate list, as in most arrivals. If so,
+    // the input has taken it in; it is still to be put. Otherwise nothing changed.
+    #[inline(always)]
+    fn arrive_next(&mut self, entry: &Entry<A>) -> bool
+        requires origin { entry.now.origin ≡ self.old.inbound.buffer.origin }
+        ensures arrives { IsTrue result
+            → Arrives {A = A} self.old.inbound.buffer entry.now (IsReady entry.now) [] self.new.inbound.buffer }
+        ensures apart { IsTrue result → self.old.apart ≡ None }
+        ensures inbound { self.new.inbound ≡ record self.old.inbound { buffer = self.new.inbound.buffer } }
+        ensures rest { self.new ≡ record self.old { inbound = self.new.inbound } }
+        ensures same { IsFalse result → self.new ≡ self.old }
+    {
+        if self.apart.is_some() {
+            return false;
+        }
+        self.inbound.arrive_next(entry)
     }
 
     // What was seen, with the entry that arrived, if it reaches the site by the first verdict.

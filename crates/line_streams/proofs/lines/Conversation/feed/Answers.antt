@@ -108,7 +108,8 @@ returns-in_ok-count_line-2-clause-short g c = rw (c.in_ok-keep.ensures) (short_f
 pub returns-in_ok-count_line-2-clause-fed : goal.returns-in_ok-count_line-2-clause-fed
 returns-in_ok-count_line-2-clause-fed g c = λ start input held h.
     going_end g.H.LineHandler.answers start input c.args.bytes.now c.loop-length.at _ held _ _ _
-    (c.loop-length.invariant.going start input held h) c.line_length.result _ c.in_default.not-Some c.line_length.ensures
+    (c.loop-length.invariant.going start input held h) c.line_length.result _ c.in_default.not-Some
+    c.line_length.ensures
     c.in_ok-keep.ensures
 
 pub returns-else-at-eq0-clause-short : goal.returns-else-at-eq0-clause-short
@@ -117,7 +118,8 @@ returns-else-at-eq0-clause-short g c = rw (c.in_ok-keep.ensures) (short_front _)
 pub returns-else-at-eq0-clause-fed : goal.returns-else-at-eq0-clause-fed
 returns-else-at-eq0-clause-fed g c = λ start input held h.
     going_end g.H.LineHandler.answers start input c.args.bytes.now c.loop-length.at _ held _ _ _
-    (c.loop-length.invariant.going start input held h) c.line_length.result _ c.in_default.not-Some c.line_length.ensures
+    (c.loop-length.invariant.going start input held h) c.line_length.result _ c.in_default.not-Some
+    c.line_length.ensures
     c.in_ok-keep.ensures
 
 pub returns-in_err-count_line-clause-many : goal.returns-in_err-count_line-clause-many
