@@ -1,7 +1,9 @@
-//! The stream of a client, for the thread that answers its requests.
+//! The two ends of a client's stream, for the thread that answers its requests. A request begins with a read, and ends
+//! with a write; if several are sent at once, the rest of them counts as begun only once more of it is read.
 ghost use Rattle.std.specs.Prelude.{◌≤◌, length, IfOk, IfSome};
 
 use crate::connection_pool::ConnectionPool;
+use crate::polling::Polling;
 use line_streams::{read_some, write_some};
 use std::io::{ErrorKind, Read, Write};
 use std::net::TcpStream;
@@ -10,30 +12,26 @@ use std::{io, thread};
 /// How often a read looks for input before it sleeps, if it polls: for some 50 microseconds.
 const LOOKS: u32 = 100;
 
-/// How many reads at most sleep at once, after polling was in vain.
-const LONGEST_PAUSE: u32 = 1023;
-
-/// The stream of a client. A request begins with a read, and ends with a write; if several are sent at once, the rest
-/// of them counts as begun only once more of it is read.
+/// The reading end of a client's stream.
 #[derive(Drop)]
-pub struct ClientStream<'a> {
+pub struct ClientReader<'a> {
     pool: &'a ConnectionPool,
     stream: &'a TcpStream,
     place: usize,
     polling: Polling,
 }
 
-impl<'a> ClientStream<'a> {
+impl<'a> ClientReader<'a> {
     pub(crate) fn new(
         pool: &'a ConnectionPool,
         stream: &'a TcpStream,
         place: usize,
-    ) -> ClientStream<'a> {
-        ClientStream {
+    ) -> ClientReader<'a> {
+        ClientReader {
             pool,
             stream,
             place,
-            polling: Polling { pause: 0, left: 0 },
+            polling: Polling::new(),
         }
     }
 
@@ -80,7 +78,7 @@ fn look(mut stream: &TcpStream, buf: &mut [u8]) -> io::Result<Option<usize>>
     Ok(None)
 }
 
-impl Read for ClientStream<'_> {
+impl Read for ClientReader<'_> {
     fn read(&mut self, buf: &mut [u8]) -> io::Result<usize> {
         if self.pool.is_done(self.place) {
             return Ok(0);
@@ -96,7 +94,29 @@ impl Read for ClientStream<'_> {
     }
 }
 
-impl Write for ClientStream<'_> {
+/// The writing end of a client's stream.
+#[derive(Drop)]
+pub struct ClientWriter<'a> {
+    pool: &'a ConnectionPool,
+    stream: &'a TcpStream,
+    place: usize,
+}
+
+impl<'a> ClientWriter<'a> {
+    pub(crate) fn new(
+        pool: &'a ConnectionPool,
+        stream: &'a TcpStream,
+        place: usize,
+    ) -> ClientWriter<'a> {
+        ClientWriter {
+            pool,
+            stream,
+            place,
+        }
+    }
+}
+
+impl Write for ClientWriter<'_> {
     fn write(&mut self, buf: &[u8]) -> io::Result<usize> {
         let mut stream = self.stream;
         let count = write_some(&mut stream, buf);
@@ -106,35 +126,5 @@ impl Write for ClientStream<'_> {
 
     fn flush(&mut self) -> io::Result<()> {
         Ok(())
-    }
-}
-
-/// Which reads poll: all, as long as the next request comes soon after each response. Each time polling is in vain,
-/// twice as many reads do not poll.
-#[derive(Clone, Copy, Debug)]
-struct Polling {
-    pause: u32,
-    left: u32,
-}
-
-impl Polling {
-    fn is_due(&mut self) -> bool {
-        if self.left == 0 {
-            return true;
-        }
-        self.left -= 1;
-        false
-    }
-
-    fn note(&mut self, found: bool) {
-        self.pause = if found {
-            0
-        } else {
-            self.pause
-                .saturating_mul(2)
-                .saturating_add(1)
-                .min(LONGEST_PAUSE)
-        };
-        self.left = self.pause;
     }
 }

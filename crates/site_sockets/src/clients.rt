@@ -1,6 +1,6 @@
 //! Client connections: accepting them, and what ends them.
 
-use crate::client_stream::ClientStream;
+use crate::client_stream::{ClientReader, ClientWriter};
 use crate::connection_pool::ConnectionPool;
 use crate::deadline_reader::DeadlineReader;
 use rights_types::OutOfMemory;
@@ -106,9 +106,14 @@ impl Clients {
         }
     }
 
-    /// The stream of the client at this place, for reading and writing.
-    pub fn stream<'a>(&'a self, stream: &'a TcpStream, place: usize) -> ClientStream<'a> {
-        ClientStream::new(&self.pool, stream, place)
+    /// The reading end of the stream of the client at this place.
+    pub fn reader<'a>(&'a self, stream: &'a TcpStream, place: usize) -> ClientReader<'a> {
+        ClientReader::new(&self.pool, stream, place)
+    }
+
+    /// The writing end of the stream of the client at this place.
+    pub fn writer<'a>(&'a self, stream: &'a TcpStream, place: usize) -> ClientWriter<'a> {
+        ClientWriter::new(&self.pool, stream, place)
     }
 
     /// Frees the place of a client.

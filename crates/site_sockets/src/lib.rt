@@ -10,13 +10,14 @@ mod connection_slot;
 mod deadline_reader;
 mod events;
 mod peer;
+mod polling;
 mod sending;
 mod shutdown_handle;
 mod site;
 mod tick_notifier;
 
 pub use acceptor::begin_acceptor;
-pub use client_stream::ClientStream;
+pub use client_stream::{ClientReader, ClientWriter};
 pub use clients::{Accepted, Clients, bounded_reader};
 pub use connection_slot::{Connection, ConnectionSlot};
 pub use deadline_reader::DeadlineReader;

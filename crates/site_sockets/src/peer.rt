@@ -73,12 +73,14 @@ impl PeerState {
         self.lines(rt).put(line)
     }
 
-    /// Makes room for so many lines in the outbox, if the peer takes those that wait there: blocks until they are sent,
-    /// for `MAX_STALL` milliseconds at most. Does not block again until they are, nor while the peer cannot be
-    /// connected to.
-    pub fn make_room<R: Wait + Clock>(&self, rt: &R, lines: usize) {
+    /// Makes room in the outbox for the lines that are due, if the peer takes those that wait there: blocks until they
+    /// are sent, for `MAX_STALL` milliseconds at most. Does not block again until they are, nor while the peer cannot be
+    /// connected to. `due` returns how many lines are due, and is called only if some wait.
+    pub fn make_room<R: Wait + Clock, F: FnOnce() -> usize + Drop>(&self, rt: &R, due: F)
+        requires { F.pre due }
+    {
         let waiting = self.waiting(rt);
-        if waiting == 0 || lines <= OUTBOX_LINES - waiting {
+        if waiting == 0 || due() <= OUTBOX_LINES - waiting {
             self.stalled.store(false, Ordering::Relaxed);
         } else if !self.stalled.load(Ordering::Relaxed) && !self.events.cannot_send() {
             let time = Duration::from_millis(MAX_STALL);

@@ -106,7 +106,7 @@ impl<'a, D: DeskNames, R: Wait + Clock> Outboxes<'a, D, R> {
         ensures range { IfOk result (λ sent. sent ≤ MAX_NUMBER + 2) }
     {
         let peer = &self.peers[place];
-        peer.make_room(self.rt, self.lines_due(peer.site));
+        peer.make_room(self.rt, || self.lines_due(peer.site));
         let mut kept = self.shared.lock(self.rt);
         let kept = &mut *kept;
         // Also for the proof: what holds whenever the lock is free.

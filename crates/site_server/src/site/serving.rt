@@ -81,8 +81,8 @@ fn seat_client<D: DeskNames, R: Wait + Clock + RandomSource + AllocGlobal>(
     let Some(client) = client_at(rt, site, shared, place) else {
         return;
     };
-    let mut reader = clients.stream(stream, place);
-    let mut writer = clients.stream(stream, place);
+    let mut reader = clients.reader(stream, place);
+    let mut writer = clients.writer(stream, place);
     let client = answer_requests(rt.alloc(), keys, client, &mut reader, &mut writer);
     shared.seats.put(rt, place, client.into_seat());
 }
