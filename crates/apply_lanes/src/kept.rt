@@ -15,7 +15,8 @@ ghost use Rattle.rights_protocol.specs.Invariant.{SiteInvariant};
 ghost use Rattle.rights_protocol.specs.Schedules.LocalChange.{Apply as Applies};
 ghost use Rattle.apply_lanes.specs.Steps.{StepsBy};
 ghost use Rattle.apply_lanes.specs.Names.{id_of, AreBlank, IsUnused};
-ghost use Rattle.apply_lanes.specs.Kepts.{one_less, told_nothing};
+ghost use Rattle.apply_lanes.specs.Kepts.{one_less, seats_left, told_nothing};
+ghost use Rattle.apply_lanes.specs.declared.names.TheConstants.{SEATS, APPLIERS};
 ghost use Rattle.apply_lanes.specs.Views.{IsViewOf};
 ghost use Rattle.apply_lanes.specs.Admissions.{Admits, GivesSeat, GivesClockSeat, GivesApplier};
 
@@ -113,6 +114,9 @@ impl<D: DeskNames, A: Allocator + Copy> Kept<D, A> {
         requires blanks { AreBlank blanks }
         requires unused { IsUnused desk }
         ensures desk { result.desk ≡ desk }
+        ensures seats { seats_left result ≡ SEATS }
+        ensures clock { result.clock_given ≡ false }
+        ensures appliers { result.number.left ≡ APPLIERS }
     {
         // For the proof: what a desk with an empty log issued, spent and received.
         let _ = (desk.site(), desk.sites());
