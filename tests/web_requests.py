@@ -17,6 +17,8 @@ PAGE = os.path.join(TOP, "crates", "site_http", "src", "page.html")
 
 # So many connections a site has at a time.
 MOST_CLIENTS = 63
+# So many connections may be closing: turned away, or with their last response.
+MOST_CLOSING = 192
 LONGEST_BODY = 1_048_576
 # Once the replies to a body have so many bytes, the rest of it is not carried out.
 MOST_REPLIES = 20_000_000
@@ -294,8 +296,7 @@ def two_hundred_at_once():
 
 
 def those_turned_away_have_a_second():
-    """Eight may be turned away at a time. Their places are free again soon, however slowly they send, and however they
-    end."""
+    """The places of those that are turned away are free again soon, however slowly they send, and however they end."""
     with alone() as sites, ExitStack() as stack:
 
         def is_turned_away():
@@ -310,7 +311,7 @@ def those_turned_away_have_a_second():
             sites.client().reset()
             wait_for("the next is turned away", is_turned_away, 5)
         time.sleep(0.3)
-        slow = [stack.enter_context(sites.client()) for _ in range(8)]
+        slow = [stack.enter_context(sites.client()) for _ in range(MOST_CLOSING)]
 
         def has_place():
             for client in slow:
