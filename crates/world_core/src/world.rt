@@ -1,5 +1,5 @@
 //! All sites, and all packets ever sent, for which the headline holds.
-ghost use Rattle.std.specs.Prelude.{◌≡◌, ◌≤◌, IfOk, OnErr};
+ghost use Rattle.std.specs.Prelude.{◌≡◌, ◌≤◌, [], IfOk, IsOk, OnErr};
 ghost use Rattle.rights_types.specs.declared.limits.TheConstants.{MIN_SITES, MAX_SITES};
 ghost use Rattle.world_core.specs.Worlds.{start, ended};
 ghost use Rattle.world_core.specs.Step.{Step, Runs};
@@ -75,13 +75,14 @@ impl<A: Allocator + Copy, K: Keeping> World<A, K> {
     }
 
     /// Lets events happen one after another, and returns their outcomes in order. If there is no memory for the
-    /// outcomes, nothing happens, except that the world has ended.
+    /// outcomes, nothing happens, except that the world has ended. The outcomes of no events take no memory.
     pub fn run(
         &mut self,
         events: &[Event<A>],
     ) -> Result<Vec<Result<Reply<A>, WorldError>, A>, OutOfMemory>
         ensures runs { IfOk result (λ outcomes. Runs self.old events.now outcomes.items self.new) }
         ensures err { OnErr result (self.new ≡ ended self.old) }
+        ensures memory { events.now ≡ [] → IsOk result }
         ensures headline { Headline self.new }
         ensures refines { Refines self.old self.new }
     {

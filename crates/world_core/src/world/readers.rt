@@ -1,5 +1,5 @@
 //! The lists of a world, and the rights over them.
-ghost use Rattle.std.specs.Prelude.{◌≡◌, ℕ, ◌+◌, ◌<◌, ◌≤◌, None, length, IfOk, IfSome, IfNone};
+ghost use Rattle.std.specs.Prelude.{◌≡◌, ℕ, ◌+◌, ◌<◌, ◌≤◌, [], None, length, IfOk, IsOk, IfSome, IfNone};
 ghost use Rattle.std.specs.Option.{option_copied, option_map};
 ghost use Rattle.rights_types.specs.Chains.{end, moves_of, is_closed};
 ghost use Rattle.rights_types.specs.Rights.{issued, spent, to, sum_sites};
@@ -66,9 +66,10 @@ impl<A: Allocator + Copy, K: Keeping> World<A, K> {
         Some(self.system.line_of(&packet))
     }
 
-    /// A copy of a site's log. `OutOfMemory` if memory for it is refused.
+    /// A copy of a site's log. `OutOfMemory` if memory for it is refused; an empty log takes none.
     pub fn log(&self, site: SiteId) -> Result<Vec<Entry<A>, A>, OutOfMemory>
-        ensures { IfOk result (λ copy. copy.items ≡ log self.now site) }
+        ensures value { IfOk result (λ copy. copy.items ≡ log self.now site) }
+        ensures memory { log self.now site ≡ [] → IsOk result }
     {
         let alloc = self.system.allocator();
         match self.desk(site) {
@@ -247,7 +248,8 @@ fn copy_of<A: Allocator + Copy>(
     alloc: A,
     log: &OriginLog<A>,
 ) -> Result<Vec<Entry<A>, A>, OutOfMemory>
-    ensures { IfOk result (λ copy. copy.items ≡ log.now.entries) }
+    ensures value { IfOk result (λ copy. copy.items ≡ log.now.entries) }
+    ensures memory { log.now.entries ≡ [] → IsOk result }
 {
     let mut copy = Vec::with_capacity(alloc, log.len())?;
     for index in 0..log.len() {

@@ -33,8 +33,8 @@ loop-index-preserved g c =
     let pushed = c.in_ok-push-in-Some.ensures.items in
     cc
 
-pub returns : goal.returns
-returns g c =
+pub returns-clause-value : goal.returns-clause-value
+returns-clause-value g c =
     c.loop-index.invariant
     ∙ take_all c.loop-index.index c.args.log.now.entries
     (omega (arith, c.len-index-end.ensures.value, c.loop-index-test.false))
