@@ -2,14 +2,17 @@
 ends by itself, and says what it expected where it fails."""
 
 import os
+import select
 import socket
 import struct
 import subprocess
 import threading
 import time
+from contextlib import ExitStack, suppress
 
 from cases import case
 from cluster import PROGRAM, Cluster, Proxy, Site, SiteEnded, at, expect, free_ports, sees, wait_for
+from site_driver import Peer
 
 import rights_site
 
@@ -209,14 +212,18 @@ def site_words():
     return [PROGRAM, "run", "--id", "1", "--sites", "2", "--listen", at(own), f"2={at(other)}"]
 
 
+def reset_at_its_end(stream):
+    """From now on, to close it is to reset it."""
+    stream.setsockopt(socket.SOL_SOCKET, socket.SO_LINGER, struct.pack("ii", 1, 0))
+
+
 def stream_that_is_reset(text):
     """A stream that brings this text, and then fails."""
     with socket.create_server(("127.0.0.1", 0)) as server:
         writer = socket.create_connection(server.getsockname())
         reader, _ = server.accept()
         writer.sendall(text)
-        # To close it is to reset it.
-        writer.setsockopt(socket.SOL_SOCKET, socket.SO_LINGER, struct.pack("ii", 1, 0))
+        reset_at_its_end(writer)
         writer.close()
         return reader
 
@@ -322,6 +329,52 @@ def a_link_may_be_silent():
                 expect([lines.readline(), lines.readline()], [b"E 1 0 1 S:7\n", b"B 1 1\n"], "on the same connection")
 
 
+def connections_leave_nothing_behind():
+    """More connections than may wait for a first line, each ended in one of six ways: their places, threads and handles
+    are free again."""
+    with Sites(3, started=[1]) as sites:
+        folder = f"/proc/{sites[1].process.pid}"
+
+        def used():
+            return [len(os.listdir(f"{folder}/{kind}")) for kind in ("task", "fd")]
+
+        before = used()
+        for way in range(240):
+            text = [b"", b"H ", b"H 9\n", b"x" * 20000, b"H 2\n", b"H 2\nB 2 0\nE 2 "][way % 6]
+            with suppress(OSError), connect(sites, 1, text) as stream:
+                if way % 4 == 0:
+                    reset_at_its_end(stream)
+                elif way % 4 == 1:
+                    stream.shutdown(socket.SHUT_WR)
+        wait_for("all is free", lambda: all(now <= then for now, then in zip(used(), before)))
+        with connect(sites, 1, b"H 3\nE 3 0 2 I:9 R:1:7\n"):
+            wait_for("site 1 heard site 3", sees(sites[1], None, received=7), 3)
+
+
+def a_half_closed_connection_is_heard_to_its_end():
+    """A peer that ends its output still waits for the end of the site's."""
+    with Sites(2, started=[1]) as sites, connect(sites, 1, b"H 2\nE 2 0 2 I:9 R:1:7\n") as stream:
+        wait_for("site 1 heard site 2", sees(sites[1], None, received=7))
+        stream.sendall(b"E 2 2 3 R:1:1\n")
+        stream.shutdown(socket.SHUT_WR)
+        stream.settimeout(3)
+        expect(stream.recv(1), b"", "the site closes the connection too")
+        wait_for("site 1 heard the last line", sees(sites[1], None, received=8))
+
+
+def one_of_several_connections_stays():
+    """A peer that connects four times at once, again and again: all but one of the connections are closed."""
+    with Sites(2, started=[1]) as sites:
+        for turn in range(20):
+            with ExitStack() as stack:
+                streams = [stack.enter_context(connect(sites, 1, b"H 2\n")) for _ in range(4)]
+                wait_for("three are closed", lambda: len(select.select(streams, [], [], 0)[0]) == 3)
+                ended = select.select(streams, [], [], 0.01)[0]
+                (heard,) = [stream for stream in streams if stream not in ended]
+                heard.sendall(b"E 2 %d %d I:1\n" % (turn, turn + 1))
+                wait_for("the other is heard", sees(sites[1], 2, applied=turn + 1))
+
+
 def an_entry_of_sixteen_moves():
     with Sites(2, started=[1]) as sites:
         moves = b" ".join(b"R:1:%d" % n for n in range(1, 17))
@@ -410,22 +463,41 @@ def a_peer_that_reads_nothing():
     deaf.close()
 
 
-def ticks_in_a_row_wait_for_space():
+def ticks_that_wait(site, follows=lambda spends: True):
     """Ten ticks at once, each with more lines than fit beside those of the one before: the site waits until those are
     sent. On a busy machine that may take longer than it waits, but not each time."""
+    for turn in range(1, 51):
+        replies = site.ask_all((["spend 1 0"] * 200 + ["tick 1"]) * 10)
+        # What was lost is asked for after the beat of another tick.
+        wait_for("all are applied", lambda: site.ask("tick 1") and follows(2000 * turn), 30)
+        if all(reply.endswith("sent 201") for reply in replies[200::201]):
+            return
+    raise AssertionError("each time lines were lost")
+
+
+def ticks_in_a_row_wait_for_space():
     with Sites(2) as sites:
-        sites[1].ask("issue 1000000")
-        sites[1].ask("tick 1")
-        written = 1
-        for _ in range(50):
-            replies = sites[1].ask_all((["spend 1 0"] * 200 + ["tick 1"]) * 10)
-            written += 2000
-            follows = sees(sites[2], 1, applied=written)
-            # What was lost is asked for after the beat of another tick.
-            wait_for("all are applied", lambda: sites[1].ask("tick 1") and follows(), 30)
-            if all(reply.endswith("sent 201") for reply in replies[200::201]):
-                return
-        raise AssertionError("each time lines were lost")
+        sites[1].ask_all(["issue 1000000", "tick 1"])
+        ticks_that_wait(sites[1], lambda spends: sees(sites[2], 1, applied=1 + spends)())
+
+
+def ticks_wait_again_once_lines_are_sent():
+    """A tick waits in vain for a peer that answers no attempt to connect. Once that peer reads, ticks wait as before."""
+    peer = Peer(2, is_late=True)
+    peer.grow_deaf()
+    with Sites(2, started=[1], routes={(1, 2): peer.address}) as sites:
+        sites[1].ask_all(["issue 1000000", "tick 1", *["spend 1 0"] * 300, "tick 1"])
+        peer.listen()
+        expect(peer.accept(5), True, "the site connects")
+        threading.Thread(target=read_all, args=(peer.heard,), daemon=True).start()
+        ticks_that_wait(sites[1])
+    peer.close()
+
+
+def read_all(stream):
+    with suppress(OSError):
+        while stream.recv(1 << 16):
+            pass
 
 
 # ---- memory that is refused
@@ -622,12 +694,16 @@ CASES = [case("Loopback", [
     a_silent_peer_holds_up_nobody,
     the_newest_connection_is_heard,
     a_link_may_be_silent,
+    connections_leave_nothing_behind,
+    a_half_closed_connection_is_heard_to_its_end,
+    one_of_several_connections_stays,
     an_entry_of_sixteen_moves,
     entries_are_held,
     bad_lines_are_skipped,
     a_flood_grows_nothing,
     a_peer_that_reads_nothing,
     ticks_in_a_row_wait_for_space,
+    ticks_wait_again_once_lines_are_sent,
     a_start_without_memory,
     memory_runs_out,
     an_applier_without_memory,

@@ -268,6 +268,34 @@ def two_hundred_at_once():
         expect(sites.end().told_issued, 200)
 
 
+def those_turned_away_have_a_second():
+    """Eight may be turned away at a time. Their places are free again soon, however slowly they send, and however they
+    end."""
+    with alone() as sites, ExitStack() as stack:
+
+        def is_turned_away():
+            with suppress(ConnectionError), sites.client() as client:
+                client.send(post("issue 1"))
+                answer = client.read(may_end=True)
+                return answer is not None and answer.status == 503
+
+        for _ in range(MOST_CLIENTS):
+            expect(stack.enter_context(sites.client()).command("outcome 1")[0], 200)
+        for _ in range(20):
+            sites.client().reset()
+            wait_for("the next is turned away", is_turned_away, 5)
+        time.sleep(0.3)
+        slow = [stack.enter_context(sites.client()) for _ in range(8)]
+
+        def has_place():
+            for client in slow:
+                with suppress(OSError):
+                    client.send(b"P")
+            return is_turned_away()
+
+        wait_for("a second for each is over", has_place, 6)
+
+
 def threads_of(site):
     with open(f"/proc/{pid_of(site)}/status") as status:
         return next(int(line.split()[1]) for line in status if line.startswith("Threads:"))
@@ -523,6 +551,7 @@ TESTS = [
     each_target, the_page, other_targets_and_methods, the_status_of_one_command, bodies_of_several_lines, the_longest_line,
     no_web_page_can_spend, the_longest_body, the_most_replies, a_body_that_is_waited_for, the_longest_head,
     heads_that_are_refused, connections_that_are_closed_when_asked, sixty_three_clients, two_hundred_at_once,
+    those_turned_away_have_a_second,
     no_thread_and_no_seat_is_left, memory_of_connections, pipelines_of_a_hundred, one_byte_at_a_time, half_requests, slow_readers, slow_senders,
     noise, reads_that_are_interrupted,
 ]

@@ -3,6 +3,7 @@
 import json
 import os
 import re
+import resource
 import socket
 import subprocess
 import tempfile
@@ -261,6 +262,14 @@ def lines_of_a_peer_are_counted():
         heard.close()
 
 
+def lines_for_a_dead_peer_are_dropped():
+    """Each takes an attempt to connect with it."""
+    with alone() as sites:
+        expect(sites.command("issue 5", "tick 1"), (200, ["number 1", "tick expired 0 served 0 asks 0 sent 2"]))
+        wait_for("both are dropped", lambda: sites.metrics()["rights_peer_lines_dropped_total", "2"] == 2)
+        expect(sites.metrics()["rights_peer_sending", "2"], 0)
+
+
 def what_is_said_of_a_peer():
     with ExitStack() as stack:
         ear = Ear(stack, log=True)
@@ -441,6 +450,33 @@ def a_site_that_ticks_by_itself():
         expect(sites.metrics(1)["rights_commands_total"], before, "its own ticks are no commands")
 
 
+def a_site_that_gets_no_handles():
+    """Connections that cannot be accepted wait for a handle, and so does the site, without using the processor."""
+    with alone() as sites:
+        process = sites[1].process.pid
+        limits = resource.prlimit(process, resource.RLIMIT_NOFILE)
+        taken = len(os.listdir(f"/proc/{process}/fd"))
+        resource.prlimit(process, resource.RLIMIT_NOFILE, (taken, limits[1]))
+        peer = at(sites.ports[0])
+        # For a connection that is awaited already the site may have one handle, and no second one: then it is closed.
+        with Client(peer), sites.client(), Client(peer) as speaker, sites.client() as client:
+            speaker.send(b"H 2\nE 2 0 2 I:9 R:1:7\n")
+            client.send(post("issue 1"))
+            before = processor_time(process)
+            time.sleep(0.3)
+            expect(processor_time(process) - before < 0.1, True, "it uses the processor")
+            expect(sites[1].ask("issue 5"), "number 1")
+            resource.prlimit(process, resource.RLIMIT_NOFILE, limits)
+            expect_served(client.read(), 200, b"number 2\n")
+            wait_for("site 1 heard site 2", sees(sites[1], 2, applied=2))
+
+
+def processor_time(process):
+    """In seconds."""
+    with open(f"/proc/{process}/stat") as stat:
+        return sum(map(int, stat.read().rsplit(")", 1)[1].split()[11:13])) / os.sysconf("SC_CLK_TCK")
+
+
 # ---- the end
 
 
@@ -474,6 +510,22 @@ def the_end_with_clients_that_never_end():
         expect(sites[1].end(), 0)
         if time.monotonic() - start > 3.5:
             raise AssertionError(f"the end took {time.monotonic() - start:.1f} seconds")
+
+
+def a_site_at_rest_ends_at_once():
+    """Nothing waits for clients that have no request, nor for peers that have got all lines. A busy machine may be slow,
+    but not each time."""
+    seconds = []
+    for _ in range(5):
+        with WebCluster(2) as sites, sites.client() as idle:
+            expect(idle.command("issue 5", "tick 1")[0], 200)
+            wait_for("site 2 applied it", sees(sites[2], 1, applied=1))
+            begun = time.monotonic()
+            sites.end()
+            seconds.append(time.monotonic() - begun)
+        if seconds[-1] < 0.7:
+            return
+    raise AssertionError(f"each end took longer: {seconds}")
 
 
 def the_report_adds_up():
@@ -536,8 +588,8 @@ def command_at(address, *commands):
 TESTS = [
     wait_that_is_answered_at_once, wait_that_is_served_by_a_tick, wait_that_expires, waits_that_fill_the_queue,
     waits_whose_clients_have_gone, waits_at_the_end, the_form_of_metrics, metrics_are_the_status,
-    lines_of_a_peer_are_counted, what_is_said_of_a_peer, nothing_is_said_unless_asked_for, a_peer_that_is_started_anew,
+    lines_of_a_peer_are_counted, lines_for_a_dead_peer_are_dropped, what_is_said_of_a_peer, nothing_is_said_unless_asked_for, a_peer_that_is_started_anew,
     entries_that_no_peer_was_sent, addresses_of_peers_that_cannot_be_resolved, a_site_is_started_once, addresses_that_cannot_be_listened_on, words_that_are_refused, a_site_without_http,
-    a_site_that_ticks_by_itself, requests_that_have_begun_are_answered, the_end_with_clients_that_never_end,
-    the_report_adds_up, a_service_that_is_stopped,
+    a_site_that_ticks_by_itself, a_site_that_gets_no_handles, requests_that_have_begun_are_answered, the_end_with_clients_that_never_end,
+    a_site_at_rest_ends_at_once, the_report_adds_up, a_service_that_is_stopped,
 ]
