@@ -602,6 +602,25 @@ def threads_share_a_client():
         expect(faults, [])
 
 
+def idle_sites_take_no_processor_time():
+    """Nor right after a site caught up, when threads polled for the next line."""
+    with Sites(2, started=[1]) as sites:
+        sites[1].ask_all(["issue 5000", *["spend 1 0"] * 4999])
+        sites[1].ask("tick 1")
+        sites.start(2)
+        wait_for("site 2 caught up", lambda: sites[1].ask("tick 1") and sees(sites[2], 1, applied=5000)())
+        used = [-processor_seconds(sites[number]) for number in (1, 2)]
+        time.sleep(1)
+        used = [before + processor_seconds(sites[number]) for before, number in zip(used, (1, 2))]
+        expect(max(used) <= 0.05, True, f"seconds of processor time in a second: {used}")
+
+
+def processor_seconds(site):
+    with open(f"/proc/{site.process.pid}/stat") as file:
+        words = file.read().rpartition(")")[2].split()
+    return (int(words[11]) + int(words[12])) / os.sysconf("SC_CLK_TCK")
+
+
 CASES = [case("Loopback", [
     a_batch_travels,
     an_ask_is_granted_and_served,
@@ -638,4 +657,5 @@ CASES = [case("Loopback", [
     a_program_that_is_nowhere_is_said,
     one_command_a_line,
     threads_share_a_client,
+    idle_sites_take_no_processor_time,
 ])]

@@ -11,6 +11,7 @@ use circular_buffer::HeapCircularBuffer;
 use rights_types::OutOfMemory;
 use std::alloc::{Allocator, Global};
 use std::marker::Model;
+use std::sync::atomic::{AtomicBool, Ordering};
 use std::sync::{Condvar, CondvarTimeouts, Mutex, MutexGuard, Wait};
 use std::time::{Clock, Duration};
 
@@ -196,6 +197,8 @@ pub struct Outbox<A: Allocator = Global> {
     changed: Condvar,
     /// Notified when lines were taken.
     taken: Condvar,
+    /// Whether the thread that takes lines would not block, for a look without the lock. It may be out of date.
+    is_ready: AtomicBool,
 }
 
 /// The lines that wait in an outbox, under its lock, for putting more. When it is dropped, the thread that takes
@@ -203,6 +206,7 @@ pub struct Outbox<A: Allocator = Global> {
 pub struct OutboxLines<'a, A: Allocator = Global> {
     queue: MutexGuard<'a, Queue<A>>,
     changed: &'a Condvar,
+    is_ready: &'a AtomicBool,
 }
 
 impl<'a, A: Allocator> Model for OutboxLines<'a, A> {
@@ -225,8 +229,15 @@ impl<A: Allocator> OutboxLines<'_, A> {
 
 impl<A: Allocator> Drop for OutboxLines<'_, A> {
     fn drop(self) {
-        let Self { queue, changed } = self;
+        let Self {
+            queue,
+            changed,
+            is_ready,
+        } = self;
+        let is_idle = queue.is_idle();
         drop(queue);
+        // Without the lock: whoever sees this takes the lock next.
+        is_ready.store(!is_idle, Ordering::Release);
         changed.notify_one();
     }
 }
@@ -238,6 +249,7 @@ impl<A: Allocator> Outbox<A> {
             queue: Mutex::new(Queue::new(alloc)?),
             changed: Condvar::new(),
             taken: Condvar::new(),
+            is_ready: AtomicBool::new(false),
         })
     }
 
@@ -246,6 +258,7 @@ impl<A: Allocator> Outbox<A> {
         OutboxLines {
             queue: self.queue.lock(rt),
             changed: &self.changed,
+            is_ready: &self.is_ready,
         }
     }
 
@@ -274,6 +287,11 @@ impl<A: Allocator> Outbox<A> {
         !waited.timed_out()
     }
 
+    /// Whether a line waits or the outbox has ended, as seen without the lock: it may be out of date.
+    pub fn seems_ready(&self) -> bool {
+        self.is_ready.load(Ordering::Acquire)
+    }
+
     /// How many lines wait, 0 to `OUTBOX_LINES`.
     pub fn len<R: Wait>(&self, rt: &R) -> usize
         ensures { result ≤ OUTBOX_LINES }
@@ -284,6 +302,7 @@ impl<A: Allocator> Outbox<A> {
     /// Ends the outbox: it refuses every later line.
     pub fn end<R: Wait>(&self, rt: &R) {
         self.queue.lock(rt).end();
+        self.is_ready.store(true, Ordering::Release);
         self.changed.notify_all();
     }
 
@@ -293,6 +312,7 @@ impl<A: Allocator> Outbox<A> {
         queue.end();
         queue.clear();
         drop(queue);
+        self.is_ready.store(true, Ordering::Release);
         self.changed.notify_all();
         self.taken.notify_all();
     }
@@ -325,7 +345,10 @@ impl<A: Allocator> LineSource for &Outbox<A> {
     }
 
     fn take_front<R: Wait>(&mut self, rt: &R, count: usize) {
-        self.queue.lock(rt).take_front(rt, count);
+        let mut queue = self.queue.lock(rt);
+        queue.drop_front(count);
+        self.is_ready.store(!queue.is_idle(), Ordering::Release);
+        drop(queue);
         self.taken.notify_all();
     }
 }

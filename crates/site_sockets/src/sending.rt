@@ -1,17 +1,23 @@
 //! Sending the lines that wait in the outboxes to the peers.
 
 use crate::peer::PeerState;
+use crate::polling::Polling;
 use crate::site::{CONNECT_SECONDS, Site};
 use entry_codec::write_line;
 use line_streams::write_whole;
-use peer_links::{Batch, LineSource, write_link};
+use peer_links::{Batch, LineSource, Outbox, write_link};
 use rights_types::{Message, SiteId};
 use std::alloc::Global;
 use std::io::Eprint;
+use std::marker::Model;
 use std::net::{Net, TcpListener, TcpStream, ToSocketAddrs};
 use std::sync::{Condvar, CondvarTimeouts, Mutex, Wait};
+use std::thread;
 use std::thread::{Scope, Threads};
 use std::time::{Clock, Duration, Instant};
+
+/// How often a sending thread looks for a line before it sleeps, if it polls: for some 50 microseconds.
+const LOOKS: u32 = 150;
 
 /// How many sending threads are running.
 #[derive(Drop)]
@@ -51,6 +57,42 @@ impl Senders {
 #[derive(Drop)]
 struct Noted<'a> {
     peer: &'a PeerState,
+    polling: Polling,
+}
+
+impl<'a> Model for Noted<'a> {
+    ghost Value = { Unit {0} };
+
+    ghost view = { λ _. tt };
+}
+
+impl<'a> Noted<'a> {
+    fn new(peer: &'a PeerState) -> Noted<'a> {
+        Noted {
+            peer,
+            polling: Polling::new(),
+        }
+    }
+
+    /// Waits for a line that comes soon, unless this wait does not poll.
+    fn poll(&mut self) {
+        if self.peer.outbox.seems_ready() || !self.polling.is_due() {
+            return;
+        }
+        let found = look(&self.peer.outbox);
+        self.polling.note(found);
+    }
+}
+
+/// Looks for a line again and again. `false` if none came.
+fn look(outbox: &Outbox) -> bool {
+    for _ in 0..LOOKS {
+        if outbox.seems_ready() {
+            return true;
+        }
+        thread::yield_now();
+    }
+    false
 }
 
 impl LineSource for Noted<'_> {
@@ -66,6 +108,7 @@ impl LineSource for Noted<'_> {
     ghost is_over = { λ _. Unit {0} };
 
     fn next_batch<R: Wait>(&mut self, rt: &R, room: &mut [u8]) -> Batch<Global> {
+        self.poll();
         let batch = (&self.peer.outbox).next_batch(rt, room);
         if !matches!(batch, Batch::Over) {
             self.peer.events.writes();
@@ -124,7 +167,7 @@ fn send_by<R: Wait + AllocGlobal + Eprint>(
     peer.events.sends(rt);
     peer.events.writes();
     let is_sent = send_hello(rt.alloc(), site.id, &mut stream, line.as_slice())
-        && write_link(rt, &mut stream, &mut Noted { peer }).is_ok();
+        && write_link(rt, &mut stream, &mut Noted::new(peer)).is_ok();
     peer.sending.release(rt);
     if !is_sent {
         peer.events.sends_no_more(rt, "a write failed");
