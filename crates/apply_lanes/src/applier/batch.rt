@@ -1,5 +1,6 @@
 //! Several entries under one hold of the lock.
 ghost use Rattle.std.specs.Prelude.{◌≡◌, ℕ, true, false, None, Ok, IsSome, IfOk, IfErr, OnOk, IfSome, IfNone};
+ghost use Rattle.apply_lanes.specs.declared.applier.StepError.TheVariants.{LaneClosed as NothingCame};
 
 use crate::applier::{Applier, StepError};
 use crate::gate::{Free, Gate};
@@ -7,8 +8,8 @@ use crate::kept::Kept;
 use crate::names::DeskNames;
 use crate::shared_desk::SharedDesk;
 use std::alloc::Allocator;
-use std::hint;
 use std::sync::Wait;
+use std::{hint, thread};
 use thread_parts::Item;
 
 /// The greatest number of entries that are applied under one hold of the lock.
@@ -17,6 +18,10 @@ pub const MAX_BATCH: u64 = 256;
 // How often an applier pauses before it looks at its lane again, some microseconds in all: meanwhile the lane is the
 // reader's alone, and several entries come to wait there.
 const PAUSES: u32 = 64;
+
+// How often an applier looks at an empty lane before it sleeps, for some 50 microseconds in all: to wake it costs the
+// reader more than to put an entry.
+const LOOKS: u32 = 150;
 
 fn pause() {
     for _ in 0..PAUSES {
@@ -54,6 +59,25 @@ impl<D: DeskNames, G: Gate, A: Allocator> Applier<D, G, A> {
             }
             None => None,
         }
+    }
+
+    // As `fill`, but looks for an item for a while before it blocks.
+    fn fill_soon<R: Wait>(&mut self, rt: &R) -> Result<bool, StepError>
+        ensures ok { IfOk result (λ more. Fills self.old more self.new) }
+        ensures hand { IfOk result (λ more. more ≡ true → IsSome self.new.hand) }
+        ensures counted { IsCounted D.id self.new }
+        ensures same { (self.new.origin ≡ self.old.origin) × (self.new.outlet.lane ≡ self.old.outlet.lane) }
+        ensures err { IfErr result (λ fault. (fault ≡ NothingCame) × (self.old.hand ≡ None)
+            × (self.new ≡ record self.old { outlet = record self.old.outlet { dead = true } })) }
+        ensures ended { self.old.ended ≡ true → result ≡ Ok false }
+    {
+        'looks: for _ in 0..LOOKS {
+            if let Some(more) = self.fill_ready(rt) {
+                return Ok(more);
+            }
+            thread::yield_now();
+        }
+        self.fill(rt)
     }
 
     // Applies or drops the entry in hand, and then those that wait on the lane, at most `MAX_BATCH` in all, at the
@@ -101,7 +125,7 @@ impl<D: DeskNames, A: Allocator> Applier<D, Free, A> {
         ensures same { (self.new.origin ≡ self.old.origin) × (self.new.outlet.lane ≡ self.old.outlet.lane) }
         ensures err { IfErr result (λ fault. ReadyFails D.id self.old fault self.new) }
     {
-        if !self.fill(rt)? {
+        if !self.fill_soon(rt)? {
             return Ok((0, false));
         }
         let mut kept = desk.lock(rt);
