@@ -73,9 +73,9 @@ impl PeerState {
         self.lines(rt).put(line)
     }
 
-    /// Makes room in the outbox for the lines that are due, if the peer takes those that wait there: blocks until they
-    /// are sent, for `MAX_STALL` milliseconds at most. Does not block again until they are, nor while the peer cannot be
-    /// connected to. `due` returns how many lines are due, and is called only if some wait.
+    /// Makes room in the outbox for the lines that are due, if the peer takes those that wait there: blocks until these
+    /// are sent, for `MAX_STALL` milliseconds at most. Does not block again until they are, nor while the peer cannot
+    /// be connected to. `due` returns how many lines are due, and is called only if some wait.
     pub fn make_room<R: Wait + Clock, F: FnOnce() -> usize + Drop>(&self, rt: &R, due: F)
         requires { F.pre due }
     {

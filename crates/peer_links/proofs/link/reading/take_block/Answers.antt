@@ -148,7 +148,8 @@ returns-in_err-take_piece-clause-takes g c = λ stream h.
 
 pub returns-in_err-count_line-2-clause-takes : goal.returns-in_err-count_line-2-clause-takes
 returns-in_err-count_line-2-clause-takes g c = λ stream h.
-    let p = err_from_is_err_and c.from_residual-in_err-count_line-2.result c.from_residual-in_err-count_line-2.ensures.1 in
+    let p = err_from_is_err_and c.from_residual-in_err-count_line-2.result
+    c.from_residual-in_err-count_line-2.ensures.1 in
     let inv = c.pieces.invariant in
     let bytes = c.args.bytes.now in
     let piece = c.in_ok-take_piece.ensures in
