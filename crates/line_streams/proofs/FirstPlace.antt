@@ -1,5 +1,5 @@
 -- The first of the places that pass a test is the first place that passes it.
-use Rattle.std.proofs.Common.{◌≡◌, ℕ, zero, suc, ◌+◌, ◌-◌, ◌<◌, ◌≤◌, List, [], ◌∷◌, Option, Some, None, get_or, length}
+use Rattle.std.proofs.Common.{◌≡◌, ℕ, zero, suc, ◌+◌, ◌-◌, Bool, List, [], ◌∷◌, Option, Some, None, get_or, length}
 use Rattle.std.proofs.Common.{true, inl, inr, sym, ap, ◌∙◌, subst, arith}
 use Rattle.std.proofs.lemmas.Bool.{cases_Bool, cases_eq, cond-true, cond-false, false≢true}
 use Rattle.memchr.specs.Find.{IsFirstByte, Nowhere, NoneBefore, Passes, TakesFirst, places_from, places}
