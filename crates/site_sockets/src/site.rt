@@ -1,4 +1,5 @@
 //! What the threads of a site share, besides its desk.
+ghost use Rattle.std.specs.Prelude.{◌≡◌, IfSome};
 
 use crate::acceptor::WAITING;
 use crate::clients::{Clients, wake};
@@ -108,7 +109,9 @@ impl Site {
     }
 
     /// The peer with this number. `None` if it is not a peer.
-    pub fn peer(&self, site: SiteId) -> Option<&PeerState> {
+    pub fn peer(&self, site: SiteId) -> Option<&PeerState>
+        ensures { IfSome result (λ peer. peer.now.site ≡ site) }
+    {
         self.peers.iter().find(|peer| peer.site == site)
     }
 

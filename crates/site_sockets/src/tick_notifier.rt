@@ -1,4 +1,5 @@
 //! The ticks of a site, and the threads that wait for them.
+ghost use Rattle.std.specs.Prelude.{◌≢◌, IfSome};
 
 use std::sync::{Condvar, CondvarTimeouts, Mutex, Wait};
 use std::time::{Clock, Duration};
@@ -45,7 +46,9 @@ impl TickNotifier {
     }
 
     /// Waits until the number of ticks is not `seen`, and returns it. `None` at the end of the site.
-    pub fn next<R: Wait>(&self, rt: &R, seen: u64) -> Option<u64> {
+    pub fn next<R: Wait>(&self, rt: &R, seen: u64) -> Option<u64>
+        ensures { IfSome result (λ ticks. ticks ≢ seen) }
+    {
         let state = self.ticked.wait_while(rt, self.state.lock(rt), |state| {
             state.ticks == seen && !state.has_ended
         });
