@@ -10,16 +10,18 @@ use std::process::Abort;
 use std::test::Fail;
 use test_kit::{issue, site};
 
-// Passes the command of a line to the sites, which must have the reply behind ` > `.
+// Passes the command of each line to the sites, which must have the reply behind ` > `.
 fn says(
     rt: &(impl Abort + AllocGlobal),
     sites: &mut Sites,
-    line: Result<String, AllocError>,
+    lines: Result<String, AllocError>,
 ) -> Result<(), AllocError> {
-    let line = line?;
-    let (command, expected) = line.split_once(" > ").unwrap_or((line.as_str(), ""));
-    let reply = sites.say(rt, command)?;
-    assert!(rt; reply.as_str() == expected, "{command}: {reply}");
+    let lines = lines?;
+    for line in lines.lines() {
+        let (command, expected) = line.split_once(" > ").unwrap_or((line, ""));
+        let reply = sites.say(rt, command)?;
+        assert!(rt; reply.as_str() == expected, "{command}: {reply}");
+    }
     Ok(())
 }
 
@@ -39,27 +41,22 @@ fn publish_both(
     sites: &mut Sites,
     peer: u64,
 ) -> Result<(), AllocError> {
-    let alloc = rt.alloc();
-    let issues = format!(in alloc; "publish 15 {peer} > E 15 0 16{GREATEST_ISSUES}");
-    says(rt, sites, issues)?;
-    let gifts = format!(in alloc; "publish 15 {peer} > E 15 16 32{GREATEST_GIFTS}");
-    says(rt, sites, gifts)?;
-    says(rt, sites, format!(in alloc; "publish 15 {peer} > nothing"))
+    let lines = format!(in rt.alloc();
+        "\
+publish 15 {peer} > E 15 0 16{GREATEST_ISSUES}
+publish 15 {peer} > E 15 16 32{GREATEST_GIFTS}
+publish 15 {peer} > nothing"
+    );
+    says(rt, sites, lines)
 }
 
 // Site 15 posts 16 greatest issues and 16 greatest gifts, and publishes them to each other site.
 fn publish_greatest(rt: &(impl Abort + AllocGlobal), sites: &mut Sites) -> Result<(), AllocError> {
     let alloc = rt.alloc();
-    says(
-        rt,
-        sites,
-        format!(in alloc; "post 15{GREATEST_ISSUES} > number 16"),
-    )?;
-    says(
-        rt,
-        sites,
-        format!(in alloc; "post 15{GREATEST_GIFTS} > number 32"),
-    )?;
+    let posts = format!(in alloc;
+        "post 15{GREATEST_ISSUES} > number 16\npost 15{GREATEST_GIFTS} > number 32"
+    );
+    says(rt, sites, posts)?;
     for peer in 1..=16u64 {
         if peer != 15 {
             publish_both(rt, sites, peer)?;
@@ -151,20 +148,14 @@ fn publish_round(
     me: u64,
     peer: u64,
 ) -> Result<(), AllocError> {
-    let alloc = rt.alloc();
-    says(
-        rt,
-        sites,
-        format!(in alloc; "publish {me} {peer} > E {me} 0 1 I:5"),
-    )?;
-    let answer = format!(in alloc; "hear {me} Q {peer} {me} 1 1 > A {me} {peer};E {me} 0 1 I:5");
-    says(rt, sites, answer)?;
-    says(rt, sites, format!(in alloc; "beat {me} {peer} > B {me} 1"))?;
-    says(
-        rt,
-        sites,
-        format!(in alloc; "hear {peer} E {me} 0 1 I:5 > taken 1"),
-    )
+    let lines = format!(in rt.alloc();
+        "\
+publish {me} {peer} > E {me} 0 1 I:5
+hear {me} Q {peer} {me} 1 1 > A {me} {peer};E {me} 0 1 I:5
+beat {me} {peer} > B {me} 1
+hear {peer} E {me} 0 1 I:5 > taken 1"
+    );
+    says(rt, sites, lines)
 }
 
 // Each site of a system issues 5, and reports it to each other site.
@@ -190,16 +181,13 @@ fn wait_for_all(
     sites: &mut Sites,
     count: u64,
 ) -> Result<(), AllocError> {
-    let alloc = rt.alloc();
     let all = count.saturating_mul(5);
     let asks = count.saturating_sub(1);
     for me in 1..=count {
-        says(
-            rt,
-            sites,
-            format!(in alloc; "spend {me} {all} 9 > queued 1"),
-        )?;
-        says(rt, sites, format!(in alloc; "plan {me} > asks {asks}"))?;
+        let lines = format!(in rt.alloc();
+            "spend {me} {all} 9 > queued 1\nplan {me} > asks {asks}"
+        );
+        says(rt, sites, lines)?;
     }
     Ok(())
 }
@@ -211,20 +199,14 @@ fn ask_in_vain(
     me: u64,
     peer: u64,
 ) -> Result<(), AllocError> {
-    let alloc = rt.alloc();
-    says(
-        rt,
-        sites,
-        format!(in alloc; "ask {me} {peer} > W {me} {peer} 1 5"),
-    )?;
-    let denied = format!(in alloc; "hear {peer} W {me} {peer} 1 5 > denied D {peer} {me} 1");
-    says(rt, sites, denied)?;
-    says(
-        rt,
-        sites,
-        format!(in alloc; "hear {me} D {peer} {me} 1 > noted"),
-    )?;
-    says(rt, sites, format!(in alloc; "ask {me} {peer} > nothing"))
+    let lines = format!(in rt.alloc();
+        "\
+ask {me} {peer} > W {me} {peer} 1 5
+hear {peer} W {me} {peer} 1 5 > denied D {peer} {me} 1
+hear {me} D {peer} {me} 1 > noted
+ask {me} {peer} > nothing"
+    );
+    says(rt, sites, lines)
 }
 
 // Each site waits for all rights of all others, and asks for them. No site has any to spare.
@@ -262,26 +244,17 @@ fn serves_a_request(
     sites: &mut Sites,
     ticket: u64,
 ) -> Result<(), AllocError> {
-    let alloc = rt.alloc();
     let issued = ticket.saturating_mul(2).saturating_sub(1);
     let spent = ticket.saturating_mul(2);
-    says(
-        rt,
-        sites,
-        format!(in alloc; "spend 1 3 9 > queued {ticket}"),
-    )?;
-    says(rt, sites, format!(in alloc; "status 1 {ticket} > waiting"))?;
-    says(rt, sites, format!(in alloc; "issue 1 3 > number {issued}"))?;
-    says(
-        rt,
-        sites,
-        format!(in alloc; "serve 1 > served {ticket} {spent}"),
-    )?;
-    says(
-        rt,
-        sites,
-        format!(in alloc; "status 1 {ticket} > spent {spent}"),
-    )
+    let lines = format!(in rt.alloc();
+        "\
+spend 1 3 9 > queued {ticket}
+status 1 {ticket} > waiting
+issue 1 3 > number {issued}
+serve 1 > served {ticket} {spent}
+status 1 {ticket} > spent {spent}"
+    );
+    says(rt, sites, lines)
 }
 
 /// Tickets continue beyond the number of slots, and each outcome is reported.
@@ -301,16 +274,12 @@ fn spends_behind(
     sites: &mut Sites,
     unread: u64,
 ) -> Result<(), AllocError> {
-    let alloc = rt.alloc();
     let spent = unread.saturating_add(2);
     let ticket = unread.saturating_add(1);
-    says(rt, sites, format!(in alloc; "spend 1 1 0 > spent {spent}"))?;
-    says(
-        rt,
-        sites,
-        format!(in alloc; "spend 1 99 0 > queued {ticket}"),
-    )?;
-    says(rt, sites, String::from_str(alloc, "expire 1 1 > expired 1"))
+    let lines = format!(in rt.alloc();
+        "spend 1 1 0 > spent {spent}\nspend 1 99 0 > queued {ticket}\nexpire 1 1 > expired 1"
+    );
+    says(rt, sites, lines)
 }
 
 // With all slots taken by unread outcomes, a spend waits once one of them is read.
@@ -318,19 +287,12 @@ fn spends_without_a_slot(
     rt: &(impl Abort + AllocGlobal),
     sites: &mut Sites,
 ) -> Result<(), AllocError> {
-    let alloc = rt.alloc();
-    says(rt, sites, String::from_str(alloc, "spend 1 1 0 > spent 34"))?;
-    says(
-        rt,
-        sites,
-        String::from_str(alloc, "spend 1 99 0 > error QueueFull"),
-    )?;
-    says(rt, sites, String::from_str(alloc, "status 1 20 > expired"))?;
-    says(
-        rt,
-        sites,
-        String::from_str(alloc, "spend 1 99 0 > queued 33"),
-    )
+    let lines = "\
+spend 1 1 0 > spent 34
+spend 1 99 0 > error QueueFull
+status 1 20 > expired
+spend 1 99 0 > queued 33";
+    says(rt, sites, String::from_str(rt.alloc(), lines))
 }
 
 /// Unread outcomes take slots from spends that wait, but not from spends that are served at once.
