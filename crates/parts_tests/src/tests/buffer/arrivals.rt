@@ -1,5 +1,5 @@
 //! Entries that arrive, each with all entries that it frees.
-use crate::tests::buffer::steps::{Step, first_wrong};
+use crate::tests::buffer::steps::{Step, goes};
 use std::test::Fail;
 
 /// Windows that arrive backwards, each entry three times: each is delivered once, in order.
@@ -23,59 +23,52 @@ fn windows_backwards(rt: HostRuntime) -> Result<(), Fail> {
         told: 192,
         held: 0,
     })?;
-    let wrong = first_wrong(rt.alloc(), &steps).expect(&rt, "memory");
-    assert_eq!(rt; wrong, None);
+    goes(&rt, &steps);
     Ok(())
 }
+
+const MOST_VERDICTS_ON_AN_ANSWER: [Step; 6] = [
+    Step::OfferEach(1, 64, "held"),
+    Step::Arrive(65, 1, "full", 0),
+    Step::Answer(
+        &[
+            0, 79, 78, 77, 76, 75, 74, 73, 72, 71, 70, 69, 68, 67, 66, 65,
+        ],
+        94,
+    ),
+    Step::Numbers {
+        last: 80,
+        told: 80,
+        held: 0,
+    },
+    Step::Answer(&[80], 1),
+    Step::Answer(&[], 0),
+];
 
 /// The most verdicts on 16 entries: 64 entries were held before, and 14 of the 16 are held and freed too.
 #[test]
 fn most_verdicts_on_an_answer(rt: HostRuntime) {
-    let wrong = first_wrong(
-        rt.alloc(),
-        &[
-            Step::OfferEach(1, 64, "held"),
-            Step::Arrive(65, 1, "full", 0),
-            Step::Answer(
-                &[
-                    0, 79, 78, 77, 76, 75, 74, 73, 72, 71, 70, 69, 68, 67, 66, 65,
-                ],
-                94,
-            ),
-            Step::Numbers {
-                last: 80,
-                told: 80,
-                held: 0,
-            },
-            Step::Answer(&[80], 1),
-            Step::Answer(&[], 0),
-        ],
-    )
-    .expect(&rt, "memory");
-    assert_eq!(rt; wrong, None);
+    goes(&rt, &MOST_VERDICTS_ON_AN_ANSWER);
 }
+
+const LYING_ORIGIN_ARRIVES: [Step; 9] = [
+    Step::Arrive(2, 1, "held", 0),
+    Step::Arrive(5, 2, "held", 0),
+    Step::Arrive(5, 1, "repeat", 0),
+    Step::Arrive(3, 1, "held", 0),
+    Step::Arrive(0, 2, "ready", 2),
+    Step::Arrive(1, 1, "repeat", 0),
+    Step::OfferClosing(4, "ready"),
+    Step::Arrive(5, 1, "after close", 0),
+    Step::Numbers {
+        last: 5,
+        told: 7,
+        held: 1,
+    },
+];
 
 /// Entries of no common chain, a closing entry, and what arrives after it.
 #[test]
 fn lying_origin_arrives(rt: HostRuntime) {
-    let wrong = first_wrong(
-        rt.alloc(),
-        &[
-            Step::Arrive(2, 1, "held", 0),
-            Step::Arrive(5, 2, "held", 0),
-            Step::Arrive(5, 1, "repeat", 0),
-            Step::Arrive(3, 1, "held", 0),
-            Step::Arrive(0, 2, "ready", 2),
-            Step::Arrive(1, 1, "repeat", 0),
-            Step::OfferClosing(4, "ready"),
-            Step::Arrive(5, 1, "after close", 0),
-            Step::Numbers {
-                last: 5,
-                told: 7,
-                held: 1,
-            },
-        ],
-    )
-    .expect(&rt, "memory");
-    assert_eq!(rt; wrong, None);
+    goes(&rt, &LYING_ORIGIN_ARRIVES);
 }

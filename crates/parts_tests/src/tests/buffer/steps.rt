@@ -4,7 +4,8 @@ ghost use Rattle.std.specs.List.{All};
 ghost use Rattle.rights_types.specs.Entries.{EntryValue};
 
 use rights_types::{Entry, MAX_ANSWER, MAX_MOVES, MAX_NUMBER, Move, OutOfMemory, Query, SiteId};
-use std::alloc::Allocator;
+use std::alloc::{AllocGlobal, Allocator};
+use std::process::Abort;
 use sub_buffer::{BufferError, MAX_VERDICTS, State, SubBuffer, Verdict};
 use test_kit::{close, issue};
 
@@ -32,6 +33,12 @@ pub(crate) enum Step {
     WantAgain(Option<(u64, u64)>),
     Numbers { last: u64, told: u64, held: usize },
     Is(State),
+}
+
+/// Every step has the expected result.
+pub(crate) fn goes(rt: &(impl Abort + AllocGlobal), steps: &[Step]) {
+    let wrong = first_wrong(rt.alloc(), steps).expect(rt, "memory");
+    assert_eq!(rt; wrong, None);
 }
 
 /// The first step with another result than expected, if there is one.

@@ -8,33 +8,28 @@ use std::alloc::Global;
 use std::test::Fail;
 use test_kit::{close, close_at, entry, give, issue, take_back};
 
+// Numbers at the limits 1 and `most` and just beyond them, and whether they fit.
+fn at_limits(most: u64) -> [(u64, bool); 4] {
+    [
+        (0, false),
+        (1, true),
+        (most, true),
+        (most.saturating_add(1), false),
+    ]
+}
+
 #[test]
 fn numbers_in_their_ranges(rt: HostRuntime) {
-    for (number, fits) in [
-        (0, false),
-        (1, true),
-        (MAX_SITES, true),
-        (MAX_SITES + 1, false),
-    ] {
+    for (number, fits) in at_limits(MAX_SITES) {
         assert!(rt; SiteId::new(number).is_ok() == fits, "site {number}");
     }
-    for (number, fits) in [
-        (0, false),
-        (1, true),
-        (MAX_AMOUNT, true),
-        (MAX_AMOUNT + 1, false),
-    ] {
+    for (number, fits) in at_limits(MAX_AMOUNT) {
         assert!(rt; Amount::new(number).is_ok() == fits, "amount {number}");
     }
-    for (number, fits) in [(0, false), (1, true), (MAX_ASK, true), (MAX_ASK + 1, false)] {
+    for (number, fits) in at_limits(MAX_ASK) {
         assert!(rt; AskNumber::new(number).is_ok() == fits, "ask {number}");
     }
-    for (number, fits) in [
-        (0, false),
-        (1, true),
-        (MAX_TOTAL, true),
-        (MAX_TOTAL + 1, false),
-    ] {
+    for (number, fits) in at_limits(MAX_TOTAL) {
         assert!(rt; Total::new(number).is_ok() == fits, "total {number}");
     }
 }
@@ -134,17 +129,19 @@ fn refused_answer(
     Ok(Answer::new(SiteId::new(1)?, SiteId::new(asker)?, entries).err())
 }
 
+const ANSWERS: [(u64, u64, usize, Option<TypeError>); 5] = [
+    (1, 2, 17, Some(TypeError::BadSite)),
+    (1, 1, 17, Some(TypeError::BadCount)),
+    (1, 1, 1, Some(TypeError::SameSite)),
+    (2, 1, 0, None),
+    (2, 1, MAX_ANSWER, None),
+];
+
 /// The causes in their order.
 #[test]
 fn answers(rt: HostRuntime) -> Result<(), Fail> {
     let alloc = rt.alloc();
-    for (asker, origin, count, expected) in [
-        (1, 2, 17, Some(TypeError::BadSite)),
-        (1, 1, 17, Some(TypeError::BadCount)),
-        (1, 1, 1, Some(TypeError::SameSite)),
-        (2, 1, 0, None),
-        (2, 1, MAX_ANSWER, None),
-    ] {
+    for (asker, origin, count, expected) in ANSWERS {
         assert!(rt;
             refused_answer(alloc, asker, origin, count)? == expected,
             "{count} entries"
