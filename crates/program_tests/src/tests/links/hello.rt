@@ -55,18 +55,20 @@ pub(crate) fn left_without_hello(alloc: Global, text: &[u8], step: usize) -> Opt
     }
 }
 
+const OTHER_FIRST_LINES: [(&str, usize); 8] = [
+    ("B 1 5\nH 1\n", 4),
+    ("H 17\n", 0),
+    ("H 0\nx", 1),
+    ("H 1 \n", 0),
+    ("\nH 1\n", 4),
+    ("H 1", 0),
+    ("", 0),
+    ("E 1 0 1 I:5\nH 1\n", 4),
+];
+
 #[test]
 fn other_first_lines(rt: HostRuntime) {
-    for (text, left) in [
-        ("B 1 5\nH 1\n", 4),
-        ("H 17\n", 0),
-        ("H 0\nx", 1),
-        ("H 1 \n", 0),
-        ("\nH 1\n", 4),
-        ("H 1", 0),
-        ("", 0),
-        ("E 1 0 1 I:5\nH 1\n", 4),
-    ] {
+    for (text, left) in OTHER_FIRST_LINES {
         let found = left_without_hello(rt.alloc(), text.as_bytes(), 1);
         assert_eq!(rt; found, Some(left), "at {text:?}");
     }

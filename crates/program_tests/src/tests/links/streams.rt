@@ -5,6 +5,7 @@ use std::alloc::{Allocator, Global};
 use std::io;
 use std::io::{ErrorKind, Read, Write};
 use std::sync::Wait;
+use test_kit::Slow;
 
 /// A writer that accepts this number of bytes in all, and then fails.
 #[derive(Drop)]
@@ -36,10 +37,8 @@ impl<A: Allocator> Write for Torn<A> {
 /// A writer that is interrupted before each write that takes bytes, and counts these writes.
 #[derive(Drop)]
 pub(crate) struct Counting<A: Allocator> {
-    /// What was written.
-    pub(crate) text: Vec<u8, A>,
-    /// The greatest number of bytes of one write.
-    pub(crate) step: usize,
+    /// Where the bytes go.
+    pub(crate) writer: Slow<A>,
     /// How many writes took bytes.
     pub(crate) writes: u64,
     pub(crate) interrupted: bool,
@@ -53,11 +52,7 @@ impl<A: Allocator> Write for Counting<A> {
         }
         self.interrupted = false;
         self.writes = self.writes.wrapping_add(1);
-        let count = buf.len().min(self.step);
-        if self.text.extend_from_slice(&buf[..count]).is_err() {
-            return Err(io::Error::from(ErrorKind::OutOfMemory));
-        }
-        Ok(count)
+        self.writer.write(buf)
     }
 
     fn flush(&mut self) -> io::Result<()> {

@@ -50,15 +50,17 @@ fn writes_of<R: Wait>(
     step: usize,
     text: &[u8],
 ) -> Option<u64> {
-    let mut writer = Counting {
-        text: Vec::new(alloc),
-        step,
+    let mut counting = Counting {
+        writer: Slow {
+            text: Vec::new(alloc),
+            step,
+        },
         writes: 0,
         interrupted: false,
     };
-    let written = write_link(rt, &mut writer, &mut &*outbox);
-    if written.is_ok() && writer.text.as_slice() == text {
-        Some(writer.writes)
+    let written = write_link(rt, &mut counting, &mut &*outbox);
+    if written.is_ok() && counting.writer.text.as_slice() == text {
+        Some(counting.writes)
     } else {
         None
     }
