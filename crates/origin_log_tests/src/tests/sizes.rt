@@ -221,25 +221,8 @@ fn answer_text<A: Allocator + Copy>(
     Ok(text)
 }
 
-// What a call returns. If its memory was refused it says so, and it is called again.
-fn tried<A: Allocator + Copy, X: Drop, F: Fn() -> Result<X, ReadError>>(
-    memory: &Refusing<A>,
-    call: F,
-) -> Option<X>
-    requires { F.IsAlwaysCallable call }
-{
-    let refused = memory.refused();
-    let first = call();
-    if memory.refused() == refused {
-        return first.ok();
-    }
-    match first {
-        Err(ReadError::OutOfMemory) => call().ok(),
-        _ => None,
-    }
-}
-
-// Whether the log answers with this number of entries from an index on.
+// Whether the log answers with this number of entries from an index on. If it lacks memory it says so, and
+// answers when it is queried again.
 fn answers<A: Allocator + Copy>(
     rt: &impl AllocGlobal,
     log: &OriginLog<&Refusing<A>>,
@@ -250,9 +233,19 @@ fn answers<A: Allocator + Copy>(
     let Ok(query) = query_for(index, count) else {
         return false;
     };
-    match tried(memory, || log.answer(&query)) {
-        Some(entries) => are_entries(rt, &entries, index, count),
-        None => false,
+    let refused = memory.refused();
+    let first = log.answer(&query);
+    let found = if memory.refused() == refused {
+        first
+    } else {
+        match first {
+            Err(ReadError::OutOfMemory) => log.answer(&query),
+            _ => return false,
+        }
+    };
+    match found {
+        Ok(entries) => are_entries(rt, &entries, index, count),
+        Err(_) => false,
     }
 }
 
@@ -270,9 +263,19 @@ fn answers_with_line<A: Allocator + Copy>(
     ) else {
         return false;
     };
-    match tried(memory, || log.answer_line(&query)) {
-        Some(text) => text.as_slice() == wanted.as_slice(),
-        None => false,
+    let refused = memory.refused();
+    let first = log.answer_line(&query);
+    let line = if memory.refused() == refused {
+        first
+    } else {
+        match first {
+            Err(ReadError::OutOfMemory) => log.answer_line(&query),
+            _ => return false,
+        }
+    };
+    match line {
+        Ok(text) => text.as_slice() == wanted.as_slice(),
+        Err(_) => false,
     }
 }
 
