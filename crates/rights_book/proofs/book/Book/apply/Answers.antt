@@ -10,9 +10,8 @@ use Rattle.rights_book.proofs.book.Book.apply.Goals as goal
 
 pub add_gifts-requires-clause-fits : goal.add_gifts-requires-clause-fits
 add_gifts-requires-clause-fits g c =
-    let x : BookValue = record { me = c.self.inside.me; own = c.self.inside.own; peers = c.self.inside.peers.items } in
     rw c.deref_mut.ensures.value
-    (λ j low high. omega (arith, c.self.invariant.gifts_within j, (bounded x c.self.invariant).applies))
+    (λ j low high. omega (arith, c.self.invariant.gifts_within j, (bounded _ c.self.invariant).applies))
 
 pub invariant_of-self : goal.invariant_of-self
 invariant_of-self g c =
