@@ -18,7 +18,8 @@ returns-in_default-clause-table g c =
 
 pub returns-then-len-eq-MAX_HELD-clause-table : goal.returns-then-len-eq-MAX_HELD-clause-table
 returns-then-len-eq-MAX_HELD-clause-table g c =
-    let ahead : IsAhead c.args.self.now c.args.entry = subst (λ (v : BufferValue). IsAhead v c.args.entry) c.self.view_is
+    let ahead : IsAhead c.args.self.now c.args.entry =
+    subst (λ (v : BufferValue). IsAhead v c.args.entry) c.self.view_is
     (is_ahead _ _ _ c.in-Some.place c.prev-prev.ensures.value (omega arith) c.if-self.false c.in-Some.ensures) in
     let same : length c.self-2.inside.held.items ≡ length c.args.self.now.held
     = ap (λ (v : BufferValue). length v.held) (c.self-2.view_is ∙ c.hear-2.ensures) in (
@@ -29,7 +30,8 @@ returns-then-len-eq-MAX_HELD-clause-table g c =
 
 pub returns-clause-table : goal.returns-clause-table
 returns-clause-table g c =
-    let ahead : IsAhead c.args.self.now c.args.entry = subst (λ (v : BufferValue). IsAhead v c.args.entry) c.self.view_is
+    let ahead : IsAhead c.args.self.now c.args.entry =
+    subst (λ (v : BufferValue). IsAhead v c.args.entry) c.self.view_is
     (is_ahead _ _ _ c.in-Some.place c.prev-prev.ensures.value (omega arith) c.if-self.false c.in-Some.ensures) in
     let same : length c.self-2.inside.held.items ≡ length c.args.self.now.held
     = ap (λ (v : BufferValue). length v.held) (c.self-2.view_is ∙ c.hear-2.ensures) in (
