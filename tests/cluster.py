@@ -101,6 +101,12 @@ class Proxy(proxies.Proxy):
         return not self.drops(line)
 
 
+def processor_seconds(site):
+    """The processor time that a site has used."""
+    with open(f"/proc/{site.process.pid}/stat") as stat:
+        return sum(map(int, stat.read().rpartition(")")[2].split()[11:13])) / os.sysconf("SC_CLK_TCK")
+
+
 def sees(site, peer, **values):
     """Whether the site's status says these values, of a peer where one is named."""
 

@@ -11,7 +11,7 @@ import time
 from contextlib import ExitStack, suppress
 
 from cases import case
-from cluster import PROGRAM, Cluster, Proxy, Site, SiteEnded, at, expect, free_ports, sees, wait_for
+from cluster import PROGRAM, Cluster, Proxy, Site, SiteEnded, at, expect, free_ports, processor_seconds, sees, wait_for
 from site_driver import Peer
 
 import rights_site
@@ -685,12 +685,6 @@ def idle_sites_take_no_processor_time():
         time.sleep(1)
         used = [before + processor_seconds(sites[number]) for before, number in zip(used, (1, 2))]
         expect(max(used) <= 0.05, True, f"seconds of processor time in a second: {used}")
-
-
-def processor_seconds(site):
-    with open(f"/proc/{site.process.pid}/stat") as file:
-        words = file.read().rpartition(")")[2].split()
-    return (int(words[11]) + int(words[12])) / os.sysconf("SC_CLK_TCK")
 
 
 CASES = [case("Loopback", [

@@ -10,7 +10,7 @@ import tempfile
 import time
 from contextlib import ExitStack, suppress
 
-from cluster import TOP, Cluster, at, expect, free_ports, sees, wait_for
+from cluster import TOP, Cluster, at, expect, free_ports, processor_seconds, sees, wait_for
 from web_driver import Client, WebCluster, alone, expect_served, post, request, samples, seats
 
 from rights_http import in_seconds
@@ -462,19 +462,13 @@ def a_site_that_gets_no_handles():
         with Client(peer), sites.client(), Client(peer) as speaker, sites.client() as client:
             speaker.send(b"H 2\nE 2 0 2 I:9 R:1:7\n")
             client.send(post("issue 1"))
-            before = processor_time(process)
+            before = processor_seconds(sites[1])
             time.sleep(0.3)
-            expect(processor_time(process) - before < 0.1, True, "it uses the processor")
+            expect(processor_seconds(sites[1]) - before < 0.1, True, "it uses the processor")
             expect(sites[1].ask("issue 5"), "number 1")
             resource.prlimit(process, resource.RLIMIT_NOFILE, limits)
             expect_served(client.read(), 200, b"number 2\n")
             wait_for("site 1 heard site 2", sees(sites[1], 2, applied=2))
-
-
-def processor_time(process):
-    """In seconds."""
-    with open(f"/proc/{process}/stat") as stat:
-        return sum(map(int, stat.read().rsplit(")", 1)[1].split()[11:13])) / os.sysconf("SC_CLK_TCK")
 
 
 # ---- the end
