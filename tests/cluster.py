@@ -1,6 +1,8 @@
 """Sites as processes on loopback, for those who drive them."""
 
 import os
+import socket
+import struct
 import sys
 import time
 
@@ -99,6 +101,11 @@ class Proxy(proxies.Proxy):
     def passes(self, line):
         self.lines.append(line)
         return not self.drops(line)
+
+
+def reset_at_its_end(stream):
+    """From now on, to close it is to reset it."""
+    stream.setsockopt(socket.SOL_SOCKET, socket.SO_LINGER, struct.pack("ii", 1, 0))
 
 
 def processor_seconds(site):

@@ -4,14 +4,14 @@ ends by itself, and says what it expected where it fails."""
 import os
 import select
 import socket
-import struct
 import subprocess
 import threading
 import time
 from contextlib import ExitStack, suppress
 
 from cases import case
-from cluster import PROGRAM, Cluster, Proxy, Site, SiteEnded, at, expect, free_ports, processor_seconds, sees, wait_for
+from cluster import PROGRAM, Cluster, Proxy, Site, SiteEnded, at, expect, free_ports, processor_seconds, reset_at_its_end
+from cluster import sees, wait_for
 from site_driver import Peer
 
 import rights_site
@@ -210,11 +210,6 @@ def an_unfinished_last_line_is_a_command():
 def site_words():
     own, other = free_ports(2)
     return [PROGRAM, "run", "--id", "1", "--sites", "2", "--listen", at(own), f"2={at(other)}"]
-
-
-def reset_at_its_end(stream):
-    """From now on, to close it is to reset it."""
-    stream.setsockopt(socket.SOL_SOCKET, socket.SO_LINGER, struct.pack("ii", 1, 0))
 
 
 def stream_that_is_reset(text):

@@ -2,12 +2,11 @@
 
 import re
 import socket
-import struct
 import threading
 from collections import namedtuple
 from contextlib import suppress
 
-from cluster import Cluster, at, expect, free_ports, wait_for
+from cluster import Cluster, at, expect, free_ports, reset_at_its_end, wait_for
 
 # What is waited for comes within so many seconds, or never.
 PATIENCE = 20
@@ -101,7 +100,7 @@ class Client:
     def reset(self):
         """Ends the connection in the way of a machine that goes."""
         with suppress(OSError):
-            self.stream.setsockopt(socket.SOL_SOCKET, socket.SO_LINGER, struct.pack("ii", 1, 0))
+            reset_at_its_end(self.stream)
         self.stream.close()
 
     def __enter__(self):
