@@ -7,4 +7,4 @@ pub mod CarryLaws
 pub mod LineLaws
 pub mod FeedLaws
 pub mod RunLaws
-pub mod FirstPlace
+pub mod NearBytes
