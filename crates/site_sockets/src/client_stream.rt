@@ -3,22 +3,18 @@
 ghost use Rattle.std.specs.Prelude.{◌≤◌, length, IfOk, IfSome};
 
 use crate::connection_pool::ConnectionPool;
-use crate::polling::Polling;
+use crate::polled_stream::PolledStream;
 use line_streams::{read_some, write_some};
+use std::io;
 use std::io::{ErrorKind, Read, Write};
 use std::net::TcpStream;
-use std::{io, thread};
-
-/// How often a read looks for input before it sleeps, if it polls: for some 50 microseconds.
-const LOOKS: u32 = 100;
 
 /// The reading end of a client's stream.
 #[derive(Drop)]
 pub struct ClientReader<'a> {
     pool: &'a ConnectionPool,
-    stream: &'a TcpStream,
+    stream: PolledStream<'a>,
     place: usize,
-    polling: Polling,
 }
 
 impl<'a> ClientReader<'a> {
@@ -29,9 +25,8 @@ impl<'a> ClientReader<'a> {
     ) -> ClientReader<'a> {
         ClientReader {
             pool,
-            stream,
+            stream: PolledStream::new(stream),
             place,
-            polling: Polling::new(),
         }
     }
 
@@ -39,43 +34,26 @@ impl<'a> ClientReader<'a> {
     fn poll(&mut self, buf: &mut [u8]) -> io::Result<Option<usize>>
         ensures { IfOk result (λ found. IfSome found (λ count. count ≤ length buf.new)) }
     {
-        if self.pool.is_crowded() || !self.polling.is_due() {
+        if self.pool.is_crowded() {
             return Ok(None);
         }
-        self.stream.set_nonblocking(true)?;
-        let found = look(self.stream, buf);
-        self.stream.set_nonblocking(false)?;
-        let found = found?;
-        self.polling.note(found.is_some());
-        Ok(found)
+        let found = self.stream.read_soon(buf);
+        // Responses are written to the same stream.
+        self.stream.blocking()?;
+        found
     }
 
     /// Waits for input.
     fn wait(&mut self, buf: &mut [u8]) -> io::Result<usize>
         ensures { IfOk result (λ count. count ≤ length buf.new) }
     {
-        let mut stream = self.stream;
+        let mut stream = self.stream.blocking()?;
         // An interrupted call is retried: only a client ends its connection.
         match read_some(&mut stream, buf) {
             Ok(count) => Ok(count),
             Err(_) => Err(io::Error::from(ErrorKind::Other)),
         }
     }
-}
-
-/// Looks for input of a stream that does not block. `None` if none came.
-fn look(mut stream: &TcpStream, buf: &mut [u8]) -> io::Result<Option<usize>>
-    ensures { IfOk result (λ found. IfSome found (λ count. count ≤ length buf.new)) }
-{
-    for _ in 0..LOOKS {
-        match stream.read(buf) {
-            Ok(count) => return Ok(Some(count)),
-            Err(error) if error.kind() == ErrorKind::WouldBlock => thread::yield_now(),
-            Err(error) if error.kind() == ErrorKind::Interrupted => {}
-            Err(error) => return Err(error),
-        }
-    }
-    Ok(None)
 }
 
 impl Read for ClientReader<'_> {

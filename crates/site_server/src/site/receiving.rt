@@ -10,7 +10,7 @@ use peer_links::{DeskMessage, Port, Skipped, read_link};
 use rights_types::{OutOfMemory, SiteId};
 use site_core::{Inbound, InboundError};
 use site_node::{Sink, answer_ask, answer_query, note_denial};
-use site_sockets::{Connection, PeerState, Site, SkipCause};
+use site_sockets::{Connection, PeerReader, PeerState, Site, SkipCause};
 use site_words::Config;
 use std::alloc::Global;
 use std::io::Eprint;
@@ -175,17 +175,15 @@ impl<D: DeskNames> Receiver<D> {
 
     /// Reads one connection to its end, or until an error, which has the same effect.
     fn receive<R: Wait + Eprint>(&mut self, rt: &R, peer: &PeerState, connection: Connection) {
-        let Connection {
-            mut stream,
-            mut cutter,
-        } = connection;
+        let Connection { stream, mut cutter } = connection;
         let mut port = SitePort {
             rt,
             shared: &self.shared,
             peer,
             outbox: PeerOutbox::new(rt, peer),
         };
-        let _ = read_link(rt, &mut stream, &mut cutter, &mut self.intake, &mut port);
+        let mut reader = PeerReader::new(&stream);
+        let _ = read_link(rt, &mut reader, &mut cutter, &mut self.intake, &mut port);
     }
 }
 
