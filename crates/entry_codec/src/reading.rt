@@ -7,7 +7,7 @@ ghost use Rattle.entry_codec.specs.Parts.{parts_in, Gives, parts_left, fields_le
 ghost use Rattle.entry_codec.specs.Reading.{push_of, answer_of, message_of, reading, WantsRoom};
 
 use crate::answer::answer_in;
-use crate::entry::{SLOTS, entry_in, entry_with, whole_entry_in};
+use crate::entry::{SLOTS, entry_in, entry_of_one, entry_with, one_move_in, whole_entry_in};
 use crate::fault::LineError;
 use crate::format::{ANSWER_LETTER, ENTRY_LETTER, FIELD_BREAK, LINE_END, MAX_FIELDS, PART_BREAK};
 use crate::parts::{is_letter, split_far, split_first};
@@ -15,7 +15,7 @@ use crate::short::short_in;
 use rights_types::{MAX_LINE, Message, Move};
 use std::alloc::Allocator;
 
-// An entry that is read without the slots does not pay for them: see `entry_of_moves_in`.
+// An entry that is read without the slots does not pay for them: see `whole_entry_in`.
 #[inline(never)]
 fn push_in<A: Allocator>(
     alloc: A,
@@ -54,8 +54,26 @@ fn behind_entry_letter(text: &[u8]) -> Option<&[u8]>
     }
 }
 
-// A text that reads as one entry has no further part, so it is not searched for one.
+// An entry of one move, the most frequent message, is built where it is returned: a message that passes through several
+// results is copied for each of them.
+#[inline(always)]
 fn message_in<A: Allocator + Copy>(alloc: A, text: &[u8]) -> Result<Message<A>, LineError>
+    requires { length text.now ≤ MAX_LINE }
+    ensures value { Gives value_of result (message_of (parts_in text.now)) }
+    ensures memory { WantsRoom result (message_of (parts_in text.now)) }
+{
+    if let Some(fields) = behind_entry_letter(text) {
+        let mut only = Move::Close;
+        if let Some((origin, prev)) = one_move_in(fields, &mut only) {
+            return Ok(Message::Push(entry_of_one(alloc, origin, prev, only)?));
+        }
+    }
+    other_message_in(alloc, text)
+}
+
+// The same, for any message. A text that reads as one entry has no further part, so it is not searched for one.
+#[inline(never)]
+fn other_message_in<A: Allocator + Copy>(alloc: A, text: &[u8]) -> Result<Message<A>, LineError>
     requires { length text.now ≤ MAX_LINE }
     ensures value { Gives value_of result (message_of (parts_in text.now)) }
     ensures memory { WantsRoom result (message_of (parts_in text.now)) }
