@@ -15,7 +15,7 @@ from cluster import Cluster, at, free_ports  # noqa: E402
 RUNS = 3
 SPENDS = 2_000_000
 ENTRIES = 1_000_000
-MISSED = 100_000
+MISSED = 1_000_000
 GIVES = 1_000
 # After so many spends comes a tick. An outbox has room for their entries, if the earlier ones were sent.
 TICK_AFTER = 200
@@ -94,7 +94,7 @@ def caught_up():
     """Entries a second that a site catches up with by queries, after it missed so many."""
     with Cluster(2, started=[1]) as sites:
         sites[1].ask(f"issue {MISSED}")
-        sites[1].ask_all(["spend 1 0"] * (MISSED - 1))
+        exchange(sites[1].process, b"spend 1 0\n" * (MISSED - 1), MISSED - 1)
         # Nobody listens yet: what this tick sends is lost.
         sites[1].ask("tick 1")
         time.sleep(0.5)
