@@ -12,26 +12,18 @@ here, it measures the site too. What is lacking on this machine is said, and not
 import argparse
 import os
 import shutil
-import socket
 import statistics
 import subprocess
 import sys
 import tempfile
-import time
-from contextlib import contextmanager
 
 sys.path.insert(0, os.path.dirname(os.path.abspath(__file__)))
 
-from cluster import PROGRAM, Cluster, free_ports  # noqa: E402
+from cluster import PROGRAM, Cluster  # noqa: E402
+from redis_server import SCRIPT, STOCK, redis, redis_script, redis_words  # noqa: E402
 from web_driver import alone, post  # noqa: E402
 
 HERE = os.path.dirname(os.path.abspath(__file__))
-STOCK = 1_000_000_000
-SCRIPT = b"""
-local n = tonumber(redis.call('GET', KEYS[1]))
-if n < tonumber(ARGV[1]) then return -1 end
-return redis.call('DECRBY', KEYS[1], ARGV[1])
-"""
 # How often the site ticks meanwhile, in milliseconds.
 TICK = 100
 # By its name: the connections, the requests that go out together, and the commands of a body.
@@ -47,11 +39,6 @@ LOADS = {
     "8 connections, bodies of 200": (8, 1, 200),
     "50 connections, bodies of 200": (50, 1, 200),
 }
-
-
-def redis_words(*words):
-    """A command to Redis, as it goes over the wire."""
-    return b"*%d\r\n" % len(words) + b"".join(b"$%d\r\n%b\r\n" % (len(word), word) for word in words)
 
 
 class Load:
@@ -82,42 +69,12 @@ def site_rate(load, connections, at_once, commands):
         return load.rate(sites.web_ports[0], connections, at_once, commands, request, "spent ")
 
 
-@contextmanager
-def redis(folder):
-    """A server with a stock: its port."""
-    (port,) = free_ports(1)
-    words = ["redis-server", "--port", str(port), "--bind", "127.0.0.1", "--save", "", "--appendonly", "no", "--dir", folder]
-    server = subprocess.Popen(words, stdout=subprocess.DEVNULL)
-    try:
-        until = time.monotonic() + 10
-        while True:
-            try:
-                said = redis_says(port, redis_words(b"SET", b"stock", b"%d" % STOCK))
-                break
-            except OSError:
-                if time.monotonic() > until:
-                    raise
-                time.sleep(0.02)
-        assert said == b"+OK\r\n", said
-        yield port
-    finally:
-        server.kill()
-        server.wait()
-
-
-def redis_says(port, request):
-    with socket.create_connection(("127.0.0.1", port)) as stream:
-        stream.sendall(request)
-        return stream.recv(1 << 16)
-
-
 def redis_rate(load, folder, connections, at_once, commands, is_script):
     """As many commands go out together as a body has, since Redis knows no bodies."""
     with redis(folder) as port:
         request = redis_words(b"DECR", b"stock")
         if is_script:
-            digest = redis_says(port, redis_words(b"SCRIPT", b"LOAD", SCRIPT)).split(b"\r\n")[1]
-            request = redis_words(b"EVALSHA", digest, b"1", b"stock", b"1")
+            request = redis_words(b"EVALSHA", redis_script(port, SCRIPT), b"1", b"stock", b"1")
         return load.rate(port, connections, at_once * commands, 1, request, ":")
 
 

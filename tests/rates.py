@@ -1,7 +1,9 @@
 #!/usr/bin/env python3
-"""Measures sites that run as processes on loopback, for `./bench run`: each rate is the best of three runs."""
+"""Measures sites that run as processes on loopback, for `./bench run`, and a Redis server with a replica beside them,
+where there is Redis. Each rate is the best of three runs."""
 
 import os
+import shutil
 import statistics
 import subprocess
 import sys
@@ -10,6 +12,7 @@ import time
 
 sys.path.insert(0, os.path.dirname(os.path.abspath(__file__)))
 
+import redis_rates  # noqa: E402
 from cluster import Cluster, at, free_ports  # noqa: E402
 
 RUNS = 3
@@ -17,14 +20,21 @@ SPENDS = 2_000_000
 ENTRIES = 1_000_000
 MISSED = 1_000_000
 GIVES = 1_000
+UNSENT = 1_000_000, 3_000_000
 # After so many spends comes a tick. An outbox has room for their entries, if the earlier ones were sent.
 TICK_AFTER = 200
 # After so many seconds without what is waited for, one tick more.
 PATIENCE = 0.02
+HAS_REDIS = shutil.which("redis-server") is not None
 
 
-def best(measure):
-    return max(measure() for _ in range(RUNS))
+def best(measure, *words):
+    return max(measure(*words) for _ in range(RUNS))
+
+
+def beside(measure, count, what):
+    """The rate of Redis, as a part of a line, where there is Redis."""
+    return f"; {what}: {best(measure, count):,.0f} commands/s" if HAS_REDIS else ""
 
 
 def local_spends():
@@ -119,16 +129,37 @@ def gives():
         return sorted(times)
 
 
+def late_gift(spends):
+    """Seconds from a give until it is held at the other site, behind so many spends that no tick has sent."""
+    with Cluster(2) as sites:
+        sites[1].ask(f"issue {spends + 1}")
+        exchange(sites[1].process, b"spend 1 0\n" * spends, spends)
+        begun = time.perf_counter()
+        sites[1].ask_all(["give 2 1", "tick 1"])
+        wait(sites, lambda: sites[2].status()["held"] >= 1)
+        return time.perf_counter() - begun
+
+
+def middle(times):
+    return f"{statistics.median(times):,.0f} us (median), {times[len(times) * 99 // 100]:,.0f} us (99th of 100)"
+
+
 def main():
-    print(f"run spends: {best(local_spends):,.0f} spends/s through one process ({SPENDS} spends)")
-    print(f"run entries: {best(carried_entries):,.0f} entries/s to another process ({ENTRIES} entries)")
+    if not HAS_REDIS:
+        print("run: redis-server is not here, so it is not measured")
+    redis = beside(redis_rates.local_takes, SPENDS, "a Redis server")
+    print(f"run spends: {best(local_spends):,.0f} spends/s through one process ({SPENDS} spends){redis}", flush=True)
+    redis = beside(redis_rates.carried_takes, ENTRIES, "from a Redis server to a replica")
+    rate = best(carried_entries)
+    print(f"run entries: {rate:,.0f} entries/s to another process ({ENTRIES} entries){redis}", flush=True)
+    redis = beside(redis_rates.caught_up, MISSED, "a replica of a Redis server")
     rate = best(caught_up)
-    print(f"run catch-up: {rate:,.0f} entries/s by queries, {16e6 / rate:,.0f} us for each answer of 16 ({MISSED} entries)")
-    times = gives()
-    print(
-        f"run give: {statistics.median(times):,.0f} us till it is held at the other site (median), "
-        f"{times[len(times) * 99 // 100]:,.0f} us (99th of 100), of {GIVES}"
-    )
+    each = f"{16e6 / rate:,.0f} us for each answer of 16"
+    print(f"run catch-up: {rate:,.0f} entries/s by queries, {each} ({MISSED} entries){redis}", flush=True)
+    redis = f"; Redis, till a replica confirms it: {middle(redis_rates.gives(GIVES))}" if HAS_REDIS else ""
+    print(f"run give: till it is held at the other site: {middle(gives())}, of {GIVES}{redis}", flush=True)
+    for spends in UNSENT:
+        print(f"run give behind {spends} spends without a tick: {late_gift(spends):.2f} s till it is held", flush=True)
 
 
 main()

@@ -11,7 +11,7 @@ import time
 from contextlib import ExitStack
 
 from cluster import at, wait_for
-from http_rates import SCRIPT, redis, redis_says, redis_words
+from redis_server import SCRIPT, redis, redis_says, redis_script, redis_words
 from wan_links import Links
 from web_driver import Client, WebCluster, post
 from web_sale import status_of
@@ -111,7 +111,7 @@ class Strong:
         folder = self.stack.enter_context(tempfile.TemporaryDirectory())
         self.port = self.stack.enter_context(redis(folder))
         redis_says(self.port, redis_words(b"SET", b"stock", b"%d" % self.stock))
-        self.request = redis_words(b"EVALSHA", loaded(self.port, SCRIPT), b"1", b"stock", b"1")
+        self.request = redis_words(b"EVALSHA", redis_script(self.port, SCRIPT), b"1", b"stock", b"1")
         self.ports = {place: self.links.to(self.port, place, CENTRE) for place in PLACES}
         self.stack.enter_context(self.links)
         return self
@@ -151,7 +151,7 @@ class Weak:
         self.stack = ExitStack()
         folder = self.stack.enter_context(tempfile.TemporaryDirectory())
         self.ports = {place: self.stack.enter_context(redis(folder)) for place in PLACES}
-        self.digests = {place: loaded(port, ALONE) for place, port in self.ports.items()}
+        self.digests = {place: redis_script(port, ALONE) for place, port in self.ports.items()}
         others = {
             here: [self.links.to(port, here, there) for there, port in self.ports.items() if there != here] for here in PLACES
         }
@@ -195,11 +195,6 @@ class Weak:
 
     def settle(self):
         return sum(map(self.sold, PLACES))
-
-
-def loaded(port, script):
-    """The digest of a script that is loaded."""
-    return redis_says(port, redis_words(b"SCRIPT", b"LOAD", script)).split(b"\r\n")[1]
 
 
 class AtRedis:
