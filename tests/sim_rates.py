@@ -5,7 +5,8 @@
 
 Each PROGRAM is a command line in one word. Rates are by processor time, which depends less on what else runs than time
 does. For each program: the best and the median rate of the runs, and the most memory that it took; for each but the first
-also by how much the median rate of the first one is greater.
+also by how much the first one is faster: the median over the rounds, in each of which every program runs once. The speed of
+a machine may vary more between rounds than within one.
 """
 
 import argparse
@@ -34,16 +35,15 @@ def main():
     with open(asked.script, "rb") as commands:
         count = sum(1 for _ in commands)
     runs = [[measured(each, asked.script) for each in asked.programs] for _ in range(asked.runs)]
-    first = None
     for place, command in enumerate(asked.programs):
         times = [run[place][0] for run in runs]
         memory = max(run[place][1] for run in runs)
         best, median = count / min(times), count / statistics.median(times)
-        first = first or median
-        ratio = f", {first / median:.2f} times its median" if place else ""
+        ratio = statistics.median(run[place][0] / run[0][0] for run in runs)
+        beside = f"; the first is {ratio:.2f} times as fast, by the median of the rounds" if place else ""
         name = os.path.basename(command.split()[0])
-        rates = f"{best:,.0f} commands/s at best, {median:,.0f} by the median{ratio}"
-        print(f"{asked.name}: {name}: {rates}; {memory:,} KB, {memory * 1024 // count} bytes a command", flush=True)
+        rates = f"{best:,.0f} commands/s at best, {median:,.0f} by the median"
+        print(f"{asked.name}: {name}: {rates}; {memory:,} KB, {memory * 1024 // count} bytes a command{beside}", flush=True)
 
 
 main()
