@@ -72,7 +72,7 @@ fn message_in<A: Allocator + Copy>(alloc: A, text: &[u8]) -> Result<Message<A>, 
 }
 
 // The same, for any message. A text that reads as one entry has no further part, so it is not searched for one.
-#[inline(never)]
+#[inline(always)]
 fn other_message_in<A: Allocator + Copy>(alloc: A, text: &[u8]) -> Result<Message<A>, LineError>
     requires { length text.now ≤ MAX_LINE }
     ensures value { Gives value_of result (message_of (parts_in text.now)) }
