@@ -7,13 +7,13 @@ import shutil
 import statistics
 import subprocess
 import sys
-import threading
 import time
 
 sys.path.insert(0, os.path.dirname(os.path.abspath(__file__)))
 
 import redis_rates  # noqa: E402
 from cluster import Cluster, at, free_ports  # noqa: E402
+from exchanges import exchange  # noqa: E402
 
 RUNS = 3
 SPENDS = 2_000_000
@@ -44,28 +44,15 @@ def local_spends():
     words = [Cluster.program, "run", "--id", "1", "--sites", "2", "--listen", at(own), f"2={at(other)}"]
     site = subprocess.Popen(words, stdin=subprocess.PIPE, stdout=subprocess.PIPE)
     begun = time.perf_counter()
-    exchange(site, commands, SPENDS + 1)
+    exchange_with(site, commands, SPENDS + 1)
     took = time.perf_counter() - begun
     site.wait()
     return SPENDS / took
 
 
-def exchange(process, commands, replies):
-    """Writes commands as fast as they are read, and reads this number of replies."""
-    feeder = threading.Thread(target=write_all, args=(process.stdin.fileno(), memoryview(commands)))
-    feeder.start()
-    lines = 0
-    while lines < replies:
-        block = os.read(process.stdout.fileno(), 1 << 16)
-        assert block, lines
-        lines += block.count(b"\n")
-    feeder.join()
-    assert lines == replies, lines
-
-
-def write_all(pipe, text):
-    while text:
-        text = text[os.write(pipe, text[: 1 << 16]) :]
+def exchange_with(process, commands, replies):
+    """Writes commands to a process as fast as it reads them, and reads this number of replies."""
+    exchange(process.stdin.fileno(), process.stdout.fileno(), commands, replies)
 
 
 def carried_entries():
@@ -78,7 +65,7 @@ def carried_entries():
         batch = b"spend 1 0\n" * TICK_AFTER + b"tick 1\n"
         begun = time.perf_counter()
         count = ENTRIES // TICK_AFTER
-        exchange(sites[1].process, batch * count, (TICK_AFTER + 1) * count)
+        exchange_with(sites[1].process, batch * count, (TICK_AFTER + 1) * count)
         wait_for_applied(sites, ENTRIES + 1)
         return ENTRIES / (time.perf_counter() - begun)
 
@@ -104,7 +91,7 @@ def caught_up():
     """Entries a second that a site catches up with by queries, after it missed so many."""
     with Cluster(2, started=[1]) as sites:
         sites[1].ask(f"issue {MISSED}")
-        exchange(sites[1].process, b"spend 1 0\n" * (MISSED - 1), MISSED - 1)
+        exchange_with(sites[1].process, b"spend 1 0\n" * (MISSED - 1), MISSED - 1)
         # Nobody listens yet: what this tick sends is lost.
         sites[1].ask("tick 1")
         time.sleep(0.5)
@@ -133,7 +120,7 @@ def late_gift(spends):
     """Seconds from a give until it is held at the other site, behind so many spends that no tick has sent."""
     with Cluster(2) as sites:
         sites[1].ask(f"issue {spends + 1}")
-        exchange(sites[1].process, b"spend 1 0\n" * spends, spends)
+        exchange_with(sites[1].process, b"spend 1 0\n" * spends, spends)
         begun = time.perf_counter()
         sites[1].ask_all(["give 2 1", "tick 1"])
         wait(sites, lambda: sites[2].status()["held"] >= 1)

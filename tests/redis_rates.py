@@ -1,21 +1,22 @@
-"""What rates.py measures of sites, of Redis: a server that takes one from a stock with each command, and a replica of it.
-A Redis server confirms nothing that its replica lacks only if it is asked to wait; here it is, in `gives` alone."""
+"""What rates.py measures of sites, measured of Redis: a server that takes one from a stock with each command, and a
+replica of it. The server does not wait for its replica, except in `gives`, where each command asks it to."""
 
 import os
 import re
 import signal
 import socket
 import tempfile
-import threading
 import time
 from contextlib import contextmanager
 
+from cluster import wait_for
+from exchanges import exchange
 from redis_server import SCRIPT, STOCK, redis_process, redis_says, redis_script, redis_words
 
 # How much of what a replica missed a server keeps for it: more than all that is written here.
 BACKLOG = ["--repl-backlog-size", "512mb", "--client-output-buffer-limit", "replica 0 0 0"]
-# Commands that are written at once.
-BATCH = 1_000
+# Seconds that a replica has at most for what is measured.
+PATIENCE = 60
 
 
 def taking(port):
@@ -24,17 +25,9 @@ def taking(port):
 
 
 def take_all(port, command, count):
-    """Sends a command so many times, without waiting for its replies, and reads these. One reply is a line."""
+    """Sends a command so many times, without waiting for its replies, and reads these."""
     with socket.create_connection(("127.0.0.1", port)) as stream:
-        feeder = threading.Thread(target=lambda: [stream.sendall(command * BATCH) for _ in range(count // BATCH)])
-        feeder.start()
-        lines = 0
-        while lines < count:
-            block = stream.recv(1 << 16)
-            assert block, lines
-            lines += block.count(b"\n")
-        feeder.join()
-    assert lines == count, lines
+        exchange(stream.fileno(), stream.fileno(), command * count, count)
 
 
 def local_takes(count):
@@ -55,7 +48,7 @@ def replicated():
         redis_process(folder) as (copy, process),
     ):
         redis_says(copy, redis_words(b"REPLICAOF", b"127.0.0.1", b"%d" % port))
-        wait(lambda: is_connected(copy))
+        wait_for("the replica is connected", lambda: is_connected(copy))
         yield port, copy, process
 
 
@@ -67,9 +60,9 @@ def left(port):
     return int(redis_says(port, redis_words(b"GET", b"stock")).split(b"\r\n")[1])
 
 
-def wait(condition, pause=0.001):
-    while not condition():
-        time.sleep(pause)
+def wait_for_copy(copy, taken):
+    """Waits until the replica has taken so many too."""
+    wait_for("the replica has all", lambda: left(copy) == STOCK - taken, PATIENCE)
 
 
 def carried_takes(count):
@@ -78,7 +71,7 @@ def carried_takes(count):
         command = taking(port)
         begun = time.perf_counter()
         take_all(port, command, count)
-        wait(lambda: left(copy) == STOCK - count)
+        wait_for_copy(copy, count)
         return count / (time.perf_counter() - begun)
 
 
@@ -91,9 +84,9 @@ def caught_up(count):
         redis_says(port, redis_words(b"CLIENT", b"KILL", b"TYPE", b"replica"))
         take_all(port, command, count)
         os.kill(process.pid, signal.SIGCONT)
-        wait(lambda: is_connected(copy))
+        wait_for("the replica is connected", lambda: is_connected(copy))
         begun, behind = time.perf_counter(), left(copy) - (STOCK - count)
-        wait(lambda: left(copy) == STOCK - count)
+        wait_for_copy(copy, count)
         return behind / (time.perf_counter() - begun)
 
 
