@@ -44,7 +44,7 @@ impl<'a> PolledStream<'a> {
         Ok(found)
     }
 
-    /// The stream, after which reads and writes of it block.
+    /// The stream, whose reads and writes block from now on.
     pub(crate) fn blocking(&mut self) -> io::Result<&'a TcpStream> {
         if !self.is_blocking {
             self.stream.set_nonblocking(false)?;
