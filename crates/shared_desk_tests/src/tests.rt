@@ -13,3 +13,4 @@ mod replays;
 mod scenes;
 mod seats;
 mod sites;
+mod waits;

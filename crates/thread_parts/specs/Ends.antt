@@ -1,17 +1,20 @@
 -- The two ends of a lane, as plain data.
+use denote.RawPtr.{Ptr}
 use Rattle.std.specs.Prelude.{ℕ, Bool, List}
-use Rattle.atomic_table.specs.Seated.{TableId}
-use Rattle.atomic_table.specs.declared.badge.Badge.{Badge}
-use Rattle.crossbeam_channel.specs.declared.flavors.array.Key.{Key}
-use Rattle.crossbeam_channel.specs.Claims.{Pass, view}
+use Rattle.rtrb.specs.Shared.{Names}
+use Rattle.rtrb.specs.Ring.{producer_capacity, consumer_capacity}
+use Rattle.rtrb.specs.declared.producer.Producer.{Producer}
+use Rattle.rtrb.specs.declared.consumer.Consumer.{Consumer}
 use Rattle.thread_parts.specs.declared.item.Item.{Item}
-use Rattle.thread_parts.specs.declared.rule.Hand.{Hand}
+use Rattle.thread_parts.specs.declared.rule.InOrder.{InOrder}
 
 module _ (A : Type 0) where
-  -- which lane it is, and the greatest number of items that it holds
+  -- which lane it is, by its memory, and the greatest number of items that it holds
   pub record LaneId : Type 0 where
-    pub table : TableId
-    pub messages : Badge (Key (Item A))
+    pub words : Ptr
+    pub slots : Ptr
+    pub names : Names
+    pub heap : A
     pub capacity : ℕ
 
   -- the inlet: its lane, what was put, and whether LaneClosed was returned
@@ -27,8 +30,20 @@ module _ (A : Type 0) where
     pub dead : Bool
 
 module _ {A : Type 0} where
-  abbrev pub hand_of : Pass (Item A) (Hand A) → Hand A
-  hand_of pass = view pass
+  abbrev pub inlet_lane : Producer (Item A) A InOrder → LaneId A
+  inlet_lane p = record {
+    words = p.end.words;
+    slots = p.end.slots;
+    names = p.end.names;
+    heap = p.end.heap;
+    capacity = producer_capacity p;
+  }
 
-  abbrev pub lane_of : ℕ → Pass (Item A) (Hand A) → LaneId A
-  lane_of capacity pass = record { table = pass.table_id; messages = pass.me.0.of; capacity = capacity }
+  abbrev pub outlet_lane : Consumer (Item A) A InOrder → LaneId A
+  outlet_lane c = record {
+    words = c.end.words;
+    slots = c.end.slots;
+    names = c.end.names;
+    heap = c.end.heap;
+    capacity = consumer_capacity c;
+  }

@@ -1,4 +1,3 @@
 pub mod Items
-pub mod Rule
 pub mod Ends
 pub mod ShardedCounters

@@ -6,10 +6,11 @@ ghost use Rattle.thread_parts.specs.Items.{MayBeFirst, Continues, Precedes, MayC
 ghost use Rattle.thread_parts.specs.Items.{Leaves};
 ghost use Rattle.thread_parts.specs.declared.item.Item.{Item};
 
+use crate::bells::{BellPull, looks_again};
 use crate::item::Item;
-use crate::rule::{Ends, InOrder, LanePass, LaneReceiver, LaneSender, Put, Taken};
-use crossbeam_channel::{SendError, bounded_with};
+use crate::rule::{InOrder, LaneConsumer, LaneProducer};
 use rights_types::{Entry, OutOfMemory};
+use rtrb::{PushError, RingBuffer};
 use std::alloc::{Allocator, Global};
 use std::marker::Model;
 use std::sync::Wait;
@@ -27,62 +28,47 @@ pub struct LaneClosed<A: Allocator = Global> {
 /// The end of a lane that puts items.
 #[derive(Drop)]
 pub struct Inlet<A: Allocator = Global> {
-    pub(crate) sender: LaneSender<A>,
-    pub(crate) pass: LanePass<A>,
+    pub(crate) producer: LaneProducer<A>,
     pub(crate) dead: bool,
+    // The last field, since it is to be dropped last.
+    pub(crate) pull: BellPull<A>,
 }
 
 impl<A: Allocator> Model for Inlet<A> {
-    ghost use Rattle.std.specs.Prelude.{◌≡◌, true, false, []};
-    ghost use Rattle.crossbeam_channel.specs.Claims.{IsSeatAt};
-    ghost use Rattle.crossbeam_channel.specs.Ends.{sends_on, ruled_capacity};
+    ghost use Rattle.rtrb.specs.Ring.{sent};
     ghost use Rattle.thread_parts.specs.Items.{IsItemChain};
-    ghost use Rattle.thread_parts.specs.Rule.{hand};
-    ghost use Rattle.thread_parts.specs.Ends.{InletValue, hand_of, lane_of};
+    ghost use Rattle.thread_parts.specs.Ends.{InletValue, inlet_lane};
 
     ghost Value = { InletValue A };
 
-    ghost view = { λ i. record {
-      lane = lane_of (ruled_capacity (sends_on i.sender)) i.pass;
-      put = (hand_of i.pass).put;
-      dead = i.dead;
-    } };
+    ghost view = { λ i. record { lane = inlet_lane i.producer; put = sent i.producer; dead = i.dead } };
 
-    ghost invariant = { λ i. IsSeatAt (sends_on i.sender) i.pass
-        × (hand_of i.pass ≡ hand true false (hand_of i.pass).put []) × IsItemChain (hand_of i.pass).put };
+    ghost invariant = { λ i. IsItemChain (sent i.producer) };
 }
 
 /// The end of a lane that takes items.
 #[derive(Drop)]
 pub struct Outlet<A: Allocator = Global> {
-    pub(crate) receiver: LaneReceiver<A>,
-    pub(crate) pass: LanePass<A>,
+    pub(crate) consumer: LaneConsumer<A>,
     pub(crate) dead: bool,
+    // The last field, since it is to be dropped last.
+    pub(crate) pull: BellPull<A>,
 }
 
 impl<A: Allocator> Model for Outlet<A> {
-    ghost use Rattle.std.specs.Prelude.{◌≡◌, true, false, []};
-    ghost use Rattle.crossbeam_channel.specs.Claims.{IsSeatAt};
-    ghost use Rattle.crossbeam_channel.specs.Ends.{receives_on, ruled_capacity};
+    ghost use Rattle.rtrb.specs.Ring.{received};
     ghost use Rattle.thread_parts.specs.Items.{IsItemChain};
-    ghost use Rattle.thread_parts.specs.Rule.{hand};
-    ghost use Rattle.thread_parts.specs.Ends.{OutletValue, hand_of, lane_of};
+    ghost use Rattle.thread_parts.specs.Ends.{OutletValue, outlet_lane};
 
     ghost Value = { OutletValue A };
 
-    ghost view = { λ o. record {
-      lane = lane_of (ruled_capacity (receives_on o.receiver)) o.pass;
-      taken = (hand_of o.pass).taken;
-      dead = o.dead;
-    } };
+    ghost view = { λ o. record { lane = outlet_lane o.consumer; taken = received o.consumer; dead = o.dead } };
 
-    ghost invariant = { λ o. IsSeatAt (receives_on o.receiver) o.pass
-        × (hand_of o.pass ≡ hand false true [] (hand_of o.pass).taken) × IsItemChain (hand_of o.pass).taken };
+    ghost invariant = { λ o. IsItemChain (received o.consumer) };
 }
 
 /// The two ends of a new lane, which holds at most `capacity` items, 1 to `MAX_LANE`. Its memory is requested here;
 /// no later call requests any.
-#[tactic(auto, using(crate::proofs::Rules::begins))]
 pub fn lane<A: Allocator + Copy>(
     alloc: A,
     capacity: usize,
@@ -94,17 +80,17 @@ pub fn lane<A: Allocator + Copy>(
     ensures first { IfOk result (λ r. (e : EntryValue) → MayBeFirst e → Continues r.0.put e) }
     ensures outlet { IfOk result (λ r. (r.1.taken ≡ []) × (r.1.dead ≡ false)) }
 {
-    let (sender, receiver, mut pass) = bounded_with::<Item<A>, _, InOrder, A>(alloc, capacity)?;
-    let other = sender.another::<Ends>(&mut pass);
+    let (producer, consumer) = RingBuffer::with_protocol::<A, InOrder>(alloc, capacity)?;
+    let (one, other) = BellPull::pair(alloc)?;
     let inlet = Inlet {
-        sender,
-        pass,
+        producer,
         dead: false,
+        pull: one,
     };
     let outlet = Outlet {
-        receiver,
-        pass: other,
+        consumer,
         dead: false,
+        pull: other,
     };
     Ok((inlet, outlet))
 }
@@ -160,14 +146,51 @@ impl<A: Allocator> Inlet<A> {
         if self.dead {
             return Err(item);
         }
-        match self.sender.send_as::<Put, R>(rt, &mut self.pass, item) {
-            Ok(()) => Ok(()),
-            Err(SendError::Disconnected(item)) => {
+        let mut item = item;
+        let mut looks = 0;
+        for _ in rt.forever() {
+            if self.is_cut() {
                 self.dead = true;
-                Err(item)
+                return Err(item);
             }
-            Err(SendError::OutOfMemory(_)) => unreachable!(),
+            match self.send_ready(item) {
+                Ok(()) => return Ok(()),
+                Err(back) => item = back,
+            }
+            if !looks_again(&mut looks) {
+                self.sleep(rt);
+            }
         }
+        unreachable!()
+    }
+
+    // Whether the outlet is gone.
+    fn is_cut(&mut self) -> bool
+        ensures { self.new ≡ self.old }
+    {
+        self.producer.is_abandoned()
+    }
+
+    // Puts the item if there is room, and else returns it.
+    fn send_ready(&mut self, item: Item<A>) -> Result<(), Item<A>>
+        requires { IsItemChain self.old.put → IsItemChain (self.old.put ++ item ∷ []) }
+        ensures ok { OnOk result (self.new ≡ record self.old { put = self.old.put ++ item ∷ [] }) }
+        ensures err { IfErr result (λ back. (back ≡ item) × (self.new ≡ self.old)) }
+    {
+        if let Err(PushError::Full(back)) = self.producer.push(item) {
+            return Err(back);
+        }
+        self.pull.bells.put.ring();
+        Ok(())
+    }
+
+    // Sleeps while the lane is full, unless the outlet is gone.
+    fn sleep<R: Wait>(&mut self, rt: &R)
+        ensures { self.new ≡ self.old }
+    {
+        let heard = self.pull.bells.taken.listen();
+        let has_to = self.producer.is_full() && !self.is_cut();
+        self.pull.bells.taken.sleep(rt, heard, has_to);
     }
 }
 
@@ -192,7 +215,7 @@ impl<A: Allocator> Outlet<A> {
     }
 
     /// Takes the next item if one waits on the lane, and never blocks. `None` does not say whether the inlet is gone.
-    pub fn take_ready<R: Wait>(&mut self, rt: &R) -> Option<Item<A>>
+    pub fn take_ready(&mut self) -> Option<Item<A>>
         requires { IsOpen self.old.taken }
         ensures lane { self.new.lane ≡ self.old.lane }
         ensures some { IfSome result (λ x. (self.new.taken ≡ self.old.taken ++ x ∷ []) × (self.new.dead ≡ false)) }
@@ -202,7 +225,7 @@ impl<A: Allocator> Outlet<A> {
         ensures none { IfNone result (self.new ≡ self.old) }
         ensures dead { self.old.dead ≡ true → IsNone result }
     {
-        match self.receive_ready(rt) {
+        match self.receive_ready() {
             Some(item) => Some(item),
             None => None,
         }
@@ -219,17 +242,42 @@ impl<A: Allocator> Outlet<A> {
         if self.dead {
             return None;
         }
-        match self.receiver.recv_as::<Taken, R>(rt, &mut self.pass) {
-            Ok(item) => Some(item),
-            Err(_) => {
+        let mut looks = 0;
+        for _ in rt.forever() {
+            // Looked at first: what was put before the inlet went is still taken.
+            let is_cut = self.is_cut();
+            if let Some(item) = self.receive_ready() {
+                return Some(item);
+            }
+            if is_cut {
                 self.dead = true;
-                None
+                return None;
+            }
+            if !looks_again(&mut looks) {
+                self.sleep(rt);
             }
         }
+        unreachable!()
+    }
+
+    // Sleeps while the lane is empty, unless the inlet is gone.
+    fn sleep<R: Wait>(&mut self, rt: &R)
+        ensures { self.new ≡ self.old }
+    {
+        let heard = self.pull.bells.put.listen();
+        let has_to = self.consumer.is_empty() && !self.is_cut();
+        self.pull.bells.put.sleep(rt, heard, has_to);
+    }
+
+    // Whether the inlet is gone.
+    fn is_cut(&mut self) -> bool
+        ensures { self.new ≡ self.old }
+    {
+        self.consumer.is_abandoned()
     }
 
     // `None` if no item waits.
-    fn receive_ready<R: Wait>(&mut self, rt: &R) -> Option<Item<A>>
+    fn receive_ready(&mut self) -> Option<Item<A>>
         ensures lane { self.new.lane ≡ self.old.lane }
         ensures some { IfSome result (λ x. (self.new.taken ≡ self.old.taken ++ x ∷ []) × (self.new.dead ≡ false)) }
         ensures chain { IsItemChain self.new.taken }
@@ -239,9 +287,10 @@ impl<A: Allocator> Outlet<A> {
         if self.dead {
             return None;
         }
-        let Ok(item) = self.receiver.try_recv_as::<Taken, R>(rt, &mut self.pass) else {
+        let Ok(item) = self.consumer.pop() else {
             return None;
         };
+        self.pull.bells.taken.ring();
         Some(item)
     }
 }

@@ -3,7 +3,6 @@ ghost use Rattle.std.specs.Prelude.{◌≡◌};
 ghost use Rattle.thread_parts.specs.Items.{StartsWith, IsEnded};
 
 use crate::ends::{Inlet, Outlet};
-use crate::rule::{Compared, Ends};
 use std::alloc::Allocator;
 
 /// Given the two ends of one lane, what was taken is a prefix of what was put, and all of it where End
@@ -15,12 +14,10 @@ pub fn ends_taken_in<A: Allocator>(inlet: Inlet<A>, mut outlet: Outlet<A>) -> Ou
     ensures whole { IsEnded outlet.taken → outlet.taken ≡ inlet.put }
 {
     let Inlet {
-        sender,
-        pass: mut both,
+        mut producer,
         dead: _,
+        pull: _pull,
     } = inlet;
-    sender.absorb::<Ends>(&mut both, outlet.pass);
-    sender.learn_as::<Compared>(&mut both);
-    outlet.pass = sender.another::<Ends>(&mut both);
+    outlet.consumer.slots_beside(&mut producer);
     outlet
 }

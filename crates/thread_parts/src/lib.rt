@@ -2,6 +2,7 @@
 //! a sum that each of them adds to; and a view, a snapshot of a desk.
 #![tactic(auto)]
 
+mod bells;
 mod ends;
 mod item;
 mod laws;

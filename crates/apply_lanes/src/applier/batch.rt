@@ -35,7 +35,7 @@ impl<D: DeskNames, G: Gate, A: Allocator> Applier<D, G, A> {
 
     // Takes in hand the next entry that waits on the lane, unless one is there. `Some(false)` if End was taken; `None`
     // if nothing waits.
-    fn fill_ready<R: Wait>(&mut self, rt: &R) -> Option<bool>
+    fn fill_ready(&mut self) -> Option<bool>
         ensures some { IfSome result (λ more. Fills self.old more self.new) }
         ensures hand { IfSome result (λ more. more ≡ true → IsSome self.new.hand) }
         ensures none { IfNone result ((self.new ≡ self.old) × (self.old.hand ≡ None)) }
@@ -48,7 +48,7 @@ impl<D: DeskNames, G: Gate, A: Allocator> Applier<D, G, A> {
         if self.hand.is_some() {
             return Some(true);
         }
-        match self.outlet.take_ready(rt) {
+        match self.outlet.take_ready() {
             Some(Item::Entry(entry)) => {
                 self.hand = Some(entry);
                 Some(true)
@@ -72,7 +72,7 @@ impl<D: DeskNames, G: Gate, A: Allocator> Applier<D, G, A> {
         ensures ended { self.old.ended ≡ true → result ≡ Ok false }
     {
         'looks: for _ in 0..LOOKS {
-            if let Some(more) = self.fill_ready(rt) {
+            if let Some(more) = self.fill_ready() {
                 return Ok(more);
             }
             thread::yield_now();
@@ -84,9 +84,8 @@ impl<D: DeskNames, G: Gate, A: Allocator> Applier<D, G, A> {
     // value under the lock. It waits for none. Returns how many, and `false` if End was taken. Errors: those of
     // `apply_in`, which concern the entry then in hand; the entries before it were applied or dropped. It passes no
     // gate.
-    fn apply_ready<R: Wait, B: Allocator + Copy>(
+    fn apply_ready<B: Allocator + Copy>(
         &mut self,
-        rt: &R,
         kept: &mut Kept<D, B>,
     ) -> Result<(u64, bool), StepError>
         ensures ok { IfOk result (λ r. HandlesBatch D.id self.old kept.old r.0 r.1 self.new kept.new) }
@@ -96,7 +95,7 @@ impl<D: DeskNames, G: Gate, A: Allocator> Applier<D, G, A> {
     {
         let mut count = 0;
         while count < MAX_BATCH {
-            match self.fill_ready(rt) {
+            match self.fill_ready() {
                 Some(true) => self.apply_in(kept)?,
                 Some(false) => return Ok((count, false)),
                 None => return Ok((count, true)),
@@ -129,7 +128,7 @@ impl<D: DeskNames, A: Allocator> Applier<D, Free, A> {
             return Ok((0, false));
         }
         let mut kept = desk.lock(rt);
-        self.apply_ready(rt, &mut *kept)
+        self.apply_ready(&mut *kept)
     }
 
     /// Steps until End was taken, with one hold of the lock for all entries that wait. Stops at the first step that

@@ -16,7 +16,7 @@ use std::thread::Threads;
 use test_kit::requests_of;
 
 /// The ends of a new lane with this capacity.
-fn lane_of<R: Abort>(rt: &R, alloc: Global, places: usize) -> (Inlet, Outlet)
+pub(crate) fn lane_of<R: Abort>(rt: &R, alloc: Global, places: usize) -> (Inlet, Outlet)
     requires { (1 ≤ places) × (places ≤ 32) }
     ensures lane { result.1.lane ≡ result.0.lane }
     ensures inlet { result.0.put ≡ [] }
@@ -27,7 +27,7 @@ fn lane_of<R: Abort>(rt: &R, alloc: Global, places: usize) -> (Inlet, Outlet)
 }
 
 /// An entry of site 2 that issues one right.
-fn one(alloc: Global, prev: u64) -> Option<Entry>
+pub(crate) fn one(alloc: Global, prev: u64) -> Option<Entry>
     ensures { IfSome result (λ e. IsEntry e × (e.origin ≡ 2) × (e.prev ≡ prev) × (closes e ≡ false)
         × (own e ≡ prev + 1)) }
 {
