@@ -15,7 +15,8 @@ use Rattle.sub_buffer.specs.declared.verdict.Verdict.{Verdict}
 use Rattle.sub_buffer.specs.declared.verdict.Verdict.TheVariants.{Ready, Held, Repeat, AfterClose, Full}
 use Rattle.sub_buffer.proofs.Offers.{settled_longest}
 use Rattle.sub_buffer.proofs.Missing.{gap_is}
-use Rattle.site_core.specs.Inbounds.{InboundValue, message_fault, sender, ready_in, EntriesCome, Asks, QueryOf}
+use Rattle.site_core.specs.Inbounds.{InboundValue, IsInbound, message_fault, sender, ready_in, EntriesCome, Asks}
+use Rattle.site_core.specs.Inbounds.{QueryOf}
 use Rattle.site_core.proofs.LedgerLaws.{no_cause}
 
 -- ---- whose entries they are
@@ -85,6 +86,20 @@ arrivals_pair [] old new before after h = subst (SamePair old) (sym h.0) (record
 arrivals_pair (e ∷ es) old new before after (mid, between, v, freed, is, arrived, rest) =
     let p : SamePair mid new = arrivals_pair es mid new between after rest in
     record { me = p.me ∙ arrived.pair.me; origin = p.origin ∙ arrived.pair.origin }
+
+-- an inbound's buffer stays settled, and that of the two sites
+pub inbound_after : {A : Type 0} (i : InboundValue) (es : List EntryValue) (new : BufferValue)
+    (before after : List (Verdict A)) → IsInbound i → ArriveAll i.buffer before es new after → IsSettled new
+    → IsInbound (record i { buffer = new })
+inbound_after i es new before after is h settled =
+    let p = arrivals_pair es i.buffer new before after h in
+    record {
+      some = is.some;
+      few = is.few;
+      me = subst (λ n. n ≤ i.sites) (sym p.me) is.me;
+      origin = subst (λ n. n ≤ i.sites) (sym p.origin) is.origin;
+      settled = settled;
+    }
 
 pub entries_come : {A : Type 0} (old : InboundValue) (es : List EntryValue) (new : BufferValue)
     (verdicts : List (Verdict A)) → ArriveAll old.buffer [] es new verdicts → length verdicts ≤ 94

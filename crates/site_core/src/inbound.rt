@@ -14,7 +14,7 @@ ghost use Rattle.entry_codec.specs.Reading.{reading, has_entries};
 ghost use Rattle.sub_buffer.specs.Gaps.{GapOf, GapIs, StateOf};
 ghost use Rattle.sub_buffer.specs.Follows.{Follows};
 ghost use Rattle.sub_buffer.specs.Table.{after_beat};
-ghost use Rattle.sub_buffer.specs.Arrivals.{all_ready, Arrives as IsArrival};
+ghost use Rattle.sub_buffer.specs.Arrivals.{all_ready, Arrives as IsArrival, IsContinuedBy};
 ghost use Rattle.sub_buffer.specs.declared.verdict.Verdict.{Verdict as AVerdict};
 ghost use Rattle.sub_buffer.specs.declared.verdict.Verdict.TheVariants.{Ready};
 ghost use Rattle.site_core.specs.Calls.{LineOf};
@@ -236,6 +236,34 @@ impl<A: Allocator + Copy> Inbound<A> {
     }
 
     fn take_entries(&mut self, entries: Vec<Entry<A>, A>) -> Result<Arrival<A>, OutOfMemory>
+        requires origin { All (λ (e : EntryValue). e.origin ≡ self.old.buffer.origin) entries.items }
+        requires few { length entries.items ≤ MAX_ANSWER }
+        ensures ok { IfOk result (λ arrival. BringsEntries self.old entries.items arrival self.new) }
+        ensures err { OnErr result (self.new ≡ self.old) }
+    {
+        if self.buffer.is_continued_by(&entries) {
+            self.take_next_entries(entries)
+        } else {
+            self.take_any_entries(entries)
+        }
+    }
+
+    // Most answers bring the next entries. These need room for one verdict each: more than a kilobyte would cost a
+    // system's allocator much more time.
+    fn take_next_entries(&mut self, entries: Vec<Entry<A>, A>) -> Result<Arrival<A>, OutOfMemory>
+        requires next { IsContinuedBy self.old.buffer entries.items }
+        requires few { length entries.items ≤ MAX_ANSWER }
+        ensures ok { IfOk result (λ arrival. BringsEntries self.old entries.items arrival self.new) }
+        ensures err { OnErr result (self.new ≡ self.old) }
+    {
+        let mut verdicts = Vec::with_capacity(self.alloc, entries.len())?;
+        self.buffer.arrive_in_order(entries, &mut verdicts);
+        Ok(Arrival::Entries {
+            verdicts: Verdicts { verdicts },
+        })
+    }
+
+    fn take_any_entries(&mut self, entries: Vec<Entry<A>, A>) -> Result<Arrival<A>, OutOfMemory>
         requires origin { All (λ (e : EntryValue). e.origin ≡ self.old.buffer.origin) entries.items }
         requires few { length entries.items ≤ MAX_ANSWER }
         ensures ok { IfOk result (λ arrival. BringsEntries self.old entries.items arrival self.new) }

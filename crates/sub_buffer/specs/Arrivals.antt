@@ -2,7 +2,7 @@
 use Rattle.std.specs.Prelude.{◌≡◌, ℕ, ◌+◌, ◌≤◌, List, [], ◌++◌, length, map, max, ◌∷◌}
 use Rattle.std.specs.List.{Contains}
 use Rattle.rights_types.specs.Entries.{EntryValue, own}
-use Rattle.rights_types.specs.Chains.{IsLongest}
+use Rattle.rights_types.specs.Chains.{ChainFrom, IsLongest}
 use Rattle.rights_types.specs.declared.limits.TheConstants.{MAX_HELD}
 use Rattle.sub_buffer.specs.Buffers.{BufferValue, IsSettled, SamePair}
 use Rattle.sub_buffer.specs.Table.{OfferLeaves, PopsLeave, more_held}
@@ -51,6 +51,10 @@ pub record Arrives {A : Type 0} (old : BufferValue) (e : EntryValue) (v : Verdic
   -- if e is an entry of the log es, of which put was delivered
   pub log : (es set put : List EntryValue) → Contains es e → Follows es set put old
       → SettledArrival es set put e v freed old.told new
+
+-- these are the next entries of the origin, one after another, and none is held
+abbrev pub IsContinuedBy : BufferValue → List EntryValue → Type 0
+IsContinuedBy b es = (b.held ≡ []) × ChainFrom b.origin b.closed b.last es
 
 -- entries arrived one after another: to the verdicts before are added the verdict on each, and Ready for each held
 -- entry that it freed

@@ -377,6 +377,20 @@ impl<A: Allocator> SubBuffer<A> {
         self.told
     }
 
+    // Whether no entry is held.
+    pub(crate) fn holds_none(&self) -> bool
+        ensures { IsTrue result ↔ (self.now.held ≡ []) }
+    {
+        self.held.is_empty()
+    }
+
+    // Whether the closing entry was delivered.
+    pub(crate) fn is_closed(&self) -> bool
+        ensures { result ≡ self.now.closed }
+    {
+        self.closed
+    }
+
     /// How many entries are held, at most 64.
     pub fn held_count(&self) -> usize
         ensures value { result ≡ length self.now.held }

@@ -77,11 +77,11 @@ fn all_come<A: Allocator + Copy>(memory: &Refusing<A>) -> bool {
 }
 
 /// Lines of each kind, with each of their requests refused in turn. `new` makes one, each entry one, an
-/// answer with entries one more, and each line of entries that is not refused one for its verdicts.
+/// answer with entries one more, and each line that brings entries and is not refused one for its verdicts.
 #[test]
 fn lines_with_each_growth_refused(rt: HostRuntime) {
     let made = requests_of(rt.alloc(), |memory| all_come(memory));
-    assert_eq!(rt; made, Some(1 + 7 + 1 + 5));
+    assert_eq!(rt; made, Some(1 + 7 + 1 + 4));
 }
 
 fn asks_nothing<A: Allocator + Copy>(inbound: &mut Inbound<A>) -> bool {
@@ -160,25 +160,30 @@ fn bytes_of_verdicts(
     }
 }
 
-// Whether the answer of the numbers up to 256 takes this much memory, and gives it back.
-fn answer_takes(heap: &LocalHeap, line: &[u8], room: usize) -> bool {
+// Whether the answer of the numbers up to 256 takes this much memory after this line, and gives it back.
+fn answer_takes(heap: &LocalHeap, before: &str, answer: &[u8], room: usize) -> bool {
     let Ok(mut inbound) = at_site_2_of_16(heap) else {
         return false;
     };
+    if inbound.on_line(before.as_bytes()).is_err() {
+        return false;
+    }
     let fresh = heap.used();
-    bytes_of_verdicts(heap, &mut inbound, line) == Some(room)
+    bytes_of_verdicts(heap, &mut inbound, answer) == Some(room)
         && inbound.last() == 256
         && heap.used() == fresh
 }
 
-/// The longest answer takes the memory of 94 verdicts and of its moves, and gives it back. While it is read, it
-/// takes little more.
+/// The longest answer takes the memory of its verdicts and of its moves, and gives it back: of 16 verdicts if it brings
+/// the next entries and none is held, and else of 94. While it is read, it takes little more.
 #[test]
 fn bytes_of_the_longest_answer(rt: HostRuntime) {
     let line = answer_line(rt.alloc(), 16, 16, 0, LONG_GRANT).expect(&rt, "memory");
     let heap = LocalHeap::new(rt.alloc(), 40_000).expect(&rt, "memory");
-    let room = room_of(&heap, MAX_VERDICTS, MAX_ANSWER * MAX_MOVES).expect(&rt, "memory");
-    assert!(rt; answer_takes(&heap, &line, room));
+    let next = room_of(&heap, MAX_ANSWER, MAX_ANSWER * MAX_MOVES).expect(&rt, "memory");
+    let any = room_of(&heap, MAX_VERDICTS, MAX_ANSWER * MAX_MOVES).expect(&rt, "memory");
+    assert!(rt; answer_takes(&heap, "B 1 256\n", &line, next));
+    assert!(rt; answer_takes(&heap, "E 1 999 1000 S:2\n", &line, any));
 }
 
 /// An entry takes memory for its verdict, and for those on the entries that are held.

@@ -73,9 +73,9 @@ fn requests_of_answer(alloc: Global, entries: u16, first: u16, more: u16) -> Opt
 #[test]
 fn answers_of_every_size(rt: HostRuntime) {
     for entries in 0..=16u16 {
-        // The inbound and the verdicts make one request each, the list one, and each entry one.
+        // The inbound, the verdicts and the list make one request each, and each entry one.
         let wanted = if entries == 0 {
-            2
+            1
         } else {
             u64::from(entries) + 3
         };
