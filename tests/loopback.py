@@ -2,6 +2,7 @@
 ends by itself, and says what it expected where it fails."""
 
 import os
+import re
 import select
 import socket
 import subprocess
@@ -458,6 +459,43 @@ def a_peer_that_reads_nothing():
     deaf.close()
 
 
+def queries_for_a_peer_that_reads_nothing():
+    """Each beat asks for a query, until the peer's buffers and its outbox are full. Once it reads, what comes are whole
+    lines, and then the query for the last beat."""
+    deaf = socket.socket()
+    deaf.setsockopt(socket.SOL_SOCKET, socket.SO_RCVBUF, 4096)
+    deaf.bind(("127.0.0.1", 0))
+    deaf.listen(1)
+    beats = 300_000
+    with Sites(2, started=[1], routes={(1, 2): at(deaf.getsockname()[1])}) as sites:
+        sites[1].ask("tick 1")
+        heard, _ = deaf.accept()
+        lines = b"".join(b"B 2 %d\n" % number for number in range(1, beats))
+        spoken = connect(sites, 1, b"H 2\n" + lines + b"E 2 0 1 I:9\n")
+        wait_for("all beats are taken", sees(sites[1], 2, applied=1), 60)
+        heard.settimeout(0.5)
+        text = all_that_comes(heard)
+        spoken.sendall(b"B 2 %d\n" % beats)
+        text += all_that_comes(heard)
+        first, *queries, last, rest = text.split(b"\n")
+        expect(first, b"H 1")
+        expect((last, rest), (b"Q 1 2 2 %d" % beats, b""))
+        expect([line for line in queries if not re.fullmatch(rb"Q 1 2 [12] [1-9][0-9]*|B 1 0", line)], [])
+        expect(len(queries) > 1000, True, "many queries come")
+        heard.close()
+        spoken.close()
+    deaf.close()
+
+
+def all_that_comes(stream):
+    """What comes until nothing does for as long as the stream waits."""
+    text = b""
+    with suppress(TimeoutError):
+        while part := stream.recv(1 << 20):
+            text += part
+    return text
+
+
 def ticks_that_wait(site, follows=lambda spends: True):
     """Ten ticks at once, each with more lines than fit beside those of the one before: the site waits until those are
     sent. On a busy machine that may take longer than it waits, but not each time."""
@@ -710,6 +748,7 @@ CASES = [case("Loopback", [
     bad_lines_are_skipped,
     a_flood_grows_nothing,
     a_peer_that_reads_nothing,
+    queries_for_a_peer_that_reads_nothing,
     ticks_in_a_row_wait_for_space,
     ticks_wait_again_once_lines_are_sent,
     a_start_without_memory,

@@ -11,6 +11,7 @@ mod deadline_reader;
 mod events;
 mod peer;
 mod peer_reader;
+mod peer_writer;
 mod polled_stream;
 mod polling;
 mod sending;

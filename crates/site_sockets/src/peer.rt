@@ -6,6 +6,7 @@ ghost use Rattle.peer_links.specs.Outboxes.{PutsIf};
 
 use crate::connection_slot::ConnectionSlot;
 use crate::events::LinkEvents;
+use crate::peer_writer::PeerWriter;
 use crate::shutdown_handle::ShutdownHandle;
 use peer_links::{OUTBOX_LINES, Outbox, OutboxLines};
 use rights_types::{MAX_HELD, OutOfMemory, SiteId};
@@ -26,7 +27,8 @@ pub struct PeerState {
     /// The address on which it listens.
     pub(crate) address: String,
     pub(crate) outbox: Outbox,
-    /// The connection on which lines are sent to it.
+    /// The connection on which lines are sent to it, to be written to and to be shut down.
+    pub(crate) writer: PeerWriter,
     pub(crate) sending: ShutdownHandle,
     /// The connections that it opened.
     pub connection_slot: ConnectionSlot,
@@ -50,6 +52,7 @@ impl PeerState {
             site,
             address: String::from_str(alloc, address)?,
             outbox: Outbox::new(alloc)?,
+            writer: PeerWriter::new(alloc),
             sending: ShutdownHandle::new(),
             connection_slot: ConnectionSlot::new(),
             events: LinkEvents::new(site, log),
@@ -71,6 +74,14 @@ impl PeerState {
         requires { IsLine line.items }
     {
         self.lines(rt).put(line)
+    }
+
+    /// Writes this line at once if no line waits to be sent, and else puts it into the outbox as `send` does. The caller
+    /// holds no lock, since a write may take 5 milliseconds.
+    pub fn send_now<R: Wait>(&self, rt: &R, line: Vec<u8>) -> bool
+        requires { IsLine line.items }
+    {
+        self.writer.write_now(rt, &self.outbox, line.as_slice()) || self.send(rt, line)
     }
 
     /// Makes room in the outbox for the lines that are due, if the peer takes those that wait there: blocks until these

@@ -1,6 +1,7 @@
 //! Sending the lines that wait in the outboxes to the peers.
 
 use crate::peer::PeerState;
+use crate::peer_writer::{PatientStream, Writing};
 use crate::polling::Polling;
 use crate::site::{CONNECT_SECONDS, Site};
 use entry_codec::write_line;
@@ -58,6 +59,8 @@ impl Senders {
 struct Noted<'a> {
     peer: &'a PeerState,
     polling: Polling,
+    /// Held while lines are written.
+    writing: Option<Writing<'a>>,
 }
 
 impl<'a> Model for Noted<'a> {
@@ -71,6 +74,7 @@ impl<'a> Noted<'a> {
         Noted {
             peer,
             polling: Polling::new(),
+            writing: None,
         }
     }
 
@@ -108,9 +112,11 @@ impl LineSource for Noted<'_> {
     ghost is_over = { λ _. Unit {0} };
 
     fn next_batch<R: Wait>(&mut self, rt: &R, room: &mut [u8]) -> Batch<Global> {
+        self.writing = None;
         self.poll();
         let batch = (&self.peer.outbox).next_batch(rt, room);
         if !matches!(batch, Batch::Over) {
+            self.writing = Some(self.peer.writer.begin(rt));
             self.peer.events.writes();
         }
         batch
@@ -118,6 +124,7 @@ impl LineSource for Noted<'_> {
 
     fn take_front<R: Wait>(&mut self, rt: &R, count: usize) {
         (&self.peer.outbox).take_front(rt, count);
+        self.writing = None;
     }
 }
 
@@ -167,7 +174,15 @@ fn send_by<R: Wait + AllocGlobal + Eprint>(
     peer.events.sends(rt);
     peer.events.writes();
     let is_sent = send_hello(rt.alloc(), site.id, &mut stream, line.as_slice())
-        && write_link(rt, &mut stream, &mut Noted::new(peer)).is_ok();
+        && {
+            peer.writer.open(rt, &stream);
+            let mut stream = PatientStream {
+                rt,
+                stream: &stream,
+            };
+            write_link(rt, &mut stream, &mut Noted::new(peer)).is_ok()
+        };
+    peer.writer.close(rt);
     peer.sending.release(rt);
     if !is_sent {
         peer.events.sends_no_more(rt, "a write failed");

@@ -12,6 +12,9 @@ use std::marker::Model;
 use std::sync::{Arc, Wait};
 use std::time::Clock;
 
+/// The first byte of a query's line.
+const QUERY: u8 = b'Q';
+
 /// The lines that wait for one peer, under the lock of its outbox.
 #[derive(Drop)]
 struct LockedOutbox<'a> {
@@ -64,7 +67,12 @@ impl<R: Wait> Sink for PeerOutbox<'_, R> {
     ghost takes = { TakesAny };
 
     fn offer(&mut self, line: Vec<u8>) -> bool {
-        self.peer.send(self.rt, line)
+        // A site that catches up sends one query for each answer. Other lines come from under the desk's lock.
+        if line.first() == Some(&QUERY) {
+            self.peer.send_now(self.rt, line)
+        } else {
+            self.peer.send(self.rt, line)
+        }
     }
 }
 
