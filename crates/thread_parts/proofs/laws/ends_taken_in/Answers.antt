@@ -1,4 +1,4 @@
-use Rattle.std.proofs.Common.{◌≡◌, List, [], ◌++◌, ap, rules, sym, subst, ◌∙◌, append-nil}
+use Rattle.std.proofs.Common.{◌≡◌, [], ◌++◌, ap, sym, subst, ◌∙◌, append-nil}
 use Rattle.rtrb.specs.Ring.{known_items}
 use Rattle.thread_parts.specs.Items.{IsItemChain}
 use Rattle.thread_parts.specs.Ends.{InletValue, OutletValue}

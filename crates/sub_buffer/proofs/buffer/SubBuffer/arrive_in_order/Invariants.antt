@@ -1,5 +1,4 @@
 use Rattle.std.proofs.Common.{◌≡◌, ◌+◌, ◌≤◌, ◌++◌, List, length, vec_capacity}
-use Rattle.rights_types.specs.Entries.{EntryValue}
 use Rattle.sub_buffer.specs.Buffers.{BufferValue, IsSettled}
 use Rattle.sub_buffer.specs.Arrivals.{all_ready, ArriveAll, IsContinuedBy}
 use Rattle.sub_buffer.specs.declared.verdict.Verdict.{Verdict}

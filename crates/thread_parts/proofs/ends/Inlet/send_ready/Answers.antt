@@ -1,4 +1,4 @@
-use Rattle.std.proofs.Common.{[], ◌∷◌, ◌++◌, ap, subst, sym}
+use Rattle.std.proofs.Common.{[], ◌∷◌, ◌++◌, subst, sym}
 use Rattle.thread_parts.specs.Ends.{InletValue}
 use Rattle.thread_parts.specs.Items.{IsItemChain}
 use Rattle.thread_parts.proofs.ends.Inlet.send_ready.Goals as goal
