@@ -1,7 +1,10 @@
 //! The writing end of a connection with a peer.
+ghost use Rattle.std.specs.Prelude.{◌≡◌, ℕ, ◌<◌, ◌++◌, ◌⊎◌, IfOk, IsTrue, IsFalse, take, drop};
+ghost use Rattle.std.specs.Io.KnownBytes.{Appends};
 
 use line_streams::{write_some, write_whole};
 use peer_links::Outbox;
+use rights_types::OutOfMemory;
 use std::alloc::Global;
 use std::io;
 use std::io::{ErrorKind, Write};
@@ -35,15 +38,14 @@ impl State {
         let Some(mut stream) = self.stream.as_ref() else {
             return false;
         };
-        let count = write_some(&mut stream, line);
-        if count == 0 || count == line.len() {
-            return count == line.len();
+        match write_once(&mut stream, line, &mut self.rest) {
+            Ok(is_whole) => is_whole,
+            Err(OutOfMemory) => {
+                // The line must not be continued by another one.
+                let _ = stream.shutdown(Shutdown::Both);
+                false
+            }
         }
-        if self.rest.extend_from_slice(&line[count..]).is_err() {
-            // The line must not be continued by another one.
-            let _ = stream.shutdown(Shutdown::Both);
-        }
-        false
     }
 
     /// Writes what is left of a line.
@@ -54,6 +56,30 @@ impl State {
         }
         self.rest.clear();
     }
+}
+
+/// Writes a line, as far as one write takes it, and returns whether that was all of it. Of a line that was begun the rest
+/// is added to `rest`; `OutOfMemory` if that has no memory.
+fn write_once<W: Write>(
+    writer: &mut W,
+    line: &[u8],
+    rest: &mut Vec<u8>,
+) -> Result<bool, OutOfMemory>
+    ensures whole { IfOk result (λ is_whole. IsTrue is_whole
+        → Appends (W.contents writer.old) (W.contents writer.new) line.now × (rest.new.items ≡ rest.old.items)) }
+    ensures part { IfOk result (λ is_whole. IsFalse is_whole → (n : ℕ)
+        × Appends (W.contents writer.old) (W.contents writer.new) (take n line.now)
+        × ((n ≡ 0) × (rest.new.items ≡ rest.old.items)
+        ⊎ (0 < n) × (rest.new.items ≡ rest.old.items ++ drop n line.now))) }
+{
+    let count = write_some(writer, line);
+    if count == line.len() {
+        return Ok(true);
+    }
+    if count > 0 {
+        rest.extend_from_slice(&line[count..])?;
+    }
+    Ok(false)
 }
 
 /// The sole right to write on the connection, until it is dropped.
