@@ -474,9 +474,9 @@ def queries_for_a_peer_that_reads_nothing():
         spoken = connect(sites, 1, b"H 2\n" + lines + b"E 2 0 1 I:9\n")
         wait_for("all beats are taken", sees(sites[1], 2, applied=1), 60)
         heard.settimeout(0.5)
-        text = all_that_comes(heard)
+        text = read_all(heard)
         spoken.sendall(b"B 2 %d\n" % beats)
-        text += all_that_comes(heard)
+        text += read_all(heard)
         first, *queries, last, rest = text.split(b"\n")
         expect(first, b"H 1")
         expect((last, rest), (b"Q 1 2 2 %d" % beats, b""))
@@ -485,15 +485,6 @@ def queries_for_a_peer_that_reads_nothing():
         heard.close()
         spoken.close()
     deaf.close()
-
-
-def all_that_comes(stream):
-    """What comes until nothing does for as long as the stream waits."""
-    text = b""
-    with suppress(TimeoutError):
-        while part := stream.recv(1 << 20):
-            text += part
-    return text
 
 
 def ticks_that_wait(site, follows=lambda spends: True):
@@ -528,9 +519,12 @@ def ticks_wait_again_once_lines_are_sent():
 
 
 def read_all(stream):
+    """What comes until the end, or until nothing does for as long as the stream waits."""
+    text = b""
     with suppress(OSError):
-        while stream.recv(1 << 16):
-            pass
+        while part := stream.recv(1 << 20):
+            text += part
+    return text
 
 
 # ---- memory that is refused

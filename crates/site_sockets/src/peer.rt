@@ -27,8 +27,9 @@ pub struct PeerState {
     /// The address on which it listens.
     pub(crate) address: String,
     pub(crate) outbox: Outbox,
-    /// The connection on which lines are sent to it, to be written to and to be shut down.
+    /// The connection on which lines are sent to it, for the threads that write on it.
     pub(crate) writer: PeerWriter,
+    /// The same connection, for the thread that shuts it down.
     pub(crate) sending: ShutdownHandle,
     /// The connections that it opened.
     pub connection_slot: ConnectionSlot,
@@ -76,8 +77,8 @@ impl PeerState {
         self.lines(rt).put(line)
     }
 
-    /// Writes this line at once if no line waits to be sent, and else puts it into the outbox as `send` does. The caller
-    /// holds no lock, since a write may take 5 milliseconds.
+    /// Writes this line at once if no line waits to be sent, and else puts it into the outbox as `send` does. The
+    /// caller holds no lock, since a write may take 5 milliseconds.
     pub fn send_now<R: Wait>(&self, rt: &R, line: Vec<u8>) -> bool
         requires { IsLine line.items }
     {

@@ -15,9 +15,9 @@ use std::time::Duration;
 /// How long a write blocks while the peer reads nothing, in milliseconds.
 const MAX_BLOCK: u64 = 5;
 
-/// The connection on which lines are sent to a peer. Its sending thread writes the lines of the outbox. While none waits
-/// there, another thread may write a line itself, which saves the time of handing it over. Each line is written whole
-/// before the next one begins.
+/// The connection on which lines are sent to a peer. Its sending thread writes the lines of the outbox. While none
+/// waits there, another thread may write a line itself, which saves the time of handing it over. Each line is written
+/// whole before the next one begins.
 #[derive(Drop)]
 pub(crate) struct PeerWriter {
     state: Mutex<State>,
@@ -58,8 +58,8 @@ impl State {
     }
 }
 
-/// Writes a line, as far as one write takes it, and returns whether that was all of it. Of a line that was begun the rest
-/// is added to `rest`; `OutOfMemory` if that has no memory.
+/// Writes a line, as far as one write takes it, and returns whether that was all of it. Of a line that was begun the
+/// rest is added to `rest`; `OutOfMemory` if that has no memory.
 fn write_once<W: Write>(
     writer: &mut W,
     line: &[u8],
