@@ -1,11 +1,11 @@
-//! The ends of a lane that wait for each other. No contract speaks of that, so it is tested: a wake that is lost leaves a
-//! test waiting for good.
+//! The ends of a lane that wait for each other. No contract speaks of that, so it is tested: a wake that is lost leaves
+//! a test waiting for good.
 ghost use Rattle.std.specs.Prelude.{◌≡◌, [], true};
 ghost use Rattle.rights_types.specs.Entries.{EntryValue};
 ghost use Rattle.thread_parts.specs.Items.{Continues, IsOpen, MayBeFirst};
 
 use crate::tests::lanes::{lane_of, one};
-use apply_lanes::{Inlet, Item};
+use apply_lanes::{Inlet, Item, Outlet};
 use std::alloc::Global;
 use std::process::Abort;
 use std::sync::Wait;
@@ -75,7 +75,7 @@ fn an_inlet_that_goes_wakes_the_outlet(rt: HostRuntime) {
 fn space_wakes_the_inlet(rt: HostRuntime) {
     let alloc = rt.alloc();
     let (inlet, outlet) = lane_of(&rt, alloc, 1);
-    let (is_put, is_taken) = thread::join(
+    let (is_put, (_outlet, is_taken)) = thread::join(
         &rt,
         || -> bool
             requires { (e : EntryValue) → MayBeFirst e → Continues inlet.put e }
@@ -83,16 +83,13 @@ fn space_wakes_the_inlet(rt: HostRuntime) {
             let mut inlet = inlet;
             put_first(&rt, alloc, &mut inlet) && inlet.end(&rt).is_ok()
         },
-        || -> bool
+        || -> (Outlet, bool)
             requires { outlet.taken ≡ [] }
         {
             let mut outlet = outlet;
             rest(&rt);
-            matches!(outlet.take(&rt), Ok(Item::Entry(_)))
-                && {
-                    rest(&rt);
-                    true
-                }
+            let is_entry = matches!(outlet.take(&rt), Ok(Item::Entry(_)));
+            (outlet, is_entry)
         },
     );
     assert!(rt; is_put && is_taken);
