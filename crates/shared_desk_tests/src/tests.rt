@@ -1,6 +1,7 @@
 //! Shared desks, lanes and counters by their public calls alone.
 mod appliers;
 mod desks;
+mod drops;
 mod failing;
 mod gates;
 mod growths;
@@ -9,6 +10,7 @@ mod lanes;
 mod links;
 mod many;
 mod parts;
+mod ready;
 mod replays;
 mod scenes;
 mod seats;

@@ -25,9 +25,10 @@ impl Bell {
         }
     }
 
-    /// Wakes the other end, if it sleeps. Call it after a step that it may wait for.
+    /// Wakes the other end, if it sleeps. Call it after a step that it may wait for. Only the first ring since the other
+    /// end began to listen makes a system call.
     pub(crate) fn ring(&self) {
-        if self.is_awaited.load(Ordering::SeqCst) {
+        if self.is_awaited.load(Ordering::SeqCst) && self.is_awaited.swap(false, Ordering::SeqCst) {
             self.rings.fetch_add(1, Ordering::SeqCst);
             self.rings.wake_all();
         }
@@ -36,9 +37,11 @@ impl Bell {
     /// Announces that this end is about to sleep. Afterwards look once more whether there is a reason to, and then call
     /// `sleep` with both answers: a step that the look misses rings.
     pub(crate) fn listen(&self) -> u32 {
+        // Read before the announcement: a ring that takes it back, even for an earlier step, ends the sleep too. A sleep
+        // compares the low 32 bits.
+        let heard = (self.rings.load(Ordering::SeqCst) & 0xffff_ffff) as u32;
         self.is_awaited.store(true, Ordering::SeqCst);
-        // A sleep compares the low 32 bits.
-        (self.rings.load(Ordering::SeqCst) & 0xffff_ffff) as u32
+        heard
     }
 
     /// Sleeps until the bell is rung, if it was not since `listen` returned `heard`, and if there is a reason to.

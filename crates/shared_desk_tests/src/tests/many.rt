@@ -159,7 +159,7 @@ fn apply_all<D: DeskNames, R: Wait + Clock + Abort>(
     desk: &SharedDesk<D>,
     mut applier: Applier<D, Free>,
 ) -> Applied<D> {
-    assert!(rt; applier.run(rt, desk) == Ok(ENTRIES));
+    assert!(rt; applier.run_ready(rt, desk) == Ok(()));
     applier.done()
 }
 

@@ -206,6 +206,43 @@ fn refusals(rt: HostRuntime) {
     );
 }
 
+/// What is taken is spent at once or refused, and what waits may be cancelled.
+#[test]
+fn takes_and_cancels(rt: HostRuntime) {
+    plays(
+        &rt,
+        "\
+1 take 1 > error Short
+1 issue 7 > number 1
+1 take 2 > spent 2
+1 spend 6 9 > queued 1
+1 take 1 > error Short
+1 cancel 1 > expired
+1 cancel 1 > unknown
+1 take 5 > spent 3
+1 take 0 > error BadAmount
+1 view > issued 7 spent 7 given 0 back 0 received 0 held 0",
+    );
+}
+
+/// A silent peer is not asked; once it is heard it is asked, and its ask stays outstanding while it is silent again.
+#[test]
+fn a_silent_peer(rt: HostRuntime) {
+    plays(
+        &rt,
+        "\
+1 issue 10 > number 1
+2 hear E 1 0 1 I:10 > ready 1 held 0 repeat 0
+2 step > Ok(true)
+2 spend 6 9 > queued 1
+2 plan_beside 1 > asks 0
+2 ask 1 > nothing
+2 plan > asks 1
+2 plan_beside 1 > asks 0
+2 ask 1 > W 2 1 1 6",
+    );
+}
+
 // Spends until all slots of the queue are taken, and one more.
 fn spends_of_a_full_queue<R: Abort>(rt: &R, alloc: Global) -> String {
     let mut script = String::from_str(

@@ -14,7 +14,7 @@ use std::process::Abort;
 use std::str;
 use std::sync::Wait;
 use std::time::Clock;
-use transfer_manager::AskAnswer;
+use transfer_manager::{AskAnswer, SiteSet};
 
 /// One of two sites, with its input from the other one.
 #[derive(Drop)]
@@ -188,6 +188,10 @@ fn spend<D: DeskNames>(
     spending(alloc, kept.spend(seat, n, deadline))
 }
 
+fn take<D: DeskNames>(alloc: Global, kept: &mut Kept<D>, seat: &mut Seat<D>, n: u64) -> Reply {
+    numbered(alloc, "spent", kept.take(seat, n))
+}
+
 fn serve<D: DeskNames>(alloc: Global, kept: &mut Kept<D>, seat: &mut Seat<D>) -> Reply {
     served(alloc, kept.serve(seat))
 }
@@ -202,6 +206,18 @@ fn expire<D: DeskNames>(alloc: Global, kept: &mut Kept<D>, time: u64) -> Reply {
 
 fn status<D: DeskNames>(alloc: Global, kept: &mut Kept<D>, ticket: u64) -> Reply {
     outcome(alloc, kept.status(ticket))
+}
+
+fn cancel<D: DeskNames>(alloc: Global, kept: &mut Kept<D>, ticket: u64) -> Reply {
+    outcome(alloc, kept.cancel(ticket))
+}
+
+// A plan while that peer is silent.
+fn plan_beside<D: DeskNames>(alloc: Global, kept: &mut Kept<D>, peer: SiteId) -> Reply {
+    let mut silent = SiteSet::new();
+    silent.insert(peer);
+    let asks = kept.plan_beside(&silent);
+    format!(in alloc; "asks {asks}")
 }
 
 fn plan<D: DeskNames>(alloc: Global, kept: &mut Kept<D>) -> Reply {
@@ -240,11 +256,14 @@ fn command<D: DeskNames>(
     match verb {
         "issue" => issue(alloc, kept, seat, number),
         "spend" => spend(alloc, kept, seat, number, second(words)),
+        "take" => take(alloc, kept, seat, number),
         "serve" => serve(alloc, kept, seat),
         "give" => give(alloc, kept, peer(number), second(words)),
         "expire" => expire(alloc, kept, number),
         "status" => status(alloc, kept, number),
+        "cancel" => cancel(alloc, kept, number),
         "plan" => plan(alloc, kept),
+        "plan_beside" => plan_beside(alloc, kept, peer(number)),
         "close" if words.is_empty() => close(alloc, kept, None),
         "close" => close(alloc, kept, Some(peer(number))),
         "ask" => ask(alloc, kept, peer(number)),
