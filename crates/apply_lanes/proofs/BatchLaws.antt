@@ -193,7 +193,7 @@ module _ {G A : Type 0} where
   pub ready_err : (id : DeskId) (old a b : ApplierValue G A) (k l : KeptValue) (fault : StepError) → Fills old true a
       → BatchFails id a k fault b l
       → ReadyFails id old fault b
-  ready_err id old a b k l fault fills h = ready_fails id old a b k l fault fills h.0 h.1 h.2 h.3
+  ready_err id old a b k l fault fills h = ready_fails id old a b k l fault fills h.0 h.2 h.3 h.4
 
   -- by what the batch under the lock returned
   pub ready_oks : (id : DeskId) (old a b : ApplierValue G A) (k l : KeptValue) (r : Result (ℕ × Bool) StepError)

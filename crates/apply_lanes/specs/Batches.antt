@@ -1,9 +1,10 @@
 -- An applier that works under one hold of the lock: so many steps, one after another.
-use Rattle.std.specs.Prelude.{◌≡◌, ℕ, zero, suc, ◌≤◌, Bool, true, false, Some, None, Err}
+use Rattle.std.specs.Prelude.{◌≡◌, ℕ, zero, suc, ◌≤◌, ◌<◌, Bool, true, false, Some, None, Err}
 use Rattle.rights_types.specs.Entries.{EntryValue}
 use Rattle.rights_protocol.specs.Retiring.{numbers_in}
 use Rattle.apply_lanes.specs.declared.applier.StepError.{StepError}
 use Rattle.apply_lanes.specs.declared.applier.StepError.TheVariants.{OutOfMemory}
+use Rattle.apply_lanes.specs.declared.applier.batch.TheConstants.{MAX_BATCH}
 use Rattle.apply_lanes.specs.Names.{DeskId}
 use Rattle.apply_lanes.specs.Kepts.{KeptValue, IsKept}
 use Rattle.apply_lanes.specs.Appliers.{ApplierValue, IsCounted, is_late, step_fault, StepRefuses, MovesOn, counted_on}
@@ -61,7 +62,8 @@ module _ {G A : Type 0} where
   -- under the lock: some number of entries, and then one that stays in hand for this fault
   abbrev pub BatchFails : DeskId → ApplierValue G A → KeptValue → StepError → ApplierValue G A → KeptValue → Type 0
   BatchFails id old k fault new l =
-      (n : ℕ) × (last : ApplierValue G A) × HandlesAll id old k n last l × KeepsNext id last l fault new
+      (n : ℕ) × (n < MAX_BATCH) × (last : ApplierValue G A) × HandlesAll id old k n last l
+      × KeepsNext id last l fault new
 
   -- this number of steps, at least one; or so many and then End
   abbrev pub StepsReady : DeskId → ApplierValue G A → ℕ → Bool → ApplierValue G A → Type 0

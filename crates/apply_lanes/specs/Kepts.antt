@@ -116,6 +116,9 @@ told_nothing = record { issued = 0; spent = 0; served = 0 }
 abbrev pub told_issued : SeatValue → ℕ → SeatValue
 told_issued s n = record s { issued = s.issued + n }
 
+abbrev pub told_taken : SeatValue → ℕ → SeatValue
+told_taken s n = record s { spent = s.spent + n }
+
 abbrev pub told_served : SeatValue → ℕ → SeatValue
 told_served s n = record s { served = s.served + n }
 

@@ -13,7 +13,7 @@ use crate::gate::Gate;
 use crate::kept::Kept;
 use crate::names::{DeskNames, NumberOf, ReceivedBy};
 use crate::shared_desk::SharedDesk;
-pub use batch::MAX_BATCH;
+pub use batch::{MAX_BATCH, pause};
 use rights_types::{Entry, SiteId};
 use std::alloc::{Allocator, Global};
 use std::marker::Model;

@@ -12,7 +12,7 @@ mod seat;
 mod shared_desk;
 mod stopping;
 
-pub use applier::{Applied, Applier, MAX_BATCH, StepError};
+pub use applier::{Applied, Applier, MAX_BATCH, StepError, pause};
 pub use gate::{Free, Gate};
 pub use kept::{AdmitCause, AdmitError, Kept};
 pub use link_intake::{Arrived, Intake, IntakeError, VerdictCounts};

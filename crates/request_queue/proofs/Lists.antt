@@ -79,16 +79,16 @@ is_off : (b : Bool) (n : ℕ) → cond b 1 0 + n ≡ 0 → b ≡ false
 is_off true n e = absurd (omega arith)
 is_off false n e = refl
 
--- if a key is not among the keys, no entry has it
-pub not_among : {X : Type 0} (t : ℕ) (es : List (ℕ × X)) → count_by (λ k. k == t) (map (λ e. e.0) es) ≡ 0
-    → All (λ x. (x.0 == t) ≡ false) es
-not_among {X} t [] none = All-nil (λ y. (y.0 == t) ≡ false)
-not_among {X} t (x ∷ xs) none =
-    let keys : List ℕ = map (λ (e : ℕ × X). e.0) xs in
-    let sum = sum_by-cons (λ k. cond (k == t) 1 0) x.0 keys in
-    let here : (x.0 == t) ≡ false = is_off _ (count_by (λ k. k == t) keys) (sym sum ∙ none) in
+-- if a key is not among the keys, no element has it
+pub not_among : {X : Type 0} (key : X → ℕ) (t : ℕ) (xs : List X) → count_by (λ k. k == t) (map key xs) ≡ 0
+    → All (λ x. (key x == t) ≡ false) xs
+not_among {X} key t [] none = All-nil (λ y. (key y == t) ≡ false)
+not_among {X} key t (x ∷ xs) none =
+    let keys : List ℕ = map key xs in
+    let sum = sum_by-cons (λ k. cond (k == t) 1 0) (key x) keys in
+    let here : (key x == t) ≡ false = is_off _ (count_by (λ k. k == t) keys) (sym sum ∙ none) in
     let rest : count_by (λ k. k == t) keys ≡ 0 = omega (arith, sum, none) in
-    All-cons (λ y. (y.0 == t) ≡ false) x xs here (not_among t xs rest)
+    All-cons (λ y. (key y == t) ≡ false) x xs here (not_among key t xs rest)
 
 -- without the one entry with this key
 pub others_than : {X : Type 0} (t : ℕ) (before : List (ℕ × X)) (e : ℕ × X) (after : List (ℕ × X))

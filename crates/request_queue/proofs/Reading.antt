@@ -2,21 +2,23 @@
 use Rattle.std.proofs.Common.{◌≡◌, ℕ, suc, ◌+◌, ◌<◌, ◌≤◌, Bool, true, false, not, cond, ◌==◌, List, [], ◌∷◌, ◌++◌}
 use Rattle.std.proofs.Common.{length, get_or, take, drop, remove, map, All, filter, count_by, position, Some, None}
 use Rattle.std.proofs.Common.{refl, sym, ap, ◌∙◌, arith}
-use Rattle.std.proofs.lemmas.Bool.{ltb-true, ltb-false}
+use Rattle.std.proofs.lemmas.Bool.{eqb-true, ltb-true, ltb-false}
 use Rattle.std.proofs.lemmas.List.{map-append}
 use Rattle.std.proofs.lemmas.List.Elements.{All-weaker}
+use Rattle.std.proofs.lemmas.List.Folds.{list_any_none}
 use Rattle.std.proofs.lemmas.List.Sorted.{sum_by-IsPermutation}
 use Rattle.std.proofs.lemmas.List.Sums.{sum_by-cons, sum_by-append, sum_by-le}
 use Rattle.std.proofs.lemmas.List.Edits.{length-remove}
 use Rattle.std.proofs.lemmas.Option.{slice_get_read, slice_get_within, get_or_from_slice_get}
 use Rattle.rights_types.specs.Ranges.{IsAmount}
-use Rattle.request_queue.specs.Queues.{QueueValue, total_of, outcome_of, is_late, without, tickets, IsQueue}
-use Rattle.request_queue.specs.Calls.{Settles, Expires}
+use Rattle.request_queue.specs.Queues.{QueueValue, total_of, has_ticket, outcome_of, is_late, settled, without}
+use Rattle.request_queue.specs.Queues.{tickets, IsQueue}
+use Rattle.request_queue.specs.Calls.{Settles, Expires, CancelsRequest}
 use Rattle.request_queue.specs.declared.request.Request.{Request}
 use Rattle.request_queue.specs.declared.request.Outcome.{Outcome}
 use Rattle.request_queue.specs.declared.request.Outcome.TheVariants.{Expired}
 use Rattle.request_queue.proofs.Lists.{first_that, none_passes, lookup_first, lookup_none, not_among, others_than}
-use Rattle.request_queue.proofs.Keeps.{read_tickets}
+use Rattle.request_queue.proofs.Keeps.{read_tickets, keeps_settled}
 
 pub settles : (q : QueueValue) (i : ℕ) (r : Request) (o : Outcome) (others : List Request)
     (outcomes : List (ℕ × Outcome)) → i < length q.waiting → r ≡ get_or q.waiting i r
@@ -80,7 +82,7 @@ none_behind q t i e h lt at is =
     let cut = ap (count_by (λ k. k == t))
     (map-append (λ (x : ℕ × Outcome). x.0) (take i q.outcomes) (drop (suc i) q.outcomes))
     ∙ sum_by-append is_t front back in
-    not_among t (drop (suc i) q.outcomes)
+    not_among (λ (x : ℕ × Outcome). x.0) t (drop (suc i) q.outcomes)
     (counted (e.0 == t) (count_by (λ k. k == t) (tickets q)) (count_by (λ k. k == t) front)
     (count_by (λ k. k == t) back) (count_by (λ k. k == t) (us ++ keys))
     is (sym whole ∙ moved) (omega (arith, split, cut)) (h.once t))
@@ -105,6 +107,69 @@ outcome_read q t i e h found at =
 
 pub outcome_none : (q : QueueValue) (t : ℕ) → position (is_of t) q.outcomes ≡ None → outcome_of q t ≡ None
 outcome_none q t none = lookup_none t q.outcomes (none_passes (is_of t) q.outcomes none)
+
+-- ---- cancelling
+
+abbrev pub is_named : ℕ → Request → Bool
+is_named t r = r.ticket == t
+
+-- neither a waiting request nor an unread outcome has the ticket
+record IsFree (t : ℕ) (waiting : List Request) (outcomes : List (ℕ × Outcome)) : Type 0 where
+  waits : count_by (λ k. k == t) (map (λ (r : Request). r.ticket) waiting) ≡ 0
+  told : count_by (λ k. k == t) (map (λ (e : ℕ × Outcome). e.0) outcomes) ≡ 0
+
+-- the request that ended was the only one with its ticket
+alone : (q : QueueValue) (others : List Request) (r : Request) (o : Outcome) (t : ℕ) → IsQueue (settled q others r o)
+    → (r.ticket == t) ≡ true → IsFree t others q.outcomes
+alone q others r o t h is =
+    let is_t : ℕ → ℕ = λ k. cond (k == t) 1 0 in
+    let us : List ℕ = map (λ (r : Request). r.ticket) others in
+    let keys : List ℕ = map (λ (x : ℕ × Outcome). x.0) q.outcomes in
+    let one : is_t r.ticket ≡ 1 = ap (λ (b : Bool). cond b 1 0) is in
+    let last = sum_by-cons is_t r.ticket [] in
+    let cut = ap (count_by (λ k. k == t)) (map-append (λ (x : ℕ × Outcome). x.0) q.outcomes ((r.ticket, o) ∷ []))
+    ∙ sum_by-append is_t keys (r.ticket ∷ []) in
+    let split = sum_by-append is_t us (map (λ (x : ℕ × Outcome). x.0) (q.outcomes ++ (r.ticket, o) ∷ [])) in
+    let once = h.once t in
+    record { waits = omega (arith, one, last, cut, split, once); told = omega (arith, one, last, cut, split, once) }
+
+-- what a queue is once the first request of a ticket has expired
+pub record IsCancelled (q : QueueValue) (t : ℕ) (new : QueueValue) : Type 0 where
+  pub cancels : CancelsRequest q t new
+  pub unread : outcome_of new t ≡ Some Expired
+  pub gone : has_ticket t new.waiting ≡ false
+
+pub cancelled : (q : QueueValue) (t i ticket : ℕ) (new : QueueValue) → IsQueue q
+    → position (is_named t) q.waiting ≡ Some i → Settles q i Expired ticket new → IsCancelled q t new
+cancelled q t i ticket new h found (r, is, same, left) =
+    let at : r ≡ get_or q.waiting i r = sym (get_or_from_slice_get q.waiting i r r is) in
+    let first = first_that (is_named t) q.waiting i r found at in
+    let others : List Request = remove q.waiting i in
+    let free = alone q others r Expired t (keeps_settled q i r Expired h first.within at) first.passes in
+    let amount : Request → ℕ = λ (s : Request). s.amount in
+    let whole = ap total_of first.parts ∙ sum_by-append amount (take i q.waiting) (r ∷ drop (suc i) q.waiting) in
+    let here = sum_by-cons amount r (drop (suc i) q.waiting) in
+    let rest = ap (λ (v : QueueValue). total_of v.waiting) left
+    ∙ sum_by-append amount (take i q.waiting) (drop (suc i) q.waiting) in
+    record {
+      cancels = record {
+        request = r;
+        before = take i q.waiting;
+        after = drop (suc i) q.waiting;
+        found = first.parts;
+        ticket = eqb-true r.ticket t first.passes;
+        ends = left;
+        total = omega (arith, whole, here, rest);
+      };
+      unread = ap (λ (v : QueueValue). outcome_of v t) left
+          ∙ lookup_first t q.outcomes (r.ticket, Expired) []
+          (not_among (λ (x : ℕ × Outcome). x.0) t q.outcomes free.told) first.passes;
+      gone = ap (λ (v : QueueValue). has_ticket t v.waiting) left
+          ∙ list_any_none (is_named t) others (not_among (λ (s : Request). s.ticket) t others free.waits);
+    }
+
+pub unnamed : (q : QueueValue) (t : ℕ) → position (is_named t) q.waiting ≡ None → has_ticket t q.waiting ≡ false
+unnamed q t none = list_any_none (is_named t) q.waiting (none_passes (is_named t) q.waiting none)
 
 pub total_small : (requests : List Request) → All (λ (r : Request). IsAmount r.amount) requests → length requests ≤ 32
     → total_of requests ≤ 32000000000

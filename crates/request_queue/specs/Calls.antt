@@ -1,10 +1,11 @@
 -- What each call of a queue returns and leaves.
-use Rattle.std.specs.Prelude.{◌≡◌, ℕ, ◌<◌, ◌≤◌, true, false, nat_lt, nat_le, ◌||◌, List, ◌∷◌, ◌++◌, Option, Some, None}
+use Rattle.std.specs.Prelude.{◌≡◌, ℕ, ◌+◌, ◌<◌, ◌≤◌, Bool, true, false, nat_lt, nat_le, ◌||◌, List, ◌∷◌, ◌++◌, Option, Some, None}
 use Rattle.std.specs.Prelude.{Result, Ok, Err, if◌then◌else◌}
 use Rattle.std.specs.List.{All, slice_get, remove}
 use Rattle.rights_types.specs.declared.limits.TheConstants.{MAX_AMOUNT}
 use Rattle.request_queue.specs.declared.queue.TheConstants.{SLOTS, LAST_TICKET}
-use Rattle.request_queue.specs.Queues.{QueueValue, outcome_of, has_ticket, used, with_request, settled, without}
+use Rattle.request_queue.specs.Queues.{QueueValue, outcome_of, has_ticket, total_of, used, with_request}
+use Rattle.request_queue.specs.Queues.{settled, without}
 use Rattle.request_queue.specs.declared.request.Request.{Request}
 use Rattle.request_queue.specs.declared.request.Outcome.{Outcome}
 use Rattle.request_queue.specs.declared.request.Outcome.TheVariants.{Spent, Expired}
@@ -44,6 +45,21 @@ Expires old now (Some ticket) new =
     (before : List Request) × (r : Request) × (after : List Request) × (old.waiting ≡ before ++ r ∷ after)
     × All (λ (s : Request). now ≤ s.deadline) before × (r.deadline < now) × (ticket ≡ r.ticket)
     × (new ≡ settled old (before ++ after) r Expired)
+
+-- the waiting request of this ticket ended before its deadline
+pub record CancelsRequest (old : QueueValue) (t : ℕ) (new : QueueValue) : Type 0 where
+  pub request : Request
+  pub before : List Request
+  pub after : List Request
+  pub found : old.waiting ≡ before ++ request ∷ after
+  pub ticket : request.ticket ≡ t
+  pub ends : new ≡ settled old (before ++ after) request Expired
+  pub total : total_of new.waiting + request.amount ≡ total_of old.waiting
+
+-- a request is cancelled if it waits; otherwise nothing changes
+abbrev pub Cancels : QueueValue → ℕ → Bool → QueueValue → Type 0
+Cancels old t true new = CancelsRequest old t new
+Cancels old t false new = (has_ticket t old.waiting ≡ false) × (new ≡ old)
 
 -- an outcome is reported once, and its slot is then free
 abbrev pub TellsOutcome : QueueValue → ℕ → Status → QueueValue → Type 0

@@ -8,4 +8,4 @@ mod request;
 
 pub use fault::QueueError;
 pub use queue::{LAST_TICKET, RequestQueue, SLOTS};
-pub use request::Status;
+pub use request::{Request, Status};

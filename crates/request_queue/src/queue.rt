@@ -1,9 +1,10 @@
 //! The queue of spends that wait for rights.
-ghost use Rattle.std.specs.Prelude.{◌≡◌, ℕ, ◌+◌, ◌*◌, ◌<◌, ◌≤◌, ◌==◌, ◌↔◌, length, IfOk, IfSome, IsSome, position};
-ghost use Rattle.request_queue.specs.Queues.{no_requests, front_of, total_of, has_ticket, is_late, IsQueue};
+ghost use Rattle.std.specs.Prelude.{◌≡◌, ℕ, ◌+◌, ◌*◌, ◌<◌, ◌≤◌, ◌==◌, ◌↔◌, true, false, Some, length, IfOk, IfSome, IsSome};
+ghost use Rattle.std.specs.Prelude.{position};
+ghost use Rattle.request_queue.specs.Queues.{no_requests, front_of, total_of, has_ticket, outcome_of, is_late, IsQueue};
 ghost use Rattle.request_queue.specs.declared.request.Request.{Request};
 ghost use Rattle.request_queue.specs.declared.request.Outcome.{Outcome};
-ghost use Rattle.request_queue.specs.Calls.{Puts, Serves, Expires, TellsOutcome, Settles};
+ghost use Rattle.request_queue.specs.Calls.{Puts, Serves, Expires, Cancels, TellsOutcome, Settles};
 
 use crate::fault::QueueError;
 use crate::request::{Outcome, Request, Status};
@@ -105,6 +106,27 @@ impl<A: Allocator> RequestQueue<A> {
         Some(self.settle(index, Outcome::Expired))
     }
 
+    /// Ends the waiting request with this ticket as if its deadline had passed: all others keep their places, and its
+    /// outcome is then unread. Returns whether there was such a request; if not, nothing changes.
+    pub fn cancel(&mut self, ticket: u64) -> bool
+        ensures cancels { Cancels self.old ticket result self.new }
+        ensures unread { result ≡ true → outcome_of self.new ticket ≡ Some Outcome.Expired }
+        ensures gone { has_ticket ticket self.new.waiting ≡ false }
+    {
+        let Some(index) = place_among(&self.waiting, ticket) else {
+            return false;
+        };
+        self.settle(index, Outcome::Expired);
+        true
+    }
+
+    /// The waiting requests, the oldest first.
+    pub fn requests(&self) -> &[Request]
+        ensures { result.now ≡ self.now.waiting }
+    {
+        &self.waiting
+    }
+
     /// The sum of the amounts of all waiting requests.
     pub fn total(&self) -> u64
         ensures value { result ≡ total_of self.now.waiting }
@@ -165,6 +187,13 @@ fn first_late(requests: &[Request], now: u64) -> Option<usize>
     ensures { result ≡ position (is_late now) requests.now }
 {
     requests.iter().position(|request| request.deadline < now)
+}
+
+// The index of the request with this ticket.
+fn place_among(requests: &[Request], ticket: u64) -> Option<usize>
+    ensures { result ≡ position (λ (r : Request). r.ticket == ticket) requests.now }
+{
+    requests.iter().position(|request| request.ticket == ticket)
 }
 
 fn total_amount(requests: &[Request]) -> u64

@@ -4,13 +4,13 @@ use rights_types::Amount;
 
 /// A spend that waits for rights.
 #[derive(Clone, Copy)]
-pub(crate) struct Request {
+pub struct Request {
     /// Identifies the request; the first ticket is 1.
-    pub(crate) ticket: u64,
+    pub ticket: u64,
     /// The rights that it will spend.
-    pub(crate) amount: Amount,
+    pub amount: Amount,
     /// The latest time at which it may still wait, in the unit in which its site counts time.
-    pub(crate) deadline: u64,
+    pub deadline: u64,
 }
 
 /// How a request ended.
@@ -18,7 +18,7 @@ pub(crate) struct Request {
 pub(crate) enum Outcome {
     /// It was served by the log entry of this number.
     Spent(u64),
-    /// Its deadline passed.
+    /// Its deadline passed, or it was cancelled.
     Expired,
 }
 
@@ -29,7 +29,7 @@ pub enum Status {
     Waiting,
     /// It was served by the log entry of this number. Reported once.
     Spent(u64),
-    /// Its deadline passed. Reported once.
+    /// Its deadline passed, or it was cancelled. Reported once.
     Expired,
     /// No such ticket was issued, or its outcome was read before.
     Unknown,

@@ -17,12 +17,12 @@ use Rattle.rights_book.proofs.CallLaws.{unrefused}
 use Rattle.request_queue.specs.Queues.{total_of}
 use Rattle.transfer_manager.specs.declared.answer.AskAnswer.TheVariants.{Grant as Granted}
 use Rattle.transfer_manager.specs.Managers.{ManagerValue, SameSystem, sites as asked_sites}
-use Rattle.transfer_manager.specs.Plans.{Plans, of_book, of_logs}
+use Rattle.transfer_manager.specs.Plans.{Plans, of_book, of_logs, beside}
 use Rattle.transfer_manager.specs.AskAnswers.{IsAnswered, IsLate}
 use Rattle.site_core.specs.Ledgers.{WritesEntry, IsLedger}
 use Rattle.site_core.specs.Desks.{DeskValue, grant_count, IsDesk}
 use Rattle.site_core.specs.Faults.{has_closed, is_full}
-use Rattle.site_core.specs.Calls.{DeskPlans, available, answer_of}
+use Rattle.site_core.specs.Calls.{DeskPlansBeside, available, answer_of}
 use Rattle.site_core.proofs.DeskLaws.{one_if, grant_count-cons, grant_count-append, closed_with, moves_with}
 
 -- ---- the asks alone change
@@ -38,16 +38,17 @@ asks_changed d m is same answered = record {
 }
 
 -- a plan by the book, which is that of the ledger, is a plan by the logs
-pub planned : (d : DeskValue) (b : BookValue) (count : ℕ) (new : ManagerValue) → IsDesk d → IsLedger d.ledger
+pub planned : (silent : ℕ → Bool) (d : DeskValue) (b : BookValue) (count : ℕ) (new : ManagerValue) → IsDesk d → IsLedger d.ledger
     → b ≡ d.ledger.book
-    → Plans d.manager (of_book b) (total_of d.queue.waiting) count new
+    → Plans d.manager (beside silent (of_book b)) (total_of d.queue.waiting) count new
     → ((log : List EntryValue) (applied : ℕ → List EntryValue) → StandsFor log applied b
     → sites b ≡ asked_sites d.manager
-    → Plans d.manager (of_logs (asked_sites d.manager) b.me log applied) (total_of d.queue.waiting) count new)
-    → DeskPlans d count (record d { manager = new })
-planned d b count new is ledger same by_book by_logs =
+    → Plans d.manager (beside silent (of_logs (asked_sites d.manager) b.me log applied)) (total_of d.queue.waiting)
+    count new)
+    → DeskPlansBeside silent d count (record d { manager = new })
+planned silent d b count new is ledger same by_book by_logs =
     let queued : ℕ = total_of d.queue.waiting in record {
-      by_book = subst (λ (x : BookValue). Plans d.manager (of_book x) queued count new) same by_book;
+      by_book = subst (λ (x : BookValue). Plans d.manager (beside silent (of_book x)) queued count new) same by_book;
       by_logs = λ applied has.
           let log : List EntryValue = d.ledger.log.entries in
           let stands : StandsFor log applied b
@@ -55,8 +56,8 @@ planned d b count new is ledger same by_book by_logs =
           (record { of_own = ledger.own; of_applied = has.in_book }) in
           let me : b.me ≡ d.ledger.log.site = ap (λ (x : BookValue). x.me) same ∙ ledger.same_site in
           let as_many : sites b ≡ asked_sites d.manager = ap (λ (x : BookValue). sites x) same ∙ sym is.same_sites in
-          subst (λ n. Plans d.manager (of_logs n d.ledger.log.site log applied) queued count new) is.same_sites
-          (subst (λ i. Plans d.manager (of_logs (asked_sites d.manager) i log applied) queued count new) me
+          subst (λ n. Plans d.manager (beside silent (of_logs n d.ledger.log.site log applied)) queued count new) is.same_sites
+          (subst (λ i. Plans d.manager (beside silent (of_logs (asked_sites d.manager) i log applied)) queued count new) me
           (by_logs log applied stands as_many));
       rest = refl;
     }

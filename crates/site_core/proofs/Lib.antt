@@ -4,6 +4,7 @@ pub mod LedgerLaws
 pub mod Protocol
 pub mod DeskLaws
 pub mod ExpiryLaws
+pub mod CancelLaws
 pub mod AskLaws
 pub mod RetiringLaws
 pub mod InboundLaws

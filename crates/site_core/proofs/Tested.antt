@@ -34,7 +34,8 @@ use Rattle.site_core.specs.declared.desk.requests.Spending.{Spending}
 use Rattle.site_core.specs.declared.desk.requests.Spending.TheVariants.{Spent, Queued}
 use Rattle.site_core.specs.declared.fault.DeskError.TheVariants.{LogFull, QueueFull}
 use Rattle.site_core.specs.Faults.{has_closed, is_full, book_cause, write_fault, post_fault, is_no_amount, issue_fault}
-use Rattle.site_core.specs.Faults.{give_fault, can_spend, is_queue_full, spend_fault, can_serve, serve_fault}
+use Rattle.site_core.specs.Faults.{give_fault, can_spend, is_queue_full, spend_fault, spare, take_fault}
+use Rattle.site_core.specs.Faults.{can_serve, serve_fault}
 use Rattle.site_core.specs.Faults.{heir_fault, close_fault}
 use Rattle.site_core.specs.Calls.{DeskWrites, DeskSpends, SpendKeeps, DeskServes, ServeKeeps, available, answer_of}
 use Rattle.site_core.specs.Calls.{DeskAnswers, AnswerKeeps, DeskApplies, DeskCloses}
@@ -120,6 +121,14 @@ spend_writable d n h can =
     let amount = no_cause (is_no_amount n) _ _ unclosed.1 in
     one_spend d n unclosed.0 (room_at_once (can_spend d n) (is_full d 1) (is_queue_full d) amount.1 can)
     (leb-true n (held_by d.ledger.book) (and_parts _ _ can).1)
+
+pub take_writable : (d : DeskValue) (n : ℕ) → take_fault d n ≡ None → IsWritable d.ledger (Spend n ∷ [])
+take_writable d n h =
+    let unclosed = no_cause (has_closed d) _ _ h in
+    let amount = no_cause (is_no_amount n) _ _ unclosed.1 in
+    let room = no_cause (is_full d 1) _ _ amount.1 in
+    let enough = no_cause (ltb (spare d) n) _ _ room.1 in
+    one_spend d n unclosed.0 room.0 (omega (arith, ltb-false (spare d) n enough.0))
 
 -- a request waits, so the site has not closed
 waits_unclosed : (d : DeskValue) (front : ℕ × ℕ × ℕ) → (has_closed d ≡ true → d.queue.waiting ≡ [])
@@ -232,6 +241,11 @@ pub spend_allowed : (d new : DeskValue) (n deadline : ℕ) (spending : Spending)
 spend_allowed d new n deadline (Spent number) is none w =
     (entry_kept d.ledger new.ledger (Spend n ∷ []) is.ledger is.book (spend_writable d n none w.0) w.1.entry).keeps
 spend_allowed d new n deadline (Queued ticket) is none w = tt
+
+pub take_allowed : (d new : DeskValue) (n : ℕ) → DeskSound d → take_fault d n ≡ None → DeskWrites d (Spend n ∷ []) new
+    → EntryKeeps d.ledger (Spend n ∷ []) new.ledger
+take_allowed d new n is none w
+    = (entry_kept d.ledger new.ledger (Spend n ∷ []) is.ledger is.book (take_writable d n none) w.entry).keeps
 
 same_amount : (a b : ℕ × ℕ × ℕ) → Some a ≡ Some b → a.1 ≡ b.1
 same_amount a b h = let same : a ≡ b = cc in ap (λ (x : ℕ × ℕ × ℕ). x.1) same

@@ -1,5 +1,5 @@
 -- The result and effect of each call of a desk.
-use Rattle.std.specs.Prelude.{◌≡◌, ℕ, ◌-◌, ◌<◌, ◌≤◌, Bool, true, false, not, ◌||◌, List, [], ◌∷◌, ◌++◌, length, map}
+use Rattle.std.specs.Prelude.{◌≡◌, ℕ, ◌<◌, ◌≤◌, Bool, true, false, not, ◌||◌, List, [], ◌∷◌, ◌++◌, length, map}
 use Rattle.std.specs.Prelude.{Option, Some, None, Ok, if◌then◌else◌}
 use Rattle.std.specs.List.{filter, slice_get}
 use Rattle.std.specs.Option.{option_map}
@@ -15,16 +15,17 @@ use Rattle.origin_log.specs.Logs.{LogValue, published, all_published}
 use Rattle.rights_book.specs.Books.{held_by, account, sites}
 use Rattle.request_queue.specs.declared.request.Request.{Request}
 use Rattle.request_queue.specs.declared.request.Outcome.TheVariants.{Expired}
+use Rattle.request_queue.specs.declared.request.Status.{Status}
 use Rattle.request_queue.specs.Queues.{QueueValue, is_late, total_of, front_of}
-use Rattle.request_queue.specs.Calls.{Puts, Serves}
+use Rattle.request_queue.specs.Calls.{Puts, Serves, Cancels, TellsOutcome}
 use Rattle.transfer_manager.specs.declared.answer.AskAnswer.{AskAnswer}
 use Rattle.transfer_manager.specs.declared.answer.AskAnswer.TheVariants.{Grant as Granted, Deny, RepeatedDeny, Repeated}
 use Rattle.transfer_manager.specs.declared.answer.AskAnswer.TheVariants.{OldAsk}
-use Rattle.transfer_manager.specs.Plans.{Plans, of_book, of_logs}
+use Rattle.transfer_manager.specs.Plans.{Plans, of_book, of_logs, beside}
 use Rattle.transfer_manager.specs.AskAnswers.{answer_to, noted}
 use Rattle.site_core.specs.Ledgers.{HasApplied, WritesEntry, EntryKeeps, WritesClosing, AppliesEntry}
 use Rattle.site_core.specs.Desks.{DeskValue, after_grants}
-use Rattle.site_core.specs.Faults.{has_closed, is_full, can_spend}
+use Rattle.site_core.specs.Faults.{has_closed, is_full, can_spend, spare}
 use Rattle.site_core.specs.declared.desk.requests.Spending.{Spending}
 use Rattle.site_core.specs.declared.desk.requests.Spending.TheVariants.{Spent, Queued}
 
@@ -93,6 +94,14 @@ pub record DeskExpires (old : DeskValue) (time count : ℕ) (new : DeskValue) : 
   pub queue : ExpiresLate old.queue time count new.queue
   pub rest : new ≡ record old { queue = new.queue; time = time }
 
+-- the spend of this ticket no longer waits, and then its outcome was reported
+pub record DeskCancels (old : DeskValue) (ticket : ℕ) (status : Status) (new : DeskValue) : Type 0 where
+  pub waited : Bool
+  pub between : QueueValue
+  pub cancels : Cancels old.queue ticket waited between
+  pub tells : TellsOutcome between ticket status new.queue
+  pub rest : new ≡ record old { queue = new.queue }
+
 -- ---- lines
 
 -- the text spells this message; without a message there is no text
@@ -129,19 +138,25 @@ beat_of log = ABeat (record { origin = log.site; number = end log.entries })
 
 -- ---- asks
 
--- the asks were planned according to what the book knows, which is what the logs say
-pub record DeskPlans (old : DeskValue) (count : ℕ) (new : DeskValue) : Type 0 where
-  pub by_book : Plans old.manager (of_book old.ledger.book) (total_of old.queue.waiting) count new.manager
+-- the asks were planned beside these silent sites, according to what the book knows, which is what the logs say
+pub record DeskPlansBeside (silent : ℕ → Bool) (old : DeskValue) (count : ℕ) (new : DeskValue) : Type 0 where
+  pub by_book : Plans old.manager (beside silent (of_book old.ledger.book)) (total_of old.queue.waiting) count
+      new.manager
   pub by_logs : (applied : ℕ → List EntryValue) → HasApplied applied old.ledger
-      → Plans old.manager (of_logs (sites old.ledger.book) old.ledger.log.site old.ledger.log.entries applied)
+      → Plans old.manager
+      (beside silent (of_logs (sites old.ledger.book) old.ledger.log.site old.ledger.log.entries applied))
       (total_of old.queue.waiting) count new.manager
   pub rest : new ≡ record old { manager = new.manager }
+
+-- .. with no site silent
+abbrev pub DeskPlans : DeskValue → ℕ → DeskValue → Type 0
+DeskPlans old count new = DeskPlansBeside (λ j. false) old count new
 
 -- the rights that an ask of site j can be granted
 abbrev pub available : DeskValue → ℕ → ℕ
 available d j =
     if has_closed d || (account d.ledger.book j).closed || is_full d 1 then 0
-    else held_by d.ledger.book - total_of d.queue.waiting
+    else spare d
 
 abbrev pub answer_of : DeskValue → AskValue → AskAnswer
 answer_of d ask = answer_to d.manager ask (available d ask.asker)

@@ -1,5 +1,5 @@
 -- Why a desk refuses: the first cause in the order of each call.
-use Rattle.std.specs.Prelude.{◌≡◌, ℕ, ◌+◌, Bool, true, false, not, nat_lt, nat_le, ◌==◌, ◌||◌, ◌&&◌, List, [], ◌∷◌}
+use Rattle.std.specs.Prelude.{◌≡◌, ℕ, ◌+◌, ◌-◌, Bool, true, false, not, nat_lt, nat_le, ◌==◌, ◌||◌, ◌&&◌, List, [], ◌∷◌}
 use Rattle.std.specs.Prelude.{length, Option, Some, None, Result, Ok, Err, if◌then◌else◌}
 use Rattle.std.specs.List.{list_any}
 use Rattle.rights_types.specs.declared.limits.TheConstants.{MAX_AMOUNT, MAX_MOVES, LAST_APPEND}
@@ -12,7 +12,7 @@ use Rattle.rights_book.specs.declared.fault.BookError.TheVariants.{PeerClosed as
 use Rattle.rights_book.specs.Books.{held_by, sites, account}
 use Rattle.rights_book.specs.Checks.{check_fault}
 use Rattle.request_queue.specs.declared.queue.TheConstants.{SLOTS, LAST_TICKET}
-use Rattle.request_queue.specs.Queues.{used, front_of}
+use Rattle.request_queue.specs.Queues.{used, front_of, total_of}
 use Rattle.site_core.specs.declared.fault.DeskError.{DeskError}
 use Rattle.site_core.specs.declared.fault.DeskError.TheVariants.{Closed, BadCount, BadMove, BadAmount, NoSuchSite}
 use Rattle.site_core.specs.declared.fault.DeskError.TheVariants.{SameSite, PeerClosed, LogFull, Short, OutOfMemory}
@@ -83,6 +83,19 @@ spend_fault d n =
     else (if is_no_amount n then Some BadAmount
     else (if can_spend d n then (if is_full d 1 then Some LogFull else None)
     else (if is_queue_full d then Some QueueFull else None)))
+
+-- what is held beyond the waiting spends; 0 if they need more
+abbrev pub spare : DeskValue → ℕ
+spare d = held_by d.ledger.book - total_of d.queue.waiting
+
+-- a spend that may not wait
+abbrev pub take_fault : DeskValue → ℕ → Option DeskError
+take_fault d n =
+    if has_closed d then Some Closed
+    else (if is_no_amount n then Some BadAmount
+    else (if is_full d 1 then Some LogFull
+    else (if nat_lt (spare d) n then Some Short
+    else None)))
 
 -- the request at the front can be served now
 abbrev pub can_serve : DeskValue → Option (ℕ × ℕ × ℕ) → Bool

@@ -3,13 +3,13 @@ ghost use Rattle.std.specs.Prelude.{◌≡◌, ◌≢◌, ℕ, ◌≤◌, false,
 ghost use Rattle.rights_types.specs.Entries.{EntryValue};
 ghost use Rattle.rights_types.specs.Messages.{AskValue};
 ghost use Rattle.rights_types.specs.declared.moves.Move.{Move};
-ghost use Rattle.rights_types.specs.declared.moves.Move.TheVariants.{Issue, Give};
+ghost use Rattle.rights_types.specs.declared.moves.Move.TheVariants.{Issue, Spend, Give};
 ghost use Rattle.rights_book.specs.Books.{sites};
 ghost use Rattle.transfer_manager.specs.declared.answer.AskAnswer.{AskAnswer};
 ghost use Rattle.site_core.specs.Ledgers.{EntryKeeps, ClosingKeeps, IsNextOf, ApplyKeeps};
 ghost use Rattle.site_core.specs.Desks.{DeskValue, DeskSound};
-ghost use Rattle.site_core.specs.Faults.{has_closed, post_fault, issue_fault, give_fault, spend_fault, serve_fault};
-ghost use Rattle.site_core.specs.Faults.{close_fault};
+ghost use Rattle.site_core.specs.Faults.{has_closed, post_fault, issue_fault, give_fault, spend_fault, take_fault};
+ghost use Rattle.site_core.specs.Faults.{serve_fault, close_fault};
 ghost use Rattle.site_core.specs.Calls.{DeskWrites, DeskSpends, SpendKeeps, DeskServes, ServeKeeps, answer_of};
 ghost use Rattle.site_core.specs.Calls.{DeskAnswers, AnswerKeeps, DeskApplies, DeskCloses};
 ghost use Rattle.site_core.specs.declared.desk.requests.Spending.{Spending};
@@ -27,6 +27,8 @@ pub fn tested_is_allowed()
         → EntryKeeps d.ledger (Give j n ∷ []) new.ledger }
     ensures spend { (d new : DeskValue) (n deadline : ℕ) (spending : Spending) → DeskSound d → spend_fault d n ≡ None
         → DeskSpends d n deadline spending new → SpendKeeps d n spending new }
+    ensures take { (d new : DeskValue) (n : ℕ) → DeskSound d → take_fault d n ≡ None
+        → DeskWrites d (Spend n ∷ []) new → EntryKeeps d.ledger (Spend n ∷ []) new.ledger }
     ensures serve { (d new : DeskValue) (served : Option (ℕ × ℕ)) → DeskSound d → serve_fault d ≡ None
         → DeskServes d served new → ServeKeeps d served new }
     ensures grant { (d new : DeskValue) (ask : AskValue) (answer : AskAnswer) (number : Option ℕ) → DeskSound d

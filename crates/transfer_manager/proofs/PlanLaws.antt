@@ -6,7 +6,9 @@ use Rattle.std.proofs.lemmas.Bool.{cases_eq, eq-eqb, ne_eqb, ltb-true}
 use Rattle.std.proofs.lemmas.List.{length-take-le, take_at}
 use Rattle.rights_types.specs.Places.{at_site}
 use Rattle.rights_types.specs.Entries.{EntryValue}
+use Rattle.transfer_manager.specs.SiteSets.{no_sites, has_site}
 use Rattle.rights_types.specs.Rights.{sum_sites}
+use Rattle.rights_types.proofs.Places.{at_site-replicate}
 use Rattle.rights_types.proofs.SiteSums.{sum_same}
 use Rattle.rights_book.specs.Books.{BookValue, IsBook, sites as book_sites}
 use Rattle.rights_book.specs.StandsFor.{StandsFor}
@@ -16,7 +18,8 @@ use Rattle.rights_book.proofs.StandLaws.{account_stands, known_stands, held_stan
 use Rattle.transfer_manager.specs.declared.peer_asks.PeerAsks.{PeerAsks}
 use Rattle.transfer_manager.specs.Managers.{ManagerValue, sites, asks, no_asks, amount_of, with_ask, with_asked}
 use Rattle.transfer_manager.specs.Managers.{IsPeerAsks, IsManager}
-use Rattle.transfer_manager.specs.Plans.{Knowledge, of_book, of_logs, open_asks, need, above_zero, is_eligible}
+use Rattle.transfer_manager.specs.Plans.{Knowledge, of_book, of_logs, beside, open_asks, expected, need, above_zero}
+use Rattle.transfer_manager.specs.Plans.{is_eligible}
 use Rattle.transfer_manager.specs.Plans.{eligible_rights, rights_of, is_before, rights_before, amount_asked}
 use Rattle.transfer_manager.specs.Plans.{count_asked, planned, Plans}
 use Rattle.transfer_manager.proofs.ManagerLaws.{no_asks_is}
@@ -41,16 +44,18 @@ pub rights_left : (me : ℕ) (k : Knowledge) (j : ℕ) (p : PeerAsks) → 0 < el
     → p.last_ask < 1000000000
 rights_left me k j p h =
     let eligible = has_some (is_eligible me k j p) (above_zero (k.known j)) h in
-    let left = first_and (not (eqb j me) && is_none p.outstanding && not (k.closed j) && ltb p.last_ask 1000000000)
+    let left = first_and
+    (not (eqb j me) && is_none p.outstanding && not (k.closed j) && not (k.silent j) && ltb p.last_ask 1000000000)
     (ltb 0 (above_zero (k.known j))) eligible in
     ltb-true p.last_ask 1000000000
-    (last_and (not (eqb j me) && is_none p.outstanding && not (k.closed j)) (ltb p.last_ask 1000000000) left)
+    (last_and (not (eqb j me) && is_none p.outstanding && not (k.closed j) && not (k.silent j))
+    (ltb p.last_ask 1000000000) left)
 
 -- a site is not its own peer
 own_rights : (me : ℕ) (k : Knowledge) (p : PeerAsks) → eligible_rights me k me p ≡ 0
 own_rights me k p =
-    ap (λ (t : Bool). cond (not t && is_none p.outstanding && not (k.closed me) && ltb p.last_ask 1000000000 && ltb 0
-    (above_zero (k.known me))) (above_zero (k.known me)) 0)
+    ap (λ (t : Bool). cond (not t && is_none p.outstanding && not (k.closed me) && not (k.silent me)
+    && ltb p.last_ask 1000000000 && ltb 0 (above_zero (k.known me))) (above_zero (k.known me)) 0)
     (eq-eqb me me refl)
 
 -- ---- amounts by rights that agree
@@ -133,7 +138,7 @@ pub record IsPlanned (m : ManagerValue) (k : Knowledge) (queued : ℕ) (opened a
   pub begun : IsOpened m k opened rights
   pub whole : length asked ≡ sites m
   pub lacks : lack ≡ (queued - k.held) - sum_sites (length opened)
-      (λ j. amount_of (at_site opened j no_asks).outstanding)
+      (λ j. expected k j (at_site opened j no_asks))
   pub asks_each : (j : ℕ) → 1 ≤ j → j ≤ sites m
       → at_site asked j no_asks
       ≡ with_asked (at_site opened j no_asks) (amount_asked (sites m) (in_front m rights) lack j)
@@ -143,12 +148,12 @@ need_is : (m : ManagerValue) (k : Knowledge) (queued : ℕ) (opened asked : List
     (lack count : ℕ)
     → IsPlanned m k queued opened asked rights lack count → lack ≡ need m k queued
 need_is m k queued opened asked rights lack count is =
-    let sums : sum_sites (length opened) (λ j. amount_of (at_site opened j no_asks).outstanding)
-    ≡ sum_sites (sites m) (λ j. amount_of (open_asks m k j).outstanding) =
-    ap (λ n. sum_sites n (λ j. amount_of (at_site opened j no_asks).outstanding)) is.begun.same
-    ∙ sum_same (sites m) (λ j. amount_of (at_site opened j no_asks).outstanding)
-    (λ j. amount_of (open_asks m k j).outstanding)
-    (λ j low high. ap (λ (p : PeerAsks). amount_of p.outstanding) (is.begun.opens j low high)) in
+    let sums : sum_sites (length opened) (λ j. expected k j (at_site opened j no_asks))
+    ≡ sum_sites (sites m) (λ j. expected k j (open_asks m k j)) =
+    ap (λ n. sum_sites n (λ j. expected k j (at_site opened j no_asks))) is.begun.same
+    ∙ sum_same (sites m) (λ j. expected k j (at_site opened j no_asks))
+    (λ j. expected k j (open_asks m k j))
+    (λ j low high. ap (expected k j) (is.begun.opens j low high)) in
     is.lacks ∙ ap (λ n. (queued - k.held) - n) sums
 
 pub plans : (m : ManagerValue) (k : Knowledge) (queued : ℕ) (opened asked : List PeerAsks) (rights : List ℕ)
@@ -180,7 +185,7 @@ planned_few m k queued count new is p = omega (arith, p.counted, asks_few (sites
 pub opened_plans : (m : ManagerValue) (k : Knowledge) (queued : ℕ) (opened asked : List PeerAsks) (rights : List ℕ)
     (lack count : ℕ)
     → IsOpened m k opened rights → length asked ≡ length opened
-    → lack ≡ (queued - k.held) - sum_sites (length opened) (λ j. amount_of (at_site opened j no_asks).outstanding)
+    → lack ≡ (queued - k.held) - sum_sites (length opened) (λ j. expected k j (at_site opened j no_asks))
     → ((j : ℕ) → 1 ≤ j → j ≤ length opened
     → at_site asked j no_asks
     ≡ with_asked (at_site opened j no_asks)
@@ -257,6 +262,7 @@ planned_is m new k queued count is p =
 pub record SameKnowledge (n : ℕ) (x y : Knowledge) : Type 0 where
   pub known : (j : ℕ) → 1 ≤ j → j ≤ n → x.known j ≡ y.known j
   pub closed : (j : ℕ) → 1 ≤ j → j ≤ n → x.closed j ≡ y.closed j
+  pub silent : (j : ℕ) → 1 ≤ j → j ≤ n → x.silent j ≡ y.silent j
   pub held : x.held ≡ y.held
 
 open_same : (m : ManagerValue) (x y : Knowledge) → SameKnowledge (sites m) x y → (j : ℕ) → 1 ≤ j → j ≤ sites m
@@ -265,24 +271,26 @@ open_same m x y same j low high
     = ap (λ (c : Bool). let p : PeerAsks = cond c (record (asks m j) { outstanding = None }) (asks m j) in
     p) (same.closed j low high)
 
-abbrev rights_by : ℕ → ℕ → Bool → ℤ → PeerAsks → ℕ
-rights_by me j c z p = cond (not (eqb j me) && is_none p.outstanding && not c && ltb p.last_ask 1000000000 && ltb 0
-    (above_zero z)) (above_zero z) 0
+abbrev rights_by : ℕ → ℕ → Bool → Bool → ℤ → PeerAsks → ℕ
+rights_by me j c s z p = cond (not (eqb j me) && is_none p.outstanding && not c && not s && ltb p.last_ask 1000000000
+    && ltb 0 (above_zero z)) (above_zero z) 0
 
 rights_same : (m : ManagerValue) (x y : Knowledge) → SameKnowledge (sites m) x y
     → Agree (sites m) (rights_of m x) (rights_of m y)
 rights_same m x y same j low high =
-    ap (λ c. rights_by m.me j c (x.known j) (open_asks m x j)) (same.closed j low high)
-    ∙ ap (λ z. rights_by m.me j (y.closed j) z (open_asks m x j)) (same.known j low high)
-    ∙ ap (rights_by m.me j (y.closed j) (y.known j)) (open_same m x y same j low high)
+    ap (λ c. rights_by m.me j c (x.silent j) (x.known j) (open_asks m x j)) (same.closed j low high)
+    ∙ ap (λ s. rights_by m.me j (y.closed j) s (x.known j) (open_asks m x j)) (same.silent j low high)
+    ∙ ap (λ z. rights_by m.me j (y.closed j) (y.silent j) z (open_asks m x j)) (same.known j low high)
+    ∙ ap (rights_by m.me j (y.closed j) (y.silent j) (y.known j)) (open_same m x y same j low high)
 
 need_same : (m : ManagerValue) (x y : Knowledge) (queued : ℕ) → SameKnowledge (sites m) x y
     → need m x queued ≡ need m y queued
 need_same m x y queued same =
-    let sums : sum_sites (sites m) (λ j. amount_of (open_asks m x j).outstanding)
-    ≡ sum_sites (sites m) (λ j. amount_of (open_asks m y j).outstanding) =
-    sum_same (sites m) (λ j. amount_of (open_asks m x j).outstanding) (λ j. amount_of (open_asks m y j).outstanding)
-    (λ j low high. ap (λ (p : PeerAsks). amount_of p.outstanding) (open_same m x y same j low high)) in
+    let sums : sum_sites (sites m) (λ j. expected x j (open_asks m x j))
+    ≡ sum_sites (sites m) (λ j. expected y j (open_asks m y j)) =
+    sum_same (sites m) (λ j. expected x j (open_asks m x j)) (λ j. expected y j (open_asks m y j))
+    (λ j low high. ap (λ (s : Bool). cond s 0 (amount_of (open_asks m x j).outstanding)) (same.silent j low high)
+    ∙ ap (expected y j) (open_same m x y same j low high)) in
     omega (arith, sums, same.held)
 
 pub plans_same : (m new : ManagerValue) (x y : Knowledge) (queued count : ℕ) → SameKnowledge (sites m) x y
@@ -306,5 +314,22 @@ pub by_logs : (b : BookValue) (log : List EntryValue) (applied : ℕ → List En
 by_logs b log applied n is s count = rw (← count) (record {
   known = λ j low high. known_stands b log applied j is s low high;
   closed = λ j low high. ap (λ (a : Account). a.closed) (account_stands b log applied j s);
+  silent = λ j low high. refl;
   held = held_stands b log applied is s;
 })
+
+-- .. and so beside silent sites
+pub by_logs_beside : (silent : ℕ → Bool) (n : ℕ) (x y : Knowledge) → SameKnowledge n x y
+    → SameKnowledge n (beside silent x) (beside silent y)
+by_logs_beside silent n x y same
+    = record { known = same.known; closed = same.closed; silent = λ j low high. refl; held = same.held }
+
+-- nobody is silent
+pub beside_nobody : (n : ℕ) (x : Knowledge) → ((j : ℕ) → x.silent j ≡ false)
+    → SameKnowledge n (beside (has_site no_sites) x) x
+beside_nobody n x none = record {
+  known = λ j low high. refl;
+  closed = λ j low high. refl;
+  silent = λ j low high. at_site-replicate (λ (b : Bool). b ≡ false) 16 j false false (λ l h. refl) refl ∙ sym (none j);
+  held = refl;
+}

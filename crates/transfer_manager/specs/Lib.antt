@@ -1,3 +1,4 @@
+pub mod SiteSets
 pub mod Managers
 pub mod Plans
 pub mod AskAnswers

@@ -1,5 +1,5 @@
 -- What a site asks of each peer.
-use Rattle.std.specs.Prelude.{◌≡◌, ℕ, ◌-◌, ◌≤◌, min, Bool, not, is_none, nat_lt, ◌==◌, ◌&&◌, ◌||◌, None, List, ℤ, pos}
+use Rattle.std.specs.Prelude.{◌≡◌, ℕ, ◌-◌, ◌≤◌, min, Bool, false, not, is_none, nat_lt, ◌==◌, ◌&&◌, ◌||◌, None, List, ℤ, pos}
 use Rattle.std.specs.Prelude.{negsuc, if◌then◌else◌}
 use Rattle.rights_types.specs.declared.limits.TheConstants.{MAX_AMOUNT, MAX_ASK}
 use Rattle.rights_types.specs.Entries.{EntryValue}
@@ -10,22 +10,37 @@ use Rattle.rights_book.specs.Known.{logs_at, known}
 use Rattle.transfer_manager.specs.declared.peer_asks.PeerAsks.{PeerAsks}
 use Rattle.transfer_manager.specs.Managers.{ManagerValue, sites, asks, amount_of, with_asked, SameSystem}
 
--- what a plan is based on: the rights that each site is known to have, which sites are known to have closed, and what
--- the planning site holds
+-- what a plan is based on: the rights that each site is known to have, which sites are known to have closed, which are
+-- silent, and what the planning site holds
 pub record Knowledge : Type 0 where
   pub known : ℕ → ℤ
   pub closed : ℕ → Bool
+  pub silent : ℕ → Bool
   pub held : ℕ
 
--- .. according to a book
+-- .. according to a book, with no site silent
 abbrev pub of_book : BookValue → Knowledge
-of_book b = record { known = known_by b; closed = λ j. (account b j).closed; held = held_by b }
+of_book b = record {
+  known = known_by b;
+  closed = λ j. (account b j).closed;
+  silent = λ j. false;
+  held = held_by b;
+}
 
 -- .. according to the logs that site me of n sites has: its own, and of each other one what it applied
 abbrev pub of_logs : ℕ → ℕ → List EntryValue → (ℕ → List EntryValue) → Knowledge
 of_logs n me log applied =
     let logs = logs_at me log applied in
-    record { known = λ j. known n j logs; closed = λ j. is_closed (logs j); held = held n me log applied }
+    record {
+      known = λ j. known n j logs;
+      closed = λ j. is_closed (logs j);
+      silent = λ j. false;
+      held = held n me log applied;
+    }
+
+-- the same, with these sites silent
+abbrev pub beside : (ℕ → Bool) → Knowledge → Knowledge
+beside silent k = record k { silent = silent }
 
 -- without the outstanding ask, if site j is known to have closed
 abbrev pub without_closed : Knowledge → ℕ → PeerAsks → PeerAsks
@@ -35,19 +50,24 @@ without_closed k j p = if k.closed j then record p { outstanding = None } else p
 abbrev pub open_asks : ManagerValue → Knowledge → ℕ → PeerAsks
 open_asks m k j = without_closed k j (asks m j)
 
--- what is queued, less what is held, less what is outstanding; 0 if that is negative
+-- the rights of the outstanding ask to site j; of a silent site none are expected
+abbrev pub expected : Knowledge → ℕ → PeerAsks → ℕ
+expected k j p = if k.silent j then 0 else amount_of p.outstanding
+
+-- what is queued, less what is held, less what is expected; 0 if that is negative
 abbrev pub need : ManagerValue → Knowledge → ℕ → ℕ
-need m k queued = (queued - k.held) - sum_sites (sites m) (λ j. amount_of (open_asks m k j).outstanding)
+need m k queued = (queued - k.held) - sum_sites (sites m) (λ j. expected k j (open_asks m k j))
 
 abbrev pub above_zero : ℤ → ℕ
 above_zero (pos n) = n
 above_zero (negsuc n) = 0
 
--- site j, with these asks, is eligible: it is not me, has no ask outstanding, is not known to have closed, has an ask
--- number left, and is known to have rights
+-- site j, with these asks, is eligible: it is not me, has no ask outstanding, is not known to have closed, is not
+-- silent, has an ask number left, and is known to have rights
 abbrev pub is_eligible : ℕ → Knowledge → ℕ → PeerAsks → Bool
-is_eligible me k j p = not (j == me) && is_none p.outstanding && not (k.closed j) && nat_lt p.last_ask MAX_ASK && nat_lt
-    0 (above_zero (k.known j))
+is_eligible me k j p =
+    not (j == me) && is_none p.outstanding && not (k.closed j) && not (k.silent j) && nat_lt p.last_ask MAX_ASK
+    && nat_lt 0 (above_zero (k.known j))
 
 -- the rights that an eligible site is known to have; 0 for any other site
 abbrev pub eligible_rights : ℕ → Knowledge → ℕ → PeerAsks → ℕ

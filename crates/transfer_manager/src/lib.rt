@@ -6,6 +6,8 @@ mod answer;
 mod manager;
 mod peer_asks;
 mod plan;
+mod site_set;
 
 pub use answer::AskAnswer;
 pub use manager::Manager;
+pub use site_set::SiteSet;

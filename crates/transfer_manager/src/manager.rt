@@ -6,6 +6,7 @@ ghost use Rattle.rights_types.specs.Messages.{AskValue, IsAsk};
 use crate::answer::AskAnswer;
 use crate::peer_asks::PeerAsks;
 use crate::plan::{ask_each, eligible_rights, end_closed, need};
+use crate::site_set::SiteSet;
 use request_queue::RequestQueue;
 use rights_book::Book;
 use rights_types::{Amount, Ask, AskNumber, MAX_SITES, MIN_SITES, SiteId};
@@ -35,11 +36,12 @@ impl Model for Manager {
 }
 
 impl Manager {
-    ghost use Rattle.rights_book.specs.Books.{sites as book_sites};
+    ghost use Rattle.transfer_manager.specs.SiteSets.{has_site};
+    ghost use Rattle.rights_book.specs.Books.{sites as book_sites, IsBook};
     ghost use Rattle.rights_book.specs.StandsFor.{StandsFor};
     ghost use Rattle.request_queue.specs.Queues.{total_of};
     ghost use Rattle.transfer_manager.specs.Managers.{sites, asks, SameSystem, new_manager, outstanding_ask, ended};
-    ghost use Rattle.transfer_manager.specs.Plans.{of_book, of_logs, Plans};
+    ghost use Rattle.transfer_manager.specs.Plans.{of_book, of_logs, beside, Plans};
     ghost use Rattle.transfer_manager.specs.AskAnswers.{answer_to, with_answer, noted, IfNew, IsWithin, IsAnswered};
 
     /// The manager of site `me` in a system of `sites` sites, 2 to 16, before any ask.
@@ -74,10 +76,31 @@ impl Manager {
         ensures answered { (past : AskValue) → IsAnswered self.old past → IsAnswered self.new past }
         ensures range { result ≤ MAX_SITES }
     {
+        self.plan_beside(book, queue, &SiteSet::new())
+    }
+
+    /// The same beside peers of which nothing is heard: a silent peer is not asked anew, and what it was asked for is
+    /// not expected of it, so that the others are asked. The ask to it stays outstanding, with its number.
+    pub fn plan_beside<A: Allocator, B: Allocator>(
+        &mut self,
+        book: &Book<A>,
+        queue: &RequestQueue<B>,
+        silent: &SiteSet,
+    ) -> u64
+        ensures plans { Plans self.old (beside (has_site silent.now) (of_book book.now))
+            (total_of queue.now.waiting) result self.new }
+        ensures plans_by_logs { (log : List EntryValue) (applied : ℕ → List EntryValue) → StandsFor log applied book.now
+            → book_sites book.now ≡ sites self.old
+            → Plans self.old (beside (has_site silent.now) (of_logs (sites self.old) book.now.me log applied))
+            (total_of queue.now.waiting) result self.new }
+        ensures answered { (past : AskValue) → IsAnswered self.old past → IsAnswered self.new past }
+        ensures range { result ≤ MAX_SITES }
+        ensures valid { IsBook book.now }
+    {
         let peers = &mut self.peers[..self.sites];
         end_closed(peers, book);
-        let need = need(peers, book, queue);
-        let rights = eligible_rights(self.me, peers, book);
+        let need = need(peers, book, queue, silent);
+        let rights = eligible_rights(self.me, peers, book, silent);
         let sites = peers.len();
         ask_each(peers, &rights[..sites], need)
     }

@@ -1,5 +1,5 @@
 //! Several entries under one hold of the lock.
-ghost use Rattle.std.specs.Prelude.{◌≡◌, ℕ, true, false, None, Ok, IsSome, IfOk, IfErr, OnOk, IfSome, IfNone};
+ghost use Rattle.std.specs.Prelude.{◌≡◌, ℕ, ◌≤◌, true, false, None, Ok, IsSome, IfOk, IfErr, OnOk, IfSome, IfNone};
 ghost use Rattle.apply_lanes.specs.declared.applier.StepError.TheVariants.{LaneClosed as NothingCame};
 
 use crate::applier::{Applier, StepError};
@@ -23,7 +23,8 @@ const PAUSES: u32 = 64;
 // reader more than to put an entry.
 const LOOKS: u32 = 150;
 
-fn pause() {
+/// Pauses for a moment, between two batches of an applier.
+pub fn pause() {
     for _ in 0..PAUSES {
         hint::spin_loop();
     }
@@ -61,8 +62,9 @@ impl<D: DeskNames, G: Gate, A: Allocator> Applier<D, G, A> {
         }
     }
 
-    // As `fill`, but looks for an item for a while before it blocks.
-    fn fill_soon<R: Wait>(&mut self, rt: &R) -> Result<bool, StepError>
+    /// Takes the next entry in hand, unless one is there: looks for it for a while, and then blocks until it comes.
+    /// `false` if End was taken. Error: `LaneClosed`.
+    pub fn fill_soon<R: Wait>(&mut self, rt: &R) -> Result<bool, StepError>
         ensures ok { IfOk result (λ more. Fills self.old more self.new) }
         ensures hand { IfOk result (λ more. more ≡ true → IsSome self.new.hand) }
         ensures counted { IsCounted D.id self.new }
@@ -80,15 +82,16 @@ impl<D: DeskNames, G: Gate, A: Allocator> Applier<D, G, A> {
         self.fill(rt)
     }
 
-    // Applies or drops the entry in hand, and then those that wait on the lane, at most `MAX_BATCH` in all, at the
-    // value under the lock. It waits for none. Returns how many, and `false` if End was taken. Errors: those of
-    // `apply_in`, which concern the entry then in hand; the entries before it were applied or dropped. It passes no
-    // gate.
-    fn apply_ready<B: Allocator + Copy>(
+    /// Applies or drops the entry in hand, and then those that wait on the lane, at most `MAX_BATCH` in all, at the
+    /// value under the lock. It waits for none. Returns how many, and `false` if End was taken. Errors: those of
+    /// `apply_in`, which concern the entry then in hand; the entries before it were applied or dropped. It passes no
+    /// gate.
+    pub fn apply_ready<B: Allocator + Copy>(
         &mut self,
         kept: &mut Kept<D, B>,
     ) -> Result<(u64, bool), StepError>
         ensures ok { IfOk result (λ r. HandlesBatch D.id self.old kept.old r.0 r.1 self.new kept.new) }
+        ensures few { IfOk result (λ r. r.0 ≤ MAX_BATCH) }
         ensures counted { IsCounted D.id self.new }
         ensures same { (self.new.origin ≡ self.old.origin) × (self.new.outlet.lane ≡ self.old.outlet.lane) }
         ensures err { IfErr result (λ fault. BatchFails D.id self.old kept.old fault self.new kept.new) }
@@ -119,6 +122,7 @@ impl<D: DeskNames, A: Allocator> Applier<D, Free, A> {
         desk: &SharedDesk<D, B>,
     ) -> Result<(u64, bool), StepError>
         ensures ok { IfOk result (λ r. StepsReady D.id self.old r.0 r.1 self.new) }
+        ensures few { IfOk result (λ r. r.0 ≤ MAX_BATCH) }
         ensures ended { self.old.ended ≡ true → (result ≡ Ok (0, false)) × (self.new ≡ self.old) }
         ensures counted { IsCounted D.id self.new }
         ensures same { (self.new.origin ≡ self.old.origin) × (self.new.outlet.lane ≡ self.old.outlet.lane) }

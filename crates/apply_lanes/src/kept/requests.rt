@@ -2,18 +2,20 @@
 ghost use Rattle.std.specs.Prelude.{◌≡◌, ℕ, ◌<◌, ◌≤◌, ◌∷◌, [], true, None, Some, IfOk, IfErr, IfSome, OnOk, OnErr};
 ghost use Rattle.std.specs.Prelude.{IsOk, List, length};
 ghost use Rattle.rights_types.specs.Chains.{end};
-ghost use Rattle.rights_types.specs.declared.moves.Move.TheVariants.{Issue as Issues, Give as Gives};
+ghost use Rattle.rights_types.specs.declared.moves.Move.TheVariants.{Issue as Issues, Spend as Spends, Give as Gives};
+ghost use Rattle.transfer_manager.specs.SiteSets.{has_site};
 ghost use Rattle.rights_book.specs.Books.{sites};
 ghost use Rattle.request_queue.specs.Queues.{front_of};
 ghost use Rattle.request_queue.specs.declared.queue.TheConstants.{SLOTS};
 ghost use Rattle.request_queue.specs.Calls.{TellsOutcome};
+ghost use Rattle.request_queue.specs.declared.request.Status.TheVariants.{Waiting as Waits};
 ghost use Rattle.transfer_manager.specs.Managers.{ended};
 ghost use Rattle.site_core.specs.Faults.{can_spend, can_serve, issue_fault, give_fault, spend_fault, serve_fault};
-ghost use Rattle.site_core.specs.Faults.{expire_fault, close_fault, DeskRefuses};
+ghost use Rattle.site_core.specs.Faults.{take_fault, expire_fault, close_fault, DeskRefuses};
 ghost use Rattle.site_core.specs.Ledgers.{EntryKeeps, ClosingKeeps};
 ghost use Rattle.site_core.specs.Calls.{DeskWrites, DeskSpends, SpendKeeps, DeskServes, ServeKeeps, DeskExpires};
 ghost use Rattle.site_core.specs.Calls.{DeskPlans, DeskCloses, answer_of, is_ignored, denial_of, LineOf, DeskAnswers};
-ghost use Rattle.site_core.specs.Calls.{AnswerKeeps};
+ghost use Rattle.site_core.specs.Calls.{AnswerKeeps, DeskCancels, DeskPlansBeside};
 ghost use Rattle.site_core.specs.declared.fault.DeskError.TheVariants.{OutOfMemory as NoMemory};
 ghost use Rattle.rights_protocol.specs.Schedules.LocalChange.{Write, Retire, Other};
 ghost use Rattle.apply_lanes.specs.Steps.{StepsBy, spend_change, serve_change, answer_change};
@@ -25,10 +27,11 @@ use request_queue::{SLOTS, Status};
 use rights_types::{Ask, AskNumber, OutOfMemory, SiteId};
 use site_core::{AskReply, DeskError, Spending};
 use std::alloc::Allocator;
+use transfer_manager::SiteSet;
 
 impl<D: DeskNames, A: Allocator + Copy> Kept<D, A> {
-    ghost use Rattle.apply_lanes.specs.Kepts.{raised, told_issued, told_spent, told_served, spent_by, without_amount};
-    ghost use Rattle.apply_lanes.specs.Kepts.{amount_of, IsFront};
+    ghost use Rattle.apply_lanes.specs.Kepts.{raised, told_issued, told_spent, told_taken, told_served, spent_by};
+    ghost use Rattle.apply_lanes.specs.Kepts.{without_amount, amount_of, IsFront};
 
     /// Creates rights, with one entry, whose number is returned.
     pub fn issue(&mut self, seat: &mut Seat<D>, amount: u64) -> Result<u64, DeskError>
@@ -77,6 +80,26 @@ impl<D: DeskNames, A: Allocator + Copy> Kept<D, A> {
             seat.spent += amount;
         }
         Ok(spending)
+    }
+
+    /// Spends this number of rights now, or not at all, with one entry, whose number is returned. Errors: see `Desk::take`.
+    pub fn take(&mut self, seat: &mut Seat<D>, rights: u64) -> Result<u64, DeskError>
+        ensures refused { DeskRefuses (take_fault self.old.desk rights) result }
+        ensures ok { OnOk result (DeskWrites self.old.desk (Spends rights ∷ []) self.new.desk) }
+        ensures keeps { OnOk result (EntryKeeps self.old.desk.ledger (Spends rights ∷ []) self.new.desk.ledger) }
+        ensures step { OnOk result (StepsBy D.id self.old.desk (Write (Spends rights ∷ [])) self.new.desk) }
+        ensures number { IfOk result (λ n. n ≡ end self.new.desk.ledger.log.entries) }
+        ensures counters { OnOk result
+            (self.new ≡ record self.old { desk = self.new.desk; spent = raised self.old.spent rights }) }
+        ensures told { OnOk result (seat.new ≡ told_taken seat.old rights) }
+        ensures err { OnErr result ((self.new ≡ self.old) × (seat.new ≡ seat.old)) }
+    {
+        let number = self.desk.take(rights)?;
+        // For the proof: the sum is in its range.
+        let _ = self.desk.spent();
+        self.spent.add(&mut seat.used, rights);
+        seat.spent += rights;
+        Ok(number)
     }
 
     /// Serves the spend at the front of the queue, if that many rights are held, and returns its ticket, the number
@@ -141,6 +164,17 @@ impl<D: DeskNames, A: Allocator + Copy> Kept<D, A> {
         self.desk.status(ticket)
     }
 
+    /// Ends the spend with this ticket, if it waits, as if its deadline had passed, and reports the outcome of the
+    /// ticket, which is not `Waiting`. An outcome is reported once, which frees its slot.
+    pub fn cancel(&mut self, ticket: u64) -> Status
+        ensures cancels { DeskCancels self.old.desk ticket result self.new.desk }
+        ensures decided { ¬ (result ≡ Waits) }
+        ensures step { StepsBy D.id self.old.desk Other self.new.desk }
+        ensures rest { self.new ≡ record self.old { desk = record self.old.desk { queue = self.new.desk.queue } } }
+    {
+        self.desk.cancel(ticket)
+    }
+
     /// Ends asks to peers that are known to be closed, and asks peers for the rights that waiting spends lack.
     /// Returns the number of asks made.
     pub fn plan(&mut self) -> u64
@@ -149,6 +183,15 @@ impl<D: DeskNames, A: Allocator + Copy> Kept<D, A> {
         ensures rest { self.new ≡ record self.old { desk = self.new.desk } }
     {
         self.desk.plan()
+    }
+
+    /// The same beside silent peers: none of them is asked anew, and what they were asked for is not expected of them.
+    pub fn plan_beside(&mut self, silent: &SiteSet) -> u64
+        ensures plans { DeskPlansBeside (has_site silent.now) self.old.desk result self.new.desk }
+        ensures step { StepsBy D.id self.old.desk Other self.new.desk }
+        ensures rest { self.new ≡ record self.old { desk = self.new.desk } }
+    {
+        self.desk.plan_beside(silent)
     }
 
     /// Answers the ask of a peer. A grant is written at once.

@@ -1,13 +1,14 @@
 //! Asks for rights: those of this site, and those of others.
 ghost use Rattle.std.specs.Prelude.{◌≡◌, ℕ, ◌<◌, ◌≤◌, true, List, None, Some, IfOk, IsOk, OnOk, OnErr};
 ghost use Rattle.std.specs.Option.{option_map};
+ghost use Rattle.transfer_manager.specs.SiteSets.{has_site};
 ghost use Rattle.rights_types.specs.Messages.MessageValue.{AnAsk, ADenial};
 ghost use Rattle.entry_codec.specs.Spelling.{Spells};
 ghost use Rattle.rights_book.specs.Books.{sites};
 ghost use Rattle.transfer_manager.specs.Managers.{asks, outstanding_ask, ended};
 ghost use Rattle.transfer_manager.specs.AskAnswers.{IfNew, IsWithin, noted};
 ghost use Rattle.transfer_manager.specs.declared.answer.AskAnswer.TheVariants.{Grant as Grants};
-ghost use Rattle.site_core.specs.Calls.{DeskPlans, available, answer_of, is_ignored, denial, denial_of, LineOf};
+ghost use Rattle.site_core.specs.Calls.{DeskPlans, DeskPlansBeside, available, answer_of, is_ignored, denial, denial_of, LineOf};
 ghost use Rattle.site_core.specs.Calls.{DeskAnswers, AnswerKeeps};
 
 use crate::desk::Desk;
@@ -15,7 +16,7 @@ use crate::line::Line;
 use entry_codec::write_line;
 use rights_types::{Amount, Ask, AskNumber, Deny, Message, Move, OutOfMemory, SiteId};
 use std::alloc::{Allocator, Global};
-use transfer_manager::AskAnswer;
+use transfer_manager::{AskAnswer, SiteSet};
 
 /// The answer of a desk to an ask.
 #[derive(Drop)]
@@ -34,6 +35,15 @@ impl<A: Allocator + Copy> Desk<A> {
         ensures { DeskPlans self.old result self.new }
     {
         self.manager.plan(self.ledger.book(), &self.queue)
+    }
+
+    /// The same beside peers of which nothing is heard: a silent peer is not asked anew, and what it was asked for is
+    /// not expected of it, so that the others are asked. The ask to it stays outstanding, and so does its line.
+    pub fn plan_beside(&mut self, silent: &SiteSet) -> u64
+        ensures { DeskPlansBeside (has_site silent.now) self.old result self.new }
+    {
+        self.manager
+            .plan_beside(self.ledger.book(), &self.queue, silent)
     }
 
     /// The line of the outstanding ask to that peer; None if none is outstanding.
@@ -92,7 +102,7 @@ impl<A: Allocator + Copy> Desk<A> {
         if self.ledger.log().closed() || self.ledger.book().closed(peer) || !self.has_room(1) {
             return 0;
         }
-        self.ledger.book().held().saturating_sub(self.queue.total())
+        self.spare()
     }
 
     // Writes the grant, and records it as answered. Returns the number of its entry.

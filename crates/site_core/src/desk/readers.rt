@@ -17,7 +17,7 @@ ghost use Rattle.site_core.specs.Faults.{has_closed};
 
 use crate::desk::Desk;
 use origin_log::OriginLog;
-use request_queue::SLOTS;
+use request_queue::{Request, SLOTS};
 use rights_types::{
     MAX_AMOUNT, MAX_HELD_RIGHTS, MAX_NUMBER, MAX_RECEIVED, MAX_SITES, MAX_TOTAL, MIN_SITES, SiteId,
 };
@@ -165,6 +165,13 @@ impl<A: Allocator + Copy> Desk<A> {
         ensures few { length self.now.queue.waiting ≤ SLOTS }
     {
         self.queue.total()
+    }
+
+    /// The waiting spends, the oldest first.
+    pub fn requests(&self) -> &[Request]
+        ensures { result.now ≡ self.now.queue.waiting }
+    {
+        self.queue.requests()
     }
 
     /// How many spends wait. Each takes a slot of the queue.

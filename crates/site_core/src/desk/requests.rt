@@ -1,10 +1,16 @@
 //! Spends: those that are served at once, and those that wait.
-ghost use Rattle.std.specs.Prelude.{◌≡◌, ◌<◌, ◌≤◌, true, IfOk, IfErr, IfSome, OnOk, OnErr, length};
+ghost use Rattle.std.specs.Prelude.{◌≡◌, ◌<◌, ◌≤◌, true, ◌∷◌, [], IfOk, IfErr, IfSome, OnOk, OnErr, length};
+ghost use Rattle.rights_types.specs.Chains.{end};
+ghost use Rattle.rights_types.specs.declared.moves.Move.TheVariants.{Spend as Spends};
 ghost use Rattle.request_queue.specs.Queues.{front_of};
+ghost use Rattle.request_queue.specs.declared.request.Status.TheVariants.{Waiting as Waits};
 ghost use Rattle.request_queue.specs.declared.queue.TheConstants.{SLOTS};
 ghost use Rattle.request_queue.specs.Calls.{TellsOutcome};
-ghost use Rattle.site_core.specs.Faults.{can_spend, can_serve, spend_fault, serve_fault, expire_fault, DeskRefuses};
-ghost use Rattle.site_core.specs.Calls.{DeskSpends, SpendKeeps, DeskServes, ServeKeeps, DeskExpires, ExpiresLate};
+ghost use Rattle.site_core.specs.Ledgers.{EntryKeeps};
+ghost use Rattle.site_core.specs.Faults.{can_spend, can_serve, spare, spend_fault, take_fault, serve_fault};
+ghost use Rattle.site_core.specs.Faults.{expire_fault, DeskRefuses};
+ghost use Rattle.site_core.specs.Calls.{DeskWrites, DeskSpends, SpendKeeps, DeskServes, ServeKeeps, DeskExpires};
+ghost use Rattle.site_core.specs.Calls.{ExpiresLate, DeskCancels};
 ghost use Rattle.site_core.specs.declared.fault.DeskError.TheVariants.{OutOfMemory as NoMemory};
 
 use crate::desk::Desk;
@@ -51,6 +57,31 @@ impl<A: Allocator + Copy> Desk<A> {
             Ok(ticket) => Ok(Spending::Queued(ticket)),
             Err(_) => Err(DeskError::QueueFull),
         }
+    }
+
+    /// Spends this many rights now, or not at all: nothing is queued, and nobody is asked. What the waiting spends need
+    /// is left to them. Returns the number of the entry. Errors, in this order: `Closed`, `BadAmount`, `LogFull`,
+    /// `Short`.
+    pub fn take(&mut self, amount: u64) -> Result<u64, DeskError>
+        ensures refused { DeskRefuses (take_fault self.old amount) result }
+        ensures ok { OnOk result (DeskWrites self.old (Spends amount ∷ []) self.new) }
+        ensures keeps { OnOk result (EntryKeeps self.old.ledger (Spends amount ∷ []) self.new.ledger) }
+        ensures number { IfOk result (λ n. n ≡ end self.new.ledger.log.entries) }
+        ensures err { OnErr result (self.new ≡ self.old) }
+    {
+        if self.ledger.log().closed() {
+            return Err(DeskError::Closed);
+        }
+        let Ok(rights) = Amount::new(amount) else {
+            return Err(DeskError::BadAmount);
+        };
+        if !self.has_room(1) {
+            return Err(DeskError::LogFull);
+        }
+        if self.spare() < amount {
+            return Err(DeskError::Short);
+        }
+        Ok(self.ledger.write(&[Move::Spend(rights)])?)
     }
 
     /// Serves the spend at the front of the queue, if enough rights are held, and returns its ticket and the number of
@@ -102,6 +133,23 @@ impl<A: Allocator + Copy> Desk<A> {
         ensures rest { self.new ≡ record self.old { queue = self.new.queue } }
     {
         self.queue.status(ticket)
+    }
+
+    /// Ends the spend with this ticket, if it waits, as if its deadline had passed, and reports the outcome of the
+    /// ticket: so it never says `Waiting`. A final outcome is reported once, which frees its slot.
+    pub fn cancel(&mut self, ticket: u64) -> Status
+        ensures cancels { DeskCancels self.old ticket result self.new }
+        ensures decided { ¬ (result ≡ Waits) }
+    {
+        self.queue.cancel(ticket);
+        self.queue.status(ticket)
+    }
+
+    // What is held beyond the waiting spends.
+    pub(super) fn spare(&self) -> u64
+        ensures { result ≡ spare self.now }
+    {
+        self.ledger.book().held().saturating_sub(self.queue.total())
     }
 }
 

@@ -10,7 +10,7 @@ use site_core::{AskReply, Desk, DeskError, Spending};
 use std::alloc::{AllocError, Global};
 use std::process::Abort;
 use std::str;
-use transfer_manager::AskAnswer;
+use transfer_manager::{AskAnswer, SiteSet};
 
 /// A desk whose memory requests may be refused.
 pub(crate) type Counted<'a> = Desk<&'a Refusing<Global>>;
@@ -63,6 +63,13 @@ pub(crate) fn plan(desk: &mut Counted) -> Result<u64, DeskError> {
     Ok(desk.plan())
 }
 
+/// A plan while that peer is silent.
+pub(crate) fn plan_beside(desk: &mut Counted, peer: SiteId) -> Result<u64, DeskError> {
+    let mut silent = SiteSet::new();
+    silent.insert(peer);
+    Ok(desk.plan_beside(&silent))
+}
+
 /// A number after a word, or why there is none.
 pub(crate) fn numbered(alloc: Global, word: &str, answer: Result<u64, DeskError>) -> Reply {
     match answer {
@@ -87,8 +94,20 @@ pub(crate) fn serve(alloc: Global, desk: &mut Counted) -> Reply {
     }
 }
 
+pub(crate) fn take(alloc: Global, desk: &mut Counted, amount: u64) -> Reply {
+    numbered(alloc, "spent", desk.take(amount))
+}
+
 pub(crate) fn status(alloc: Global, desk: &mut Counted, ticket: u64) -> Reply {
-    match desk.status(ticket) {
+    status_text(alloc, desk.status(ticket))
+}
+
+pub(crate) fn cancel(alloc: Global, desk: &mut Counted, ticket: u64) -> Reply {
+    status_text(alloc, desk.cancel(ticket))
+}
+
+fn status_text(alloc: Global, status: Status) -> Reply {
+    match status {
         Status::Waiting => String::from_str(alloc, "waiting"),
         Status::Spent(number) => format!(in alloc; "spent {number}"),
         Status::Expired => String::from_str(alloc, "expired"),

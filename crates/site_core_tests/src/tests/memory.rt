@@ -24,11 +24,12 @@ const DENIED: &str = "hear 1 W 2 1 1 1 > denied D 1 2 1\n";
 const GIVEN: &str = "issue 1 5 > number 1\ngive 1 2 3 > number 2\n";
 
 // The calls before, and a call that writes an entry or a line.
-const WRITING: [(&str, &str); 15] = [
+const WRITING: [(&str, &str); 16] = [
     ("", "post 1 I:5 S:5 > number 2"),
     ("", "issue 1 5 > number 1"),
     (ISSUED, "give 1 2 5 > number 5"),
     (ISSUED, "spend 1 5 0 > spent 5"),
+    (ISSUED, "take 1 5 > spent 5"),
     (WAITING, "serve 1 > served 1 5"),
     (ASKED, "ask 2 1 > W 2 1 1 5"),
     (ISSUED, "publish 1 3 > E 1 0 1 I:2"),
@@ -50,12 +51,13 @@ fn calls_that_ask_for_memory(rt: HostRuntime) {
     }
 }
 
-const READING: [&str; 24] = [
+const READING: [&str; 27] = [
     "spend 1 9 0 > queued 1",
     "serve 2 > nothing",
     "serve 1 > nothing",
     "expire 2 6 > expired 1",
     "plan 2 > asks 0",
+    "plan_beside 2 1 > asks 0",
     "status 2 1 > waiting",
     "hear 2 D 1 2 1 > noted",
     "hear 1 E 2 0 3 I:9 R:1:4 C > taken 3",
@@ -71,6 +73,8 @@ const READING: [&str; 24] = [
     "give 1 1 1 > error SameSite",
     "give 1 3 1 > error PeerClosed",
     "give 1 2 9 > error Short",
+    "take 1 9 > error Short",
+    "cancel 1 9 > unknown",
     "close 2 > error QueueBusy",
     "close 1 1 > error SameSite",
     "hear 1 Q 3 2 1 1 > error NotMine",

@@ -112,6 +112,80 @@ spend 1 1 0 > error Closed
     let _ = plays(&rt, 2, script);
 }
 
+/// A take is served now or refused, whatever waits. What waiting spends ask for is not taken, and nothing is queued.
+#[test]
+fn takes(rt: HostRuntime) {
+    let script = "\
+take 1 0 > error BadAmount
+take 1 1000000001 > error BadAmount
+take 1 1 > error Short
+site 1 > number 0 issued 0 spent 0 given 0 back 0 received 0 held 0 queued 0 open
+issue 1 10 > number 1
+take 1 11 > error Short
+take 1 4 > spent 2
+spend 1 9 0 > queued 1
+take 1 1 > error Short
+take 1 0 > error BadAmount
+issue 1 5 > number 3
+take 1 3 > error Short
+take 1 2 > spent 4
+site 1 > number 4 issued 15 spent 6 given 0 back 0 received 0 held 9 queued 9 open
+serve 1 > served 1 5
+close 1 > number 6
+take 1 0 > error Closed
+take 1 1 > error Closed
+";
+    let _ = plays(&rt, 2, script);
+}
+
+/// A cancelled spend expires and is reported at once, so its slot is free. What was served is reported as such.
+#[test]
+fn cancels(rt: HostRuntime) {
+    let script = "\
+cancel 1 1 > unknown
+spend 1 5 9 > queued 1
+spend 1 3 9 > queued 2
+spend 1 1 9 > queued 3
+cancel 1 2 > expired
+cancel 1 2 > unknown
+status 1 2 > unknown
+site 1 > number 0 issued 0 spent 0 given 0 back 0 received 0 held 0 queued 6 open
+issue 1 5 > number 1
+serve 1 > served 1 2
+cancel 1 1 > spent 2
+cancel 1 1 > unknown
+expire 1 10 > expired 1
+cancel 1 3 > expired
+status 1 3 > unknown
+close 1 > number 3
+cancel 1 1 > unknown
+";
+    let _ = plays(&rt, 2, script);
+}
+
+/// A silent peer is not asked, and what it was asked for is asked of the others. Its ask stays outstanding, and a late
+/// grant of it is applied.
+#[test]
+fn silent_peers(rt: HostRuntime) {
+    let script = "\
+hear 2 E 1 0 1 I:9 > taken 1
+hear 2 E 3 0 1 I:6 > taken 1
+spend 2 4 9 > queued 1
+plan 2 > asks 1
+ask 2 1 > W 2 1 1 4
+plan_beside 2 1 > asks 1
+ask 2 1 > W 2 1 1 4
+ask 2 3 > W 2 3 1 4
+plan_beside 2 1 > asks 0
+hear 2 E 3 1 2 G:2:4:1 > taken 2
+serve 2 > served 1 1
+hear 2 E 1 1 2 G:2:4:1 > taken 2
+ask 2 1 > nothing
+site 2 > number 1 issued 0 spent 4 given 0 back 0 received 8 held 4 queued 0 open
+";
+    let _ = plays(&rt, 3, script);
+}
+
 /// Requests are served only from the front. Posts and gifts do not wait for them, and reserve nothing.
 #[test]
 fn waiting_spends(rt: HostRuntime) {

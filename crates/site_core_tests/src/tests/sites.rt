@@ -1,8 +1,8 @@
 //! Scripts of calls of desks.
 use crate::tests::balance::Totals;
 use crate::tests::calls::{
-    Counted, NO_MEMORY, Reply, ask_line, beat_line, close, expire, give, hear, issue, new_desk,
-    numbered, plan, post, publish, serve, spend, status,
+    Counted, NO_MEMORY, Reply, ask_line, beat_line, cancel, close, expire, give, hear, issue,
+    new_desk, numbered, plan, plan_beside, post, publish, serve, spend, status, take,
 };
 use crate::tests::readers::{Told, peer_numbers, tell_peer, tell_site};
 use refusing_allocator::Refusing;
@@ -40,7 +40,8 @@ fn may_ask_for_memory(command: &str, reply: &str) -> bool {
     let sends = ["A ", "B ", "E ", "W "]
         .iter()
         .any(|word| reply.starts_with(*word));
-    writes && !command.starts_with("status ") || sends || command.contains(" K:")
+    let reads = command.starts_with("status ") || command.starts_with("cancel ");
+    writes && !reads || sends || command.contains(" K:")
 }
 
 impl<'a> Sites<'a> {
@@ -147,6 +148,8 @@ impl<'a> Sites<'a> {
             ("post", _) => post(alloc, desk, words),
             ("issue", _) => numbered(alloc, "number", issue(desk, first)),
             ("spend", _) => spend(alloc, desk, first, second),
+            ("take", _) => take(alloc, desk, first),
+            ("cancel", _) => cancel(alloc, desk, first),
             ("serve", _) => serve(alloc, desk),
             ("expire", _) => numbered(alloc, "expired", expire(desk, first)),
             ("status", _) => status(alloc, desk, first),
@@ -164,6 +167,7 @@ impl<'a> Sites<'a> {
 fn say_of_peer(alloc: Global, desk: &mut Counted, verb: &str, peer: SiteId, amount: u64) -> Reply {
     match verb {
         "give" => numbered(alloc, "number", give(desk, peer, amount)),
+        "plan_beside" => numbered(alloc, "asks", plan_beside(desk, peer)),
         "ask" => ask_line(alloc, desk, peer),
         "publish" => publish(alloc, desk, peer),
         "beat" => beat_line(alloc, desk, peer),

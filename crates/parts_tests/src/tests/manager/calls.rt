@@ -6,7 +6,7 @@ use request_queue::RequestQueue;
 use rights_book::Book;
 use rights_types::{Ask, AskNumber, Entry, Move, SiteId};
 use std::alloc::Global;
-use transfer_manager::Manager;
+use transfer_manager::{Manager, SiteSet};
 
 /// A manager, and the book and queue by which it plans.
 #[derive(Drop)]
@@ -30,6 +30,8 @@ pub(crate) enum Step {
     Waits(u64, u64, u64),
     /// This number of peers is asked.
     Plans(u64),
+    /// This number of peers is asked while that peer is silent.
+    PlansBeside(u64, u64),
     /// The ask of this number and amount to that peer is outstanding.
     Asks(u64, u64, u64),
     /// No ask to that peer is outstanding.
@@ -104,6 +106,15 @@ impl Planner {
         self.manager.plan(&self.book, &self.queue) == count
     }
 
+    fn plans_beside(&mut self, peer: u64, count: u64) -> bool {
+        let Ok(peer) = SiteId::new(peer) else {
+            return false;
+        };
+        let mut silent = SiteSet::new();
+        silent.insert(peer);
+        silent.contains(peer) && self.manager.plan_beside(&self.book, &self.queue, &silent) == count
+    }
+
     fn outstanding(&self, peer: u64) -> Option<Ask> {
         self.manager.outstanding(SiteId::new(peer).ok()?)
     }
@@ -148,6 +159,7 @@ impl Planner {
             Step::Knows(peer, rights) => self.knows(peer, rights),
             Step::Waits(amount, deadline, ticket) => self.waits(amount, deadline, ticket),
             Step::Plans(count) => self.plans(count),
+            Step::PlansBeside(peer, count) => self.plans_beside(peer, count),
             Step::Asks(peer, number, amount) => self.asks(peer, number, amount),
             Step::AsksNothing(peer) => self.asks_nothing(peer),
             Step::Granted(peer, ask) => self.granted(peer, ask),

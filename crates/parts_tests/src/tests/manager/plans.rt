@@ -103,3 +103,27 @@ fn a_closed_peer_is_not_asked(rt: HostRuntime) {
     ];
     assert_eq!(rt; steps_gone(rt.alloc(), 2, 3, &steps), steps.len());
 }
+
+/// Beside a silent peer the other is asked for all that is needed. The ask to the silent one stays outstanding, and
+/// counts again once it is heard.
+#[test]
+fn a_silent_peer_is_passed_over(rt: HostRuntime) {
+    let steps = [
+        Step::Applies(1, issue(9), 1),
+        Step::Applies(3, issue(5), 1),
+        Step::Waits(4, 0, 1),
+        Step::Plans(1),
+        Step::Asks(1, 1, 4),
+        Step::PlansBeside(1, 1),
+        Step::Asks(1, 1, 4),
+        Step::Asks(3, 1, 4),
+        Step::PlansBeside(1, 0),
+        Step::Plans(0),
+        Step::Denied(1, 1),
+        Step::Denied(3, 1),
+        Step::PlansBeside(1, 1),
+        Step::AsksNothing(1),
+        Step::Asks(3, 2, 4),
+    ];
+    assert_eq!(rt; steps_gone(rt.alloc(), 2, 3, &steps), steps.len());
+}

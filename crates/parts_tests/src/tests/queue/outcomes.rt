@@ -15,6 +15,12 @@ enum Call {
     Expire(u64, Option<u64>),
     /// The number of the entry that serves the front.
     Serve(u64),
+    /// A ticket, and whether its request waited.
+    Cancel(u64, bool),
+    /// How many outcomes nobody read.
+    Unread(usize),
+    /// Ticket, amount and deadline of the request at this place, from 0.
+    At(usize, u64, u64, u64),
     /// A ticket.
     Status(u64, Status),
     /// Ticket, amount and deadline of the front.
@@ -26,6 +32,14 @@ enum Call {
 fn is_at_front(queue: &RequestQueue, ticket: u64, amount: u64, deadline: u64) -> bool {
     match queue.front() {
         Some(front) => front.0 == ticket && front.1.value() == amount && front.2 == deadline,
+        None => false,
+    }
+}
+
+// Whether the request with that ticket, for this number of rights until that deadline, is at this place.
+fn is_at(queue: &RequestQueue, place: usize, ticket: u64, amount: u64, deadline: u64) -> bool {
+    match queue.requests().get(place) {
+        Some(at) => at.ticket == ticket && at.amount.value() == amount && at.deadline == deadline,
         None => false,
     }
 }
@@ -45,6 +59,9 @@ fn answers(queue: &mut RequestQueue, call: Call) -> bool {
         Call::Waiting(count) => queue.waiting() == count,
         Call::Expire(time, ticket) => queue.expire_one(time) == ticket,
         Call::Serve(number) => serves(queue, number),
+        Call::Cancel(ticket, waited) => queue.cancel(ticket) == waited,
+        Call::Unread(count) => queue.unread() == count,
+        Call::At(place, ticket, amount, deadline) => is_at(queue, place, ticket, amount, deadline),
         Call::Status(ticket, status) => queue.status(ticket) == status,
         Call::Front(ticket, amount, deadline) => is_at_front(queue, ticket, amount, deadline),
         Call::NoFront => queue.front().is_none(),
@@ -194,4 +211,43 @@ const WAITS_TILL_SERVED: [Call; 9] = [
 #[test]
 fn a_request_waits_until_it_is_served(rt: HostRuntime) -> Result<(), OutOfMemory> {
     a_new_queue_answers(&rt, rt.alloc(), &WAITS_TILL_SERVED)
+}
+
+const MIDDLE_CANCELLED: [Call; 15] = [
+    Call::Put(2, 9, Ok(1)),
+    Call::Put(5, 8, Ok(2)),
+    Call::Put(4, 7, Ok(3)),
+    Call::Cancel(4, false),
+    Call::Cancel(2, true),
+    Call::Total(6),
+    Call::Unread(1),
+    Call::At(0, 1, 2, 9),
+    Call::At(1, 3, 4, 7),
+    Call::Cancel(2, false),
+    Call::Unread(1),
+    Call::Status(2, Status::Expired),
+    Call::Status(2, Status::Unknown),
+    Call::Serve(6),
+    Call::Front(3, 4, 7),
+];
+
+/// A cancelled request expires, wherever it waits; the others keep their places, and it cannot be cancelled twice.
+#[test]
+fn a_request_is_cancelled(rt: HostRuntime) -> Result<(), OutOfMemory> {
+    a_new_queue_answers(&rt, rt.alloc(), &MIDDLE_CANCELLED)
+}
+
+const CANCELLED_AND_SERVED: [Call; 6] = [
+    Call::Cancel(32, true),
+    Call::Serve(7),
+    Call::Cancel(1, false),
+    Call::Put(1, 0, Err(QueueError::QueueFull)),
+    Call::Status(1, Status::Spent(7)),
+    Call::Put(1, 0, Ok(33)),
+];
+
+/// A cancelled request keeps its slot until its outcome is read. One that was served cannot be cancelled.
+#[test]
+fn a_cancelled_request_keeps_its_slot(rt: HostRuntime) -> Result<(), OutOfMemory> {
+    a_full_queue_answers(&rt, rt.alloc(), 1, &CANCELLED_AND_SERVED)
 }

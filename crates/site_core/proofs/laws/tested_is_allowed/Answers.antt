@@ -13,6 +13,9 @@ returns-clause-give c = lemmas.give_allowed
 pub returns-clause-spend : goal.returns-clause-spend
 returns-clause-spend c = lemmas.spend_allowed
 
+pub returns-clause-take : goal.returns-clause-take
+returns-clause-take c = lemmas.take_allowed
+
 pub returns-clause-serve : goal.returns-clause-serve
 returns-clause-serve c = lemmas.serve_allowed
 

@@ -1,9 +1,10 @@
 use Rattle.std.proofs.Common.{◌≡◌, ◌+◌, ◌<◌, ◌≤◌, ℕ, arith, List, length, replicate, refl, sym, ap, ◌∙◌, subst}
 use Rattle.std.proofs.lemmas.List.{length-set, get_or_read}
 use Rattle.rights_types.specs.Places.{at_site}
+use Rattle.transfer_manager.specs.SiteSets.{has_site}
 use Rattle.rights_types.proofs.Places.{at_site-index, at_site-replicate, set_site-index, set_site_keeps}
 use Rattle.transfer_manager.specs.Managers.{no_asks}
-use Rattle.transfer_manager.specs.Plans.{Knowledge, of_book, eligible_rights}
+use Rattle.transfer_manager.specs.Plans.{Knowledge, of_book, beside, eligible_rights}
 use Rattle.transfer_manager.specs.declared.peer_asks.PeerAsks.{PeerAsks}
 use Rattle.transfer_manager.proofs.Sites.{next_written, none_written}
 use Rattle.transfer_manager.proofs.plan.eligible_rights.Goals as goal
@@ -11,7 +12,7 @@ use Rattle.transfer_manager.proofs.plan.eligible_rights.Goals as goal
 pub loop-place-preserved : goal.loop-place-preserved
 loop-place-preserved g c =
     let me = c.args.me in
-    let k : Knowledge = of_book c.args.book.now in
+    let k : Knowledge = beside (has_site c.args.silent.now) (of_book c.args.book.now) in
     let peers : List PeerAsks = c.args.peers.now in
     let i = c.loop-place.place in
     let xs : List ℕ = c.loop-place.rights in
@@ -37,7 +38,7 @@ pub loop-place-init : goal.loop-place-init
 loop-place-init g c =
     record {
       whole = refl;
-      written = none_written 0 (λ j old. eligible_rights c.args.me (of_book c.args.book.now) j
+      written = none_written 0 (λ j old. eligible_rights c.args.me (beside (has_site c.args.silent.now) (of_book c.args.book.now)) j
           (at_site c.args.peers.now j no_asks)) (replicate 16 0);
       bounded = λ j. at_site-replicate (λ (n : ℕ). n ≤ 1000000017000000000000000000) 16 j 0 0 (λ low high. omega arith)
           (omega arith);

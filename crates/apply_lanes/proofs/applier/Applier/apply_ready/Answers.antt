@@ -19,7 +19,7 @@ returns-in_err-apply_in-in-Some-true-clause-err g c =
     rw (err.1, err.2)
     (subst (λ (x : ApplierValue g.row.G.Denot g.row.A.Denot × KeptValue). BatchFails id c.args.self.now c.args.kept.now
     c.in_err-apply_in-in-Some-true.field-0.0 x.0 x.1)
-    (λ i. (sym e.err.0 i, sym e.err.1 i)) (c.loop-count.count, c.loop-count.self, c.loop-count.invariant.0, keeps))
+    (λ i. (sym e.err.0 i, sym e.err.1 i)) (c.loop-count.count, c.loop-count-test.true, c.loop-count.self, c.loop-count.invariant.0, keeps))
 
 pub returns-in-Some-false-clause-ok : goal.returns-in-Some-false-clause-ok
 returns-in-Some-false-clause-ok g c = (
@@ -43,6 +43,7 @@ loop-count-preserved g c =
           (c.loop-count.self, c.loop-count.kept, c.loop-count.invariant.0, one),
       e.same.0 ∙ same.0 ∙ c.loop-count.invariant.1,
       ap (λ (o : OutletValue g.row.A.Denot). o.lane) e.same.1 ∙ same.1 ∙ c.loop-count.invariant.2,
+      omega (arith, c.loop-count-test.true),
     )
 
 pub returns-clause-ok : goal.returns-clause-ok

@@ -1,0 +1,11 @@
+use Rattle.rights_protocol.specs.Schedules.LocalChange.{Other}
+use Rattle.std.proofs.Common.{ap}
+use Rattle.site_core.specs.Desks.{DeskValue}
+use Rattle.apply_lanes.proofs.StepLaws.{seen, steps_none}
+use Rattle.apply_lanes.proofs.kept.Kept.cancel.Goals as goal
+
+pub returns-clause-step : goal.returns-clause-step
+returns-clause-step g c =
+    seen g.D.DeskNames.id _ _ Other c.cancel.new.self c.self.view_is
+    (steps_none g.D.DeskNames.id c.self.inside.desk c.cancel.new.self
+    (ap (λ (d : DeskValue). d.ledger) c.cancel.ensures.cancels.rest))
