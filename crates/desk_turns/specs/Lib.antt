@@ -1,0 +1,4 @@
+-- The turns that threads take at a desk, and what they do in them.
+pub mod Turns
+pub mod Seated
+pub mod Applying

@@ -1,0 +1,33 @@
+-- What is done for a seat, each time in one turn at the desk.
+use Rattle.std.specs.Prelude.{◌≡◌, ℕ, List, [], ◌∷◌, ◌++◌, Result}
+use Rattle.site_core.specs.declared.fault.DeskError.{DeskError}
+use Rattle.apply_lanes.specs.Names.{DeskId}
+use Rattle.apply_lanes.specs.Kepts.{KeptValue, SeatValue, IsKept}
+use Rattle.site_words.specs.declared.commands.DeskCommand.{DeskCommand}
+use Rattle.site_node.specs.Acting.{Acts}
+use Rattle.site_node.specs.declared.reply.Reply.{Reply}
+use Rattle.site_node.specs.declared.tick.Ticked.{Ticked}
+use Rattle.desk_turns.specs.Turns.{ServesDue}
+
+-- what a seat counts, and the states of the desk before and after each turn that was taken for it
+pub record SeatedValue : Type 0 where
+  pub told : SeatValue
+  pub states : List KeptValue
+
+-- in one turn, the desk carried out the command, and this is the reply
+pub record ActsAtDesk (id : DeskId) (was : SeatedValue) (command : DeskCommand) (reply : Reply)
+    (now : SeatedValue) : Type 0 where
+  pub old : KeptValue
+  pub new : KeptValue
+  pub one : now.states ≡ was.states ++ old ∷ new ∷ []
+  pub valid : IsKept id old
+  pub acts : Acts old was.told command reply new now.told
+
+-- in one turn, everything due at this time was done at the desk
+pub record TicksAtDesk (id : DeskId) (was : SeatedValue) (time : ℕ) (ticked : Result Ticked DeskError)
+    (now : SeatedValue) : Type 0 where
+  pub old : KeptValue
+  pub new : KeptValue
+  pub one : now.states ≡ was.states ++ old ∷ new ∷ []
+  pub valid : IsKept id old
+  pub does : ServesDue old was.told time ticked new now.told

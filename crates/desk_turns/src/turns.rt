@@ -1,0 +1,178 @@
+//! The desk that threads share, and the turns that they take there. `Turns::take` is the one function that lends the
+//! desk to change it.
+ghost use Rattle.std.specs.Prelude.{◌≡◌, ℕ, [], false, Ok, Err, IfOk, OnOk, IfErr};
+ghost use Rattle.apply_lanes.specs.Names.{id_of, AreBlank, IsUnused};
+ghost use Rattle.apply_lanes.specs.Kepts.{told_nothing};
+ghost use Rattle.desk_turns.specs.Turns.{TakesTurn};
+ghost use Rattle.desk_turns.specs.Applying.{AppliesBatch, AppliesAll};
+
+use crate::work::{ApplyReady, Work};
+use apply_lanes::{
+    AdmitError, Applier, Blanks, DeskNames, Free, Kept, Outlet, Seat, SeatsFull, SharedDesk,
+    StepError, pause,
+};
+use histories::History;
+use rights_types::SiteId;
+use site_core::Desk;
+use std::marker::Model;
+use std::sync::{Arc, MutexGuard, Wait};
+
+/// A desk that threads share. Turns and appliers change it, and nothing else does.
+#[derive(Drop)]
+pub struct TurnDesk<D: DeskNames> {
+    desk: SharedDesk<D>,
+}
+
+/// A desk that is held for reading. No thread changes it as long as this is not dropped.
+#[derive(Drop)]
+pub struct Look<'a, D: DeskNames> {
+    kept: MutexGuard<'a, Kept<D>>,
+}
+
+/// The turns that one thread takes at a desk. A clause reads it as the states of the desk before and after each of
+/// them, in order.
+#[derive(Drop)]
+pub struct Turns<D: DeskNames> {
+    desk: Arc<TurnDesk<D>>,
+    states: History<Kept<D>>,
+}
+
+impl<D: DeskNames> Model for Turns<D> {
+    ghost use Rattle.std.specs.Prelude.{List};
+    ghost use Rattle.apply_lanes.specs.Kepts.{KeptValue};
+
+    ghost Value = { List KeptValue };
+
+    ghost view = { λ turns. turns.states.items };
+}
+
+impl<D: DeskNames> TurnDesk<D> {
+    /// Shares a desk whose log is empty and that applied nothing.
+    pub fn new(desk: Desk, blanks: Blanks) -> TurnDesk<D>
+        requires id { D.id ≡ id_of desk blanks }
+        requires blanks { AreBlank blanks }
+        requires unused { IsUnused desk }
+    {
+        TurnDesk {
+            desk: SharedDesk::new(desk, blanks),
+        }
+    }
+
+    /// A new seat: one of at most `SEATS`, besides the clock's. `SeatsFull` if all of them were given out.
+    pub fn seat<R: Wait>(&self, rt: &R) -> Result<Seat<D>, SeatsFull>
+        ensures { IfOk result (λ s. s ≡ told_nothing) }
+    {
+        self.desk.seat(rt)
+    }
+
+    /// The seat of the site's clock. It is given out once; then `SeatsFull`.
+    pub fn clock_seat<R: Wait>(&self, rt: &R) -> Result<Seat<D>, SeatsFull>
+        ensures { IfOk result (λ s. s ≡ told_nothing) }
+    {
+        self.desk.clock_seat(rt)
+    }
+
+    /// The applier of that origin's log, whose entries arrive on this lane. Refused if the origin is no other site of
+    /// the system, or has an applier.
+    pub fn applier<R: Wait>(
+        &self,
+        rt: &R,
+        origin: SiteId,
+        outlet: Outlet,
+    ) -> Result<Applier<D, Free>, AdmitError<Free>>
+        requires { outlet.taken ≡ [] }
+    {
+        self.desk.applier(rt, origin, outlet, Free)
+    }
+
+    /// Waits until no other thread holds the desk, and holds it for reading.
+    pub fn look<'a, R: Wait>(&'a self, rt: &R) -> Look<'a, D> {
+        Look {
+            kept: self.desk.lock(rt),
+        }
+    }
+
+    /// The desk itself, which no thread shares any more.
+    pub fn into_desk(self) -> SharedDesk<D> {
+        let TurnDesk { desk } = self;
+        desk
+    }
+}
+
+impl<D: DeskNames> Look<'_, D> {
+    pub fn kept(&self) -> &Kept<D> {
+        &self.kept
+    }
+}
+
+impl<D: DeskNames> Turns<D> {
+    /// At this desk, before the first turn.
+    pub fn new(desk: Arc<TurnDesk<D>>) -> Turns<D>
+        ensures { result ≡ [] }
+    {
+        Turns {
+            desk,
+            states: History::new(),
+        }
+    }
+
+    /// Takes one turn: waits until no other thread holds the desk, and does this work under that one hold.
+    pub fn take<R: Wait, W: Work<D>>(&mut self, rt: &R, work: W, with: &mut W::With) -> W::Told
+        requires { W.may work }
+        ensures { TakesTurn D.id (λ old new. W.does work with.old old result with.new new) self.old self.new }
+    {
+        let mut kept = self.desk.desk.lock(rt);
+        let kept = &mut *kept;
+        // For the proof: what holds whenever the lock is free.
+        let _ = kept.desk();
+        let states = self.states.and(kept);
+        let told = work.work(kept, with);
+        let _ = kept.desk();
+        self.states = states.and(kept);
+        told
+    }
+
+    /// Waits for an entry of this applier's lane, and then applies or drops all that wait there, in one turn. Returns
+    /// how many, and `false` if End was taken. Errors: `LaneClosed`, without a turn; `OutOfStep` and `OutOfMemory`,
+    /// which concern the entry then in hand.
+    #[tactic(auto, using(crate::proofs::ApplyLaws::takes_batch, crate::proofs::ApplyLaws::takes_none))]
+    fn apply_batch<R: Wait>(
+        &mut self,
+        rt: &R,
+        applier: &mut Applier<D, Free>,
+    ) -> Result<(u64, bool), StepError>
+        ensures { AppliesBatch D.id self.old applier.old result self.new applier.new }
+    {
+        match applier.fill_soon(rt) {
+            Ok(true) => self.take(rt, ApplyReady, applier),
+            Ok(false) => Ok((0, false)),
+            Err(fault) => Err(fault),
+        }
+    }
+
+    /// Applies or drops the entries of this applier's lane until its end, in turns. Stops at the first error.
+    #[tactic(auto, using(crate::proofs::ApplyLaws::none_applied, crate::proofs::ApplyLaws::applies_all))]
+    pub fn apply_all<R: Wait>(
+        &mut self,
+        rt: &R,
+        applier: &mut Applier<D, Free>,
+    ) -> Result<(), StepError>
+        ensures ok { OnOk result ((count : ℕ)
+            × AppliesAll D.id self.old applier.old (Ok (count, false)) self.new applier.new) }
+        ensures err { IfErr result (λ fault. AppliesAll D.id self.old applier.old (Err fault) self.new applier.new) }
+    {
+        'batches: for _ in rt.forever() {
+            match self.apply_batch(rt, applier) {
+                Ok((_, true)) => pause(),
+                Ok((_, false)) => return Ok(()),
+                Err(fault) => return Err(fault),
+            }
+        }
+        unreachable!()
+    }
+
+    /// Waits until no other thread holds the desk, and holds it for reading.
+    pub fn look<'a, R: Wait>(&'a self, rt: &R) -> Look<'a, D> {
+        self.desk.look(rt)
+    }
+}
