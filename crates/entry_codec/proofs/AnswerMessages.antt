@@ -7,6 +7,7 @@ use Rattle.std.specs.List.{All}
 use Rattle.std.proofs.lemmas.Bool.{ltb-false, le-ltb, lt-ltb, cases_lt}
 use Rattle.std.proofs.lemmas.List.{append-nil, length_push, take_all, take-append-le, length-take-le, take-take}
 use Rattle.std.proofs.lemmas.List.Elements.{All-from_recursion, recursion_from_All}
+use Rattle.rights_types.specs.declared.limits.TheConstants.{MAX_LINE}
 use Rattle.rights_types.specs.Ranges.{IsSite}
 use Rattle.rights_types.specs.Entries.{EntryValue, IsEntry}
 use Rattle.rights_types.specs.Messages.{MessageValue, AnswerValue, IsAnswer}
@@ -315,11 +316,12 @@ too_many items count part origin rest parts e many h =
 -- ---- room
 
 pub short_rest : (o r : Option (Bor (List ℕ))) (t : Bor (List ℕ)) → o ≡ Some t
-    → IfSome o (λ text. length text.now ≤ 16384) → IfSome r (λ rest. length rest.now < length t.now)
-    → IfSome r (λ text. length text.now ≤ 16384)
+    → IfSome o (λ text. length text.now ≤ MAX_LINE) → IfSome r (λ rest. length rest.now < length t.now)
+    → IfSome r (λ text. length text.now ≤ MAX_LINE)
 short_rest o None t e h k = tt
 short_rest o (Some x) t e h k = let all = rw e at h in omega (arith, all, k)
 
-pub parts_room : (o : Option (Bor (List ℕ))) → IfSome o (λ text. length text.now ≤ 16384) → length (left 59 o) ≤ 16385
+pub parts_room : (o : Option (Bor (List ℕ))) → IfSome o (λ text. length text.now ≤ MAX_LINE)
+    → length (left 59 o) ≤ MAX_LINE + 1
 parts_room None h = omega arith
 parts_room (Some text) h = omega (arith, few_parts 59 text.now, h)

@@ -11,6 +11,7 @@ use Rattle.std.proofs.lemmas.List.{nil_from_length, take_at, take-append-drop, l
 use Rattle.std.proofs.lemmas.List.Elements.{All-head, All-tail}
 use Rattle.std.proofs.lemmas.List.Splits.{join_with_byte-slice_split}
 use Rattle.std.proofs.Math.Seq.{get_or-append_seam}
+use Rattle.rights_types.specs.declared.limits.TheConstants.{MAX_LINE}
 use Rattle.rights_types.specs.Entries.{EntryValue}
 use Rattle.rights_types.specs.Messages.{MessageValue, IsMessage}
 use Rattle.rights_types.specs.Messages.MessageValue.{AnEntry, AQuery, AnAnswer, ABeat, AnAsk, ADenial, AHello}
@@ -205,7 +206,7 @@ ended_is bytes h =
 pub reading_is : (text : List ℕ) (m : MessageValue) → reading text ≡ Ok m → Spells m text
 unfolding reading
 reading_is text m h =
-    let a = past TooLong (ltb 16384 (length text)) _ m h in
+    let a = past TooLong (ltb MAX_LINE (length text)) _ m h in
     let b = past NoEnd (not (is_ended text)) _ m a.1 in
     let found = text_is (take (length text - 1) text) m b.1 in
     (found.1, ended_is text (not-false (is_ended text) b.0) ∙ ap (λ (t : List ℕ). t ++ 10 ∷ []) found.0)
@@ -220,11 +221,11 @@ parts_again (ADenial d) h = all_back _ _ (are_parts (ADenial d) h)
 parts_again (AHello s) h = all_back _ _ (are_parts (AHello s) h)
 
 -- a text with its line feed is read by its parts
-reading_ended : (text : List ℕ) → length (text ++ 10 ∷ []) ≤ 16384
+reading_ended : (text : List ℕ) → length (text ++ 10 ∷ []) ≤ MAX_LINE
     → reading (text ++ 10 ∷ []) ≡ message_of (parts_in text)
 unfolding reading
 reading_ended text short =
-    let few : ltb 16384 (length (text ++ 10 ∷ [])) ≡ false = le-ltb 16384 (length (text ++ 10 ∷ [])) short in
+    let few : ltb MAX_LINE (length (text ++ 10 ∷ [])) ≡ false = le-ltb MAX_LINE (length (text ++ 10 ∷ [])) short in
     let len : length (text ++ 10 ∷ []) - 1 ≡ length text = omega (arith, length-append text (10 ∷ [])) in
     let some : (length (text ++ 10 ∷ []) == 0) ≡ false
     = ne_eqb (length (text ++ 10 ∷ [])) 0 (λ z. omega (arith, z, length-append text (10 ∷ []))) in

@@ -5,6 +5,7 @@ use Rattle.std.specs.List.{AllByRecursion}
 use Rattle.std.proofs.lemmas.Bool.{or_parts}
 use Rattle.std.proofs.lemmas.Fmt.{length-decimal-le}
 use Rattle.std.proofs.lemmas.List.Elements.{recursion_from_All}
+use Rattle.rights_types.specs.declared.limits.TheConstants.{MAX_LINE}
 use Rattle.rights_types.specs.Ranges.{IsNumber}
 use Rattle.rights_types.specs.Moves.{IsMove, is_close, closes_early}
 use Rattle.rights_types.specs.declared.moves.Move.{Move}
@@ -167,5 +168,5 @@ text_room (ADenial d) h =
     )
 text_room (AHello s) h = omega (arith, ten s (omega (arith, h.1)))
 
-pub line_room : (m : MessageValue) → IsMessage m → length (line m) ≤ 16384
+pub line_room : (m : MessageValue) → IsMessage m → length (line m) ≤ MAX_LINE
 line_room m h = omega (arith, text_room m h, length-append (text_of m) (10 ∷ []))

@@ -5,6 +5,7 @@ use Rattle.std.specs.Io.KnownBytes.{Appends}
 use Rattle.std.proofs.KnownBytes.{Appends-trans}
 use Rattle.std.proofs.lemmas.List.{take_rest}
 use Rattle.memchr.specs.Find.{IsFirstByte, is_byte}
+use Rattle.rights_types.specs.declared.limits.TheConstants.{MAX_LINE}
 use Rattle.entry_codec.specs.Pieces.{pieces, unfinished, pieces_after}
 use Rattle.entry_codec.proofs.Pieces.{pieces_append, rest_append, HasNoEnd, no_piece, one_piece}
 use Rattle.line_streams.specs.Waiting.{Waiting}
@@ -49,7 +50,7 @@ module _ {S : Type 0} (answers : Answering S) (start : S) (input : List ℕ) (st
               ∙ ap (λ (l : List ℕ). h.talked.written ++ l) (sym ends.2.whole);
         };
         ready = ends.2.part;
-        carried = empty ∙ sym (ap (take 16384) rest);
+        carried = empty ∙ sym (ap (take MAX_LINE) rest);
       }
 
   -- a line ended the conversation
@@ -73,7 +74,7 @@ module _ {S : Type 0} (answers : Answering S) (start : S) (input : List ℕ) (st
   }
 
   -- no line ended
-  pub going_none : (text carry' : List ℕ) → HasNoEnd text → carry' ≡ take 16384 (carry ++ text)
+  pub going_none : (text carry' : List ℕ) → HasNoEnd text → carry' ≡ take MAX_LINE (carry ++ text)
       → Going answers start (input ++ text) state held now waits carry'
   going_none text carry' none more =
       let p = no_piece (unfinished input) text none in
@@ -83,8 +84,8 @@ module _ {S : Type 0} (answers : Answering S) (start : S) (input : List ℕ) (st
       record {
         talked = subst (λ (l : List (List ℕ)). Talked answers start l state held now waits.whole) (sym lines) h.talked;
         ready = h.ready;
-        carried = more ∙ ap (λ (l : List ℕ). take 16384 (l ++ text)) h.carried
-            ∙ carry_more 16384 (unfinished input) text ∙ ap (take 16384) (sym rest);
+        carried = more ∙ ap (λ (l : List ℕ). take MAX_LINE (l ++ text)) h.carried
+            ∙ carry_more MAX_LINE (unfinished input) text ∙ ap (take MAX_LINE) (sym rest);
       }
 
   -- some of what waited was written
@@ -157,7 +158,7 @@ module _ {S : Type 0} (answers : Answering S) (start : S) (input bytes : List �
 
   pub going_next : (n : ℕ) (new : S) (waits' : Waiting) (carry' : List ℕ) → at ≤ length bytes
       → IsFirstByte (is_byte 10) (take (length bytes - at) (drop at bytes)) (Some n)
-      → ((front : List ℕ) → carry ≡ take 16384 front
+      → ((front : List ℕ) → carry ≡ take MAX_LINE front
       → LineGets answers On state ((front ++ take ((at + n) - at) (drop at bytes)) ++ 10 ∷ []) new waits waits')
       → carry' ≡ []
       → Going answers start (input ++ take (at + (n + 1)) bytes) new held now waits' carry'
@@ -173,7 +174,7 @@ module _ {S : Type 0} (answers : Answering S) (start : S) (input bytes : List �
 
   pub closed_next : (n : ℕ) (new : S) (waits' : Waiting) → at ≤ length bytes
       → IsFirstByte (is_byte 10) (take (length bytes - at) (drop at bytes)) (Some n)
-      → ((front : List ℕ) → carry ≡ take 16384 front
+      → ((front : List ℕ) → carry ≡ take MAX_LINE front
       → LineGets answers Ends state ((front ++ take ((at + n) - at) (drop at bytes)) ++ 10 ∷ []) new waits waits')
       → Closed answers start (pieces (input ++ bytes)) new held now waits'.whole
   closed_next n new waits' within found ends =
@@ -192,7 +193,7 @@ module _ {S : Type 0} (answers : Answering S) (start : S) (input bytes : List �
 
   pub going_end : (r : Option ℕ) (carry' : List ℕ) → ((n : ℕ) → r ≡ Some n → ⊥)
       → IsFirstByte (is_byte 10) (take (length bytes - at) (drop at bytes)) r
-      → carry' ≡ take 16384 (carry ++ take (length bytes - at) (drop at bytes))
+      → carry' ≡ take MAX_LINE (carry ++ take (length bytes - at) (drop at bytes))
       → Going answers start (input ++ bytes) state held now waits carry'
   going_end r carry' other found more =
       subst (λ (l : List ℕ). Going answers start l state held now waits carry') (sym all_bytes)

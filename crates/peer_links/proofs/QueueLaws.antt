@@ -2,18 +2,18 @@
 use Rattle.std.proofs.Common.{◌≡◌, ℕ, zero, suc, Bool, true, false, cond, ◌+◌, ◌-◌, ◌<◌, ◌≤◌, List, [], ◌∷◌, ◌++◌}
 use Rattle.std.proofs.Common.{length, take, drop, map, Vec, Some, None, Result, Ok, Err, OnOk, IfErr, IsOk, ◌↔◌, rules}
 use Rattle.std.proofs.Common.{refl, sym, ap, subst, ◌∙◌, arith, inl, inr, drop-cons, append-nil, append_assoc}
-use Rattle.std.proofs.Common.{length-append, length-take}
+use Rattle.std.proofs.Common.{length-append}
 use Rattle.std.specs.Prelude.{option_map}
 use Rattle.std.specs.List.{All, slice_get}
 use Rattle.std.proofs.lemmas.Bool.{cases_lt, le-leb}
-use Rattle.std.proofs.lemmas.List.{map-append, length-map, drop_all, drop-drop, drop_at, take-append-drop}
+use Rattle.std.proofs.lemmas.List.{map-append, length-map, drop_all, drop-drop}
 use Rattle.std.proofs.lemmas.Option.{none-some, slice_get-map, slice_get_within, get_or_from_slice_get}
 use Rattle.circular_buffer.proofs.Places.{slice_get-some}
 use Rattle.std.proofs.lemmas.List.Elements.{All-nil, All-push, All-append, All-head, All-tail}
 use Rattle.circular_buffer.specs.Buffer.{Buffer, buffer}
 use Rattle.entry_codec.specs.Pieces.{IsLine}
 use Rattle.entry_codec.proofs.Views.{leb_no}
-use Rattle.peer_links.specs.Outboxes.{Waiting, front_in, Batches, BeginsWith, TakesOldest, IsEmpty}
+use Rattle.peer_links.specs.Outboxes.{Waiting, front_in, Batches}
 use Rattle.peer_links.specs.Sources.{joined, GivesBatch}
 use Rattle.peer_links.specs.declared.source.Batch.{Batch}
 use Rattle.peer_links.specs.declared.source.Batch.TheVariants.{Over, Copied, Large}
@@ -142,40 +142,6 @@ all_front room (line ∷ lines) all =
     fits_front _ line (front_in (room - length line) lines) (All-head IsLine line lines all)
     (all_front (room - length line) lines (All-tail IsLine line lines all))
 
-front_begins : (b : Bool) (line : List ℕ) (front lines others : List (List ℕ)) → lines ≡ front ++ others
-    → (others : List (List ℕ)) × (line ∷ lines ≡ cond b (line ∷ front) [] ++ others)
-front_begins true line front lines others h = (others, ap (λ (l : List (List ℕ)). line ∷ l) h)
-front_begins false line front lines others h = (line ∷ lines, refl)
-
-begins : (room : ℕ) (lines : List (List ℕ)) → (others : List (List ℕ)) × (lines ≡ front_in room lines ++ others)
-begins room [] = ([], refl)
-begins room (line ∷ lines) =
-    let rest = begins (room - length line) lines in
-    front_begins _ line (front_in (room - length line) lines) lines rest.0 rest.1
-
-pub front_waits : (room : ℕ) (queue : Waiting) → BeginsWith queue (front_in room queue.lines)
-front_waits room queue = begins room queue.lines
-
-takes_all : (ended : Bool) (front others : List (List ℕ))
-    → InTurn TakesOldest (waiting (front ++ others) ended) front (waiting others ended)
-takes_all ended [] others = refl
-takes_all ended (line ∷ front) others = (waiting (front ++ others) ended, refl, takes_all ended front others)
-
--- this number of them is taken, one after another
-pub takes_front : (old new : Waiting) (count : ℕ) → new ≡ record old { lines = drop count old.lines }
-    → (lines : List (List ℕ)) → BeginsWith old lines → count ≤ length lines
-    → InTurn TakesOldest old (take count lines) new
-takes_front old new count left lines h few =
-    let parts : old.lines ≡ take count lines ++ (drop count lines ++ h.0) =
-    h.1 ∙ ap (λ (l : List (List ℕ)). l ++ h.0) (sym (take-append-drop count lines))
-    ∙ append_assoc (take count lines) (drop count lines) h.0 in
-    let size : length (take count lines) ≡ count = simp length-take (omega (arith, few)) in
-    let rest : drop count old.lines ≡ drop count lines ++ h.0 = ap (drop count) parts
-    ∙ drop_at (take count lines) (drop count lines ++ h.0) count size in
-    let all = takes_all old.ended (take count lines) (drop count lines ++ h.0) in
-    rw (left, rest) (subst (λ (l : List (List ℕ)). InTurn TakesOldest (waiting l old.ended) (take count lines)
-    (waiting (drop count lines ++ h.0) old.ended)) (sym parts) all)
-
 -- whole lines are taken one after another, if nothing else is said of them
 pub all_in_turn : {S : Type 0} (s : S) (count : ℕ) (lines : List (List ℕ)) → All IsLine lines
     → InTurn {S = S} (λ _ line _. IsLine line) s (take count lines) s
@@ -186,20 +152,12 @@ all_in_turn s (suc n) (line ∷ lines) all
 
 -- ---- the next batch
 
--- of a queue, as any source gives it
-pub gives_batch : {M : Type 0} (old new : Waiting) (batch : Batch M) (room : List ℕ) → Batches old batch room new
-    → GivesBatch BeginsWith TakesOldest IsEmpty old batch room new
-gives_batch old new Over room h = (subst IsEmpty (sym h.1) h.0, h.1)
-gives_batch old new (Copied count) room h
-    = (h.0, h.1, h.3, front_in (length room) old.lines, front_waits (length room) old, h.2)
-gives_batch old new (Large line) room h = h
-
 -- of an outbox, whose contract says only that its lines are whole
 pub outbox_batch : {S M : Type 0} (s : S) (old new : Waiting) (batch : Batch M) (room : List ℕ)
-    → GivesBatch BeginsWith TakesOldest IsEmpty old batch room new
+    → Batches old batch room new
     → GivesBatch {S = S} (λ _ lines. All IsLine lines) (λ _ line _. IsLine line) (λ _. Unit {0}) s batch room s
 outbox_batch s old new Over room h = (tt, refl)
-outbox_batch s old new (Copied count) room h = (h.0, h.1, refl, h.3, h.5.0, h.5)
+outbox_batch s old new (Copied count) room h = (h.0, h.1, refl, front_in (length room) old.lines, h.2.0, h.2)
 outbox_batch s old new (Large line) room h = (h.0, h.1, h.0)
 
 -- the oldest line is larger than the buffer, if nothing was copied

@@ -1,6 +1,6 @@
 -- The lines that wait in an outbox, as plain data.
-use Rattle.std.specs.Prelude.{◌≡◌, ℕ, ◌-◌, ◌<◌, ◌≤◌, ◌⊎◌, Bool, true, false, List, [], ◌∷◌, ◌++◌, length, take, Result}
-use Rattle.std.specs.Prelude.{Ok, Err, nat_le, if◌then◌else◌}
+use Rattle.std.specs.Prelude.{◌≡◌, ℕ, ◌-◌, ◌<◌, ◌≤◌, ◌⊎◌, ◌==◌, ◌&&◌, not, Bool, true, false, List, [], ◌∷◌, ◌++◌, length}
+use Rattle.std.specs.Prelude.{take, Result, Ok, Err, nat_le, if◌then◌else◌}
 use Rattle.entry_codec.specs.Pieces.{IsLine}
 use Rattle.peer_links.specs.Sources.{AreLines}
 use Rattle.peer_links.specs.declared.outbox.PutError.{PutError}
@@ -40,14 +40,19 @@ Batches old (Copied count) room new =
 Batches old (Large line) room new =
     IsLine line.items × (length room < length line.items) × (old ≡ record new { lines = line.items ∷ new.lines })
 
--- these lines are the oldest
-abbrev pub BeginsWith : Waiting → List (List ℕ) → Type 0
-BeginsWith queue lines = (others : List (List ℕ)) × (queue.lines ≡ lines ++ others)
-
 -- the oldest line was taken
 abbrev pub TakesOldest : Waiting → List ℕ → Waiting → Type 0
 TakesOldest old line new = old ≡ record new { lines = line ∷ new.lines }
 
--- no line waits
-abbrev pub IsEmpty : Waiting → Type 0
-IsEmpty queue = queue.lines ≡ []
+-- no line waits, and the outbox has not ended
+abbrev pub is_idle : Waiting → Bool
+is_idle queue = length queue.lines == 0 && not queue.ended
+
+-- whoever takes lines need not wait: one waits, or none will
+abbrev pub IsReady : Waiting → Type 0
+IsReady queue = is_idle queue ≡ false
+
+-- no line waits, and none will
+pub record IsOver (queue : Waiting) : Type 0 where
+  pub empty : queue.lines ≡ []
+  pub ended : queue.ended ≡ true

@@ -1,10 +1,10 @@
 //! The lines that wait to be sent to one peer.
-ghost use Rattle.std.specs.Prelude.{◌≡◌, ◌+◌, ◌≤◌, ◌==◌, ◌&&◌, not, false, true, [], ◌∷◌, ◌++◌, length, take, drop};
+ghost use Rattle.std.specs.Prelude.{◌≡◌, ◌+◌, ◌≤◌, ◌==◌, false, true, [], ◌∷◌, ◌++◌, length, take, drop};
 ghost use Rattle.std.specs.Prelude.{IfOk, IfSome, IfNone};
 ghost use Rattle.std.specs.List.{All};
 ghost use Rattle.entry_codec.specs.Pieces.{IsLine};
-ghost use Rattle.peer_links.specs.Outboxes.{Puts, Batches, BeginsWith, TakesOldest, IsEmpty, front_in};
-ghost use Rattle.peer_links.specs.Sources.{AreLines, joined};
+ghost use Rattle.peer_links.specs.Outboxes.{Puts, Batches, TakesOldest, IsReady, IsOver, is_idle, front_in};
+ghost use Rattle.peer_links.specs.Sources.{AreLines};
 
 use crate::source::{Batch, LineSource};
 use circular_buffer::HeapCircularBuffer;
@@ -68,7 +68,7 @@ impl<A: Allocator> Queue<A> {
 
     /// Whether no line waits and the outbox has not ended.
     fn is_idle(&self) -> bool
-        ensures { result ≡ (length self.now.lines == 0 && not self.now.ended) }
+        ensures { result ≡ is_idle self.now }
     {
         self.is_empty() && !self.ended
     }
@@ -160,25 +160,6 @@ impl<A: Allocator> Queue<A> {
     }
 }
 
-impl<A: Allocator> LineSource for Queue<A> {
-    type Memory = A;
-
-    ghost waits = { BeginsWith };
-
-    ghost takes = { TakesOldest };
-
-    ghost is_over = { IsEmpty };
-
-    /// The next batch to write. It does not block.
-    fn next_batch<R: Wait>(&mut self, _rt: &R, room: &mut [u8]) -> Batch<A> {
-        self.batch(room)
-    }
-
-    fn take_front<R: Wait>(&mut self, _rt: &R, count: usize) {
-        self.drop_front(count);
-    }
-}
-
 /// Copies the text to this offset of the buffer.
 fn copy_at(room: &mut [u8], at: usize, text: &[u8])
     requires { at + length text.now ≤ length room.old }
@@ -201,12 +182,13 @@ pub struct Outbox<A: Allocator = Global> {
     is_ready: AtomicBool,
 }
 
-/// The lines that wait in an outbox, under its lock, for putting more. When it is dropped, the thread that takes
-/// lines is woken.
+/// The lines that wait in an outbox, under its lock. When it is dropped, the threads are woken that wait for what was
+/// done: the one that takes lines, and those that wait until none is left.
 pub struct OutboxLines<'a, A: Allocator = Global> {
     queue: MutexGuard<'a, Queue<A>>,
-    changed: &'a Condvar,
-    is_ready: &'a AtomicBool,
+    outbox: &'a Outbox<A>,
+    /// How many lines waited when the lock was taken.
+    count: usize,
 }
 
 impl<'a, A: Allocator> Model for OutboxLines<'a, A> {
@@ -225,23 +207,80 @@ impl<A: Allocator> OutboxLines<'_, A> {
     {
         self.queue.put(line)
     }
+
+    /// Takes the oldest line. `None` if no line waits, and none will.
+    fn take(&mut self) -> Option<Vec<u8, A>>
+        requires { IsReady self.old }
+        ensures some { IfSome result (λ line. TakesOldest self.old line.items self.new) }
+        ensures line { IfSome result (λ line. IsLine line.items) }
+        ensures none { IfNone result (IsOver self.old × (self.new ≡ self.old)) }
+    {
+        self.queue.take()
+    }
+
+    /// The next batch to write. Lines that are copied still wait.
+    fn batch(&mut self, room: &mut [u8]) -> Batch<A>
+        requires { IsReady self.old }
+        ensures same { length room.new ≡ length room.old }
+        ensures batch { Batches self.old result room.new self.new }
+    {
+        self.queue.batch(room)
+    }
+
+    /// Drops this number of the oldest lines, or all if there are fewer.
+    fn drop_front(&mut self, count: usize)
+        ensures { self.new ≡ record self.old { lines = drop count self.old.lines } }
+    {
+        self.queue.drop_front(count);
+    }
+
+    /// Ends the outbox: it refuses every later line.
+    fn end(&mut self)
+        ensures { self.new ≡ record self.old { ended = true } }
+    {
+        self.queue.end();
+    }
+
+    /// Ends the outbox, and drops the lines that wait.
+    fn abandon(&mut self)
+        ensures { self.new ≡ record { lines = []; ended = true } }
+    {
+        self.end();
+        self.queue.clear();
+    }
+
+    /// How many lines wait, 0 to `OUTBOX_LINES`.
+    fn len(&self) -> usize
+        ensures value { result ≡ length self.now.lines }
+        ensures few { result ≤ OUTBOX_LINES }
+    {
+        self.queue.len()
+    }
 }
 
 impl<A: Allocator> Drop for OutboxLines<'_, A> {
     fn drop(self) {
         let Self {
             queue,
-            changed,
-            is_ready,
+            outbox,
+            count,
         } = self;
-        let is_idle = queue.is_idle();
-        drop(queue);
-        // Without the lock: whoever sees this takes the lock next.
-        is_ready.store(!is_idle, Ordering::Release);
-        changed.notify_one();
+        let is_ready = !queue.is_idle();
+        if queue.len() < count {
+            outbox.is_ready.store(is_ready, Ordering::Release);
+            drop(queue);
+            outbox.taken.notify_all();
+        } else {
+            drop(queue);
+            // Without the lock: whoever sees this takes the lock next.
+            outbox.is_ready.store(is_ready, Ordering::Release);
+        }
+        outbox.changed.notify_one();
     }
 }
 
+/// The calls of an outbox are calls of `OutboxLines` under its lock, which hides the lines. So what they do with those
+/// is said there, and of them only what holds whatever waits.
 impl<A: Allocator> Outbox<A> {
     /// An empty outbox, with all the memory that it will ever use.
     pub fn new(alloc: A) -> Result<Outbox<A>, OutOfMemory> {
@@ -253,13 +292,9 @@ impl<A: Allocator> Outbox<A> {
         })
     }
 
-    /// Locks the lines that wait, for putting more. Waits until no other thread holds the lock.
+    /// Locks the lines that wait. Waits until no other thread holds the lock.
     pub fn lock<'a, R: Wait>(&'a self, rt: &R) -> OutboxLines<'a, A> {
-        OutboxLines {
-            queue: self.queue.lock(rt),
-            changed: &self.changed,
-            is_ready: &self.is_ready,
-        }
+        self.lines(self.queue.lock(rt))
     }
 
     /// Puts one line, as `OutboxLines::put` does. The lock hides which lines waited before.
@@ -274,17 +309,15 @@ impl<A: Allocator> Outbox<A> {
     pub fn take<R: Wait>(&self, rt: &R) -> Option<Vec<u8, A>>
         ensures { IfSome result (λ line. IsLine line.items) }
     {
-        let line = self.ready(rt).take();
-        self.taken.notify_all();
-        line
+        self.ready(rt).take()
     }
 
     /// Blocks until no line waits, but not longer than this time. `false` if some wait then.
     pub fn wait_until_empty<R: Wait + Clock>(&self, rt: &R, time: Duration) -> bool {
-        let (_queue, waited) = self
+        let (queue, _) = self
             .taken
             .wait_timeout_while(rt, self.queue.lock(rt), time, |queue| !queue.is_empty());
-        !waited.timed_out()
+        queue.is_empty()
     }
 
     /// Whether a line waits or the outbox has ended, as seen without the lock: it may be out of date.
@@ -296,31 +329,38 @@ impl<A: Allocator> Outbox<A> {
     pub fn len<R: Wait>(&self, rt: &R) -> usize
         ensures { result ≤ OUTBOX_LINES }
     {
-        self.queue.lock(rt).len()
+        self.lock(rt).len()
     }
 
     /// Ends the outbox: it refuses every later line.
     pub fn end<R: Wait>(&self, rt: &R) {
-        self.queue.lock(rt).end();
-        self.is_ready.store(true, Ordering::Release);
-        self.changed.notify_all();
+        self.lock(rt).end();
     }
 
     /// Ends the outbox, and drops the lines that wait.
     pub fn abandon<R: Wait>(&self, rt: &R) {
-        let mut queue = self.queue.lock(rt);
-        queue.end();
-        queue.clear();
-        drop(queue);
-        self.is_ready.store(true, Ordering::Release);
-        self.changed.notify_all();
-        self.taken.notify_all();
+        self.lock(rt).abandon();
     }
 
-    /// Locks the queue once a line waits or the outbox has ended.
-    fn ready<'a, R: Wait>(&'a self, rt: &R) -> MutexGuard<'a, Queue<A>> {
-        self.changed
-            .wait_while(rt, self.queue.lock(rt), |queue| queue.is_idle())
+    /// Locks the lines once one waits or the outbox has ended.
+    fn ready<'a, R: Wait>(&'a self, rt: &R) -> OutboxLines<'a, A>
+        ensures { IsReady result }
+    {
+        let queue = self
+            .changed
+            .wait_while(rt, self.queue.lock(rt), |queue| queue.is_idle());
+        self.lines(queue)
+    }
+
+    /// The lines, under this lock.
+    fn lines<'a>(&'a self, queue: MutexGuard<'a, Queue<A>>) -> OutboxLines<'a, A>
+        ensures { result ≡ queue.entry.value }
+    {
+        OutboxLines {
+            count: queue.len(),
+            queue,
+            outbox: self,
+        }
     }
 }
 
@@ -336,19 +376,10 @@ impl<A: Allocator> LineSource for &Outbox<A> {
     ghost is_over = { λ _. Unit {0} };
 
     fn next_batch<R: Wait>(&mut self, rt: &R, room: &mut [u8]) -> Batch<A> {
-        let batch = LineSource::next_batch(&mut *self.ready(rt), rt, room);
-        // Lines that are copied wait on until `take_front`.
-        if matches!(batch, Batch::Large(_)) {
-            self.taken.notify_all();
-        }
-        batch
+        self.ready(rt).batch(room)
     }
 
     fn take_front<R: Wait>(&mut self, rt: &R, count: usize) {
-        let mut queue = self.queue.lock(rt);
-        queue.drop_front(count);
-        self.is_ready.store(!queue.is_idle(), Ordering::Release);
-        drop(queue);
-        self.taken.notify_all();
+        self.lock(rt).drop_front(count);
     }
 }

@@ -1,5 +1,6 @@
 use Rattle.std.proofs.Common.{◌≡◌, ◌+◌, ◌≤◌, length}
 use Rattle.std.specs.Prelude.{IfSome}
+use Rattle.rights_types.specs.declared.limits.TheConstants.{MAX_LINE}
 use Rattle.entry_codec.specs.Parts.{left, parts_left}
 use Rattle.entry_codec.specs.Reading.{entries_of}
 use Rattle.entry_codec.proofs.AnswerMessages.{AreReadUpTo}
@@ -9,8 +10,8 @@ abbrev pub invariant-loop-rest : goal.invariant-loop-rest
 invariant-loop-rest l = record {
   read : AreReadUpTo l.count (entries_of (1 + l.count) l.origin (parts_left l.rest))
       (entries_of 1 l.origin (parts_left l.parts));
-  room : l.count + length (left 59 l.rest) ≤ 16385;
-  short : IfSome l.rest (λ text. length text.now ≤ 16384);
+  room : l.count + length (left 59 l.rest) ≤ MAX_LINE + 1;
+  short : IfSome l.rest (λ text. length text.now ≤ MAX_LINE);
   slots : length l.kept ≡ 17;
 }
 

@@ -1,6 +1,7 @@
 use Rattle.std.proofs.Common.{append-nil, inl, ◌≡◌, ℕ, ◌+◌, ◌≤◌, List, length, take, refl, ap, sym, arith, length-take}
 use Rattle.std.proofs.lemmas.Bool.{eqb-true}
 use Rattle.std.proofs.lemmas.Result.{err_from_is_err_and}
+use Rattle.rights_types.specs.declared.limits.TheConstants.{MAX_LINE}
 use Rattle.entry_codec.specs.Pieces.{pieces}
 use Rattle.line_streams.specs.Going.{Fails}
 use Rattle.line_streams.proofs.CountLaws.{line_more, line_none, line_some, counts_lines, counts_still, counts_within}
@@ -12,7 +13,7 @@ use Rattle.line_streams.proofs.lines.Conversation.feed.Goals.{else-at-eq0-via-th
 use Rattle.line_streams.proofs.lines.Conversation.feed.Goals.{else-at-eq0-via-else-at-eq0}
 use Rattle.line_streams.proofs.lines.Conversation.feed.Goals as goal
 
-short_front : (xs : List ℕ) → length (take 16384 xs) ≤ 16384
+short_front : (xs : List ℕ) → length (take MAX_LINE xs) ≤ MAX_LINE
 short_front xs = simp length-take (omega arith)
 
 pub loop-length-init : goal.loop-length-init

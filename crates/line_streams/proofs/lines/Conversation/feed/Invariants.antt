@@ -1,4 +1,5 @@
 use Rattle.std.proofs.Common.{◌≡◌, ◌-◌, ◌+◌, ◌<◌, ◌≤◌, ◌++◌, ℕ, List, [], Option, length, take}
+use Rattle.rights_types.specs.declared.limits.TheConstants.{MAX_LINE}
 use Rattle.entry_codec.specs.Pieces.{pieces}
 use Rattle.line_streams.specs.Going.{Going}
 use Rattle.line_streams.proofs.lines.Conversation.feed.Given as goal
@@ -8,7 +9,7 @@ invariant-loop-length g l = record {
   within : l.at ≤ length l.bytes;
   ready : l.self.replies.part ≡ [];
   room : length l.self.replies.whole < 65536;
-  short : length l.self.carry.items ≤ 16384;
+  short : length l.self.carry.items ≤ MAX_LINE;
   few : l.self.count < 1000000000;
   counted : l.self.count ≡ l.fn.self.count + length (pieces (take l.at l.bytes));
   moves : 0 < l.at → 0 < length (pieces (take l.at l.bytes));

@@ -1,5 +1,6 @@
 use Rattle.std.proofs.Common.{◌≡◌, ◌-◌, ◌+◌, ◌<◌, ◌≤◌, ℕ, List, length}
 use Rattle.std.specs.Io.KnownBytes.{Consumes}
+use Rattle.rights_types.specs.declared.limits.TheConstants.{MAX_LINE}
 use Rattle.entry_codec.specs.Pieces.{pieces}
 use Rattle.line_streams.specs.Counting.{still, Parted}
 use Rattle.line_streams.specs.Waiting.{IsEmpty}
@@ -9,7 +10,7 @@ use Rattle.line_streams.proofs.lines.Conversation.run.Given as goal
 abbrev pub invariant-reads : goal.invariant-reads
 invariant-reads g l = record {
   written : IsEmpty l.self.replies;
-  short : length l.self.carry.items ≤ 16384;
+  short : length l.self.carry.items ≤ MAX_LINE;
   few : l.self.count < 1000000000;
   going : (chunks : List (List ℕ)) × (input : List ℕ)
       × Consumes (g.R.Read.remaining l.fn.reader) (g.R.Read.remaining l.reader) input

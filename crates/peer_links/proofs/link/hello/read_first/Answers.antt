@@ -1,5 +1,6 @@
 use Rattle.std.proofs.Common.{◌≡◌, [], ◌∷◌, ◌++◌, length, arith, inl, inr, refl, length-append}
 use Rattle.std.proofs.KnownBytes.{Consumes-trans}
+use Rattle.rights_types.specs.declared.limits.TheConstants.{MAX_LINE}
 use Rattle.peer_links.proofs.HelloLaws.{open_more, line_ends, push_byte, byte_read}
 use Rattle.peer_links.proofs.link.hello.read_first.Goals as goal
 
@@ -37,5 +38,5 @@ bytes-preserved g c =
 pub returns : goal.returns
 returns g c =
     let inv = c.bytes.invariant in
-    let all : length inv.0 ≡ 16384 = omega (arith, inv.2, c.bytes-test.false, c.bytes.auto.counter-end) in
+    let all : length inv.0 ≡ MAX_LINE = omega (arith, inv.2, c.bytes-test.false, c.bytes.auto.counter-end) in
     record { read = (inv.0, inv.1, omega (arith, all), (inv.3, inl refl), λ _. inr (inl all)) }

@@ -4,11 +4,12 @@ use Rattle.peer_links.specs.Links.{IsFedAll, LinkGave, counted}
 use Rattle.peer_links.specs.Ports.{Heard}
 use Rattle.peer_links.specs.Turns.{InTurn}
 use Rattle.peer_links.specs.Takes.{pieces_behind, Takes}
+use Rattle.peer_links.specs.declared.link.reading.TheConstants.{READ_SIZE}
 use Rattle.peer_links.proofs.link.reading.read_link.Given as goal
 
 abbrev pub invariant-reads : goal.invariant-reads
 invariant-reads g l =
-    (length l.room ≡ 16384) × (l.count < 1000000000) × (l.intake.finished ≡ false)
+    (length l.room ≡ READ_SIZE) × (l.count < 1000000000) × (l.intake.finished ≡ false)
     × (l.intake.inlet.lane ≡ l.fn.intake.inlet.lane)
     × ((stream : List ℕ) × IsFedAll l.cutter stream)
     × ((gave : LinkGave (g.I.Read.remaining l.fn.reader) (g.I.Read.remaining l.reader)) × (l.count ≡ counted gave)
