@@ -54,15 +54,16 @@ _rights_site_run() {
             mapfile -t COMPREPLY < <(compgen -f -- "$current")
             return
             ;;
-        # An address is the caller's to say: where this site listens, or after 'J='. So is how often it ticks.
-        --listen | --http | --tick | [1-9]*)
+        # An address is the caller's to say: where this site listens, or after 'J='. So are a name and how often it ticks.
+        --listen | --http | --host | --tick | [1-9]*)
             return
             ;;
     esac
     [[ $current == *=* ]] && return
 
-    for word in --id --sites --listen --http --tick --once --log --help; do
-        [[ " ${COMP_WORDS[*]:1:COMP_CWORD-1} " == *" $word "* ]] || options+="$word "
+    for word in --id --sites --listen --http --host --tick --once --log --help; do
+        # Only a name of the host may be given more than once.
+        [[ $word != --host && " ${COMP_WORDS[*]:1:COMP_CWORD-1} " == *" $word "* ]] || options+="$word "
     done
     [[ $sites =~ ^([2-9]|1[0-6])$ ]] || sites=16
     for ((number = 1; number <= sites; number++)); do

@@ -1,9 +1,11 @@
-//! Words, help texts, commands and statuses; outboxes, and connections without sockets; exit statuses, with streams
-//! that fail.
+//! Words, help texts, commands and statuses; outboxes, connections without sockets, and log lines; exit statuses, with
+//! streams that fail.
 
 mod commands;
+mod conversation;
 mod endings;
 mod links;
+mod log;
 mod outbox;
 mod status;
 mod words;

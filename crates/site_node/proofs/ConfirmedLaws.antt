@@ -1,14 +1,14 @@
 -- What a client was told equals what its seat counts.
 use Rattle.std.proofs.Common.{◌≡◌, ℕ, ◌+◌, inl, inr, List, [], ◌∷◌, Result, Ok, Err, ap, arith}
 use Rattle.std.proofs.lemmas.List.Sums.{sum_by-cons}
-use Rattle.std.specs.List.{sum_by}
 use Rattle.request_queue.specs.declared.request.Request.{Request}
 use Rattle.request_queue.specs.Queues.{total_of}
 use Rattle.site_core.specs.declared.desk.requests.Spending.TheVariants.{Spent, Queued}
 use Rattle.site_core.specs.declared.fault.DeskError.{DeskError}
 use Rattle.apply_lanes.specs.Kepts.{KeptValue, SeatValue}
 use Rattle.site_words.specs.declared.commands.DeskCommand.{DeskCommand}
-use Rattle.site_words.specs.declared.commands.DeskCommand.TheVariants.{Issue, Give, Spend, Outcome, Close}
+use Rattle.site_words.specs.declared.commands.DeskCommand.TheVariants.{Issue, Give, Spend, Take}
+use Rattle.site_words.specs.declared.commands.DeskCommand.TheVariants.{Outcome, Cancel, Close}
 use Rattle.site_node.specs.declared.reply.Reply.{Reply}
 use Rattle.site_node.specs.declared.reply.Reply.TheVariants.{Number, Spending, Outcome as Tells, Refused}
 use Rattle.site_node.specs.declared.tick.Ticked.{Ticked}
@@ -63,6 +63,20 @@ acts old was (Spend amount deadline) (Spending (Queued ticket)) new now h =
     record { issued_is = omega arith; spent_is = omega arith }
 acts old was (Spend amount deadline) (Tells status) new now h = absurd h
 acts old was (Spend amount deadline) (Refused cause) new now h = same was now h.same_seat
+acts old was (Take amount) (Number n) new now h = absurd h
+acts old was (Take amount) (Spending (Spent n)) new now h =
+    let e = h.1.counted in
+    let issued : now.issued ≡ was.issued = ap (λ (s : SeatValue). s.issued) e in
+    let spent : now.spent ≡ was.spent + amount = ap (λ (s : SeatValue). s.spent) e in
+    let served : now.served ≡ was.served = ap (λ (s : SeatValue). s.served) e in
+    record { issued_is = omega arith; spent_is = omega arith }
+acts old was (Take amount) (Spending (Queued ticket)) new now h = absurd h
+acts old was (Take amount) (Tells status) new now h = absurd h
+acts old was (Take amount) (Refused cause) new now h = same was now h.same_seat
+acts old was (Cancel ticket) (Number n) new now h = absurd h
+acts old was (Cancel ticket) (Spending spending) new now h = absurd h
+acts old was (Cancel ticket) (Tells status) new now h = same was now h.same_seat
+acts old was (Cancel ticket) (Refused cause) new now h = absurd h
 acts old was (Outcome ticket) (Number n) new now h = absurd h
 acts old was (Outcome ticket) (Spending spending) new now h = absurd h
 acts old was (Outcome ticket) (Tells status) new now h = same was now h.same_seat

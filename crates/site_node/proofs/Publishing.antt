@@ -1,5 +1,5 @@
 -- Entries that are published to a peer, one after another.
-use Rattle.std.proofs.Common.{◌≡◌, ℕ, ◌+◌, ◌-◌, ◌<◌, ◌≤◌, List, length, Option, Some, None, refl, sym, ◌∙◌, ap, inl}
+use Rattle.std.proofs.Common.{◌≡◌, ℕ, ◌+◌, ◌<◌, ◌≤◌, List, length, Option, Some, None, refl, sym, ◌∙◌, ap, inl}
 use Rattle.std.proofs.Common.{inr, arith}
 use Rattle.std.specs.Option.{option_map}
 use Rattle.std.specs.List.{slice_get}

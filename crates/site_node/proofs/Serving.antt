@@ -1,5 +1,5 @@
 -- Requests that are served, one after another.
-use Rattle.std.proofs.Common.{◌+◌, List, [], ◌∷◌, ◌++◌, sym, subst, append_assoc}
+use Rattle.std.proofs.Common.{List, [], ◌∷◌, ◌++◌, sym, subst, append_assoc}
 use Rattle.std.specs.Prelude.{false}
 use Rattle.std.proofs.lemmas.List.{append-nil}
 use Rattle.request_queue.specs.declared.request.Request.{Request}

@@ -1,21 +1,25 @@
 -- The effect of a command at the desk: from the desk and a seat to a reply, and to the desk and the seat afterwards.
 -- The desk is `old` and becomes `new`; the seat is `was` and becomes `now`.
-use Rattle.std.specs.Prelude.{◌≡◌, ℕ, true, [], ◌∷◌, Option, None}
+use Rattle.std.specs.Prelude.{◌≡◌, ◌≢◌, ℕ, true, [], ◌∷◌, Option, None}
 use Rattle.rights_types.specs.Chains.{end}
-use Rattle.rights_types.specs.declared.moves.Move.TheVariants.{Issue as Issues, Give as Gives}
+use Rattle.rights_types.specs.declared.moves.Move.TheVariants.{Issue as Issues, Spend as Spends, Give as Gives}
 use Rattle.request_queue.specs.Calls.{TellsOutcome}
 use Rattle.request_queue.specs.declared.request.Status.{Status}
-use Rattle.site_core.specs.declared.desk.requests.Spending.{Spending}
+use Rattle.request_queue.specs.declared.request.Status.TheVariants.{Waiting}
+use Rattle.site_core.specs.declared.desk.requests.Spending.{Spending as SpendResult}
+use Rattle.site_core.specs.declared.desk.requests.Spending.TheVariants.{Spent}
 use Rattle.site_core.specs.declared.fault.DeskError.{DeskError}
-use Rattle.site_core.specs.Faults.{issue_fault, give_fault, spend_fault, close_fault, can_spend}
+use Rattle.site_core.specs.Faults.{issue_fault, give_fault, spend_fault, take_fault, close_fault, can_spend}
 use Rattle.site_core.specs.Ledgers.{EntryKeeps, ClosingKeeps}
-use Rattle.site_core.specs.Calls.{DeskWrites, DeskSpends, SpendKeeps, DeskCloses}
-use Rattle.apply_lanes.specs.Kepts.{KeptValue, SeatValue, raised, told_issued, told_spent, spent_by}
+use Rattle.site_core.specs.Calls.{DeskWrites, DeskSpends, SpendKeeps, DeskCancels, DeskCloses}
+use Rattle.apply_lanes.specs.Kepts.{KeptValue, SeatValue, raised, told_issued, told_spent, told_taken}
+use Rattle.apply_lanes.specs.Kepts.{spent_by}
 use Rattle.site_words.specs.declared.commands.DeskCommand.{DeskCommand}
-use Rattle.site_words.specs.declared.commands.DeskCommand.TheVariants.{Issue, Give, Spend, Outcome, Close}
+use Rattle.site_words.specs.declared.commands.DeskCommand.TheVariants.{Issue, Give, Spend, Take}
+use Rattle.site_words.specs.declared.commands.DeskCommand.TheVariants.{Outcome, Cancel, Close}
 use Rattle.site_node.specs.Refusals.{Refuses, Always}
 use Rattle.site_node.specs.declared.reply.Reply.{Reply}
-use Rattle.site_node.specs.declared.reply.Reply.TheVariants.{Number, Spending as Spends, Outcome as Tells, Refused}
+use Rattle.site_node.specs.declared.reply.Reply.TheVariants.{Number, Spending, Outcome as Tells, Refused}
 
 -- ---- what a command leaves that is not refused
 
@@ -38,12 +42,29 @@ pub record HasGiven (old : KeptValue) (was : SeatValue) (peer amount number : �
   pub same_seat : now ≡ was
 
 -- the spend was served or waits, as the reply says; the counter and the seat count what was spent
-pub record HasSpent (old : KeptValue) (was : SeatValue) (amount deadline : ℕ) (spending : Spending) (new : KeptValue)
+pub record HasSpent (old : KeptValue) (was : SeatValue) (amount deadline : ℕ) (spending : SpendResult) (new : KeptValue)
     (now : SeatValue) : Type 0 where
   pub desk : DeskSpends old.desk amount deadline spending new.desk
   pub keeps : SpendKeeps old.desk amount spending new.desk
   pub counter : new ≡ record old { desk = new.desk; spent = raised old.spent (spent_by amount spending) }
   pub counted : now ≡ told_spent was amount spending
+
+-- an entry spent this many rights now; the counter and the seat count them
+pub record HasTaken (old : KeptValue) (was : SeatValue) (amount number : ℕ) (new : KeptValue)
+    (now : SeatValue) : Type 0 where
+  pub entry : DeskWrites old.desk (Spends amount ∷ []) new.desk
+  pub keeps : EntryKeeps old.desk.ledger (Spends amount ∷ []) new.desk.ledger
+  pub at_end : number ≡ end new.desk.ledger.log.entries
+  pub counter : new ≡ record old { desk = new.desk; spent = raised old.spent amount }
+  pub counted : now ≡ told_taken was amount
+
+-- the spend no longer waits, and its outcome is returned, which frees its slot
+pub record HasCancelled (old : KeptValue) (was : SeatValue) (ticket : ℕ) (status : Status) (new : KeptValue)
+    (now : SeatValue) : Type 0 where
+  pub desk : DeskCancels old.desk ticket status new.desk
+  pub decided : status ≢ Waiting
+  pub rest : new ≡ record old { desk = record old.desk { queue = new.desk.queue } }
+  pub same_seat : now ≡ was
 
 -- the state of a spend is returned; a final outcome frees its slot
 pub record HasReported (old : KeptValue) (was : SeatValue) (ticket : ℕ) (status : Status) (new : KeptValue)
@@ -85,11 +106,24 @@ ActsGive old was peer amount reply new now = ⊥
 
 -- a spend may run out of memory only if it is served at once
 abbrev pub ActsSpend : KeptValue → SeatValue → ℕ → ℕ → Reply → KeptValue → SeatValue → Type 0
-ActsSpend old was amount deadline (Spends spending) new now =
+ActsSpend old was amount deadline (Spending spending) new now =
     (spend_fault old.desk amount ≡ None) × HasSpent old was amount deadline spending new now
 ActsSpend old was amount deadline (Refused cause) new now =
     IsRefused old was (spend_fault old.desk amount) (can_spend old.desk amount ≡ true) cause new now
 ActsSpend old was amount deadline reply new now = ⊥
+
+-- what is taken is spent at once, and never waits
+abbrev pub ActsTake : KeptValue → SeatValue → ℕ → Reply → KeptValue → SeatValue → Type 0
+ActsTake old was amount (Spending (Spent n)) new now = (take_fault old.desk amount ≡ None)
+    × HasTaken old was amount n new now
+ActsTake old was amount (Refused cause) new now
+    = IsRefused old was (take_fault old.desk amount) Always cause new now
+ActsTake old was amount reply new now = ⊥
+
+-- cancelling is never refused
+abbrev pub ActsCancel : KeptValue → SeatValue → ℕ → Reply → KeptValue → SeatValue → Type 0
+ActsCancel old was ticket (Tells status) new now = HasCancelled old was ticket status new now
+ActsCancel old was ticket reply new now = ⊥
 
 -- an outcome is never refused
 abbrev pub ActsOutcome : KeptValue → SeatValue → ℕ → Reply → KeptValue → SeatValue → Type 0
@@ -106,5 +140,7 @@ abbrev pub Acts : KeptValue → SeatValue → DeskCommand → Reply → KeptValu
 Acts old was (Issue amount) reply new now = ActsIssue old was amount reply new now
 Acts old was (Give peer amount) reply new now = ActsGive old was peer amount reply new now
 Acts old was (Spend amount deadline) reply new now = ActsSpend old was amount deadline reply new now
+Acts old was (Take amount) reply new now = ActsTake old was amount reply new now
+Acts old was (Cancel ticket) reply new now = ActsCancel old was ticket reply new now
 Acts old was (Outcome ticket) reply new now = ActsOutcome old was ticket reply new now
 Acts old was (Close heir) reply new now = ActsClose old was heir reply new now

@@ -6,7 +6,7 @@ use Rattle.site_core.specs.declared.desk.requests.Spending.TheVariants.{Spent}
 use Rattle.site_core.specs.declared.fault.DeskError.{DeskError}
 use Rattle.apply_lanes.specs.Kepts.{KeptValue, SeatValue}
 use Rattle.site_words.specs.declared.commands.DeskCommand.{DeskCommand}
-use Rattle.site_words.specs.declared.commands.DeskCommand.TheVariants.{Issue, Spend}
+use Rattle.site_words.specs.declared.commands.DeskCommand.TheVariants.{Issue, Spend, Take}
 use Rattle.site_node.specs.declared.reply.Reply.{Reply}
 use Rattle.site_node.specs.declared.reply.Reply.TheVariants.{Number, Spending}
 use Rattle.site_node.specs.declared.tick.Ticked.{Ticked}
@@ -27,10 +27,11 @@ abbrev pub issued_in : Turn → ℕ
 issued_in (ACommand command reply) = confirmed_as_issued command reply
 issued_in (ATick time served ticked) = 0
 
--- the rights that the client was told as spent: those of a `spend` that was answered by `spent`, and of the requests
--- that a tick served
+-- the rights that the client was told as spent: those of a `spend` or `take` that was answered by `spent`, and of the
+-- requests that a tick served
 abbrev pub confirmed_as_spent : DeskCommand → Reply → ℕ
 confirmed_as_spent (Spend amount deadline) (Spending (Spent number)) = amount
+confirmed_as_spent (Take amount) (Spending (Spent number)) = amount
 confirmed_as_spent command reply = 0
 
 abbrev pub spent_in : Turn → ℕ

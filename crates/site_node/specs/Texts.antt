@@ -1,5 +1,7 @@
 -- The text of each reply, without the line feed at its end.
-use Rattle.std.specs.Prelude.{ℕ, List, ◌++◌, decimal, codes, Result, Ok, Err}
+use Rattle.std.specs.Prelude.{ℕ, List, [], ◌∷◌, ◌++◌, decimal, codes, Result, Ok, Err}
+use Rattle.std.specs.List.{flat_map}
+use Rattle.request_queue.specs.declared.request.Request.{Request}
 use Rattle.site_core.specs.declared.fault.DeskError.{DeskError}
 use Rattle.reply_texts.specs.Texts.{number_text, spending_text, status_text, error_text}
 use Rattle.site_node.specs.declared.tick.Ticked.{Ticked}
@@ -11,6 +13,26 @@ reply_text (Number number) = number_text number
 reply_text (Spending spending) = spending_text spending
 reply_text (Outcome status) = status_text status
 reply_text (Refused cause) = error_text cause
+
+-- a request that waits, as an object of JSON
+abbrev pub request_text : Request → List ℕ
+request_text r =
+    codes "{\"amount\":" ++ decimal r.amount ++ codes ",\"deadline\":" ++ decimal r.deadline
+    ++ codes ",\"ticket\":" ++ decimal r.ticket ++ codes "}"
+
+-- .. and such requests, each after a comma
+abbrev pub more_requests : List Request → List ℕ
+more_requests requests = flat_map (λ (r : Request). codes "," ++ request_text r) requests
+
+-- the requests, separated by commas
+abbrev pub requests_text : List Request → List ℕ
+requests_text [] = []
+requests_text (r ∷ others) = request_text r ++ more_requests others
+
+-- the requests that wait, in order, and how many outcomes nobody has read
+abbrev pub queue_text : List Request → ℕ → List ℕ
+queue_text requests unread =
+    codes "{\"requests\":[" ++ requests_text requests ++ codes "],\"unread\":" ++ decimal unread ++ codes "}"
 
 -- what a tick did at the desk, and how many lines found space in outboxes
 abbrev pub ticked_text : Ticked → ℕ → List ℕ

@@ -4,7 +4,7 @@ use Rattle.request_queue.specs.declared.request.Request.{Request}
 use Rattle.request_queue.specs.Queues.{front_of}
 use Rattle.site_core.specs.declared.fault.DeskError.{DeskError}
 use Rattle.site_core.specs.Faults.{can_serve, serve_fault, expire_fault}
-use Rattle.site_core.specs.Calls.{ServesFront, ServeKeeps, DeskExpires, DeskPlans, CannotServe}
+use Rattle.site_core.specs.Calls.{ServesFront, ServeKeeps, DeskExpires, DeskPlansBeside, CannotServe}
 use Rattle.apply_lanes.specs.Kepts.{KeptValue, SeatValue, raised, told_served}
 use Rattle.site_node.specs.Refusals.{Refuses}
 use Rattle.site_node.specs.declared.tick.Ticked.{Ticked}
@@ -55,20 +55,20 @@ pub record ExpiresAll (old : KeptValue) (time count : ℕ) (new : KeptValue) : T
   pub desk : DeskExpires old.desk time count new.desk
   pub rest : new ≡ record old { desk = new.desk }
 
--- this many asks were planned; only the desk changed
-pub record PlansAsks (old : KeptValue) (count : ℕ) (new : KeptValue) : Type 0 where
-  pub desk : DeskPlans old.desk count new.desk
+-- this many asks were planned beside these silent sites; only the desk changed
+pub record PlansAsks (silent : ℕ → Bool) (old : KeptValue) (count : ℕ) (new : KeptValue) : Type 0 where
+  pub desk : DeskPlansBeside silent old.desk count new.desk
   pub rest : new ≡ record old { desk = new.desk }
 
 -- everything late expired, then everything that could be was served, and then asks were planned for what still waits
-pub record HasTicked (old : KeptValue) (was : SeatValue) (time : ℕ) (served : List Request) (ticked : Ticked)
-    (new : KeptValue) (now : SeatValue) : Type 0 where
+pub record HasTicked (silent : ℕ → Bool) (old : KeptValue) (was : SeatValue) (time : ℕ) (served : List Request)
+    (ticked : Ticked) (new : KeptValue) (now : SeatValue) : Type 0 where
   pub in_time : KeptValue
   pub left : KeptValue
   pub expires : ExpiresAll old time ticked.expired in_time
   pub serves : ServesAll in_time was served left now
   pub counted : ticked.served ≡ length served
-  pub plans : PlansAsks left ticked.asks new
+  pub plans : PlansAsks silent left ticked.asks new
 
 -- the time was refused, and nothing was done
 pub record TimeRefused (old : KeptValue) (was : SeatValue) (time : ℕ) (served : List Request) (fault : DeskError)
@@ -86,8 +86,14 @@ pub record StopsServing (old : KeptValue) (was : SeatValue) (time : ℕ) (served
   pub expires : ExpiresAll old time expired in_time
   pub fails : ServingFails in_time was served fault new now
 
--- from old and was, the tick at this time may serve these requests, return this, and lead to new and now
-abbrev pub Ticks : KeptValue → SeatValue → ℕ → List Request → Result Ticked DeskError → KeptValue → SeatValue → Type 0
-Ticks old was time served (Ok ticked) new now = HasTicked old was time served ticked new now
-Ticks old was time served (Err fault) new now =
+-- from old and was, the tick at this time, beside these silent sites, may serve these requests, return this, and lead
+-- to new and now
+abbrev pub TicksBeside : (ℕ → Bool) → KeptValue → SeatValue → ℕ → List Request → Result Ticked DeskError → KeptValue
+    → SeatValue → Type 0
+TicksBeside silent old was time served (Ok ticked) new now = HasTicked silent old was time served ticked new now
+TicksBeside silent old was time served (Err fault) new now =
     TimeRefused old was time served fault new now ⊎ StopsServing old was time served fault new now
+
+-- .. with no site silent
+abbrev pub Ticks : KeptValue → SeatValue → ℕ → List Request → Result Ticked DeskError → KeptValue → SeatValue → Type 0
+Ticks old was time served ticked new now = TicksBeside (λ j. false) old was time served ticked new now

@@ -1,10 +1,12 @@
 //! The commands that are one call of the desk.
 ghost use Rattle.apply_lanes.specs.Kepts.{SeatValue};
-ghost use Rattle.site_node.specs.Acting.{Acts, ActsIssue, ActsGive, ActsSpend, ActsOutcome, ActsClose};
+ghost use Rattle.site_node.specs.Acting.{Acts, ActsIssue, ActsGive, ActsSpend, ActsTake, ActsOutcome};
+ghost use Rattle.site_node.specs.Acting.{ActsCancel, ActsClose};
 
 use crate::reply::Reply;
 use apply_lanes::{DeskNames, Kept, Seat};
 use rights_types::SiteId;
+use site_core::Spending;
 use site_words::DeskCommand;
 
 /// Carries out a command at the desk, for this seat, and returns the reply.
@@ -15,7 +17,9 @@ pub fn act<D: DeskNames>(kept: &mut Kept<D>, seat: &mut Seat<D>, command: DeskCo
         DeskCommand::Issue(amount) => issue(kept, seat, amount),
         DeskCommand::Give(peer, amount) => give(kept, peer, amount),
         DeskCommand::Spend(amount, deadline) => spend(kept, seat, amount, deadline),
+        DeskCommand::Take(amount) => take(kept, seat, amount),
         DeskCommand::Outcome(ticket) => outcome(kept, ticket),
+        DeskCommand::Cancel(ticket) => cancel(kept, ticket),
         DeskCommand::Close(heir) => close(kept, heir),
     }
 }
@@ -45,6 +49,21 @@ fn spend<D: DeskNames>(kept: &mut Kept<D>, seat: &mut Seat<D>, amount: u64, dead
         Ok(spending) => Reply::Spending(spending),
         Err(cause) => Reply::Refused(cause),
     }
+}
+
+fn take<D: DeskNames>(kept: &mut Kept<D>, seat: &mut Seat<D>, amount: u64) -> Reply
+    ensures { ActsTake kept.old seat.old amount result kept.new seat.new }
+{
+    match kept.take(seat, amount) {
+        Ok(number) => Reply::Spending(Spending::Spent(number)),
+        Err(cause) => Reply::Refused(cause),
+    }
+}
+
+fn cancel<D: DeskNames>(kept: &mut Kept<D>, ticket: u64) -> Reply
+    ensures { (seat : SeatValue) → ActsCancel kept.old seat ticket result kept.new seat }
+{
+    Reply::Outcome(kept.cancel(ticket))
 }
 
 fn outcome<D: DeskNames>(kept: &mut Kept<D>, ticket: u64) -> Reply

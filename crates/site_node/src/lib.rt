@@ -8,20 +8,24 @@
 #![tactic(auto)]
 
 mod answer;
+mod clock;
 mod commands;
 pub mod laws;
 mod messages;
 mod peers;
+mod queue;
 mod reply;
 mod sending;
 mod texts;
 mod tick;
 
 pub use answer::{answer_reply, answer_tick};
+pub use clock::{SiteTime, site_time};
 pub use commands::act;
 pub use messages::{answer_ask, answer_query, note_denial};
 pub use peers::{Peers, send_to_all};
+pub use queue::answer_queue;
 pub use reply::Reply;
 pub use sending::{Sink, send_due};
 pub use texts::TICK_ROOM;
-pub use tick::{Ticked, serve_due};
+pub use tick::{Ticked, serve_due, serve_due_beside};

@@ -12,8 +12,7 @@ use rights_types::{MAX_NUMBER, OutOfMemory, SiteId};
 /// A destination for the lines to one peer, such as its outbox.
 pub trait Sink {
     /// `takes before line fits after`: the sink was offered this line, which found space if `fits`, and changed from
-    /// `before` to `after`. An outbox, whose lock hides its lines, has a relation that always holds: the contracts
-    /// here hold for every relation.
+    /// `before` to `after`. The contracts here hold for every relation.
     ghost takes: { Self → List ℕ → Bool → Self → Type 0 };
 
     /// Offers a line. False if it found no space, and is lost.

@@ -2,11 +2,13 @@
 ghost use Rattle.std.specs.Prelude.{◌≡◌, List, [], length, IfOk, IfErr};
 ghost use Rattle.request_queue.specs.declared.request.Request.{Request};
 ghost use Rattle.request_queue.specs.declared.queue.TheConstants.{SLOTS};
-ghost use Rattle.site_node.specs.Ticking.{ServesAll, ServesNextIf, ServingFails, Ticks};
+ghost use Rattle.site_node.specs.Ticking.{ServesAll, ServesNextIf, ServingFails, Ticks, TicksBeside};
+ghost use Rattle.transfer_manager.specs.SiteSets.{has_site};
 
 use apply_lanes::{DeskNames, Kept, Seat};
 use request_queue::SLOTS;
 use site_core::DeskError;
+use transfer_manager::SiteSet;
 
 /// What a tick did at the desk.
 #[derive(Clone, Copy)]
@@ -29,9 +31,23 @@ pub fn serve_due<D: DeskNames>(
 ) -> Result<Ticked, DeskError>
     ensures { (served : List Request) × Ticks kept.old seat.old time served result kept.new seat.new }
 {
+    serve_due_beside(kept, seat, time, &SiteSet::new())
+}
+
+/// The same beside silent peers: none of them is asked anew, and what they were asked for is asked of the others. Their
+/// outstanding asks are sent as ever.
+pub fn serve_due_beside<D: DeskNames>(
+    kept: &mut Kept<D>,
+    seat: &mut Seat<D>,
+    time: u64,
+    silent: &SiteSet,
+) -> Result<Ticked, DeskError>
+    ensures { (served : List Request)
+        × TicksBeside (has_site silent.now) kept.old seat.old time served result kept.new seat.new }
+{
     let expired = kept.expire(time)?;
     let served = serve_all(kept, seat)?;
-    let asks = kept.plan();
+    let asks = kept.plan_beside(silent);
     Ok(Ticked {
         expired,
         served,

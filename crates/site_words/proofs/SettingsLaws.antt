@@ -1,7 +1,7 @@
 -- Settings that are asked for, or refused.
 use Rattle.std.proofs.Common.{◌≡◌, ◌∙◌, ◌<◌, ◌^◌, ℕ, Bool, true, false, List, Option, Some, None, Result, Ok, Err, refl}
 use Rattle.std.proofs.Common.{sym, ap, subst, arith, codes}
-use Rattle.std.specs.Prelude.{IfSome, IsErrAnd, MatchResult}
+use Rattle.std.specs.Prelude.{IfSome, IsErrAnd, MatchResult, option_map, unwrap_or}
 use Rattle.std.proofs.lemmas.Result.{err_from_is_err_and}
 use Rattle.std.specs.Str.Parse.{digits_value, without_leading_plus}
 use Rattle.clap.specs.Walk.{Row, Text, all_of, first_of}
@@ -44,6 +44,12 @@ pub tick_fits : (tick : Option ℕ) → IfSome tick IsTick → IfSome tick (λ m
 tick_fits None valid = tt
 tick_fits (Some n) valid = omega (arith, valid.1)
 
+-- the default of an option whose value is mapped
+pub unwrap_mapped : {X Y : Type 0} (f : X → Y) (o : Option X) (d : X)
+    → unwrap_or (option_map f o) (f d) ≡ f (unwrap_or o d)
+unwrap_mapped f None d = refl
+unwrap_mapped f (Some x) d = refl
+
 abbrev pub MayBeOptions : List Row → Result Options WordsFault → Type 0
 MayBeOptions rows r = MatchResult r (AreFound rows)
     (λ fault. (fault ≡ Refused) × ((o : Options) → IfSome o.tick IsTick → AreFound rows o → ⊥))
@@ -61,20 +67,22 @@ log_once rows false false one two = refl
 log_once rows true false one two = absurd (texts_differ (some_same (sym one ∙ two)))
 log_once rows false true one two = absurd (texts_differ (some_same (sym two ∙ one)))
 
-abbrev options_with : Option Text → Option ℕ → Option Text → Bool → Options
-options_with http tick once log = record { http = http; tick = tick; once = once; log = log }
+abbrev options_with : Option Text → List Text → Option ℕ → Option Text → Bool → Options
+options_with http hosts tick once log = record { http = http; hosts = hosts; tick = tick; once = once; log = log }
 
 -- clap found one value of each option
 options_once : (rows : List Row) (o p : Options) → AreFound rows o → AreFound rows p → o ≡ p
 options_once rows o p one two =
     let http : o.http ≡ p.http = sym one.http ∙ two.http in
+    let hosts : o.hosts ≡ p.hosts = sym one.hosts ∙ two.hosts in
     let tick : o.tick ≡ p.tick = tick_once rows o.tick p.tick one.tick two.tick in
     let once : o.once ≡ p.once = sym one.once ∙ two.once in
     let log : o.log ≡ p.log = log_once rows o.log p.log one.log two.log in
-    ap (λ (h : Option Text). options_with h o.tick o.once o.log) http
-    ∙ (ap (λ (t : Option ℕ). options_with p.http t o.once o.log) tick
-    ∙ (ap (λ (f : Option Text). options_with p.http p.tick f o.log) once
-    ∙ ap (λ (l : Bool). options_with p.http p.tick p.once l) log))
+    ap (λ (h : Option Text). options_with h o.hosts o.tick o.once o.log) http
+    ∙ (ap (λ (hs : List Text). options_with p.http hs o.tick o.once o.log) hosts
+    ∙ (ap (λ (t : Option ℕ). options_with p.http p.hosts t o.once o.log) tick
+    ∙ (ap (λ (f : Option Text). options_with p.http p.hosts p.tick f o.log) once
+    ∙ ap (λ (l : Bool). options_with p.http p.hosts p.tick p.once l) log)))
 
 -- the settings of the values that clap found are those that it found
 pub values_found : (rows : List Row) (id sites : ℕ) (listen : Text) (words : List Text) (options : Options)

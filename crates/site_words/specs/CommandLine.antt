@@ -3,7 +3,7 @@ use Rattle.std.specs.Prelude.{ℕ, true, false, Some, [], ◌∷◌, codes}
 use Rattle.clap.specs.Lexer.{usize_max}
 use Rattle.clap.specs.Simple.{App, Shape, new_rule, new_shape}
 use Rattle.clap.specs.Walk.{Rule, Text}
-use Rattle.clap.specs.declared.builder.action.ArgAction.TheVariants.{SetTrue}
+use Rattle.clap.specs.declared.builder.action.ArgAction.TheVariants.{Append, SetTrue}
 use Rattle.clap.specs.declared.builder.value_parser.ValueParser.TheVariants.{Unsigned}
 use Rattle.rights_types.specs.declared.limits.TheConstants.{MAX_SITES, MIN_SITES}
 use Rattle.site_words.specs.declared.config.TheConstants.{MAX_TICK, MIN_TICK}
@@ -23,6 +23,10 @@ number_rule name least most = record (option_rule name) { parser = Some (Unsigne
 -- the interval at which the site ticks itself: a whole number of milliseconds
 abbrev pub tick_rule : Rule
 tick_rule = record (value_rule (codes "tick")) { parser = Some (Unsigned MIN_TICK MAX_TICK) }
+
+-- the names of the site's host: an option that may occur several times
+abbrev pub host_rule : Rule
+host_rule = record (value_rule (codes "host")) { action = Some Append }
 
 -- an option that takes no value
 abbrev pub flag_rule : Text → Rule
@@ -53,7 +57,7 @@ abbrev pub run_shape : Shape
 run_shape = record (new_shape (codes "run")) {
   rules = number_rule (codes "id") 1 MAX_SITES ∷ number_rule (codes "sites") MIN_SITES MAX_SITES
       ∷ option_rule (codes "listen") ∷ peer_rule
-      ∷ value_rule (codes "http") ∷ tick_rule ∷ value_rule (codes "once") ∷ flag_rule (codes "log") ∷ [];
+      ∷ value_rule (codes "http") ∷ host_rule ∷ tick_rule ∷ value_rule (codes "once") ∷ flag_rule (codes "log") ∷ [];
 }
 
 -- the program's name is not among the words, one of its commands is required, and `help` is not a command

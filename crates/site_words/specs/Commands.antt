@@ -5,8 +5,9 @@ use Rattle.line_streams.specs.Words.{words_of, named, alone, first_number, only_
 use Rattle.site_words.specs.declared.commands.Name.{Name}
 use Rattle.site_words.specs.declared.commands.Name.TheVariants.{Issue as AnIssue, Give as AGive, Spend as ASpend}
 use Rattle.site_words.specs.declared.commands.Name.TheVariants.{Outcome as AnOutcome, Tick as ATick, Status as AStatus}
-use Rattle.site_words.specs.declared.commands.Name.TheVariants.{Close as AClose, Quit as AQuit}
-use Rattle.site_words.specs.declared.commands.DeskCommand.TheVariants.{Issue, Give, Spend, Outcome, Close}
+use Rattle.site_words.specs.declared.commands.Name.TheVariants.{Close as AClose, Quit as AQuit, Take as ATake}
+use Rattle.site_words.specs.declared.commands.Name.TheVariants.{Cancel as ACancel}
+use Rattle.site_words.specs.declared.commands.DeskCommand.TheVariants.{Issue, Give, Spend, Take, Outcome, Cancel, Close}
 use Rattle.site_words.specs.declared.commands.SiteCommand.{SiteCommand}
 use Rattle.site_words.specs.declared.commands.SiteCommand.TheVariants.{AtDesk, Tick, Status, Quit}
 
@@ -27,9 +28,16 @@ spend_in words = do
   deadline ← only_number amount.1
   Some (AtDesk (Spend amount.0 deadline))
 
+-- the amount
+abbrev pub take_in : List (List ℕ) → Option SiteCommand
+take_in words = only_number words >>= (λ amount. Some (AtDesk (Take amount)))
+
 -- the ticket
 abbrev pub outcome_in : List (List ℕ) → Option SiteCommand
 outcome_in words = only_number words >>= (λ ticket. Some (AtDesk (Outcome ticket)))
+
+abbrev pub cancel_in : List (List ℕ) → Option SiteCommand
+cancel_in words = only_number words >>= (λ ticket. Some (AtDesk (Cancel ticket)))
 
 -- the heir, if any
 abbrev pub close_in : List (List ℕ) → Option SiteCommand
@@ -40,7 +48,9 @@ abbrev pub command_by : Name → List (List ℕ) → Option SiteCommand
 command_by AnIssue words = issue_in words
 command_by AGive words = give_in words
 command_by ASpend words = spend_in words
+command_by ATake words = take_in words
 command_by AnOutcome words = outcome_in words
+command_by ACancel words = cancel_in words
 command_by ATick words = only_number words >>= (λ time. Some (Tick time))
 command_by AStatus words = alone Status words
 command_by AClose words = close_in words
@@ -52,7 +62,9 @@ name_of text =
     (codes "issue", AnIssue)
     ∷ (codes "give", AGive)
     ∷ (codes "spend", ASpend)
+    ∷ (codes "take", ATake)
     ∷ (codes "outcome", AnOutcome)
+    ∷ (codes "cancel", ACancel)
     ∷ (codes "tick", ATick)
     ∷ (codes "status", AStatus)
     ∷ (codes "close", AClose)

@@ -1,6 +1,6 @@
 -- The configuration of one site, and the words that give it.
 use Rattle.std.specs.Prelude.{◌≡◌, ◌≤◌, ◌+◌, ◌==◌, ◌++◌, ℕ, zero, suc, Bool, true, false, List, [], ◌∷◌, Option, Some}
-use Rattle.std.specs.Prelude.{None, IfSome, Contains, codes, length, map, decimal, if◌then◌else◌}
+use Rattle.std.specs.Prelude.{None, IfSome, Contains, codes, length, map, decimal, unwrap_or, if◌then◌else◌}
 use Rattle.std.specs.List.{All}
 use Rattle.std.specs.Str.Parse.{IsNumeral, digits_value, without_leading_plus}
 use Rattle.clap.specs.Walk.{Row, Text, all_of, first_of, one_of}
@@ -13,10 +13,12 @@ pub record Peer : Type 0 where
   pub site : ℕ
   pub address : Text
 
--- the optional settings: the address for HTTP, the interval in milliseconds at which the site ticks itself, the file
--- that it creates at its start, and whether it logs events on links and clients
+-- the optional settings: the address for HTTP, the names of the host to which it answers there, the interval in
+-- milliseconds at which the site ticks itself, the file that it creates at its start, and whether it logs events on
+-- links and clients
 pub record Options : Type 0 where
   pub http : Option Text
+  pub hosts : List Text
   pub tick : Option ℕ
   pub once : Option Text
   pub log : Bool
@@ -94,6 +96,7 @@ HasFlag rows flag set = one_of flag rows ≡ Some (flag_text set)
 -- each optional setting is as clap found it
 pub record AreFound (rows : List Row) (o : Options) : Type 0 where
   pub http : first_of (codes "http") rows ≡ o.http
+  pub hosts : unwrap_or (all_of (codes "host") rows) [] ≡ o.hosts
   pub tick : MayHaveNumber rows (codes "tick") o.tick
   pub once : first_of (codes "once") rows ≡ o.once
   pub log : HasFlag rows (codes "log") o.log

@@ -1,8 +1,8 @@
 //! The commands of a running site.
 ghost use Rattle.std.specs.Prelude.{◌≡◌};
 ghost use Rattle.line_streams.specs.Words.{words_left};
-ghost use Rattle.site_words.specs.Commands.{issue_in, give_in, spend_in, outcome_in, close_in, command_by, name_of};
-ghost use Rattle.site_words.specs.Commands.{command_of};
+ghost use Rattle.site_words.specs.Commands.{issue_in, give_in, spend_in, take_in};
+ghost use Rattle.site_words.specs.Commands.{outcome_in, cancel_in, close_in, command_by, name_of, command_of};
 
 use line_streams::{
     alone, first_number, named, only_number, optional_site, site_and_number, split_word,
@@ -18,8 +18,12 @@ pub enum DeskCommand {
     Give(SiteId, u64),
     /// Spend this many rights, at once or by this deadline.
     Spend(u64, u64),
+    /// Spend this many rights now, or not at all.
+    Take(u64),
     /// Report the outcome of the spend with this ticket.
     Outcome(u64),
+    /// End the spend with this ticket, if it waits, and report its outcome.
+    Cancel(u64),
     /// Close the site, and leave what it holds to an heir, if one is named.
     Close(Option<SiteId>),
 }
@@ -43,18 +47,22 @@ enum Name {
     Issue,
     Give,
     Spend,
+    Take,
     Outcome,
+    Cancel,
     Tick,
     Status,
     Close,
     Quit,
 }
 
-const NAMES: [(&[u8], Name); 8] = [
+const NAMES: [(&[u8], Name); 10] = [
     (b"issue", Name::Issue),
     (b"give", Name::Give),
     (b"spend", Name::Spend),
+    (b"take", Name::Take),
     (b"outcome", Name::Outcome),
+    (b"cancel", Name::Cancel),
     (b"tick", Name::Tick),
     (b"status", Name::Status),
     (b"close", Name::Close),
@@ -84,6 +92,20 @@ fn read_spend(words: Option<&[u8]>) -> Option<SiteCommand>
     Some(SiteCommand::AtDesk(DeskCommand::Spend(amount, deadline)))
 }
 
+fn read_take(words: Option<&[u8]>) -> Option<SiteCommand>
+    ensures { result ≡ take_in (words_left words.entry) }
+{
+    let amount = only_number(words)?;
+    Some(SiteCommand::AtDesk(DeskCommand::Take(amount)))
+}
+
+fn read_cancel(words: Option<&[u8]>) -> Option<SiteCommand>
+    ensures { result ≡ cancel_in (words_left words.entry) }
+{
+    let ticket = only_number(words)?;
+    Some(SiteCommand::AtDesk(DeskCommand::Cancel(ticket)))
+}
+
 fn read_outcome(words: Option<&[u8]>) -> Option<SiteCommand>
     ensures { result ≡ outcome_in (words_left words.entry) }
 {
@@ -106,7 +128,9 @@ fn command_by(name: Name, words: Option<&[u8]>) -> Option<SiteCommand>
         Name::Issue => read_issue(words),
         Name::Give => read_give(words),
         Name::Spend => read_spend(words),
+        Name::Take => read_take(words),
         Name::Outcome => read_outcome(words),
+        Name::Cancel => read_cancel(words),
         Name::Tick => Some(SiteCommand::Tick(only_number(words)?)),
         Name::Status => alone(SiteCommand::Status, words),
         Name::Close => read_close(words),

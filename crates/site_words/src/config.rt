@@ -58,6 +58,7 @@ impl PeerAddress {
 #[derive(Drop)]
 pub(crate) struct OptionValues<'a> {
     pub(crate) http: Option<&'a str>,
+    pub(crate) hosts: &'a [&'a str],
     pub(crate) tick: Option<u64>,
     pub(crate) once: Option<&'a str>,
     pub(crate) log: bool,
@@ -65,12 +66,14 @@ pub(crate) struct OptionValues<'a> {
 
 impl<'a> Model for OptionValues<'a> {
     ghost use Rattle.std.specs.Prelude.{option_map};
+    ghost use Rattle.clap.specs.Walk.{texts};
     ghost use Rattle.site_words.specs.Settings.{Options};
 
     ghost Value = { Options };
 
     ghost view = { λ values. record {
       http = option_map (λ s. s.now) values.http;
+      hosts = texts values.hosts.now;
       tick = values.tick;
       once = option_map (λ s. s.now) values.once;
       log = values.log;
@@ -85,13 +88,14 @@ pub struct Config {
     listen: String,
     peers: Vec<PeerAddress>,
     http: Option<String>,
+    hosts: Vec<String>,
     tick: Option<u64>,
     once: Option<String>,
     log: bool,
 }
 
 impl Model for Config {
-    ghost use Rattle.std.specs.Prelude.{option_map};
+    ghost use Rattle.std.specs.Prelude.{map, option_map};
     ghost use Rattle.std.specs.String.{string_bytes};
     ghost use Rattle.site_words.specs.Settings.{Settings, IsSettings};
 
@@ -104,6 +108,7 @@ impl Model for Config {
       peers = config.peers.items;
       options = record {
         http = option_map string_bytes config.http;
+        hosts = map string_bytes config.hosts.items;
         tick = config.tick;
         once = option_map string_bytes config.once;
         log = config.log;
@@ -117,6 +122,7 @@ impl Model for Config {
       peers = config.peers.items;
       options = record {
         http = option_map string_bytes config.http;
+        hosts = map string_bytes config.hosts.items;
         tick = config.tick;
         once = option_map string_bytes config.once;
         log = config.log;
@@ -163,6 +169,14 @@ impl Config {
         ensures valid { IsSettings self.now }
     {
         self.http.as_deref()
+    }
+
+    /// The names of its host, besides `localhost`, to which it answers over HTTP, as the words have them.
+    pub fn hosts(&self) -> &[String]
+        ensures value { map string_bytes result.now ≡ self.now.options.hosts }
+        ensures valid { IsSettings self.now }
+    {
+        self.hosts.as_slice()
     }
 
     /// The interval at which it ticks itself, in milliseconds, from `MIN_TICK` to `MAX_TICK`; None if it does not.
@@ -217,6 +231,7 @@ impl Config {
             listen: String::from_str(alloc, listen)?,
             peers: other_peers(alloc, id, sites, words)?,
             http: owned(alloc, options.http)?,
+            hosts: owned_all(alloc, options.hosts)?,
             tick: options.tick,
             once: owned(alloc, options.once)?,
             log: options.log,
@@ -243,6 +258,17 @@ fn owned(alloc: Global, text: Option<&str>) -> Result<Option<String>, AllocError
         Some(text) => Ok(Some(String::from_str(alloc, text)?)),
         None => Ok(None),
     }
+}
+
+/// Copies of these texts.
+fn owned_all(alloc: Global, names: &[&str]) -> Result<Vec<String>, AllocError>
+    ensures { IfOk result (λ copies. map string_bytes copies.items ≡ texts names.now) }
+{
+    let mut copies = Vec::with_capacity(alloc, names.len())?;
+    for name in names {
+        copies.push(String::from_str(alloc, name)?)?;
+    }
+    Ok(copies)
 }
 
 /// The other sites, each with the address in the first word that names it.

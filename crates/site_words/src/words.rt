@@ -7,7 +7,7 @@ ghost use Rattle.clap.specs.Walk.{rows_of, rule_of, texts};
 ghost use Rattle.clap.specs.declared.builder.command.Command.TheViews.{out-Command};
 ghost use Rattle.rights_types.specs.declared.limits.TheConstants.{MIN_SITES, MAX_SITES};
 ghost use Rattle.site_words.specs.Asked.{asked_by, asked_of_clap, asks_for_version};
-ghost use Rattle.site_words.specs.CommandLine.{app, flag_rule, number_rule, option_rule, peer_rule, required_shape};
+ghost use Rattle.site_words.specs.CommandLine.{app, flag_rule, host_rule, number_rule, option_rule, peer_rule, required_shape};
 ghost use Rattle.site_words.specs.CommandLine.{run_numbers_shape, run_shape, tick_rule, value_rule};
 ghost use Rattle.site_words.specs.Settings.{AreFound, HasFlag, HasNumber, IsFound, IsTick, MayHaveNumber, Options};
 ghost use Rattle.site_words.specs.declared.config.TheConstants.{MAX_TICK, MIN_TICK};
@@ -94,7 +94,9 @@ Commands, one a line on standard input, and their replies:
   issue N      creates N rights             number E   (E: its entry in the log)
   give J N     gives N rights to site J     number E
   spend N T    spends N rights              spent E, or queued K: it waits until time T
+  take N       spends N rights, or fails    spent E
   outcome K    what became of ticket K      waiting, spent E, expired or unknown
+  cancel K     ends what waits              as outcome K
   tick T       does what is due at time T, and sends what is new
   status       the state of the site, as an object of JSON
   close [J]    closes the site; site J gets what it holds
@@ -158,6 +160,20 @@ fn tick_option<'a>(alloc: Global) -> Arg<'a>
     .value_parser(milliseconds)
 }
 
+/// The option with a name of the host, which may occur several times.
+fn host_option<'a>(alloc: Global) -> Arg<'a>
+    ensures rule { rule_of result ≡ host_rule }
+    ensures local { result.global ≡ false }
+{
+    optional(
+        alloc,
+        "host",
+        "NAME",
+        "Answers HTTP requests to this name of the host too, besides IP addresses and localhost",
+    )
+    .action(ArgAction::Append)
+}
+
 /// The flag that turns on the log.
 fn log_flag<'a>(alloc: Global) -> Arg<'a>
     ensures rule { rule_of result ≡ flag_rule (codes "log") }
@@ -215,6 +231,7 @@ fn run_parser<'a>(alloc: Global) -> Result<Parser<'a>, AllocError>
 {
     required_parser(alloc)?
         .arg(optional(alloc, "http", "ADDRESS", "Also serves HTTP at this address"))?
+        .arg(host_option(alloc))?
         .arg(tick_option(alloc))?
         .arg(optional(
             alloc,
@@ -295,7 +312,7 @@ fn flag_of(matches: &ArgMatches<'_>, flag: &str) -> Result<bool, WordsFault>
 }
 
 /// The values of the optional settings of `run`.
-fn options_of<'a>(matches: &ArgMatches<'a>) -> Result<OptionValues<'a>, WordsFault>
+fn options_of<'a>(matches: &'a ArgMatches<'_>) -> Result<OptionValues<'a>, WordsFault>
     ensures { MatchResult result (AreFound (rows_of (found_of matches.now)))
         (λ fault. (fault ≡ WordsFault.Refused)
         × ((o : Options) → IfSome o.tick IsTick → AreFound (rows_of (found_of matches.now)) o → ⊥)) }
@@ -304,6 +321,7 @@ fn options_of<'a>(matches: &ArgMatches<'a>) -> Result<OptionValues<'a>, WordsFau
     let log = flag_of(matches, "log")?;
     Ok(OptionValues {
         http: matches.get_str("http"),
+        hosts: matches.get_strs("host").unwrap_or(&[]),
         tick,
         once: matches.get_str("once"),
         log,

@@ -8,14 +8,17 @@ type Shown = (&'static str, u64, u64);
 const MOST: u64 = u64::MAX;
 
 /// Lines without their line feeds, and the commands that they spell.
-const COMMANDS: [(&str, Shown); 12] = [
+const COMMANDS: [(&str, Shown); 15] = [
     ("issue 5", ("issue", 5, 0)),
     ("issue 0", ("issue", 0, 0)),
     ("issue 18446744073709551615", ("issue", MOST, 0)),
     ("give 16 7", ("give", 16, 7)),
     ("give 1 18446744073709551615", ("give", 1, MOST)),
     ("spend 3 9", ("spend", 3, 9)),
+    ("take 4", ("take", 4, 0)),
+    ("take 18446744073709551615", ("take", MOST, 0)),
     ("outcome 12", ("outcome", 12, 0)),
+    ("cancel 12", ("cancel", 12, 0)),
     ("tick 0", ("tick", 0, 0)),
     ("status", ("status", 0, 0)),
     ("close", ("close", 0, 0)),
@@ -24,7 +27,7 @@ const COMMANDS: [(&str, Shown); 12] = [
 ];
 
 /// Lines that spell no command.
-const OTHERS: [&str; 28] = [
+const OTHERS: [&str; 32] = [
     "issue 18446744073709551616",
     "issue 05",
     "issue +5",
@@ -46,7 +49,11 @@ const OTHERS: [&str; 28] = [
     "give 2 7 1",
     "spend 3",
     "spend 3 9 1",
+    "spend +3 5",
+    "take",
+    "take 1 9",
     "outcome",
+    "cancel",
     "tick 1 2",
     "status ",
     "status 1",
@@ -69,7 +76,9 @@ fn shown_at_desk(command: DeskCommand) -> Shown {
         DeskCommand::Issue(amount) => ("issue", amount, 0),
         DeskCommand::Give(peer, amount) => ("give", peer.number(), amount),
         DeskCommand::Spend(amount, deadline) => ("spend", amount, deadline),
+        DeskCommand::Take(amount) => ("take", amount, 0),
         DeskCommand::Outcome(ticket) => ("outcome", ticket, 0),
+        DeskCommand::Cancel(ticket) => ("cancel", ticket, 0),
         DeskCommand::Close(heir) => ("close", heir.map_or(0, SiteId::number), 0),
     }
 }

@@ -208,6 +208,73 @@ fn lines_put_under_one_lock_wake_a_taker(rt: HostRuntime) {
     assert!(rt; taken);
 }
 
+/// Whether the outbox seems ready or not, as wanted, and this number of lines wait.
+fn shows<R: Wait>(rt: &R, outbox: &Outbox, is_ready: bool, count: usize) -> bool {
+    outbox.seems_ready() == is_ready && outbox.len(rt) == count
+}
+
+#[test]
+fn an_outbox_shows_what_waits(rt: HostRuntime) {
+    let outbox = Outbox::new(rt.alloc()).expect(&rt, "memory");
+    let alloc = rt.alloc();
+    assert!(rt; shows(&rt, &outbox, false, 0));
+    assert!(rt; put_beats(&rt, alloc, &outbox, 0, 2));
+    assert!(rt; shows(&rt, &outbox, true, 2));
+    assert!(rt; takes_beats(&rt, alloc, &outbox, 0, 1));
+    assert!(rt; shows(&rt, &outbox, true, 1));
+    assert!(rt; takes_beats(&rt, alloc, &outbox, 1, 2));
+    assert!(rt; shows(&rt, &outbox, false, 0));
+    outbox.end(&rt);
+    assert!(rt; shows(&rt, &outbox, true, 0));
+}
+
+/// Longer than a test may take.
+fn an_hour() -> Duration {
+    Duration::from_secs(3600)
+}
+
+/// Whether the outbox is empty in the end, when another thread has had time to do something about it.
+fn waits_while<R: Wait + Clock + Threads + Sync, F: FnOnce() + Send + Drop>(
+    rt: &R,
+    outbox: &Outbox,
+    act: F,
+) -> bool
+    requires { F.pre act }
+{
+    let (is_empty, _) = thread::join(
+        rt,
+        || outbox.wait_until_empty(rt, an_hour()),
+        || {
+            thread::sleep(rt, Duration::from_millis(50));
+            act();
+        },
+    );
+    is_empty
+}
+
+#[test]
+fn an_empty_outbox_is_not_waited_for(rt: HostRuntime) {
+    let outbox = Outbox::new(rt.alloc()).expect(&rt, "memory");
+    assert!(rt; outbox.wait_until_empty(&rt, an_hour()));
+    assert!(rt; put_beats(&rt, rt.alloc(), &outbox, 0, 1));
+    assert!(rt; !outbox.wait_until_empty(&rt, Duration::from_millis(10)));
+}
+
+#[test]
+fn the_last_line_taken_ends_the_wait(rt: HostRuntime) {
+    let outbox = Outbox::new(rt.alloc()).expect(&rt, "memory");
+    let alloc = rt.alloc();
+    assert!(rt; put_beats(&rt, alloc, &outbox, 0, 1));
+    assert!(rt; waits_while(&rt, &outbox, || drop(outbox.take(&rt))));
+}
+
+#[test]
+fn an_abandoned_outbox_is_not_waited_for(rt: HostRuntime) {
+    let outbox = Outbox::new(rt.alloc()).expect(&rt, "memory");
+    assert!(rt; put_beats(&rt, rt.alloc(), &outbox, 0, 3));
+    assert!(rt; waits_while(&rt, &outbox, || outbox.abandon(&rt)));
+}
+
 /// Whether an outbox is made, or refused for want of memory alone; where it is made, nothing that it is
 /// asked takes memory.
 fn is_made<R: Wait>(rt: &R, alloc: &Refusing<Global>) -> bool {

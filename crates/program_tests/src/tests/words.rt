@@ -39,6 +39,7 @@ Options:
       --sites <N>         How many sites the system has
       --listen <ADDRESS>  Where this site listens for its peers
       --http <ADDRESS>    Also serves HTTP at this address
+      --host <NAME>       Answers HTTP requests to this name of the host too, besides IP addresses and localhost
       --tick <MS>         Ticks by itself, every MS milliseconds (1 to 60,000)
       --once <FILE>       Creates FILE at the start, and does not start if it exists
       --log               Reports links and clients on standard error
@@ -48,7 +49,9 @@ Commands, one a line on standard input, and their replies:
   issue N      creates N rights             number E   (E: its entry in the log)
   give J N     gives N rights to site J     number E
   spend N T    spends N rights              spent E, or queued K: it waits until time T
+  take N       spends N rights, or fails    spent E
   outcome K    what became of ticket K      waiting, spent E, expired or unknown
+  cancel K     ends what waits              as outcome K
   tick T       does what is due at time T, and sends what is new
   status       the state of the site, as an object of JSON
   close [J]    closes the site; site J gets what it holds

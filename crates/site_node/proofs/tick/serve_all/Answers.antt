@@ -1,4 +1,4 @@
-use Rattle.std.proofs.Common.{◌+◌, ◌++◌, ◌∷◌, [], List, true, false, length, length-append, ap, subst, arith}
+use Rattle.std.proofs.Common.{◌++◌, ◌∷◌, [], List, length, length-append, ap, subst, arith}
 use Rattle.std.proofs.lemmas.Result.{err_from_is_err_and}
 use Rattle.request_queue.specs.declared.request.Request.{Request}
 use Rattle.site_node.specs.Ticking.{ServesNext, ServesNextIf}

@@ -1,9 +1,10 @@
-use Rattle.std.proofs.Common.{◌∙◌, sym, ap, subst, codes, Err}
+use Rattle.std.proofs.Common.{◌∙◌, sym, ap, subst, codes, Err, List, [], Option, map}
+use Rattle.std.specs.Prelude.{unwrap_or}
 use Rattle.std.proofs.lemmas.Result.{err_from_is_err_and}
 use Rattle.clap.specs.Matches.{found_of}
-use Rattle.clap.specs.Walk.{rows_of}
-use Rattle.clap.proofs.WalkLemmas.{first_value-rows}
-use Rattle.site_words.proofs.SettingsLaws.{MayBeOptions, tick_fits}
+use Rattle.clap.specs.Walk.{Text, rows_of, texts}
+use Rattle.clap.proofs.WalkLemmas.{first_value-rows, raw_values-rows}
+use Rattle.site_words.proofs.SettingsLaws.{MayBeOptions, tick_fits, unwrap_mapped}
 use Rattle.site_words.proofs.words.options_of.Goals as goal
 
 pub returns-in_err-tick : goal.returns-in_err-tick
@@ -23,6 +24,10 @@ returns c =
     let f = found_of c.args.matches.now in
     record {
       http = sym (first_value-rows f (codes "http")) ∙ sym c.get_str.ensures;
+      hosts = ap (λ (o : Option (List Text)). unwrap_or o [])
+          (sym (raw_values-rows f (codes "host")) ∙ sym c.get_strs.ensures)
+          ∙ unwrap_mapped (λ s. map (λ v. v.now) s.now) c.get_strs.result _
+          ∙ ap (λ s. texts s.now) (sym c.unwrap_or.ensures);
       tick = c.in_ok-tick.ensures;
       once = sym (first_value-rows f (codes "once")) ∙ sym c.get_str-2.ensures;
       log = c.in_ok-log.ensures;

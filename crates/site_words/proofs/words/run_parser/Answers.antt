@@ -6,7 +6,8 @@ pub returns : goal.returns
 returns c =
     let http = one_more _ _ c.in_ok-arg.ensures c.in_ok-required_parser.ensures c.optional.ensures.rule
     c.optional.ensures.local in
-    let tick = one_more _ _ c.in_ok-arg-2.ensures http c.tick_option.ensures.rule c.tick_option.ensures.local in
-    let once = one_more _ _ c.in_ok-arg-3.ensures tick c.optional-2.ensures.rule c.optional-2.ensures.local in
-    IfOk-weaker c.arg-4.result _ _
-    (λ parser adds. one_more _ _ adds once c.log_flag.ensures.rule c.log_flag.ensures.local) c.arg-4.ensures
+    let hosts = one_more _ _ c.in_ok-arg-2.ensures http c.host_option.ensures.rule c.host_option.ensures.local in
+    let tick = one_more _ _ c.in_ok-arg-3.ensures hosts c.tick_option.ensures.rule c.tick_option.ensures.local in
+    let once = one_more _ _ c.in_ok-arg-4.ensures tick c.optional-2.ensures.rule c.optional-2.ensures.local in
+    IfOk-weaker c.arg-5.result _ _
+    (λ parser adds. one_more _ _ adds once c.log_flag.ensures.rule c.log_flag.ensures.local) c.arg-5.ensures
