@@ -1,2 +1,4 @@
 pub mod FirstLine
 pub mod Answered
+pub mod ConverseLaws
+pub mod HostLaws

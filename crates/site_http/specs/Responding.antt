@@ -11,9 +11,14 @@ use Rattle.site_http.specs.declared.route.Allowed.{Allowed}
 use Rattle.site_http.specs.declared.route.Allowed.TheVariants as Only
 use Rattle.site_http.specs.declared.route.Route.{Route}
 use Rattle.site_http.specs.declared.route.Route.TheVariants.{Commands, Wait, Status, Metrics, Health, Page, Foreign}
-use Rattle.site_http.specs.declared.route.Route.TheVariants.{NotAllowed, NotFound}
+use Rattle.site_http.specs.declared.route.Route.TheVariants.{Misdirected, NotAllowed, NotFound}
 use Rattle.site_http.specs.Replying.{Answering, RepliesToBody, text_of}
 use Rattle.site_http.specs.Routing.{Leads}
+
+-- a client, and the names of the host at which it is served
+pub record Named (S : Type 0) : Type 0 where
+  pub client : S
+  pub names : List (List ℕ)
 
 -- the headers of each response
 abbrev pub headers_for : List ℕ → List Header
@@ -66,6 +71,7 @@ module _ {S : Type 0} (answers : Bool → Answering S) (status metrics : S → L
   Shows old Health r = (is_closed : Bool) × closed old is_closed × IsHealth is_closed r
   Shows old Page r = IsResponse 200 (headers_for (codes "text/html; charset=utf-8")) PAGE.now r
   Shows old Foreign r = IsResponse 403 plain (codes "error Origin" ++ 10 ∷ []) r
+  Shows old Misdirected r = IsResponse 421 plain (codes "error Host" ++ 10 ∷ []) r
   Shows old (NotAllowed allowed) r =
       IsResponse 405 (plain ++ (codes "allow", methods_of allowed) ∷ []) (codes "error Method" ++ 10 ∷ []) r
   Shows old NotFound r = IsResponse 404 plain (codes "error Target" ++ 10 ∷ []) r
@@ -77,6 +83,12 @@ module _ {S : Type 0} (answers : Bool → Answering S) (status metrics : S → L
   RespondsBy old Wait body r new = IsReplied (RepliesToBody answers true) old body r new
   RespondsBy old route body r new = Shows old route r × (new ≡ old)
 
-  -- in the first state, the request gets this response and leads to the second state
-  abbrev pub Responds : S → Request (List ℕ) → Response → S → Type 0
-  Responds old request r new = (route : Route) × Leads request route × RespondsBy old route (body_of request) r new
+  -- in the first state, the request gets this response and leads to the second state, at a site whose host has these
+  -- names
+  abbrev pub Responds : List (List ℕ) → S → Request (List ℕ) → Response → S → Type 0
+  Responds names old request r new =
+      (route : Route) × Leads names request route × RespondsBy old route (body_of request) r new
+
+  -- the same for a service that has these names
+  abbrev pub Serves : Named S → Request (List ℕ) → Response → Named S → Type 0
+  Serves old request r new = Responds old.names old.client request r new.client × (new.names ≡ old.names)

@@ -1,10 +1,13 @@
 -- How requests are told apart.
-use Rattle.std.specs.Prelude.{◌≡◌, ◌↔◌, ℕ, Bool, true, List, [], ◌∷◌, codes, unwrap_or, IsTrue}
+use Rattle.std.specs.Prelude.{◌≡◌, ◌↔◌, ◌⊎◌, ℕ, Bool, true, false, List, [], ◌∷◌, Option, Some, codes, option_map}
+use Rattle.std.specs.Prelude.{unwrap_or, IfSome, IsTrue}
 use Rattle.line_streams.specs.Words.{named}
 use Rattle.http.specs.declared.request.Request.{Request}
 use Rattle.http.specs.Request.{head_of}
-use Rattle.http.specs.HeaderMap.{ContainsKey}
-use Rattle.http.specs.Uri.{uri_path}
+use Rattle.http.specs.HeaderMap.{ContainsKey, get}
+use Rattle.http.specs.Uri.{uri_authority, uri_path}
+use Rattle.http_uri.specs.Grammar.{authority_host}
+use Rattle.site_http.specs.Hosts.{IsOwnHost}
 use Rattle.site_http.specs.declared.route.Verb.{Verb}
 use Rattle.site_http.specs.declared.route.Verb.TheVariants.{Post, Get, Other}
 use Rattle.site_http.specs.declared.route.Target.{Target}
@@ -28,22 +31,41 @@ target_of path =
     ∷ (codes "/healthz", Targets.Health) ∷ []
     ) path) Targets.Unknown
 
--- the route of a request, by whether it has an `Origin`
-abbrev pub route_by : Bool → Verb → Target → Route
-route_by true Post target = Routes.Foreign
-route_by origin verb Targets.Unknown = Routes.NotFound
-route_by origin Post Targets.Root = Routes.Commands
-route_by origin Get Targets.Root = Routes.Page
-route_by origin Other Targets.Root = Routes.NotAllowed Only.GetAndPost
-route_by origin Post Targets.Wait = Routes.Wait
-route_by origin verb Targets.Wait = Routes.NotAllowed Only.Post
-route_by origin Get Targets.Status = Routes.Status
-route_by origin Get Targets.Metrics = Routes.Metrics
-route_by origin Get Targets.Health = Routes.Health
-route_by origin verb target = Routes.NotAllowed Only.Get
+-- the value of the field with this name
+abbrev pub field_of : Request (List ℕ) → List ℕ → Option (List ℕ)
+field_of request name = option_map (λ v. v.bytes) (get (head_of request).headers name)
 
--- the route of a request
-pub record Leads (request : Request (List ℕ)) (route : Route) : Type 0 where
-  pub origin : Bool
-  pub carried : IsTrue origin ↔ ContainsKey (head_of request).headers (codes "origin")
-  pub by : route ≡ route_by origin (verb_of (head_of request).method) (target_of (uri_path (head_of request).uri))
+-- the request names no host besides the site's own, in its `Host` field and in its target
+abbrev pub IsForSite : List (List ℕ) → Request (List ℕ) → Type 0
+IsForSite names request =
+    IfSome (field_of request (codes "host")) (IsOwnHost names)
+    × IfSome (option_map authority_host (uri_authority (head_of request).uri)) (IsOwnHost names)
+
+-- a page of another site made the browser send it: it says which one, or that it is another one
+abbrev pub IsForeign : Request (List ℕ) → Type 0
+IsForeign request =
+    ContainsKey (head_of request).headers (codes "origin")
+    ⊎ (field_of request (codes "sec-fetch-site") ≡ Some (codes "cross-site"))
+
+-- the route of a request, by whether it is for this site, and whether it comes from a page of another one
+abbrev pub route_by : Bool → Bool → Verb → Target → Route
+route_by false foreign verb target = Routes.Misdirected
+route_by true true Post target = Routes.Foreign
+route_by true foreign verb Targets.Unknown = Routes.NotFound
+route_by true foreign Post Targets.Root = Routes.Commands
+route_by true foreign Get Targets.Root = Routes.Page
+route_by true foreign Other Targets.Root = Routes.NotAllowed Only.GetAndPost
+route_by true foreign Post Targets.Wait = Routes.Wait
+route_by true foreign verb Targets.Wait = Routes.NotAllowed Only.Post
+route_by true foreign Get Targets.Status = Routes.Status
+route_by true foreign Get Targets.Metrics = Routes.Metrics
+route_by true foreign Get Targets.Health = Routes.Health
+route_by true foreign verb target = Routes.NotAllowed Only.Get
+
+-- the route of a request to a site whose host has these names
+pub record Leads (names : List (List ℕ)) (request : Request (List ℕ)) (route : Route) : Type 0 where
+  pub own : Bool
+  pub is_own : IsTrue own ↔ IsForSite names request
+  pub foreign : Bool
+  pub is_foreign : IsTrue foreign ↔ IsForeign request
+  pub by : route ≡ route_by own foreign (verb_of (head_of request).method) (target_of (uri_path (head_of request).uri))

@@ -44,6 +44,10 @@ pub trait Client {
         ensures short { OnOk result ((length replies.new.whole ≤ LONGEST_REPLY) ⊎ (self.new ≡ self.old)) }
         ensures err { OnErr result (self.new ≡ self.old) };
 
+    /// Whether the site has memory for a response to this client that has so many bytes so far. If not, the next line of
+    /// a body is not carried out.
+    fn has_room(&self, len: usize) -> bool;
+
     /// Appends the status object and a line feed to the whole replies.
     fn put_status(&self, replies: &mut Replies<Global>) -> Result<(), OutOfMemory>
         requires { IsEmpty replies.old }

@@ -1,6 +1,5 @@
 //! The limits of a connection.
 ghost use Rattle.std.specs.Prelude.{◌≡◌};
-ghost use Rattle.site_http.specs.declared.config.TheConstants.{SERVICE};
 
 use http_server::Config;
 use http1::Limits;
@@ -19,7 +18,9 @@ const SERVICE: Config = Config {
 /// The limits of a connection: a head of 16 KiB, a body of 1 MiB, and no request is read while more than 64 KiB of
 /// responses wait. An idle connection that had no large body keeps some 12 KiB.
 pub fn service_config() -> Config
-    ensures { result ≡ SERVICE }
+    ensures head { result.limits.max_head_len ≡ 16384 }
+    ensures body { result.max_body_len ≡ 1048576 }
+    ensures pending { result.max_pending ≡ 65536 }
 {
     SERVICE
 }

@@ -8,16 +8,21 @@
 mod busy;
 mod client;
 mod config;
+mod hosts;
 mod lines;
 mod page;
+mod refusal;
 mod replying;
 mod responding;
 mod route;
 mod service;
+mod serving;
 
 pub use busy::Busy;
 pub use client::{Client, LONGEST_REPLY};
 pub use config::service_config;
+pub use refusal::Refusal;
 pub use replying::MAX_REPLIES;
 pub use route::{Allowed, Route};
 pub use service::ClientService;
+pub use serving::converse;

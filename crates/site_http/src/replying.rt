@@ -135,6 +135,9 @@ fn answer_line<C: Client>(
         × IsPut reply replies.new out.old out.new) }
     ensures err { OnErr result ((client.new ≡ client.old) × KeepsRoom out.old out.new) }
 {
+    if !client.has_room(out.len()) {
+        return Err(OutOfMemory);
+    }
     replies.clear();
     out.reserve(LONGEST_REPLY + LAST_ROOM)?;
     client.reply(waits, within_limit(text), replies)?;

@@ -1,5 +1,6 @@
 //! The responses to requests.
-ghost use Rattle.std.specs.Prelude.{◌≡◌, ◌≤◌, ℕ, Bool, List, [], ◌∷◌, ◌++◌, codes, OnOk, OnErr};
+ghost use Rattle.std.specs.Prelude.{◌≡◌, ◌≤◌, ℕ, Bool, List, [], ◌∷◌, ◌++◌, codes, map, OnOk, OnErr};
+ghost use Rattle.std.specs.String.{string_bytes};
 ghost use Rattle.http_server.specs.Response.{IsBlank, IsResponse, fields_of};
 ghost use Rattle.site_http.specs.Replying.{RepliesToBody};
 ghost use Rattle.site_http.specs.declared.page.TheConstants.{PAGE};
@@ -16,20 +17,21 @@ use http_server::Response;
 use line_streams::Replies;
 use std::alloc::{AllocError, Global};
 
-/// Responds to a request.
+/// Responds to a request, at a site whose host has these names.
 pub(crate) fn respond<C: Client>(
+    names: &[String],
     client: &mut C,
     replies: &mut Replies<Global>,
     request: &Request<Bytes>,
     response: &mut Response,
 ) -> Result<(), AllocError>
     requires { IsBlank response.old }
-    ensures ok { OnOk result (Responds C.answers C.status C.metrics C.closed client.old request.now response.new
-        client.new) }
+    ensures ok { OnOk result (Responds C.answers C.status C.metrics C.closed (map string_bytes names.now) client.old
+        request.now response.new client.new) }
     ensures err { OnErr result (client.new ≡ client.old) }
 {
     let body = request.body().as_slice();
-    match route_of(request) {
+    match route_of(names, request) {
         Route::Commands => reply_to_lines(client, false, replies, body, response),
         Route::Wait => reply_to_lines(client, true, replies, body, response),
         Route::Status => tell_status(client, replies, response),
@@ -37,6 +39,7 @@ pub(crate) fn respond<C: Client>(
         Route::Health => tell_health(client, response),
         Route::Page => show_page(response),
         Route::Foreign => say(response, StatusCode::FORBIDDEN, b"error Origin\n"),
+        Route::Misdirected => say(response, StatusCode::MISDIRECTED_REQUEST, b"error Host\n"),
         Route::NotAllowed(allowed) => refuse_method(response, allowed),
         Route::NotFound => say(response, StatusCode::NOT_FOUND, b"error Target\n"),
     }

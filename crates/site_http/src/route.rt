@@ -1,9 +1,16 @@
 //! How requests are told apart.
-ghost use Rattle.std.specs.Prelude.{◌≡◌, ℕ, List};
-ghost use Rattle.site_http.specs.Routing.{verb_of, target_of, route_by, Leads};
+ghost use Rattle.std.specs.Prelude.{◌≡◌, ◌↔◌, ℕ, List, map, codes, option_map, IfSome, IsTrue, Some};
+ghost use Rattle.std.specs.String.{string_bytes};
+ghost use Rattle.http.specs.Request.{head_of};
+ghost use Rattle.http.specs.HeaderMap.{ContainsKey};
+ghost use Rattle.http.specs.Uri.{uri_authority};
+ghost use Rattle.http_uri.specs.Grammar.{authority_host};
+ghost use Rattle.site_http.specs.Hosts.{IsOwnHost};
+ghost use Rattle.site_http.specs.Routing.{verb_of, target_of, field_of, route_by, IsForSite, IsForeign, Leads};
 
+use crate::hosts::is_own_host;
 use bytes::Bytes;
-use http::{Request, header};
+use http::{HeaderName, Request, header};
 use line_streams::named;
 
 /// The effect of a method.
@@ -47,18 +54,92 @@ pub enum Route {
     Page,
     /// A page of another site made the browser send it.
     Foreign,
+    /// It names another host than the site's.
+    Misdirected,
     NotAllowed(Allowed),
     NotFound,
 }
 
-/// The route of a request. A query after the path is ignored.
-pub(crate) fn route_of(request: &Request<Bytes>) -> Route
-    ensures { Leads request.now result }
+/// The route of a request to a site whose host has these names. A query after the path is ignored.
+pub(crate) fn route_of(names: &[String], request: &Request<Bytes>) -> Route
+    ensures { Leads (map string_bytes names.now) request.now result }
 {
-    let origin = request.headers().contains_key(header::ORIGIN);
+    let own = is_for_site(names, request);
+    let foreign = is_foreign(request);
     let verb = verb_of(request.method().as_str());
     let target = target_of(request.uri().path());
-    route_by(origin, verb, target)
+    route_by(own, foreign, verb, target)
+}
+
+/// Whether the request names no host besides the site's own.
+fn is_for_site(names: &[String], request: &Request<Bytes>) -> bool
+    ensures { IsTrue result ↔ IsForSite (map string_bytes names.now) request.now }
+{
+    has_own_host(names, field_of(request, header::HOST))
+        && has_own_host(names, target_host(request))
+}
+
+/// Whether this host, if there is one, is the site's own.
+fn has_own_host(names: &[String], host: Option<&[u8]>) -> bool
+    ensures { IsTrue result ↔ IfSome host.entry (λ host. IsOwnHost (map string_bytes names.now) host.now) }
+{
+    match host {
+        Some(host) => is_own_host(names, host),
+        None => true,
+    }
+}
+
+/// The host in the target of a request, if there is one.
+fn target_host(request: &Request<Bytes>) -> Option<&[u8]>
+    ensures { option_map (λ host. host.now) result
+        ≡ option_map authority_host (uri_authority (head_of request.now).uri) }
+{
+    match request.uri().host() {
+        Some(host) => Some(host.as_bytes()),
+        None => None,
+    }
+}
+
+/// The value of the field with this name.
+fn field_of(request: &Request<Bytes>, name: HeaderName) -> Option<&[u8]>
+    ensures { option_map (λ value. value.now) result ≡ field_of request.now name }
+{
+    match request.headers().get(name) {
+        Some(value) => Some(value.as_bytes()),
+        None => None,
+    }
+}
+
+/// Whether a page of another site made the browser send the request. Programs that are no browsers send none of these
+/// fields.
+fn is_foreign(request: &Request<Bytes>) -> bool
+    ensures { IsTrue result ↔ IsForeign request.now }
+{
+    names_origin(request) || names_other_site(request)
+}
+
+/// Whether the request has an `Origin`.
+fn names_origin(request: &Request<Bytes>) -> bool
+    ensures { IsTrue result ↔ ContainsKey (head_of request.now).headers (codes "origin") }
+{
+    request.headers().contains_key(header::ORIGIN)
+}
+
+/// Whether the request says that it comes from another site.
+fn names_other_site(request: &Request<Bytes>) -> bool
+    ensures { IsTrue result ↔ (field_of request.now (codes "sec-fetch-site") ≡ Some (codes "cross-site")) }
+{
+    is_cross_site(field_of(request, HeaderName::from_static("sec-fetch-site")))
+}
+
+/// Whether this value says that a request comes from another site.
+fn is_cross_site(value: Option<&[u8]>) -> bool
+    ensures { IsTrue result ↔ (option_map (λ value. value.now) value.entry ≡ Some (codes "cross-site")) }
+{
+    match value {
+        Some(value) => value == b"cross-site".as_slice(),
+        None => false,
+    }
 }
 
 const VERBS: [(&[u8], Verb); 3] = [
@@ -89,11 +170,14 @@ fn target_of(path: &str) -> Target
     named(&TARGETS, path.as_bytes()).unwrap_or(Target::Unknown)
 }
 
-fn route_by(origin: bool, verb: Verb, target: Target) -> Route
-    ensures { result ≡ route_by origin verb target }
+fn route_by(own: bool, foreign: bool, verb: Verb, target: Target) -> Route
+    ensures { result ≡ route_by own foreign verb target }
 {
+    if !own {
+        return Route::Misdirected;
+    }
     match (verb, target) {
-        (Verb::Post, _) if origin => Route::Foreign,
+        (Verb::Post, _) if foreign => Route::Foreign,
         (_, Target::Unknown) => Route::NotFound,
         (Verb::Post, Target::Root) => Route::Commands,
         (Verb::Get, Target::Root) => Route::Page,

@@ -1,6 +1,7 @@
 //! The service of one connection.
-ghost use Rattle.std.specs.Prelude.{◌≡◌};
-ghost use Rattle.site_http.specs.Responding.{Responds};
+ghost use Rattle.std.specs.Prelude.{◌≡◌, map};
+ghost use Rattle.std.specs.String.{string_bytes};
+ghost use Rattle.site_http.specs.Responding.{Serves};
 
 use crate::client::Client;
 use crate::responding::respond;
@@ -11,48 +12,61 @@ use line_streams::Replies;
 use std::alloc::{AllocError, Global};
 use std::marker::Model;
 
-/// Responds to the requests of one connection, for a client of the site. Clauses see the client.
+/// Responds to the requests of one connection, for a client of the site. Clauses see the client, and the names of the
+/// site's host.
 #[derive(Drop)]
-pub struct ClientService<C: Client> {
+pub struct ClientService<'a, C: Client> {
     client: C,
+    names: &'a [String],
     /// Kept between requests, so that a request allocates nothing here.
     replies: Replies<Global>,
 }
 
-impl<C: Client> Model for ClientService<C> {
-    ghost Value = { C };
+impl<'a, C: Client> Model for ClientService<'a, C> {
+    ghost use Rattle.std.specs.Prelude.{map};
+    ghost use Rattle.std.specs.String.{string_bytes};
+    ghost use Rattle.site_http.specs.Responding.{Named};
 
-    ghost view = { λ s. s.client };
+    ghost Value = { Named C };
+
+    ghost view = { λ s. record { client = s.client; names = map string_bytes s.names.now } };
 }
 
-impl<C: Client> ClientService<C> {
+impl<'a, C: Client> ClientService<'a, C> {
     /// Allocates nothing.
-    pub fn new(alloc: Global, client: C) -> ClientService<C>
-        ensures { result ≡ client }
+    pub fn new(alloc: Global, client: C, names: &'a [String]) -> ClientService<'a, C>
+        ensures { result ≡ record { client = client; names = map string_bytes names.entry.now } }
     {
         ClientService {
             client,
+            names,
             replies: Replies::new(alloc),
         }
     }
 
     /// The client, once its connection has ended.
     pub fn into_client(self) -> C
-        ensures { result ≡ self }
+        ensures { result ≡ self.entry.client }
     {
-        let ClientService { client, replies: _ } = self;
+        let ClientService { client, .. } = self;
         client
     }
 }
 
-impl<C: Client> Service for ClientService<C> {
-    ghost answers = { Responds C.answers C.status C.metrics C.closed };
+impl<C: Client> Service for ClientService<'_, C> {
+    ghost answers = { Serves C.answers C.status C.metrics C.closed };
 
     fn call(
         &mut self,
         request: &Request<Bytes>,
         response: &mut Response,
     ) -> Result<(), AllocError> {
-        respond(&mut self.client, &mut self.replies, request, response)
+        respond(
+            self.names,
+            &mut self.client,
+            &mut self.replies,
+            request,
+            response,
+        )
     }
 }

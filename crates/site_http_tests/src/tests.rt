@@ -1,6 +1,7 @@
 //! A client that counts takes the place of a site.
 mod counter;
 mod exchanges;
+mod hosts;
 mod limits;
 mod memory;
 mod talk;

@@ -10,6 +10,17 @@ use std::time::{Clock, Duration};
 /// Up to so many connections, the threads that serve them may poll for input.
 const FEW: usize = 2;
 
+/// Why a connection gets no place.
+#[derive(Clone, Copy, Debug, PartialEq, Eq)]
+pub(crate) enum NoPlace {
+    /// The pool is closed.
+    Closed,
+    /// All places are taken.
+    Taken,
+    /// The system gives no second handle of the stream.
+    NoHandle,
+}
+
 /// Places for connections. Each connection that a thread serves has one.
 #[derive(Drop)]
 pub(crate) struct ConnectionPool {
@@ -31,13 +42,18 @@ struct State {
 }
 
 impl State {
-    fn enter(&mut self, stream: &TcpStream) -> Option<usize> {
+    fn enter(&mut self, stream: &TcpStream) -> Result<usize, NoPlace> {
         if self.is_closed {
-            return None;
+            return Err(NoPlace::Closed);
         }
-        let place = self.places.iter().position(|place| place.is_none())?;
-        self.places[place] = Some(stream.try_clone().ok()?);
-        Some(place)
+        let Some(place) = self.places.iter().position(|place| place.is_none()) else {
+            return Err(NoPlace::Taken);
+        };
+        let Ok(handle) = stream.try_clone() else {
+            return Err(NoPlace::NoHandle);
+        };
+        self.places[place] = Some(handle);
+        Ok(place)
     }
 
     fn leave(&mut self, place: usize) {
@@ -48,6 +64,18 @@ impl State {
 
     fn count(&self) -> usize {
         self.places.iter().flatten().count()
+    }
+
+    fn is_full(&self) -> bool {
+        self.places.iter().all(|place| place.is_some())
+    }
+
+    /// The connection at this place.
+    fn stream(&self, place: usize) -> Option<&TcpStream> {
+        match self.places.get(place) {
+            Some(Some(stream)) => Some(stream),
+            _ => None,
+        }
     }
 
     fn shut_down(&self) {
@@ -89,14 +117,29 @@ impl ConnectionPool {
         })
     }
 
-    /// A place for the connection, counted from 0. `None` if all are taken, or the pool is closed, or the system
-    /// gives no second handle of the stream.
-    pub(crate) fn enter<R: Wait>(&self, rt: &R, stream: &TcpStream) -> Option<usize> {
+    /// A place for the connection, counted from 0.
+    pub(crate) fn enter<R: Wait>(&self, rt: &R, stream: &TcpStream) -> Result<usize, NoPlace> {
         let mut state = self.state.lock(rt);
         let place = state.enter(stream)?;
         self.note_count(&state);
         self.set_idle(place, true);
-        Some(place)
+        Ok(place)
+    }
+
+    /// Waits until a place is free, the pool is closed, or the time is over.
+    pub(crate) fn wait_for_place<R: Wait + Clock>(&self, rt: &R, time: Duration) {
+        let _ = self
+            .freed
+            .wait_timeout_while(rt, self.state.lock(rt), time, |state| {
+                !state.is_closed && state.is_full()
+            });
+    }
+
+    /// Shuts down the connection at this place.
+    pub(crate) fn shut_down<R: Wait>(&self, rt: &R, place: usize, how: Shutdown) {
+        if let Some(stream) = self.state.lock(rt).stream(place) {
+            let _ = stream.shutdown(how);
+        }
     }
 
     /// Frees this place.
@@ -134,12 +177,17 @@ impl ConnectionPool {
         }
     }
 
-    /// Whether the connection at this place has come to its end: it is idle, and no further request may begin.
-    pub(crate) fn is_done(&self, place: usize) -> bool {
+    /// Whether no request has begun on the connection at this place.
+    pub(crate) fn is_idle(&self, place: usize) -> bool {
         match self.idle.get(place) {
-            Some(idle) => self.is_ending.load(Ordering::SeqCst) && idle.load(Ordering::SeqCst),
+            Some(idle) => idle.load(Ordering::SeqCst),
             None => true,
         }
+    }
+
+    /// Whether the connection at this place has come to its end: it is idle, and no further request may begin.
+    pub(crate) fn is_done(&self, place: usize) -> bool {
+        self.is_ending.load(Ordering::SeqCst) && self.is_idle(place)
     }
 
     /// Closes the pool to new connections. The input of each connection that is idle, or becomes idle later, has

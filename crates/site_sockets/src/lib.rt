@@ -3,6 +3,8 @@
 #![tactic(auto)]
 
 mod acceptor;
+mod activity;
+mod budget;
 mod client_stream;
 mod clients;
 mod connection_pool;
@@ -21,7 +23,7 @@ mod tick_notifier;
 
 pub use acceptor::begin_acceptor;
 pub use client_stream::{ClientReader, ClientWriter};
-pub use clients::{Accepted, Clients, bounded_reader};
+pub use clients::{Accepted, ClientPlace, Clients, ClosingPlace, bounded_reader};
 pub use connection_slot::{Connection, ConnectionSlot};
 pub use deadline_reader::DeadlineReader;
 pub use events::{LinkEvents, SkipCause};

@@ -70,19 +70,10 @@ impl PeerState {
         }
     }
 
-    /// Puts one line into the outbox, as `PeerLines::put` does. The lock hides which lines waited before.
-    pub fn send<R: Wait>(&self, rt: &R, line: Vec<u8>) -> bool
-        requires { IsLine line.items }
-    {
-        self.lines(rt).put(line)
-    }
-
-    /// Writes this line at once if no line waits to be sent, and else puts it into the outbox as `send` does. The
-    /// caller holds no lock, since a write may take 5 milliseconds.
-    pub fn send_now<R: Wait>(&self, rt: &R, line: Vec<u8>) -> bool
-        requires { IsLine line.items }
-    {
-        self.writer.write_now(rt, &self.outbox, line.as_slice()) || self.send(rt, line)
+    /// Writes this line at once if no line waits to be sent. `false` if it was not written, and is to be put into the
+    /// outbox. The caller holds no lock, since a write may take 5 milliseconds.
+    pub fn write_now<R: Wait>(&self, rt: &R, line: &[u8]) -> bool {
+        self.writer.write_now(rt, &self.outbox, line)
     }
 
     /// Makes room in the outbox for the lines that are due, if the peer takes those that wait there: blocks until these

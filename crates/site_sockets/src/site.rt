@@ -54,7 +54,7 @@ pub struct Site {
 impl Site {
     /// A site that listens for peers, and for clients if the configuration says so. Errors, in this order:
     /// `CannotListen`, `OutOfMemory`.
-    pub fn open<R: Net<Listener = TcpListener, Stream = TcpStream> + AllocGlobal>(
+    pub fn open<R: Net<Listener = TcpListener, Stream = TcpStream> + Clock + AllocGlobal>(
         rt: &R,
         config: &Config,
     ) -> Result<Site, SiteFault> {
@@ -123,6 +123,14 @@ impl Site {
         }
     }
 
+    /// Whether there is memory for a response to the client at this place that has so many bytes so far.
+    pub fn has_room<R: Wait>(&self, rt: &R, place: usize, len: usize) -> bool {
+        match &self.clients {
+            Some(clients) => clients.has_room(rt, place, len),
+            None => true,
+        }
+    }
+
     /// Records that the program cannot continue for lack of memory. The command thread ends it at its next read.
     pub fn fail(&self) {
         self.out_of_memory.store(true, Ordering::SeqCst);
@@ -148,7 +156,7 @@ impl Site {
                 thread::sleep(rt, Duration::from_millis(REST_MILLISECONDS));
                 continue;
             };
-            if let Some(place) = self.handshakes.enter(rt, &stream) {
+            if let Ok(place) = self.handshakes.enter(rt, &stream) {
                 return Some((stream, place));
             }
         }
@@ -195,7 +203,7 @@ fn listen<R: Net<Listener = TcpListener, Stream = TcpStream>>(
 }
 
 /// Accepts clients, if the configuration says so. `None` if it does not.
-fn clients_of<R: Net<Listener = TcpListener, Stream = TcpStream> + AllocGlobal>(
+fn clients_of<R: Net<Listener = TcpListener, Stream = TcpStream> + Clock + AllocGlobal>(
     rt: &R,
     config: &Config,
 ) -> Result<Option<Clients>, SiteFault> {
@@ -203,5 +211,5 @@ fn clients_of<R: Net<Listener = TcpListener, Stream = TcpStream> + AllocGlobal>(
         return Ok(None);
     };
     let listener = listen(rt, address)?;
-    Ok(Some(Clients::new(rt.alloc(), listener, config.log())?))
+    Ok(Some(Clients::new(rt, listener, config)?))
 }

@@ -16,6 +16,8 @@ pub struct Counter {
     /// The count at which it runs out of memory.
     pub last: u8,
     pub closed: bool,
+    /// How many bytes a response may have before its last line.
+    pub room: usize,
 }
 
 impl Counter {
@@ -24,6 +26,7 @@ impl Counter {
             count: 0,
             last,
             closed: false,
+            room: usize::MAX,
         }
     }
 
@@ -99,6 +102,10 @@ impl Client for Counter {
         } else {
             self.answer(text, b"number ", replies)
         }
+    }
+
+    fn has_room(&self, len: usize) -> bool {
+        len < self.room
     }
 
     fn put_status(&self, replies: &mut Replies<Global>) -> Result<(), OutOfMemory> {

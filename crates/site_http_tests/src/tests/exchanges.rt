@@ -17,7 +17,7 @@ type Case = (
     &'static str,
 );
 
-const CASES: [Case; 24] = [
+const CASES: [Case; 27] = [
     ("POST /", "", "spend 1 1\n", "200 OK", "", "number 0\n"),
     ("POST /", "", "spend 1 1", "200 OK", "", "number 0\n"),
     ("POST /?a=b", "", "x\n", "200 OK", "", "number 0\n"),
@@ -86,6 +86,30 @@ const CASES: [Case; 24] = [
         "403 Forbidden",
         "",
         "error Origin\n",
+    ),
+    (
+        "POST /",
+        "Sec-Fetch-Site: cross-site\r\n",
+        "a\n",
+        "403 Forbidden",
+        "",
+        "error Origin\n",
+    ),
+    (
+        "POST /",
+        "Sec-Fetch-Site: same-origin\r\n",
+        "a\n",
+        "200 OK",
+        "",
+        "number 0\n",
+    ),
+    (
+        "POST http://evil.example/",
+        "",
+        "a\n",
+        "421 Misdirected Request",
+        "",
+        "error Host\n",
     ),
     ("POST /wait", "", "a\n", "200 OK", "", "spent 0\n"),
     ("POST /wait", "", "a", "200 OK", "", "spent 0\n"),
@@ -161,7 +185,7 @@ fn is_answered(rt: &HostRuntime, case: &Case, step: usize) -> Result<bool, Fail>
     let alloc = rt.alloc();
     let asked = request(alloc, case.0, case.1, case.2)?;
     let expected = response(alloc, case.3, PLAIN, case.4, case.5)?;
-    let mut service = ClientService::new(alloc, Counter::new(u8::MAX));
+    let mut service = ClientService::new(alloc, Counter::new(u8::MAX), &[]);
     let sent = said(rt, &mut service, asked.as_bytes(), step)?;
     Ok(sent.as_slice() == expected.as_bytes())
 }
@@ -203,7 +227,7 @@ fn is_shown(rt: &HostRuntime, target: &str, content_type: &str, body: &str) -> R
     let got = format!(in alloc; "GET {target}")?;
     let headed = format!(in alloc; "HEAD {target}")?;
     let expected = response(alloc, "200 OK", content_type, "", body)?;
-    let mut service = ClientService::new(alloc, Counter::new(u8::MAX));
+    let mut service = ClientService::new(alloc, Counter::new(u8::MAX), &[]);
     let get = request(alloc, got.as_str(), "", "")?;
     let head = request(alloc, headed.as_str(), "", "")?;
     let sent = said(rt, &mut service, get.as_bytes(), 100)?;
@@ -230,7 +254,7 @@ fn is_told_closed(rt: &HostRuntime) -> Result<bool, Fail> {
     let expected = response(alloc, "503 Service Unavailable", PLAIN, "", "closed\n")?;
     let mut client = Counter::new(u8::MAX);
     client.closed = true;
-    let mut service = ClientService::new(alloc, client);
+    let mut service = ClientService::new(alloc, client, &[]);
     let sent = said(rt, &mut service, asked.as_bytes(), 100)?;
     Ok(sent.as_slice() == expected.as_bytes())
 }
@@ -245,7 +269,7 @@ fn a_closed_site_is_not_healthy(rt: HostRuntime) -> Result<(), Fail> {
 fn is_page_sent(rt: &HostRuntime) -> Result<bool, Fail> {
     let alloc = rt.alloc();
     let asked = request(alloc, "GET /", "", "")?;
-    let mut service = ClientService::new(alloc, Counter::new(u8::MAX));
+    let mut service = ClientService::new(alloc, Counter::new(u8::MAX), &[]);
     let sent = said(rt, &mut service, asked.as_bytes(), 100)?;
     let head =
         "HTTP/1.1 200 OK\r\ncontent-type: text/html; charset=utf-8\r\ncache-control: no-store\r\n";
@@ -290,7 +314,7 @@ fn is_pipeline_answered(rt: &HostRuntime, step: usize) -> Result<bool, Fail> {
         let reply = format!(in alloc; "number {digit}\n")?;
         expected.push_str(response(alloc, "200 OK", PLAIN, "", reply.as_str())?.as_str())?;
     }
-    let mut service = ClientService::new(alloc, Counter::new(u8::MAX));
+    let mut service = ClientService::new(alloc, Counter::new(u8::MAX), &[]);
     let sent = said(rt, &mut service, asked.as_bytes(), step)?;
     Ok(sent.as_slice() == expected.as_bytes() && service.into_client().count == 10)
 }

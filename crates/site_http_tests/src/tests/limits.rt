@@ -10,10 +10,10 @@ use std::test::Fail;
 fn status_of(rt: &HostRuntime, length: usize) -> Result<Vec<u8>, Fail> {
     let alloc = rt.alloc();
     let mut asked = format!(in alloc;
-        "POST / HTTP/1.1\r\nHost: h\r\nContent-Length: {length}\r\n\r\n"
+        "POST / HTTP/1.1\r\nHost: localhost\r\nContent-Length: {length}\r\n\r\n"
     )?.into_bytes();
     asked.resize(asked.len().saturating_add(length), b'x')?;
-    let mut service = ClientService::new(alloc, Counter::new(u8::MAX));
+    let mut service = ClientService::new(alloc, Counter::new(u8::MAX), &[]);
     let mut sent = said(rt, &mut service, asked.as_slice(), 5_000)?;
     sent.truncate(12);
     Ok(sent)
@@ -57,7 +57,7 @@ fn is_told(rt: &HostRuntime, lines: usize, status: &str, last: &str) -> Result<b
         "",
         told.as_str(),
     )?;
-    let mut service = ClientService::new(alloc, Counter::new(u8::MAX));
+    let mut service = ClientService::new(alloc, Counter::new(u8::MAX), &[]);
     let sent = said(rt, &mut service, asked.as_bytes(), 1_000_000)?;
     Ok(sent.as_slice() == expected.as_bytes())
 }
@@ -92,10 +92,10 @@ fn a_line_has_a_limit(rt: HostRuntime) -> Result<(), Fail> {
 /// The status of the response to a request with a header of this number of bytes.
 fn status_with_header(rt: &HostRuntime, length: usize) -> Result<Vec<u8>, Fail> {
     let alloc = rt.alloc();
-    let mut asked = b"GET /healthz HTTP/1.1\r\nHost: h\r\nX: ".to_vec(alloc)?;
+    let mut asked = b"GET /healthz HTTP/1.1\r\nHost: localhost\r\nX: ".to_vec(alloc)?;
     asked.resize(asked.len().saturating_add(length), b'x')?;
     asked.extend_from_slice(b"\r\n\r\n")?;
-    let mut service = ClientService::new(alloc, Counter::new(u8::MAX));
+    let mut service = ClientService::new(alloc, Counter::new(u8::MAX), &[]);
     let mut sent = said(rt, &mut service, asked.as_slice(), 5_000)?;
     sent.truncate(12);
     Ok(sent)

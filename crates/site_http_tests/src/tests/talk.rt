@@ -11,7 +11,7 @@ use test_kit::{FewAtATime, Slow};
 pub fn request(alloc: Global, line: &str, headers: &str, body: &str) -> Result<String, AllocError> {
     let length = body.len();
     format!(in alloc;
-        "{line} HTTP/1.1\r\nHost: h\r\n{headers}Content-Length: {length}\r\n\r\n{body}"
+        "{line} HTTP/1.1\r\nHost: localhost\r\n{headers}Content-Length: {length}\r\n\r\n{body}"
     )
 }
 
