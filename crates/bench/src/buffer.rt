@@ -1,4 +1,5 @@
-//! How many offers a subscriber buffer takes per second.
+//! How many entries a subscriber buffer takes in per second.
+ghost use Rattle.sub_buffer.specs.Buffers.{IsSettled};
 
 mod windows;
 
@@ -22,21 +23,22 @@ pub(crate) fn measure_all<R: Clock + Print + AllocGlobal>(rt: &R) -> Option<()> 
 fn measure<R: Clock + Print + AllocGlobal>(rt: &R, name: &str, order: Order) -> Option<()> {
     let mut best = u128::MAX;
     for _ in 0..RUNS {
-        best = best.min(offer_time(rt, order)?);
+        best = best.min(arrival_time(rt, order)?);
     }
-    let count = (order.offers_per_window() as u64).saturating_mul(WINDOW_COUNT as u64);
+    let count = (order.arrivals_per_window() as u64).saturating_mul(WINDOW_COUNT as u64);
     let rate = per_second(count, best);
-    println!(rt; "buffer {name}: {rate} offers/s ({count} offers)").ok()
+    println!(rt; "buffer {name}: {rate} arrivals/s ({count} arrivals)").ok()
 }
 
-// The nanoseconds that the offers of all windows take, without building their entries.
-fn offer_time<R: Clock + AllocGlobal>(rt: &R, order: Order) -> Option<u128> {
+// The nanoseconds that the arrivals of all windows take, without building their entries.
+fn arrival_time<R: Clock + AllocGlobal>(rt: &R, order: Order) -> Option<u128> {
     let mut buffer = SubBuffer::new(rt.alloc(), SiteId::known(2), SiteId::known(1)).ok()?;
+    let mut verdicts = Vec::new(rt.alloc());
     let mut nanos: u128 = 0;
     for number in 0..WINDOW_COUNT {
         let entries = window(rt.alloc(), order, number)?;
         let start = Instant::now(rt).ok()?;
-        offer_all(&mut buffer, entries);
+        arrive_all(&mut buffer, entries, &mut verdicts)?;
         nanos = nanos.saturating_add(start.elapsed(rt).ok()?.as_nanos());
     }
     if buffer.last() != WINDOW_COUNT as u64 * 64 {
@@ -45,19 +47,33 @@ fn offer_time<R: Clock + AllocGlobal>(rt: &R, order: Order) -> Option<u128> {
     Some(nanos)
 }
 
-fn offer_all(buffer: &mut SubBuffer, entries: Vec<Entry>) {
+fn arrive_all(
+    buffer: &mut SubBuffer,
+    entries: Vec<Entry>,
+    verdicts: &mut Vec<Verdict>,
+) -> Option<()>
+    requires settled { IsSettled buffer.old }
+    ensures settled { IsSettled buffer.new }
+{
     for entry in entries {
-        if let Ok(Verdict::Ready(_)) = buffer.offer(entry) {
-            deliver(buffer);
-        }
+        arrive(buffer, entry, verdicts)?;
     }
+    Some(())
 }
 
-// Delivers the entries that are ready.
-fn deliver(buffer: &mut SubBuffer) {
-    for _ in 0..64u8 {
-        if buffer.pop_ready().is_none() {
-            break;
-        }
+// Takes an entry in as a script does, with a list of verdicts that is kept for its memory.
+fn arrive(buffer: &mut SubBuffer, entry: Entry, verdicts: &mut Vec<Verdict>) -> Option<()>
+    requires settled { IsSettled buffer.old }
+    ensures settled { IsSettled buffer.new }
+{
+    if entry.origin() != buffer.origin() {
+        return None;
     }
+    if buffer.arrive_next(&entry) {
+        return Some(());
+    }
+    verdicts.clear();
+    verdicts.reserve(buffer.held_count() + 1).ok()?;
+    buffer.arrive(entry, verdicts);
+    Some(())
 }

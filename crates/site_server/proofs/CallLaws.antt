@@ -3,10 +3,7 @@ use Rattle.std.proofs.Common.{◌≡◌, ◌∙◌, ◌⊎◌, ℕ, List, [], �
 use Rattle.std.proofs.Common.{inr, refl, ap, sym, subst}
 use Rattle.http.specs.declared.request.Request.{Request}
 use Rattle.http.specs.Request.{body_of}
-use Rattle.std.specs.Io.KnownBytes.{Appends, Consumes}
-use Rattle.http_server.specs.Exchange.{Call, Calls, Chain}
-use Rattle.http_server.specs.History.{History, IsServed, new_history}
-use Rattle.http_server.specs.declared.state.Config.{Config}
+use Rattle.http_server.specs.Exchange.{Call, Chain}
 use Rattle.http_server.specs.declared.response.Response.{Response}
 use Rattle.line_streams.specs.Talk.{lines_of}
 use Rattle.apply_lanes.specs.Names.{DeskId}
@@ -23,15 +20,17 @@ use Rattle.site_http.specs.Replying.{Answering, AnswersEach, RepliesTo, RepliesT
 use Rattle.site_http.specs.Responding.{RespondsBy}
 use Rattle.site_http.specs.declared.route.Route.{Route}
 use Rattle.site_http.specs.declared.route.Route.TheVariants.{Commands, Wait, Status as Shows, Metrics, Health, Page}
-use Rattle.site_http.specs.declared.route.Route.TheVariants.{Foreign, NotAllowed, NotFound}
+use Rattle.site_http.specs.declared.route.Route.TheVariants.{Foreign, Misdirected, NotAllowed, NotFound}
+use Rattle.desk_turns.specs.Seated.{SeatedValue}
 use Rattle.site_server.specs.Replying.{asked, TellsStatus}
 use Rattle.site_server.specs.Measuring.{TellsMetrics, TellsClosed}
 use Rattle.site_server.specs.Settling.{Settles}
 use Rattle.site_server.specs.Connections.{ClientValue, Tells, TellsSettled, Answers, Responded}
 use Rattle.site_server.specs.Conversations.{IsTurn}
 use Rattle.site_server.specs.Requests.{IsSettledTurn, IsQueued, AreTurnsOf, AreBodyTurns, AreRouteTurns, AreCallsTurns}
-use Rattle.site_server.specs.Requests.{Conversed, CountsCalls}
+use Rattle.site_server.specs.Requests.{CountsCalls}
 use Rattle.site_server.proofs.ConfirmedLaws.{turns_of_line, both}
+use Rattle.site_server.proofs.SettleLaws.{keeps_told, waited_told}
 
 -- a line has turns, which lead from one value of the seat to another
 module _ {S : Type 0} (seat : S → SeatValue)
@@ -94,38 +93,51 @@ module _ {S : Type 0} (seat : S → SeatValue)
       let found = turns_of_body old (line ∷ []) replies code r new h body in (found.0, inl found.1, found.2)
   turns_of_one old (line ∷ next ∷ lines) replies code r new h body = ([], inr refl, ap seat h.2)
 
-settled_text : (HasEnded : Type 0) (id : DeskId) (seat : SeatValue) (reply settled : Reply) (text : List ℕ)
-    → Settles HasEnded id seat reply settled → text ≡ reply_text settled → (text ≡ reply_text reply) ⊎ IsQueued reply
-settled_text HasEnded id seat (Number n) settled text h says = inl (says ∙ ap reply_text h)
-settled_text HasEnded id seat (Spending (Spent n)) settled text h says = inl (says ∙ ap reply_text h)
-settled_text HasEnded id seat (Spending (Queued ticket)) settled text h says = inr (ticket, refl)
-settled_text HasEnded id seat (Outcome status) settled text h says = inl (says ∙ ap reply_text h)
-settled_text HasEnded id seat (Refused cause) settled text h says = inl (says ∙ ap reply_text h)
+settled_text : (HasEnded : Type 0) (id : DeskId) (seat : SeatedValue) (reply settled : Reply) (now : SeatedValue)
+    (text : List ℕ)
+    → Settles HasEnded id seat reply settled now → text ≡ reply_text settled → (text ≡ reply_text reply) ⊎ IsQueued reply
+settled_text HasEnded id seat (Number n) settled now text h says = inl (says ∙ ap reply_text h.0)
+settled_text HasEnded id seat (Spending (Spent n)) settled now text h says = inl (says ∙ ap reply_text h.0)
+settled_text HasEnded id seat (Spending (Queued ticket)) settled now text h says = inr (ticket, refl)
+settled_text HasEnded id seat (Outcome status) settled now text h says = inl (says ∙ ap reply_text h.0)
+settled_text HasEnded id seat (Refused cause) settled now text h says = inl (says ∙ ap reply_text h.0)
 
-module _ {P : Type 0} (size : P → ℕ) (sends : P → ℕ → ℕ → P → Type 0) (id : DeskId) where
-  tells_turns : (command : Option SiteCommand) (was : SeatValue) (before : P) (text : List ℕ)
-      (now : SeatValue) (after : P)
-      → Tells size sends id command was before text now after
-      → (turns : List Turn) × IsTurn command text turns × HasTurns was turns now
-  tells_turns None was before text now after h = turns_of_line size sends id None was before text now after h
+-- however the client waits, its seat counts the same
+settled_told : (HasEnded : Type 0) (id : DeskId) (was : SeatedValue) (reply settled : Reply) (now : SeatedValue)
+    → Settles HasEnded id was reply settled now → now.told ≡ was.told
+settled_told HasEnded id was (Number n) settled now h = ap (λ (s : SeatedValue). s.told) h.1
+settled_told HasEnded id was (Spending (Spent n)) settled now h = ap (λ (s : SeatedValue). s.told) h.1
+settled_told HasEnded id was (Spending (Queued ticket)) settled now (inl h) =
+    keeps_told id h.mid ticket settled now h.at_desk ∙ waited_told id was ticket h.mid h.waited
+settled_told HasEnded id was (Spending (Queued ticket)) settled now (inr h) = waited_told id was ticket now h.waited
+settled_told HasEnded id was (Outcome status) settled now h = ap (λ (s : SeatedValue). s.told) h.1
+settled_told HasEnded id was (Refused cause) settled now h = ap (λ (s : SeatedValue). s.told) h.1
+
+module _ {P : Type 0} (size : P → ℕ) (sends : P → ℕ → ℕ → P → Type 0)
+    (stops : P → ℕ → P → Type 0) (id : DeskId) where
+  tells_turns : (command : Option SiteCommand) (was : SeatedValue) (before : P) (text : List ℕ)
+      (now : SeatedValue) (after : P)
+      → Tells size sends stops id command was before text now after
+      → (turns : List Turn) × IsTurn command text turns × HasTurns was.told turns now.told
+  tells_turns None was before text now after h = turns_of_line size sends stops id None was before text now after h
   tells_turns (Some (AtDesk command)) was before text now after h
-      = turns_of_line size sends id (Some (AtDesk command)) was before text now after h
+      = turns_of_line size sends stops id (Some (AtDesk command)) was before text now after h
   tells_turns (Some (Tick time)) was before text now after h
-      = turns_of_line size sends id (Some (Tick time)) was before text now after h
+      = turns_of_line size sends stops id (Some (Tick time)) was before text now after h
   tells_turns (Some Status) was before text now after h
-      = turns_of_line size sends id (Some Status) was before text now after h
-  tells_turns (Some Quit) was before text now after h = ([], refl, h.1)
+      = turns_of_line size sends stops id (Some Status) was before text now after h
+  tells_turns (Some Quit) was before text now after h = ([], refl, ap (λ (s : SeatedValue). s.told) h.1)
 
-  settled_turns : (HasEnded : Type 0) (command : Option SiteCommand) (was : SeatValue) (before : P) (text : List ℕ)
-      (now : SeatValue) (after : P)
-      → TellsSettled size sends HasEnded id command was before text now after
-      → (turns : List Turn) × IsSettledTurn command text turns × HasTurns was turns now
+  settled_turns : (HasEnded : Type 0) (command : Option SiteCommand) (was : SeatedValue) (before : P) (text : List ℕ)
+      (now : SeatedValue) (after : P)
+      → TellsSettled size sends stops HasEnded id command was before text now after
+      → (turns : List Turn) × IsSettledTurn command text turns × HasTurns was.told turns now.told
   settled_turns HasEnded None was before text now after h = tells_turns None was before text now after h
   settled_turns HasEnded (Some (AtDesk command)) was before text now after h =
       let c = h.0 in (
         ACommand command c.reply ∷ [],
-        (c.reply, refl, settled_text HasEnded id now c.reply c.settled text c.settles c.says),
-        (now, (c.at_desk.old, c.at_desk.new, c.at_desk.acts), refl),
+        (c.reply, refl, settled_text HasEnded id c.half c.reply c.settled now text c.settles c.says),
+        (c.half.told, (c.at_desk.old, c.at_desk.new, c.at_desk.acts), settled_told HasEnded id c.half c.reply c.settled now c.settles),
       )
   settled_turns HasEnded (Some (Tick time)) was before text now after h
       = tells_turns (Some (Tick time)) was before text now after h
@@ -135,81 +147,56 @@ module _ {P : Type 0} (size : P → ℕ) (sends : P → ℕ → ℕ → P → Ty
 
   module _ {B : Type 0} (has_ended : B → Type 0) where
     one : (old : ClientValue P B) (line reply : List ℕ) (new : ClientValue P B)
-        → Answers size sends has_ended id false old line reply new
-        → (turns : List Turn) × IsTurn (asked line) reply turns × HasTurns old.seat turns new.seat
+        → Answers size sends stops has_ended id false old line reply new
+        → (turns : List Turn) × IsTurn (asked line) reply turns × HasTurns old.seat.told turns new.seat.told
     one old line reply new h = tells_turns (asked line) old.seat old.peers reply new.seat new.peers h
 
     one_settled : (old : ClientValue P B) (line reply : List ℕ) (new : ClientValue P B)
-        → Answers size sends has_ended id true old line reply new
-        → (turns : List Turn) × IsSettledTurn (asked line) reply turns × HasTurns old.seat turns new.seat
+        → Answers size sends stops has_ended id true old line reply new
+        → (turns : List Turn) × IsSettledTurn (asked line) reply turns × HasTurns old.seat.told turns new.seat.told
     one_settled old line reply new h =
         settled_turns (has_ended old.signal) (asked line) old.seat old.peers reply new.seat new.peers h
 
     turns_of_route : (old : ClientValue P B) (route : Route) (body : List ℕ) (r : Response) (new : ClientValue P B)
-        → RespondsBy (Answers size sends has_ended id) (λ client text. TellsStatus id text)
+        → RespondsBy (Answers size sends stops has_ended id) (λ client text. TellsStatus id text)
         (λ client text. TellsMetrics id text) (λ client is_closed. TellsClosed id is_closed) old route body r new
-        → (turns : List Turn) × AreRouteTurns route body r turns × HasTurns old.seat turns new.seat
+        → (turns : List Turn) × AreRouteTurns route body r turns × HasTurns old.seat.told turns new.seat.told
     turns_of_route old Commands body r new h =
-        turns_of_body (λ c. c.seat) IsTurn (Answers size sends has_ended id false) one old
+        turns_of_body (λ c. c.seat.told) IsTurn (Answers size sends stops has_ended id false) one old
         (lines_of body) h.replies h.code r new h.replied h.response.body
     turns_of_route old Wait body r new h =
-        turns_of_one (λ c. c.seat) IsSettledTurn (Answers size sends has_ended id true) one_settled old
+        turns_of_one (λ c. c.seat.told) IsSettledTurn (Answers size sends stops has_ended id true) one_settled old
         (lines_of body) h.replies h.code r new h.replied h.response.body
-    turns_of_route old Shows body r new h = ([], refl, ap (λ (c : ClientValue P B). c.seat) h.1)
-    turns_of_route old Metrics body r new h = ([], refl, ap (λ (c : ClientValue P B). c.seat) h.1)
-    turns_of_route old Health body r new h = ([], refl, ap (λ (c : ClientValue P B). c.seat) h.1)
-    turns_of_route old Page body r new h = ([], refl, ap (λ (c : ClientValue P B). c.seat) h.1)
-    turns_of_route old Foreign body r new h = ([], refl, ap (λ (c : ClientValue P B). c.seat) h.1)
-    turns_of_route old (NotAllowed allowed) body r new h = ([], refl, ap (λ (c : ClientValue P B). c.seat) h.1)
-    turns_of_route old NotFound body r new h = ([], refl, ap (λ (c : ClientValue P B). c.seat) h.1)
+    turns_of_route old Shows body r new h = ([], refl, ap (λ (c : ClientValue P B). c.seat.told) h.1)
+    turns_of_route old Metrics body r new h = ([], refl, ap (λ (c : ClientValue P B). c.seat.told) h.1)
+    turns_of_route old Health body r new h = ([], refl, ap (λ (c : ClientValue P B). c.seat.told) h.1)
+    turns_of_route old Page body r new h = ([], refl, ap (λ (c : ClientValue P B). c.seat.told) h.1)
+    turns_of_route old Foreign body r new h = ([], refl, ap (λ (c : ClientValue P B). c.seat.told) h.1)
+    turns_of_route old Misdirected body r new h = ([], refl, ap (λ (c : ClientValue P B). c.seat.told) h.1)
+    turns_of_route old (NotAllowed allowed) body r new h = ([], refl, ap (λ (c : ClientValue P B). c.seat.told) h.1)
+    turns_of_route old NotFound body r new h = ([], refl, ap (λ (c : ClientValue P B). c.seat.told) h.1)
 
-    turns_of_calls : (old : ClientValue P B) (calls : List Call) (new : ClientValue P B)
-        → Chain (Responded size sends has_ended id) old calls new
-        → (turns : List Turn) × AreCallsTurns calls turns × HasTurns old.seat turns new.seat
-    turns_of_calls old [] new h = ([], refl, ap (λ (c : ClientValue P B). c.seat) h)
-    turns_of_calls old (call ∷ calls) new h =
+    turns_of_calls : (names : List (List ℕ)) (old : ClientValue P B) (calls : List Call) (new : ClientValue P B)
+        → Chain (Responded size sends stops has_ended id names) old calls new
+        → (turns : List Turn) × AreCallsTurns names calls turns × HasTurns old.seat.told turns new.seat.told
+    turns_of_calls names old [] new h = ([], refl, ap (λ (c : ClientValue P B). c.seat.told) h)
+    turns_of_calls names old (call ∷ calls) new h =
         let next = h.0 in
         let first = turns_of_route old h.1.0 (body_of call.0) call.1 next h.1.2 in
-        let rest = turns_of_calls next calls new h.2 in (
+        let rest = turns_of_calls names next calls new h.2 in (
           first.0 ++ rest.0,
           (first.0, rest.0, (h.1.0, h.1.1, first.1), rest.1, refl),
-          both old.seat next.seat new.seat first.0 rest.0 first.2 rest.2,
+          both old.seat.told next.seat.told new.seat.told first.0 rest.0 first.2 rest.2,
         )
 
-    pub counts_calls : (old : ClientValue P B) (calls : List Call) (new : ClientValue P B)
-        → Chain (Responded size sends has_ended id) old calls new
-        → CountsCalls old.seat calls new.seat
-    counts_calls old calls new h =
-        let found = turns_of_calls old calls new h in
+    pub counts_calls : (names : List (List ℕ)) (old : ClientValue P B) (calls : List Call) (new : ClientValue P B)
+        → Chain (Responded size sends stops has_ended id names) old calls new
+        → CountsCalls names old.seat.told calls new.seat.told
+    counts_calls names old calls new h =
+        let found = turns_of_calls names old calls new h in
         record {
           turns = found.0;
           are_turns = found.1;
           has_turns = found.2;
-          counted = turns_count old.seat found.0 new.seat found.2;
+          counted = turns_count old.seat.told found.0 new.seat.told found.2;
         }
-
--- a connection from its beginning
-pub conversed : {S : Type 0} (answers : S → Request (List ℕ) → Response → S
-    → Type 0) (config : Config) (given left held holds : Option (List ℕ)) (old first last new : S)
-    (before after : History)
-    → first ≡ old → new ≡ last → before ≡ new_history → ∥ IsServed config after ∥₁
-    → (more : List ℕ) × Consumes given left more × (after.received ≡ before.received ++ more)
-    → (more : List ℕ) × Appends held holds more × (after.sent ≡ before.sent ++ more)
-    → Calls answers first last before.calls after.calls
-    → Conversed answers given left held holds old new
-conversed {S} answers config given left held holds old first last new before after begins ends fresh served read
-    written calls =
-    record {
-      config = config;
-      history = after;
-      served = served;
-      read = subst (λ (m : List ℕ). Consumes given left m)
-          (sym (read.2 ∙ ap (λ (h : History). h.received ++ read.0) fresh)) read.1;
-      written = subst (λ (m : List ℕ). Appends held holds m)
-          (sym (written.2 ∙ ap (λ (h : History). h.sent ++ written.0) fresh)) written.1;
-      calls =
-          subst (λ (s : S). Chain answers s after.calls new) begins
-          (subst (λ (s : S). Chain answers first after.calls s) (sym ends)
-          (subst (λ (cs : List Call). Chain answers first cs last)
-          (sym (calls.1 ∙ ap (λ (h : History). h.calls ++ calls.0) fresh)) calls.2));
-    }

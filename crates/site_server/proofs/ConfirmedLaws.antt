@@ -1,5 +1,5 @@
 -- What the replies to a client's lines report to it is what its seat counts.
-use Rattle.std.proofs.Common.{◌≡◌, ℕ, List, [], ◌∷◌, ◌++◌, Option, Some, None, Result, Ok, Err, inl, inr, refl, ap, sym}
+use Rattle.std.proofs.Common.{◌≡◌, ℕ, List, [], ◌∷◌, ◌++◌, Option, Some, None, Result, Ok, Err, inl, inr, refl, ap, sym, ◌∙◌}
 use Rattle.std.proofs.Common.{subst}
 use Rattle.line_streams.specs.Handling.{Answering, LineGets, LinesGet}
 use Rattle.line_streams.specs.Talk.{Talk, Leaves}
@@ -17,38 +17,55 @@ use Rattle.site_words.specs.declared.commands.SiteCommand.{SiteCommand}
 use Rattle.site_words.specs.declared.commands.SiteCommand.TheVariants.{AtDesk, Tick, Status, Quit}
 use Rattle.site_node.specs.Confirmed.{Turn, ACommand, ATick, HasTurns}
 use Rattle.site_node.proofs.ConfirmedLaws.{turns_count}
-use Rattle.site_server.specs.Replying.{asked, Says, Gets, GetsBy}
-use Rattle.site_server.specs.Conversations.{IsTurn, AreTurns, CountsReplies}
+use Rattle.desk_turns.specs.Seated.{SeatedValue}
+use Rattle.site_core.specs.declared.fault.DeskError.{DeskError}
+use Rattle.site_node.specs.Texts.{tick_text}
+use Rattle.site_node.specs.declared.tick.Ticked.{Ticked}
+use Rattle.site_server.specs.Replying.{asked, ThenSends, Says, Gets, GetsBy}
+use Rattle.site_server.specs.Conversations.{TellsTick, IsTurn, AreTurns, CountsReplies}
 
 pub both : (was half now : SeatValue) (first rest : List Turn) → HasTurns was first half → HasTurns half rest now
     → HasTurns was (first ++ rest) now
 both was half now [] rest h k = subst (λ (s : SeatValue). HasTurns s rest now) h k
 both was half now (turn ∷ first) rest h k = (h.0, h.1, both h.0 half now first rest h.2 k)
 
-module _ {P : Type 0} (size : P → ℕ) (sends : P → ℕ → ℕ → P → Type 0) (id : DeskId) where
+module _ {P : Type 0} (size : P → ℕ) (sends : P → ℕ → ℕ → P → Type 0)
+    (stops : P → ℕ → P → Type 0) (id : DeskId) where
+  tells_tick : (before after : P) (ticked : Result Ticked DeskError) (result : Result (Ticked × ℕ) DeskError)
+      (text : List ℕ)
+      → ThenSends size sends stops ticked before result after → text ≡ tick_text result → TellsTick ticked text
+  tells_tick before after (Ok ticked) (Ok (done, sent)) text h says =
+      inl (sent, says ∙ ap (λ (t : Ticked). tick_text (Ok (t, sent))) h.0)
+  tells_tick before after (Ok ticked) (Err fault) text h says =
+      inr (says ∙ ap (λ (f : DeskError). tick_text (Err f)) h.0)
+  tells_tick before after (Err fault) result text h says = says ∙ ap tick_text h.0
+
   -- one line
-  pub turns_of_line : (command : Option SiteCommand) (was : SeatValue) (before : P) (text : List ℕ)
-      (now : SeatValue) (after : P)
-      → Says size sends id command was before text now after
-      → (turns : List Turn) × IsTurn command text turns × HasTurns was turns now
-  turns_of_line None was before text now after h = ([], refl, h.1)
+  pub turns_of_line : (command : Option SiteCommand) (was : SeatedValue) (before : P) (text : List ℕ)
+      (now : SeatedValue) (after : P)
+      → Says size sends stops id command was before text now after
+      → (turns : List Turn) × IsTurn command text turns × HasTurns was.told turns now.told
+  turns_of_line None was before text now after h = ([], refl, ap (λ (s : SeatedValue). s.told) h.1)
   turns_of_line (Some (AtDesk command)) was before text now after h =
       let c = h.0 in (
         ACommand command c.reply ∷ [],
         (c.reply, refl, c.says),
-        (now, (c.at_desk.old, c.at_desk.new, c.at_desk.acts), refl),
+        (now.told, (c.at_desk.old, c.at_desk.new, c.at_desk.acts), refl),
       )
   turns_of_line (Some (Tick time)) was before text now after h =
-      let t = h.does.at_desk in
-      (ATick time t.served h.does.ticked ∷ [], (t.served, h.does.ticked, refl), (now, (t.old, t.new, t.ticks), refl))
-  turns_of_line (Some Status) was before text now after h = ([], refl, h.1)
+      let t = h.does.at_desk in (
+        ATick time t.does.served h.does.ticked ∷ [],
+        (t.does.served, h.does.ticked, refl, tells_tick before after h.does.ticked h.result text h.does.then_sends h.says),
+        (now.told, (t.old, t.new, t.does.ticks), refl),
+      )
+  turns_of_line (Some Status) was before text now after h = ([], refl, ap (λ (s : SeatedValue). s.told) h.1)
   turns_of_line (Some Quit) was before text now after h = absurd h
 
-  module _ {S : Type 0} (seat : S → SeatValue) (peers : S → P) where
+  module _ {S : Type 0} (seat : S → SeatedValue) (peers : S → P) where
     -- the replies of a handler with such a seat and such peers, and its state after a memory refusal
     abbrev pub Answers : Answering S
     Answers before line reply after
-        = Gets size sends id (asked line) (seat before) (peers before) reply (seat after) (peers after)
+        = Gets size sends stops id (asked line) (seat before) (peers before) reply (seat after) (peers after)
 
     abbrev pub Fails : S → S → Type 0
     Fails before after = (seat after ≡ seat before) × (peers after ≡ peers before)
@@ -56,24 +73,24 @@ module _ {P : Type 0} (size : P → ℕ) (sends : P → ℕ → ℕ → P → Ty
     -- the command of a line had this effect
     pub line_gets : (goes : Goes) (command : Option SiteCommand) (line : List ℕ) (old new : S) (waits waits' : Waiting)
         → command ≡ asked line
-        → GetsBy size sends goes id command (seat old) (peers old) waits (seat new) (peers new) waits'
+        → GetsBy size sends stops goes id command (seat old) (peers old) waits (seat new) (peers new) waits'
         → LineGets Answers goes old line new waits waits'
     line_gets On command line old new waits waits' same h =
-        subst (λ (c : Option SiteCommand). GetsBy size sends On id c (seat old) (peers old) waits (seat new)
+        subst (λ (c : Option SiteCommand). GetsBy size sends stops On id c (seat old) (peers old) waits (seat new)
         (peers new) waits') same h
     line_gets Ends command line old new waits waits' same h =
-        subst (λ (c : Option SiteCommand). GetsBy size sends Ends id c (seat old) (peers old) waits (seat new)
+        subst (λ (c : Option SiteCommand). GetsBy size sends stops Ends id c (seat old) (peers old) waits (seat new)
         (peers new) waits') same h
 
     turns_of : (start : S) (lines : List (List ℕ)) (text : List ℕ) (state : S) → LinesGet Answers start lines text state
-        → (turns : List Turn) × AreTurns lines text turns × HasTurns (seat start) turns (seat state)
-    turns_of start [] text state h = ([], (h.0, refl), ap seat h.1)
+        → (turns : List Turn) × AreTurns lines text turns × HasTurns (seat start).told turns (seat state).told
+    turns_of start [] text state h = ([], (h.0, refl), ap (λ s. (seat s).told) h.1)
     turns_of start (line ∷ lines) text state h =
         let first = turns_of_line (asked line) (seat start) (peers start) h.0 (seat h.1) (peers h.1) h.3 in
         let rest = turns_of h.1 lines h.2 state h.4 in (
           first.0 ++ rest.0,
           (h.0, h.2, first.0, rest.0, first.1, rest.1, h.5, refl),
-          both (seat start) (seat h.1) (seat state) first.0 rest.0 first.2 rest.2,
+          both (seat start).told (seat h.1).told (seat state).told first.0 rest.0 first.2 rest.2,
         )
 
     -- however a conversation ended, the seat is as after the last reply
@@ -92,14 +109,14 @@ module _ {P : Type 0} (size : P → ℕ) (sends : P → ℕ → ℕ → P → Ty
 
     pub counts_replies : {given left held holds : Option (List ℕ)} (start after : S)
         (result : Result EndedBy ConversationError) (talk : Talk Answers start given left held holds)
-        → Leaves Fails result talk after → CountsReplies (seat start) talk.lines talk.replies (seat after)
+        → Leaves Fails result talk after → CountsReplies (seat start).told talk.lines talk.replies (seat after).told
     counts_replies start after result talk left =
         let found = turns_of start talk.lines talk.replies talk.state talk.answered in
-        let has = subst (λ (s : SeatValue). HasTurns (seat start) found.0 s)
+        let has = subst (λ (s : SeatedValue). HasTurns (seat start).told found.0 s.told)
         (sym (seat_left start after result talk left)) found.2 in
         record {
           turns = found.0;
           are_turns = found.1;
           has_turns = has;
-          counted = turns_count (seat start) found.0 (seat after) has;
+          counted = turns_count (seat start).told found.0 (seat after).told has;
         }

@@ -1,5 +1,4 @@
 mod CallLaws
-mod HearLaws
 mod LineLaws
 mod SendLaws
 mod SettleLaws

@@ -1,5 +1,5 @@
 -- What was offered to the outbox of a peer, and the status of a site.
-use Rattle.std.proofs.Common.{◌≡◌, ℕ, ◌<◌, List, [], ◌++◌, length, Result, Ok, Err, OnOk, OnErr, IfOk, refl}
+use Rattle.std.proofs.Common.{◌≡◌, ◌∙◌, ℕ, ◌<◌, Some, ap, sym, List, [], ◌∷◌, ◌++◌, length, Result, Ok, Err, OnOk, OnErr, IfOk, refl}
 use Rattle.std.proofs.Math.ListN.{get_or}
 use Rattle.std.proofs.lemmas.Option.{slice_get-get_or}
 use Rattle.rights_types.specs.declared.fault.OutOfMemory.{OutOfMemory}
@@ -7,8 +7,6 @@ use Rattle.thread_parts.specs.declared.view.DeskView.{DeskView}
 use Rattle.line_streams.specs.Waiting.{Waiting, AddsReply}
 use Rattle.apply_lanes.specs.Names.{DeskId}
 use Rattle.apply_lanes.specs.Kepts.{KeptValue, IsKept}
-use Rattle.peer_links.specs.Outboxes.{Waiting as Lines, PutsIf}
-use Rattle.site_node.specs.Sending.{OffersDue, StopsShort}
 use Rattle.site_sockets.specs.declared.peer.PeerState.{PeerState}
 use Rattle.site_words.specs.Status.{status_text}
 use Rattle.site_words.specs.declared.status_object.PeerView.{PeerView}
@@ -16,34 +14,42 @@ use Rattle.site_metrics.specs.Table.{metrics_text}
 use Rattle.site_metrics.specs.declared.metrics.Metrics.{Metrics}
 use Rattle.site_metrics.specs.declared.metrics.PeerMetrics.{PeerMetrics}
 use Rattle.site_server.specs.Measuring.{AreMetrics, TellsMetrics}
-use Rattle.site_server.specs.Outboxes.{HoldsBoth, SendsToPeer, StopsAtOutbox}
-use Rattle.site_server.specs.Replying.{AreViews, TellsStatus}
+use Rattle.site_server.specs.Outboxes.{SendingValue, SendsAll, SendsFront, SendsToPeer, StopsAtOutbox}
+use Rattle.site_core.specs.Desks.{DeskValue}
+use Rattle.site_server.specs.Replying.{IsApplied, AreOfPeers, AreViews, TellsStatus}
 
-module _ (id : DeskId) (peers : List PeerState) (place : ℕ) (other : PeerState) (old new : KeptValue)
-    (before after : Lines) (within : place < length peers)
-    (valid : IsKept id old) where
-  abbrev held : HoldsBoth id peers place
-  held = record {
-    peer = get_or peers place other;
-    listed = slice_get-get_or peers place other within;
-    old = old;
-    new = new;
-    before = before;
-    after = after;
-    valid = valid;
-  }
-
+module _ (id : DeskId) (peers : List PeerState) (place : ℕ) (peer : PeerState) (was now : SendingValue)
+    (old new : KeptValue) (is : peer ≡ get_or peers place peer) (within : place < length peers)
+    (one : now.turns ≡ was.turns ++ old ∷ new ∷ []) (valid : IsKept id old) where
   pub sends_to_peer : (result : Result ℕ OutOfMemory)
-      → IfOk result (λ sent. OffersDue PutsIf old (get_or peers place other).site before sent new after)
-      → IfOk result (λ sent. SendsToPeer id peers place sent)
-  sends_to_peer (Ok sent) offers = (held, offers)
-  sends_to_peer (Err fault) offers = tt
+      → IfOk result (λ sent. SendsAll peer was.holds old sent now.holds new)
+      → IfOk result (λ sent. SendsToPeer id peers place was sent now)
+  sends_to_peer (Ok sent) sends =
+      record {
+        peer = peer;
+        listed = slice_get-get_or peers place peer within ∙ ap (λ (p : PeerState). Some p) (sym is);
+        old = old;
+        new = new;
+        one = one;
+        valid = valid;
+        sends = sends;
+      }
+  sends_to_peer (Err fault) sends = tt
 
   pub stops_at_outbox : (result : Result ℕ OutOfMemory)
-      → OnErr result (StopsShort PutsIf old (get_or peers place other).site before new after)
-      → OnErr result (StopsAtOutbox id peers place)
-  stops_at_outbox (Ok sent) stops = tt
-  stops_at_outbox (Err fault) stops = (held, stops)
+      → OnErr result (SendsFront peer was.holds old now.holds new)
+      → OnErr result (StopsAtOutbox id peers place was now)
+  stops_at_outbox (Ok sent) sends = tt
+  stops_at_outbox (Err fault) sends =
+      record {
+        peer = peer;
+        listed = slice_get-get_or peers place peer within ∙ ap (λ (p : PeerState). Some p) (sym is);
+        old = old;
+        new = new;
+        one = one;
+        valid = valid;
+        sends = sends;
+      }
 
 pub tells_status : (id : DeskId) (view : DeskView) (peers slice : List PeerView) (old new : Waiting)
     (result : Result (Unit {0}) OutOfMemory)
@@ -61,3 +67,13 @@ pub tells_metrics : (id : DeskId) (metrics : Metrics) (peers slice : List PeerMe
 tells_metrics id metrics peers slice old new (Ok done) read same adds =
     (metrics_text metrics slice, record { metrics = metrics; peers = peers; read = read; says = rw same refl }, adds.0)
 tells_metrics id metrics peers slice old new (Err fault) read same adds = tt
+
+-- one view more, for the next peer
+pub views_more : (d : DeskValue) (peers : List PeerState) (views : List PeerView) (peer : PeerState) (view : PeerView)
+    → AreOfPeers d peers views → view.site ≡ peer.site → IsApplied d view
+    → AreOfPeers d (peers ++ peer ∷ []) (views ++ view ∷ [])
+views_more d [] [] peer view h site applied = (site, applied, tt)
+views_more d [] (other ∷ views) peer view h site applied = absurd h
+views_more d (first ∷ peers) [] peer view h site applied = absurd h
+views_more d (first ∷ peers) (other ∷ views) peer view h site applied =
+    (h.0, h.1, views_more d peers views peer view h.2 site applied)

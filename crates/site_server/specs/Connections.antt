@@ -3,35 +3,36 @@ use Rattle.std.specs.Prelude.{◌≡◌, ℕ, Bool, true, false, List, Option, S
 use Rattle.http.specs.declared.request.Request.{Request}
 use Rattle.http_server.specs.declared.response.Response.{Response}
 use Rattle.apply_lanes.specs.Names.{DeskId}
-use Rattle.apply_lanes.specs.Kepts.{SeatValue}
 use Rattle.site_words.specs.declared.commands.SiteCommand.{SiteCommand}
 use Rattle.site_words.specs.declared.commands.SiteCommand.TheVariants.{AtDesk, Quit}
 use Rattle.site_http.specs.Replying.{Answering}
 use Rattle.site_http.specs.Responding.{Responds}
 use Rattle.site_server.specs.Measuring.{TellsMetrics, TellsClosed}
+use Rattle.desk_turns.specs.Seated.{SeatedValue}
 use Rattle.site_server.specs.Replying.{asked, Says, TellsStatus}
 use Rattle.site_server.specs.Settling.{SettlesCommand}
 
--- a client, as plain data: its seat, its peers, and what notifies it of ticks
+-- a client, as plain data: its seat with its turns, its peers, and what notifies it of ticks
 pub record ClientValue (P B : Type 0) : Type 0 where
-  pub seat : SeatValue
+  pub seat : SeatedValue
   pub peers : P
   pub signal : B
 
-module _ {P : Type 0} (size : P → ℕ) (sends : P → ℕ → ℕ → P → Type 0) where
+module _ {P : Type 0} (size : P → ℕ) (sends : P → ℕ → ℕ → P → Type 0)
+    (stops : P → ℕ → P → Type 0) where
   -- over a connection no command ends the site: `quit` is not a command there
-  abbrev pub Tells : DeskId → Option SiteCommand → SeatValue → P → List ℕ → SeatValue → P → Type 0
-  Tells id (Some Quit) was before text now after = Says size sends id None was before text now after
-  Tells id command was before text now after = Says size sends id command was before text now after
+  abbrev pub Tells : DeskId → Option SiteCommand → SeatedValue → P → List ℕ → SeatedValue → P → Type 0
+  Tells id (Some Quit) was before text now after = Says size sends stops id None was before text now after
+  Tells id command was before text now after = Says size sends stops id command was before text now after
 
   -- the same for a client that waits for the outcome of its spend
-  abbrev pub TellsSettled : Type 0 → DeskId → Option SiteCommand → SeatValue → P → List ℕ → SeatValue → P → Type 0
+  abbrev pub TellsSettled : Type 0 → DeskId → Option SiteCommand → SeatedValue → P → List ℕ → SeatedValue → P → Type 0
   TellsSettled HasEnded id (Some (AtDesk command)) was before text now after =
       SettlesCommand HasEnded id was command text now × (after ≡ before)
   TellsSettled HasEnded id command was before text now after = Tells id command was before text now after
 
   -- the one or the other, by whether the client waits
-  abbrev pub TellsBy : Bool → Type 0 → DeskId → Option SiteCommand → SeatValue → P → List ℕ → SeatValue → P → Type 0
+  abbrev pub TellsBy : Bool → Type 0 → DeskId → Option SiteCommand → SeatedValue → P → List ℕ → SeatedValue → P → Type 0
   TellsBy false HasEnded = Tells
   TellsBy true HasEnded = TellsSettled HasEnded
 
@@ -41,7 +42,7 @@ module _ {P : Type 0} (size : P → ℕ) (sends : P → ℕ → ℕ → P → Ty
     Answers waits before line text after =
         TellsBy waits (has_ended before.signal) id (asked line) before.seat before.peers text after.seat after.peers
 
-    -- the response to a request of a client over a connection
-    abbrev pub Responded : ClientValue P B → Request (List ℕ) → Response → ClientValue P B → Type 0
+    -- the response to a request of a client over a connection, at a site whose host has these names
+    abbrev pub Responded : List (List ℕ) → ClientValue P B → Request (List ℕ) → Response → ClientValue P B → Type 0
     Responded = Responds Answers (λ client text. TellsStatus id text) (λ client text. TellsMetrics id text)
         (λ client is_closed. TellsClosed id is_closed)

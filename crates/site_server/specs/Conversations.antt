@@ -1,16 +1,23 @@
 -- The lines of a client and their replies, as the turns that its seat counts.
-use Rattle.std.specs.Prelude.{◌≡◌, ℕ, List, [], ◌∷◌, ◌++◌, Option, Some, None, Result}
+use Rattle.std.specs.Prelude.{◌≡◌, ◌⊎◌, ℕ, List, [], ◌∷◌, ◌++◌, Option, Some, None, Result, Ok, Err}
 use Rattle.request_queue.specs.declared.request.Request.{Request}
 use Rattle.site_core.specs.declared.fault.DeskError.{DeskError}
+use Rattle.site_core.specs.declared.fault.DeskError.TheVariants.{OutOfMemory}
 use Rattle.apply_lanes.specs.Kepts.{SeatValue}
 use Rattle.site_words.specs.declared.commands.SiteCommand.{SiteCommand}
 use Rattle.site_words.specs.declared.commands.SiteCommand.TheVariants.{AtDesk, Tick}
-use Rattle.site_node.specs.Texts.{reply_text}
+use Rattle.site_node.specs.Texts.{reply_text, tick_text}
 use Rattle.site_node.specs.Confirmed.{Turn, HasTurns, CountsConfirmed}
 use Rattle.site_node.specs.Confirmed.{ACommand, ATick}
 use Rattle.site_node.specs.declared.reply.Reply.{Reply}
 use Rattle.site_node.specs.declared.tick.Ticked.{Ticked}
 use Rattle.site_server.specs.Replying.{asked}
+
+-- the reply to a tick tells what was done at the desk, and how many lines found room; or that memory ran out when lines
+-- were sent; or why a part of it was refused at the desk
+abbrev pub TellsTick : Result Ticked DeskError → List ℕ → Type 0
+TellsTick (Ok ticked) text = ((sent : ℕ) × (text ≡ tick_text (Ok (ticked, sent)))) ⊎ (text ≡ tick_text (Err OutOfMemory))
+TellsTick (Err fault) text = text ≡ tick_text (Err fault)
 
 -- a line is one turn if the desk carries out its command or it is a tick; otherwise it is none
 abbrev pub IsTurn : Option SiteCommand → List ℕ → List Turn → Type 0
@@ -18,6 +25,7 @@ IsTurn (Some (AtDesk command)) text turns = (reply : Reply) × (turns ≡ AComma
     × (text ≡ reply_text reply)
 IsTurn (Some (Tick time)) text turns =
     (served : List Request) × (ticked : Result Ticked DeskError) × (turns ≡ ATick time served ticked ∷ [])
+    × TellsTick ticked text
 IsTurn command text turns = turns ≡ []
 
 -- the turns of these lines; the text is their replies, each with its line feed

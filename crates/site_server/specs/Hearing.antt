@@ -1,5 +1,5 @@
 -- What a reading thread does at its site with the messages of a peer.
-use Rattle.std.specs.Prelude.{◌≡◌, ◌≢◌, ℕ, ◌≤◌, Bool, List, Result, Ok, Err}
+use Rattle.std.specs.Prelude.{◌≡◌, ◌≢◌, ℕ, ◌≤◌, Bool, List, [], ◌∷◌, ◌++◌, Result, Ok, Err}
 use Rattle.rights_types.specs.declared.fault.OutOfMemory.{OutOfMemory}
 use Rattle.apply_lanes.specs.Names.{DeskId}
 use Rattle.apply_lanes.specs.Kepts.{KeptValue, IsKept}
@@ -31,16 +31,18 @@ module _ {S : Type 0} (takes : S → List ℕ → Bool → S → Type 0) where
   Handles old (Deny denial) before (Ok _) new after = NotesDenial old denial new × (after ≡ before)
   Handles old message before (Err fault) new after = (new ≡ old) × (after ≡ before)
 
-  -- the same, under the desk's lock
-  pub record HandlesAtDesk (id : DeskId) (message : DeskMessage) (before : S) (result : Result (Unit {0}) OutOfMemory)
-      (after : S) : Type 0 where
+  -- the same, in one turn at the desk
+  pub record HandlesAtDesk (id : DeskId) (message : DeskMessage) (was : List KeptValue) (before : S)
+      (result : Result (Unit {0}) OutOfMemory) (now : List KeptValue) (after : S) : Type 0 where
     pub old : KeptValue
     pub new : KeptValue
+    pub one : now ≡ was ++ old ∷ new ∷ []
     pub valid : IsKept id old
     pub handles : Handles old message before result new after
 
-  -- a query for missing entries is offered too; the state of the buffer is recorded elsewhere
-  abbrev pub Hears : DeskId → S → Heard → S → Type 0
-  Hears id before (AMessage message result) after = HandlesAtDesk id message before result after
-  Hears id before (ALine line) after = (room : Bool) × takes before line room after
-  Hears id before (AState state held) after = after ≡ before
+module _ {S : Type 0} (takes : S → List ℕ → Bool → S → Type 0) (queries : S → List ℕ → S → Type 0) where
+  -- a query for missing entries is sent to the peer; the state of the buffer is recorded elsewhere
+  abbrev pub Hears : DeskId → List KeptValue → S → Heard → List KeptValue → S → Type 0
+  Hears id was before (AMessage message result) now after = HandlesAtDesk takes id message was before result now after
+  Hears id was before (ALine line) now after = queries before line after × (now ≡ was)
+  Hears id was before (AState state held) now after = (after ≡ before) × (now ≡ was)

@@ -1,7 +1,6 @@
 -- The reply to each line of a client at a running site, and its effect on the client's seat and on the peers.
-use Rattle.std.specs.Prelude.{◌≡◌, ℕ, ◌-◌, nat_le, List, [], length, take, Option, Some, None, Result, Ok, Err}
+use Rattle.std.specs.Prelude.{◌≡◌, ℕ, ◌-◌, nat_le, List, [], ◌∷◌, ◌++◌, length, take, Option, Some, None, Result, Ok, Err}
 use Rattle.std.specs.Prelude.{if◌then◌else◌}
-use Rattle.std.specs.List.{All}
 use Rattle.rights_types.specs.declared.limits.TheConstants.{MAX_LINE}
 use Rattle.rights_book.specs.Books.{peer}
 use Rattle.request_queue.specs.declared.request.Request.{Request}
@@ -22,10 +21,10 @@ use Rattle.site_words.specs.declared.commands.DeskCommand.{DeskCommand}
 use Rattle.site_words.specs.declared.commands.SiteCommand.{SiteCommand}
 use Rattle.site_words.specs.declared.commands.SiteCommand.TheVariants.{AtDesk, Tick, Status, Quit}
 use Rattle.site_words.specs.declared.status_object.PeerView.{PeerView}
-use Rattle.site_node.specs.Acting.{Acts}
+use Rattle.site_sockets.specs.declared.peer.PeerState.{PeerState}
+use Rattle.desk_turns.specs.Seated.{SeatedValue, ActsAtDesk, TicksAtDesk}
 use Rattle.site_node.specs.Texts.{reply_text, tick_text}
-use Rattle.site_node.specs.Ticking.{Ticks}
-use Rattle.site_node.specs.ToPeers.{SendsToFirst}
+use Rattle.site_node.specs.ToPeers.{SendsToFirst, StopsAtPeer}
 use Rattle.site_node.specs.declared.reply.Reply.{Reply}
 use Rattle.site_node.specs.declared.tick.Ticked.{Ticked}
 
@@ -36,40 +35,30 @@ asked line = if nat_le (length line) MAX_LINE then command_of (take (length line
 
 -- ---- replies
 
--- the desk carried out the command, under its lock, and this is the reply
-pub record ActsAtDesk (id : DeskId) (was : SeatValue) (command : DeskCommand) (reply : Reply)
-    (now : SeatValue) : Type 0 where
-  pub old : KeptValue
-  pub new : KeptValue
-  pub valid : IsKept id old
-  pub acts : Acts old was command reply new now
-
--- the same, and this is the text of the reply
-pub record CarriesOut (id : DeskId) (was : SeatValue) (command : DeskCommand) (text : List ℕ)
-    (now : SeatValue) : Type 0 where
+-- in one turn, the desk carried out the command, and this is the text of the reply
+pub record CarriesOut (id : DeskId) (was : SeatedValue) (command : DeskCommand) (text : List ℕ)
+    (now : SeatedValue) : Type 0 where
   pub reply : Reply
   pub at_desk : ActsAtDesk id was command reply now
   pub says : text ≡ reply_text reply
-
--- everything due at this time was done at the desk, under its lock
-pub record TicksAtDesk (id : DeskId) (was : SeatValue) (time : ℕ) (ticked : Result Ticked DeskError)
-    (now : SeatValue) : Type 0 where
-  pub old : KeptValue
-  pub new : KeptValue
-  pub served : List Request
-  pub valid : IsKept id old
-  pub ticks : Ticks old was time served ticked new now
 
 -- this value is how far the desk applied that peer's log
 abbrev pub IsApplied : DeskValue → PeerView → Type 0
 IsApplied d view = view.applied ≡ (peer d.ledger.book view.site).log.end
 
--- the views are those of the desk at one moment; the state of a peer's buffer is what was recorded last
-pub record AreViews (id : DeskId) (view : DeskView) (peers : List PeerView) : Type 0 where
+-- one view for each of these peers, in their order
+abbrev pub AreOfPeers : DeskValue → List PeerState → List PeerView → Type 0
+AreOfPeers d [] [] = Unit {0}
+AreOfPeers d (p ∷ peers) (view ∷ views) = (view.site ≡ p.site) × IsApplied d view × AreOfPeers d peers views
+AreOfPeers d peers views = ⊥
+
+-- the views are those of the desk and of some peers at one moment; the state of a peer's buffer is what was recorded last
+pub record AreViews (id : DeskId) (view : DeskView) (views : List PeerView) : Type 0 where
   pub kept : KeptValue
   pub valid : IsKept id kept
   pub desk : IsViewOf kept.desk view
-  pub applied : All (IsApplied kept.desk) peers
+  pub peers : List PeerState
+  pub of_peers : AreOfPeers kept.desk peers views
 
 -- the text of a status object with such views
 pub record TellsStatus (id : DeskId) (text : List ℕ) : Type 0 where
@@ -78,23 +67,25 @@ pub record TellsStatus (id : DeskId) (text : List ℕ) : Type 0 where
   pub views : AreViews id view peers
   pub says : text ≡ status_text view peers
 
-module _ {P : Type 0} (size : P → ℕ) (sends : P → ℕ → ℕ → P → Type 0) where
-  -- after a tick at the desk every peer is sent what is due to it, unless memory is refused; after a refusal no peer
-  -- is
+module _ {P : Type 0} (size : P → ℕ) (sends : P → ℕ → ℕ → P → Type 0)
+    (stops : P → ℕ → P → Type 0) where
+  -- after a tick at the desk every peer is sent what is due to it, or each one before that for which memory ran out;
+  -- after a refusal no peer is
   abbrev pub ThenSends : Result Ticked DeskError → P → Result (Ticked × ℕ) DeskError → P → Type 0
   ThenSends (Ok ticked) before (Ok (done, sent)) after
       = (done ≡ ticked) × SendsToFirst sends (size before) before sent after
-  ThenSends (Ok ticked) before (Err fault) after = fault ≡ OutOfMemory
+  ThenSends (Ok ticked) before (Err fault) after =
+      (fault ≡ OutOfMemory) × StopsAtPeer sends stops (size before) before after
   ThenSends (Err fault) before result after = (result ≡ Err fault) × (after ≡ before)
 
-  pub record TicksAndSends (id : DeskId) (was : SeatValue) (before : P) (time : ℕ)
-      (result : Result (Ticked × ℕ) DeskError) (now : SeatValue) (after : P) : Type 0 where
+  pub record TicksAndSends (id : DeskId) (was : SeatedValue) (before : P) (time : ℕ)
+      (result : Result (Ticked × ℕ) DeskError) (now : SeatedValue) (after : P) : Type 0 where
     pub ticked : Result Ticked DeskError
     pub at_desk : TicksAtDesk id was time ticked now
     pub then_sends : ThenSends ticked before result after
 
   -- the same, and this is the text of the reply
-  pub record DoesDue (id : DeskId) (was : SeatValue) (before : P) (time : ℕ) (text : List ℕ) (now : SeatValue)
+  pub record DoesDue (id : DeskId) (was : SeatedValue) (before : P) (time : ℕ) (text : List ℕ) (now : SeatedValue)
       (after : P) : Type 0 where
     pub result : Result (Ticked × ℕ) DeskError
     pub does : TicksAndSends id was before time result now after
@@ -103,7 +94,7 @@ module _ {P : Type 0} (size : P → ℕ) (sends : P → ℕ → ℕ → P → Ty
   -- ---- lines
 
   -- the reply to a line, and its effect on the seat and the peers; `quit` has no reply
-  abbrev pub Says : DeskId → Option SiteCommand → SeatValue → P → List ℕ → SeatValue → P → Type 0
+  abbrev pub Says : DeskId → Option SiteCommand → SeatedValue → P → List ℕ → SeatedValue → P → Type 0
   Says id None was before text now after = (text ≡ bad_command) × (now ≡ was) × (after ≡ before)
   Says id (Some (AtDesk command)) was before text now after = CarriesOut id was command text now × (after ≡ before)
   Says id (Some (Tick time)) was before text now after = DoesDue id was before time text now after
@@ -111,12 +102,12 @@ module _ {P : Type 0} (size : P → ℕ) (sends : P → ℕ → ℕ → P → Ty
   Says id (Some Quit) was before text now after = ⊥
 
   -- `quit` ends the conversation, and no other line does
-  abbrev pub Gets : DeskId → Option SiteCommand → SeatValue → P → Option (List ℕ) → SeatValue → P → Type 0
+  abbrev pub Gets : DeskId → Option SiteCommand → SeatedValue → P → Option (List ℕ) → SeatedValue → P → Type 0
   Gets id command was before (Some text) now after = Says id command was before text now after
   Gets id command was before None now after = (command ≡ Some Quit) × (now ≡ was) × (after ≡ before)
 
   -- the same, for replies that wait to be written
-  abbrev pub GetsBy : Goes → DeskId → Option SiteCommand → SeatValue → P → Waiting → SeatValue → P → Waiting → Type 0
+  abbrev pub GetsBy : Goes → DeskId → Option SiteCommand → SeatedValue → P → Waiting → SeatedValue → P → Waiting → Type 0
   GetsBy On id command was before waits now after waits' =
       (text : List ℕ) × Gets id command was before (Some text) now after × AddsReply waits waits' text
   GetsBy Ends id command was before waits now after waits' =

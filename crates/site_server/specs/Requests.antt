@@ -2,10 +2,7 @@
 use Rattle.std.specs.Prelude.{◌≡◌, ◌⊎◌, ℕ, List, [], ◌∷◌, ◌++◌, Option, Some}
 use Rattle.http.specs.declared.request.Request.{Request}
 use Rattle.http.specs.Request.{body_of}
-use Rattle.std.specs.Io.KnownBytes.{Appends, Consumes}
-use Rattle.http_server.specs.Exchange.{Call, Chain}
-use Rattle.http_server.specs.History.{History, IsServed}
-use Rattle.http_server.specs.declared.state.Config.{Config}
+use Rattle.http_server.specs.Exchange.{Call}
 use Rattle.http_server.specs.declared.response.Response.{Response}
 use Rattle.line_streams.specs.Talk.{lines_of}
 use Rattle.site_core.specs.declared.desk.requests.Spending.TheVariants.{Queued}
@@ -22,17 +19,6 @@ use Rattle.site_http.specs.declared.route.Route.{Route}
 use Rattle.site_http.specs.declared.route.Route.TheVariants.{Commands, Wait}
 use Rattle.site_server.specs.Replying.{asked}
 use Rattle.site_server.specs.Conversations.{IsTurn}
-
--- A connection from beginning to end: what was read from it and written to it has this history, whose calls lead from
--- one state of the service to the other.
-pub record Conversed {S : Type 0} (answers : S → Request (List ℕ) → Response → S
-    → Type 0) (given left held holds : Option (List ℕ)) (old new : S) : Type 0 where
-  pub config : Config
-  pub history : History
-  pub served : ∥ IsServed config history ∥₁
-  pub read : Consumes given left history.received
-  pub written : Appends held holds history.sent
-  pub calls : Chain answers old history.calls new
 
 -- the spend waits
 abbrev pub IsQueued : Reply → Type 0
@@ -69,19 +55,22 @@ AreRouteTurns Commands body r turns = AreBodyTurns IsTurn (lines_of body) r turn
 AreRouteTurns Wait body r turns = AreBodyTurns IsSettledTurn (lines_of body) r turns ⊎ (turns ≡ [])
 AreRouteTurns route body r turns = turns ≡ []
 
-abbrev pub AreCallTurns : Request (List ℕ) → Response → List Turn → Type 0
-AreCallTurns request r turns = (route : Route) × Leads request route × AreRouteTurns route (body_of request) r turns
+-- .. at a site whose host has these names
+abbrev pub AreCallTurns : List (List ℕ) → Request (List ℕ) → Response → List Turn → Type 0
+AreCallTurns names request r turns =
+    (route : Route) × Leads names request route × AreRouteTurns route (body_of request) r turns
 
 -- the turns of all requests, one after another
-abbrev pub AreCallsTurns : List Call → List Turn → Type 0
-AreCallsTurns [] turns = turns ≡ []
-AreCallsTurns (call ∷ calls) turns =
-    (first : List Turn) × (rest : List Turn) × AreCallTurns call.0 call.1 first × AreCallsTurns calls rest
+abbrev pub AreCallsTurns : List (List ℕ) → List Call → List Turn → Type 0
+AreCallsTurns names [] turns = turns ≡ []
+AreCallsTurns names (call ∷ calls) turns =
+    (first : List Turn) × (rest : List Turn) × AreCallTurns names call.0 call.1 first × AreCallsTurns names calls rest
     × (turns ≡ first ++ rest)
 
 -- what the responses to these requests report to the client as issued and as spent is what its seat counts in addition
-pub record CountsCalls (was : SeatValue) (calls : List Call) (now : SeatValue) : Type 0 where
+pub record CountsCalls (names : List (List ℕ)) (was : SeatValue) (calls : List Call)
+    (now : SeatValue) : Type 0 where
   pub turns : List Turn
-  pub are_turns : AreCallsTurns calls turns
+  pub are_turns : AreCallsTurns names calls turns
   pub has_turns : HasTurns was turns now
   pub counted : CountsConfirmed was turns now

@@ -1,38 +1,63 @@
 -- What a client gets that waits for the outcome of its spend.
-use Rattle.std.specs.Prelude.{◌≡◌, ◌⊎◌, ℕ, Bool, true, false, List}
+use Rattle.std.specs.Prelude.{◌≡◌, ◌⊎◌, ℕ, suc, zero, Bool, true, false, List}
 use Rattle.request_queue.specs.declared.request.Status.TheVariants.{Waiting}
 use Rattle.site_core.specs.declared.desk.requests.Spending.TheVariants.{Queued}
 use Rattle.apply_lanes.specs.Names.{DeskId}
-use Rattle.apply_lanes.specs.Kepts.{SeatValue}
 use Rattle.site_words.specs.declared.commands.DeskCommand.{DeskCommand}
 use Rattle.site_words.specs.declared.commands.DeskCommand.TheVariants.{Outcome as AsksOutcome}
 use Rattle.site_node.specs.Texts.{reply_text}
 use Rattle.site_node.specs.declared.reply.Reply.{Reply}
 use Rattle.site_node.specs.declared.reply.Reply.TheVariants.{Spending, Outcome}
-use Rattle.site_server.specs.Replying.{ActsAtDesk}
+use Rattle.desk_turns.specs.Seated.{SeatedValue, ActsAtDesk}
 
 -- the reply says that a spend still waits
 abbrev pub still_waits : Reply → Bool
 still_waits (Outcome Waiting) = true
 still_waits reply = false
 
--- the desk reported, under its lock, the outcome of the spend with this ticket: it no longer waits
-pub record TellsOutcome (id : DeskId) (seat : SeatValue) (ticket : ℕ) (settled : Reply) : Type 0 where
-  pub at_desk : ActsAtDesk id seat (AsksOutcome ticket) settled seat
+-- in one turn, the desk reported that the spend with this ticket waits
+pub record ToldWaiting (id : DeskId) (was : SeatedValue) (ticket : ℕ) (now : SeatedValue) : Type 0 where
+  pub reply : Reply
+  pub at_desk : ActsAtDesk id was (AsksOutcome ticket) reply now
+  pub waits : still_waits reply ≡ true
+
+-- the same in this many turns, one after another
+abbrev pub WaitsFor : DeskId → ℕ → SeatedValue → ℕ → SeatedValue → Type 0
+WaitsFor id zero was ticket now = now ≡ was
+WaitsFor id (suc n) was ticket now = (mid : SeatedValue) × WaitsFor id n was ticket mid × ToldWaiting id mid ticket now
+
+pub record HasWaited (id : DeskId) (was : SeatedValue) (ticket : ℕ) (now : SeatedValue) : Type 0 where
+  pub times : ℕ
+  pub waits : WaitsFor id times was ticket now
+
+-- after such turns, in one more, the desk reported the outcome of the spend with this ticket: it no longer waits
+pub record TellsOutcome (id : DeskId) (was : SeatedValue) (ticket : ℕ) (settled : Reply)
+    (now : SeatedValue) : Type 0 where
+  pub mid : SeatedValue
+  pub waited : HasWaited id was ticket mid
+  pub at_desk : ActsAtDesk id mid (AsksOutcome ticket) settled now
   pub decided : still_waits settled ≡ false
+
+-- after such turns, the site has ended, and the client gets that its spend is queued
+pub record StillQueued (HasEnded : Type 0) (id : DeskId) (was : SeatedValue) (ticket : ℕ) (settled : Reply)
+    (now : SeatedValue) : Type 0 where
+  pub waited : HasWaited id was ticket now
+  pub ended : HasEnded
+  pub queued : settled ≡ Spending (Queued ticket)
 
 -- what a client that waits gets instead of a reply: for a queued spend its outcome, or, if the site has ended, that
 -- it is queued; otherwise the reply itself
-abbrev pub Settles : Type 0 → DeskId → SeatValue → Reply → Reply → Type 0
-Settles HasEnded id seat (Spending (Queued ticket)) settled =
-    TellsOutcome id seat ticket settled ⊎ (HasEnded × (settled ≡ Spending (Queued ticket)))
-Settles HasEnded id seat reply settled = settled ≡ reply
+abbrev pub Settles : Type 0 → DeskId → SeatedValue → Reply → Reply → SeatedValue → Type 0
+Settles HasEnded id was (Spending (Queued ticket)) settled now =
+    TellsOutcome id was ticket settled now ⊎ StillQueued HasEnded id was ticket settled now
+Settles HasEnded id was reply settled now = (settled ≡ reply) × (now ≡ was)
 
--- the desk carried out the command, under its lock, and this is the text of what the client finally gets
-pub record SettlesCommand (HasEnded : Type 0) (id : DeskId) (was : SeatValue) (command : DeskCommand) (text : List ℕ)
-    (now : SeatValue) : Type 0 where
+-- the desk carried out the command in one turn, and this is the text of what the client finally gets
+pub record SettlesCommand (HasEnded : Type 0) (id : DeskId) (was : SeatedValue) (command : DeskCommand) (text : List ℕ)
+    (now : SeatedValue) : Type 0 where
   pub reply : Reply
   pub settled : Reply
-  pub at_desk : ActsAtDesk id was command reply now
-  pub settles : Settles HasEnded id now reply settled
+  pub half : SeatedValue
+  pub at_desk : ActsAtDesk id was command reply half
+  pub settles : Settles HasEnded id half reply settled now
   pub says : text ≡ reply_text settled

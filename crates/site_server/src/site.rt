@@ -7,6 +7,7 @@ ghost use Rattle.apply_lanes.specs.Names.{id_of, AreBlank, IsUnused};
 mod client;
 mod connection;
 mod ending;
+mod locked_outbox;
 mod measuring;
 mod outboxes;
 mod receiving;
@@ -28,6 +29,7 @@ use crate::site::shared::{COMMANDS, Shared};
 use crate::site::starting::start_once;
 use crate::site::ticking::begin_ticks;
 use apply_lanes::{Blanks, DeskNames};
+use desk_turns::Seats;
 use line_streams::ConversationError;
 use site_core::Desk;
 use site_sockets::{PeerState, Site, begin_acceptor, begin_sender};
@@ -81,11 +83,18 @@ fn serve<D: DeskNames + Send + Sync, R: SiteRuntime, I: Read + Drop, W: Write + 
     requires unused { IsUnused desk }
     requires configured { (D.id.site ≡ config.now.id) × (D.id.sites ≡ config.now.sites) }
 {
-    // Each thread owns a reference to the desk: the check lets no thread borrow a value whose type has a parameter.
-    let shared = Arc::new(rt.alloc(), Shared::<D>::new(rt.alloc(), desk, blanks)?)?;
-    shared.give_seats(rt);
+    // Each thread owns references to what it shares: the check lets none borrow a value whose type has a parameter.
+    let shared = Shared::<D>::new(rt, rt.alloc(), desk, blanks)?;
     let links = links_of(rt, rt.alloc(), config, &shared)?;
-    let ended = run_threads(rt, site, config.tick(), &shared, links, reader, writer);
+    let ended = run_threads(
+        rt,
+        site,
+        config.tick(),
+        &shared.seats,
+        links,
+        reader,
+        writer,
+    );
     stop_site(rt, site, config.log(), shared);
     Ok(ended?)
 }
@@ -96,7 +105,7 @@ fn stop_site<D: DeskNames, R: Wait + Eprint + AllocGlobal>(
     rt: &R,
     site: &Site,
     log: bool,
-    shared: Arc<Shared<D>>,
+    shared: Shared<D>,
 ) {
     if log {
         say_unsent(rt, site, &shared);
@@ -116,14 +125,14 @@ fn run_threads<D: DeskNames + Send + Sync, R: SiteRuntime, I: Read + Drop, W: Wr
     rt: &R,
     site: &Site,
     every: Option<u64>,
-    shared: &Arc<Shared<D>>,
+    seats: &Arc<Seats<D>>,
     links: Vec<PeerLink<D>>,
     mut reader: I,
     mut writer: W,
 ) -> Result<(), ConversationError> {
     thread::scope(thread::scope_env(), rt, |scope| {
-        let ended = if begin_all(scope, rt, site, every, shared, links) {
-            answer_commands(rt, site, shared, &mut reader, &mut writer)
+        let ended = if begin_all(scope, rt, site, every, seats, links) {
+            answer_commands(rt, site, seats, &mut reader, &mut writer)
         } else {
             Err(ConversationError::OutOfMemory)
         };
@@ -132,20 +141,18 @@ fn run_threads<D: DeskNames + Send + Sync, R: SiteRuntime, I: Read + Drop, W: Wr
     })
 }
 
-/// Answers the commands, with their seat, which is put back afterwards.
+/// Answers the commands, with their seat.
 fn answer_commands<D: DeskNames, R: Wait + Clock + AllocGlobal, I: Read, W: Write>(
     rt: &R,
     site: &Site,
-    shared: &Arc<Shared<D>>,
+    seats: &Seats<D>,
     reader: &mut I,
     writer: &mut W,
 ) -> Result<(), ConversationError> {
-    let Some(mut client) = client_at(rt, site, shared, COMMANDS) else {
+    let Some(mut client) = client_at(rt, site, seats, COMMANDS) else {
         return Err(ConversationError::OutOfMemory);
     };
-    let ended = client.answer_all(reader, writer);
-    shared.seats.put(rt, COMMANDS, client.into_seat());
-    ended?;
+    client.answer_all(reader, writer)?;
     Ok(())
 }
 
@@ -155,12 +162,12 @@ fn begin_all<'s, E, D: DeskNames + Send + Sync + 's, R: SiteRuntime>(
     rt: &'s R,
     site: &'s Site,
     every: Option<u64>,
-    shared: &Arc<Shared<D>>,
+    seats: &Arc<Seats<D>>,
     links: Vec<PeerLink<D>>,
 ) -> bool {
     let mut has_all = begin_acceptor(scope, rt, site);
-    has_all &= begin_clients(scope, rt, site, shared);
-    has_all &= begin_ticks(scope, rt, site, every, shared);
+    has_all &= begin_clients(scope, rt, site, seats);
+    has_all &= begin_ticks(scope, rt, site, every, seats);
     for link in links {
         has_all &= begin_peer(scope, rt, site, link);
     }

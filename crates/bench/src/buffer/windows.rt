@@ -3,7 +3,7 @@
 use rights_types::{Amount, Entry, Move, SiteId};
 use std::alloc::Global;
 
-/// The number of windows offered in one run.
+/// The number of windows that arrive in one run.
 pub(crate) const WINDOW_COUNT: u32 = 10_000;
 
 /// The order in which the 64 entries of a window come.
@@ -18,8 +18,8 @@ pub(crate) enum Order {
 }
 
 impl Order {
-    /// How many entries are offered for each window.
-    pub(crate) fn offers_per_window(self) -> u64 {
+    /// How many entries arrive for each window.
+    pub(crate) fn arrivals_per_window(self) -> u64 {
         match self {
             Order::Forward => 64,
             Order::Backward => 64,

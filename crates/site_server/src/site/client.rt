@@ -1,34 +1,32 @@
 //! The replies to a client of a site. site_node decides what is done and replied; this module decides under which
 //! lock of the desk it is done.
 ghost use Rattle.std.specs.Prelude.{◌≡◌, ◌++◌, ◌+◌, ◌≤◌, ◌⊎◌, List, ℕ, [], length, IfOk, OnOk, OnErr, Result, Ok};
-ghost use Rattle.std.specs.List.{All};
 ghost use Rattle.std.specs.Io.KnownBytes.{IsAtEnd};
 ghost use Rattle.line_streams.specs.Handling.{IsGiven};
 ghost use Rattle.line_streams.specs.Talk.{Talk, EndsBy};
 ghost use Rattle.line_streams.specs.Waiting.{AddsReply};
 ghost use Rattle.reply_texts.specs.Texts.{bad_command};
 ghost use Rattle.site_words.specs.Status.{status_text};
-ghost use Rattle.site_server.specs.Replying.{asked, ActsAtDesk, CarriesOut, TicksAtDesk, AreViews, IsApplied};
+ghost use Rattle.desk_turns.specs.Seated.{ActsAtDesk, TicksAtDesk};
+ghost use Rattle.site_server.specs.Replying.{asked, CarriesOut, AreOfPeers, AreViews};
 ghost use Rattle.site_server.specs.Replying.{TellsStatus, TicksAndSends, DoesDue, Gets, GetsBy};
 ghost use Rattle.site_server.specs.Conversations.{CountsReplies};
 
 use crate::site::outboxes::Outboxes;
-use crate::site::shared::Shared;
 use crate::site::tick_signal::{SiteTickSignal, TickSignal};
-use apply_lanes::{DeskNames, DeskView, Seat};
+use apply_lanes::{DeskNames, DeskView};
+use desk_turns::{Seated, Seats};
 use line_streams::{ConversationError, EndedBy, Goes, LineHandler, Replies, answer_lines};
 use reply_texts::{REPLY_ROOM, put_bad_command};
 use rights_types::OutOfMemory;
 use site_core::{Desk, DeskError};
-use site_node::{
-    Peers, Reply, TICK_ROOM, Ticked, act, answer_reply, answer_tick, send_to_all, serve_due,
-};
-use site_sockets::Site;
+use site_node::{Peers, Reply, TICK_ROOM, Ticked, answer_reply, answer_tick, send_to_all};
+use site_sockets::{PeerState, Site};
 use site_words::{DeskCommand, PeerView, SiteCommand, read_command, status_text};
 use std::alloc::{Allocator, Global};
 use std::io::{Read, Write};
 use std::marker::Model;
-use std::sync::{Arc, Wait};
+use std::sync::Wait;
 use std::time::Clock;
 
 /// A client of a site: a seat at its desk, its peers, and what notifies it of ticks.
@@ -37,10 +35,9 @@ pub(crate) struct SiteClient<'a, D: DeskNames, R: Wait, P: Peers + Drop, B: Tick
     pub(crate) rt: &'a R,
     pub(crate) alloc: Global,
     pub(crate) site: &'a Site,
-    pub(crate) shared: Arc<Shared<D>>,
     /// The index of its seat, under which its replies are counted.
     pub(crate) place: usize,
-    pub(crate) seat: Seat<D>,
+    pub(crate) seat: Seated<'a, D>,
     pub(crate) peers: P,
     pub(crate) signal: B,
 }
@@ -51,7 +48,11 @@ impl<'a, D: DeskNames, R: Wait, P: Peers + Drop, B: TickSignal + Drop> Model
 
     ghost Value = { ClientValue P B };
 
-    ghost view = { λ c. record { seat = c.seat; peers = c.peers; signal = c.signal } };
+    ghost view = { λ c. record {
+      seat = c.seat;
+      peers = c.peers;
+      signal = c.signal;
+    } };
 }
 
 /// A client of a running site.
@@ -63,18 +64,18 @@ pub(crate) type ClientOf<'a, D, R> = SiteClient<
     SiteTickSignal<'a, R>,
 >;
 
-/// A client with the seat at this index. `None` if that seat is taken, or memory was refused; then no seat is taken.
+/// A client with the seat at this index, which is free again once the client is dropped. `None` if that seat is taken,
+/// or memory was refused; then no seat is taken.
 pub(crate) fn client_at<'a, D: DeskNames, R: Wait + Clock + AllocGlobal>(
     rt: &'a R,
     site: &'a Site,
-    shared: &Arc<Shared<D>>,
+    seats: &'a Seats<D>,
     place: usize,
 ) -> Option<ClientOf<'a, D, R>> {
-    let peers = Outboxes::new(rt, shared.clone().ok()?, site.peers())?;
+    let peers = Outboxes::new(rt, seats.turns()?, site.peers())?;
     let signal = SiteTickSignal::new(rt, &site.tick_notifier);
-    let desk = shared.clone().ok()?;
-    let seat = shared.seats.take(rt, place)?;
-    Some(SiteClient::new(rt, rt.alloc(), site, desk, place, seat, peers, signal))
+    let seat = seats.sit(place)?;
+    Some(SiteClient::new(rt, rt.alloc(), site, place, seat, peers, signal))
 }
 
 /// The command that a line spells, which is passed without its line feed; `None` is passed for a line that is too
@@ -111,38 +112,45 @@ pub(crate) fn add_status<A: Allocator>(
     replies.finish()
 }
 
+/// For each of these peers, in order, how far the desk has applied its log, and what its reading thread recorded last.
+fn peer_views(alloc: Global, desk: &Desk, peers: &[PeerState]) -> Result<Vec<PeerView>, OutOfMemory>
+    ensures { IfOk result (λ views. AreOfPeers desk.now peers.now views.items) }
+{
+    let mut views = Vec::with_capacity(alloc, peers.len())?;
+    for peer in peers {
+        let (buffering, held) = peer.buffer();
+        views.push(PeerView {
+            site: peer.site,
+            applied: desk.applied(peer.site),
+            buffering,
+            held,
+        })?;
+    }
+    Ok(views)
+}
+
 impl<'a, D: DeskNames, R: Wait, P: Peers + Drop, B: TickSignal + Drop> SiteClient<'a, D, R, P, B> {
     /// A client with this seat.
     pub(crate) fn new(
         rt: &'a R,
         alloc: Global,
         site: &'a Site,
-        shared: Arc<Shared<D>>,
         place: usize,
-        seat: Seat<D>,
+        seat: Seated<'a, D>,
         peers: P,
         signal: B,
     ) -> SiteClient<'a, D, R, P, B>
-        ensures { result ≡ record { seat = seat; peers = peers; signal = signal } }
+        ensures { result ≡ record { seat = seat.entry; peers = peers; signal = signal } }
     {
         SiteClient {
             rt,
             alloc,
             site,
-            shared,
             place,
             seat,
             peers,
             signal,
         }
-    }
-
-    /// Takes the client apart, and returns its seat.
-    pub(crate) fn into_seat(self) -> Seat<D>
-        ensures { result ≡ self.entry.seat }
-    {
-        let SiteClient { seat, .. } = self;
-        seat
     }
 
     /// Answers each line of the input until `quit` or its end. However it ends, what the replies reported to the
@@ -153,10 +161,11 @@ impl<'a, D: DeskNames, R: Wait, P: Peers + Drop, B: TickSignal + Drop> SiteClien
         writer: &mut W,
     ) -> Result<EndedBy, ConversationError>
         ensures ends { (talk : Talk
-            (λ before line text after. Gets P.size P.sends D.id (asked line) before.seat before.peers text
+            (λ before line text after. Gets P.size P.sends P.stops D.id (asked line) before.seat before.peers text
             after.seat after.peers)
             self.old (I.remaining reader.old) (I.remaining reader.new) (W.contents writer.old) (W.contents writer.new))
-            × EndsBy result talk × CountsReplies self.old.seat talk.lines talk.replies self.new.seat }
+            × EndsBy result talk × CountsReplies self.old.seat.told talk.lines talk.replies
+            self.new.seat.told }
         ensures all { result ≡ Ok EndedBy.Input → IsAtEnd (I.remaining reader.new) }
     {
         answer_lines(self.alloc, self, reader, writer)
@@ -182,23 +191,19 @@ impl<'a, D: DeskNames, R: Wait, P: Peers + Drop, B: TickSignal + Drop> SiteClien
         Ok(())
     }
 
-    /// Carries out a command at the desk, under its lock.
+    /// Carries out a command at the desk, in one turn.
     pub(crate) fn act(&mut self, command: DeskCommand) -> Reply
         ensures acts { ActsAtDesk D.id self.old.seat command result self.new.seat }
         ensures rest { self.new ≡ record self.old { seat = self.new.seat } }
     {
-        let mut kept = self.shared.lock(self.rt);
-        let kept = &mut *kept;
-        // For the proof: what holds whenever the lock is free.
-        let _ = kept.desk();
-        act(kept, &mut self.seat, command)
+        self.seat.act(self.rt, command)
     }
 
     /// Does everything due at this time, and adds the reply.
     fn tick<A: Allocator>(&mut self, time: u64, replies: &mut Replies<A>) -> Result<(), OutOfMemory>
         requires { replies.old.part ≡ [] }
         ensures ok { OnOk result ((text : List ℕ)
-            × DoesDue P.size P.sends D.id self.old.seat self.old.peers time text self.new.seat self.new.peers
+            × DoesDue P.size P.sends P.stops D.id self.old.seat self.old.peers time text self.new.seat self.new.peers
             × AddsReply replies.old replies.new text) }
         ensures short { OnOk result (length replies.new.whole ≤ length replies.old.whole + TICK_ROOM) }
         ensures err { OnErr result ((self.new ≡ self.old) × (replies.new.whole ≡ replies.old.whole)) }
@@ -213,7 +218,7 @@ impl<'a, D: DeskNames, R: Wait, P: Peers + Drop, B: TickSignal + Drop> SiteClien
     /// Does everything due at this time, which is the wall clock's, with no reply.
     pub(crate) fn tick_alone(&mut self, time: u64)
         ensures { (outcome : Result (Ticked × ℕ) DeskError)
-            × TicksAndSends P.size P.sends D.id self.old.seat self.old.peers time outcome self.new.seat self.new.peers }
+            × TicksAndSends P.size P.sends P.stops D.id self.old.seat self.old.peers time outcome self.new.seat self.new.peers }
     {
         let _ = self.tick_and_send(time);
     }
@@ -221,7 +226,7 @@ impl<'a, D: DeskNames, R: Wait, P: Peers + Drop, B: TickSignal + Drop> SiteClien
     /// Does what is due at the desk under its lock, and then sends each peer what is due to it. In between, entries
     /// of peers may be applied.
     fn tick_and_send(&mut self, time: u64) -> Result<(Ticked, u64), DeskError>
-        ensures { TicksAndSends P.size P.sends D.id self.old.seat self.old.peers time result self.new.seat
+        ensures { TicksAndSends P.size P.sends P.stops D.id self.old.seat self.old.peers time result self.new.seat
             self.new.peers }
     {
         let ticked = self.tick_at_desk(time);
@@ -235,11 +240,7 @@ impl<'a, D: DeskNames, R: Wait, P: Peers + Drop, B: TickSignal + Drop> SiteClien
         ensures ticks { TicksAtDesk D.id self.old.seat time result self.new.seat }
         ensures rest { self.new ≡ record self.old { seat = self.new.seat } }
     {
-        let mut kept = self.shared.lock(self.rt);
-        let kept = &mut *kept;
-        // For the proof: what holds whenever the lock is free.
-        let _ = kept.desk();
-        serve_due(kept, &mut self.seat, time)
+        self.seat.tick(self.rt, time)
     }
 
     /// Adds the status object.
@@ -259,27 +260,10 @@ impl<'a, D: DeskNames, R: Wait, P: Peers + Drop, B: TickSignal + Drop> SiteClien
     pub(crate) fn views(&self) -> Result<(DeskView, Vec<PeerView>), OutOfMemory>
         ensures { IfOk result (λ views. AreViews D.id views.0 views.1.items) }
     {
-        let kept = self.shared.lock(self.rt);
-        let kept = &*kept;
-        let peers = self.peer_views(kept.desk())?;
+        let look = self.seat.look(self.rt);
+        let kept = look.kept();
+        let peers = peer_views(self.alloc, kept.desk(), self.site.peers())?;
         Ok((kept.view(), peers))
-    }
-
-    /// For each peer, how far the desk has applied its log, and what its reading thread recorded last.
-    fn peer_views(&self, desk: &Desk) -> Result<Vec<PeerView>, OutOfMemory>
-        ensures { IfOk result (λ peers. All (IsApplied desk.now) peers.items) }
-    {
-        let mut peers = Vec::with_capacity(self.alloc, self.site.peers().len())?;
-        for peer in self.site.peers() {
-            let (buffering, held) = peer.buffer();
-            peers.push(PeerView {
-                site: peer.site,
-                applied: desk.applied(peer.site),
-                buffering,
-                held,
-            })?;
-        }
-        Ok(peers)
     }
 
     /// Counts a reply, given with its line feed.
@@ -294,7 +278,7 @@ impl<'a, D: DeskNames, R: Wait, P: Peers + Drop, B: TickSignal + Drop> SiteClien
         replies: &mut Replies<A>,
     ) -> Result<Goes, OutOfMemory>
         requires { replies.old.part ≡ [] }
-        ensures ok { IfOk result (λ goes. GetsBy P.size P.sends goes D.id command self.old.seat self.old.peers
+        ensures ok { IfOk result (λ goes. GetsBy P.size P.sends P.stops goes D.id command self.old.seat self.old.peers
             replies.old self.new.seat self.new.peers replies.new) }
         ensures short { OnOk result ((length replies.new.whole ≤ length replies.old.whole + TICK_ROOM)
             ⊎ (self.new ≡ self.old)) }
@@ -315,7 +299,7 @@ impl<D: DeskNames, R: Wait, P: Peers + Drop, B: TickSignal + Drop> LineHandler
     for SiteClient<'_, D, R, P, B> {
     ghost use Rattle.site_server.specs.Replying.{asked, Gets};
 
-    ghost answers = { λ before line text after. Gets P.size P.sends D.id (asked line) before.seat before.peers text
+    ghost answers = { λ before line text after. Gets P.size P.sends P.stops D.id (asked line) before.seat before.peers text
         after.seat after.peers };
 
     // No command was carried out whose reply had no room.

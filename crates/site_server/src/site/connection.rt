@@ -24,7 +24,7 @@ impl<D: DeskNames, R: Wait, P: Peers + Drop, B: TickSignal + Drop> SiteClient<'_
     ) -> Result<(), OutOfMemory>
         requires { replies.old.part ≡ [] }
         ensures ok { OnOk result ((text : List ℕ)
-            × Tells P.size P.sends D.id command self.old.seat self.old.peers text self.new.seat self.new.peers
+            × Tells P.size P.sends P.stops D.id command self.old.seat self.old.peers text self.new.seat self.new.peers
             × AddsReply replies.old replies.new text) }
         ensures short { OnOk result ((length replies.new.whole ≤ length replies.old.whole + TICK_ROOM)
             ⊎ (self.new ≡ self.old)) }
@@ -50,7 +50,7 @@ impl<D: DeskNames, R: Wait, P: Peers + Drop, B: TickSignal + Drop> SiteClient<'_
     ) -> Result<(), OutOfMemory>
         requires { replies.old.part ≡ [] }
         ensures ok { OnOk result ((text : List ℕ)
-            × TellsSettled P.size P.sends (B.has_ended self.old.signal) D.id command self.old.seat self.old.peers text
+            × TellsSettled P.size P.sends P.stops (B.has_ended self.old.signal) D.id command self.old.seat self.old.peers text
             self.new.seat self.new.peers × AddsReply replies.old replies.new text) }
         ensures short { OnOk result ((length replies.new.whole ≤ length replies.old.whole + TICK_ROOM)
             ⊎ (self.new ≡ self.old)) }
@@ -71,7 +71,7 @@ impl<D: DeskNames, R: Wait, P: Peers + Drop, B: TickSignal + Drop> SiteClient<'_
     ) -> Result<(), OutOfMemory>
         requires { replies.old.part ≡ [] }
         ensures ok { OnOk result ((text : List ℕ)
-            × TellsBy P.size P.sends waits (B.has_ended self.old.signal) D.id command self.old.seat self.old.peers text
+            × TellsBy P.size P.sends P.stops waits (B.has_ended self.old.signal) D.id command self.old.seat self.old.peers text
             self.new.seat self.new.peers × AddsReply replies.old replies.new text) }
         ensures short { OnOk result ((length replies.new.whole ≤ length replies.old.whole + TICK_ROOM)
             ⊎ (self.new ≡ self.old)) }
@@ -91,7 +91,7 @@ impl<D: DeskNames, R: Wait, P: Peers + Drop, B: TickSignal + Drop> Client
     ghost use Rattle.site_server.specs.Connections.{Answers};
     ghost use Rattle.site_server.specs.Measuring.{TellsMetrics, TellsClosed};
 
-    ghost answers = { Answers P.size P.sends B.has_ended D.id };
+    ghost answers = { Answers P.size P.sends P.stops B.has_ended D.id };
 
     ghost status = { λ _ text. TellsStatus D.id text };
 
@@ -108,6 +108,10 @@ impl<D: DeskNames, R: Wait, P: Peers + Drop, B: TickSignal + Drop> Client
         self.tell_by(waits, command_in(text), replies)?;
         self.count_reply(replies.whole());
         Ok(())
+    }
+
+    fn has_room(&self, len: usize) -> bool {
+        self.site.has_room(self.rt, self.place, len)
     }
 
     fn put_status(&self, replies: &mut Replies<Global>) -> Result<(), OutOfMemory> {

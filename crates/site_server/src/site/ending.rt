@@ -14,7 +14,7 @@ use std::sync::{Arc, Wait};
 /// Why there is no report of a desk.
 #[derive(Clone, Copy)]
 pub(crate) enum NoReport {
-    /// A thread still uses the desk, or a seat or what an applier reports was not returned.
+    /// A thread still uses the desk or its seats, or what an applier reports was not left.
     Missing,
     /// A memory request was refused.
     OutOfMemory,
@@ -26,25 +26,27 @@ impl From<OutOfMemory> for NoReport {
     }
 }
 
-/// Stops the desk, whose seats and appliers have all been returned.
-pub(crate) fn stop_desk<D: DeskNames>(
-    alloc: Global,
-    shared: Arc<Shared<D>>,
-) -> Result<Report, NoReport>
+/// Stops the desk, whose seats are all free and whose appliers are done.
+pub(crate) fn stop_desk<D: DeskNames>(alloc: Global, shared: Shared<D>) -> Result<Report, NoReport>
     ensures { IfOk result (λ report. StopsDesk D.id report) }
 {
-    let Ok(shared) = Arc::try_unwrap(shared) else {
-        return Err(NoReport::Missing);
-    };
     let Shared {
         desk,
         seats,
         applied,
     } = shared;
+    let (Ok(seats), Ok(applied)) = (Arc::try_unwrap(seats), Arc::try_unwrap(applied)) else {
+        return Err(NoReport::Missing);
+    };
+    let seats = seats.into_vec(alloc)?;
+    let applied = applied.into_vec(alloc)?;
+    let Ok(desk) = Arc::try_unwrap(desk) else {
+        return Err(NoReport::Missing);
+    };
     let parts = Parts {
-        desk,
-        seats: seats.into_vec(alloc)?,
-        applied: applied.into_vec(alloc)?,
+        desk: desk.into_desk(),
+        seats,
+        applied,
     };
     match stop(parts) {
         Ok(report) => Ok(report),
@@ -65,8 +67,8 @@ fn sent_to_peers(alloc: Global, site: &Site) -> Result<Vec<u64>, OutOfMemory> {
 fn unsent<D: DeskNames, R: Wait>(rt: &R, shared: &Shared<D>, sent: &[u64]) -> Option<(u64, u64)>
     ensures { TellsUnsent D.id sent.now result }
 {
-    let kept = shared.lock(rt);
-    let kept = &*kept;
+    let look = shared.desk.look(rt);
+    let kept = look.kept();
     unsent_numbers(kept.desk().number(), sent)
 }
 

@@ -96,8 +96,8 @@ impl<D: DeskNames, R: Wait, P: Peers + Drop, B: TickSignal + Drop> SiteClient<'_
     fn desk_values(&self) -> Result<(DeskValues, Vec<PeerMetrics>), OutOfMemory>
         ensures { IfOk result (λ values. AreValues D.id values.0 values.1.items) }
     {
-        let kept = self.shared.lock(self.rt);
-        let kept = &*kept;
+        let look = self.seat.look(self.rt);
+        let kept = look.kept();
         let peers = self.peer_metrics(kept.desk())?;
         let values = DeskValues {
             view: kept.view(),
@@ -122,8 +122,8 @@ impl<D: DeskNames, R: Wait, P: Peers + Drop, B: TickSignal + Drop> SiteClient<'_
     pub(crate) fn closed(&self) -> bool
         ensures { TellsClosed D.id result }
     {
-        let kept = self.shared.lock(self.rt);
-        let kept = &*kept;
+        let look = self.seat.look(self.rt);
+        let kept = look.kept();
         kept.desk().log().closed()
     }
 }

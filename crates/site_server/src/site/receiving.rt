@@ -2,9 +2,13 @@
 ghost use Rattle.std.specs.Prelude.{◌≡◌, ◌≢◌, ◌≤◌, false, [], IfOk};
 ghost use Rattle.site_server.specs.Hearing.{IsBufferAt, IsForDesk, HandlesAtDesk};
 
-use crate::site::outboxes::PeerOutbox;
+use crate::site::outboxes::{PeerOutbox, QuerySink};
 use crate::site::shared::Shared;
-use apply_lanes::{Applier, DeskNames, Free, Intake, MAX_LANE, Outlet, StepError, lane};
+use crate::site::slots::Slots;
+use apply_lanes::{
+    Applied, Applier, DeskNames, Free, Intake, Kept, MAX_LANE, Outlet, StepError, lane,
+};
+use desk_turns::{TurnDesk, Turns, Work};
 use line_streams::{first_number, only_number, split_word};
 use peer_links::{DeskMessage, Port, Skipped, read_link};
 use rights_types::{OutOfMemory, SiteId};
@@ -14,7 +18,7 @@ use site_sockets::{Connection, PeerReader, PeerState, Site, SkipCause};
 use site_words::Config;
 use std::alloc::Global;
 use std::io::Eprint;
-use std::marker::Model;
+use std::marker::{Model, PhantomData};
 use std::sync::{Arc, Wait};
 use sub_buffer::State;
 
@@ -29,7 +33,7 @@ pub(crate) struct PeerLink<D: DeskNames> {
 /// The reading end of a link.
 #[derive(Drop)]
 pub(crate) struct Receiver<D: DeskNames> {
-    shared: Arc<Shared<D>>,
+    desk: Arc<TurnDesk<D>>,
     intake: Intake,
 }
 
@@ -49,9 +53,11 @@ impl<D: DeskNames> Model for Receiver<D> {
 /// The applying end of a link.
 #[derive(Drop)]
 pub(crate) struct LaneEnd<D: DeskNames> {
-    shared: Arc<Shared<D>>,
+    desk: Arc<TurnDesk<D>>,
     origin: SiteId,
     applier: Applier<D, Free>,
+    /// Where what it applied is left at the end.
+    applied: Arc<Slots<Applied<D>>>,
 }
 
 /// A link for each peer.
@@ -59,7 +65,7 @@ pub(crate) fn links_of<D: DeskNames, R: Wait>(
     rt: &R,
     alloc: Global,
     config: &Config,
-    shared: &Arc<Shared<D>>,
+    shared: &Shared<D>,
 ) -> Result<Vec<PeerLink<D>>, OutOfMemory>
     requires { (D.id.site ≡ config.now.id) × (D.id.sites ≡ config.now.sites) }
 {
@@ -77,7 +83,7 @@ fn link_of<D: DeskNames, R: Wait>(
     rt: &R,
     alloc: Global,
     config: &Config,
-    shared: &Arc<Shared<D>>,
+    shared: &Shared<D>,
     origin: SiteId,
 ) -> Result<Option<PeerLink<D>>, OutOfMemory>
     requires { (D.id.site ≡ config.now.id) × (D.id.sites ≡ config.now.sites) }
@@ -88,7 +94,7 @@ fn link_of<D: DeskNames, R: Wait>(
     let (intake, outlet) = intake_of(alloc, config, origin)?;
     Ok(Some(PeerLink {
         origin,
-        receiver: Receiver::new(shared, intake)?,
+        receiver: Receiver::new(shared.desk.clone()?, intake),
         applier: LaneEnd::new(rt, shared, origin, outlet)?,
     }))
 }
@@ -112,47 +118,47 @@ fn intake_of(
 impl<D: DeskNames> LaneEnd<D> {
     fn new<R: Wait>(
         rt: &R,
-        shared: &Arc<Shared<D>>,
+        shared: &Shared<D>,
         origin: SiteId,
         outlet: Outlet,
     ) -> Result<LaneEnd<D>, OutOfMemory>
         requires { outlet.taken ≡ [] }
     {
-        let Ok(applier) = shared.desk.applier(rt, origin, outlet, Free) else {
+        let Ok(applier) = shared.desk.applier(rt, origin, outlet) else {
             // Each peer is another site, and gets its only applier here, so this is not reached.
             return Err(OutOfMemory);
         };
         Ok(LaneEnd {
-            shared: shared.clone()?,
+            desk: shared.desk.clone()?,
             origin,
             applier,
+            applied: shared.applied.clone()?,
         })
     }
 
-    /// Applies the entries until the end of the lane, all that wait under one hold of the desk's lock, and keeps what
-    /// the applier reports until the site ends. An error ends the link: its lines are then skipped.
-    pub(crate) fn apply_all<R: Wait>(mut self, rt: &R, site: &Site) {
-        if let Err(StepError::OutOfMemory) = self.applier.run_ready(rt, &self.shared.desk) {
+    /// Applies the entries until the end of the lane, and leaves what the applier reports for the end of the site. An
+    /// error ends the link: its lines are then skipped.
+    pub(crate) fn apply_all<R: Wait>(self, rt: &R, site: &Site) {
+        let LaneEnd {
+            desk,
+            origin,
+            mut applier,
+            applied,
+        } = self;
+        let mut turns = Turns::new(desk);
+        if let Err(StepError::OutOfMemory) = turns.apply_all(rt, &mut applier) {
             site.fail();
         }
-        let LaneEnd {
-            shared,
-            origin,
-            applier,
-        } = self;
-        shared.put_applied(rt, origin, applier.done());
+        applied.put(rt, origin.number() as usize - 1, applier.done());
     }
 }
 
 impl<D: DeskNames> Receiver<D> {
-    fn new(shared: &Arc<Shared<D>>, intake: Intake) -> Result<Receiver<D>, OutOfMemory>
+    fn new(desk: Arc<TurnDesk<D>>, intake: Intake) -> Receiver<D>
         requires open { intake.finished ≡ false }
         requires of_desk { IsBufferAt D.id intake.inbound.buffer }
     {
-        Ok(Receiver {
-            shared: shared.clone()?,
-            intake,
-        })
+        Receiver { desk, intake }
     }
 
     /// Reads the connections of this peer, one after another, until the connection slot is closed.
@@ -166,19 +172,19 @@ impl<D: DeskNames> Receiver<D> {
             peer.connection_slot.finish(rt);
             peer.events.receives_no_more(rt);
         }
-        let Receiver {
-            shared: _,
-            mut intake,
-        } = self;
+        let Receiver { mut intake, .. } = self;
         let _ = intake.finish(rt);
     }
 
-    /// Reads one connection to its end, or until an error, which has the same effect.
+    /// Reads one connection to its end, or until an error, which has the same effect, as has a want of memory.
     fn receive<R: Wait + Eprint>(&mut self, rt: &R, peer: &PeerState, connection: Connection) {
         let Connection { stream, mut cutter } = connection;
+        let Ok(desk) = self.desk.clone() else {
+            return;
+        };
         let mut port = SitePort {
             rt,
-            shared: &self.shared,
+            turns: Turns::new(desk),
             peer,
             outbox: PeerOutbox::new(rt, peer),
         };
@@ -190,33 +196,60 @@ impl<D: DeskNames> Receiver<D> {
 /// What a reading thread does with messages that are not for its buffer. They go to the desk, under its lock, and the
 /// answers go into the peer's outbox.
 #[derive(Drop)]
-struct SitePort<'a, D: DeskNames, E, S: Sink + Drop> {
+struct SitePort<'a, D: DeskNames, E, S: QuerySink + Drop> {
     rt: &'a E,
-    shared: &'a Shared<D>,
+    turns: Turns<D>,
     peer: &'a PeerState,
     outbox: S,
 }
 
-impl<D: DeskNames, E: Wait + Eprint, S: Sink + Drop> SitePort<'_, D, E, S> {
-    fn handle(&mut self, message: DeskMessage) -> Result<(), OutOfMemory>
-        requires { IsForDesk D.id message }
-        ensures { HandlesAtDesk S.takes D.id message self.old.outbox result self.new.outbox }
-    {
-        let mut kept = self.shared.lock(self.rt);
-        let kept = &mut *kept;
-        // Also for the proof: what holds whenever the lock is free.
-        let end = kept.desk().number();
+/// In one turn, a message is handled at the desk, and its answer goes into the outbox.
+#[derive(Drop)]
+struct Handle<'a, S> {
+    peer: &'a PeerState,
+    message: DeskMessage,
+    outbox: PhantomData<S>,
+}
+
+impl<D: DeskNames, S: Sink> Work<D> for Handle<'_, S> {
+    ghost use Rattle.site_server.specs.Hearing.{IsForDesk, Handles};
+
+    type With = S;
+
+    type Told = Result<(), OutOfMemory>;
+
+    ghost may = { λ w. IsForDesk D.id w.message };
+
+    ghost does = { λ w before old result after new. Handles S.takes old w.message before result new after };
+
+    fn work(self, kept: &mut Kept<D>, with: &mut S) -> Result<(), OutOfMemory> {
+        let Handle { peer, message, .. } = self;
         match message {
             DeskMessage::Query(query) => {
-                self.peer.events.offers(end);
-                answer_query(kept, &query, &mut self.outbox)
+                peer.events.offers(kept.desk().number());
+                answer_query(kept, &query, with)
             }
-            DeskMessage::Ask(ask) => answer_ask(kept, &ask, &mut self.outbox),
+            DeskMessage::Ask(ask) => answer_ask(kept, &ask, with),
             DeskMessage::Deny(denial) => {
                 note_denial(kept, &denial);
                 Ok(())
             }
         }
+    }
+}
+
+impl<D: DeskNames, E: Wait + Eprint, S: QuerySink + Drop> SitePort<'_, D, E, S> {
+    fn handle(&mut self, message: DeskMessage) -> Result<(), OutOfMemory>
+        requires { IsForDesk D.id message }
+        ensures { HandlesAtDesk S.takes D.id message self.old.turns self.old.outbox result self.new.turns
+            self.new.outbox }
+    {
+        let work = Handle {
+            peer: self.peer,
+            message,
+            outbox: PhantomData,
+        };
+        self.turns.take(self.rt, work, &mut self.outbox)
     }
 
     /// Records which entries a query requests.
@@ -226,12 +259,18 @@ impl<D: DeskNames, E: Wait + Eprint, S: Sink + Drop> SitePort<'_, D, E, S> {
         }
     }
 
+    /// How far the desk has applied the peer's log.
+    fn applied(&self) -> u64 {
+        let look = self.turns.look(self.rt);
+        look.kept().desk().applied(self.peer.site)
+    }
+
     /// Records a beat with a number below what was applied of the peer's log.
     fn note_beat(&self, line: &[u8]) {
         let Some(number) = end_in(line) else {
             return;
         };
-        let applied = self.shared.lock(self.rt).desk().applied(self.peer.site);
+        let applied = self.applied();
         if number < applied {
             self.peer.events.goes_back(self.rt, number, applied);
         }
@@ -265,12 +304,13 @@ fn skip_cause(why: Skipped) -> SkipCause {
     }
 }
 
-impl<D: DeskNames, E: Wait + Eprint, S: Sink + Drop> Port for SitePort<'_, D, E, S> {
+impl<D: DeskNames, E: Wait + Eprint, S: QuerySink + Drop> Port for SitePort<'_, D, E, S> {
     ghost use Rattle.site_server.specs.Hearing.{IsForDesk, Hears};
 
     ghost accepts = { λ message. IsForDesk D.id message };
 
-    ghost hears = { λ before heard after. Hears S.takes D.id before.outbox heard after.outbox };
+    ghost hears = { λ before heard after. Hears S.takes S.queries D.id before.turns before.outbox heard after.turns
+        after.outbox };
 
     fn message<R: Wait>(&mut self, _rt: &R, message: DeskMessage) -> Result<(), OutOfMemory> {
         self.handle(message)
@@ -278,7 +318,7 @@ impl<D: DeskNames, E: Wait + Eprint, S: Sink + Drop> Port for SitePort<'_, D, E,
 
     fn line<R: Wait>(&mut self, _rt: &R, line: Vec<u8>) {
         self.note_query(line.as_slice());
-        self.outbox.offer(line);
+        self.outbox.send_query(line);
     }
 
     fn seen<R: Wait>(&mut self, _rt: &R, state: State, held: usize) {

@@ -1,17 +1,18 @@
 //! Clients over HTTP: a thread and a seat for each connection.
-ghost use Rattle.std.specs.Prelude.{◌≡◌};
-ghost use Rattle.site_http.specs.Responding.{Responds};
-ghost use Rattle.site_server.specs.Requests.{Conversed, CountsCalls};
+ghost use Rattle.std.specs.Prelude.{map};
+ghost use Rattle.std.specs.String.{string_bytes};
+ghost use Rattle.site_http.specs.Conversing.{Conversed};
+ghost use Rattle.site_server.specs.Requests.{CountsCalls};
 ghost use Rattle.site_server.specs.Connections.{Responded};
 
 use crate::site::client::{SiteClient, client_at};
-use crate::site::shared::Shared;
 use crate::site::tick_signal::TickSignal;
 use apply_lanes::DeskNames;
+use desk_turns::Seats;
 use http_server::{Connection, serve};
-use site_http::{Busy, Client, ClientService, service_config};
+use site_http::{Busy, converse, service_config};
 use site_node::Peers;
-use site_sockets::{Accepted, Clients, Site, bounded_reader};
+use site_sockets::{Accepted, ClientPlace, Clients, ClosingPlace, Site, bounded_reader};
 use std::alloc::Global;
 use std::hash::RandomState;
 use std::io::{Eprint, Read, Write};
@@ -22,26 +23,9 @@ use std::thread;
 use std::thread::{Scope, Threads};
 use std::time::Clock;
 
-/// Answers the requests of a connection, until its end.
-fn converse<C: Client + Drop, I: Read, W: Write>(
-    alloc: Global,
-    keys: RandomState,
-    client: C,
-    reader: &mut I,
-    writer: &mut W,
-) -> C
-    ensures { Conversed (Responds C.answers C.status C.metrics C.closed)
-        (I.remaining reader.old) (I.remaining reader.new) (W.contents writer.old)
-        (W.contents writer.new) client result }
-{
-    let mut connection = Connection::new(alloc, keys, service_config());
-    let mut service = ClientService::new(alloc, client);
-    let _ = serve(&mut connection, &mut service, reader, writer);
-    service.into_client()
-}
-
-/// The same for a client with a seat. However the connection ends, what the responses reported to the client as
-/// issued and as spent is what the seat counts in addition.
+/// Answers the requests of a connection to a site whose host has these names, for a client with a seat, until its end.
+/// However it ends, what the responses reported to the client as issued and as spent is what the seat counts in
+/// addition.
 fn answer_requests<
     'a,
     D: DeskNames,
@@ -53,38 +37,39 @@ fn answer_requests<
 >(
     alloc: Global,
     keys: RandomState,
+    names: &[String],
     client: SiteClient<'a, D, R, P, B>,
     reader: &mut I,
     writer: &mut W,
 ) -> SiteClient<'a, D, R, P, B>
-    ensures { (talk : Conversed (Responded P.size P.sends B.has_ended D.id)
+    ensures { (talk : Conversed (Responded P.size P.sends P.stops B.has_ended D.id (map string_bytes names.now))
         (I.remaining reader.old) (I.remaining reader.new) (W.contents writer.old)
         (W.contents writer.new) client.entry result)
-        × CountsCalls client.entry.seat talk.history.calls result.seat }
+        × CountsCalls (map string_bytes names.now) client.entry.seat.told talk.history.calls result.seat.told }
 {
-    converse(alloc, keys, client, reader, writer)
+    converse(alloc, keys, names, client, reader, writer)
 }
 
-/// Answers the requests of a connection with the seat at its index, which is put back afterwards. If there is no
-/// memory to begin with, no seat is taken.
+/// Answers the requests of a connection with the seat at its index. If there is no memory to begin with, no seat is
+/// taken.
 fn seat_client<D: DeskNames, R: Wait + Clock + RandomSource + AllocGlobal>(
     rt: &R,
     site: &Site,
     clients: &Clients,
-    shared: &Arc<Shared<D>>,
+    seats: &Seats<D>,
     stream: &TcpStream,
-    place: usize,
+    place: &ClientPlace,
 ) {
     let Ok(keys) = RandomState::new(rt) else {
         return;
     };
-    let Some(client) = client_at(rt, site, shared, place) else {
+    let Some(client) = client_at(rt, site, seats, place.index()) else {
         return;
     };
-    let mut reader = clients.reader(stream, place);
-    let mut writer = clients.writer(stream, place);
-    let client = answer_requests(rt.alloc(), keys, client, &mut reader, &mut writer);
-    shared.seats.put(rt, place, client.into_seat());
+    let names = clients.hosts.as_slice();
+    let mut reader = clients.reader(rt, stream, place);
+    let mut writer = clients.writer(rt, stream, place);
+    let _ = answer_requests(rt.alloc(), keys, names, client, &mut reader, &mut writer);
 }
 
 /// Serves the client that has this place, until it disconnects.
@@ -92,11 +77,11 @@ fn serve_client<D: DeskNames, R: Wait + Clock + RandomSource + AllocGlobal>(
     rt: &R,
     site: &Site,
     clients: &Clients,
-    shared: Arc<Shared<D>>,
+    seats: Arc<Seats<D>>,
     stream: TcpStream,
-    place: usize,
+    place: ClientPlace,
 ) {
-    seat_client(rt, site, clients, &shared, &stream, place);
+    seat_client(rt, site, clients, &seats, &stream, &place);
     clients.finish(rt, &stream, place);
 }
 
@@ -105,7 +90,7 @@ fn turn_away<R: Wait + Clock + RandomSource + AllocGlobal>(
     rt: &R,
     clients: &Clients,
     stream: TcpStream,
-    place: usize,
+    place: ClosingPlace,
 ) {
     let _ = answer_busy(rt, &stream);
     clients.finish_closing(rt, &stream, place);
@@ -133,13 +118,13 @@ fn begin_client<
     rt: &'s R,
     site: &'s Site,
     clients: &'s Clients,
-    shared: &Arc<Shared<D>>,
+    seats: &Arc<Seats<D>>,
     stream: TcpStream,
-    place: usize,
+    place: ClientPlace,
 ) {
-    let is_begun = match shared.clone() {
-        Ok(shared) => scope
-            .spawn(move || serve_client(rt, site, clients, shared, stream, place))
+    let is_begun = match seats.clone() {
+        Ok(seats) => scope
+            .spawn(move || serve_client(rt, site, clients, seats, stream, place))
             .is_ok(),
         Err(_) => false,
     };
@@ -154,7 +139,7 @@ fn begin_turning_away<'s, E, R: Wait + Clock + RandomSource + AllocGlobal + Sync
     rt: &'s R,
     clients: &'s Clients,
     stream: TcpStream,
-    place: usize,
+    place: ClosingPlace,
 ) {
     if scope
         .spawn(move || turn_away(rt, clients, stream, place))
@@ -175,12 +160,12 @@ fn begin_accepted<
     rt: &'s R,
     site: &'s Site,
     clients: &'s Clients,
-    shared: &Arc<Shared<D>>,
+    seats: &Arc<Seats<D>>,
     accepted: Accepted,
 ) {
     match accepted {
         Accepted::Client(stream, place) => {
-            begin_client(scope, rt, site, clients, shared, stream, place);
+            begin_client(scope, rt, site, clients, seats, stream, place);
         }
         Accepted::TurnedAway(stream, place) => {
             begin_turning_away(scope, rt, clients, stream, place);
@@ -194,12 +179,12 @@ fn accept_clients<
     E,
     D: DeskNames + Send + Sync + 's,
     R: Threads + Wait + Clock + RandomSource + AllocGlobal + Eprint + Sync,
->(scope: &Scope<'s, E>, rt: &'s R, site: &'s Site, clients: &'s Clients, shared: &Arc<Shared<D>>) {
+>(scope: &Scope<'s, E>, rt: &'s R, site: &'s Site, clients: &'s Clients, seats: &Arc<Seats<D>>) {
     for _ in rt.forever() {
         let Some(accepted) = clients.next(rt) else {
             return;
         };
-        begin_accepted(scope, rt, site, clients, shared, accepted);
+        begin_accepted(scope, rt, site, clients, seats, accepted);
     }
 }
 
@@ -207,9 +192,9 @@ fn accept_clients<
 fn run_client_acceptor<
     D: DeskNames + Send + Sync,
     R: Threads + Wait + Clock + RandomSource + AllocGlobal + Eprint + Sync,
->(rt: &R, site: &Site, clients: &Clients, shared: Arc<Shared<D>>) {
+>(rt: &R, site: &Site, clients: &Clients, seats: Arc<Seats<D>>) {
     thread::scope(thread::scope_env(), rt, |scope| {
-        accept_clients(scope, rt, site, clients, &shared);
+        accept_clients(scope, rt, site, clients, &seats);
     })
 }
 
@@ -219,13 +204,13 @@ pub(crate) fn begin_clients<
     E,
     D: DeskNames + Send + Sync + 's,
     R: Threads + Wait + Clock + RandomSource + AllocGlobal + Eprint + Sync,
->(scope: &Scope<'s, E>, rt: &'s R, site: &'s Site, shared: &Arc<Shared<D>>) -> bool {
+>(scope: &Scope<'s, E>, rt: &'s R, site: &'s Site, seats: &Arc<Seats<D>>) -> bool {
     let Some(clients) = &site.clients else {
         return true;
     };
-    match shared.clone() {
-        Ok(shared) => scope
-            .spawn(move || run_client_acceptor(rt, site, clients, shared))
+    match seats.clone() {
+        Ok(seats) => scope
+            .spawn(move || run_client_acceptor(rt, site, clients, seats))
             .is_ok(),
         Err(_) => false,
     }

@@ -45,8 +45,8 @@ impl<D: DeskNames, R: Wait, P: Peers + Drop, B: TickSignal + Drop> SiteClient<'_
 
     /// The outcome of a spend that was queued after this number of ticks was seen; otherwise the reply itself.
     fn settled(&mut self, reply: Reply, seen: u64) -> Reply
-        ensures settles { Settles (B.has_ended self.old.signal) D.id self.old.seat reply result }
-        ensures same { self.new ≡ self.old }
+        ensures settles { Settles (B.has_ended self.old.signal) D.id self.old.seat reply result self.new.seat }
+        ensures rest { self.new ≡ record self.old { seat = self.new.seat } }
     {
         match reply {
             Reply::Spending(Spending::Queued(ticket)) => self.outcome(ticket, seen),
@@ -56,10 +56,11 @@ impl<D: DeskNames, R: Wait, P: Peers + Drop, B: TickSignal + Drop> SiteClient<'_
 
     /// Waits, tick by tick, for the outcome of the spend with this ticket, and reads it, which frees its slot. At the
     /// end of the site the reply is that it is queued.
-    #[tactic(auto, using(crate::proofs::SettleLaws::tells_outcome, crate::proofs::SettleLaws::keeps_seat))]
+    #[tactic(auto, using(crate::proofs::SettleLaws::tells_outcome, crate::proofs::SettleLaws::waits_again, crate::proofs::SettleLaws::none_waited))]
     fn outcome(&mut self, ticket: u64, mut seen: u64) -> Reply
-        ensures settles { Settles (B.has_ended self.old.signal) D.id self.old.seat (Spends (IsQueued ticket)) result }
-        ensures same { self.new ≡ self.old }
+        ensures settles { Settles (B.has_ended self.old.signal) D.id self.old.seat (Spends (IsQueued ticket)) result
+            self.new.seat }
+        ensures rest { self.new ≡ record self.old { seat = self.new.seat } }
     {
         'ticks: for _ in self.rt.forever() {
             let Some(count) = self.signal.next(seen) else {

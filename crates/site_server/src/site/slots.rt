@@ -1,11 +1,11 @@
-//! Values that threads take and put back, each at an index of its own.
+//! Values that threads leave behind, each at an index of its own.
 
 use rights_types::OutOfMemory;
 use std::alloc::Global;
 use std::sync::{Mutex, Wait};
 
-/// Values that threads take and put back. Each has an index and a lock of its own, so that no thread waits for
-/// another and putting one back needs no memory.
+/// Values that threads leave behind. Each has an index and a lock of its own, so that no thread waits for another and
+/// leaving one needs no memory.
 #[derive(Drop)]
 pub(crate) struct Slots<T: Drop> {
     places: Vec<Mutex<Option<T>>>,
@@ -19,11 +19,6 @@ impl<T: Drop> Slots<T> {
             places.push(Mutex::new(None))?;
         }
         Ok(Slots { places })
-    }
-
-    /// Takes the value at this index. `None` if the slot is empty, or there is no such index.
-    pub(crate) fn take<R: Wait>(&self, rt: &R, place: usize) -> Option<T> {
-        self.places.get(place)?.lock(rt).take()
     }
 
     /// Puts a value at this index.

@@ -1,9 +1,10 @@
 //! The ticks that a site does by itself.
 
 use crate::site::client::{SiteClient, client_at};
-use crate::site::shared::{Shared, TICKS};
+use crate::site::shared::TICKS;
 use crate::site::tick_signal::TickSignal;
 use apply_lanes::DeskNames;
+use desk_turns::Seats;
 use site_node::Peers;
 use site_sockets::Site;
 use std::sync::{Arc, Wait};
@@ -39,16 +40,15 @@ impl<D: DeskNames, R: Wait + Clock, P: Peers + Drop, B: TickSignal + Drop> SiteC
     }
 }
 
-/// Does what is due every `every` milliseconds, with a seat that is put back.
+/// Does what is due every `every` milliseconds, with the clock's seat.
 fn keep_time<D: DeskNames, R: Wait + Clock + AllocGlobal>(
     rt: &R,
     site: &Site,
     every: u64,
-    shared: Arc<Shared<D>>,
+    seats: Arc<Seats<D>>,
 ) {
-    if let Some(mut client) = client_at(rt, site, &shared, TICKS) {
+    if let Some(mut client) = client_at(rt, site, &seats, TICKS) {
         client.tick_all(rt, site, every);
-        shared.seats.put(rt, TICKS, client.into_seat());
     }
 }
 
@@ -63,14 +63,14 @@ pub(crate) fn begin_ticks<
     rt: &'s R,
     site: &'s Site,
     every: Option<u64>,
-    shared: &Arc<Shared<D>>,
+    seats: &Arc<Seats<D>>,
 ) -> bool {
     let Some(every) = every else {
         return true;
     };
-    match shared.clone() {
-        Ok(shared) => scope
-            .spawn(move || keep_time(rt, site, every, shared))
+    match seats.clone() {
+        Ok(seats) => scope
+            .spawn(move || keep_time(rt, site, every, seats))
             .is_ok(),
         Err(_) => false,
     }

@@ -9,7 +9,7 @@ returns g c =
     let id = g.D.DeskNames.id in
     elim c.match-stop.branch [
       | in-Ok-stop w ↦ subst (λ r. IfOk r (λ report. StopsDesk id report)) (sym w.result-is)
-          (stops id c.in_ok-into_vec.field-0.items c.in_ok-into_vec-2.field-0.items w.in-Ok-stop.report
+          (stops id c.in_ok-seats.seats.items c.in_ok-applied.applied.items w.in-Ok-stop.report
           w.in-Ok-stop.ensures.ok w.in-Ok-stop.ensures.desk)
       | in-Err w ↦ subst (λ r. IfOk r (λ report. StopsDesk id report)) (sym w.result-is) tt
     ]

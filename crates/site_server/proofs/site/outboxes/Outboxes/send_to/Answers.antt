@@ -3,12 +3,14 @@ use Rattle.site_server.proofs.site.outboxes.Outboxes.send_to.Goals as goal
 
 pub returns-clause-sends : goal.returns-clause-sends
 returns-clause-sends g c =
-    sends_to_peer g.D.DeskNames.id c.args.self.now.peers.now c.args.place c.index-self-place.result
-    c.deref_mut-kept.result.now c.send_due.new.kept c.new-outbox.result c.send_due.new.sink
-    c.requires c.desk.ensures.valid c.send_due.result c.send_due.ensures.ok
+    let t = c.take.ensures in
+    sends_to_peer g.D.DeskNames.id c.args.self.now.peers.now c.args.place c.index-peers-place.result
+    (record { turns = c.args.self.now.turns; holds = c.args.self.now.holds.items })
+    (record { turns = c.take.new.self; holds = c.take.new.with.items }) t.old t.new c.index-peers-place.is c.requires t.one t.before c.take.result t.does.ok
 
 pub returns-clause-stops : goal.returns-clause-stops
 returns-clause-stops g c =
-    stops_at_outbox g.D.DeskNames.id c.args.self.now.peers.now c.args.place c.index-self-place.result
-    c.deref_mut-kept.result.now c.send_due.new.kept c.new-outbox.result c.send_due.new.sink
-    c.requires c.desk.ensures.valid c.send_due.result c.send_due.ensures.err
+    let t = c.take.ensures in
+    stops_at_outbox g.D.DeskNames.id c.args.self.now.peers.now c.args.place c.index-peers-place.result
+    (record { turns = c.args.self.now.turns; holds = c.args.self.now.holds.items })
+    (record { turns = c.take.new.self; holds = c.take.new.with.items }) t.old t.new c.index-peers-place.is c.requires t.one t.before c.take.result t.does.err
