@@ -29,6 +29,8 @@ from site_trial import Trial  # noqa: E402
 
 AT_ONCE = 6
 SECONDS = 30
+# What does not come at once does not come: a bug that makes a site silent is found sooner.
+PATIENCE = 10
 
 # How a bug is found.
 WAYS = IN_PROCESS, BY_CONFORMANCE, NOT_FOUND = "in process", "by ./conformance", "not found"
@@ -37,14 +39,14 @@ WAYS = IN_PROCESS, BY_CONFORMANCE, NOT_FOUND = "in process", "by ./conformance",
 class Recorder:
     """A model alone, in the place of a process beside its model: it notes all that it says."""
 
-    def __init__(self, count):
-        self.model, self.said = RunningSite(1, count), []
+    def __init__(self, count, number):
+        self.model, self.said = RunningSite(number, count), []
 
-    def give_commands(self, lines, cuts=()):
+    def give_commands(self, lines, cuts=(), pause=0):
         self.said += map(self.model.reply, lines)
 
-    def give_lines(self, number, lines, cuts=()):
-        for line in [*lines, b"Q %d 1 1 1" % number]:
+    def give_lines(self, number, lines, cuts=(), pause=0):
+        for line in [*lines, b"Q %d %d 1 1" % (number, self.model.number)]:
             self.model.hear(number, line)
 
     def settle(self):
@@ -56,8 +58,8 @@ class Recorder:
 
 
 class Recording(Trial):
-    def __init__(self, count):
-        self.node, self.time = Recorder(count), 0
+    def __init__(self, count, number):
+        self.node, self.time = Recorder(count, number), 0
 
 
 def said_by_check(bug=None):
@@ -66,8 +68,8 @@ def said_by_check(bug=None):
         all_bugs()[bug](Limits())
     said = {}
     for name, check in site_checks.all_checks():
-        if check.__module__ != "link_checks":
-            trial = Recording(site_checks.SITES.get(name, 3))
+        if check.__module__ not in site_checks.OF_CONNECTIONS:
+            trial = Recording(*site_checks.system_of(name))
             # With a bug the model may fail, and says no more then.
             with suppress(*([Exception] if bug else [])):
                 check(trial)
@@ -77,7 +79,8 @@ def said_by_check(bug=None):
 
 def by_conformance(name):
     """The check of ./conformance that finds the bug, or None."""
-    words = [os.path.join(HERE, "..", "conformance"), "run", "--ours", "none", "--fail-fast", f"--seconds={SECONDS}"]
+    part = "words" if MODULE_OF[name] == "word_bugs" else "run"
+    words = [os.path.join(HERE, "..", "conformance"), part, "--ours=none", "--fail-fast", f"--seconds={SECONDS}", f"--patience={PATIENCE}"]
     ended = subprocess.run([*words, os.path.join(HERE, "model_site.py"), "--bug", name], capture_output=True, text=True)
     lines = [line for line in ended.stdout.splitlines() if ": FAILED: " in line]
     if not lines and ended.returncode != 0:

@@ -14,7 +14,7 @@ def named(test):
 
 def case(name, tests, setup=None):
     """A TestCase with a method for each of the tests, in their order. `setup` is called before the first of them."""
-    methods = {named(test): staticmethod(test) for test in tests}
+    methods = {named(test): lambda self, test=test: test() for test in tests}
     if setup is not None:
         methods["setUpClass"] = staticmethod(setup)
     made = type(name, (unittest.TestCase,), methods)

@@ -21,6 +21,11 @@ PROGRAM = os.environ.get("RIGHTS_SITE") or os.path.join(TOP, "rights-site")
 BUILT = os.path.join(TOP, "crates", "rights_site", "out", "rights_site")
 
 
+# How many seconds a test waits for what comes at some time. It goes on as soon as that is there, so only what never comes
+# takes so long, on however busy a machine.
+PATIENCE = 60
+
+
 def at(port):
     return f"127.0.0.1:{port}"
 
@@ -30,7 +35,7 @@ def expect(actual, expected, what=""):
         raise AssertionError(f"{what}: expected {expected!r}; actual {actual!r}")
 
 
-def wait_for(what, condition, seconds=10):
+def wait_for(what, condition, seconds=PATIENCE):
     """Asks again and again, 10 ms apart, and fails where the time is over."""
     until = time.monotonic() + seconds
     while True:

@@ -6,7 +6,7 @@ import time
 
 from cluster import Cluster, Proxy, at, expect, sees, wait_for
 
-CHECK_SECONDS = 60
+CHECK_SECONDS = 240
 
 # The number of the site that is tried; the other two are ours.
 THEIRS = 1

@@ -50,6 +50,21 @@ def refusals_come_in_their_order(trial):
               "close 2", "close", "close", "give 4 0", "issue 0", "spend 0 0")  # fmt: skip
 
 
+def each_pair_of_causes_is_judged_in_its_order(trial):
+    """All commands with all kinds of amounts and sites: while the site is open, while spends wait, while the queue is full, while it
+    holds too much, and once it has closed. Site 2 has closed."""
+    amounts = (0, 1, 99, GREATEST, GREATEST + 1, 2**64 - 1)
+    gives = [f"give {site} {amount}" for site in (1, 2, 4, 16, 3) for amount in amounts if (site, amount) != (3, 1)]
+    refused = [*gives, "issue 0", f"issue {GREATEST + 1}", "spend 0 5", f"spend {GREATEST + 1} 5", "tick 3"]
+    closes = ["close 4", "close 16", "close 1", "close 2"]
+    trial.hear(2, *entries(2, "K:0:0:0"))
+    trial.say("tick 4", "issue 5", *refused, *closes, "give 3 1")
+    trial.say("spend 9 9", *refused, *closes, "close 3", "close", "give 3 1", "status")
+    trial.say(*(f"spend {number} 9" for number in range(1, MOST_REQUESTS + 1)), *refused, *closes, "close 3", "close", "spend 1 9")
+    trial.say("tick 10", *refused, *closes, "spend 4 9", "spend 3 9", f"issue {GREATEST}", f"issue {GREATEST}", *gives[:-4], *closes, "close 3")
+    trial.say("close", *refused, *closes, "close 3", "close", "issue 1", "spend 1 5", "give 3 1", "tick 9", "status", "outcome 1")
+
+
 def a_refusal_changes_nothing(trial):
     trial.say("issue 5", "spend 9 0", "give 2 9", "give 4 1", "close 4", "tick 3", "tick 2", "spend 9 1", "close 2", "status")
     trial.tick(4)
@@ -126,6 +141,39 @@ def unread_outcomes_stay(trial):
     trial.say("tick 6", "spend 1 9", "spend 1 9", "outcome 1", "outcome 2")
 
 
+def a_full_queue_is_passed_by_nobody(trial):
+    trial.say(*(f"spend {number + 50} 9" for number in range(MOST_REQUESTS)))
+    trial.say("issue 5", "spend 2 9", "spend 5 0", "spend 6 9", "status", "tick 1", "spend 5 9")
+
+
+def a_served_spend_frees_its_slot_once_it_is_read(trial):
+    trial.say(*["spend 1 9"] * MOST_REQUESTS, "issue 40", "tick 1", "spend 1 9", "spend 99 9")
+    for ticket in (1, 32, 7):
+        trial.say(f"outcome {ticket}", f"outcome {ticket}", "spend 99 9", "spend 99 9")
+
+
+def spends_are_served_in_their_order(trial):
+    """Not by deadlines or amounts, and not the last one first."""
+    trial.say("spend 3 9", "spend 2 5", "spend 1 7", "issue 3")
+    for _ in range(3):
+        trial.tick()
+        trial.say("outcome 1", "outcome 2", "outcome 3", "issue 1", "status")
+
+
+def a_spend_of_more_than_waits_waits_too(trial):
+    trial.say("issue 9", "spend 12 99", "spend 2 99", "spend 9 99", "issue 20", "spend 1 99", "status", "tick 1", "spend 1 99", "status")
+
+
+def a_spend_waits_until_a_tick_though_its_deadline_is_over(trial):
+    trial.say("tick 9", "spend 5 3", "spend 2 0", "issue 8", "outcome 1", "spend 1 99", "status")
+    trial.hear(2, "W 2 1 1 6")
+    trial.say("tick 9", "outcome 1", "outcome 2", "outcome 3", "status")
+
+
+def spends_behind_one_that_stays_expire(trial):
+    trial.say("spend 5 9", "spend 4 2", "spend 3 9", "spend 2 1", "tick 3", "outcome 1", "outcome 2", "outcome 3", "outcome 4", "status")
+
+
 def spends_that_wait_keep_no_gift_back(trial):
     trial.say("spend 9 99", "issue 8", "give 2 3", "give 3 5", "status")
     trial.tick()
@@ -146,6 +194,20 @@ def tickets_are_counted_from_1_and_never_used_again(trial):
 
 def an_outcome_is_told_once(trial):
     trial.say("spend 2 9", "spend 3 0", "issue 9", "tick 1", "outcome 1", "outcome 1", "outcome 2", "outcome 2")
+
+
+def a_spend_is_cancelled_wherever_it_waits(trial):
+    trial.say("spend 2 9", "spend 3 9", "spend 4 9", "cancel 2", "outcome 2", "cancel 9", "issue 9", "tick 1", "cancel 1")
+    trial.say("outcome 3", "cancel 3", "status")
+
+
+def a_cancelled_spend_frees_its_slot(trial):
+    trial.say(*["spend 1 9"] * 33, "cancel 7", "spend 1 9", "spend 1 9", "cancel 33", "status")
+
+
+def what_waits_is_not_taken(trial):
+    trial.say("take 1", "issue 9", "take 10", "take 0", f"take {2**64 - 1}", "take 2", "spend 8 9", "take 1", "issue 3", "take 3", "take 2")
+    trial.say("tick 1", "outcome 1", "close", "take 0", "take 1", "cancel 1", "status")
 
 
 # ---- ticks
@@ -177,6 +239,23 @@ def an_ask_is_sent_at_each_tick_until_it_is_answered(trial):
     trial.hear(2, *entries(2, "G:1:7:2", prev=1))
     trial.tick(2)
     trial.say("outcome 1", "status")
+
+
+def a_refused_tick_plans_and_sends_nothing(trial):
+    trial.hear(2, *entries(2, "I:50"))
+    trial.say("tick 9", "spend 5 99", "issue 1", "tick 8", "tick 0", "status")
+    trial.hear(3)
+    trial.say("tick 9", "tick 9")
+
+
+def a_tick_of_the_same_time_does_all(trial):
+    trial.hear(2, *entries(2, "I:50"))
+    trial.say("tick 9", "spend 5 99", "tick 9", "issue 5", "tick 9", "outcome 1")
+
+
+def many_entries_are_sent_in_one_tick(trial):
+    trial.say_together("issue 99", *["spend 1 1"] * 30, *["give 2 1", "give 3 1"] * 5)
+    trial.tick(2)
 
 
 def entries_of_all_commands_are_sent(trial):
@@ -253,6 +332,97 @@ def an_ask_is_for_10_9_at_most(trial):
 def rights_that_others_gave_to_a_peer_count(trial):
     trial.hear(3, *entries(3, "I:20 R:2:9"))
     trial.say("issue 20", "give 2 4", "spend 50 999")
+    trial.tick()
+
+
+def grants_to_a_peer_count(trial):
+    trial.hear(3, *entries(3, "I:20", "G:2:9:1"))
+    trial.say("issue 20")
+    trial.hear(2, "W 2 1 1 4")
+    trial.say("spend 50 999")
+    trial.tick()
+
+
+def what_a_peer_spent_gave_and_granted_is_taken_off(trial):
+    trial.hear(2, *entries(2, "I:50", "G:3:9:1", "R:3:8", "S:7", "R:1:3", "G:1:2:9"))
+    trial.say("spend 100 999")
+    trial.tick()
+
+
+def what_was_not_applied_is_not_known(trial):
+    first, second = entries(2, "I:5", "I:50 R:1:1")
+    trial.hear(2, second)
+    trial.say("spend 30 999")
+    trial.tick()
+    trial.hear(2, first)
+    trial.tick()
+
+
+def many_peers_are_asked_together(trial):
+    for peer in range(2, 7):
+        trial.hear(peer, *entries(peer, f"I:{10 + peer}"))
+    trial.say("spend 999 999")
+    trial.tick(2)
+    trial.hear(4, "D 4 1 1")
+    trial.tick()
+
+
+def equal_peers_of_two_digits_are_asked_by_their_numbers(trial):
+    for peer in (12, 3, 16, 10, 2, 9):
+        trial.hear(peer, *entries(peer, "I:10"))
+    trial.say("spend 45 999")
+    trial.tick()
+
+
+def an_ask_outlasts_the_spend_that_it_was_for(trial):
+    """And the close of the site itself."""
+    trial.hear(2, *entries(2, "I:50"))
+    trial.say("spend 7 3", "tick 1", "tick 4", "close")
+    trial.time = 4
+    trial.tick(2)
+    trial.hear(2, "D 2 1 1")
+    trial.tick()
+
+
+def an_ask_to_a_peer_that_closed_ends_though_nothing_waits(trial):
+    for peer in (2, 3):
+        trial.hear(peer, *entries(peer, "I:50"))
+    trial.say("spend 70 3", "tick 1", "tick 4")
+    trial.time = 4
+    trial.hear(2, *entries(2, "K:0:0:0", prev=1))
+    trial.hear(3, *entries(3, "C", prev=1))
+    trial.tick()
+
+
+def a_denial_is_of_its_sender_and_its_asker(trial):
+    for peer in (2, 3):
+        trial.hear(peer, *entries(peer, "I:50"))
+    trial.say("spend 90 999")
+    trial.tick()
+    trial.hear(2, "D 3 1 1", "D 2 3 1", "D 3 2 1", "D 1 2 1", "D 2 4 1")
+    trial.tick()
+    trial.hear(2, "D 2 1 1")
+    trial.tick()
+
+
+def sums_may_be_above_2_32(trial):
+    trial.say(*[f"issue {GREATEST}"] * 12, "status", *[f"spend {GREATEST} 9"] * 5, *[f"give 2 {GREATEST}"] * 6, "status")
+    trial.hear(2, *entries(2, *[f"I:{GREATEST} R:1:{GREATEST}"] * 3, " ".join([f"I:{GREATEST} R:1:{GREATEST}"] * 3)))
+    trial.say("status", *[f"spend {GREATEST} 9"] * 30, "status")
+    trial.hear(3, *entries(3, *[" ".join([f"I:{GREATEST}"] * 16)] * 2))
+    trial.tick(2)
+    trial.hear(2, *entries(2, "K:0:0:0", prev=12))
+    trial.say("status")
+    trial.tick()
+
+
+def great_rights_are_told_apart(trial):
+    """By a right of more than 2^53, which asks for those first who have it."""
+    trial.hear(2, *entries(2, f"V:3:{2**53}"))
+    trial.hear(3, *entries(3, f"V:2:{2**53 + 1}"))
+    trial.say("spend 7 999")
+    trial.tick()
+    trial.hear(3, "D 3 1 1", *entries(3, *[f"V:2:{10**18}"] * 9, prev=1))
     trial.tick()
 
 
@@ -387,4 +557,32 @@ def an_asker_that_closed_is_denied(trial):
     trial.say("issue 10")
     trial.hear(2, *entries(2, "K:0:0:0"))
     trial.hear(2, "W 2 1 1 4")
+    trial.tick()
+
+
+def an_asker_that_closed_plainly_is_denied(trial):
+    trial.say("issue 10")
+    trial.hear(2, *entries(2, "C"))
+    trial.hear(2, "W 2 1 1 4")
+    trial.tick()
+
+
+def a_denial_is_repeated_as_often_as_it_is_asked_for(trial):
+    for _ in range(5):
+        trial.hear(2, "W 2 1 1 4")
+    trial.tick()
+
+
+def a_grant_is_made_once_though_it_was_sent(trial):
+    trial.say("issue 10")
+    for number in (1, 1, 1, 2, 2):
+        trial.hear(2, f"W 2 1 {number} 3")
+        trial.tick()
+
+
+def what_is_asked_of_others_keeps_nothing_back(trial):
+    trial.hear(3, *entries(3, "I:50"))
+    trial.say("spend 9 3", "tick 1", "tick 4", "issue 5")
+    trial.hear(2, "W 2 1 1 4")
+    trial.time = 4
     trial.tick()

@@ -61,14 +61,18 @@ def count_matches(pattern, paths):
 
 def count_suite():
     import documents
+    import lane_orders
     import lockstep
     import loopback
     import over_http
     import packages
     import program
+    import repository
+    import schedules
     import scripts
+    import timing
 
-    modules = (documents, program, scripts, loopback, over_http, lockstep, packages)
+    modules = (repository, documents, lane_orders, program, scripts, loopback, over_http, timing, schedules, lockstep, packages)
     return sum(len(each.order) for module in modules for each in module.CASES)
 
 

@@ -24,8 +24,6 @@ def each_byte_of_a_first_line_has_5_seconds(right, process, stream):
         if not block:
             return None, b""
         unread += block
-    with process.lock:
-        process.waiting -= 1
     words = unread.split()
     is_known = len(words) == 2 and words[0] == b"H" and words[1].isdigit() and int(words[1]) in process.peers
     return (int(words[1]) if is_known and unread == b"H %d\n" % int(words[1]) else None), b""

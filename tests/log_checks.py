@@ -137,6 +137,18 @@ def sixty_four_entries_are_held(trial):
     trial.hear(2, *lines[MOST_HELD + 1 :])
 
 
+def held_entries_may_be_far_apart(trial):
+    """Each is told from the others by its previous number."""
+    log = entries(2, *["I:1", " ".join(["R:1:1"] * 15), " ".join(["I:1"] * 16), " ".join(["I:1 R:1:2"] * 8), " ".join(["R:1:1"] * 16)] * 8)
+    # Of every second and every 64th number.
+    for place in (1, 5, 2, 9, 6, 13, 17, 21, 25, 29, 33, 37, 3, 7, 11):
+        trial.hear(2, log[place])
+    far = [f"E 2 {prev} {prev + 1} I:1" for prev in (10**6, 10**6 + 64, 10**6 + 128, 10**6 + 256, 10**9 - 1)]
+    trial.hear(2, *far)
+    trial.hear(2, *log[:12])
+    trial.hear(2, *log[12:])
+
+
 def entries_of_an_answer_may_be_held(trial):
     lines = entries(2, *["I:1"] * 8)
     trial.hear(2, "A 2 1;" + ";".join(lines[4:8]))
@@ -155,6 +167,50 @@ def an_answer_may_have_old_entries_too(trial):
     trial.hear(2, *lines[:3])
     trial.hear(2, "A 2 1;" + ";".join(lines[1:5]))
     trial.hear(2, "A 2 1;" + ";".join(lines[4:6]))
+
+
+def an_answer_may_have_its_entries_in_any_order(trial):
+    lines = entries(2, *["R:1:1"] * 9)
+    trial.hear(2, "A 2 1;" + ";".join(reversed(lines[:4])))
+    trial.hear(2, "A 2 1;" + ";".join([lines[5], lines[5], lines[4], lines[4]]))
+    trial.hear(2, "A 2 1;" + ";".join([lines[8], lines[6], lines[7]]))
+
+
+def an_answer_may_go_beyond_what_was_asked_for(trial):
+    lines = entries(2, *["R:1:1"] * 9)
+    trial.hear(2, "B 2 2")
+    trial.hear(2, "A 2 1;" + ";".join(lines[:5]))
+    trial.hear(2, lines[7])
+    trial.hear(2, "A 2 1;" + ";".join(lines[5:]))
+
+
+def a_skipped_line_asks_for_nothing(trial):
+    """Though a gap is there."""
+    lines = entries(2, *["R:1:1"] * 4)
+    trial.hear(2, lines[3])
+    trial.hear(2, "B 3 7", "B 2 07", "B 2 9 ", "nonsense", "", "E 3 0 1 R:1:1", "A 2 3", "H 3", b"x" * 20_000)
+    trial.hear(2, "B 2 4", "B 2 4")
+    trial.hear(2, *lines[:3])
+
+
+def a_gap_is_asked_for_after_any_line_that_moves_it(trial):
+    lines = entries(2, *["R:1:1"] * 12)
+    trial.hear(2, "B 2 9")
+    trial.hear(2, lines[7])
+    trial.hear(2, lines[3])
+    trial.hear(2, lines[0])
+    trial.hear(2, "A 2 1;" + lines[5])
+    trial.hear(2, "A 2 1;" + lines[1])
+    trial.hear(2, lines[2])
+    trial.hear(2, "B 2 12")
+    trial.hear(2, lines[4], lines[6], *lines[8:])
+
+
+def what_was_told_before_a_close_is_no_gap(trial):
+    trial.hear(2, "B 2 40")
+    trial.hear(2, *entries(2, "I:1", "K:0:0:0"))
+    trial.hear(2, "B 2 40")
+    trial.say("status")
 
 
 def a_line_of_7000_bytes_is_read(trial):
@@ -202,6 +258,30 @@ def an_answer_has_16_entries_at_most(trial):
     trial.say_together("issue 100", *["spend 1 1"] * 40)
     for first, last in [(1, 41), (1, 16), (1, 17), (20, 41), (26, 41), (25, 41)]:
         trial.hear(2, f"Q 2 1 {first} {last}")
+
+
+def an_answer_counts_entries_and_not_numbers(trial):
+    trial.say("issue 50", *["spend 1 1"] * 14, "close 2", "status")
+    for first, last in [(1, 17), (2, 17), (1, 99), (17, 17), (16, 16), (1, 16), (1, 15)]:
+        trial.hear(3, f"Q 3 1 {first} {last}")
+
+
+def what_was_taken_back_is_answered(trial):
+    trial.say("issue 20", "give 2 5")
+    trial.hear(2, *entries(2, "K:0:0:0"))
+    trial.hear(3, "Q 3 1 1 9", "Q 3 1 3 3")
+    trial.hear(2, "Q 2 1 1 9")
+    trial.tick()
+
+
+def a_query_may_come_again(trial):
+    trial.say("issue 9", "spend 1 1")
+    for _ in range(3):
+        trial.hear(2, "Q 2 1 1 2")
+    trial.hear(2, "Q 2 1 1 2", "Q 2 1 1 2")
+    trial.tick()
+    trial.hear(2, "Q 2 1 1 2")
+    trial.hear(3, "Q 3 1 1 2")
 
 
 def entries_are_answered_before_they_were_sent(trial):
@@ -282,6 +362,56 @@ def a_closed_site_applies_nothing(trial):
     trial.hear(2, *entries(2, "R:1:3", prev=1))
     trial.hear(3, *entries(3, "I:9", "K:0:0:0"))
     trial.say("status", "issue 1", "give 2 1", "spend 1 1", "outcome 1", "tick 7")
+
+
+def a_close_waits_for_what_waits(trial):
+    """Also where enough is held to serve it."""
+    trial.say("spend 5 9", "issue 9", "close", "close 2", "outcome 1", "status", "tick 1", "close 2", "outcome 1")
+
+
+def a_frontier_has_what_was_applied_of_each(trial):
+    """And not what was heard of, or is held."""
+    trial.hear(2, *entries(2, "I:9 I:1", "I:1 R:1:2"), "E 2 6 7 I:1", "B 2 30")
+    trial.hear(3, "B 3 12")
+    trial.say("close 2")
+    trial.tick()
+
+
+def a_site_in_the_middle_is_a_site_as_any(trial):
+    """Site 2 of 3."""
+    trial.say("status", "give 2 1", "issue 20", "give 1 3", "give 3 4", "give 3 1", "spend 30 9", "close 2")
+    trial.hear(1, *entries(1, "I:50 R:2:1", "I:1"), "Q 1 2 1 9", "W 1 2 1 4", "E 2 0 1 I:1", "B 2 9", "D 2 1 1", "Q 1 3 1 1")
+    trial.tick(2)
+    trial.hear(1, *entries(1, "G:2:8:1", "R:2:9", prev=3))
+    trial.hear(3, *entries(3, "R:2:1", "K:9:2:0"))
+    trial.tick()
+    trial.hear(1, "E 1 7 8 I:1")
+    trial.say("outcome 1", "status", "close 2", "close 3", "close 1", "status")
+    trial.tick()
+    trial.hear(1, "Q 1 2 1 99", "W 1 2 2 1")
+
+
+def site_16_is_a_site_as_any(trial):
+    """Of 16."""
+    trial.say("status", "issue 20", "give 10 3", "give 1 4", "give 16 1", "give 17 1", "spend 30 9")
+    trial.hear(15, *entries(15, "I:50 R:16:1"), "Q 15 16 1 9", "W 15 16 1 4")
+    trial.hear(10, *entries(10, "I:50", "I:1 R:9:1"), "E 10 4 5 I:1")
+    trial.tick()
+    trial.hear(10, *entries(10, "G:16:18:1", prev=3))
+    trial.hear(11, *entries(11, "K:9" + ":1" * 9 + ":0:1:1:1:1:3"))
+    trial.tick()
+    trial.say("outcome 1", "close 16", "close 10", "status")
+    trial.tick()
+
+
+def a_site_of_a_system_of_two(trial):
+    """Site 2."""
+    trial.say("status", "issue 9", "give 1 2", "give 3 1", "give 2 1")
+    trial.hear(1, *entries(1, "I:9 R:2:1"), "W 1 2 1 4", "E 1 2 3 R:3:1", "E 1 2 3 K:0", "E 1 2 3 K:0:0:0", "Q 1 2 1 9")
+    trial.tick()
+    trial.hear(1, *entries(1, "K:0:2", prev=2))
+    trial.say("close 1", "close")
+    trial.tick()
 
 
 def a_closed_site_denies_and_answers(trial):
@@ -450,3 +580,16 @@ def a_second_hello_makes_no_other_sender(trial):
     trial.hear(2, "H 3")
     trial.hear(2, *entries(3, "R:1:9"))
     trial.hear(2, *entries(2, "R:1:1"))
+
+
+def a_second_hello_changes_nothing(trial):
+    """What is held, asked for and sent stays."""
+    lines = entries(2, *["R:1:1"] * 5)
+    trial.say("issue 9")
+    trial.tick()
+    trial.hear(2, lines[3])
+    trial.hear(2, "H 2", lines[4])
+    trial.hear(2, "H 2", lines[3])
+    trial.tick()
+    trial.hear(2, "H 2")
+    trial.hear(2, *lines[:3])

@@ -11,7 +11,7 @@ import time
 from contextlib import ExitStack, suppress
 
 from cases import case
-from cluster import PROGRAM, Cluster, Proxy, Site, SiteEnded, at, expect, free_ports, processor_seconds, reset_at_its_end
+from cluster import PATIENCE, PROGRAM, Cluster, Proxy, Site, SiteEnded, at, expect, free_ports, reset_at_its_end
 from cluster import sees, wait_for
 from site_driver import Peer
 
@@ -168,6 +168,16 @@ def outcomes_that_nobody_reads():
         expect(replies, ["expired"] * 6 + ["unknown"] + ["expired"] * 25 + ["waiting"])
 
 
+def a_spend_is_cancelled_and_rights_are_taken():
+    """What blocks a site is cancelled; what is taken never waits."""
+    with Sites(2, started=[1]) as sites:
+        expect(sites[1].ask_all(["issue 5", "spend 9 1780000000000000", "spend 2 7"]), ["number 1", "queued 1", "queued 2"])
+        expect(sites[1].ask_all(["take 1", "close"]), ["error Short", "error QueueBusy"])
+        expect(sites[1].ask_all(["cancel 1", "cancel 1", "outcome 1"]), ["expired", "unknown", "unknown"])
+        expect(sites[1].ask("tick 1"), "tick expired 0 served 1 asks 0 sent 3")
+        expect(sites[1].ask_all(["cancel 2", "take 4", "take 3", "close", "take 0"]), ["spent 2", "error Short", "spent 3", "number 4", "error Closed"])
+
+
 def lines_of_the_last_tick_go_out():
     """Rights that a closing site leaves to an heir arrive, though the site ends at once."""
     with Sites(2) as sites:
@@ -204,7 +214,7 @@ def replies_come_at_once():
 
 
 def an_unfinished_last_line_is_a_command():
-    done = subprocess.run(site_words(), input=b"issue 3\nspend 1 1", capture_output=True, timeout=10)
+    done = subprocess.run(site_words(), input=b"issue 3\nspend 1 1", capture_output=True, timeout=PATIENCE)
     expect((done.returncode, done.stdout, done.stderr), (0, b"number 1\nspent 2\n", b""))
 
 
@@ -226,11 +236,11 @@ def stream_that_is_reset(text):
 
 def replies_before_a_read_that_fails():
     with stream_that_is_reset(b"issue 3\nspend 1 1\nstatus") as stream:
-        done = subprocess.run(site_words(), stdin=stream, capture_output=True, timeout=10)
+        done = subprocess.run(site_words(), stdin=stream, capture_output=True, timeout=PATIENCE)
     expect((done.returncode, done.stdout, done.stderr), (1, b"number 1\nspent 2\n", b"rights-site: read failed\n"))
     folder = os.open(".", os.O_RDONLY)
     try:
-        done = subprocess.run(site_words(), stdin=folder, capture_output=True, timeout=10)
+        done = subprocess.run(site_words(), stdin=folder, capture_output=True, timeout=PATIENCE)
     finally:
         os.close(folder)
     expect((done.returncode, done.stdout, done.stderr), (1, b"", b"rights-site: read failed\n"), "of a folder")
@@ -240,19 +250,12 @@ def dead_peers_hold_nothing_up():
     """Two thousand spends and ticks, with peers that refuse or never answer."""
     deaf = socket.create_server(("127.0.0.1", 0), backlog=1)
     with Sites(3, started=[1], routes={(1, 2): at(deaf.getsockname()[1])}) as sites:
-        start = time.monotonic()
         sites[1].ask("issue 100000")
         for time_now in range(10):
+            # One attempt to connect for each line would take hours, and a reply is not awaited for that long.
             replies = sites[1].ask_all(["spend 1 1"] * 2000 + [f"tick {time_now}"])
             expect(all(reply.startswith("spent") for reply in replies[:-1]), True)
-        spent = time.monotonic() - start
-        # One attempt to connect for each line would take hours.
-        if spent > 60:
-            raise AssertionError(f"20,000 spends took {spent:.1f} seconds")
-        start = time.monotonic()
-        expect(sites[1].end(timeout=5), 0)
-        if time.monotonic() - start > 3.5:
-            raise AssertionError("the end took too long")
+        expect(sites[1].end(), 0)
     deaf.close()
 
 
@@ -263,7 +266,7 @@ def strangers_are_turned_away():
     with Sites(3, started=[1]) as sites:
         for text in [b"B 1 5\n", b"H 9\n", b"H 1\n", b"H 17\n", b"\n", b"\xff\xfe\n", b"H 2 \n", b"x" * 20000]:
             stream = connect(sites, 1, text)
-            stream.settimeout(3)
+            stream.settimeout(PATIENCE)
             try:
                 expect(stream.recv(1), b"", f"after {text[:10]!r}")
             except ConnectionResetError:
@@ -276,14 +279,14 @@ def silence_is_cut_off():
     """A connection that says nothing is closed after 5 seconds, and holds up nobody."""
     with Sites(3, started=[1]) as sites:
         silent = [connect(sites, 1) for _ in range(40)]
-        half = connect(sites, 1, b"H ")
         start = time.monotonic()
+        half = connect(sites, 1, b"H ")
         with connect(sites, 1, b"H 3\nE 3 0 2 I:9 R:1:7\n"):
-            wait_for("site 1 heard site 3", sees(sites[1], None, received=7), 3)
-        half.settimeout(8)
+            wait_for("site 1 heard site 3", sees(sites[1], None, received=7))
+        half.settimeout(PATIENCE)
         expect(half.recv(1), b"")
         waited = time.monotonic() - start
-        if not 4 <= waited <= 7:
+        if waited < 5:
             raise AssertionError(f"closed after {waited:.1f} seconds")
         for stream in silent:
             stream.close()
@@ -301,7 +304,7 @@ def the_newest_connection_is_heard():
             time.sleep(0.1)
             with connect(sites, 1, b"H 2\nE 2 0 2 I:9 R:1:7\n"):
                 wait_for("site 1 heard site 2", sees(sites[1], None, received=7))
-                old.settimeout(3)
+                old.settimeout(PATIENCE)
                 try:
                     expect(old.recv(1), b"")
                 except ConnectionResetError:
@@ -314,13 +317,13 @@ def a_link_may_be_silent():
         with Sites(2, started=[1], routes={(1, 2): at(ear.getsockname()[1])}) as sites:
             sites[1].ask("tick 1")
             heard = ear.accept()[0]
-            heard.settimeout(5)
+            heard.settimeout(PATIENCE)
             with connect(sites, 1, b"H 2\nE 2 0 2 I:9 R:1:3\n") as stream, heard, heard.makefile("rb") as lines:
                 wait_for("site 1 heard site 2", sees(sites[1], None, received=3))
                 expect([lines.readline(), lines.readline()], [b"H 1\n", b"B 1 0\n"])
                 time.sleep(6)
                 stream.sendall(b"E 2 2 3 R:1:4\n")
-                wait_for("site 1 heard site 2 again", sees(sites[1], None, received=7), 3)
+                wait_for("site 1 heard site 2 again", sees(sites[1], None, received=7))
                 sites[1].ask_all(["spend 7 1", "tick 1"])
                 expect([lines.readline(), lines.readline()], [b"E 1 0 1 S:7\n", b"B 1 1\n"], "on the same connection")
 
@@ -343,8 +346,14 @@ def connections_leave_nothing_behind():
                 elif way % 4 == 1:
                     stream.shutdown(socket.SHUT_WR)
         wait_for("all is free", lambda: all(now <= then for now, then in zip(used(), before)))
-        with connect(sites, 1, b"H 3\nE 3 0 2 I:9 R:1:7\n"):
-            wait_for("site 1 heard site 3", sees(sites[1], None, received=7), 3)
+
+        def is_heard():
+            # A connection that comes while the last of the others are not accepted yet may be turned away.
+            with suppress(OSError), connect(sites, 1, b"H 3\nE 3 0 2 I:9 R:1:7\n"):
+                time.sleep(0.1)
+                return sees(sites[1], None, received=7)()
+
+        wait_for("site 1 heard site 3", is_heard)
 
 
 def a_half_closed_connection_is_heard_to_its_end():
@@ -353,7 +362,7 @@ def a_half_closed_connection_is_heard_to_its_end():
         wait_for("site 1 heard site 2", sees(sites[1], None, received=7))
         stream.sendall(b"E 2 2 3 R:1:1\n")
         stream.shutdown(socket.SHUT_WR)
-        stream.settimeout(3)
+        stream.settimeout(PATIENCE)
         expect(stream.recv(1), b"", "the site closes the connection too")
         wait_for("site 1 heard the last line", sees(sites[1], None, received=8))
 
@@ -430,7 +439,7 @@ def a_flood_grows_nothing():
             for _ in range(10):
                 stream.sendall(block)
             stream.sendall(b"E 2 1 2 R:1:1\n")
-            wait_for("the flood is over", sees(sites[1], None, received=1), 60)
+            wait_for("the flood is over", sees(sites[1], None, received=1), 2 * PATIENCE)
         if room() > before + 20000:
             raise AssertionError(f"{room() - before} KiB more")
 
@@ -446,15 +455,11 @@ def a_peer_that_reads_nothing():
             full = full or not replies[-1].endswith("sent 201")
             if time_now == 0:
                 stream, _ = deaf.accept()
-        # A tick waits 50 ms for such a peer, but not each tick.
+        # A tick waits 50 ms for such a peer, but not each tick: that would take 200 seconds.
         start = time.monotonic()
-        sites[1].ask_all(["tick 400"] * 400)
-        if time.monotonic() - start > 10:
-            raise AssertionError("each tick waited")
-        start = time.monotonic()
-        expect(sites[1].end(timeout=5), 0)
-        if time.monotonic() - start > 3.5:
-            raise AssertionError("the end took too long")
+        sites[1].ask_all(["tick 400"] * 4000)
+        expect(time.monotonic() - start < 150, True, "each tick waited")
+        expect(sites[1].end(), 0)
         stream.close()
     deaf.close()
 
@@ -472,14 +477,20 @@ def queries_for_a_peer_that_reads_nothing():
         heard, _ = deaf.accept()
         lines = b"".join(b"B 2 %d\n" % number for number in range(1, beats))
         spoken = connect(sites, 1, b"H 2\n" + lines + b"E 2 0 1 I:9\n")
-        wait_for("all beats are taken", sees(sites[1], 2, applied=1), 60)
+        wait_for("all beats are taken", sees(sites[1], 2, applied=1), 2 * PATIENCE)
         heard.settimeout(0.5)
         text = read_all(heard)
-        spoken.sendall(b"B 2 %d\n" % beats)
-        text += read_all(heard)
-        first, *queries, last, rest = text.split(b"\n")
-        expect(first, b"H 1")
-        expect((last, rest), (b"Q 1 2 2 %d" % beats, b""))
+        last = b"Q 1 2 2 %d\n" % beats
+
+        def has_asked():
+            nonlocal text
+            spoken.sendall(b"B 2 %d\n" % beats)
+            text += read_all(heard)
+            return text.endswith(last)
+
+        wait_for("the query for the last beat", has_asked)
+        first, *queries, rest = text.split(b"\n")
+        expect((first, rest), (b"H 1", b""))
         expect([line for line in queries if not re.fullmatch(rb"Q 1 2 [12] [1-9][0-9]*|B 1 0", line)], [])
         expect(len(queries) > 1000, True, "many queries come")
         heard.close()
@@ -490,13 +501,17 @@ def queries_for_a_peer_that_reads_nothing():
 def ticks_that_wait(site, follows=lambda spends: True):
     """Ten ticks at once, each with more lines than fit beside those of the one before: the site waits until those are
     sent. On a busy machine that may take longer than it waits, but not each time."""
-    for turn in range(1, 51):
+    turns = 0
+
+    def waits():
+        nonlocal turns
+        turns += 1
         replies = site.ask_all((["spend 1 0"] * 200 + ["tick 1"]) * 10)
         # What was lost is asked for after the beat of another tick.
-        wait_for("all are applied", lambda: site.ask("tick 1") and follows(2000 * turn), 30)
-        if all(reply.endswith("sent 201") for reply in replies[200::201]):
-            return
-    raise AssertionError("each time lines were lost")
+        wait_for("all are applied", lambda: site.ask("tick 1") and follows(2000 * turns))
+        return all(reply.endswith("sent 201") for reply in replies[200::201])
+
+    wait_for("no line is lost", waits)
 
 
 def ticks_in_a_row_wait_for_space():
@@ -512,7 +527,7 @@ def ticks_wait_again_once_lines_are_sent():
     with Sites(2, started=[1], routes={(1, 2): peer.address}) as sites:
         sites[1].ask_all(["issue 1000000", "tick 1", *["spend 1 0"] * 300, "tick 1"])
         peer.listen()
-        expect(peer.accept(5), True, "the site connects")
+        expect(peer.accept(PATIENCE), True, "the site connects")
         threading.Thread(target=read_all, args=(peer.heard,), daemon=True).start()
         ticks_that_wait(sites[1])
     peer.close()
@@ -540,7 +555,7 @@ def a_start_without_memory():
     starts = 0
     for kibibytes in range(4000, 64001, 4000):
         words = limited(kibibytes) + ["--id", "1", "--sites", "2", "--listen", "127.0.0.1:0", "2=127.0.0.1:1"]
-        done = subprocess.run(words, input=b"issue 10\nspend 3 9\n", capture_output=True, timeout=30)
+        done = subprocess.run(words, input=b"issue 10\nspend 3 9\n", capture_output=True, timeout=PATIENCE)
         if b"error OutOfMemory" in done.stdout:
             # The start was just granted what it wanted.
             continue
@@ -587,7 +602,7 @@ def ends_at_a_take_back(kibibytes):
                 while time.monotonic() < until:
                     sites[1].ask("outcome 1")
             except SiteEnded:
-                expect((sites[1].process.wait(5), sites[1].said()), (1, "rights-site: out of memory\n"))
+                expect((sites[1].process.wait(PATIENCE), sites[1].said()), (1, "rights-site: out of memory\n"))
                 return True
     return False
 
@@ -606,17 +621,14 @@ def the_end_of_input_ends_it():
         with connect(sites, 1), connect(sites, 1, b"H 2\n"):
             time.sleep(0.1)
             sites[1].process.stdin.close()
-            start = time.monotonic()
-            expect(sites[1].process.wait(5), 0)
-            if time.monotonic() - start > 3.5:
-                raise AssertionError("the end took too long")
+            expect(sites[1].process.wait(PATIENCE), 0)
 
 
 def an_address_in_use_is_refused():
     with socket.create_server(("127.0.0.1", 0)) as taken:
         for address in [at(taken.getsockname()[1]), "", "nowhere", "127.0.0.1:99999", "256.1.1.1:1"]:
             words = [PROGRAM, "run", "--id", "1", "--sites", "2", "--listen", address, "2=127.0.0.1:1"]
-            done = subprocess.run(words, input=b"issue 1\n", capture_output=True, timeout=30)
+            done = subprocess.run(words, input=b"issue 1\n", capture_output=True, timeout=PATIENCE)
             expect((done.returncode, done.stdout, done.stderr), (1, b"", b"rights-site: cannot listen\n"), address)
 
 
@@ -660,9 +672,14 @@ def a_start_that_fails_is_said():
         said = refusal_of(lambda: Site(1, 2, address, {2: at(other)}, PROGRAM), SiteEnded)
         expect(said, "site 1: the process ended; last line on standard error: rights-site: cannot listen")
     expect(refusal_of(lambda: Site(3, 2, at(own), {2: at(other)}, PROGRAM), SiteEnded)[-16:], "bad command line")
-    mute = ["sh", "-c", "echo starting >&2; exec sleep 20", "sh"]
-    silent = refusal_of(lambda: Site(1, 2, at(own), {2: at(other)}, mute, timeout=0.3), rights_site.SiteSilent)
-    expect(silent, "site 1: no reply within 0.3 seconds; last line on standard error: starting")
+    mute = ["sh", "-c", "echo starting >&2; exec sleep 60", "sh"]
+
+    def is_said(seconds):
+        silent = refusal_of(lambda: Site(1, 2, at(own), {2: at(other)}, mute, timeout=seconds), rights_site.SiteSilent)
+        return silent == f"site 1: no reply within {seconds} seconds; last line on standard error: starting"
+
+    # On a busy machine that line may come late.
+    expect(any(is_said(seconds) for seconds in (0.3, 3, 30)), True)
 
 
 def a_program_that_is_nowhere_is_said():
@@ -701,17 +718,31 @@ def threads_share_a_client():
         expect(faults, [])
 
 
-def idle_sites_take_no_processor_time():
-    """Nor right after a site caught up, when threads polled for the next line."""
+def threads_of_idle_sites_sleep():
+    """All of them, also after a site caught up, when threads polled for the next line: none runs, or wants to."""
     with Sites(2, started=[1]) as sites:
         sites[1].ask_all(["issue 5000", *["spend 1 0"] * 4999])
         sites[1].ask("tick 1")
         sites.start(2)
         wait_for("site 2 caught up", lambda: sites[1].ask("tick 1") and sees(sites[2], 1, applied=5000)())
-        used = [-processor_seconds(sites[number]) for number in (1, 2)]
-        time.sleep(1)
-        used = [before + processor_seconds(sites[number]) for before, number in zip(used, (1, 2))]
-        expect(max(used) <= 0.05, True, f"seconds of processor time in a second: {used}")
+        for number in (1, 2):
+            wait_for(f"the threads of site {number} sleep", lambda: all_sleep(sites[number]))
+
+
+def all_sleep(site):
+    """Whether all threads of a site sleep at each of fifty looks."""
+    for _ in range(50):
+        if set(states_of_threads(site)) != {"S"}:
+            return False
+        time.sleep(0.01)
+    return True
+
+
+def states_of_threads(site):
+    folder = f"/proc/{site.process.pid}/task"
+    for thread in os.listdir(folder):
+        with open(f"{folder}/{thread}/stat") as stat:
+            yield stat.read().rpartition(")")[2].split()[0]
 
 
 CASES = [case("Loopback", [
@@ -723,6 +754,7 @@ CASES = [case("Loopback", [
     a_closed_sites_rights_are_taken_back,
     waiting_spends_are_served_by_one_tick,
     outcomes_that_nobody_reads,
+    a_spend_is_cancelled_and_rights_are_taken,
     lines_of_the_last_tick_go_out,
     a_site_ends_and_others_go_on,
     replies_come_at_once,
@@ -755,5 +787,5 @@ CASES = [case("Loopback", [
     a_program_that_is_nowhere_is_said,
     one_command_a_line,
     threads_share_a_client,
-    idle_sites_take_no_processor_time,
+    threads_of_idle_sites_sleep,
 ])]

@@ -7,7 +7,7 @@ import threading
 import time
 from contextlib import suppress
 
-from line_model import MOST_BYTES, Hello, message_in
+from line_model import COUNTS, MOST_BYTES, SITES, Hello, message_in, number_in
 from site_model import RunningSite
 
 CONNECT_SECONDS = 1
@@ -22,6 +22,38 @@ class Limits:
     newest_wins = True
     says_hello = True
     sends_at_end = True
+
+
+def number_in_words(text, numbers):
+    return number_in(text.encode(), numbers) if text is not None else None
+
+
+def options_in(words):
+    """The number of the site, how many there are, where it listens, and where each peer does; None where the words are
+    refused."""
+    options, peers = {}, []
+    words = list(words)
+    while words:
+        word = words.pop(0)
+        if word in ("--id", "--sites", "--listen"):
+            if word in options or not words:
+                return None
+            options[word] = words.pop(0)
+        elif word.startswith("-") or "=" not in word:
+            return None
+        else:
+            peers.append(word.split("=", 1))
+    count = number_in_words(options.get("--sites"), COUNTS)
+    number = number_in_words(options.get("--id"), range(1, (count or 0) + 1))
+    numbers = [number_in_words(text, SITES) for text, _ in peers]
+    if number is None or "--listen" not in options or None in numbers or not are_peers(number, count, numbers):
+        return None
+    return number, count, options["--listen"], dict(zip(numbers, (address for _, address in peers)))
+
+
+def are_peers(number, count, numbers):
+    """Whether these numbers are those of all other sites, each once."""
+    return sorted([*numbers, number]) == list(range(1, count + 1))
 
 
 def address_of(text):
@@ -46,19 +78,32 @@ class Process:
     def run(self):
         for thread in [threading.Thread(target=self.accept_all, daemon=True), *self.senders]:
             thread.start()
-        self.answer_all()
+        status = self.answer_or_fail()
         with self.lock:
             self.is_ending = True
             if not self.limits.sends_at_end:
                 for peer in self.peers:
                     self.model.take(peer)
             self.lock.notify_all()
+        self.send_last()
+        os._exit(status)
+
+    def send_last(self):
+        """Waits until what waits in the outboxes was sent, for a while."""
         until = time.monotonic() + LAST_SECONDS
         for thread in self.senders:
             thread.join(max(0, until - time.monotonic()))
-        os._exit(0)
 
     # ---- commands
+
+    def answer_or_fail(self):
+        """Answers all commands. The exit status."""
+        try:
+            self.answer_all()
+        except OSError:
+            print("rights-site: write failed", file=sys.stderr, flush=True)
+            return 1
+        return 0
 
     def answer_all(self):
         for line in sys.stdin.buffer:
@@ -88,28 +133,36 @@ class Process:
 
     def hear_all(self, stream):
         with stream, suppress(OSError):
-            peer, rest = self.handshake(stream)
+            peer = None
+            try:
+                peer, rest = self.handshake(stream)
+            finally:
+                self.wait_no_more(peer)
             if peer is not None:
                 self.hear(peer, stream, rest)
 
+    def wait_no_more(self, peer):
+        """A connection has said its first line, of this peer, or is closed without one."""
+        with self.lock:
+            self.waiting -= 1
+
     def handshake(self, stream):
         """The peer that a first line names, and what came behind it."""
-        try:
-            until = time.monotonic() + self.limits.hello_seconds
-            unread = b""
-            while b"\n" not in unread and len(unread) < MOST_BYTES:
-                stream.settimeout(max(0.001, until - time.monotonic()))
-                block = stream.recv(1 << 16)
-                if not block:
-                    return None, b""
-                unread += block
-        finally:
-            with self.lock:
-                self.waiting -= 1
+        until = time.monotonic() + self.limits.hello_seconds
+        unread = b""
+        while b"\n" not in unread and len(unread) < MOST_BYTES:
+            stream.settimeout(max(0.001, until - time.monotonic()))
+            block = stream.recv(1 << 16)
+            if not block:
+                return None, b""
+            unread += block
         line, _, rest = unread.partition(b"\n")
-        message = message_in(line)
-        is_known = isinstance(message, Hello) and message.site in self.peers
-        return (message.site if is_known else None), rest
+        return self.peer_in(line), rest
+
+    def peer_in(self, line):
+        """The peer that a first line names, here without its line feed, or None."""
+        message = message_in(line) if len(line) < MOST_BYTES else None
+        return message.site if isinstance(message, Hello) and message.site in self.peers else None
 
     def hear(self, peer, stream, unread):
         stream.settimeout(None)

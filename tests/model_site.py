@@ -11,18 +11,28 @@ import sys
 
 sys.path.insert(0, os.path.dirname(os.path.abspath(__file__)))
 
+import model_process  # noqa: E402
 from bug_kit import all_bugs  # noqa: E402
-from model_process import Limits, Process  # noqa: E402
 
 
 def main(words):
-    limits = Limits()
+    limits = model_process.Limits()
     if words[:1] == ["--bug"]:
         all_bugs()[words[1]](limits)
         words = words[2:]
-    options = {words[place]: words[place + 1] for place in range(0, 6, 2)}
-    peers = {int(number): address for number, address in (word.split("=", 1) for word in words[6:])}
-    Process(int(options["--id"]), int(options["--sites"]), options["--listen"], peers, limits).run()
+    if (options := model_process.options_in(words)) is None:
+        sys.exit(fails("bad command line", 2))
+    try:
+        process = model_process.Process(*options, limits)
+    except (OSError, ValueError):
+        sys.exit(fails("cannot listen", 1))
+    process.run()
+
+
+def fails(cause, status):
+    """Says why it ends, and with which status."""
+    print(f"rights-site: {cause}", file=sys.stderr)
+    return status
 
 
 if __name__ == "__main__":

@@ -3,13 +3,16 @@
 import atexit
 import filecmp
 import glob
+import gzip
 import os
 import re
 import shutil
 import subprocess
 import sys
 import tempfile
+from pathlib import Path
 
+import documents
 from cases import Skipped, case
 from cluster import PROGRAM, TOP, expect
 from outputs import output_fault
@@ -17,8 +20,6 @@ from outputs import output_fault
 EXAMPLE = os.path.join("examples", "two-sites-one-batch")
 ROOM = tempfile.mkdtemp()
 atexit.register(shutil.rmtree, ROOM, ignore_errors=True)
-# Those that are for who has the package alone.
-PAGES = ["README.md", "CHANGELOG.md", "docs/OPERATIONS.md", "examples/ticket-sale/README.md"]
 TARBALL, DEBIAN = os.path.join(ROOM, "tarball"), os.path.join(ROOM, "debian")
 SHARE = os.path.join(DEBIAN, "usr", "share", "doc", "rights-site")
 
@@ -87,12 +88,36 @@ def the_version_is_that_of_the_program():
 
 def documents_link_to_what_is_packed():
     """Each page that is packed links to nothing but what lies beside it: in a package there is no repository."""
-    for folder in (unpacked(), SHARE):
-        for page in [os.path.join(folder, name) for name in PAGES]:
-            with open(page) as file:
-                links = re.findall(r"\]\(([^)#:]+)(?:#[^)]*)?\)", file.read())
-            missing = [link for link in links if not os.path.exists(os.path.join(os.path.dirname(page), link))]
-            expect(missing, [], f"links of {page}")
+    for folder in map(Path, (unpacked(), SHARE)):
+        pages = sorted(folder.rglob("*.md"))
+        expect(len(pages) > 10, True, f"pages of {folder}")
+        missing = []
+        for page in pages:
+            for link, anchor in re.findall(r"\]\(([^)#:]*)(?:#([^)]*))?\)", documents.text_of(page)):
+                target = page.parent / link if link else page
+                if not target.exists() or (anchor and anchor not in documents.anchors(target)):
+                    missing.append(f"{page.relative_to(folder)}: {link}#{anchor}")
+        expect(missing, [], f"links in {folder}")
+
+
+def the_debian_package_is_in_order():
+    """What lintian calls errors: no copyright, no changelog in Debian's form, names for a debugger."""
+    version = run(PROGRAM, "--version").split()[1]
+    with gzip.open(os.path.join(SHARE, "changelog.gz"), "rt") as file:
+        changelog = file.read()
+    form = rf"rights-site \({re.escape(version)}\) unstable; urgency=medium\n\n  \* .*\n\n -- .* <.*>  \w{{3}}, \d\d \w{{3}} \d{{4}} \d\d:\d\d:\d\d \+0000\n"
+    expect(bool(re.fullmatch(form, changelog)), True, f"the changelog: {changelog}")
+    with open(os.path.join(SHARE, "copyright")) as file:
+        expect([line.split(":")[0] for line in file if line[:1].isalpha()], ["Format", "Upstream-Name", "Upstream-Contact", "Files", "Copyright", "License"])
+    for program in (os.path.join(DEBIAN, "usr", "bin", "rights-site"), os.path.join(unpacked(), "rights-site")):
+        with open(program, "rb") as file:
+            expect(b".symtab" in file.read(), False, f"{program} has names for a debugger")
+
+
+def lintian_finds_no_error():
+    if shutil.which("lintian") is None:
+        raise Skipped("lintian is not here")
+    run("lintian", "--allow-root", "--fail-on", "error", packed(".deb"))
 
 
 def the_unit_is_in_order():
@@ -119,6 +144,6 @@ CASES = [
     case("Packages", [
         the_bytes_are_the_same_each_time, sums_are_right, programs_answer_an_example, the_ticket_sale_runs,
         the_version_is_that_of_the_program,
-        documents_link_to_what_is_packed, the_unit_is_in_order, alert_rules_are_in_order,
+        documents_link_to_what_is_packed, the_debian_package_is_in_order, lintian_finds_no_error, the_unit_is_in_order, alert_rules_are_in_order,
     ], pack),
 ]  # fmt: skip

@@ -2,8 +2,10 @@
 
 import glob
 import os
+import shutil
 import subprocess
 import sys
+import tempfile
 
 from cases import case, case_of_pairs
 from cluster import PROGRAM, TOP, expect
@@ -82,6 +84,18 @@ def the_version():
         expect((status, said.split(b" ")[0], said.count(b"\n"), errors), (0, b"rights-site", 1, b""))
 
 
+def a_clone_answers_before_it_is_built():
+    """`./rights-site` of a clone with no program: the version and the help texts, as the program prints them."""
+    needed = ["rights-site", "crates.txt", "crates/rights_program/src/version.rt", "crates/program_tests/src/tests/words.rt"]
+    with tempfile.TemporaryDirectory() as clone:
+        for name in needed:
+            os.makedirs(os.path.dirname(os.path.join(clone, name)), exist_ok=True)
+            shutil.copy(os.path.join(TOP, name), os.path.join(clone, name))
+        for words in (["--version"], ["-V", "x"], ["--help"], ["-h"], ["sim", "--help"], ["run", "-h"], ["run", "--help"]):
+            done = subprocess.run([os.path.join(clone, "rights-site"), *words], capture_output=True)
+            expect((done.returncode, done.stdout, done.stderr), ended(words), words)
+
+
 # ---- a sale
 
 
@@ -104,6 +118,6 @@ CASES = [
     case_of_pairs("Examples", [(os.path.basename(path)[:-7], lambda path=path: example_fault(path)) for path in EXAMPLES]),
     case("Program", [
         no_commands_need_no_reply, bad_command_lines, addresses_that_are_none, streams_that_fail, help_texts, the_version,
-        the_page_is_compiled_in, sales,
+        a_clone_answers_before_it_is_built, the_page_is_compiled_in, sales,
     ]),
 ]  # fmt: skip

@@ -4,6 +4,7 @@ where there is Redis. Each rate is the best of three runs."""
 
 import os
 import shutil
+import socket
 import statistics
 import subprocess
 import sys
@@ -18,6 +19,7 @@ from exchanges import exchange  # noqa: E402
 RUNS = 3
 SPENDS = 2_000_000
 ENTRIES = 1_000_000
+SENT = 400_000
 MISSED = 1_000_000
 GIVES = 1_000
 UNSENT = 1_000_000, 3_000_000
@@ -87,6 +89,37 @@ def wait(sites, condition):
             until = time.perf_counter() + PATIENCE
 
 
+def sent_entries():
+    """Entries of a peer, which sends them without a pause, into one site: how many a second; the microseconds of the
+    site's processor time for each, in the program and in the system; and how often a thread of the site slept."""
+    lines = b"".join(b"E 2 %d %d I:1\n" % (number, number + 1) for number in range(SENT))
+    with Cluster(2, started=[1]) as sites:
+        site = sites[1]
+        with socket.create_connection(("127.0.0.1", sites.ports[0])) as stream:
+            stream.sendall(b"H 2\n")
+            before = spent_by(site.process.pid)
+            begun = time.perf_counter()
+            stream.sendall(lines)
+            while site.status()["peers"][0]["applied"] < SENT:
+                time.sleep(0.005)
+            took = time.perf_counter() - begun
+            used = [after - start for after, start in zip(spent_by(site.process.pid), before)]
+        program, system = (seconds * 1e6 / SENT for seconds in used[:2])
+        return SENT / took, program, system, used[2]
+
+
+def spent_by(pid):
+    """The processor seconds of a process so far, in the program and in the system, and how often its threads slept."""
+    folder = f"/proc/{pid}"
+    with open(f"{folder}/stat") as stat:
+        ticks = stat.read().rpartition(")")[2].split()[11:13]
+    sleeps = 0
+    for task in os.listdir(f"{folder}/task"):
+        with open(f"{folder}/task/{task}/status") as status:
+            sleeps += int(status.read().partition("\nvoluntary_ctxt_switches:")[2].split()[0])
+    return *(int(count) / os.sysconf("SC_CLK_TCK") for count in ticks), sleeps
+
+
 def caught_up():
     """Entries a second that a site catches up with by queries, after it missed so many."""
     with Cluster(2, started=[1]) as sites:
@@ -139,6 +172,10 @@ def main():
     redis = beside(redis_rates.carried_takes, ENTRIES, "from a Redis server to a replica")
     rate = best(carried_entries)
     print(f"run entries: {rate:,.0f} entries/s to another process ({ENTRIES} entries){redis}", flush=True)
+    for _ in range(RUNS):
+        rate, program, system, sleeps = sent_entries()
+        spent = f"{program:.2f} us in the program and {system:.2f} us in the system for each, {sleeps} sleeps"
+        print(f"run entries of a peer: {rate:,.0f} entries/s into one site ({SENT} entries); {spent}", flush=True)
     redis = beside(redis_rates.caught_up, MISSED, "a replica of a Redis server")
     rate = best(caught_up)
     each = f"{16e6 / rate:,.0f} us for each answer of 16"

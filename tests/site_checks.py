@@ -1,44 +1,97 @@
 """Checks of one running site, each named after the rule of docs/PROTOCOL.md that it tries.
 
-The site is site 1, and the test is all its peers: it speaks the line protocol itself. A check is a list of inputs. What
+The site is site 1 mostly, and the test is all its peers: it speaks the line protocol itself. A check is a list of inputs. What
 the site has to say to them is what the model of a running site says, so each check compares all replies, all lines to
 each peer, and the status object after each input.
 """
 
+from types import FunctionType
+
 import desk_checks
+import end_checks
 import link_checks
 import log_checks
+import reading_checks
+import word_checks
 from site_trial import Trial
 
 # What neither these checks nor the seeded runs test.
 NOT_TRIED = [
     "want of memory, and `error OutOfMemory`",
     "logs that become full (LogFull), and 10^9 lines on one connection",
-    "addresses that are names, and peers with several addresses",
+    "names other than `localhost`, addresses of IPv6, and peers with several addresses",
+    "that a tick waits for lines that wait in an outbox",
     "that an attempt to connect is given up after a second",
-    "that lines which wait together are written together, and that replies are written before the next read of a slow input",
-    "the command line, its refusals, and the exit statuses 1 and 2",
+    "that a first line and the one behind it, and lines which wait together, are written together, and that replies are written before the next read of a slow input",
+    "the command line, its refusals, and the exit statuses 1 and 2, which `./conformance words` tries",
 ]
 
 # How many sites a check's system has, where it is not three.
-SITES = {"equal_peers_are_asked_by_their_numbers": 4, "all_sites_of_a_system_of_16_are_heard": 16}
+SITES = {
+    "a_first_line_may_come_in_pieces": 16,
+    "a_line_of_9000_bytes_is_read": 16,
+    "a_site_of_a_system_of_two": 2,
+    "all_sites_of_a_system_of_16_are_heard": 16,
+    "equal_peers_are_asked_by_their_numbers": 4,
+    "equal_peers_of_two_digits_are_asked_by_their_numbers": 16,
+    "many_peers_are_asked_together": 6,
+    "site_16_is_a_site_as_any": 16,
+}
+
+# The number of the site that is tried, where it is not 1.
+NUMBERS = {"a_site_in_the_middle_is_a_site_as_any": 2, "site_16_is_a_site_as_any": 16, "a_site_of_a_system_of_two": 2}
+
+# The checks whose site is given a name for the host of its peers.
+NAMED = ("an_address_may_be_a_name",)
 
 # The peers that listen later.
-LATE = {"an_outbox_has_256_lines": (2, 3)}
+LATE = {
+    "a_failed_attempt_loses_its_line_alone": (2,),
+    "an_outbox_has_256_lines": (2, 3),
+    "peers_that_answer_no_attempt_hold_up_no_end": (2, 3),
+    "the_next_line_makes_the_next_attempt": (2, 3),
+}
 TRIES = 20
+
+# The modules whose checks need a process, and not its model alone.
+OF_CONNECTIONS = ("link_checks", "end_checks", "word_checks")
+
+
+def system_of(name):
+    """How many sites the system of a check has, and the number of the one that is tried."""
+    return SITES.get(name, 3), NUMBERS.get(name, 1)
 
 
 def all_checks():
-    """Each check with its name, in the order of the files."""
-    for module in (desk_checks, log_checks, link_checks):
-        for name, check in list(vars(module).items()):
-            if callable(check) and getattr(check, "__module__", None) == module.__name__:
-                yield name, check
+    """Each check of a running site with its name, file by file."""
+    for module in (link_checks, end_checks, desk_checks, log_checks, reading_checks):
+        yield from checks_of(module)
+
+
+def checks_of_words():
+    """Each check of the command line with its name."""
+    yield from checks_of(word_checks)
+
+
+def checks_of(module):
+    for name, check in list(vars(module).items()):
+        if is_check(check, module):
+            yield name, check
+
+
+def is_check(value, module):
+    """Whether it is a function of the module itself whose only parameter is a trial."""
+    return getattr(value, "__module__", None) == module.__name__ and isinstance(value, FunctionType) and (
+        value.__code__.co_varnames[: value.__code__.co_argcount] == ("trial",)
+    )
 
 
 def try_check(name, check, command):
     """Raises what a check fails with. One that the machine is too busy for is tried again."""
+    count, number = system_of(name)
     for _ in range(TRIES):
-        with Trial(command, SITES.get(name, 3), LATE.get(name, ())) as trial:
+        host = "localhost" if name in NAMED else "127.0.0.1"
+        with Trial(command, count, LATE.get(name, ()), number, host) as trial:
             if check(trial) is not False:
+                trial.finish()
                 return

@@ -24,6 +24,7 @@ NO_COMMANDS = [
     b"tick", b"tick +1", b"outcome", b"status 1", b"close 0", b"close 17", b"close 2 3", b"quit 1", b"post 1 I:1",
     b" status", b"status ", b"stat", b"issue +1", b"issue 1_0", b"issue 0x1", b"issue 1.0", b"issue 1\0", b"issue 1\x001",
     b"issue 18446744073709551617", b"give 18 1", b"give +2 1", b"give 02 1", b"spend 1  2", b"tick ", b"close ", b"close 01",
+    b"take", b"take 1 2", b"take -1", b"cancel", b"cancel 1 1", b"spend +1 5",
     b"report", b"\xff\xfe", b"\x00", b"H 2", b"x" * (MOST_BYTES - 1), b"x" * MOST_BYTES,
     b"issue ".ljust(MOST_BYTES + 7, b"1"),
 ]  # fmt: skip
@@ -107,7 +108,8 @@ class Inputs:
             return rng.choice(NO_COMMANDS)
         if rng.random() < self.closes:
             return b"close" if rng.random() < 0.5 else b"close %d" % self.site()
-        name = weighted(rng, {"issue": 4, "give": 5, "spend": 7, "outcome": 3, "tick": 6, "status": 1})
+        weights = {"issue": 4, "give": 5, "spend": 7, "take": 2, "outcome": 3, "cancel": 1, "tick": 6, "status": 1}
+        name = weighted(rng, weights)
         match name:
             case "issue":
                 return b"issue %d" % (self.amount() * rng.choice([1, 1, 10]))
@@ -115,8 +117,10 @@ class Inputs:
                 return b"give %d %d" % (self.site(), self.amount())
             case "spend":
                 return b"spend %d %d" % (self.amount(), self.time())
-            case "outcome":
-                return b"outcome %d" % rng.randint(0, self.desk.tickets + 1)
+            case "take":
+                return b"take %d" % self.amount()
+            case "outcome" | "cancel":
+                return b"%s %d" % (name.encode(), rng.randint(0, self.desk.tickets + 1))
             case "tick":
                 return self.tick()
             case "status":

@@ -1,16 +1,21 @@
-"""Site 1 of a system whose other sites are the test, for checks: what it has to say is what the model of a running site
+"""A site of a system whose other sites are the test, for checks: what it has to say is what the model of a running site
 says."""
 
 from site_driver import Node
 
 
 class Trial:
-    """Site 1 of a system whose other sites are the test."""
+    """A site of a system whose other sites are the test."""
 
-    def __init__(self, command, count=3, late=()):
-        """`late` are the peers that do not listen yet."""
-        self.node = Node(1, count, command, late)
+    def __init__(self, command, count=3, late=(), number=1, host="127.0.0.1"):
+        """`late` are the peers that do not listen yet; `host` is where the site is told that they are."""
+        self.given = command, count, late, number, host
+        self.node = Node(number, count, command, late, host)
         self.time = 0
+
+    def again(self):
+        """Another one, from its start."""
+        return type(self)(*self.given)
 
     def __enter__(self):
         return self
@@ -41,6 +46,15 @@ class Trial:
 
     def end(self, by_quit=True):
         self.node.end(by_quit)
+
+    def finish(self):
+        """What a site says later than it should comes before the answer to a last query, or at its end. A check may have
+        ended it."""
+        if self.node.site.process.poll() is None and not self.node.site.process.stdin.closed:
+            for number, peer in self.node.peers.items():
+                if peer.hears:
+                    self.hear(number)
+            self.end()
 
 
 def entries(origin, *texts, prev=0):

@@ -27,8 +27,8 @@ def own_words(words):
         path = os.path.abspath(words[place + 1])
         del words[place : place + 2]
     else:
-        # It says itself what is missing.
-        if subprocess.run([os.path.join(TOP, "rights-site"), "--version"], stdout=subprocess.DEVNULL).returncode != 0:
+        # An empty script, so that it is built. It says itself what is missing.
+        if subprocess.run([os.path.join(TOP, "rights-site"), "sim"], stdin=subprocess.DEVNULL).returncode != 0:
             sys.exit("tests/suite.py: there is no program; --program PATH tries another build")
         path = os.path.join(TOP, "crates", "rights_site", "out", "rights_site")
     os.environ["RIGHTS_SITE"] = path
@@ -103,14 +103,18 @@ if __name__ == "__main__":
         sys.exit(0)
     words = own_words(sys.argv[1:])
     import documents
+    import lane_orders
     import lockstep
     import loopback
     import over_http
     import packages
     import program
+    import repository
+    import schedules
     import scripts
+    import timing
 
-    modules = [documents, program, scripts, loopback, over_http, lockstep, packages]
+    modules = [repository, documents, lane_orders, program, scripts, loopback, over_http, timing, schedules, lockstep, packages]
     CASES = [case for module in modules for case in module.CASES]
     for each in CASES:
         globals()[each.__name__] = each

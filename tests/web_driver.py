@@ -6,10 +6,8 @@ import threading
 from collections import namedtuple
 from contextlib import suppress
 
-from cluster import Cluster, at, expect, free_ports, reset_at_its_end, wait_for
+from cluster import PATIENCE, Cluster, at, expect, free_ports, reset_at_its_end, wait_for
 
-# What is waited for comes within so many seconds, or never.
-PATIENCE = 20
 SAMPLE = re.compile(r'([a-z_]+)(?:\{([a-z]+)="([^"]*)"\})? (0|[1-9][0-9]*)')
 ENDED = re.compile(
     r"rights-site: ended: issued (\d+) spent (\d+) given (\d+) received (\d+) held (\d+); told issued (\d+) spent (\d+) served (\d+)"
@@ -22,7 +20,7 @@ Report = namedtuple("Report", "issued spent given received held told_issued told
 def request(method, target, body=None, *fields):
     """The bytes of a request. Without a body it has no length."""
     length = [] if body is None else [f"content-length: {len(body)}"]
-    return "\r\n".join([f"{method} {target} HTTP/1.1", "host: site", *length, *fields, "", ""]).encode() + (body or b"")
+    return "\r\n".join([f"{method} {target} HTTP/1.1", "host: localhost", *length, *fields, "", ""]).encode() + (body or b"")
 
 
 def post(*commands, target="/"):
@@ -113,13 +111,13 @@ class Client:
 class WebCluster(Cluster):
     """Sites that serve HTTP too."""
 
-    def __init__(self, count, *rest, tick=None, log=False, **others):
-        self.tick, self.log = tick, log
+    def __init__(self, count, *rest, tick=None, log=False, hosts=(), errors=None, **others):
+        self.tick, self.log, self.hosts, self.errors = tick, log, hosts, errors
         self.web_ports = free_ports(count)
         super().__init__(count, *rest, **others)
 
     def options(self, number):
-        return {"http": self.address(number), "tick": self.tick, "log": self.log}
+        return {"http": self.address(number), "hosts": self.hosts, "tick": self.tick, "log": self.log, "errors": self.errors}
 
     def address(self, number=1):
         return at(self.web_ports[number - 1])
@@ -140,7 +138,7 @@ class WebCluster(Cluster):
     def end(self, number=1):
         """Ends a site, and returns its report."""
         site = self.sites[number]
-        status = site.end(timeout=10)
+        status = site.end(timeout=PATIENCE)
         found = [line for line in site.said().splitlines() if ENDED.fullmatch(line)]
         if status != 0 or len(found) != 1:
             raise AssertionError(f"site {number} ended with status {status} and said {site.said()!r}")

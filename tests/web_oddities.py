@@ -15,12 +15,12 @@ from web_sites import expect_slots, waiting
 def forms_of_a_target():
     """A query is not looked at, and a target may be absolute; no other text stands for a path."""
     with alone() as sites, sites.client() as client:
-        for number, target in enumerate(["/?x", "/?", "/?a=b&c=%20", "http://site/", "http://site", "HTTP://site:80/?x"], 1):
+        for number, target in enumerate(["/?x", "/?", "/?a=b&c=%20", "http://localhost/", "http://127.0.0.1", "HTTP://localhost:80/?x"], 1):
             answer = client.ask(request("POST", target, b"issue 1"))
             expect_served(answer, 200, b"number %d\n" % number, what=target)
         expect_served(client.ask(request("POST", "/wait?x", b"issue 1")), 200, b"number 7\n")
         expect_served(client.ask(request("GET", "/healthz?verbose=1")), 200, b"ok\n")
-        expect_served(client.ask(request("HEAD", "http://site/status?x"), is_head=True), 200, b"", "application/json")
+        expect_served(client.ask(request("HEAD", "http://localhost/status?x"), is_head=True), 200, b"", "application/json")
         for target in ["/%73tatus", "/./status", "/a/../status", "/status;x", "*"]:
             expect_served(client.ask(request("POST", target, b"issue 1")), 404, what=target)
         expect_served(client.ask(request("OPTIONS", "*")), 404, what="OPTIONS *")
@@ -39,11 +39,16 @@ def versions_and_connections():
             client.send(request("POST", "/", b"issue 1", "connection: Close") + post("issue 1") * 3)
             expect_served(client.read(), 200, b"number 3\n")
             expect(client.has_ended(), True, "after a request that asked to close")
-        for version in (b"HTTP/0.9", b"HTTP/1.2", b"HTTP/2.0", b"http/1.1", b"HTTP/1.1 "):
-            with sites.client() as client:
-                client.send(b"POST / " + version + b"\r\nhost: site\r\ncontent-length: 7\r\n\r\nissue 1")
-                expect(client.read().status // 100 in (4, 5), True, version)
-                expect(client.has_ended(), True, version)
+        for version, status in [(b"HTTP/0.9", 505), (b"HTTP/1.2", 505), (b"HTTP/2.0", 505), (b"http/1.1", 505), (b"HTTP/1.1 ", 400)]:
+            text = b"POST / " + version + b"\r\nhost: localhost\r\ncontent-length: 7\r\n\r\nissue 1"
+            for before in range(3):
+                # What came before it on the connection is answered first.
+                with sites.client() as client:
+                    client.send(request("GET", "/healthz") * before + text)
+                    for _ in range(before):
+                        expect_served(client.read(), 200, b"ok\n", what=version)
+                    expect(client.read().status, status, version)
+                    expect(client.has_ended(), True, version)
         expect(sites[1].status()["issued"], 3)
 
 
@@ -96,6 +101,11 @@ def bodies_in_chunks():
         expect_served(client.ask(head + b"00007;x=\"y\"\r\nissue 1\r\n0;z\r\nx-trailer: 1\r\n\r\n"), 200, b"number 3\n", what="with trailers")
         expect(client.ask(request("POST", "/", None, "transfer-encoding: chunked", "expect: 100-continue")).status, 100)
         expect_served(client.ask(b"7\r\nissue 1\r\n0\r\n\r\n"), 200, b"number 4\n", what="chunks that are waited for")
+        for size in (b"10000000000000000", b"8000000000000000", b"ffffffffffffffff", b"100001"):
+            # A size of 64 bits is refused once more than a body may have has come of it.
+            with sites.client() as other:
+                expect(other.ask(head + size + b"\r\n" + b"x" * 1_100_000).status, 413, size)
+                expect(other.has_ended(), True, size)
         for body in [b"x\r\n", b"-1\r\n", b"7\r\nissue 1x\r\n", b"7\nissue 1\n0\n\n", b"10000000000000007\r\n", b"7\r\nissue 1\r\n", b"7\r\nissu"]:
             with sites.client() as other:
                 other.send(head + body)
