@@ -1,15 +1,17 @@
 """A client of a site over HTTP. Any number of processes and threads can sell from one site.
 
     site = SiteClient("127.0.0.1:8001")
-    site.ask("issue 100")                       # 'number 1'
-    site.ask(f"spend 3 {in_seconds(5)}")        # 'spent 2', or 'queued 1' if too little is held
-    site.wait(f"spend 3 {in_seconds(5)}")       # 'spent 3', or 'expired' if no rights came within five seconds
-    site.status()["held"]                       # 94
+    site.issue(100)                             # 1, the number of the entry
+    site.take(3)                                # Spent(number=2); raises CommandRefused, 'Short', if too little is held
+    site.spend(3, within=5.0)                   # Spent(number=3), or Expired() if no rights came within five seconds
+    site.give(2, 10)                            # 4, or raises CommandRefused as well
+    site.status()["held"]                       # 84
     site.close()
 
-The site must have been started with `--http` and `--tick`. The calls are those of the class in `rights_site.py`, which
-starts a site and owns its standard streams. Threads may share a client, which keeps some connections open; a forked
-process makes connections of its own. Only Python's standard library is used.
+The site must have been started with `--http` and `--tick`. `ask`, `ask_all` and `wait` take commands as text and return
+replies as text; the first two are also those of the class in `rights_site.py`, which starts a site and owns its standard
+streams. Threads may share a client, which keeps some connections open; a forked process makes connections of its own.
+Only Python's standard library is used.
 
 **What is retried, and what is not.** Requests for the status or the metrics are retried, since they change nothing.
 Commands are sent again only if it is certain that the site did not carry them out: no connection was made, the request
@@ -32,13 +34,85 @@ import threading
 import time
 from collections.abc import Callable, Iterable
 from contextlib import suppress
-from typing import Any
+from dataclasses import dataclass
+from typing import Any, TypedDict, Union
 
 # The greatest number of bytes of a body.
 LONGEST_BODY = 1_048_576
 # The site closes a connection on which nothing was sent for 60 seconds. Shortly before that, it is no longer used.
 IDLE = 50.0
 SAMPLE = re.compile(r'^([a-z_]+)(?:\{[a-z]+="([^"]*)"\})? (\d+)$', re.MULTILINE)
+
+
+
+# ---- what a site replies
+
+
+@dataclass(frozen=True)
+class Spent:
+    """The rights were spent. `number` is that of the entry in the site's log."""
+
+    number: int
+
+
+@dataclass(frozen=True)
+class Expired:
+    """The deadline passed before enough rights were held. Nothing was spent."""
+
+
+@dataclass(frozen=True)
+class Queued:
+    """The spend waits in the queue of the site; `SiteClient.outcome` of this ticket tells what becomes of it."""
+
+    ticket: int
+
+
+@dataclass(frozen=True)
+class Waiting:
+    """The spend still waits."""
+
+
+@dataclass(frozen=True)
+class Unknown:
+    """There is no such spend, or its outcome was read before."""
+
+
+Reply = Union[Spent, Expired, Queued, Waiting, Unknown]
+
+
+class PeerStatus(TypedDict):
+    """What a status says of a peer: how far its log is applied, and what is missing of it."""
+
+    applied: int
+    buffering: bool
+    held: int
+    site: int
+
+
+class Status(TypedDict):
+    """The status object of a site: rights, the amount that waits, the number of its last entry, and its peers."""
+
+    closed: bool
+    held: int
+    issued: int
+    number: int
+    peers: list[PeerStatus]
+    queued: int
+    received: int
+    site: int
+    spent: int
+
+
+# ---- what may go wrong
+
+
+class CommandRefused(Exception):
+    """The site refused the command, and nothing was changed. `name` is that of docs/PROTOCOL.md, as `Short`."""
+
+    def __init__(self, name: str, command: str) -> None:
+        super().__init__(f"{command!r} is refused: {name}")
+        self.name = name
+        self.command = command
 
 
 class SiteUnreachable(Exception):
@@ -80,6 +154,51 @@ class SiteClient:
 
     # ---- commands
 
+    def issue(self, amount: int) -> int:
+        """Creates rights, and returns the number of the entry."""
+        return number_of(self._reply(f"issue {amount}"))
+
+    def give(self, peer: int, amount: int) -> int:
+        """Gives rights that the site holds to another site, and returns the number of the entry."""
+        return number_of(self._reply(f"give {peer} {amount}"))
+
+    def spend(self, amount: int, *, within: float = 0.0) -> Spent | Expired | Queued:
+        """Spends rights, if the site holds enough, or gets them from other sites, within so many seconds. Returns once
+        that is decided, which is after one of its ticks if it does not hold enough. Queued only if the site ends
+        meanwhile."""
+        command = f"spend {amount} {in_seconds(within)}"
+        found = result_of(refusal_raised(self.wait(command, within + self._timeout), command))
+        if isinstance(found, (Spent, Expired, Queued)):
+            return found
+        # Another client asked for this ticket, and got the outcome.
+        raise AnswerLost("its outcome was read by another client", [command])
+
+    def take(self, amount: int) -> Spent:
+        """Spends rights at once, or not at all: raises CommandRefused with the name `Short` if the site holds too few
+        besides those that others wait for."""
+        return Spent(number_of(self._reply(f"take {amount}"), "spent"))
+
+    def cancel(self, ticket: int) -> Spent | Expired | Unknown:
+        """Ends a spend that waits, which then counts as expired. Returns what became of it."""
+        found = result_of(self._reply(f"cancel {ticket}"))
+        assert isinstance(found, (Spent, Expired, Unknown))
+        return found
+
+    def outcome(self, ticket: int) -> Spent | Expired | Waiting | Unknown:
+        """What became of a spend that was queued. An outcome is told once."""
+        found = result_of(self._reply(f"outcome {ticket}"))
+        assert not isinstance(found, Queued)
+        return found
+
+    def close_site(self, heir: int | None = None) -> int:
+        """Closes the site for good, which gives what it holds to the heir. Returns the number of its last entry."""
+        return number_of(self._reply("close" if heir is None else f"close {heir}"))
+
+    def _reply(self, command: str) -> str:
+        return refusal_raised(self.ask(command), command)
+
+    # ---- commands as text
+
     def ask(self, command: str) -> str:
         """Sends one command, and returns its reply without the line feed: `error NAME` if it is refused."""
         return self.ask_all([command])[0]
@@ -98,9 +217,9 @@ class SiteClient:
 
     # ---- status and metrics
 
-    def status(self) -> dict[str, Any]:
+    def status(self) -> Status:
         """The status object."""
-        found: dict[str, Any] = json.loads(self._get("/status"))
+        found: Status = json.loads(self._get("/status"))
         return found
 
     def metrics(self) -> dict[str, int | dict[str, int]]:
@@ -237,6 +356,32 @@ def is_silent(stream: socket.socket) -> bool:
     return not watch.poll(0)
 
 
+def refusal_raised(reply: str, command: str) -> str:
+    """The reply. Raises CommandRefused if it is a refusal."""
+    word, _, name = reply.partition(" ")
+    if word == "error":
+        raise CommandRefused(name, command)
+    return reply
+
+
+def number_of(reply: str, word: str = "number") -> int:
+    """The number of a reply `number N`, or after another word."""
+    if found := re.fullmatch(word + r" ([0-9]+)", reply):
+        return int(found[1])
+    raise SiteRefused(f"not the reply of a site: {reply!r}")
+
+
+def result_of(reply: str) -> Reply:
+    """What a reply to a spend, or to a question for its outcome, says."""
+    for pattern, kind in ((r"spent ([0-9]+)", Spent), (r"queued ([0-9]+)", Queued)):
+        if found := re.fullmatch(pattern, reply):
+            return kind(int(found[1]))
+    plain: dict[str, Reply] = {"expired": Expired(), "waiting": Waiting(), "unknown": Unknown()}
+    if reply in plain:
+        return plain[reply]
+    raise SiteRefused(f"not the reply of a site: {reply!r}")
+
+
 def line_of(command: str) -> bytes:
     """The line of a command. More than one line would get more than one reply."""
     if "\n" in command:
@@ -255,12 +400,10 @@ def main() -> None:
         with SiteClient(address) as site:
             while True:
                 try:
-                    reply = site.ask(f"spend 1 {in_seconds(0)}")
+                    if not isinstance(site.spend(1), Spent):
+                        return
                 except AnswerLost:
-                    # It may have been sold, so it counts as sold.
-                    reply = "spent ?"
-                if not reply.startswith("spent "):
-                    return
+                    pass  # it may have been sold, so it counts as sold
                 with sold.get_lock():
                     sold.value += 1
 

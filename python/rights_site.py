@@ -72,6 +72,7 @@ class Site:
         program: str | Sequence[str] | None = None,
         *,
         http: str | None = None,
+        hosts: Sequence[str] = (),
         tick: int | None = None,
         once: str | None = None,
         log: bool = False,
@@ -82,15 +83,17 @@ class Site:
 
         `peers` has the address of each other site by its number. `program` is the path of the program, or a list of
         words that replaces it and its word `run`. `http`, `tick` (milliseconds), `once` and `log` are the options of
-        these names. The standard error of the site goes to `errors`, an open file; without it, it is kept, and `said`
+        these names, and `hosts` the names of `--host`. The standard error of the site goes to `errors`, an open file; without it, it is kept, and `said`
         reads it. `timeout` is how many seconds a reply may take: no command waits for another site, but a tick for
         50 milliseconds at most, so a longer wait means that the process is stuck."""
         words = list(program) if isinstance(program, (list, tuple)) else [program or find_program(), "run"]
         words += ["--id", str(number), "--sites", str(sites), "--listen", listen]
         for option, value in (("--http", http), ("--tick", tick), ("--once", once)):
             words += [] if value is None else [option, str(value)]
+        for name in hosts:
+            words += ["--host", name]
         words += ["--log"] if log else []
-        words += [f"{peer}={address}" for peer, address in sorted(peers.items())]
+        words += [f"{peer}={address}" for peer, address in peers.items()]
         self.number = number
         self.timeout = timeout
         self._lock = threading.Lock()
@@ -134,7 +137,7 @@ class Site:
 
     # ---- the end
 
-    def end(self, timeout: float = 5.0) -> int:
+    def end(self, timeout: float = 30.0) -> int:
         """Ends the site by `quit`, waits for it, and returns its exit status. What it holds is lost, so close it first,
         and tick until its peers have applied that."""
         with self._lock:

@@ -17,23 +17,25 @@ import time
 HERE = os.path.dirname(os.path.abspath(__file__))
 sys.path.insert(0, os.path.join(HERE, "..", "..", "python"))
 
-from rights_http import AnswerLost, SiteClient, SiteUnreachable, in_seconds  # noqa: E402
+from rights_http import AnswerLost, CommandRefused, Queued, SiteClient, SiteUnreachable, Spent  # noqa: E402
 
 
 def buy(site, amount, patience):
     """Buys this many tickets. If the site has too few, waits up to `patience` seconds for them. Returns the result."""
     try:
-        reply = site.wait(f"spend {amount} {in_seconds(patience)}")
+        result = site.spend(amount, within=patience)
     except AnswerLost:
         # They may have been sold, so the command is not sent again.
         return "unknown"
     except SiteUnreachable:
         return "refused"
-    if reply.startswith("spent "):
-        return "sold"
-    if reply in ("expired", "error QueueFull", "error Closed"):
-        return "refused"
-    raise SystemExit(f"the site replied {reply!r} to a buyer")
+    except CommandRefused as refusal:
+        if refusal.name in ("QueueFull", "Closed"):
+            return "refused"
+        raise
+    if isinstance(result, Queued):
+        raise SystemExit(f"the site ended before it sold to a buyer: {result}")
+    return "sold" if isinstance(result, Spent) else "refused"
 
 
 def rush(part):

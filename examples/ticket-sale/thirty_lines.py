@@ -5,9 +5,10 @@ import multiprocessing
 import os
 import sys
 import tempfile
+import time
 
 sys.path.insert(0, os.path.join(os.path.dirname(os.path.abspath(__file__)), "..", "..", "python"))
-from rights_http import AnswerLost, SiteClient, in_seconds  # noqa: E402
+from rights_http import AnswerLost, SiteClient, Spent  # noqa: E402
 from rights_site import Site  # noqa: E402
 
 HTTP = {1: "127.0.0.1:8001", 2: "127.0.0.1:8002"}
@@ -19,7 +20,7 @@ def seller(number):
     with SiteClient(HTTP[number]) as site:
         while True:
             try:
-                if not site.wait(f"spend 1 {in_seconds(2)}").startswith("spent "):
+                if not isinstance(site.spend(1, within=2.0), Spent):
                     return sold
             except AnswerLost:
                 pass  # it may have been sold, so it counts as sold, and is not sent again
@@ -32,6 +33,9 @@ if __name__ == "__main__":
         one = Site(1, 2, "127.0.0.1:7001", {2: "127.0.0.1:7002"}, http=HTTP[1], tick=50, once=f"{room}/1")
         two = Site(2, 2, "127.0.0.1:7002", {1: "127.0.0.1:7001"}, http=HTTP[2], tick=50, once=f"{room}/2")
         with one, two, multiprocessing.Pool(4) as sellers:
-            one.ask("issue 100")
+            one.ask_all(["issue 100", "give 2 50"])
+            while two.status()["held"] < 50:
+                time.sleep(0.01)  # until the gift has come, by the next tick
             sold = sellers.map(seller, [1, 1, 2, 2], chunksize=1)
-            print(f"sold {sold}, {sum(sold)} in all; held {one.status()['held'] + two.status()['held']}")
+            held = one.status()["held"] + two.status()["held"]
+            print(f"sold {sum(sold[:2])} at site 1 and {sum(sold[2:])} at site 2, {sum(sold)} in all; held {held}")
