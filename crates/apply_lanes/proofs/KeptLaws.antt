@@ -32,32 +32,32 @@ use Rattle.site_core.specs.Ledgers.{LedgerValue, EntryKeeps, HasApplied, SameApp
 use Rattle.site_core.specs.Ledgers.{TakingLeaves, AppliesEntry, ApplyKeeps, closing_by}
 use Rattle.site_core.proofs.Protocol.{none_applied}
 use Rattle.site_core.specs.Desks.{DeskValue}
-use Rattle.thread_parts.specs.ShardedCounters.{ShardedCounterValue}
+use Rattle.thread_parts.specs.SplitCounters.{SplitCounterValue}
 use Rattle.apply_lanes.specs.Names.{DeskId, IsUnused}
 use Rattle.apply_lanes.specs.Kepts.{KeptValue, IsKept, KeepsProtocol, MatchesBook, HasShards, admitted_count, raised}
 
 -- ---- counters
 
 -- a counter to which nothing was added
-pub raised_none : (t : ShardedCounterValue) → t ≡ raised t 0
+pub raised_none : (t : SplitCounterValue) → t ≡ raised t 0
 raised_none t = let e : t.sum ≡ t.sum + 0
     = omega arith in ap (λ n. record { sum = n; left = t.left; returned = t.returned }) e
 
 -- both have given out the same shards
-record SameShards (t u : ShardedCounterValue) : Type 0 where
+record SameShards (t u : SplitCounterValue) : Type 0 where
   left : u.left ≡ t.left
   returned : u.returned ≡ t.returned
 
-raised_shards : (t u : ShardedCounterValue) (n : ℕ) → u ≡ raised t n → SameShards t u
+raised_shards : (t u : SplitCounterValue) (n : ℕ) → u ≡ raised t n → SameShards t u
 raised_shards t u n h = record {
-  left = ap (λ (x : ShardedCounterValue). x.left) h;
-  returned = ap (λ (x : ShardedCounterValue). x.returned) h;
+  left = ap (λ (x : SplitCounterValue). x.left) h;
+  returned = ap (λ (x : SplitCounterValue). x.returned) h;
 }
 
-raised_sum : (t u : ShardedCounterValue) (n : ℕ) → u ≡ raised t n → u.sum ≡ t.sum + n
-raised_sum t u n h = ap (λ (x : ShardedCounterValue). x.sum) h
+raised_sum : (t u : SplitCounterValue) (n : ℕ) → u ≡ raised t n → u.sum ≡ t.sum + n
+raised_sum t u n h = ap (λ (x : SplitCounterValue). x.sum) h
 
-has_shards : (k : KeptValue) (d : DeskValue) (i s n r : ShardedCounterValue) → HasShards k → SameShards k.issued i
+has_shards : (k : KeptValue) (d : DeskValue) (i s n r : SplitCounterValue) → HasShards k → SameShards k.issued i
     → SameShards k.spent s
     → SameShards k.number n → SameShards k.received r
     → HasShards (record k { desk = d; issued = i; spent = s; number = n; received = r })
@@ -180,7 +180,7 @@ nothing_closing b (Some j) = closes_without (held_by b == 0) j (held_by b) (fron
 -- ---- the lock's value
 
 -- for anything that the desk wrote and applied, if the counters follow its book
-kept_by : (id : DeskId) (k : KeptValue) (d : DeskValue) (i s n r : ShardedCounterValue) → IsKept id k
+kept_by : (id : DeskId) (k : KeptValue) (d : DeskValue) (i s n r : SplitCounterValue) → IsKept id k
     → d.ledger.log.site ≡ k.desk.ledger.log.site
     → d.ledger.book.me ≡ k.desk.ledger.book.me → sites d.ledger.book ≡ sites k.desk.ledger.book
     → MatchesBook d.ledger.book i.sum s.sum n.sum r.sum
@@ -201,7 +201,7 @@ kept_by id k d i s n r is site me count matches_book a b c e protocol = record {
 still_applied : (l m : LedgerValue) → KeepsProtocol l → SameApplied l m → KeepsProtocol m
 still_applied l m h same = (h.0, same.all h.0 h.1)
 
-all_same : (t : ShardedCounterValue) → SameShards t t
+all_same : (t : SplitCounterValue) → SameShards t t
 all_same t = record { left = refl; returned = refl }
 
 -- log and book are unchanged
@@ -252,7 +252,7 @@ kept_skip id k d peer is same =
     (same_entries id k (all_published k.desk.ledger.log peer) is refl refl)
 
 -- the desk wrote an entry, which issued and spent these amounts
-pub kept_write : (id : DeskId) (k : KeptValue) (d : DeskValue) (ms : List Move) (a b : ℕ) (i s : ShardedCounterValue)
+pub kept_write : (id : DeskId) (k : KeptValue) (d : DeskValue) (ms : List Move) (a b : ℕ) (i s : SplitCounterValue)
     → IsKept id k
     → d.ledger.log ≡ with_entry k.desk.ledger.log ms → OwnLeaves k.desk.ledger.book ms d.ledger.book
     → SameApplied k.desk.ledger d.ledger
@@ -315,7 +315,7 @@ has_one l m applied o e h live next of is more =
     (subst (IsChain o) (sym adds.there) (next_applied l applied o e h live next of is))
 
 -- the desk applied the next entry of site o
-pub kept_apply : (id : DeskId) (k : KeptValue) (d : DeskValue) (o : ℕ) (e : EntryValue) (n r : ShardedCounterValue)
+pub kept_apply : (id : DeskId) (k : KeptValue) (d : DeskValue) (o : ℕ) (e : EntryValue) (n r : SplitCounterValue)
     → IsKept id k
     → (a : AppliesEntry k.desk.ledger o e d.ledger) → ApplyKeeps k.desk.ledger o e a.between d.ledger → 1 ≤ o
     → o ≤ id.sites
@@ -372,7 +372,7 @@ admit_left bs i d within free =
     omega (arith, admit_more bs i d within free, h, length-set bs i true)
 
 -- the site at that index was admitted
-pub kept_admit : (id : DeskId) (k : KeptValue) (i : ℕ) (n r : ShardedCounterValue) → IsKept id k → i < 16
+pub kept_admit : (id : DeskId) (k : KeptValue) (i : ℕ) (n r : SplitCounterValue) → IsKept id k → i < 16
     → get_or k.admitted i false ≡ false
     → n ≡ record k.number { left = n.left } → n.left + 1 ≡ k.number.left → r ≡ record k.received { left = r.left }
     → r.left + 1 ≡ k.received.left
@@ -389,8 +389,8 @@ kept_admit id k i n r is within free of_number less of_received fewer =
       matches_book = record {
         issued_is = t.issued_is;
         spent_is = t.spent_is;
-        number_is = ap (λ (x : ShardedCounterValue). x.sum) of_number ∙ t.number_is;
-        received_is = ap (λ (x : ShardedCounterValue). x.sum) of_received ∙ t.received_is;
+        number_is = ap (λ (x : SplitCounterValue). x.sum) of_number ∙ t.number_is;
+        received_is = ap (λ (x : SplitCounterValue). x.sum) of_received ∙ t.received_is;
         numbers = t.numbers;
       };
       has_shards = record {
@@ -402,8 +402,8 @@ kept_admit id k i n r is within free of_number less of_received fewer =
         both_more = omega (arith, p.both_more, less, fewer);
         no_issued_back = p.no_issued_back;
         no_spent_back = p.no_spent_back;
-        no_number_back = ap (λ (x : ShardedCounterValue). x.returned) of_number ∙ p.no_number_back;
-        no_received_back = ap (λ (x : ShardedCounterValue). x.returned) of_received ∙ p.no_received_back;
+        no_number_back = ap (λ (x : SplitCounterValue). x.returned) of_number ∙ p.no_number_back;
+        no_received_back = ap (λ (x : SplitCounterValue). x.returned) of_received ∙ p.no_received_back;
       };
       protocol = is.protocol;
     }
@@ -447,7 +447,7 @@ nothing_tallied d is i s r =
       numbers = λ o. omega (arith, ap (λ (a : Account). a.end) (is.nothing_applied.sums o));
     }
 
-pub opens : (id : DeskId) (d : DeskValue) (i s n r : ShardedCounterValue) (bs : List Bool) → id.site ≡ d.ledger.log.site
+pub opens : (id : DeskId) (d : DeskValue) (i s n r : SplitCounterValue) (bs : List Bool) → id.site ≡ d.ledger.log.site
     → id.sites ≡ sites d.ledger.book
     → d.ledger.book.me ≡ d.ledger.log.site → sites d.ledger.book ≤ 16 → MatchesBook d.ledger.book 0 0 0 0
     → i ≡ record { sum = 0; left = 65; returned = 0 }
@@ -469,23 +469,23 @@ opens id d i s n r bs site count me few matches_book hi hs hn hr places none unu
   same_sites = sym count;
   few = omega (arith, count);
   matches_book = record {
-    issued_is = ap (λ (t : ShardedCounterValue). t.sum) hi ∙ matches_book.issued_is;
-    spent_is = ap (λ (t : ShardedCounterValue). t.sum) hs ∙ matches_book.spent_is;
-    number_is = ap (λ (t : ShardedCounterValue). t.sum) hn ∙ matches_book.number_is;
-    received_is = ap (λ (t : ShardedCounterValue). t.sum) hr ∙ matches_book.received_is;
+    issued_is = ap (λ (t : SplitCounterValue). t.sum) hi ∙ matches_book.issued_is;
+    spent_is = ap (λ (t : SplitCounterValue). t.sum) hs ∙ matches_book.spent_is;
+    number_is = ap (λ (t : SplitCounterValue). t.sum) hn ∙ matches_book.number_is;
+    received_is = ap (λ (t : SplitCounterValue). t.sum) hr ∙ matches_book.received_is;
     numbers = matches_book.numbers;
   };
   has_shards = record {
-    seats = omega (arith, ap (λ (t : ShardedCounterValue). t.left) hi);
-    clock = omega (arith, ap (λ (t : ShardedCounterValue). t.left) hi);
-    both = ap (λ (t : ShardedCounterValue). t.left) hs ∙ sym (ap (λ (t : ShardedCounterValue). t.left) hi);
+    seats = omega (arith, ap (λ (t : SplitCounterValue). t.left) hi);
+    clock = omega (arith, ap (λ (t : SplitCounterValue). t.left) hi);
+    both = ap (λ (t : SplitCounterValue). t.left) hs ∙ sym (ap (λ (t : SplitCounterValue). t.left) hi);
     places = places;
-    appliers = omega (arith, ap (λ (t : ShardedCounterValue). t.left) hn, none);
-    both_more = ap (λ (t : ShardedCounterValue). t.left) hr ∙ sym (ap (λ (t : ShardedCounterValue). t.left) hn);
-    no_issued_back = ap (λ (t : ShardedCounterValue). t.returned) hi;
-    no_spent_back = ap (λ (t : ShardedCounterValue). t.returned) hs;
-    no_number_back = ap (λ (t : ShardedCounterValue). t.returned) hn;
-    no_received_back = ap (λ (t : ShardedCounterValue). t.returned) hr;
+    appliers = omega (arith, ap (λ (t : SplitCounterValue). t.left) hn, none);
+    both_more = ap (λ (t : SplitCounterValue). t.left) hr ∙ sym (ap (λ (t : SplitCounterValue). t.left) hn);
+    no_issued_back = ap (λ (t : SplitCounterValue). t.returned) hi;
+    no_spent_back = ap (λ (t : SplitCounterValue). t.returned) hs;
+    no_number_back = ap (λ (t : SplitCounterValue). t.returned) hn;
+    no_received_back = ap (λ (t : SplitCounterValue). t.returned) hr;
   };
   protocol = (λ o. [], none_applied d.ledger unused.nothing_written unused.nothing_applied);
 }

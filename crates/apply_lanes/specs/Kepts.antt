@@ -13,15 +13,15 @@ use Rattle.site_core.specs.declared.desk.requests.Spending.{Spending}
 use Rattle.site_core.specs.declared.desk.requests.Spending.TheVariants.{Spent, Queued}
 use Rattle.apply_lanes.specs.declared.names.TheConstants.{SEATS, APPLIERS}
 use Rattle.apply_lanes.specs.Names.{DeskId}
-use Rattle.thread_parts.specs.ShardedCounters.{ShardedCounterValue}
+use Rattle.thread_parts.specs.SplitCounters.{SplitCounterValue}
 
 -- the desk, its four counters, which sites have an applier of their logs, and whether the clock's seat was given out
 pub record KeptValue : Type 0 where
   pub desk : DeskValue
-  pub issued : ShardedCounterValue
-  pub spent : ShardedCounterValue
-  pub number : ShardedCounterValue
-  pub received : ShardedCounterValue
+  pub issued : SplitCounterValue
+  pub spent : SplitCounterValue
+  pub number : SplitCounterValue
+  pub received : SplitCounterValue
   pub admitted : List Bool
   pub clock_given : Bool
 
@@ -95,11 +95,11 @@ pub record IsInBalance (k : KeptValue) : Type 0 where
       + taken_back (moves_of k.desk.ledger.log.entries)
 
 -- a counter to which n was added
-abbrev pub raised : ShardedCounterValue → ℕ → ShardedCounterValue
+abbrev pub raised : SplitCounterValue → ℕ → SplitCounterValue
 raised t n = record t { sum = t.sum + n }
 
 -- a counter of which one more shard was given out
-abbrev pub one_less : ShardedCounterValue → ShardedCounterValue → Type 0
+abbrev pub one_less : SplitCounterValue → SplitCounterValue → Type 0
 one_less old new = (new ≡ record old { left = new.left }) × (new.left + 1 ≡ old.left)
 
 -- ---- seats

@@ -29,7 +29,7 @@ use rights_types::{Entry, OutOfMemory, SiteId};
 use site_core::Desk;
 use std::alloc::{Allocator, Global};
 use std::marker::Model;
-use thread_parts::{DeskView, Outlet, Shard, ShardedCounter};
+use thread_parts::{DeskView, Outlet, Shard, SplitCounter};
 
 mod lines;
 mod requests;
@@ -39,10 +39,10 @@ mod requests;
 #[derive(Drop)]
 pub struct Kept<D: DeskNames, A: Allocator = Global> {
     pub(crate) desk: Desk<A>,
-    pub(crate) issued: ShardedCounter<IssuedBy<D>>,
-    pub(crate) spent: ShardedCounter<SpentBy<D>>,
-    pub(crate) number: ShardedCounter<NumberOf<D>>,
-    pub(crate) received: ShardedCounter<ReceivedBy<D>>,
+    pub(crate) issued: SplitCounter<IssuedBy<D>>,
+    pub(crate) spent: SplitCounter<SpentBy<D>>,
+    pub(crate) number: SplitCounter<NumberOf<D>>,
+    pub(crate) received: SplitCounter<ReceivedBy<D>>,
     // For each site's log, whether an applier was given out.
     pub(crate) admitted: [bool; 16],
     // Whether the clock's seat was given out. Until then one shard of `issued` and one of `spent` is reserved for it.
@@ -129,10 +129,10 @@ impl<D: DeskNames, A: Allocator + Copy> Kept<D, A> {
         } = blanks;
         Kept {
             desk,
-            issued: ShardedCounter::open(issued, SEATS + 1),
-            spent: ShardedCounter::open(spent, SEATS + 1),
-            number: ShardedCounter::open(number, APPLIERS),
-            received: ShardedCounter::open(received, APPLIERS),
+            issued: SplitCounter::open(issued, SEATS + 1),
+            spent: SplitCounter::open(spent, SEATS + 1),
+            number: SplitCounter::open(number, APPLIERS),
+            received: SplitCounter::open(received, APPLIERS),
             admitted: [false; 16],
             clock_given: false,
         }
@@ -327,8 +327,8 @@ impl<D: DeskNames, A: Allocator + Copy> Kept<D, A> {
 
 // A new seat, with one shard of each counter.
 fn new_seat<D: DeskNames>(
-    issued: &mut ShardedCounter<IssuedBy<D>>,
-    spent: &mut ShardedCounter<SpentBy<D>>,
+    issued: &mut SplitCounter<IssuedBy<D>>,
+    spent: &mut SplitCounter<SpentBy<D>>,
 ) -> Seat<D>
     requires left { 1 ≤ issued.old.left }
     requires both { spent.old.left ≡ issued.old.left }

@@ -21,5 +21,5 @@ pub use seat::{Seat, SeatsFull};
 pub use shared_desk::SharedDesk;
 pub use stopping::{Parts, Report, StopError, stop};
 pub use thread_parts::{
-    DeskView, Inlet, Item, LaneClosed, MAX_LANE, Outlet, Shard, ShardedCounter, lane,
+    DeskView, Inlet, Item, LaneClosed, MAX_LANE, Outlet, Shard, SplitCounter, lane,
 };

@@ -3,7 +3,7 @@ ghost use Rattle.std.specs.Prelude.{◌≡◌, ◌+◌, ◌<◌, ◌≤◌, ◌^
 ghost use Rattle.apply_lanes.specs.Kepts.{KeptValue, IsKept};
 ghost use Rattle.apply_lanes.specs.Stops.{all_issued, all_spent, all_served, all_numbers, all_received, Reports};
 ghost use Rattle.apply_lanes.specs.Stops.{ReportsDesk, missing_of, missing_by, parts_of};
-ghost use Rattle.thread_parts.specs.ShardedCounters.{ShardedCounterValue};
+ghost use Rattle.thread_parts.specs.SplitCounters.{SplitCounterValue};
 ghost use Rattle.apply_lanes.specs.declared.names.TheConstants.{SEATS, APPLIERS};
 
 use crate::applier::Applied;
@@ -14,7 +14,7 @@ use crate::shared_desk::SharedDesk;
 use site_core::Desk;
 use std::alloc::{Allocator, Global};
 use std::sync::Mutex;
-use thread_parts::ShardedCounter;
+use thread_parts::SplitCounter;
 
 /// A shared desk, with everything that was given out for it.
 #[derive(Drop)]
@@ -127,12 +127,12 @@ fn end<D: DeskNames, A: Allocator + Copy>(
             seats,
             applied,
         }),
-        None => Ok(settle(kept, seats, applied)),
+        None => Ok(reconcile(kept, seats, applied)),
     }
 }
 
 // What the desk did, and what all seats and appliers reported.
-fn settle<D: DeskNames, A: Allocator + Copy>(
+fn reconcile<D: DeskNames, A: Allocator + Copy>(
     kept: Kept<D, A>,
     seats: Vec<Seat<D>, A>,
     applied: Vec<Applied<D>, A>,
@@ -151,8 +151,8 @@ fn settle<D: DeskNames, A: Allocator + Copy>(
         admitted: _,
         clock_given: _,
     } = kept;
-    let (told_issued, told_spent, told_served) = settle_seats(issued, spent, seats);
-    let applied = settle_applied(number, received, applied);
+    let (told_issued, told_spent, told_served) = reconcile_seats(issued, spent, seats);
+    let applied = reconcile_applied(number, received, applied);
     Report {
         issued: desk.issued(),
         spent: desk.spent(),
@@ -168,9 +168,9 @@ fn settle<D: DeskNames, A: Allocator + Copy>(
 }
 
 // If all seats are there, the sums are what they reported: issued, spent and served.
-fn settle_seats<D: DeskNames, A: Allocator>(
-    mut issued: ShardedCounter<IssuedBy<D>>,
-    mut spent: ShardedCounter<SpentBy<D>>,
+fn reconcile_seats<D: DeskNames, A: Allocator>(
+    mut issued: SplitCounter<IssuedBy<D>>,
+    mut spent: SplitCounter<SpentBy<D>>,
     seats: Vec<Seat<D>, A>,
 ) -> (u64, u64, u64)
     requires room { (issued.left + length seats.items ≡ SEATS + 1) × (spent.left + length seats.items ≡ SEATS + 1) }
@@ -182,15 +182,15 @@ fn settle_seats<D: DeskNames, A: Allocator>(
         × (spent.sum ≡ all_spent seats.items + all_served seats.items) }
 {
     let told = collect_seats(&mut issued, &mut spent, seats);
-    issued.settle();
-    spent.settle();
+    issued.reconcile();
+    spent.reconcile();
     told
 }
 
 // If all appliers are there, the sums are what they reported. Returns the sum of the numbers.
-fn settle_applied<D: DeskNames, A: Allocator>(
-    mut number: ShardedCounter<NumberOf<D>>,
-    mut received: ShardedCounter<ReceivedBy<D>>,
+fn reconcile_applied<D: DeskNames, A: Allocator>(
+    mut number: SplitCounter<NumberOf<D>>,
+    mut received: SplitCounter<ReceivedBy<D>>,
     applied: Vec<Applied<D>, A>,
 ) -> u64
     requires room { (number.left + length applied.items ≡ APPLIERS)
@@ -200,15 +200,15 @@ fn settle_applied<D: DeskNames, A: Allocator>(
     ensures sums { received.sum ≡ all_received applied.items }
 {
     collect_applied(&mut number, &mut received, applied);
-    number.settle();
-    received.settle();
+    number.reconcile();
+    received.reconcile();
     number.sum()
 }
 
 // Takes back the shards of all seats, and returns what they reported: issued, spent and served.
 fn collect_seats<D: DeskNames, A: Allocator>(
-    issued: &mut ShardedCounter<IssuedBy<D>>,
-    spent: &mut ShardedCounter<SpentBy<D>>,
+    issued: &mut SplitCounter<IssuedBy<D>>,
+    spent: &mut SplitCounter<SpentBy<D>>,
     seats: Vec<Seat<D>, A>,
 ) -> (u64, u64, u64)
     requires room { (issued.old.left + length seats.items ≡ SEATS + 1)
@@ -239,8 +239,8 @@ fn collect_seats<D: DeskNames, A: Allocator>(
 
 // Takes back the shards of all appliers.
 fn collect_applied<D: DeskNames, A: Allocator>(
-    number: &mut ShardedCounter<NumberOf<D>>,
-    received: &mut ShardedCounter<ReceivedBy<D>>,
+    number: &mut SplitCounter<NumberOf<D>>,
+    received: &mut SplitCounter<ReceivedBy<D>>,
     applied: Vec<Applied<D>, A>,
 )
     requires room { (number.old.left + length applied.items ≡ APPLIERS)

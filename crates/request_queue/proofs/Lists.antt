@@ -12,9 +12,9 @@ use Rattle.std.proofs.lemmas.List.Quantifiers.{position-Some}
 use Rattle.std.proofs.lemmas.List.Sums.{sum_by-cons, fails_before_first}
 
 -- an index of a list is an index of an equal list
-pub place_in : {X : Type 0} (p : X → Bool) (seen xs : List X) (place : Option ℕ) → seen ≡ xs → place ≡ position p seen
-    → position p xs ≡ place
-place_in p seen xs place same found = ap (position p) (sym same) ∙ sym found
+pub index_in : {X : Type 0} (p : X → Bool) (seen xs : List X) (index : Option ℕ) → seen ≡ xs → index ≡ position p seen
+    → position p xs ≡ index
+index_in p seen xs index same found = ap (position p) (sym same) ∙ sym found
 
 -- x, at index i, is the first element that passes a test
 pub record IsFirst {X : Type 0} (p : X → Bool) (xs : List X) (i : ℕ) (x : X) : Type 0 where

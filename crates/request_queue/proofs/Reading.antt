@@ -13,24 +13,24 @@ use Rattle.std.proofs.lemmas.Option.{slice_get_read, slice_get_within, get_or_fr
 use Rattle.rights_types.specs.Ranges.{IsAmount}
 use Rattle.request_queue.specs.Queues.{QueueValue, total_of, has_ticket, outcome_of, is_late, settled, without}
 use Rattle.request_queue.specs.Queues.{tickets, IsQueue}
-use Rattle.request_queue.specs.Calls.{Settles, Expires, CancelsRequest}
+use Rattle.request_queue.specs.Calls.{Finishes, Expires, CancelsRequest}
 use Rattle.request_queue.specs.declared.request.Request.{Request}
 use Rattle.request_queue.specs.declared.request.Outcome.{Outcome}
 use Rattle.request_queue.specs.declared.request.Outcome.TheVariants.{Expired}
 use Rattle.request_queue.proofs.Lists.{first_that, none_passes, lookup_first, lookup_none, not_among, others_than}
 use Rattle.request_queue.proofs.Keeps.{read_tickets, keeps_settled}
 
-pub settles : (q : QueueValue) (i : ℕ) (r : Request) (o : Outcome) (others : List Request)
+pub finishes : (q : QueueValue) (i : ℕ) (r : Request) (o : Outcome) (others : List Request)
     (outcomes : List (ℕ × Outcome)) → i < length q.waiting → r ≡ get_or q.waiting i r
     → others ≡ remove q.waiting i → outcomes ≡ q.outcomes ++ (r.ticket, o) ∷ []
-    → Settles q i o r.ticket (record { waiting = others; outcomes = outcomes; next = q.next })
-settles q i r o others outcomes lt at left told =
+    → Finishes q i o r.ticket (record { waiting = others; outcomes = outcomes; next = q.next })
+finishes q i r o others outcomes lt at left told =
     (r, slice_get_read q.waiting (length q.waiting) i r refl lt at, refl, rw (left, told) refl)
 
 -- one request fewer waits then
-pub settles_one : (q : QueueValue) (i : ℕ) (o : Outcome) (t : ℕ) (new : QueueValue) → Settles q i o t new
+pub finishes_one : (q : QueueValue) (i : ℕ) (o : Outcome) (t : ℕ) (new : QueueValue) → Finishes q i o t new
     → length new.waiting + 1 ≡ length q.waiting
-settles_one q i o t new (r, is, ticket, left) =
+finishes_one q i o t new (r, is, ticket, left) =
     ap (λ (v : QueueValue). length v.waiting + 1) left ∙ length-remove q.waiting i (slice_get_within q.waiting i r is)
 
 pub not_late : (now : ℕ) (requests : List Request) → All (λ r. is_late now r ≡ false) requests
@@ -40,7 +40,7 @@ not_late now requests none =
     (λ r e. ltb-false r.deadline now e) requests none
 
 pub expires : (q : QueueValue) (now i t : ℕ) (new : QueueValue) → position (is_late now) q.waiting ≡ Some i
-    → Settles q i Expired t new → Expires q now (Some t) new
+    → Finishes q i Expired t new → Expires q now (Some t) new
 expires q now i t new found (r, is, ticket, left) =
     let at : r ≡ get_or q.waiting i r = sym (get_or_from_slice_get q.waiting i r r is) in
     let first = first_that (is_late now) q.waiting i r found at in (
@@ -140,7 +140,7 @@ pub record IsCancelled (q : QueueValue) (t : ℕ) (new : QueueValue) : Type 0 wh
   pub gone : has_ticket t new.waiting ≡ false
 
 pub cancelled : (q : QueueValue) (t i ticket : ℕ) (new : QueueValue) → IsQueue q
-    → position (is_named t) q.waiting ≡ Some i → Settles q i Expired ticket new → IsCancelled q t new
+    → position (is_named t) q.waiting ≡ Some i → Finishes q i Expired ticket new → IsCancelled q t new
 cancelled q t i ticket new h found (r, is, same, left) =
     let at : r ≡ get_or q.waiting i r = sym (get_or_from_slice_get q.waiting i r r is) in
     let first = first_that (is_named t) q.waiting i r found at in

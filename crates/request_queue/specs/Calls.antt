@@ -28,8 +28,8 @@ Puts old amount deadline (Ok ticket) new =
 Puts old amount deadline (Err fault) new = (put_fault old amount ≡ Some fault) × (new ≡ old)
 
 -- the request at this index, which has this ticket, ended with this outcome
-abbrev pub Settles : QueueValue → ℕ → Outcome → ℕ → QueueValue → Type 0
-Settles old index outcome ticket new =
+abbrev pub Finishes : QueueValue → ℕ → Outcome → ℕ → QueueValue → Type 0
+Finishes old index outcome ticket new =
     (r : Request) × (slice_get old.waiting index ≡ Some r) × (ticket ≡ r.ticket)
     × (new ≡ settled old (remove old.waiting index) r outcome)
 

@@ -4,7 +4,7 @@ ghost use Rattle.std.specs.Prelude.{position};
 ghost use Rattle.request_queue.specs.Queues.{no_requests, front_of, total_of, has_ticket, outcome_of, is_late, IsQueue};
 ghost use Rattle.request_queue.specs.declared.request.Request.{Request};
 ghost use Rattle.request_queue.specs.declared.request.Outcome.{Outcome};
-ghost use Rattle.request_queue.specs.Calls.{Puts, Serves, Expires, Cancels, TellsOutcome, Settles};
+ghost use Rattle.request_queue.specs.Calls.{Puts, Serves, Expires, Cancels, TellsOutcome, Finishes};
 
 use crate::fault::QueueError;
 use crate::request::{Outcome, Request, Status};
@@ -93,7 +93,7 @@ impl<A: Allocator> RequestQueue<A> {
         requires { 0 < length self.old.waiting }
         ensures { Serves self.old number self.new }
     {
-        self.settle(0, Outcome::Spent(number));
+        self.finish(0, Outcome::Spent(number));
     }
 
     /// Ends the first request whose deadline is less than `now`, and returns its ticket; None if there is no such
@@ -103,7 +103,7 @@ impl<A: Allocator> RequestQueue<A> {
         ensures fewer { IfSome result (λ _. length self.new.waiting + 1 ≡ length self.old.waiting) }
     {
         let index = first_late(&self.waiting, now)?;
-        Some(self.settle(index, Outcome::Expired))
+        Some(self.finish(index, Outcome::Expired))
     }
 
     /// Ends the waiting request with this ticket as if its deadline had passed: all others keep their places, and its
@@ -113,10 +113,10 @@ impl<A: Allocator> RequestQueue<A> {
         ensures unread { result ≡ true → outcome_of self.new ticket ≡ Some Outcome.Expired }
         ensures gone { has_ticket ticket self.new.waiting ≡ false }
     {
-        let Some(index) = place_among(&self.waiting, ticket) else {
+        let Some(index) = index_among(&self.waiting, ticket) else {
             return false;
         };
-        self.settle(index, Outcome::Expired);
+        self.finish(index, Outcome::Expired);
         true
     }
 
@@ -157,7 +157,7 @@ impl<A: Allocator> RequestQueue<A> {
     pub fn status(&mut self, ticket: u64) -> Status
         ensures { TellsOutcome self.old ticket result self.new }
     {
-        if let Some(index) = place_of(&self.outcomes, ticket) {
+        if let Some(index) = index_of(&self.outcomes, ticket) {
             let (_, outcome) = self.outcomes.remove(index);
             return match outcome {
                 Outcome::Spent(number) => Status::Spent(number),
@@ -172,9 +172,9 @@ impl<A: Allocator> RequestQueue<A> {
     }
 
     // Ends the request at this index with this outcome, which takes over its slot. Returns its ticket.
-    fn settle(&mut self, index: usize, outcome: Outcome) -> u64
+    fn finish(&mut self, index: usize, outcome: Outcome) -> u64
         requires { index < length self.old.waiting }
-        ensures { Settles self.old index outcome result self.new }
+        ensures { Finishes self.old index outcome result self.new }
     {
         let request = self.waiting.remove(index);
         self.outcomes.push((request.ticket, outcome)).unwrap();
@@ -190,7 +190,7 @@ fn first_late(requests: &[Request], now: u64) -> Option<usize>
 }
 
 // The index of the request with this ticket.
-fn place_among(requests: &[Request], ticket: u64) -> Option<usize>
+fn index_among(requests: &[Request], ticket: u64) -> Option<usize>
     ensures { result ≡ position (λ (r : Request). r.ticket == ticket) requests.now }
 {
     requests.iter().position(|request| request.ticket == ticket)
@@ -209,7 +209,7 @@ fn has_ticket(requests: &[Request], ticket: u64) -> bool
     requests.iter().any(|request| request.ticket == ticket)
 }
 
-fn place_of(outcomes: &[(u64, Outcome)], ticket: u64) -> Option<usize>
+fn index_of(outcomes: &[(u64, Outcome)], ticket: u64) -> Option<usize>
     ensures { result ≡ position (λ (e : ℕ × Outcome). e.0 == ticket) outcomes.now }
 {
     outcomes.iter().position(|(key, _)| *key == ticket)

@@ -5,8 +5,8 @@
 //! out whose reply finds no space.
 #![tactic(auto)]
 
+mod backend;
 mod busy;
-mod client;
 mod config;
 mod hosts;
 mod lines;
@@ -18,8 +18,8 @@ mod route;
 mod service;
 mod serving;
 
+pub use backend::{Backend, LONGEST_REPLY};
 pub use busy::Busy;
-pub use client::{Client, LONGEST_REPLY};
 pub use config::service_config;
 pub use refusal::Refusal;
 pub use replying::MAX_REPLIES;

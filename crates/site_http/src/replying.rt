@@ -5,7 +5,7 @@ ghost use Rattle.line_streams.specs.Talk.{lines_of};
 ghost use Rattle.site_http.specs.Replying.{bad_command, no_memory, status_of, text_of, AnswersEach, AnswersSome};
 ghost use Rattle.site_http.specs.Replying.{RepliesTo, RepliesToBody, IsPut, KeepsRoom, WithinLimit};
 
-use crate::client::{Client, LONGEST_REPLY};
+use crate::backend::{Backend, LONGEST_REPLY};
 use crate::lines::{only_line, split_line, within_limit};
 use bytes::BufMut;
 use http::StatusCode;
@@ -24,7 +24,7 @@ pub const MAX_REPLIES: usize = 20_000_000;
 
 /// Answers the lines of a body, and returns the status of the response. If the client waits for the outcome, the body
 /// must have exactly one line.
-pub(crate) fn answer_body<C: Client>(
+pub(crate) fn answer_body<C: Backend>(
     client: &mut C,
     waits: bool,
     body: &[u8],
@@ -50,7 +50,7 @@ pub(crate) fn answer_body<C: Client>(
 }
 
 /// Answers the line of a body that has only one.
-fn answer_one<C: Client>(
+fn answer_one<C: Backend>(
     client: &mut C,
     waits: bool,
     text: &[u8],
@@ -70,7 +70,7 @@ fn answer_one<C: Client>(
 }
 
 /// Answers the lines of a body that has several, or none.
-fn answer_many<C: Client>(
+fn answer_many<C: Backend>(
     client: &mut C,
     body: &[u8],
     replies: &mut Replies<Global>,
@@ -89,7 +89,7 @@ fn answer_many<C: Client>(
 }
 
 /// Answers lines until memory runs out, or the replies reach their limit.
-fn answer_lines<C: Client>(
+fn answer_lines<C: Backend>(
     client: &mut C,
     body: &[u8],
     replies: &mut Replies<Global>,
@@ -124,7 +124,7 @@ fn is_full(out: &Rope) -> bool
 }
 
 /// Answers a line, or does nothing. Afterwards there is memory for one more reply.
-fn answer_line<C: Client>(
+fn answer_line<C: Backend>(
     client: &mut C,
     waits: bool,
     text: &[u8],

@@ -7,7 +7,7 @@ ghost use Rattle.site_http.specs.declared.page.TheConstants.{PAGE};
 ghost use Rattle.site_http.specs.Responding.{headers_for, plain, methods_of, IsHealth, IsReplied, Tells, TellsLine};
 ghost use Rattle.site_http.specs.Responding.{Responds};
 
-use crate::client::{Client, LONGEST_REPLY};
+use crate::backend::{Backend, LONGEST_REPLY};
 use crate::page::page;
 use crate::replying::{LAST_ROOM, answer_body};
 use crate::route::{Allowed, Route, route_of};
@@ -18,7 +18,7 @@ use line_streams::Replies;
 use std::alloc::{AllocError, Global};
 
 /// Responds to a request, at a site whose host has these names.
-pub(crate) fn respond<C: Client>(
+pub(crate) fn respond<C: Backend>(
     names: &[String],
     client: &mut C,
     replies: &mut Replies<Global>,
@@ -45,7 +45,7 @@ pub(crate) fn respond<C: Client>(
     }
 }
 
-fn reply_to_lines<C: Client>(
+fn reply_to_lines<C: Backend>(
     client: &mut C,
     waits: bool,
     replies: &mut Replies<Global>,
@@ -61,7 +61,7 @@ fn reply_to_lines<C: Client>(
     Ok(())
 }
 
-fn tell_status<C: Client>(
+fn tell_status<C: Backend>(
     client: &C,
     replies: &mut Replies<Global>,
     response: &mut Response,
@@ -80,7 +80,7 @@ fn tell_status<C: Client>(
     )
 }
 
-fn tell_metrics<C: Client>(
+fn tell_metrics<C: Backend>(
     client: &C,
     replies: &mut Replies<Global>,
     response: &mut Response,
@@ -99,7 +99,7 @@ fn tell_metrics<C: Client>(
     )
 }
 
-fn tell_health<C: Client>(client: &C, response: &mut Response) -> Result<(), AllocError>
+fn tell_health<C: Backend>(client: &C, response: &mut Response) -> Result<(), AllocError>
     requires { IsBlank response.old }
     ensures { OnOk result ((is_closed : Bool) × C.closed client.now is_closed × IsHealth is_closed response.new) }
 {

@@ -3,7 +3,7 @@ ghost use Rattle.std.specs.Prelude.{◌≡◌, map};
 ghost use Rattle.std.specs.String.{string_bytes};
 ghost use Rattle.site_http.specs.Responding.{Serves};
 
-use crate::client::Client;
+use crate::backend::Backend;
 use crate::responding::respond;
 use bytes::Bytes;
 use http::Request;
@@ -15,14 +15,14 @@ use std::marker::Model;
 /// Responds to the requests of one connection, for a client of the site. Clauses see the client, and the names of the
 /// site's host.
 #[derive(Drop)]
-pub struct ClientService<'a, C: Client> {
+pub struct ClientService<'a, C: Backend> {
     client: C,
     names: &'a [String],
     /// Kept between requests, so that a request allocates nothing here.
     replies: Replies<Global>,
 }
 
-impl<'a, C: Client> Model for ClientService<'a, C> {
+impl<'a, C: Backend> Model for ClientService<'a, C> {
     ghost use Rattle.std.specs.Prelude.{map};
     ghost use Rattle.std.specs.String.{string_bytes};
     ghost use Rattle.site_http.specs.Responding.{Named};
@@ -32,7 +32,7 @@ impl<'a, C: Client> Model for ClientService<'a, C> {
     ghost view = { λ s. record { client = s.client; names = map string_bytes s.names.now } };
 }
 
-impl<'a, C: Client> ClientService<'a, C> {
+impl<'a, C: Backend> ClientService<'a, C> {
     /// Allocates nothing.
     pub fn new(alloc: Global, client: C, names: &'a [String]) -> ClientService<'a, C>
         ensures { result ≡ record { client = client; names = map string_bytes names.entry.now } }
@@ -53,7 +53,7 @@ impl<'a, C: Client> ClientService<'a, C> {
     }
 }
 
-impl<C: Client> Service for ClientService<'_, C> {
+impl<C: Backend> Service for ClientService<'_, C> {
     ghost answers = { Serves C.answers C.status C.metrics C.closed };
 
     fn call(

@@ -10,7 +10,7 @@ ghost use Rattle.site_http.specs.declared.refusal.TheConstants.{BAD_REQUEST};
 ghost use Rattle.site_http.specs.Refusing.{refusal_in, refusal_text, ComesFirst, IsCause};
 ghost use Rattle.site_http.specs.Conversing.{IsRefusal, Conversed};
 
-use crate::client::Client;
+use crate::backend::Backend;
 use crate::config::service_config;
 use crate::refusal::{BAD_REQUEST, Refusal};
 use crate::service::ClientService;
@@ -25,7 +25,7 @@ use std::io::{ErrorKind, Read, Write};
 
 /// Answers the requests of a connection to a site whose host has these names, until its end. If a read fails, the
 /// request that is not whole is refused as `Refusal::of_error` says.
-pub fn converse<C: Client + Drop, I: Read, W: Write>(
+pub fn converse<C: Backend + Drop, I: Read, W: Write>(
     alloc: Global,
     keys: RandomState,
     names: &[String],

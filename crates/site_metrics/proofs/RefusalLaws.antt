@@ -36,11 +36,11 @@ pub differ : (xs ys zs : List ℕ) → false ≡ bytes_eq xs ys → ys ≡ zs �
 differ xs ys zs other h e = true≢false (sym ((bytes_eq-Decides xs ys).1 (e ∙ sym h)) ∙ sym other)
 
 -- one more name, which differs from the others
-pub none_more : (name : List ℕ) (place : ℕ) → ((i : ℕ) → i < place → name ≢ get_or refusal_names i [])
-    → name ≢ get_or refusal_names place [] → (i : ℕ) → i < place + 1 → name ≢ get_or refusal_names i []
-none_more name place before here i lt = elim (cases_lt i place) [
+pub none_more : (name : List ℕ) (index : ℕ) → ((i : ℕ) → i < index → name ≢ get_or refusal_names i [])
+    → name ≢ get_or refusal_names index [] → (i : ℕ) → i < index + 1 → name ≢ get_or refusal_names i []
+none_more name index before here i lt = elim (cases_lt i index) [
   | inl less ↦ before i less
-  | inr past ↦ let same : i ≡ place = omega (arith, lt, past) in rw same here
+  | inr past ↦ let same : i ≡ index = omega (arith, lt, past) in rw same here
 ]
 
 -- what a clause says of None
@@ -53,23 +53,23 @@ none_then None f h = f h
 none_then (Some x) f h = h
 
 -- the counts of one more name were appended
-pub name_more : (f : List ℕ × ℕ → List ℕ) (text before after counts : List ℕ) (place : ℕ) (name : List ℕ) → place < 15
+pub name_more : (f : List ℕ × ℕ → List ℕ) (text before after counts : List ℕ) (index : ℕ) (name : List ℕ) → index < 15
     → length counts ≡ 15
-    → before ≡ text ++ flat_map f (take place (zip refusal_names counts)) → name ≡ get_or refusal_names place []
-    → after ≡ before ++ f (name, get_or counts place 0)
-    → after ≡ text ++ flat_map f (take (place + 1) (zip refusal_names counts))
-name_more f text before after counts place name low long done named more =
+    → before ≡ text ++ flat_map f (take index (zip refusal_names counts)) → name ≡ get_or refusal_names index []
+    → after ≡ before ++ f (name, get_or counts index 0)
+    → after ≡ text ++ flat_map f (take (index + 1) (zip refusal_names counts))
+name_more f text before after counts index name low long done named more =
     let all : List (List ℕ × ℕ) = zip refusal_names counts in
-    let within : place < length all = omega (arith, length-zip refusal_names counts, long, low) in
-    let item : get_or all place ([], 0) ≡ (name, get_or counts place 0) =
-    get_or-zip refusal_names counts place ([], 0) low (omega (arith, long, low))
-    ∙ ap (λ (n : List ℕ). (n, get_or counts place 0)) (sym named) in
-    more ∙ ap (λ (t : List ℕ). t ++ f (name, get_or counts place 0)) done
-    ∙ ap (λ (e : List ℕ × ℕ). (text ++ flat_map f (take place all)) ++ f e) (sym item)
-    ∙ flat_map_more f text (take place all) (get_or all place ([], 0))
-    ∙ ap (λ (es : List (List ℕ × ℕ)). text ++ flat_map f es) (sym (take_more all place ([], 0) within))
+    let within : index < length all = omega (arith, length-zip refusal_names counts, long, low) in
+    let item : get_or all index ([], 0) ≡ (name, get_or counts index 0) =
+    get_or-zip refusal_names counts index ([], 0) low (omega (arith, long, low))
+    ∙ ap (λ (n : List ℕ). (n, get_or counts index 0)) (sym named) in
+    more ∙ ap (λ (t : List ℕ). t ++ f (name, get_or counts index 0)) done
+    ∙ ap (λ (e : List ℕ × ℕ). (text ++ flat_map f (take index all)) ++ f e) (sym item)
+    ∙ flat_map_more f text (take index all) (get_or all index ([], 0))
+    ∙ ap (λ (es : List (List ℕ × ℕ)). text ++ flat_map f es) (sym (take_more all index ([], 0) within))
 
 -- no name is longer
-pub short_name : (place : ℕ) → place < 15 → length (get_or refusal_names place []) ≤ 16
-short_name place low = leb-true (length (get_or refusal_names place [])) 16
-    (below (λ i. leb (length (get_or refusal_names i [])) 16) 15 refl place low)
+pub short_name : (index : ℕ) → index < 15 → length (get_or refusal_names index []) ≤ 16
+short_name index low = leb-true (length (get_or refusal_names index [])) 16
+    (below (λ i. leb (length (get_or refusal_names i [])) 16) 15 refl index low)

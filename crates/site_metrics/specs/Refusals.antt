@@ -10,4 +10,4 @@ refusal_names =
 
 -- the reply that reports the refusal with this index, without its line feed
 abbrev pub refusal_text : ℕ → List ℕ
-refusal_text place = codes "error " ++ get_or refusal_names place []
+refusal_text index = codes "error " ++ get_or refusal_names index []

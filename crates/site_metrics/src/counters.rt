@@ -1,6 +1,6 @@
 //! The counters that threads share. Each is added to and read atomically, without a lock, so the values of several
 //! counters need not belong to one moment.
-use crate::refusals::{REFUSAL_COUNT, refusal_place};
+use crate::refusals::{REFUSAL_COUNT, refusal_index};
 use std::sync::atomic::{AtomicBool, AtomicU64, Ordering};
 
 /// How many clients may be connected at a time, each with a thread that counts its replies.
@@ -36,8 +36,8 @@ impl Counters {
             let count = commands.load(Ordering::Relaxed).wrapping_add(1);
             commands.store(count, Ordering::Release);
         }
-        if let Some(place) = refusal_place(reply) {
-            add(&self.refused[place], 1);
+        if let Some(index) = refusal_index(reply) {
+            add(&self.refused[index], 1);
         }
     }
 
@@ -53,8 +53,8 @@ impl Counters {
     /// How many commands were refused, by the index of the refusal's name in `REFUSALS`.
     pub fn refused(&self) -> [u64; REFUSAL_COUNT] {
         let mut refused = [0; REFUSAL_COUNT];
-        for place in 0..REFUSAL_COUNT {
-            refused[place] = self.refused[place].load(Ordering::SeqCst);
+        for index in 0..REFUSAL_COUNT {
+            refused[index] = self.refused[index].load(Ordering::SeqCst);
         }
         refused
     }

@@ -26,31 +26,31 @@ pub const REFUSALS: [&[u8]; REFUSAL_COUNT] = [
 
 /// The name at an index.
 #[tactic(auto, using(crate::proofs::RefusalLaws::short_name))]
-pub(crate) fn refusal_name(place: usize) -> &'static [u8]
-    requires { place < REFUSAL_COUNT }
-    ensures name { result.now ≡ get_or refusal_names place [] }
+pub(crate) fn refusal_name(index: usize) -> &'static [u8]
+    requires { index < REFUSAL_COUNT }
+    ensures name { result.now ≡ get_or refusal_names index [] }
     ensures short { length result.now ≤ 16 }
 {
-    REFUSALS[place]
+    REFUSALS[index]
 }
 
 /// The index of the refusal that a reply reports, given without its line feed; None if it reports none of `REFUSALS`.
 /// The first byte of most replies decides.
-pub fn refusal_place(reply: &[u8]) -> Option<usize>
-    ensures some { IfSome result (λ place. (place < REFUSAL_COUNT) × (reply.now ≡ refusal_text place)) }
-    ensures none { IfNone result ((place : ℕ) → place < REFUSAL_COUNT → reply.now ≢ refusal_text place) }
+pub fn refusal_index(reply: &[u8]) -> Option<usize>
+    ensures some { IfSome result (λ index. (index < REFUSAL_COUNT) × (reply.now ≡ refusal_text index)) }
+    ensures none { IfNone result ((index : ℕ) → index < REFUSAL_COUNT → reply.now ≢ refusal_text index) }
 {
     let name = reply.strip_prefix(b"error ")?;
-    place_of(name)
+    index_of(name)
 }
 
-fn place_of(name: &[u8]) -> Option<usize>
-    ensures some { IfSome result (λ place. (place < REFUSAL_COUNT) × (name.now ≡ get_or refusal_names place [])) }
-    ensures none { IfNone result ((place : ℕ) → place < REFUSAL_COUNT → name.now ≢ get_or refusal_names place []) }
+fn index_of(name: &[u8]) -> Option<usize>
+    ensures some { IfSome result (λ index. (index < REFUSAL_COUNT) × (name.now ≡ get_or refusal_names index [])) }
+    ensures none { IfNone result ((index : ℕ) → index < REFUSAL_COUNT → name.now ≢ get_or refusal_names index []) }
 {
-    for place in 0..REFUSAL_COUNT {
-        if name == refusal_name(place) {
-            return Some(place);
+    for index in 0..REFUSAL_COUNT {
+        if name == refusal_name(index) {
+            return Some(index);
         }
     }
     None

@@ -204,8 +204,8 @@ fn put_name_counts<A: Allocator>(
     ensures room { SAMPLE_ROOM * REFUSAL_COUNT ≤ replies.old.room → IsOk result }
     ensures left { replies.old.room ≤ replies.new.room + (SAMPLE_ROOM * REFUSAL_COUNT) }
 {
-    for place in 0..REFUSAL_COUNT {
-        put_name_count(replies, name, refusal_name(place), counts[place])?;
+    for index in 0..REFUSAL_COUNT {
+        put_name_count(replies, name, refusal_name(index), counts[index])?;
     }
     Ok(())
 }

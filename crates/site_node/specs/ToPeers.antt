@@ -13,9 +13,9 @@ module _ {P : Type 0} (sends : P → ℕ → ℕ → P → Type 0) where
 
   -- the first peers were sent what is due, one after another; at the next one memory ran out
   pub record StopsAtPeer (stops : P → ℕ → P → Type 0) (size : ℕ) (before after : P) : Type 0 where
-    pub place : ℕ
-    pub among : place < size
+    pub index : ℕ
+    pub among : index < size
     pub mid : P
     pub sent : ℕ
-    pub first : SendsToFirst place before sent mid
-    pub stopped : stops mid place after
+    pub first : SendsToFirst index before sent mid
+    pub stopped : stops mid index after

@@ -23,10 +23,10 @@ pub trait Peers {
         ensures few { result ≤ MAX_SITES };
 
     /// Offers everything that is due to the peer at this index, from 0, and returns how many lines found space.
-    fn send_due(&mut self, place: usize) -> Result<u64, OutOfMemory>
-        requires { place < size self.old }
-        ensures ok { IfOk result (λ sent. sends self.old place sent self.new) }
-        ensures err { OnErr result (stops self.old place self.new) }
+    fn send_due(&mut self, index: usize) -> Result<u64, OutOfMemory>
+        requires { index < size self.old }
+        ensures ok { IfOk result (λ sent. sends self.old index sent self.new) }
+        ensures err { OnErr result (stops self.old index self.new) }
         ensures range { IfOk result (λ sent. sent ≤ MAX_NUMBER + 2) }
         ensures same { size self.new ≡ size self.old };
 }
@@ -38,8 +38,8 @@ pub fn send_to_all<P: Peers>(peers: &mut P) -> Result<u64, OutOfMemory>
     ensures err { OnErr result (StopsAtPeer P.sends P.stops (P.size peers.old) peers.old peers.new) }
 {
     let mut sent = 0;
-    for place in 0..peers.count() {
-        sent += peers.send_due(place)?;
+    for index in 0..peers.count() {
+        sent += peers.send_due(index)?;
     }
     Ok(sent)
 }

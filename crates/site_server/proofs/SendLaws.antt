@@ -18,16 +18,16 @@ use Rattle.site_server.specs.Outboxes.{SendingValue, SendsAll, SendsFront, Sends
 use Rattle.site_core.specs.Desks.{DeskValue}
 use Rattle.site_server.specs.Replying.{IsApplied, AreOfPeers, AreViews, TellsStatus}
 
-module _ (id : DeskId) (peers : List PeerState) (place : ℕ) (peer : PeerState) (was now : SendingValue)
-    (old new : KeptValue) (is : peer ≡ get_or peers place peer) (within : place < length peers)
+module _ (id : DeskId) (peers : List PeerState) (index : ℕ) (peer : PeerState) (was now : SendingValue)
+    (old new : KeptValue) (is : peer ≡ get_or peers index peer) (within : index < length peers)
     (one : now.turns ≡ was.turns ++ old ∷ new ∷ []) (valid : IsKept id old) where
   pub sends_to_peer : (result : Result ℕ OutOfMemory)
       → IfOk result (λ sent. SendsAll peer was.holds old sent now.holds new)
-      → IfOk result (λ sent. SendsToPeer id peers place was sent now)
+      → IfOk result (λ sent. SendsToPeer id peers index was sent now)
   sends_to_peer (Ok sent) sends =
       record {
         peer = peer;
-        listed = slice_get-get_or peers place peer within ∙ ap (λ (p : PeerState). Some p) (sym is);
+        listed = slice_get-get_or peers index peer within ∙ ap (λ (p : PeerState). Some p) (sym is);
         old = old;
         new = new;
         one = one;
@@ -38,12 +38,12 @@ module _ (id : DeskId) (peers : List PeerState) (place : ℕ) (peer : PeerState)
 
   pub stops_at_outbox : (result : Result ℕ OutOfMemory)
       → OnErr result (SendsFront peer was.holds old now.holds new)
-      → OnErr result (StopsAtOutbox id peers place was now)
+      → OnErr result (StopsAtOutbox id peers index was now)
   stops_at_outbox (Ok sent) sends = tt
   stops_at_outbox (Err fault) sends =
       record {
         peer = peer;
-        listed = slice_get-get_or peers place peer within ∙ ap (λ (p : PeerState). Some p) (sym is);
+        listed = slice_get-get_or peers index peer within ∙ ap (λ (p : PeerState). Some p) (sym is);
         old = old;
         new = new;
         one = one;

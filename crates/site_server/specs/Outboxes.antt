@@ -74,20 +74,20 @@ pub record SendingValue : Type 0 where
   pub turns : List KeptValue
   pub holds : List LockedValue
 
--- the same for the peer at this place, in one turn at the desk
-pub record SendsToPeer (id : DeskId) (peers : List PeerState) (place : ℕ) (was : SendingValue) (sent : ℕ)
+-- the same for the peer at this index, in one turn at the desk
+pub record SendsToPeer (id : DeskId) (peers : List PeerState) (index : ℕ) (was : SendingValue) (sent : ℕ)
     (now : SendingValue) : Type 0 where
   pub peer : PeerState
-  pub listed : slice_get peers place ≡ Some peer
+  pub listed : slice_get peers index ≡ Some peer
   pub old : KeptValue
   pub new : KeptValue
   pub one : now.turns ≡ was.turns ++ old ∷ new ∷ []
   pub valid : IsKept id old
   pub sends : SendsAll peer was.holds old sent now.holds new
 
-pub record StopsAtOutbox (id : DeskId) (peers : List PeerState) (place : ℕ) (was now : SendingValue) : Type 0 where
+pub record StopsAtOutbox (id : DeskId) (peers : List PeerState) (index : ℕ) (was now : SendingValue) : Type 0 where
   pub peer : PeerState
-  pub listed : slice_get peers place ≡ Some peer
+  pub listed : slice_get peers index ≡ Some peer
   pub old : KeptValue
   pub new : KeptValue
   pub one : now.turns ≡ was.turns ++ old ∷ new ∷ []

@@ -32,7 +32,7 @@ use apply_lanes::{Blanks, DeskNames};
 use desk_turns::Seats;
 use line_streams::ConversationError;
 use site_core::Desk;
-use site_sockets::{PeerState, Site, begin_acceptor, begin_sender};
+use site_sockets::{PeerState, SiteSockets, begin_acceptor, begin_sender};
 use site_words::{Config, SiteFault};
 use std::fs::Files;
 use std::io::{Eprint, Read, Write};
@@ -62,7 +62,7 @@ pub fn run_site<
     W: Write,
 >(rt: &R, config: Config, reader: &mut I, writer: &mut W) -> Result<(), SiteFault> {
     start_once(rt, config.once())?;
-    let site = Site::open(rt, &config)?;
+    let site = SiteSockets::open(rt, &config)?;
     site.announce(rt, &config);
     let desk = Desk::new(rt.alloc(), config.id(), config.sites())?;
     serve::<Brand, R, &mut I, &mut W>(rt, &config, &site, desk, Blanks::new(), reader, writer)
@@ -72,7 +72,7 @@ pub fn run_site<
 fn serve<D: DeskNames + Send + Sync, R: SiteRuntime, I: Read + Drop, W: Write + Drop>(
     rt: &R,
     config: &Config,
-    site: &Site,
+    site: &SiteSockets,
     desk: Desk,
     blanks: Blanks,
     reader: I,
@@ -103,7 +103,7 @@ fn serve<D: DeskNames + Send + Sync, R: SiteRuntime, I: Read + Drop, W: Write + 
 /// logs which entries were sent to no peer, if events are logged.
 fn stop_site<D: DeskNames, R: Wait + Eprint + AllocGlobal>(
     rt: &R,
-    site: &Site,
+    site: &SiteSockets,
     log: bool,
     shared: Shared<D>,
 ) {
@@ -123,7 +123,7 @@ fn stop_site<D: DeskNames, R: Wait + Eprint + AllocGlobal>(
 /// Answers the commands while the threads of the site run.
 fn run_threads<D: DeskNames + Send + Sync, R: SiteRuntime, I: Read + Drop, W: Write + Drop>(
     rt: &R,
-    site: &Site,
+    site: &SiteSockets,
     every: Option<u64>,
     seats: &Arc<Seats<D>>,
     links: Vec<PeerLink<D>>,
@@ -144,7 +144,7 @@ fn run_threads<D: DeskNames + Send + Sync, R: SiteRuntime, I: Read + Drop, W: Wr
 /// Answers the commands, with their seat.
 fn answer_commands<D: DeskNames, R: Wait + Clock + AllocGlobal, I: Read, W: Write>(
     rt: &R,
-    site: &Site,
+    site: &SiteSockets,
     seats: &Seats<D>,
     reader: &mut I,
     writer: &mut W,
@@ -160,7 +160,7 @@ fn answer_commands<D: DeskNames, R: Wait + Clock + AllocGlobal, I: Read, W: Writ
 fn begin_all<'s, E, D: DeskNames + Send + Sync + 's, R: SiteRuntime>(
     scope: &Scope<'s, E>,
     rt: &'s R,
-    site: &'s Site,
+    site: &'s SiteSockets,
     every: Option<u64>,
     seats: &Arc<Seats<D>>,
     links: Vec<PeerLink<D>>,
@@ -178,7 +178,7 @@ fn begin_all<'s, E, D: DeskNames + Send + Sync + 's, R: SiteRuntime>(
 fn begin_peer<'s, E, D: DeskNames + Send + Sync + 's, R: SiteRuntime>(
     scope: &Scope<'s, E>,
     rt: &'s R,
-    site: &'s Site,
+    site: &'s SiteSockets,
     link: PeerLink<D>,
 ) -> bool {
     match site.peer(link.origin) {
@@ -195,7 +195,13 @@ fn begin_link<
     E,
     D: DeskNames + Send + Sync + 's,
     R: Wait + Clock + Eprint + AllocGlobal + Sync,
->(scope: &Scope<'s, E>, rt: &'s R, site: &'s Site, peer: &'s PeerState, link: PeerLink<D>) -> bool {
+>(
+    scope: &Scope<'s, E>,
+    rt: &'s R,
+    site: &'s SiteSockets,
+    peer: &'s PeerState,
+    link: PeerLink<D>,
+) -> bool {
     let PeerLink {
         receiver,
         applier,

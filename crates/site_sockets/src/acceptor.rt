@@ -2,7 +2,7 @@
 
 use crate::connection_slot::Connection;
 use crate::deadline_reader::DeadlineReader;
-use crate::site::Site;
+use crate::site::SiteSockets;
 use entry_codec::LineCutter;
 use peer_links::read_hello;
 use rights_types::SiteId;
@@ -34,7 +34,12 @@ fn identified<R: Wait + Clock + AllocGlobal>(
 
 /// Reads the first line of a connection, which has this place while it waits, and hands the connection to the thread
 /// that reads this peer. If the first line does not name a peer, or does not arrive in time, the connection is closed.
-fn handshake<R: Wait + Clock + AllocGlobal>(rt: &R, site: &Site, stream: TcpStream, place: usize) {
+fn handshake<R: Wait + Clock + AllocGlobal>(
+    rt: &R,
+    site: &SiteSockets,
+    stream: TcpStream,
+    place: usize,
+) {
     let identified = identified(rt, stream);
     site.handshakes.leave(rt, place);
     let Some((from, connection)) = identified else {
@@ -46,7 +51,7 @@ fn handshake<R: Wait + Clock + AllocGlobal>(rt: &R, site: &Site, stream: TcpStre
 }
 
 /// Accepts connections until the site ends, each with a thread of its own until its first line is read.
-fn run_acceptor<R: Threads + Wait + Clock + AllocGlobal + Sync>(rt: &R, site: &Site) {
+fn run_acceptor<R: Threads + Wait + Clock + AllocGlobal + Sync>(rt: &R, site: &SiteSockets) {
     thread::scope(thread::scope_env(), rt, |scope| {
         for _ in rt.forever() {
             let Some((stream, place)) = site.accept(rt) else {
@@ -66,7 +71,7 @@ fn run_acceptor<R: Threads + Wait + Clock + AllocGlobal + Sync>(rt: &R, site: &S
 pub fn begin_acceptor<'s, E, R: Threads + Wait + Clock + AllocGlobal + Sync>(
     scope: &Scope<'s, E>,
     rt: &'s R,
-    site: &'s Site,
+    site: &'s SiteSockets,
 ) -> bool {
     scope.spawn(move || run_acceptor(rt, site)).is_ok()
 }

@@ -30,5 +30,5 @@ pub use events::{LinkEvents, SkipCause};
 pub use peer::{PeerLines, PeerState};
 pub use peer_reader::PeerReader;
 pub use sending::begin_sender;
-pub use site::Site;
+pub use site::SiteSockets;
 pub use tick_notifier::TickNotifier;

@@ -3,7 +3,7 @@
 use crate::peer::PeerState;
 use crate::peer_writer::{PatientStream, Writing};
 use crate::polling::Polling;
-use crate::site::{CONNECT_SECONDS, Site};
+use crate::site::{CONNECT_SECONDS, SiteSockets};
 use entry_codec::write_line;
 use line_streams::write_whole;
 use peer_links::{Batch, LineSource, Outbox, write_link};
@@ -132,7 +132,7 @@ impl LineSource for Noted<'_> {
 /// connection causes one attempt to connect, and is lost if that fails.
 fn send_to<R: Net<Stream = TcpStream> + Wait + Clock + AllocGlobal + Eprint>(
     rt: &R,
-    site: &Site,
+    site: &SiteSockets,
     peer: &PeerState,
 ) {
     try_address(rt, peer);
@@ -163,7 +163,7 @@ fn try_address<R: Net + Eprint>(rt: &R, peer: &PeerState) {
 /// Sends this line and all that wait after it on a connection. `false` if that failed, or the site has ended.
 fn send_by<R: Wait + AllocGlobal + Eprint>(
     rt: &R,
-    site: &Site,
+    site: &SiteSockets,
     peer: &PeerState,
     mut stream: TcpStream,
     line: Vec<u8>,
@@ -225,7 +225,7 @@ pub fn begin_sender<
         + AllocGlobal
         + Eprint
         + Sync,
->(scope: &Scope<'s, E>, rt: &'s R, site: &'s Site, peer: &'s PeerState) -> bool {
+>(scope: &Scope<'s, E>, rt: &'s R, site: &'s SiteSockets, peer: &'s PeerState) -> bool {
     site.senders.begin(rt);
     let is_begun = scope.spawn(move || send_to(rt, site, peer)).is_ok();
     if !is_begun {

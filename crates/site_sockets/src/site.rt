@@ -32,7 +32,7 @@ const REST_MILLISECONDS: u64 = 10;
 
 /// What the threads of a site share, besides its desk.
 #[derive(Drop)]
-pub struct Site {
+pub struct SiteSockets {
     pub(crate) id: SiteId,
     listener: TcpListener,
     /// The peers, in the order of the sites.
@@ -51,16 +51,16 @@ pub struct Site {
     is_over: AtomicBool,
 }
 
-impl Site {
+impl SiteSockets {
     /// A site that listens for peers, and for clients if the configuration says so. Errors, in this order:
     /// `CannotListen`, `OutOfMemory`.
     pub fn open<R: Net<Listener = TcpListener, Stream = TcpStream> + Clock + AllocGlobal>(
         rt: &R,
         config: &Config,
-    ) -> Result<Site, SiteFault> {
+    ) -> Result<SiteSockets, SiteFault> {
         let listener = listen(rt, config.listen())?;
         let clients = clients_of(rt, config)?;
-        Ok(Site::new(rt.alloc(), config, listener, clients)?)
+        Ok(SiteSockets::new(rt.alloc(), config, listener, clients)?)
     }
 
     fn new(
@@ -68,8 +68,8 @@ impl Site {
         config: &Config,
         listener: TcpListener,
         clients: Option<Clients>,
-    ) -> Result<Site, OutOfMemory> {
-        Ok(Site {
+    ) -> Result<SiteSockets, OutOfMemory> {
+        Ok(SiteSockets {
             id: config.id(),
             listener,
             peers: peers_of(alloc, config)?,

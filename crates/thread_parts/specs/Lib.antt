@@ -1,3 +1,3 @@
 pub mod Items
 pub mod Ends
-pub mod ShardedCounters
+pub mod SplitCounters

@@ -7,11 +7,11 @@ mod ends;
 mod item;
 mod laws;
 mod rule;
-mod sharded_counter;
+mod split_counter;
 mod view;
 
 pub use ends::{Inlet, LaneClosed, MAX_LANE, Outlet, lane};
 pub use item::Item;
 pub use laws::ends_taken_in;
-pub use sharded_counter::{Shard, ShardedCounter};
+pub use split_counter::{Shard, SplitCounter};
 pub use view::DeskView;

@@ -2,7 +2,7 @@
 use super::expected::EXPECTED;
 use line_streams::Replies;
 use rights_types::SiteId;
-use site_metrics::{Metrics, PeerMetrics, REFUSAL_COUNT, put_metrics, refusal_place};
+use site_metrics::{Metrics, PeerMetrics, REFUSAL_COUNT, put_metrics, refusal_index};
 use std::alloc::{Allocator, Global};
 
 fn site_metrics() -> Metrics {
@@ -95,6 +95,6 @@ const REPLIES: [(&[u8], Option<usize>); 9] = [
 #[test]
 fn a_refusal_has_its_place(rt: HostRuntime) {
     for (reply, place) in REPLIES {
-        assert!(rt; refusal_place(reply) == place);
+        assert!(rt; refusal_index(reply) == place);
     }
 }

@@ -4,7 +4,7 @@ ghost use Rattle.rights_types.specs.Entries.{EntryValue, IsEntry, own, closes};
 ghost use Rattle.thread_parts.specs.Items.{Continues, IsOpen, MayBeFirst, Precedes};
 
 use apply_lanes::laws::ends_taken_in;
-use apply_lanes::{Inlet, Item, LaneClosed, Outlet, Shard, ShardedCounter, lane};
+use apply_lanes::{Inlet, Item, LaneClosed, Outlet, Shard, SplitCounter, lane};
 use rights_types::{Amount, Entry, Frontier, Move, SiteId};
 use std::alloc::Global;
 use std::marker::Brand;
@@ -269,7 +269,7 @@ fn each_growth_of_a_lane_refused(rt: HostRuntime) {
 /// Adds one this number of times, and returns the shard.
 fn add_ones<L: Ledger, R: Wait>(
     rt: &R,
-    counter: &Mutex<ShardedCounter<L>>,
+    counter: &Mutex<SplitCounter<L>>,
     mut shard: Shard<L>,
     times: u64,
 ) -> Shard<L> {
@@ -287,7 +287,7 @@ fn two_shards<L: Ledger + Send + Sync, R: Threads + Wait + Abort + Sync>(rt: &R,
     requires name { blank.name ≡ L.name }
     requires parts { (blank.parts ≡ L.parts) × (L.parts ≡ 3) }
 {
-    let mut counter = ShardedCounter::<L>::open(blank, 2);
+    let mut counter = SplitCounter::<L>::open(blank, 2);
     let first = counter.split().expect(rt, "a shard");
     let second = counter.split().expect(rt, "another");
     assert!(rt; counter.split().is_none(), "a third shard");
@@ -302,7 +302,7 @@ fn two_shards<L: Ledger + Send + Sync, R: Threads + Wait + Abort + Sync>(rt: &R,
     assert!(rt; counter.left() == 0, "both shards are out");
     let told = (counter.collect(first), counter.collect(second));
     assert!(rt; counter.left() == 2, "both shards are back");
-    counter.settle();
+    counter.reconcile();
     assert!(rt; told == (10, 20) && counter.sum() == 30, "the sum");
 }
 

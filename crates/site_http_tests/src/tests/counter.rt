@@ -5,7 +5,7 @@ ghost use Rattle.site_http.specs.declared.client.TheConstants.{LONGEST_REPLY};
 
 use line_streams::Replies;
 use rights_types::OutOfMemory;
-use site_http::Client;
+use site_http::Backend;
 use std::alloc::Global;
 
 /// Carries out each line, and replies how many it had carried out before. It refuses a line that is too long, or that
@@ -82,7 +82,7 @@ fn put_counted(replies: &mut Replies<Global>, word: &[u8], count: u8) -> Result<
     replies.finish()
 }
 
-impl Client for Counter {
+impl Backend for Counter {
     ghost answers = { λ waits old line reply new. ⊤ };
 
     ghost status = { λ client text. ⊤ };

@@ -21,7 +21,7 @@ use reply_texts::{REPLY_ROOM, put_bad_command};
 use rights_types::OutOfMemory;
 use site_core::{Desk, DeskError};
 use site_node::{Peers, Reply, TICK_ROOM, Ticked, answer_reply, answer_tick, send_to_all};
-use site_sockets::{PeerState, Site};
+use site_sockets::{PeerState, SiteSockets};
 use site_words::{DeskCommand, PeerView, SiteCommand, read_command, status_text};
 use std::alloc::{Allocator, Global};
 use std::io::{Read, Write};
@@ -34,9 +34,9 @@ use std::time::Clock;
 pub(crate) struct SiteClient<'a, D: DeskNames, R: Wait, P: Peers + Drop, B: TickSignal + Drop> {
     pub(crate) rt: &'a R,
     pub(crate) alloc: Global,
-    pub(crate) site: &'a Site,
+    pub(crate) site: &'a SiteSockets,
     /// The index of its seat, under which its replies are counted.
-    pub(crate) place: usize,
+    pub(crate) index: usize,
     pub(crate) seat: Seated<'a, D>,
     pub(crate) peers: P,
     pub(crate) signal: B,
@@ -68,14 +68,14 @@ pub(crate) type ClientOf<'a, D, R> = SiteClient<
 /// or memory was refused; then no seat is taken.
 pub(crate) fn client_at<'a, D: DeskNames, R: Wait + Clock + AllocGlobal>(
     rt: &'a R,
-    site: &'a Site,
+    site: &'a SiteSockets,
     seats: &'a Seats<D>,
-    place: usize,
+    index: usize,
 ) -> Option<ClientOf<'a, D, R>> {
     let peers = Outboxes::new(rt, seats.turns()?, site.peers())?;
     let signal = SiteTickSignal::new(rt, &site.tick_notifier);
-    let seat = seats.sit(place)?;
-    Some(SiteClient::new(rt, rt.alloc(), site, place, seat, peers, signal))
+    let seat = seats.sit(index)?;
+    Some(SiteClient::new(rt, rt.alloc(), site, index, seat, peers, signal))
 }
 
 /// The command that a line spells, which is passed without its line feed; `None` is passed for a line that is too
@@ -134,8 +134,8 @@ impl<'a, D: DeskNames, R: Wait, P: Peers + Drop, B: TickSignal + Drop> SiteClien
     pub(crate) fn new(
         rt: &'a R,
         alloc: Global,
-        site: &'a Site,
-        place: usize,
+        site: &'a SiteSockets,
+        index: usize,
         seat: Seated<'a, D>,
         peers: P,
         signal: B,
@@ -146,7 +146,7 @@ impl<'a, D: DeskNames, R: Wait, P: Peers + Drop, B: TickSignal + Drop> SiteClien
             rt,
             alloc,
             site,
-            place,
+            index,
             seat,
             peers,
             signal,
@@ -268,7 +268,7 @@ impl<'a, D: DeskNames, R: Wait, P: Peers + Drop, B: TickSignal + Drop> SiteClien
 
     /// Counts a reply, given with its line feed.
     pub(crate) fn count_reply(&self, reply: &[u8]) {
-        self.site.commands.note_reply(self.place, reply);
+        self.site.commands.note_reply(self.index, reply);
     }
 
     /// Answers a line, by its command; `None` is not a command.

@@ -8,7 +8,7 @@ use crate::site::tick_signal::TickSignal;
 use apply_lanes::DeskNames;
 use line_streams::Replies;
 use rights_types::OutOfMemory;
-use site_http::Client;
+use site_http::Backend;
 use site_node::{Peers, TICK_ROOM};
 use site_words::SiteCommand;
 use std::alloc::Global;
@@ -85,7 +85,7 @@ impl<D: DeskNames, R: Wait, P: Peers + Drop, B: TickSignal + Drop> SiteClient<'_
     }
 }
 
-impl<D: DeskNames, R: Wait, P: Peers + Drop, B: TickSignal + Drop> Client
+impl<D: DeskNames, R: Wait, P: Peers + Drop, B: TickSignal + Drop> Backend
     for SiteClient<'_, D, R, P, B> {
     ghost use Rattle.site_server.specs.Replying.{TellsStatus};
     ghost use Rattle.site_server.specs.Connections.{Answers};
@@ -111,7 +111,7 @@ impl<D: DeskNames, R: Wait, P: Peers + Drop, B: TickSignal + Drop> Client
     }
 
     fn has_room(&self, len: usize) -> bool {
-        self.site.has_room(self.rt, self.place, len)
+        self.site.has_room(self.rt, self.index, len)
     }
 
     fn put_status(&self, replies: &mut Replies<Global>) -> Result<(), OutOfMemory> {

@@ -6,7 +6,7 @@ use crate::site::shared::Shared;
 use apply_lanes::{DeskNames, Parts, Report, stop};
 use rights_types::OutOfMemory;
 use site_metrics::unsent_numbers;
-use site_sockets::Site;
+use site_sockets::SiteSockets;
 use std::alloc::Global;
 use std::io::Eprint;
 use std::sync::{Arc, Wait};
@@ -55,7 +55,7 @@ pub(crate) fn stop_desk<D: DeskNames>(alloc: Global, shared: Shared<D>) -> Resul
 }
 
 /// How far the log was sent to each peer.
-fn sent_to_peers(alloc: Global, site: &Site) -> Result<Vec<u64>, OutOfMemory> {
+fn sent_to_peers(alloc: Global, site: &SiteSockets) -> Result<Vec<u64>, OutOfMemory> {
     let mut sent = Vec::with_capacity(alloc, site.peers().len())?;
     for peer in site.peers() {
         sent.push(peer.events.counters().sent())?;
@@ -75,7 +75,7 @@ fn unsent<D: DeskNames, R: Wait>(rt: &R, shared: &Shared<D>, sent: &[u64]) -> Op
 /// Logs which entries of the log no peer can have applied, if there are any.
 pub(crate) fn say_unsent<D: DeskNames, R: Wait + Eprint + AllocGlobal>(
     rt: &R,
-    site: &Site,
+    site: &SiteSockets,
     shared: &Shared<D>,
 ) {
     let Ok(sent) = sent_to_peers(rt.alloc(), site) else {

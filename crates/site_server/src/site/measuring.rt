@@ -12,7 +12,7 @@ use rights_types::OutOfMemory;
 use site_core::Desk;
 use site_metrics::{Metrics, PeerMetrics, put_metrics};
 use site_node::Peers;
-use site_sockets::{PeerState, Site};
+use site_sockets::{PeerState, SiteSockets};
 use std::alloc::Allocator;
 use std::sync::Wait;
 
@@ -26,7 +26,7 @@ struct DeskValues {
 }
 
 /// The metrics of a site with these values of its desk.
-fn metrics_of<R: Wait>(rt: &R, site: &Site, values: DeskValues) -> Metrics
+fn metrics_of<R: Wait>(rt: &R, site: &SiteSockets, values: DeskValues) -> Metrics
     ensures { HasValues values result }
 {
     let desk = values.view;

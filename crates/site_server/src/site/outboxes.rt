@@ -190,19 +190,19 @@ impl<'a, D: DeskNames, R: Wait + Clock> Outboxes<'a, D, R> {
 
     /// Offers everything due to the peer at this index to its outbox, in one turn at the desk, and returns how many
     /// lines it accepted.
-    fn send_to(&mut self, place: usize) -> Result<u64, OutOfMemory>
-        requires { place < length self.old.peers.now }
-        ensures sends { IfOk result (λ sent. SendsToPeer D.id self.old.peers.now place
+    fn send_to(&mut self, index: usize) -> Result<u64, OutOfMemory>
+        requires { index < length self.old.peers.now }
+        ensures sends { IfOk result (λ sent. SendsToPeer D.id self.old.peers.now index
             (record { turns = self.old.turns; holds = self.old.holds.items }) sent
             (record { turns = self.new.turns; holds = self.new.holds.items })) }
-        ensures stops { OnErr result (StopsAtOutbox D.id self.old.peers.now place
+        ensures stops { OnErr result (StopsAtOutbox D.id self.old.peers.now index
             (record { turns = self.old.turns; holds = self.old.holds.items })
             (record { turns = self.new.turns; holds = self.new.holds.items })) }
         ensures range { IfOk result (λ sent. sent ≤ MAX_NUMBER + 2) }
         ensures same { self.new.peers ≡ self.old.peers }
     {
         let peers = self.peers;
-        let peer = &peers[place];
+        let peer = &peers[index];
         peer.make_room(self.rt, || self.lines_due(peer.site));
         let work = SendDue { rt: self.rt, peer };
         self.turns.take(self.rt, work, &mut self.holds)
@@ -215,11 +215,11 @@ impl<D: DeskNames, R: Wait + Clock> Peers for Outboxes<'_, D, R> {
 
     ghost size = { λ outboxes. length outboxes.peers.now };
 
-    ghost sends = { λ before place sent after. SendsToPeer D.id before.peers.now place
+    ghost sends = { λ before index sent after. SendsToPeer D.id before.peers.now index
         (record { turns = before.turns; holds = before.holds.items }) sent
         (record { turns = after.turns; holds = after.holds.items }) };
 
-    ghost stops = { λ before place after. StopsAtOutbox D.id before.peers.now place
+    ghost stops = { λ before index after. StopsAtOutbox D.id before.peers.now index
         (record { turns = before.turns; holds = before.holds.items })
         (record { turns = after.turns; holds = after.holds.items }) };
 
@@ -227,7 +227,7 @@ impl<D: DeskNames, R: Wait + Clock> Peers for Outboxes<'_, D, R> {
         self.peers.len()
     }
 
-    fn send_due(&mut self, place: usize) -> Result<u64, OutOfMemory> {
-        self.send_to(place)
+    fn send_due(&mut self, index: usize) -> Result<u64, OutOfMemory> {
+        self.send_to(index)
     }
 }

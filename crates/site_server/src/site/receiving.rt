@@ -14,7 +14,7 @@ use peer_links::{DeskMessage, Port, Skipped, read_link};
 use rights_types::{OutOfMemory, SiteId};
 use site_core::{Inbound, InboundError};
 use site_node::{Sink, answer_ask, answer_query, note_denial};
-use site_sockets::{Connection, PeerReader, PeerState, Site, SkipCause};
+use site_sockets::{Connection, PeerReader, PeerState, SiteSockets, SkipCause};
 use site_words::Config;
 use std::alloc::Global;
 use std::io::Eprint;
@@ -138,7 +138,7 @@ impl<D: DeskNames> LaneEnd<D> {
 
     /// Applies the entries until the end of the lane, and leaves what the applier reports for the end of the site. An
     /// error ends the link: its lines are then skipped.
-    pub(crate) fn apply_all<R: Wait>(self, rt: &R, site: &Site) {
+    pub(crate) fn apply_all<R: Wait>(self, rt: &R, site: &SiteSockets) {
         let LaneEnd {
             desk,
             origin,

@@ -12,7 +12,7 @@ use desk_turns::Seats;
 use http_server::{Connection, serve};
 use site_http::{Busy, converse, service_config};
 use site_node::Peers;
-use site_sockets::{Accepted, ClientPlace, Clients, ClosingPlace, Site, bounded_reader};
+use site_sockets::{Accepted, ClientPlace, Clients, ClosingPlace, SiteSockets, bounded_reader};
 use std::alloc::Global;
 use std::hash::RandomState;
 use std::io::{Eprint, Read, Write};
@@ -54,7 +54,7 @@ fn answer_requests<
 /// taken.
 fn seat_client<D: DeskNames, R: Wait + Clock + RandomSource + AllocGlobal>(
     rt: &R,
-    site: &Site,
+    site: &SiteSockets,
     clients: &Clients,
     seats: &Seats<D>,
     stream: &TcpStream,
@@ -75,7 +75,7 @@ fn seat_client<D: DeskNames, R: Wait + Clock + RandomSource + AllocGlobal>(
 /// Serves the client that has this place, until it disconnects.
 fn serve_client<D: DeskNames, R: Wait + Clock + RandomSource + AllocGlobal>(
     rt: &R,
-    site: &Site,
+    site: &SiteSockets,
     clients: &Clients,
     seats: Arc<Seats<D>>,
     stream: TcpStream,
@@ -116,7 +116,7 @@ fn begin_client<
 >(
     scope: &Scope<'s, E>,
     rt: &'s R,
-    site: &'s Site,
+    site: &'s SiteSockets,
     clients: &'s Clients,
     seats: &Arc<Seats<D>>,
     stream: TcpStream,
@@ -158,7 +158,7 @@ fn begin_accepted<
 >(
     scope: &Scope<'s, E>,
     rt: &'s R,
-    site: &'s Site,
+    site: &'s SiteSockets,
     clients: &'s Clients,
     seats: &Arc<Seats<D>>,
     accepted: Accepted,
@@ -179,7 +179,13 @@ fn accept_clients<
     E,
     D: DeskNames + Send + Sync + 's,
     R: Threads + Wait + Clock + RandomSource + AllocGlobal + Eprint + Sync,
->(scope: &Scope<'s, E>, rt: &'s R, site: &'s Site, clients: &'s Clients, seats: &Arc<Seats<D>>) {
+>(
+    scope: &Scope<'s, E>,
+    rt: &'s R,
+    site: &'s SiteSockets,
+    clients: &'s Clients,
+    seats: &Arc<Seats<D>>,
+) {
     for _ in rt.forever() {
         let Some(accepted) = clients.next(rt) else {
             return;
@@ -192,7 +198,7 @@ fn accept_clients<
 fn run_client_acceptor<
     D: DeskNames + Send + Sync,
     R: Threads + Wait + Clock + RandomSource + AllocGlobal + Eprint + Sync,
->(rt: &R, site: &Site, clients: &Clients, seats: Arc<Seats<D>>) {
+>(rt: &R, site: &SiteSockets, clients: &Clients, seats: Arc<Seats<D>>) {
     thread::scope(thread::scope_env(), rt, |scope| {
         accept_clients(scope, rt, site, clients, &seats);
     })
@@ -204,7 +210,7 @@ pub(crate) fn begin_clients<
     E,
     D: DeskNames + Send + Sync + 's,
     R: Threads + Wait + Clock + RandomSource + AllocGlobal + Eprint + Sync,
->(scope: &Scope<'s, E>, rt: &'s R, site: &'s Site, seats: &Arc<Seats<D>>) -> bool {
+>(scope: &Scope<'s, E>, rt: &'s R, site: &'s SiteSockets, seats: &Arc<Seats<D>>) -> bool {
     let Some(clients) = &site.clients else {
         return true;
     };

@@ -8,30 +8,30 @@ use std::sync::{Mutex, Wait};
 /// leaving one needs no memory.
 #[derive(Drop)]
 pub(crate) struct Slots<T: Drop> {
-    places: Vec<Mutex<Option<T>>>,
+    slots: Vec<Mutex<Option<T>>>,
 }
 
 impl<T: Drop> Slots<T> {
     /// This number of empty slots.
     pub(crate) fn new(alloc: Global, count: usize) -> Result<Slots<T>, OutOfMemory> {
-        let mut places = Vec::with_capacity(alloc, count)?;
+        let mut slots = Vec::with_capacity(alloc, count)?;
         for _ in 0..count {
-            places.push(Mutex::new(None))?;
+            slots.push(Mutex::new(None))?;
         }
-        Ok(Slots { places })
+        Ok(Slots { slots })
     }
 
     /// Puts a value at this index.
-    pub(crate) fn put<R: Wait>(&self, rt: &R, place: usize, thing: T) {
-        if let Some(slot) = self.places.get(place) {
+    pub(crate) fn put<R: Wait>(&self, rt: &R, index: usize, thing: T) {
+        if let Some(slot) = self.slots.get(index) {
             *slot.lock(rt) = Some(thing);
         }
     }
 
     /// All values that are there, in the order of their indexes.
     pub(crate) fn into_vec(self, alloc: Global) -> Result<Vec<T>, OutOfMemory> {
-        let mut things = Vec::with_capacity(alloc, self.places.len())?;
-        for slot in self.places {
+        let mut things = Vec::with_capacity(alloc, self.slots.len())?;
+        for slot in self.slots {
             if let Some(thing) = slot.into_inner() {
                 things.push(thing)?;
             }

@@ -6,7 +6,7 @@ use crate::site::tick_signal::TickSignal;
 use apply_lanes::DeskNames;
 use desk_turns::Seats;
 use site_node::Peers;
-use site_sockets::Site;
+use site_sockets::SiteSockets;
 use std::sync::{Arc, Wait};
 use std::thread::Scope;
 use std::time::{Clock, Duration, SystemTime, UNIX_EPOCH};
@@ -27,7 +27,7 @@ impl<D: DeskNames, R: Wait + Clock, P: Peers + Drop, B: TickSignal + Drop> SiteC
 > {
     /// Every `every` milliseconds, does what a `tick` with the time since 1970 does, until the site ends. A time that
     /// the desk refuses, because it went back, has no effect.
-    pub(crate) fn tick_all(&mut self, rt: &R, site: &Site, every: u64) {
+    pub(crate) fn tick_all(&mut self, rt: &R, site: &SiteSockets, every: u64) {
         let time = Duration::from_millis(every);
         for _ in rt.forever() {
             if !site.tick_notifier.rest(rt, time) {
@@ -43,7 +43,7 @@ impl<D: DeskNames, R: Wait + Clock, P: Peers + Drop, B: TickSignal + Drop> SiteC
 /// Does what is due every `every` milliseconds, with the clock's seat.
 fn keep_time<D: DeskNames, R: Wait + Clock + AllocGlobal>(
     rt: &R,
-    site: &Site,
+    site: &SiteSockets,
     every: u64,
     seats: Arc<Seats<D>>,
 ) {
@@ -61,7 +61,7 @@ pub(crate) fn begin_ticks<
 >(
     scope: &Scope<'s, E>,
     rt: &'s R,
-    site: &'s Site,
+    site: &'s SiteSockets,
     every: Option<u64>,
     seats: &Arc<Seats<D>>,
 ) -> bool {

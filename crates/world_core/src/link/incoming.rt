@@ -155,7 +155,7 @@ impl<A: Allocator + Copy, K: Keeping> Incoming<A, K> {
         self.inbound.arrive(entry, &mut scratch.verdicts);
         self.see(seen, &scratch.verdicts);
         self.list(copy, &scratch.verdicts);
-        self.settle(scratch);
+        self.pass_on(scratch);
     }
 
     // Whether the entry is the next one while none is held, and there is no separate list, as in most arrivals. If so,
@@ -207,7 +207,7 @@ impl<A: Allocator + Copy, K: Keeping> Incoming<A, K> {
     }
 
     // Moves the verdicts to the reply; the entries that are ready are appended to what was delivered.
-    fn settle(&mut self, scratch: &mut Scratch<A>)
+    fn pass_on(&mut self, scratch: &mut Scratch<A>)
         requires put { length self.old.put.items + length scratch.old.verdicts.items ≤ vec_capacity self.old.put }
         requires reported { length scratch.old.reported.items + length scratch.old.verdicts.items
             ≤ vec_capacity scratch.old.reported }

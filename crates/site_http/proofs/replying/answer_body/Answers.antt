@@ -8,6 +8,6 @@ returns-then-waits g c =
     let line = bad_command ++ 10 ∷ [] in (
       bad_command ∷ [],
       rw (c.if-waits.true, c.refuse.ensures.status)
-          (refused_many (g.C.Client.answers true) c.args.client.now _ c.in-None.ensures.other),
+          (refused_many (g.C.Backend.answers true) c.args.client.now _ c.in-None.ensures.other),
       c.refuse.ensures.text ∙ ap (λ (l : List ℕ). l ++ line) c.requires.fresh ∙ sym (append-nil line),
     )

@@ -19,7 +19,7 @@ loop-text-preserved g c =
       answered = (
         done ++ line ∷ [],
         given ++ put.0 ∷ [],
-        answers_more (g.C.Client.answers false) _ _ _ done given line put.0 inv.answered.2 put.1,
+        answers_more (g.C.Backend.answers false) _ _ _ done given line put.0 inv.answered.2 put.1,
         within_more given put.0 below,
         inv.answered.4 ∙ ap (λ (l : List (List ℕ)). done ++ l) c.in-Some.ensures.first
             ∙ sym (append_assoc done (line ∷ []) (lines_of c.in-Some.more.now)),

@@ -7,7 +7,7 @@ use Rattle.site_http.proofs.replying.answer_lines.Given as goal
 abbrev pub invariant-loop-text : goal.invariant-loop-text
 invariant-loop-text g l = record {
   answered : (done : List (List ℕ)) × (given : List (List ℕ))
-      × AnswersEach (g.C.Client.answers false) l.fn.client done given l.client × WithinLimit given
+      × AnswersEach (g.C.Backend.answers false) l.fn.client done given l.client × WithinLimit given
       × (lines_of l.body ≡ done ++ lines_of l.lines) × (l.out.items ≡ text_of given);
   room : 18 ≤ l.out.spare;
 }

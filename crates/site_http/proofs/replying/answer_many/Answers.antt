@@ -10,7 +10,7 @@ returns-in-Ok g c =
       inl (record {
         each = ok.1;
         within = ok.2;
-        status = status_of_many (g.C.Client.answers false) _ _ _ ok.0 c.requires.other ok.1;
+        status = status_of_many (g.C.Backend.answers false) _ _ _ ok.0 c.requires.other ok.1;
       }),
       ok.3,
     )

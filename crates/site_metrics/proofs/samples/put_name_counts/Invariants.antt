@@ -5,10 +5,10 @@ use Rattle.site_metrics.specs.Table.{name_sample}
 use Rattle.site_metrics.specs.Refusals.{refusal_names}
 use Rattle.site_metrics.proofs.samples.put_name_counts.Given as goal
 
-abbrev pub invariant-loop-place : goal.invariant-loop-place
-invariant-loop-place g l = record {
+abbrev pub invariant-loop-index : goal.invariant-loop-index
+invariant-loop-index g l = record {
   text : l.replies.part ≡ l.initial.replies.part ++ flat_map (λ e. 10 ∷ sample_line l.name (name_sample e))
-      (take l.place (zip refusal_names l.counts));
-  room : l.initial.replies.room ≤ l.replies.room + 96 * l.place;
+      (take l.index (zip refusal_names l.counts));
+  room : l.initial.replies.room ≤ l.replies.room + 96 * l.index;
   kept : l.replies.whole ≡ l.fn.replies.whole;
 }

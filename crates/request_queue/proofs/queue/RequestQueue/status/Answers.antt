@@ -2,7 +2,7 @@ use Rattle.std.proofs.Common.{◌≡◌, ℕ, List, Some, None, position, arith,
 use Rattle.request_queue.specs.Queues.{QueueValue, outcome_of, has_ticket}
 use Rattle.request_queue.specs.Calls.{TellsOutcome}
 use Rattle.request_queue.specs.declared.request.Outcome.{Outcome}
-use Rattle.request_queue.proofs.Lists.{place_in, first_that}
+use Rattle.request_queue.proofs.Lists.{index_in, first_that}
 use Rattle.request_queue.proofs.Keeps.{keeps_read}
 use Rattle.request_queue.proofs.Reading.{is_of, outcome_found, outcome_read, outcome_none}
 use Rattle.request_queue.proofs.queue.RequestQueue.status.Goals as goal
@@ -16,7 +16,7 @@ invariant_of-self g c =
       next = c.self.inside.next;
     } in
     let found : position (is_of c.args.ticket) q.outcomes ≡ Some c.in-Some.index
-    = place_in (is_of c.args.ticket) c.deref.result.now q.outcomes (Some c.in-Some.index) c.deref.ensures.value
+    = index_in (is_of c.args.ticket) c.deref.result.now q.outcomes (Some c.in-Some.index) c.deref.ensures.value
     c.in-Some.ensures in
     let at = c.remove-outcome.ensures.value in
     let within = (first_that (is_of c.args.ticket) q.outcomes c.in-Some.index c.remove-outcome.result found
@@ -44,7 +44,7 @@ returns-in-Some g c =
     let e = c.remove-outcome.result in
     let at = c.remove-outcome.ensures.value in
     let found : position (is_of t) q.outcomes ≡ Some i
-    = place_in (is_of t) c.deref.result.now q.outcomes (Some i) c.deref.ensures.value c.in-Some.ensures in
+    = index_in (is_of t) c.deref.result.now q.outcomes (Some i) c.deref.ensures.value c.in-Some.ensures in
     let known : outcome_of q t ≡ Some e.1 = outcome_found q t i e found at in
     let left = ap (λ (os : List (ℕ × Outcome)). record { waiting = q.waiting; outcomes = os; next = q.next })
     c.remove-outcome.ensures.items ∙ outcome_read q t i e c.self.invariant.0 found at in
@@ -63,7 +63,7 @@ returns g c =
     } in
     let t = c.args.ticket in
     let missing : position (is_of t) q.outcomes ≡ None
-    = place_in (is_of t) c.deref.result.now q.outcomes None c.deref.ensures.value c.in_default.ensures in
+    = index_in (is_of t) c.deref.result.now q.outcomes None c.deref.ensures.value c.in_default.ensures in
     let none = outcome_none q t missing in
     let waits : has_ticket t q.waiting ≡ c.has_ticket.result
     = sym (c.has_ticket.ensures ∙ ap (has_ticket t) c.deref-2.ensures.value) in

@@ -62,28 +62,28 @@ returns-clause-takes g c =
     let freed = a.1 in
     let came : c.arrive.new.verdicts.items ≡ v ∷ all_ready freed =
     a.2 ∙ ap (λ vs. vs ++ v ∷ all_ready freed) c.requires.empty in
-    let inbound : c.settle.new.self.inbound ≡ c.arrive.new.self = ap (λ i. i.inbound) c.settle.ensures.rest
+    let inbound : c.pass_on.new.self.inbound ≡ c.arrive.new.self = ap (λ i. i.inbound) c.pass_on.ensures.rest
     ∙ ap (λ i. i.inbound) c.list.ensures.rest ∙ ap (λ i. i.inbound) c.see.ensures.rest in (
       v,
       freed,
-      subst (λ i. IncomingTakes i before e v freed c.settle.new.self c.settle.new.scratch.reported.items) same (record {
+      subst (λ i. IncomingTakes i before e v freed c.pass_on.new.self c.pass_on.new.scratch.reported.items) same (record {
         arrives = subst (λ j. Arrives i.inbound.buffer e v freed j.buffer) (sym inbound) a.3;
         inbound = rw inbound c.arrive.ensures.rest;
-        gone = ap (λ i. i.gone.items) c.settle.ensures.rest ∙ ap (λ i. i.gone.items) c.list.ensures.rest
+        gone = ap (λ i. i.gone.items) c.pass_on.ensures.rest ∙ ap (λ i. i.gone.items) c.list.ensures.rest
             ∙ ap (λ i. i.gone.items) c.see.ensures.rest;
-        put = c.settle.ensures.put ∙ ap (λ vs. c.list.new.self.put.items ++ ready_in vs) came
+        put = c.pass_on.ensures.put ∙ ap (λ vs. c.list.new.self.put.items ++ ready_in vs) came
             ∙ ap (λ i. i.put.items ++ ready_in (v ∷ all_ready freed)) c.list.ensures.rest
             ∙ ap (λ i. i.put.items ++ ready_in (v ∷ all_ready freed)) c.see.ensures.rest
             ∙ puts_one i.put.items v freed;
-        seen = ap (λ i. i.seen.items) c.settle.ensures.rest ∙ ap (λ i. i.seen.items) c.list.ensures.rest
+        seen = ap (λ i. i.seen.items) c.pass_on.ensures.rest ∙ ap (λ i. i.seen.items) c.list.ensures.rest
             ∙ c.see.ensures.seen v (all_ready freed) e (c.deref.ensures.value ∙ came)
             (c.and-seen.ensures ∙ ap (λ i. i.seen.items ++ e ∷ []) (sym same));
-        apart = ap (λ i. option_map (λ l. l.items) i.apart) c.settle.ensures.rest
+        apart = ap (λ i. option_map (λ l. l.items) i.apart) c.pass_on.ensures.rest
             ∙ c.list.ensures.lists v (all_ready freed) e (c.deref-2.ensures.value ∙ came)
             (λ some. c.requires.copy (subst (λ i. IsSome i.apart) same
             (subst (λ i. IsSome i.apart) c.see.ensures.rest some)))
             ∙ ap (λ i. option_map (λ l. reached_after l.items e v) i.apart) c.see.ensures.rest;
-        reported = c.settle.ensures.reported ∙ ap (λ vs. before ++ map as_reported vs) came
+        reported = c.pass_on.ensures.reported ∙ ap (λ vs. before ++ map as_reported vs) came
             ∙ ap (λ ts. before ++ ts) (tells_one v freed);
       }),
     )
@@ -92,11 +92,11 @@ pub returns-clause-room : goal.returns-clause-room
 returns-clause-room g c n room =
     let t = returns-clause-takes g c in
     let same = c.arrive_next.ensures.same c.if-arrive_next.false in
-    keeps_room n _ _ c.args.scratch.now c.settle.new.scratch c.args.entry t.0 t.1 room t.2
-    (c.settle.ensures.put_room ∙ ap (λ i. vec_capacity i.put) c.list.ensures.rest
+    keeps_room n _ _ c.args.scratch.now c.pass_on.new.scratch c.args.entry t.0 t.1 room t.2
+    (c.pass_on.ensures.put_room ∙ ap (λ i. vec_capacity i.put) c.list.ensures.rest
     ∙ ap (λ i. vec_capacity i.put) c.see.ensures.rest ∙ ap (λ i. vec_capacity i.put) same)
-    (ap (λ i. option_map (λ l. vec_capacity l) i.apart) c.settle.ensures.rest ∙ c.list.ensures.capacity
+    (ap (λ i. option_map (λ l. vec_capacity l) i.apart) c.pass_on.ensures.rest ∙ c.list.ensures.capacity
     ∙ ap (λ i. option_map (λ l. vec_capacity l) i.apart) c.see.ensures.rest
     ∙ ap (λ i. option_map (λ l. vec_capacity l) i.apart) same)
-    (c.settle.ensures.verdicts_room ∙ c.arrive.ensures.capacity)
-    c.settle.ensures.reported_room
+    (c.pass_on.ensures.verdicts_room ∙ c.arrive.ensures.capacity)
+    c.pass_on.ensures.reported_room

@@ -1,7 +1,7 @@
 use Rattle.std.proofs.Common.{◌≡◌, ◌+◌, ◌≤◌, ◌++◌, length, map, reverse, vec_capacity}
 use Rattle.site_core.specs.Inbounds.{ready_in}
 use Rattle.world_core.specs.LinkEvents.{reported}
-use Rattle.world_core.proofs.link.incoming.Incoming.settle.Given as goal
+use Rattle.world_core.proofs.link.incoming.Incoming.pass_on.Given as goal
 
 abbrev pub invariant-loop-verdict : goal.invariant-loop-verdict
 invariant-loop-verdict g l = record {

@@ -1,9 +1,9 @@
 use Rattle.std.proofs.Common.{arith, subst}
 use Rattle.request_queue.specs.Queues.{QueueValue}
-use Rattle.request_queue.specs.Calls.{Settles}
+use Rattle.request_queue.specs.Calls.{Finishes}
 use Rattle.request_queue.proofs.Keeps.{keeps_settled}
-use Rattle.request_queue.proofs.Reading.{settles}
-use Rattle.request_queue.proofs.queue.RequestQueue.settle.Goals as goal
+use Rattle.request_queue.proofs.Reading.{finishes}
+use Rattle.request_queue.proofs.queue.RequestQueue.finish.Goals as goal
 
 pub invariant_of-self : goal.invariant_of-self
 invariant_of-self g c =
@@ -35,6 +35,6 @@ returns g c =
       outcomes = c.push.new.self.items;
       next = c.self.inside.next;
     } in
-    subst (λ (v : QueueValue). Settles v c.args.index c.args.outcome c.remove-request.result.ticket new) c.self.view_is
-    (settles q c.args.index c.remove-request.result c.args.outcome c.remove-request.new.self.items c.push.new.self.items
+    subst (λ (v : QueueValue). Finishes v c.args.index c.args.outcome c.remove-request.result.ticket new) c.self.view_is
+    (finishes q c.args.index c.remove-request.result c.args.outcome c.remove-request.new.self.items c.push.new.self.items
     within c.remove-request.ensures.value c.remove-request.ensures.items pushed)

@@ -7,18 +7,18 @@ use std::sync::ledger::{Blank, Book, Ledger, Share};
 /// The sum, kept under the lock, with the parts of its ledger that were not given out or were returned. The sum is
 /// always that of all shards, wherever they are.
 #[derive(Drop)]
-pub struct ShardedCounter<L: Ledger> {
+pub struct SplitCounter<L: Ledger> {
     sum: u64,
     left: u64,
     book: Book<L>,
     rest: Share<L>,
 }
 
-impl<L: Ledger> Model for ShardedCounter<L> {
+impl<L: Ledger> Model for SplitCounter<L> {
     ghost use Rattle.std.specs.Prelude.{◌≡◌, ◌+◌};
-    ghost use Rattle.thread_parts.specs.ShardedCounters.{ShardedCounterValue};
+    ghost use Rattle.thread_parts.specs.SplitCounters.{SplitCounterValue};
 
-    ghost Value = { ShardedCounterValue };
+    ghost Value = { SplitCounterValue };
 
     ghost view = { λ t. record { sum = t.sum; left = t.left; returned = t.rest.amount } };
 
@@ -42,16 +42,16 @@ impl<L: Ledger> Model for Shard<L> {
     ghost invariant = { λ p. (p.share.parts ≡ 1) × (p.share.amount ≡ p.added) };
 }
 
-impl<L: Ledger> ShardedCounter<L> {
+impl<L: Ledger> SplitCounter<L> {
     /// A sum of 0 with this number of shards to give out. The blank is what the ledger's name
     /// is written on.
-    pub fn open(blank: Blank, shards: u64) -> ShardedCounter<L>
+    pub fn open(blank: Blank, shards: u64) -> SplitCounter<L>
         requires name { blank.name ≡ L.name }
         requires parts { (blank.parts ≡ L.parts) × (L.parts ≡ shards + 1) }
         ensures { result ≡ record { sum = 0; left = shards; returned = 0 } }
     {
         let (book, rest) = blank.open::<L>();
-        ShardedCounter {
+        SplitCounter {
             sum: 0,
             left: shards,
             book,
@@ -124,12 +124,12 @@ impl<L: Ledger> ShardedCounter<L> {
     }
 
     /// If all shards are back, the sum is what they added. The call changes nothing.
-    pub fn settle(&mut self)
+    pub fn reconcile(&mut self)
         requires { self.old.left + 1 ≡ L.parts }
         ensures same { self.new ≡ self.old }
         ensures whole { self.new.returned ≡ self.new.sum }
     {
-        let ShardedCounter { book, rest, .. } = self;
+        let SplitCounter { book, rest, .. } = self;
         book.audit(rest);
     }
 }

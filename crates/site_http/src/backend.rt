@@ -13,7 +13,7 @@ pub const LONGEST_REPLY: usize = 128;
 /// A client of a site, which carries out what the requests of one connection ask for.
 ///
 /// A call that returns `OutOfMemory` has changed nothing.
-pub trait Client {
+pub trait Backend {
     // By whether the client waits for the outcome of the command: in the first state, this line with its line feed
     // gets this reply, without a line feed, and leads to the second state.
     ghost answers: { Bool → Self → List ℕ → List ℕ → Self → Type 0 };
