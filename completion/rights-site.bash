@@ -54,14 +54,14 @@ _rights_site_run() {
             mapfile -t COMPREPLY < <(compgen -f -- "$current")
             return
             ;;
-        # An address is the caller's to say: where this site listens, or after 'J='. So are a name and how often it ticks.
-        --listen | --http | --host | --tick | [1-9]*)
+        # An address is the caller's to say: where this site listens, or after 'J='. So are a name and the times.
+        --listen | --http | --host | --tick | --silent | [1-9]*)
             return
             ;;
     esac
     [[ $current == *=* ]] && return
 
-    for word in --id --sites --listen --http --host --tick --once --log --help; do
+    for word in --id --sites --listen --http --host --tick --silent --once --log --help; do
         # Only a name of the host may be given more than once.
         [[ $word != --host && " ${COMP_WORDS[*]:1:COMP_CWORD-1} " == *" $word "* ]] || options+="$word "
     done

@@ -1,11 +1,11 @@
 -- Settings that are asked for, or refused.
-use Rattle.std.proofs.Common.{◌≡◌, ◌∙◌, ◌<◌, ◌^◌, ℕ, Bool, true, false, List, Option, Some, None, Result, Ok, Err, refl}
+use Rattle.std.proofs.Common.{◌≡◌, ◌∙◌, ◌<◌, ◌^◌, inl, inr, ℕ, Bool, true, false, List, Option, Some, None, Result, Ok, Err, refl}
 use Rattle.std.proofs.Common.{sym, ap, subst, arith, codes}
 use Rattle.std.specs.Prelude.{IfSome, IsErrAnd, MatchResult, option_map, unwrap_or}
 use Rattle.std.proofs.lemmas.Result.{err_from_is_err_and}
 use Rattle.std.specs.Str.Parse.{digits_value, without_leading_plus}
 use Rattle.clap.specs.Walk.{Row, Text, all_of, first_of}
-use Rattle.site_words.specs.Settings.{AreFound, HasFlag, HasNumber, HasValues, IsFound, IsSettings, IsTick}
+use Rattle.site_words.specs.Settings.{AreFound, AreInRange, HasFlag, HasNumber, HasValues, IsFound, IsSettings, IsSilence, IsTick}
 use Rattle.site_words.specs.Settings.{MayHaveNumber, Names, Options, Settings}
 use Rattle.site_words.specs.Words.{IsSetBy}
 use Rattle.site_words.specs.declared.words.WordsFault.{WordsFault}
@@ -44,6 +44,12 @@ pub tick_fits : (tick : Option ℕ) → IfSome tick IsTick → IfSome tick (λ m
 tick_fits None valid = tt
 tick_fits (Some n) valid = omega (arith, valid.1)
 
+-- .. and so does a time after which a peer may count as silent
+pub silence_fits : (time : Option ℕ) → IfSome time IsSilence → IfSome time (λ m. m < 2 ^ 64)
+silence_fits None valid = tt
+silence_fits (Some n) (inl zero) = omega (arith, zero)
+silence_fits (Some n) (inr valid) = omega (arith, valid.1)
+
 -- the default of an option whose value is mapped
 pub unwrap_mapped : {X Y : Type 0} (f : X → Y) (o : Option X) (d : X)
     → unwrap_or (option_map f o) (f d) ≡ f (unwrap_or o d)
@@ -52,14 +58,14 @@ unwrap_mapped f (Some x) d = refl
 
 abbrev pub MayBeOptions : List Row → Result Options WordsFault → Type 0
 MayBeOptions rows r = MatchResult r (AreFound rows)
-    (λ fault. (fault ≡ Refused) × ((o : Options) → IfSome o.tick IsTick → AreFound rows o → ⊥))
+    (λ fault. (fault ≡ Refused) × ((o : Options) → AreInRange o → AreFound rows o → ⊥))
 
-tick_once : (rows : List Row) (n m : Option ℕ) → MayHaveNumber rows (codes "tick") n
-    → MayHaveNumber rows (codes "tick") m → n ≡ m
-tick_once rows None None one two = refl
-tick_once rows None (Some m) one two = absurd (none_some (sym one ∙ two.1))
-tick_once rows (Some n) None one two = absurd (none_some (sym two ∙ one.1))
-tick_once rows (Some n) (Some m) one two = ap Some (number_once rows (codes "tick") n m one two)
+optional_once : (rows : List Row) (option : Text) (n m : Option ℕ) → MayHaveNumber rows option n
+    → MayHaveNumber rows option m → n ≡ m
+optional_once rows option None None one two = refl
+optional_once rows option None (Some m) one two = absurd (none_some (sym one ∙ two.1))
+optional_once rows option (Some n) None one two = absurd (none_some (sym two ∙ one.1))
+optional_once rows option (Some n) (Some m) one two = ap Some (number_once rows option n m one two)
 
 log_once : (rows : List Row) (a b : Bool) → HasFlag rows (codes "log") a → HasFlag rows (codes "log") b → a ≡ b
 log_once rows true true one two = refl
@@ -67,22 +73,25 @@ log_once rows false false one two = refl
 log_once rows true false one two = absurd (texts_differ (some_same (sym one ∙ two)))
 log_once rows false true one two = absurd (texts_differ (some_same (sym two ∙ one)))
 
-abbrev options_with : Option Text → List Text → Option ℕ → Option Text → Bool → Options
-options_with http hosts tick once log = record { http = http; hosts = hosts; tick = tick; once = once; log = log }
+abbrev options_with : Option Text → List Text → Option ℕ → Option ℕ → Option Text → Bool → Options
+options_with http hosts tick silent once log
+    = record { http = http; hosts = hosts; tick = tick; silent = silent; once = once; log = log }
 
 -- clap found one value of each option
 options_once : (rows : List Row) (o p : Options) → AreFound rows o → AreFound rows p → o ≡ p
 options_once rows o p one two =
     let http : o.http ≡ p.http = sym one.http ∙ two.http in
     let hosts : o.hosts ≡ p.hosts = sym one.hosts ∙ two.hosts in
-    let tick : o.tick ≡ p.tick = tick_once rows o.tick p.tick one.tick two.tick in
+    let tick : o.tick ≡ p.tick = optional_once rows (codes "tick") o.tick p.tick one.tick two.tick in
+    let silent : o.silent ≡ p.silent = optional_once rows (codes "silent") o.silent p.silent one.silent two.silent in
     let once : o.once ≡ p.once = sym one.once ∙ two.once in
     let log : o.log ≡ p.log = log_once rows o.log p.log one.log two.log in
-    ap (λ (h : Option Text). options_with h o.hosts o.tick o.once o.log) http
-    ∙ (ap (λ (hs : List Text). options_with p.http hs o.tick o.once o.log) hosts
-    ∙ (ap (λ (t : Option ℕ). options_with p.http p.hosts t o.once o.log) tick
-    ∙ (ap (λ (f : Option Text). options_with p.http p.hosts p.tick f o.log) once
-    ∙ ap (λ (l : Bool). options_with p.http p.hosts p.tick p.once l) log)))
+    ap (λ (h : Option Text). options_with h o.hosts o.tick o.silent o.once o.log) http
+    ∙ (ap (λ (hs : List Text). options_with p.http hs o.tick o.silent o.once o.log) hosts
+    ∙ (ap (λ (t : Option ℕ). options_with p.http p.hosts t o.silent o.once o.log) tick
+    ∙ (ap (λ (t : Option ℕ). options_with p.http p.hosts p.tick t o.once o.log) silent
+    ∙ (ap (λ (f : Option Text). options_with p.http p.hosts p.tick p.silent f o.log) once
+    ∙ ap (λ (l : Bool). options_with p.http p.hosts p.tick p.silent p.once l) log))))
 
 -- the settings of the values that clap found are those that it found
 pub values_found : (rows : List Row) (id sites : ℕ) (listen : Text) (words : List Text) (options : Options)

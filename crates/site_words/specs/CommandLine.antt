@@ -6,7 +6,7 @@ use Rattle.clap.specs.Walk.{Rule, Text}
 use Rattle.clap.specs.declared.builder.action.ArgAction.TheVariants.{Append, SetTrue}
 use Rattle.clap.specs.declared.builder.value_parser.ValueParser.TheVariants.{Unsigned}
 use Rattle.rights_types.specs.declared.limits.TheConstants.{MAX_SITES, MIN_SITES}
-use Rattle.site_words.specs.declared.config.TheConstants.{MAX_TICK, MIN_TICK}
+use Rattle.site_words.specs.declared.config.TheConstants.{MAX_SILENCE, MAX_TICK, MIN_TICK}
 
 -- an optional option with one value
 abbrev pub value_rule : Text → Rule
@@ -23,6 +23,10 @@ number_rule name least most = record (option_rule name) { parser = Some (Unsigne
 -- the interval at which the site ticks itself: a whole number of milliseconds
 abbrev pub tick_rule : Rule
 tick_rule = record (value_rule (codes "tick")) { parser = Some (Unsigned MIN_TICK MAX_TICK) }
+
+-- the time with no line after which a peer counts as silent: a whole number of milliseconds
+abbrev pub silent_rule : Rule
+silent_rule = record (value_rule (codes "silent")) { parser = Some (Unsigned 0 MAX_SILENCE) }
 
 -- the names of the site's host: an option that may occur several times
 abbrev pub host_rule : Rule
@@ -57,7 +61,8 @@ abbrev pub run_shape : Shape
 run_shape = record (new_shape (codes "run")) {
   rules = number_rule (codes "id") 1 MAX_SITES ∷ number_rule (codes "sites") MIN_SITES MAX_SITES
       ∷ option_rule (codes "listen") ∷ peer_rule
-      ∷ value_rule (codes "http") ∷ host_rule ∷ tick_rule ∷ value_rule (codes "once") ∷ flag_rule (codes "log") ∷ [];
+      ∷ value_rule (codes "http") ∷ host_rule ∷ tick_rule ∷ silent_rule ∷ value_rule (codes "once")
+      ∷ flag_rule (codes "log") ∷ [];
 }
 
 -- the program's name is not among the words, one of its commands is required, and `help` is not a command

@@ -1,12 +1,14 @@
 -- The configuration of one site, and the words that give it.
-use Rattle.std.specs.Prelude.{◌≡◌, ◌≤◌, ◌+◌, ◌==◌, ◌++◌, ℕ, zero, suc, Bool, true, false, List, [], ◌∷◌, Option, Some}
-use Rattle.std.specs.Prelude.{None, IfSome, Contains, codes, length, map, decimal, unwrap_or, if◌then◌else◌}
+use Rattle.std.specs.Prelude.{◌≡◌, ◌≤◌, ◌⊎◌, ◌+◌, ◌*◌, ◌==◌, ◌++◌, ℕ, zero, suc, Bool, true, false, List, [], ◌∷◌, Option}
+use Rattle.std.specs.Prelude.{Some, None, IfSome, Contains, codes, length, map, max, decimal, option_and_then, unwrap_or}
+use Rattle.std.specs.Prelude.{if◌then◌else◌}
 use Rattle.std.specs.List.{All}
 use Rattle.std.specs.Str.Parse.{IsNumeral, digits_value, without_leading_plus}
 use Rattle.clap.specs.Walk.{Row, Text, all_of, first_of, one_of}
 use Rattle.rights_types.specs.Ranges.{IsSite}
 use Rattle.rights_types.specs.declared.limits.TheConstants.{MAX_SITES, MIN_SITES}
-use Rattle.site_words.specs.declared.config.TheConstants.{MAX_TICK, MIN_TICK}
+use Rattle.site_words.specs.declared.config.TheConstants.{MAX_SILENCE, MAX_TICK, MIN_SILENCE, MIN_TICK}
+use Rattle.site_words.specs.declared.config.TheConstants.{TICKS_OF_SILENCE, USUAL_SILENCE}
 
 -- the address at which a peer listens
 pub record Peer : Type 0 where
@@ -14,12 +16,13 @@ pub record Peer : Type 0 where
   pub address : Text
 
 -- the optional settings: the address for HTTP, the names of the host to which it answers there, the interval in
--- milliseconds at which the site ticks itself, the file that it creates at its start, and whether it logs events on
--- links and clients
+-- milliseconds at which the site ticks itself, the time in milliseconds with no line after which a peer counts as
+-- silent, the file that it creates at its start, and whether it logs events on links and clients
 pub record Options : Type 0 where
   pub http : Option Text
   pub hosts : List Text
   pub tick : Option ℕ
+  pub silent : Option ℕ
   pub once : Option Text
   pub log : Bool
 
@@ -34,19 +37,42 @@ pub record Settings : Type 0 where
 abbrev pub IsTick : ℕ → Type 0
 IsTick milliseconds = (MIN_TICK ≤ milliseconds) × (milliseconds ≤ MAX_TICK)
 
+-- the range of the time after which a peer counts as silent: from a second to an hour, or 0, which stands for never
+abbrev pub IsSilence : ℕ → Type 0
+IsSilence milliseconds = (milliseconds ≡ 0) ⊎ ((MIN_SILENCE ≤ milliseconds) × (milliseconds ≤ MAX_SILENCE))
+
+pub record AreInRange (o : Options) : Type 0 where
+  pub tick : IfSome o.tick IsTick
+  pub silent : IfSome o.silent IsSilence
+
+-- a time that is given as 0 is none
+abbrev pub unless_zero : ℕ → Option ℕ
+unless_zero zero = None
+unless_zero (suc n) = Some (suc n)
+
+-- after which time a peer counts as silent for a site that ticks itself at this interval: after the time that is given;
+-- or else three seconds, or ten ticks if that is more
+abbrev pub silent_beside_ticks : Option ℕ → ℕ → Option ℕ
+silent_beside_ticks (Some given) tick = unless_zero given
+silent_beside_ticks None tick = Some (max USUAL_SILENCE (TICKS_OF_SILENCE * tick))
+
+-- .. and for a site with these settings: never, if it does not tick itself
+abbrev pub silent_after : Options → Option ℕ
+silent_after o = option_and_then (silent_beside_ticks o.silent) o.tick
+
 -- the sites from 1 to n except this one, in order
 abbrev pub others : ℕ → ℕ → List ℕ
 others id zero = []
 others id (suc n) = if suc n == id then others id n else others id n ++ suc n ∷ []
 
--- the peers are the other sites, each once, and the site's own ticks are within the limits
+-- the peers are the other sites, each once, and the times are within their limits
 pub record IsSettings (s : Settings) : Type 0 where
   pub least : MIN_SITES ≤ s.sites
   pub most : s.sites ≤ MAX_SITES
   pub site : IsSite s.id
   pub among : s.id ≤ s.sites
   pub peers : map (λ p. p.site) s.peers ≡ others s.id s.sites
-  pub tick : IfSome s.options.tick IsTick
+  pub times : AreInRange s.options
 
 -- `J=ADDRESS`: the peer's number in decimals, `=` (61) and its address
 abbrev pub peer_word : Peer → Text
@@ -98,6 +124,7 @@ pub record AreFound (rows : List Row) (o : Options) : Type 0 where
   pub http : first_of (codes "http") rows ≡ o.http
   pub hosts : unwrap_or (all_of (codes "host") rows) [] ≡ o.hosts
   pub tick : MayHaveNumber rows (codes "tick") o.tick
+  pub silent : MayHaveNumber rows (codes "silent") o.silent
   pub once : first_of (codes "once") rows ≡ o.once
   pub log : HasFlag rows (codes "log") o.log
 

@@ -6,7 +6,8 @@ ghost use Rattle.std.specs.String.{string_bytes};
 ghost use Rattle.clap.specs.Walk.{texts, Text};
 ghost use Rattle.rights_types.specs.Ranges.{IsSite};
 ghost use Rattle.rights_types.specs.declared.limits.TheConstants.{MAX_SITES};
-ghost use Rattle.site_words.specs.Settings.{HasValues, IsNamed, IsSettings, IsTick, Lacks, others, peer_word};
+ghost use Rattle.site_words.specs.Settings.{HasValues, IsNamed, IsSettings, IsSilence, IsTick, Lacks, others, peer_word};
+ghost use Rattle.site_words.specs.Settings.{silent_after};
 ghost use Rattle.site_words.specs.Words.{IsSetBy};
 ghost use Rattle.site_words.specs.declared.words.WordsFault.{WordsFault};
 
@@ -21,6 +22,18 @@ pub const MIN_TICK: u64 = 1;
 
 /// The longest interval at which a site ticks itself, in milliseconds.
 pub const MAX_TICK: u64 = 60_000;
+
+/// The shortest time after which a peer can count as silent, in milliseconds.
+pub const MIN_SILENCE: u64 = 1_000;
+
+/// The longest time after which a peer can count as silent, in milliseconds.
+pub const MAX_SILENCE: u64 = 3_600_000;
+
+/// After how many milliseconds a peer counts as silent if the words do not say, unless the site ticks too rarely.
+pub const USUAL_SILENCE: u64 = 3_000;
+
+/// .. and of how many of the site's own ticks that time is at least.
+pub const TICKS_OF_SILENCE: u64 = 10;
 
 /// The address at which a peer listens.
 #[derive(Drop)]
@@ -60,6 +73,7 @@ pub(crate) struct OptionValues<'a> {
     pub(crate) http: Option<&'a str>,
     pub(crate) hosts: &'a [&'a str],
     pub(crate) tick: Option<u64>,
+    pub(crate) silent: Option<u64>,
     pub(crate) once: Option<&'a str>,
     pub(crate) log: bool,
 }
@@ -75,6 +89,7 @@ impl<'a> Model for OptionValues<'a> {
       http = option_map (λ s. s.now) values.http;
       hosts = texts values.hosts.now;
       tick = values.tick;
+      silent = values.silent;
       once = option_map (λ s. s.now) values.once;
       log = values.log;
     } };
@@ -90,6 +105,7 @@ pub struct Config {
     http: Option<String>,
     hosts: Vec<String>,
     tick: Option<u64>,
+    silent: Option<u64>,
     once: Option<String>,
     log: bool,
 }
@@ -110,6 +126,7 @@ impl Model for Config {
         http = option_map string_bytes config.http;
         hosts = map string_bytes config.hosts.items;
         tick = config.tick;
+        silent = config.silent;
         once = option_map string_bytes config.once;
         log = config.log;
       };
@@ -124,6 +141,7 @@ impl Model for Config {
         http = option_map string_bytes config.http;
         hosts = map string_bytes config.hosts.items;
         tick = config.tick;
+        silent = config.silent;
         once = option_map string_bytes config.once;
         log = config.log;
       };
@@ -187,6 +205,20 @@ impl Config {
         self.tick
     }
 
+    /// After how many milliseconds with no line of a peer it counts the peer as silent: what the words say, or three
+    /// seconds, or ten of its own ticks if that is more. None if it never does, as without ticks of its own.
+    pub fn silent_after(&self) -> Option<u64>
+        ensures value { result ≡ silent_after self.now.options }
+        ensures valid { IsSettings self.now }
+    {
+        let tick = self.tick?;
+        match self.silent {
+            Some(0) => None,
+            Some(milliseconds) => Some(milliseconds),
+            None => Some(USUAL_SILENCE.max(TICKS_OF_SILENCE * tick)),
+        }
+    }
+
     /// The path of the file that it creates at its start, as the words have it. A site does not start if that file
     /// exists.
     pub fn once(&self) -> Option<&str>
@@ -222,7 +254,7 @@ impl Config {
         if words.len() as u64 != sites - 1 {
             return Err(WordsFault::Refused);
         }
-        if !is_tick(options.tick) {
+        if !is_tick(options.tick) || !is_silence(options.silent) {
             return Err(WordsFault::Refused);
         }
         Ok(Config {
@@ -233,6 +265,7 @@ impl Config {
             http: owned(alloc, options.http)?,
             hosts: owned_all(alloc, options.hosts)?,
             tick: options.tick,
+            silent: options.silent,
             once: owned(alloc, options.once)?,
             log: options.log,
         })
@@ -246,6 +279,19 @@ fn is_tick(tick: Option<u64>) -> bool
 {
     match tick {
         Some(milliseconds) => milliseconds >= MIN_TICK && milliseconds <= MAX_TICK,
+        None => true,
+    }
+}
+
+/// Whether a peer may count as silent after this time, or none is given.
+fn is_silence(time: Option<u64>) -> bool
+    ensures yes { result ≡ true → IfSome time IsSilence }
+    ensures no { result ≡ false → IfSome time IsSilence → ⊥ }
+{
+    match time {
+        Some(milliseconds) => {
+            milliseconds == 0 || milliseconds >= MIN_SILENCE && milliseconds <= MAX_SILENCE
+        }
         None => true,
     }
 }

@@ -8,9 +8,8 @@ ghost use Rattle.clap.specs.declared.builder.command.Command.TheViews.{out-Comma
 ghost use Rattle.rights_types.specs.declared.limits.TheConstants.{MIN_SITES, MAX_SITES};
 ghost use Rattle.site_words.specs.Asked.{asked_by, asked_of_clap, asks_for_version};
 ghost use Rattle.site_words.specs.CommandLine.{app, flag_rule, host_rule, number_rule, option_rule, peer_rule, required_shape};
-ghost use Rattle.site_words.specs.CommandLine.{run_numbers_shape, run_shape, tick_rule, value_rule};
-ghost use Rattle.site_words.specs.Settings.{AreFound, HasFlag, HasNumber, IsFound, IsTick, MayHaveNumber, Options};
-ghost use Rattle.site_words.specs.declared.config.TheConstants.{MAX_TICK, MIN_TICK};
+ghost use Rattle.site_words.specs.CommandLine.{run_numbers_shape, run_shape, silent_rule, tick_rule, value_rule};
+ghost use Rattle.site_words.specs.Settings.{AreFound, AreInRange, HasFlag, HasNumber, IsFound, MayHaveNumber, Options};
 ghost use Rattle.site_words.specs.Words.{AnswersMet, IsSetBy, MayAnswer};
 ghost use Rattle.site_words.specs.declared.words.WordsFault.{WordsFault};
 
@@ -160,6 +159,21 @@ fn tick_option<'a>(alloc: Global) -> Arg<'a>
     .value_parser(milliseconds)
 }
 
+/// The option with the time after which a peer counts as silent.
+fn silent_option<'a>(alloc: Global) -> Arg<'a>
+    ensures rule { rule_of result ≡ silent_rule }
+    ensures local { result.global ≡ false }
+{
+    let milliseconds = value_parser!(u64).range(0..=3_600_000);
+    optional(
+        alloc,
+        "silent",
+        "MS",
+        "With --tick: a peer with no line for MS milliseconds is silent (1,000 to 3,600,000; 0: never)",
+    )
+    .value_parser(milliseconds)
+}
+
 /// The option with a name of the host, which may occur several times.
 fn host_option<'a>(alloc: Global) -> Arg<'a>
     ensures rule { rule_of result ≡ host_rule }
@@ -233,6 +247,7 @@ fn run_parser<'a>(alloc: Global) -> Result<Parser<'a>, AllocError>
         .arg(optional(alloc, "http", "ADDRESS", "Also serves HTTP at this address"))?
         .arg(host_option(alloc))?
         .arg(tick_option(alloc))?
+        .arg(silent_option(alloc))?
         .arg(optional(
             alloc,
             "once",
@@ -315,14 +330,16 @@ fn flag_of(matches: &ArgMatches<'_>, flag: &str) -> Result<bool, WordsFault>
 fn options_of<'a>(matches: &'a ArgMatches<'_>) -> Result<OptionValues<'a>, WordsFault>
     ensures { MatchResult result (AreFound (rows_of (found_of matches.now)))
         (λ fault. (fault ≡ WordsFault.Refused)
-        × ((o : Options) → IfSome o.tick IsTick → AreFound (rows_of (found_of matches.now)) o → ⊥)) }
+        × ((o : Options) → AreInRange o → AreFound (rows_of (found_of matches.now)) o → ⊥)) }
 {
     let tick = optional_number_of(matches, "tick")?;
+    let silent = optional_number_of(matches, "silent")?;
     let log = flag_of(matches, "log")?;
     Ok(OptionValues {
         http: matches.get_str("http"),
         hosts: matches.get_strs("host").unwrap_or(&[]),
         tick,
+        silent,
         once: matches.get_str("once"),
         log,
     })

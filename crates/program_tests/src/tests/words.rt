@@ -41,6 +41,7 @@ Options:
       --http <ADDRESS>    Also serves HTTP at this address
       --host <NAME>       Answers HTTP requests to this name of the host too, besides IP addresses and localhost
       --tick <MS>         Ticks by itself, every MS milliseconds (1 to 60,000)
+      --silent <MS>       With --tick: a peer with no line for MS milliseconds is silent (1,000 to 3,600,000; 0: never)
       --once <FILE>       Creates FILE at the start, and does not start if it exists
       --log               Reports links and clients on standard error
   -h, --help              Print help
@@ -232,6 +233,54 @@ type Extras = (
     bool,
 );
 
+/// Words for ticks and silence, and after how many milliseconds a peer is then silent.
+const SILENCES: [(&str, Option<u64>); 16] = [
+    ("", None),
+    (" --silent 5000", None),
+    (" --tick 100", Some(3_000)),
+    (" --tick 300", Some(3_000)),
+    (" --tick 301", Some(3_010)),
+    (" --tick 60000", Some(600_000)),
+    (" --tick 100 --silent 0", None),
+    (" --tick 100 --silent 1000", Some(1_000)),
+    (" --tick 100 --silent=1001", Some(1_001)),
+    (" --tick 60000 --silent 1000", Some(1_000)),
+    (" --tick 1 --silent 3600000", Some(3_600_000)),
+    (" --silent 3599999 --tick 1", Some(3_599_999)),
+    (" --silent +2000 --tick 9", Some(2_000)),
+    (" --silent 00 --tick 9", None),
+    (" --silent 0 --log --tick=1", None),
+    (" --silent 4000 --once f --tick 1000", Some(4_000)),
+];
+
+/// Whether the words of a line are those of a site for which a peer is silent after this time.
+fn is_silent_after(alloc: Global, line: &str, after: Option<u64>) -> bool {
+    match read(alloc, line) {
+        Ok(Command::Run(config)) => config.silent_after() == after,
+        _ => false,
+    }
+}
+
+/// Whether these words, after all others and before them, say after which time a peer is silent.
+fn tell_silence(alloc: Global, words: &str, after: Option<u64>) -> bool {
+    let behind = format!(in alloc; "run --id 1 --sites 2 --listen a 2=b{words}");
+    let before = format!(in alloc; "run{words} 2=b --listen a --sites 2 --id 1");
+    match (behind, before) {
+        (Ok(behind), Ok(before)) => {
+            is_silent_after(alloc, behind.as_str(), after)
+                && is_silent_after(alloc, before.as_str(), after)
+        }
+        _ => false,
+    }
+}
+
+#[test]
+fn a_peer_is_silent_after_a_time(rt: HostRuntime) {
+    for (words, after) in SILENCES {
+        assert!(rt; tell_silence(rt.alloc(), words, after), "at {words:?}");
+    }
+}
+
 /// Words for the options that may be omitted, and what they set.
 const EXTRAS: [(&str, Extras); 13] = [
     ("", (None, None, None, false)),
@@ -350,7 +399,7 @@ fn are_refused(alloc: Global, words: &str) -> bool {
 }
 
 /// Words that are no options of a site.
-const OTHER_OPTIONS: [&str; 25] = [
+const OTHER_OPTIONS: [&str; 35] = [
     "--tick 0",
     "--tick=0",
     "--tick 60001",
@@ -369,13 +418,23 @@ const OTHER_OPTIONS: [&str; 25] = [
     "--log=false",
     "--log=",
     "--log 3=c",
+    "--silent 1",
+    "--silent 999",
+    "--silent=3600001",
+    "--silent 18446744073709551616",
+    "--silent -1",
+    "--silent x",
+    "--silent=",
+    "--silent --log",
     // Each at most once.
+    "--silent 0 --silent 0",
     "--tick 5 --tick 5",
     "--http h --http i",
     "--once f --once=f",
     "--log --log",
     // No other name.
     "--ticks 5",
+    "--silence 5000",
     "--htt h",
     "--Log",
     "-l",
@@ -390,7 +449,7 @@ fn other_forms_of_options_are_refused(rt: HostRuntime) {
 
 #[test]
 fn options_with_no_value_are_refused(rt: HostRuntime) {
-    for option in ["--http", "--tick", "--once"] {
+    for option in ["--http", "--tick", "--silent", "--once"] {
         assert!(rt; are_refused(rt.alloc(), option), "at {option:?}");
     }
 }

@@ -40,7 +40,7 @@ pub returns-in_err-options : goal.returns-in_err-options
 returns-in_err-options c =
     refused_on (IsFound (rows_of (found_of c.args.matches.now))) c.from_residual-in_err-options.result
     c.in_err-options.field-0.0 c.from_residual-in_err-options.ensures.1
-    (λ refused s valid found. c.in_err-options.ensures.1 s.options valid.tick found.options)
+    (λ refused s valid found. c.in_err-options.ensures.1 s.options valid.times found.options)
 
 pub returns : goal.returns
 returns c =

@@ -4,14 +4,23 @@ use Rattle.std.proofs.lemmas.Result.{err_from_is_err_and}
 use Rattle.clap.specs.Matches.{found_of}
 use Rattle.clap.specs.Walk.{Text, rows_of, texts}
 use Rattle.clap.proofs.WalkLemmas.{first_value-rows, raw_values-rows}
-use Rattle.site_words.proofs.SettingsLaws.{MayBeOptions, tick_fits, unwrap_mapped}
+use Rattle.site_words.proofs.SettingsLaws.{MayBeOptions, silence_fits, tick_fits, unwrap_mapped}
 use Rattle.site_words.proofs.words.options_of.Goals as goal
 
 pub returns-in_err-tick : goal.returns-in_err-tick
 returns-in_err-tick c =
     let p = err_from_is_err_and c.from_residual.result c.from_residual.ensures.1 in
     subst (MayBeOptions (rows_of (found_of c.args.matches.now))) (sym (p.1 ∙ ap Err p.2))
-    (c.in_err-tick.ensures.0, λ o valid found. c.in_err-tick.ensures.1 o.tick (tick_fits o.tick valid) found.tick)
+    (c.in_err-tick.ensures.0, λ o valid found. c.in_err-tick.ensures.1 o.tick (tick_fits o.tick valid.tick) found.tick)
+
+pub returns-in_err-silent : goal.returns-in_err-silent
+returns-in_err-silent c =
+    let p = err_from_is_err_and c.from_residual-in_err-silent.result c.from_residual-in_err-silent.ensures.1 in
+    subst (MayBeOptions (rows_of (found_of c.args.matches.now))) (sym (p.1 ∙ ap Err p.2)) (
+      c.in_err-silent.ensures.0,
+      λ o valid found.
+          c.in_err-silent.ensures.1 o.silent (silence_fits o.silent valid.silent) found.silent,
+    )
 
 pub returns-in_err-log : goal.returns-in_err-log
 returns-in_err-log c =
@@ -29,6 +38,7 @@ returns c =
           ∙ unwrap_mapped (λ s. map (λ v. v.now) s.now) c.get_strs.result _
           ∙ ap (λ s. texts s.now) (sym c.unwrap_or.ensures);
       tick = c.in_ok-tick.ensures;
+      silent = c.in_ok-silent.ensures;
       once = sym (first_value-rows f (codes "once")) ∙ sym c.get_str-2.ensures;
       log = c.in_ok-log.ensures;
     }

@@ -8,6 +8,7 @@ returns c =
     c.optional.ensures.local in
     let hosts = one_more _ _ c.in_ok-arg-2.ensures http c.host_option.ensures.rule c.host_option.ensures.local in
     let tick = one_more _ _ c.in_ok-arg-3.ensures hosts c.tick_option.ensures.rule c.tick_option.ensures.local in
-    let once = one_more _ _ c.in_ok-arg-4.ensures tick c.optional-2.ensures.rule c.optional-2.ensures.local in
-    IfOk-weaker c.arg-5.result _ _
-    (λ parser adds. one_more _ _ adds once c.log_flag.ensures.rule c.log_flag.ensures.local) c.arg-5.ensures
+    let silent = one_more _ _ c.in_ok-arg-4.ensures tick c.silent_option.ensures.rule c.silent_option.ensures.local in
+    let once = one_more _ _ c.in_ok-arg-5.ensures silent c.optional-2.ensures.rule c.optional-2.ensures.local in
+    IfOk-weaker c.arg-6.result _ _
+    (λ parser adds. one_more _ _ adds once c.log_flag.ensures.rule c.log_flag.ensures.local) c.arg-6.ensures
