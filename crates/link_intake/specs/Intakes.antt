@@ -18,6 +18,8 @@ use Rattle.thread_parts.specs.declared.item.Item.TheVariants.{End}
 use Rattle.link_intake.specs.declared.intake.VerdictCounts.{VerdictCounts}
 use Rattle.link_intake.specs.declared.intake.Arrived.{Arrived}
 use Rattle.link_intake.specs.declared.intake.Arrived.TheVariants.{Entries, Beat, Query, Ask, Deny, Hello}
+use Rattle.link_intake.specs.declared.intake.Came.{Came}
+use Rattle.link_intake.specs.declared.intake.Came.TheVariants.{Next, Other}
 use Rattle.link_intake.specs.declared.intake.IntakeError.{IntakeError}
 use Rattle.link_intake.specs.declared.intake.IntakeError.TheVariants.{Inbound, LaneClosed}
 use Rattle.thread_parts.specs.Ends.{InletValue}
@@ -66,6 +68,11 @@ with_verdict c Full = record c { full = c.full + 1 }
 -- the number of verdicts counted, of all kinds
 abbrev pub all_counts : VerdictCounts → ℕ
 all_counts c = c.ready + c.held + c.repeat + c.after_close + c.full
+
+-- what arrived with a line
+abbrev pub arrival_of : {A : Type 0} → Came A → Arrival A
+arrival_of (Next e) = ComesEntries (Ready e ∷ [])
+arrival_of (Other arrival) = arrival
 
 -- what an intake returns for what arrived
 abbrev pub arrived_of : {A : Type 0} → Arrival A → Arrived

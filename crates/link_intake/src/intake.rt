@@ -1,27 +1,29 @@
 //! The input from one other site: lines arrive, and entries leave on a lane.
-ghost use Rattle.std.specs.Prelude.{◌≡◌, ◌≤◌, ◌<◌, ◌++◌, [], ◌∷◌, true, false, List, Option, Ok, IfOk, IfErr, OnOk};
+ghost use Rattle.std.specs.Prelude.{◌≡◌, ◌≤◌, ◌<◌, ◌++◌, [], ◌∷◌, true, false, List, Option, None, Ok, IfOk, IfErr, OnOk};
 ghost use Rattle.std.specs.Prelude.{OnErr, IsErr, MatchResult, IsSome, length};
 ghost use Rattle.std.specs.Option.{option_map};
 ghost use Rattle.std.specs.List.{All, Contains};
 ghost use Rattle.rights_types.specs.Entries.{EntryValue};
 ghost use Rattle.rights_types.specs.Chains.{IsChain, is_closed};
 ghost use Rattle.rights_types.specs.Messages.{QueryValue, MessageValue};
-ghost use Rattle.rights_types.specs.Messages.MessageValue.{AQuery};
+ghost use Rattle.rights_types.specs.Messages.MessageValue.{AQuery, AnEntry};
 ghost use Rattle.entry_codec.specs.Reading.{reading, has_entries};
 ghost use Rattle.sub_buffer.specs.declared.arrivals.TheConstants.{MAX_VERDICTS};
 ghost use Rattle.sub_buffer.specs.Gaps.{GapOf, GapIs, StateOf};
 ghost use Rattle.sub_buffer.specs.Follows.{HasPut, Follows};
+ghost use Rattle.sub_buffer.specs.declared.verdict.Verdict.TheVariants.{Ready as IsReady};
 ghost use Rattle.site_core.specs.declared.fault.InboundError.TheVariants.{OutOfMemory as NoMemory};
 ghost use Rattle.site_core.specs.Calls.{LineOf};
-ghost use Rattle.site_core.specs.Inbounds.{QueryOf, ready_in};
+ghost use Rattle.site_core.specs.Inbounds.{QueryOf, ready_in, Arrives, InboundRefuses, message_fault};
 ghost use Rattle.thread_parts.specs.Items.{IsOpen, IsEnded};
 ghost use Rattle.link_intake.specs.Intakes.{counts_of, with_verdict, all_counts, verdicts_of, ready_of, arrived_of};
+ghost use Rattle.link_intake.specs.Intakes.{arrival_of};
 ghost use Rattle.link_intake.specs.Intakes.{CanPut, PutsAll, PutsFront, with_end};
 ghost use Rattle.link_intake.specs.declared.intake.IntakeError.TheVariants.{Inbound as BadLine};
 ghost use Rattle.link_intake.specs.declared.intake.IntakeError.TheVariants.{LaneClosed as ClosedLane};
 ghost use Rattle.link_intake.specs.declared.intake.Arrived.TheVariants.{Entries as EntriesCame};
 
-use rights_types::{Ask, Deny, Entry, OutOfMemory, Query};
+use rights_types::{Ask, Deny, Entry, Message, OutOfMemory, Query};
 use site_core::{Arrival, Inbound, InboundError};
 use std::alloc::{Allocator, Global};
 use std::marker::Model;
@@ -38,6 +40,14 @@ pub struct VerdictCounts {
     pub after_close: usize,
     pub full: usize,
 }
+
+const NO_VERDICTS: VerdictCounts = VerdictCounts {
+    ready: 0,
+    held: 0,
+    repeat: 0,
+    after_close: 0,
+    full: 0,
+};
 
 /// What a line contained. Entries that are ready have been put on the lane.
 #[derive(Clone, Copy, Debug, PartialEq, Eq)]
@@ -63,6 +73,14 @@ pub enum IntakeError {
     Inbound(InboundError),
     /// The lane's other end is gone. The intake is dead: it takes in no further line.
     LaneClosed,
+}
+
+// What a line brought.
+#[derive(Drop)]
+pub(crate) enum Came<A: Allocator> {
+    // The next entry, which is ready, and frees none.
+    Next(Entry<A>),
+    Other(Arrival<A>),
 }
 
 /// The input from one other site. The entries that it delivers in order go to a lane; no call borrows a desk.
@@ -141,14 +159,14 @@ impl<A: Allocator + Copy> Intake<A> {
         ensures memory { IfErr result (λ fault. fault ≡ BadLine NoMemory
             → (m : MessageValue) × (reading line.now ≡ Ok m) × (has_entries m ≡ true)) }
     {
-        let arrival = match self.inbound.on_line(line) {
-            Ok(arrival) => arrival,
+        let came = match receive(&mut self.inbound, line) {
+            Ok(came) => came,
             Err(fault) => return Err(IntakeError::Inbound(fault)),
         };
         if self.inlet.is_dead() {
             return Err(IntakeError::LaneClosed);
         }
-        take_in(rt, &mut self.inlet, &mut self.ended, arrival)
+        take_in(rt, &mut self.inlet, &mut self.ended, came)
     }
 
     /// The line of the query for the gap: with `again` if there is a gap, else only if it is not the gap that was
@@ -200,8 +218,83 @@ impl<A: Allocator + Copy> Intake<A> {
     }
 }
 
-// Puts the entries that became ready with what arrived, and returns what that was.
+// Takes a line in as `Inbound::on_line` does. An entry that is the next one needs no list of verdicts.
+fn receive<A: Allocator + Copy>(
+    inbound: &mut Inbound<A>,
+    line: &[u8],
+) -> Result<Came<A>, InboundError>
+    ensures refused { InboundRefuses inbound.old (reading line.now) result }
+    ensures ok { IfOk result (λ came. (m : MessageValue) × (reading line.now ≡ Ok m)
+        × Arrives inbound.old m (arrival_of came) inbound.new) }
+    ensures err { OnErr result (inbound.new ≡ inbound.old) }
+    ensures memory { IfErr result (λ fault. fault ≡ NoMemory → (m : MessageValue) × (reading line.now ≡ Ok m)
+        × (has_entries m ≡ true)) }
+{
+    let message = inbound.read(line)?;
+    match message {
+        Message::Push(entry) => Ok(receive_entry(inbound, entry)?),
+        other => Ok(Came::Other(inbound.take_in(other)?)),
+    }
+}
+
+fn receive_entry<A: Allocator + Copy>(
+    inbound: &mut Inbound<A>,
+    entry: Entry<A>,
+) -> Result<Came<A>, OutOfMemory>
+    requires { message_fault inbound.old (AnEntry entry) ≡ None }
+    ensures ok { IfOk result (λ came. Arrives inbound.old (AnEntry entry) (arrival_of came) inbound.new) }
+    ensures err { OnErr result (inbound.new ≡ inbound.old) }
+{
+    if inbound.arrive_next(&entry) {
+        return Ok(Came::Next(entry));
+    }
+    Ok(Came::Other(inbound.take_in(Message::Push(entry))?))
+}
+
+// Puts the entries that became ready with what came, and returns what that was.
 fn take_in<A: Allocator, R: Wait>(
+    rt: &R,
+    inlet: &mut Inlet<A>,
+    ended: &mut bool,
+    came: Came<A>,
+) -> Result<Arrived, IntakeError>
+    requires few { length (verdicts_of (arrival_of came)) ≤ MAX_VERDICTS }
+    requires entries { CanPut ended.old inlet.old.put (ready_of (arrival_of came)) }
+    requires live { inlet.old.dead ≡ false }
+    ensures lane { inlet.new.lane ≡ inlet.old.lane }
+    ensures ok { IfOk result (λ arrived. (arrived ≡ arrived_of (arrival_of came))
+        × PutsAll inlet.old.put ended.old (ready_of (arrival_of came)) ended.new inlet.new) }
+    ensures err { IfErr result (λ fault. (fault ≡ ClosedLane)
+        × PutsFront inlet.old.put (ready_of (arrival_of came)) ended.new inlet.new) }
+{
+    match came {
+        Came::Next(entry) => put_one(rt, inlet, ended, entry),
+        Came::Other(arrival) => put_arrival(rt, inlet, ended, arrival),
+    }
+}
+
+// Puts an entry that alone became ready.
+fn put_one<A: Allocator, R: Wait>(
+    rt: &R,
+    inlet: &mut Inlet<A>,
+    ended: &mut bool,
+    entry: Entry<A>,
+) -> Result<Arrived, IntakeError>
+    requires entries { CanPut ended.old inlet.old.put (entry ∷ []) }
+    ensures lane { inlet.new.lane ≡ inlet.old.lane }
+    ensures ok { IfOk result (λ arrived. (arrived ≡ EntriesCame (counts_of {A = A} (IsReady entry ∷ [])))
+        × PutsAll inlet.old.put ended.old (entry ∷ []) ended.new inlet.new) }
+    ensures err { IfErr result (λ fault. (fault ≡ ClosedLane)
+        × PutsFront inlet.old.put (entry ∷ []) ended.new inlet.new) }
+{
+    put_next(rt, inlet, ended, entry)?;
+    Ok(Arrived::Entries(VerdictCounts {
+        ready: 1,
+        ..NO_VERDICTS
+    }))
+}
+
+fn put_arrival<A: Allocator, R: Wait>(
     rt: &R,
     inlet: &mut Inlet<A>,
     ended: &mut bool,
@@ -252,13 +345,7 @@ fn count<A: Allocator>(verdicts: &[Verdict<A>]) -> VerdictCounts
     requires { length verdicts.now ≤ MAX_VERDICTS }
     ensures { result ≡ counts_of verdicts.now }
 {
-    let mut counts = VerdictCounts {
-        ready: 0,
-        held: 0,
-        repeat: 0,
-        after_close: 0,
-        full: 0,
-    };
+    let mut counts = NO_VERDICTS;
     for verdict in verdicts {
         count_one(&mut counts, verdict);
     }

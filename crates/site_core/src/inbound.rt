@@ -202,8 +202,8 @@ impl<A: Allocator + Copy> Inbound<A> {
         Ok(())
     }
 
-    // Takes in a message that was not refused.
-    fn take_in(&mut self, message: Message<A>) -> Result<Arrival<A>, OutOfMemory>
+    /// Takes in a message that `read` returned. If memory is refused, nothing changes.
+    pub fn take_in(&mut self, message: Message<A>) -> Result<Arrival<A>, OutOfMemory>
         requires { message_fault self.old (value_of message) ≡ None }
         ensures ok { IfOk result (λ arrival. Arrives self.old (value_of message) arrival self.new) }
         ensures err { OnErr result (self.new ≡ self.old) }
