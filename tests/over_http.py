@@ -19,6 +19,7 @@ import urllib.error
 import urllib.request
 from contextlib import ExitStack, suppress
 
+import web_faults
 import web_limits
 import web_oddities
 import web_requests
@@ -311,6 +312,7 @@ def idle_connections():
 CASES = [
     case("Requests", web_requests.TESTS, begin_idle),
     case("WebLimits", web_limits.TESTS),
+    case("WebFaults", web_faults.TESTS),
     case("WebOddities", web_oddities.TESTS),
     case("WebSites", web_sites.TESTS),
     case("WebClients", [

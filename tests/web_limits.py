@@ -167,7 +167,8 @@ def clients_that_are_all_busy():
         expect_served(answer, 503, b"error Busy\n")
         expect(is_turned_away(answer), True)
         expect(further.has_ended(), True)
-        said = [line for line in sites.site.said().splitlines() if "turned away" in line]
+        # A line of the log is written some time after what it reports.
+        said = wait_for("it says so", lambda: [line for line in sites.site.said().splitlines() if "turned away" in line], PATIENCE)
         expect(len(said) == 1 and said[0].endswith(": turned away: 63 clients are connected"), True, said)
         expect(sites.site.status()["issued"], 0)
 

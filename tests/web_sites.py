@@ -124,6 +124,7 @@ PLAIN = {
     "rights_received_total": "counter", "rights_given_total": "counter", "rights_taken_back_total": "counter",
     "rights_log_number": "counter", "rights_closed": "gauge", "rights_requests_waiting": "gauge",
     "rights_outcomes_unread": "gauge", "rights_clients": "gauge", "rights_commands_total": "counter",
+    "rights_log_lines_dropped_total": "counter",
 }
 OF_PEERS = {
     "rights_peer_applied": "counter", "rights_peer_buffering": "gauge", "rights_peer_entries_held": "gauge",

@@ -60,7 +60,7 @@ module _ (text : List ℕ) where
       → before ++ led_lines a ≡ text ++ flat_map led_lines (families ++ a ∷ [])
   more before families a h = ap (λ (t : List ℕ). t ++ led_lines a) h ∙ flat_map_more led_lines text families a
 
-  pub three : (a b c : Family)
+  three : (a b c : Family)
       → ((text ++ led_lines a) ++ led_lines b) ++ led_lines c ≡ text ++ flat_map led_lines (a ∷ b ∷ c ∷ [])
   three a b c = more _ (a ∷ b ∷ []) c (more _ (a ∷ []) b (one a))
 

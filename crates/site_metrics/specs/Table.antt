@@ -75,6 +75,8 @@ client_metrics m =
     (alone m.commands)
     ∷ counter (codes "rights_commands_refused_total") (codes "Commands refused, by the name of the refusal.")
     (by_name m.refused)
+    ∷ counter (codes "rights_log_lines_dropped_total")
+    (codes "Log lines that were not written, since the log was not read.") (alone m.log_lines_dropped)
     ∷ []
 
 -- the metric with this value of each peer

@@ -33,6 +33,8 @@ pub struct Metrics {
     pub commands: u64,
     /// How many of these were refused, by the index of the refusal's name in `REFUSALS`.
     pub refused: [u64; REFUSAL_COUNT],
+    /// The log lines that were not written to standard error.
+    pub log_lines_dropped: u64,
 }
 
 /// The values of one peer at one moment.

@@ -18,7 +18,7 @@ use rights_types::OutOfMemory;
 use std::alloc::Allocator;
 
 /// The text has at most this many bytes, and as many again as the second constant for each peer.
-pub const SITE_ROOM: usize = 8192;
+pub const SITE_ROOM: usize = 8704;
 
 pub const PEER_ROOM: usize = 1024;
 
@@ -181,8 +181,8 @@ fn put_state<A: Allocator>(metrics: &Metrics, replies: &mut Replies<A>) -> Resul
 fn put_clients<A: Allocator>(metrics: &Metrics, replies: &mut Replies<A>) -> Result<(), OutOfMemory>
     ensures ok { OnOk result (replies.new.part ≡ replies.old.part ++ flat_map led_lines (client_metrics metrics.now)) }
     ensures kept { replies.new.whole ≡ replies.old.whole }
-    ensures room { 3 * HEAD_ROOM + (REFUSAL_COUNT + 2) * SAMPLE_ROOM ≤ replies.old.room → IsOk result }
-    ensures left { replies.old.room ≤ replies.new.room + (3 * HEAD_ROOM + (REFUSAL_COUNT + 2) * SAMPLE_ROOM) }
+    ensures room { 4 * HEAD_ROOM + (REFUSAL_COUNT + 3) * SAMPLE_ROOM ≤ replies.old.room → IsOk result }
+    ensures left { replies.old.room ≤ replies.new.room + (4 * HEAD_ROOM + (REFUSAL_COUNT + 3) * SAMPLE_ROOM) }
 {
     put_alone(
         replies,
@@ -204,6 +204,13 @@ fn put_clients<A: Allocator>(metrics: &Metrics, replies: &mut Replies<A>) -> Res
         b"rights_commands_refused_total",
         b"Commands refused, by the name of the refusal.",
         &metrics.refused,
+    )?;
+    put_alone(
+        replies,
+        Kind::Counter,
+        b"rights_log_lines_dropped_total",
+        b"Log lines that were not written, since the log was not read.",
+        metrics.log_lines_dropped,
     )
 }
 

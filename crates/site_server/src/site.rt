@@ -5,9 +5,11 @@ ghost use Rattle.std.specs.Prelude.{◌≡◌};
 ghost use Rattle.apply_lanes.specs.Names.{id_of, AreBlank, IsUnused};
 
 mod client;
+mod command_reader;
 mod connection;
 mod ending;
 mod locked_outbox;
+mod logging;
 mod measuring;
 mod outboxes;
 mod receiving;
@@ -21,7 +23,9 @@ mod tick_signal;
 mod ticking;
 
 use crate::site::client::client_at;
+use crate::site::command_reader::CommandReader;
 use crate::site::ending::{say_no_report, say_report, say_unsent, stop_desk};
+use crate::site::logging::{begin_log, end_log};
 use crate::site::receiving::{PeerLink, links_of};
 use crate::site::runtime::SiteRuntime;
 use crate::site::serving::begin_clients;
@@ -31,11 +35,12 @@ use crate::site::ticking::begin_ticks;
 use apply_lanes::{Blanks, DeskNames};
 use desk_turns::Seats;
 use line_streams::ConversationError;
+use log_lines::LogWriter;
 use site_core::Desk;
 use site_sockets::{PeerState, SiteSockets, begin_acceptor, begin_sender};
 use site_words::{Config, SiteFault};
 use std::fs::Files;
-use std::io::{Eprint, Read, Write};
+use std::io::{Read, Write};
 use std::marker::Brand;
 use std::net::{Net, TcpListener, TcpStream};
 use std::random::RandomSource;
@@ -44,39 +49,59 @@ use std::thread;
 use std::thread::{Scope, Threads};
 use std::time::Clock;
 
+/// The streams of a site's process.
+#[derive(Drop)]
+struct Streams<I, W, E> {
+    reader: I,
+    writer: W,
+    /// Where it is written what the site logs.
+    errors: E,
+}
+
 /// Runs one site until `quit` or the end of its commands. It listens before it reads the first one. Replies are
-/// written before each read, so they never wait for further commands. Errors before the first read, in this
-/// order: `StartedBefore` or `CannotCreateStartFile`; `CannotListen`; `OutOfMemory`, also if a thread cannot be
-/// started.
+/// written before each read, so they never wait for further commands. A read or a write of `errors` that fails with
+/// `WouldBlock` is tried again: no thread but that of the log waits for `errors`, and a silent input does not keep the
+/// site from ending for lack of memory. Errors before the first read, in this order: `StartedBefore` or
+/// `CannotCreateStartFile`; `CannotListen`; `OutOfMemory`, also if a thread cannot be started.
 pub fn run_site<
     R: Net<Listener = TcpListener, Stream = TcpStream>
         + Threads
         + Wait
         + Clock
         + RandomSource
-        + Eprint
         + AllocGlobal
         + Files
         + Sync,
     I: Read,
     W: Write,
->(rt: &R, config: Config, reader: &mut I, writer: &mut W) -> Result<(), SiteFault> {
+    E: Write + Send + Drop,
+>(rt: &R, config: Config, reader: &mut I, writer: &mut W, errors: E) -> Result<(), SiteFault> {
     start_once(rt, config.once())?;
     let site = SiteSockets::open(rt, &config)?;
     site.announce(rt, &config);
     let desk = Desk::new(rt.alloc(), config.id(), config.sites())?;
-    serve::<Brand, R, &mut I, &mut W>(rt, &config, &site, desk, Blanks::new(), reader, writer)
+    let streams = Streams {
+        reader,
+        writer,
+        errors,
+    };
+    serve::<Brand, R, &mut I, &mut W, E>(rt, &config, &site, desk, Blanks::new(), streams)
 }
 
-/// Starts the threads of a site, answers its commands, ends the threads, and stops the desk.
-fn serve<D: DeskNames + Send + Sync, R: SiteRuntime, I: Read + Drop, W: Write + Drop>(
+/// Shares the desk of a site, and runs the site.
+fn serve<
+    D: DeskNames + Send + Sync,
+    R: SiteRuntime,
+    I: Read + Drop,
+    W: Write + Drop,
+    E: Write + Send + Drop,
+>(
     rt: &R,
     config: &Config,
     site: &SiteSockets,
     desk: Desk,
     blanks: Blanks,
-    reader: I,
-    writer: W,
+    streams: Streams<I, W, E>,
 ) -> Result<(), SiteFault>
     requires id { D.id ≡ id_of desk blanks }
     requires blanks { AreBlank blanks }
@@ -86,6 +111,51 @@ fn serve<D: DeskNames + Send + Sync, R: SiteRuntime, I: Read + Drop, W: Write + 
     // Each thread owns references to what it shares: the check lets none borrow a value whose type has a parameter.
     let shared = Shared::<D>::new(rt, rt.alloc(), desk, blanks)?;
     let links = links_of(rt, rt.alloc(), config, &shared)?;
+    run_logged(rt, config, site, shared, links, streams)
+}
+
+/// Runs the site while a thread writes what it logs. That thread ends last.
+fn run_logged<
+    D: DeskNames + Send + Sync,
+    R: SiteRuntime,
+    I: Read + Drop,
+    W: Write + Drop,
+    E: Write + Send + Drop,
+>(
+    rt: &R,
+    config: &Config,
+    site: &SiteSockets,
+    shared: Shared<D>,
+    links: Vec<PeerLink<D>>,
+    streams: Streams<I, W, E>,
+) -> Result<(), SiteFault> {
+    let Streams {
+        reader,
+        writer,
+        errors,
+    } = streams;
+    let log = LogWriter::new(rt, &site.log, errors)?;
+    thread::scope(thread::scope_env(), rt, |scope| {
+        let ended = if begin_log(scope, log) {
+            run_desk(rt, config, site, shared, links, reader, writer)
+        } else {
+            Err(SiteFault::OutOfMemory)
+        };
+        end_log(rt, site);
+        ended
+    })
+}
+
+/// Starts the threads of a site, answers its commands, ends the threads, and stops the desk.
+fn run_desk<D: DeskNames + Send + Sync, R: SiteRuntime, I: Read + Drop, W: Write + Drop>(
+    rt: &R,
+    config: &Config,
+    site: &SiteSockets,
+    shared: Shared<D>,
+    links: Vec<PeerLink<D>>,
+    reader: I,
+    writer: W,
+) -> Result<(), SiteFault> {
     let ended = run_threads(
         rt,
         site,
@@ -101,7 +171,7 @@ fn serve<D: DeskNames + Send + Sync, R: SiteRuntime, I: Read + Drop, W: Write + 
 
 /// Stops the desk of a site whose threads have ended, and reports what it did, if clients could connect. Before that it
 /// logs which entries were sent to no peer, if events are logged.
-fn stop_site<D: DeskNames, R: Wait + Eprint + AllocGlobal>(
+fn stop_site<D: DeskNames, R: Wait + AllocGlobal>(
     rt: &R,
     site: &SiteSockets,
     log: bool,
@@ -115,8 +185,8 @@ fn stop_site<D: DeskNames, R: Wait + Eprint + AllocGlobal>(
         return;
     }
     match stopped {
-        Ok(report) => say_report(rt, &report),
-        Err(why) => say_no_report(rt, why),
+        Ok(report) => say_report(rt, &site.log, &report),
+        Err(why) => say_no_report(rt, &site.log, why),
     }
 }
 
@@ -141,7 +211,7 @@ fn run_threads<D: DeskNames + Send + Sync, R: SiteRuntime, I: Read + Drop, W: Wr
     })
 }
 
-/// Answers the commands, with their seat.
+/// Answers the commands, with their seat. If the site cannot continue for lack of memory, no further read begins.
 fn answer_commands<D: DeskNames, R: Wait + Clock + AllocGlobal, I: Read, W: Write>(
     rt: &R,
     site: &SiteSockets,
@@ -152,8 +222,14 @@ fn answer_commands<D: DeskNames, R: Wait + Clock + AllocGlobal, I: Read, W: Writ
     let Some(mut client) = client_at(rt, site, seats, COMMANDS) else {
         return Err(ConversationError::OutOfMemory);
     };
-    client.answer_all(reader, writer)?;
-    Ok(())
+    let mut reader = CommandReader::new(site, reader);
+    match client.answer_all(&mut reader, writer) {
+        Err(ConversationError::ReadFailed) if site.has_failed() => {
+            Err(ConversationError::OutOfMemory)
+        }
+        Err(fault) => Err(fault),
+        Ok(_) => Ok(()),
+    }
 }
 
 /// Starts all threads except that of the commands. `false` if one could not be started.
@@ -190,12 +266,7 @@ fn begin_peer<'s, E, D: DeskNames + Send + Sync + 's, R: SiteRuntime>(
 }
 
 /// Starts the threads that read this peer's lines and apply its entries. `false` if one could not be started.
-fn begin_link<
-    's,
-    E,
-    D: DeskNames + Send + Sync + 's,
-    R: Wait + Clock + Eprint + AllocGlobal + Sync,
->(
+fn begin_link<'s, E, D: DeskNames + Send + Sync + 's, R: Wait + Clock + AllocGlobal + Sync>(
     scope: &Scope<'s, E>,
     rt: &'s R,
     site: &'s SiteSockets,

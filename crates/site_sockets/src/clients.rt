@@ -7,13 +7,14 @@ use crate::budget::{Budget, Share};
 use crate::client_stream::{ClientReader, ClientWriter, IDLE_MILLISECONDS, RESPONSE_MILLISECONDS};
 use crate::connection_pool::{ConnectionPool, NoPlace};
 use crate::deadline_reader::DeadlineReader;
+use log_lines::LogQueue;
 use site_metrics::CLIENTS;
 use site_words::{Config, SiteFault};
 use std::alloc::{AllocError, Global};
-use std::io::{Eprint, Read};
+use std::io::Read;
 use std::net::{Net, Shutdown, TcpListener, TcpStream};
-use std::sync::Wait;
 use std::sync::atomic::{AtomicBool, Ordering};
+use std::sync::{Arc, Wait};
 use std::time::{Clock, Duration, Instant};
 use std::{io, thread};
 
@@ -72,8 +73,8 @@ struct Watched {
 #[derive(Drop)]
 pub struct Clients {
     listener: TcpListener,
-    /// Whether it is logged to standard error that clients are turned away.
-    log: bool,
+    /// Where it is logged that clients are turned away, if it is.
+    log: Option<Arc<LogQueue>>,
     /// The names of the host to which the site answers, besides `localhost`.
     pub hosts: Vec<String>,
     /// Times are milliseconds since then.
@@ -92,6 +93,7 @@ impl Clients {
         rt: &R,
         listener: TcpListener,
         config: &Config,
+        log: Option<Arc<LogQueue>>,
     ) -> Result<Clients, SiteFault>
         ensures { IfOk result (λ clients. map string_bytes clients.hosts.items ≡ config.now.options.hosts) }
     {
@@ -107,7 +109,7 @@ impl Clients {
         };
         Ok(Clients {
             listener,
-            log: config.log(),
+            log,
             hosts: copies_of(rt.alloc(), config.hosts())?,
             began,
             pool: ConnectionPool::new(rt.alloc(), CLIENTS)?,
@@ -124,7 +126,7 @@ impl Clients {
     }
 
     /// The next connection that gets a place. `None` once the site ends.
-    pub fn next<R: Wait + Clock + Eprint>(&self, rt: &R) -> Option<Accepted> {
+    pub fn next<R: Wait + Clock>(&self, rt: &R) -> Option<Accepted> {
         for stream in self.listener.incoming() {
             if self.pool.is_closed(rt) {
                 return None;
@@ -140,7 +142,7 @@ impl Clients {
         None
     }
 
-    fn admit<R: Wait + Clock + Eprint>(&self, rt: &R, stream: TcpStream) -> Option<Accepted> {
+    fn admit<R: Wait + Clock>(&self, rt: &R, stream: TcpStream) -> Option<Accepted> {
         prepare(&stream).ok()?;
         let why = match self.enter(rt, &stream) {
             Ok(place) => {
@@ -218,24 +220,30 @@ impl Clients {
         longest
     }
 
-    fn note_turned_away<R: Eprint>(&self, rt: &R, stream: &TcpStream, why: NoPlace) {
-        if self.is_full.swap(true, Ordering::Relaxed) || !self.log {
+    fn note_turned_away<R: Wait>(&self, rt: &R, stream: &TcpStream, why: NoPlace) {
+        if self.is_full.swap(true, Ordering::Relaxed) {
             return;
         }
-        let Ok(address) = stream.peer_addr() else {
+        let (Some(log), Ok(address)) = (&self.log, stream.peer_addr()) else {
             return;
         };
-        let _ = match why {
-            NoPlace::Taken => eprintln!(rt;
-                "rights-site: client {}: turned away: {} clients are connected",
-                address, CLIENTS
+        match why {
+            NoPlace::Taken => log.put(
+                rt,
+                format_args!(
+                    "client {}: turned away: {} clients are connected",
+                    address, CLIENTS
+                ),
             ),
-            NoPlace::NoHandle => eprintln!(rt;
-                "rights-site: client {}: turned away: the system gives the process no further handle",
-                address
+            NoPlace::NoHandle => log.put(
+                rt,
+                format_args!(
+                    "client {}: turned away: the system gives the process no further handle",
+                    address
+                ),
             ),
-            NoPlace::Closed => Ok(()),
-        };
+            NoPlace::Closed => {}
+        }
     }
 
     /// The reading end of the stream of the client at this place.

@@ -1,10 +1,12 @@
-//! What happens on the links with one peer: counted, and reported in the log. No lock is taken for it, since each
+//! What happens on the links with one peer: counted, and reported in the log. No lock is taken to count it, since each
 //! thread records its own events.
 
+use log_lines::LogQueue;
 use rights_types::SiteId;
 use site_metrics::PeerCounters;
-use std::io::Eprint;
+use std::fmt::Display;
 use std::sync::atomic::{AtomicBool, AtomicU64, Ordering};
+use std::sync::{Arc, Wait};
 
 /// Why lines of a peer are skipped.
 #[derive(Clone, Copy, Debug, PartialEq, Eq)]
@@ -45,8 +47,8 @@ impl SkipCause {
 #[derive(Drop)]
 pub struct LinkEvents {
     site: SiteId,
-    /// Whether events are logged to standard error.
-    log: bool,
+    /// Where events are logged, if they are.
+    log: Option<Arc<LogQueue>>,
     counters: PeerCounters,
     /// Whether sending failed, and has not been resumed.
     failed: AtomicBool,
@@ -57,7 +59,7 @@ pub struct LinkEvents {
 }
 
 impl LinkEvents {
-    pub(crate) fn new(site: SiteId, log: bool) -> LinkEvents {
+    pub(crate) fn new(site: SiteId, log: Option<Arc<LogQueue>>) -> LinkEvents {
         LinkEvents {
             site,
             log,
@@ -73,65 +75,57 @@ impl LinkEvents {
         &self.counters
     }
 
-    /// Whether events are written to standard error.
+    /// Whether events are logged.
     pub(crate) fn are_logged(&self) -> bool {
-        self.log
+        self.log.is_some()
     }
 
-    /// The peer's address cannot be resolved.
-    pub(crate) fn has_no_address<R: Eprint>(&self, rt: &R, address: &str) {
-        if self.log {
-            let site = self.site.number();
-            let _ = eprintln!(rt;
-                "rights-site: peer {}: its address cannot be resolved: {}",
-                site, address
-            );
+    /// Logs what happened, if events are logged.
+    fn say<R: Wait, D: Display + Drop>(&self, rt: &R, event: D) {
+        if let Some(log) = &self.log {
+            log.put(rt, format_args!("peer {}: {}", self.site.number(), event));
         }
     }
 
+    /// The peer's address cannot be resolved.
+    pub(crate) fn has_no_address<R: Wait>(&self, rt: &R, address: &str) {
+        self.say(
+            rt,
+            format_args!("its address cannot be resolved: {}", address),
+        );
+    }
+
     /// A connection is being read on which the peer sends lines.
-    pub fn receives<R: Eprint>(&self, rt: &R) {
+    pub fn receives<R: Wait>(&self, rt: &R) {
         let is_new = !self.counters.is_receiving();
         self.counters.set_receiving(true);
-        if is_new && self.log {
-            let _ = eprintln!(rt;
-                "rights-site: peer {}: receives from it",
-                self.site.number()
-            );
+        if is_new {
+            self.say(rt, "receives from it");
         }
     }
 
     /// That connection ended.
-    pub fn receives_no_more<R: Eprint>(&self, rt: &R) {
+    pub fn receives_no_more<R: Wait>(&self, rt: &R) {
         self.counters.set_receiving(false);
-        if self.log {
-            let _ = eprintln!(rt;
-                "rights-site: peer {}: receives from it no more",
-                self.site.number()
-            );
-        }
+        self.say(rt, "receives from it no more");
     }
 
     /// A connection is open on which lines go to the peer.
-    pub(crate) fn sends<R: Eprint>(&self, rt: &R) {
+    pub(crate) fn sends<R: Wait>(&self, rt: &R) {
         self.failed.store(false, Ordering::Relaxed);
         let is_new = !self.counters.is_sending();
         self.counters.set_sending(true);
-        if is_new && self.log {
-            let _ = eprintln!(rt; "rights-site: peer {}: sends to it", self.site.number());
+        if is_new {
+            self.say(rt, "sends to it");
         }
     }
 
     /// That connection has ended, or none could be made. A line was lost with it.
-    pub(crate) fn sends_no_more<R: Eprint>(&self, rt: &R, cause: &str) {
+    pub(crate) fn sends_no_more<R: Wait>(&self, rt: &R, cause: &str) {
         self.drops_line();
         self.counters.set_sending(false);
-        if !self.failed.swap(true, Ordering::Relaxed) && self.log {
-            let site = self.site.number();
-            let _ = eprintln!(rt;
-                "rights-site: peer {}: sends to it no more: {}",
-                site, cause
-            );
+        if !self.failed.swap(true, Ordering::Relaxed) {
+            self.say(rt, format_args!("sends to it no more: {}", cause));
         }
     }
 
@@ -164,46 +158,41 @@ impl LinkEvents {
     }
 
     /// A line of the peer was skipped.
-    pub fn skips<R: Eprint>(&self, rt: &R, cause: SkipCause) {
+    pub fn skips<R: Wait>(&self, rt: &R, cause: SkipCause) {
         self.counters.note_lines(1, 1);
         let bit = cause.bit();
         let is_new = self.skipping.fetch_or(bit, Ordering::Relaxed) & bit == 0;
-        if is_new && self.log {
-            let (site, cause) = (self.site.number(), cause.text());
-            let _ = eprintln!(rt; "rights-site: peer {}: skips lines: {}", site, cause);
+        if is_new {
+            self.say(rt, format_args!("skips lines: {}", cause.text()));
         }
     }
 
     /// Entries of the peer's log are missing, from the first number to the last.
-    pub fn lacks<R: Eprint>(&self, rt: &R, first: u64, last: u64) {
-        if !self.lacking.swap(true, Ordering::Relaxed) && self.log {
-            let site = self.site.number();
-            let _ = eprintln!(rt;
-                "rights-site: peer {}: lacks {} to {} of its log",
-                site, first, last
-            );
+    pub fn lacks<R: Wait>(&self, rt: &R, first: u64, last: u64) {
+        if !self.lacking.swap(true, Ordering::Relaxed) {
+            self.say(rt, format_args!("lacks {} to {} of its log", first, last));
         }
     }
 
     /// No entry is missing.
-    pub fn lacks_nothing<R: Eprint>(&self, rt: &R) {
+    pub fn lacks_nothing<R: Wait>(&self, rt: &R) {
         if self.lacking.load(Ordering::Relaxed) {
             self.lacking.store(false, Ordering::Relaxed);
-            if self.log {
-                let _ = eprintln!(rt; "rights-site: peer {}: lacks nothing", self.site.number());
-            }
+            self.say(rt, "lacks nothing");
         }
     }
 
     /// The peer says that its log ends at a number below what was applied of it.
-    pub fn goes_back<R: Eprint>(&self, rt: &R, says: u64, applied: u64) {
+    pub fn goes_back<R: Wait>(&self, rt: &R, says: u64, applied: u64) {
         let is_new = self.counters.went_back() == 0;
         self.counters.note_went_back();
-        if is_new && self.log {
-            let site = self.site.number();
-            let _ = eprintln!(rt;
-                "rights-site: peer {}: its log went back: it says {}, and {} were applied. It was started anew, or runs twice",
-                site, says, applied
+        if is_new {
+            self.say(
+                rt,
+                format_args!(
+                    "its log went back: it says {}, and {} were applied. It was started anew, or runs twice",
+                    says, applied
+                ),
             );
         }
     }

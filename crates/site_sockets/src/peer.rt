@@ -8,13 +8,14 @@ use crate::connection_slot::ConnectionSlot;
 use crate::events::LinkEvents;
 use crate::peer_writer::PeerWriter;
 use crate::shutdown_handle::ShutdownHandle;
+use log_lines::LogQueue;
 use peer_links::{OUTBOX_LINES, Outbox, OutboxLines};
 use rights_types::{MAX_HELD, OutOfMemory, SiteId};
 use site_words::Config;
 use std::alloc::Global;
 use std::marker::Model;
-use std::sync::Wait;
 use std::sync::atomic::{AtomicBool, AtomicU64, Ordering};
+use std::sync::{Arc, Wait};
 use std::time::{Clock, Duration};
 
 /// The longest time that a tick waits for a peer to take the lines of earlier ticks, in milliseconds.
@@ -47,7 +48,7 @@ impl PeerState {
         alloc: Global,
         site: SiteId,
         address: &str,
-        log: bool,
+        log: Option<Arc<LogQueue>>,
     ) -> Result<PeerState, OutOfMemory> {
         Ok(PeerState {
             site,
@@ -152,10 +153,26 @@ impl PeerLines<'_> {
 }
 
 /// All peers, in the order of the sites.
-pub(crate) fn peers_of(alloc: Global, config: &Config) -> Result<Vec<PeerState>, OutOfMemory> {
+pub(crate) fn peers_of(
+    alloc: Global,
+    config: &Config,
+    log: &Arc<LogQueue>,
+) -> Result<Vec<PeerState>, OutOfMemory> {
     let mut peers = Vec::new(alloc);
     for peer in config.peers() {
-        peers.push(PeerState::new(alloc, peer.site(), peer.address(), config.log())?)?;
+        let log = event_log(config, log)?;
+        peers.push(PeerState::new(alloc, peer.site(), peer.address(), log)?)?;
     }
     Ok(peers)
+}
+
+/// The log, if the configuration says that events are logged.
+pub(crate) fn event_log(
+    config: &Config,
+    log: &Arc<LogQueue>,
+) -> Result<Option<Arc<LogQueue>>, OutOfMemory> {
+    if !config.log() {
+        return Ok(None);
+    }
+    Ok(Some(log.clone()?))
 }

@@ -9,7 +9,6 @@ use line_streams::write_whole;
 use peer_links::{Batch, LineSource, Outbox, write_link};
 use rights_types::{Message, SiteId};
 use std::alloc::Global;
-use std::io::Eprint;
 use std::marker::Model;
 use std::net::{Net, TcpListener, TcpStream, ToSocketAddrs};
 use std::sync::{Condvar, CondvarTimeouts, Mutex, Wait};
@@ -130,7 +129,7 @@ impl LineSource for Noted<'_> {
 
 /// Sends the lines that wait for this peer, until its outbox has ended and is empty. A line taken while there is no
 /// connection causes one attempt to connect, and is lost if that fails.
-fn send_to<R: Net<Stream = TcpStream> + Wait + Clock + AllocGlobal + Eprint>(
+fn send_to<R: Net<Stream = TcpStream> + Wait + Clock + AllocGlobal>(
     rt: &R,
     site: &SiteSockets,
     peer: &PeerState,
@@ -153,7 +152,7 @@ fn send_to<R: Net<Stream = TcpStream> + Wait + Clock + AllocGlobal + Eprint>(
 
 /// Logs it if the peer's address cannot be resolved. If events are not logged, the address is not looked up before a
 /// line is sent.
-fn try_address<R: Net + Eprint>(rt: &R, peer: &PeerState) {
+fn try_address<R: Net + Wait>(rt: &R, peer: &PeerState) {
     let address = peer.address.as_str();
     if peer.events.are_logged() && address.to_socket_addrs(rt).is_err() {
         peer.events.has_no_address(rt, address);
@@ -161,7 +160,7 @@ fn try_address<R: Net + Eprint>(rt: &R, peer: &PeerState) {
 }
 
 /// Sends this line and all that wait after it on a connection. `false` if that failed, or the site has ended.
-fn send_by<R: Wait + AllocGlobal + Eprint>(
+fn send_by<R: Wait + AllocGlobal>(
     rt: &R,
     site: &SiteSockets,
     peer: &PeerState,
@@ -223,7 +222,6 @@ pub fn begin_sender<
         + Wait
         + Clock
         + AllocGlobal
-        + Eprint
         + Sync,
 >(scope: &Scope<'s, E>, rt: &'s R, site: &'s SiteSockets, peer: &'s PeerState) -> bool {
     site.senders.begin(rt);

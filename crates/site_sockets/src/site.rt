@@ -4,17 +4,17 @@ ghost use Rattle.std.specs.Prelude.{◌≡◌, IfSome};
 use crate::acceptor::WAITING;
 use crate::clients::{Clients, wake};
 use crate::connection_pool::ConnectionPool;
-use crate::peer::{PeerState, peers_of};
+use crate::peer::{PeerState, event_log, peers_of};
 use crate::sending::Senders;
 use crate::tick_notifier::TickNotifier;
+use log_lines::LogQueue;
 use rights_types::{OutOfMemory, SiteId};
 use site_metrics::Counters;
 use site_words::{Config, SiteFault};
 use std::alloc::Global;
-use std::io::Eprint;
 use std::net::{Net, TcpListener, TcpStream};
-use std::sync::Wait;
 use std::sync::atomic::{AtomicBool, Ordering};
+use std::sync::{Arc, Wait};
 use std::thread;
 use std::time::{Clock, Duration};
 
@@ -45,6 +45,8 @@ pub struct SiteSockets {
     pub tick_notifier: TickNotifier,
     /// Counters of the commands that were answered.
     pub commands: Counters,
+    /// The log lines that wait to be written.
+    pub log: Arc<LogQueue>,
     /// Whether a memory request of an applier was refused.
     out_of_memory: AtomicBool,
     /// Whether all connections were shut down.
@@ -59,8 +61,9 @@ impl SiteSockets {
         config: &Config,
     ) -> Result<SiteSockets, SiteFault> {
         let listener = listen(rt, config.listen())?;
-        let clients = clients_of(rt, config)?;
-        Ok(SiteSockets::new(rt.alloc(), config, listener, clients)?)
+        let log = Arc::new(rt.alloc(), LogQueue::new(rt.alloc())?)?;
+        let clients = clients_of(rt, config, &log)?;
+        Ok(SiteSockets::new(rt.alloc(), config, listener, clients, log)?)
     }
 
     fn new(
@@ -68,39 +71,42 @@ impl SiteSockets {
         config: &Config,
         listener: TcpListener,
         clients: Option<Clients>,
+        log: Arc<LogQueue>,
     ) -> Result<SiteSockets, OutOfMemory> {
         Ok(SiteSockets {
             id: config.id(),
             listener,
-            peers: peers_of(alloc, config)?,
+            peers: peers_of(alloc, config, &log)?,
             handshakes: ConnectionPool::new(alloc, WAITING)?,
             senders: Senders::new(),
             clients,
             tick_notifier: TickNotifier::new(),
             commands: Counters::new(),
+            log,
             out_of_memory: AtomicBool::new(false),
             is_over: AtomicBool::new(false),
         })
     }
 
     /// Logs the address on which the site listens, if logging is on.
-    pub fn announce<R: Eprint>(&self, rt: &R, config: &Config) {
+    pub fn announce<R: Wait>(&self, rt: &R, config: &Config) {
         if !config.log() {
             return;
         }
         let (id, sites, listen) = (config.id().number(), config.sites(), config.listen());
-        let _ = match config.http() {
-            Some(http) => {
-                eprintln!(rt;
-                    "rights-site: site {} of {} listens on {}, http on {}",
+        match config.http() {
+            Some(http) => self.log.put(
+                rt,
+                format_args!(
+                    "site {} of {} listens on {}, http on {}",
                     id, sites, listen, http
-                )
-            }
-            None => eprintln!(rt;
-                "rights-site: site {} of {} listens on {}",
-                id, sites, listen
+                ),
             ),
-        };
+            None => self.log.put(
+                rt,
+                format_args!("site {} of {} listens on {}", id, sites, listen),
+            ),
+        }
     }
 
     /// The peers, in the order of the sites.
@@ -206,10 +212,11 @@ fn listen<R: Net<Listener = TcpListener, Stream = TcpStream>>(
 fn clients_of<R: Net<Listener = TcpListener, Stream = TcpStream> + Clock + AllocGlobal>(
     rt: &R,
     config: &Config,
+    log: &Arc<LogQueue>,
 ) -> Result<Option<Clients>, SiteFault> {
     let Some(address) = config.http() else {
         return Ok(None);
     };
     let listener = listen(rt, address)?;
-    Ok(Some(Clients::new(rt, listener, config)?))
+    Ok(Some(Clients::new(rt, listener, config, event_log(config, log)?)?))
 }

@@ -56,6 +56,9 @@ rights_commands_refused_total{name=\"QueueBusy\"} 0\n\
 rights_commands_refused_total{name=\"HeldTooMuch\"} 0\n\
 rights_commands_refused_total{name=\"TimeWentBack\"} 0\n\
 rights_commands_refused_total{name=\"BadCommand\"} 9\n\
+# HELP rights_log_lines_dropped_total Log lines that were not written, since the log was not read.\n\
+# TYPE rights_log_lines_dropped_total counter\n\
+rights_log_lines_dropped_total 22\n\
 # HELP rights_peer_applied Number up to which the peer's log is applied.\n\
 # TYPE rights_peer_applied counter\n\
 rights_peer_applied{peer=\"2\"} 382\n\

@@ -26,6 +26,7 @@ fn site_metrics() -> Metrics {
         clients: 6,
         commands: 1000,
         refused,
+        log_lines_dropped: 22,
     }
 }
 

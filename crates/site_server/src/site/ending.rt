@@ -4,11 +4,11 @@ ghost use Rattle.site_server.specs.Ending.{StopsDesk, TellsUnsent};
 
 use crate::site::shared::Shared;
 use apply_lanes::{DeskNames, Parts, Report, stop};
+use log_lines::LogQueue;
 use rights_types::OutOfMemory;
 use site_metrics::unsent_numbers;
 use site_sockets::SiteSockets;
 use std::alloc::Global;
-use std::io::Eprint;
 use std::sync::{Arc, Wait};
 
 /// Why there is no report of a desk.
@@ -73,7 +73,7 @@ fn unsent<D: DeskNames, R: Wait>(rt: &R, shared: &Shared<D>, sent: &[u64]) -> Op
 }
 
 /// Logs which entries of the log no peer can have applied, if there are any.
-pub(crate) fn say_unsent<D: DeskNames, R: Wait + Eprint + AllocGlobal>(
+pub(crate) fn say_unsent<D: DeskNames, R: Wait + AllocGlobal>(
     rt: &R,
     site: &SiteSockets,
     shared: &Shared<D>,
@@ -82,32 +82,39 @@ pub(crate) fn say_unsent<D: DeskNames, R: Wait + Eprint + AllocGlobal>(
         return;
     };
     if let Some((first, last)) = unsent(rt, shared, sent.as_slice()) {
-        let _ = eprintln!(rt;
-            "rights-site: ended: {} to {} of its log were sent to no peer",
-            first, last
+        site.log.put(
+            rt,
+            format_args!(
+                "ended: {} to {} of its log were sent to no peer",
+                first, last
+            ),
         );
     }
 }
 
-/// Writes what the site did, as one line.
-pub(crate) fn say_report<R: Eprint>(rt: &R, report: &Report) {
-    let _ = eprintln!(rt;
-        "rights-site: ended: issued {} spent {} given {} received {} held {}; told issued {} spent {} served {}",
-        report.issued,
-        report.spent,
-        report.given,
-        report.received,
-        report.held,
-        report.told_issued,
-        report.told_spent,
-        report.told_served
+/// Logs what the site did, as one line.
+pub(crate) fn say_report<R: Wait>(rt: &R, log: &LogQueue, report: &Report) {
+    log.put(
+        rt,
+        format_args!(
+            "ended: issued {} spent {} given {} received {} held {}; told issued {} spent {} served {}",
+            report.issued,
+            report.spent,
+            report.given,
+            report.received,
+            report.held,
+            report.told_issued,
+            report.told_spent,
+            report.told_served
+        ),
     );
 }
 
-/// Writes why there is no report.
-pub(crate) fn say_no_report<R: Eprint>(rt: &R, why: NoReport) {
-    let _ = match why {
-        NoReport::Missing => eprintln!(rt; "rights-site: ended: a seat or an applier is missing"),
-        NoReport::OutOfMemory => eprintln!(rt; "rights-site: ended: no memory for the report"),
+/// Logs why there is no report.
+pub(crate) fn say_no_report<R: Wait>(rt: &R, log: &LogQueue, why: NoReport) {
+    let cause = match why {
+        NoReport::Missing => "a seat or an applier is missing",
+        NoReport::OutOfMemory => "no memory for the report",
     };
+    log.put(rt, format_args!("ended: {}", cause));
 }

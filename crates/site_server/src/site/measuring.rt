@@ -45,6 +45,7 @@ fn metrics_of<R: Wait>(rt: &R, site: &SiteSockets, values: DeskValues) -> Metric
         clients: site.client_count(rt) as u64,
         commands: site.commands.commands(),
         refused: site.commands.refused(),
+        log_lines_dropped: site.log.dropped(rt),
     }
 }
 

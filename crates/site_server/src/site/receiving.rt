@@ -17,7 +17,6 @@ use site_node::{Sink, answer_ask, answer_query, note_denial};
 use site_sockets::{Connection, PeerReader, PeerState, SiteSockets, SkipCause};
 use site_words::Config;
 use std::alloc::Global;
-use std::io::Eprint;
 use std::marker::{Model, PhantomData};
 use std::sync::{Arc, Wait};
 use sub_buffer::State;
@@ -162,7 +161,7 @@ impl<D: DeskNames> Receiver<D> {
     }
 
     /// Reads the connections of this peer, one after another, until the connection slot is closed.
-    pub(crate) fn receive_all<R: Wait + Eprint>(mut self, rt: &R, peer: &PeerState) {
+    pub(crate) fn receive_all<R: Wait>(mut self, rt: &R, peer: &PeerState) {
         for _ in rt.forever() {
             let Some(connection) = peer.connection_slot.take(rt) else {
                 break;
@@ -177,7 +176,7 @@ impl<D: DeskNames> Receiver<D> {
     }
 
     /// Reads one connection to its end, or until an error, which has the same effect, as has a want of memory.
-    fn receive<R: Wait + Eprint>(&mut self, rt: &R, peer: &PeerState, connection: Connection) {
+    fn receive<R: Wait>(&mut self, rt: &R, peer: &PeerState, connection: Connection) {
         let Connection { stream, mut cutter } = connection;
         let Ok(desk) = self.desk.clone() else {
             return;
@@ -238,7 +237,7 @@ impl<D: DeskNames, S: Sink> Work<D> for Handle<'_, S> {
     }
 }
 
-impl<D: DeskNames, E: Wait + Eprint, S: QuerySink + Drop> SitePort<'_, D, E, S> {
+impl<D: DeskNames, E: Wait, S: QuerySink + Drop> SitePort<'_, D, E, S> {
     fn handle(&mut self, message: DeskMessage) -> Result<(), OutOfMemory>
         requires { IsForDesk D.id message }
         ensures { HandlesAtDesk S.takes D.id message self.old.turns self.old.outbox result self.new.turns
@@ -304,7 +303,7 @@ fn skip_cause(why: Skipped) -> SkipCause {
     }
 }
 
-impl<D: DeskNames, E: Wait + Eprint, S: QuerySink + Drop> Port for SitePort<'_, D, E, S> {
+impl<D: DeskNames, E: Wait, S: QuerySink + Drop> Port for SitePort<'_, D, E, S> {
     ghost use Rattle.site_server.specs.Hearing.{IsForDesk, Hears};
 
     ghost accepts = { λ message. IsForDesk D.id message };

@@ -1,19 +1,17 @@
 //! What a running site needs of its runtime.
 
-use std::io::Eprint;
 use std::net::{Net, TcpListener, TcpStream};
 use std::random::RandomSource;
 use std::sync::Wait;
 use std::thread::Threads;
 use std::time::Clock;
 
-/// Sockets, threads, waiting, time, random numbers, standard error and memory, for use by several threads.
+/// Sockets, threads, waiting, time, random numbers and memory, for use by several threads.
 pub(crate) trait SiteRuntime: Net<Listener = TcpListener, Stream = TcpStream>
     + Threads
     + Wait
     + Clock
     + RandomSource
-    + Eprint
     + AllocGlobal
     + Sync {}
 
@@ -24,7 +22,6 @@ where
         + Wait
         + Clock
         + RandomSource
-        + Eprint
         + AllocGlobal
         + Sync,
 {}

@@ -15,7 +15,7 @@ use site_node::Peers;
 use site_sockets::{Accepted, ClientPlace, Clients, ClosingPlace, SiteSockets, bounded_reader};
 use std::alloc::Global;
 use std::hash::RandomState;
-use std::io::{Eprint, Read, Write};
+use std::io::{Read, Write};
 use std::net::TcpStream;
 use std::random::RandomSource;
 use std::sync::{Arc, Wait};
@@ -178,7 +178,7 @@ fn accept_clients<
     's,
     E,
     D: DeskNames + Send + Sync + 's,
-    R: Threads + Wait + Clock + RandomSource + AllocGlobal + Eprint + Sync,
+    R: Threads + Wait + Clock + RandomSource + AllocGlobal + Sync,
 >(
     scope: &Scope<'s, E>,
     rt: &'s R,
@@ -197,7 +197,7 @@ fn accept_clients<
 /// The same, and waits for all these threads.
 fn run_client_acceptor<
     D: DeskNames + Send + Sync,
-    R: Threads + Wait + Clock + RandomSource + AllocGlobal + Eprint + Sync,
+    R: Threads + Wait + Clock + RandomSource + AllocGlobal + Sync,
 >(rt: &R, site: &SiteSockets, clients: &Clients, seats: Arc<Seats<D>>) {
     thread::scope(thread::scope_env(), rt, |scope| {
         accept_clients(scope, rt, site, clients, &seats);
@@ -209,7 +209,7 @@ pub(crate) fn begin_clients<
     's,
     E,
     D: DeskNames + Send + Sync + 's,
-    R: Threads + Wait + Clock + RandomSource + AllocGlobal + Eprint + Sync,
+    R: Threads + Wait + Clock + RandomSource + AllocGlobal + Sync,
 >(scope: &Scope<'s, E>, rt: &'s R, site: &'s SiteSockets, seats: &Arc<Seats<D>>) -> bool {
     let Some(clients) = &site.clients else {
         return true;
