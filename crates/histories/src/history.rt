@@ -28,4 +28,15 @@ impl<T> History<T> {
     {
         History { of: PhantomData }
     }
+
+    /// The list with these items appended.
+    pub fn and_all(self, items: &[T]) -> History<T>
+        ensures { result.items ≡ self.items ++ items.now }
+    {
+        let mut all = self;
+        for item in items {
+            all = all.and(item);
+        }
+        all
+    }
 }

@@ -1,4 +1,3 @@
-pub mod Walks
 pub mod Native
 pub mod WorldGoesOn
 pub mod DeskKeeps

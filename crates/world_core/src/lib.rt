@@ -7,7 +7,6 @@
 
 mod event;
 mod fault;
-mod history;
 mod keeping;
 mod laws;
 mod link;

@@ -20,9 +20,9 @@ ghost use Rattle.world_core.specs.LinkEvents.{LinkTakesAll, heard, with_applied}
 
 mod incoming;
 
-use crate::history::History;
 use crate::keeping::{ForReaders, Keeping};
 use crate::reply::EntryVerdicts;
+use histories::History;
 pub(crate) use incoming::Scratch;
 use incoming::{Incoming, none_ahead};
 use rights_types::{Entry, Message, OutOfMemory, SiteId};

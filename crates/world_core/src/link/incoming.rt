@@ -12,9 +12,9 @@ ghost use Rattle.site_core.specs.Inbounds.{ready_in};
 ghost use Rattle.world_core.specs.LinkEvents.{reported as as_reported};
 ghost use Rattle.world_core.specs.IncomingLists.{reached_in, NoneAhead, HasRoom, SameLists, IncomingTakes};
 
-use crate::history::History;
 use crate::keeping::Keeping;
 use crate::reply::{EntryVerdict, EntryVerdicts};
+use histories::History;
 use rights_types::{Entry, OutOfMemory};
 use site_core::Inbound;
 use std::alloc::Allocator;
