@@ -67,7 +67,7 @@ link_of_front o es front c p = record {
 
 -- ---- a cut
 
-is_site : (n s : ℕ) → IsSiteOf n s ⊎ (¬ IsSiteOf n s)
+pub is_site : (n s : ℕ) → IsSiteOf n s ⊎ (¬ IsSiteOf n s)
 is_site n s = elim (cases_lt s 1) [
   | inl low ↦ inr (λ h. omega (arith, h.0, low))
   | inr low ↦ elim (cases_lt n s) [

@@ -79,7 +79,7 @@ between n old new = record {
 }
 
 -- what s applied of the log of o, with the entry, is a prefix of that log
-next_begins : (o : ℕ) (es front : List EntryValue) (e : EntryValue) → IsChain o es → IsPrefix front es → Contains es e
+pub next_begins : (o : ℕ) (es front : List EntryValue) (e : EntryValue) → IsChain o es → IsPrefix front es → Contains es e
     → e.prev ≡ end front → IsPrefix (front ++ e ∷ []) es
 next_begins o es front e c p sent at =
     let chain : IsChain o (front ++ p.0) = subst (IsChain o) (sym p.1) c in

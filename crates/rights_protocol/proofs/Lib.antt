@@ -19,3 +19,4 @@ pub mod CounterSteps
 pub mod CounterEvery
 pub mod Cuts
 pub mod Interleavings
+pub mod Journals

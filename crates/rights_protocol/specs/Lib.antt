@@ -14,3 +14,4 @@ pub mod BoundedCounter
 pub mod CounterOfLists
 pub mod CounterLaws
 pub mod Schedules
+pub mod Crashes

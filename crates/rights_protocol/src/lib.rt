@@ -30,11 +30,15 @@
 //!   site's lists. Any interleaving of these steps is a run of the protocol, and all of the above holds at each
 //!   moment. At a cut, where each site is read at a moment of its own, it follows from the facts of the sites,
 //!   with no history. The premise is one writer for each log.
+//! - **Crashes.** A site that keeps a journal of its steps starts again from what a crash left of it. As long as a
+//!   site tells nothing before it is durable, all of the above holds of what is durable, of what is in memory, and of
+//!   any mixture, whatever crashes come; and what was durable stays so.
 //!
 //! The laws are on empty functions, so that they are proved with the crate.
 #![tactic(auto)]
 
 mod counter;
+mod crashes;
 mod examples;
 mod laws;
 mod schedules;
@@ -42,6 +46,7 @@ mod schedules;
 pub use counter::{
     counter_is_safe, kept_counts, own_row_only, run_operates, small_counter, step_operates,
 };
+pub use crashes::{any_crash, durable_for_good, durable_schedule};
 pub use examples::{
     both_close, full_is_turned_away, gap_fills, gift_is_taken_back, grant_is_spent, heir_inherits,
 };

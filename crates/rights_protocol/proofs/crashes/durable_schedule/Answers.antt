@@ -1,0 +1,5 @@
+use Rattle.rights_protocol.proofs.Journals as lemmas
+use Rattle.rights_protocol.proofs.crashes.durable_schedule.Goals as goal
+
+pub returns : goal.returns
+returns c = lemmas.durable_schedule
