@@ -6,6 +6,7 @@
     site.spend(3, within=5.0)                   # Spent(number=3), or Expired() if no rights came within five seconds
     site.give(2, 10)                            # 4, or raises CommandRefused as well
     site.status()["held"]                       # 84
+    site.queue()["requests"]                    # the spends that wait, in their order
     site.close()
 
 The site must have been started with `--http` and `--tick`. `ask`, `ask_all` and `wait` take commands as text and return
@@ -103,6 +104,21 @@ class Status(TypedDict):
     spent: int
 
 
+class WaitingSpend(TypedDict):
+    """A spend that waits. Its deadline is in milliseconds since 1970."""
+
+    amount: int
+    deadline: int
+    ticket: int
+
+
+class Queue(TypedDict):
+    """The spends that wait at a site, in the order in which they are served, and how many outcomes nobody has read."""
+
+    requests: list[WaitingSpend]
+    unread: int
+
+
 # ---- what may go wrong
 
 
@@ -165,8 +181,8 @@ class SiteClient:
     def spend(self, amount: int, *, within: float = 0.0) -> Spent | Expired | Queued:
         """Spends rights, if the site holds enough, or gets them from other sites, within so many seconds. Returns once
         that is decided, which is after one of its ticks if it does not hold enough. Queued only if the site ends
-        meanwhile."""
-        command = f"spend {amount} {in_seconds(within)}"
+        meanwhile. The seconds are at most a day, and those of the site's clock: that of this machine does not matter."""
+        command = f"spend {amount} +{round(max(within, 0) * 1000)}"
         found = result_of(refusal_raised(self.wait(command, within + self._timeout), command))
         if isinstance(found, (Spent, Expired, Queued)):
             return found
@@ -220,6 +236,11 @@ class SiteClient:
     def status(self) -> Status:
         """The status object."""
         found: Status = json.loads(self._get("/status"))
+        return found
+
+    def queue(self) -> Queue:
+        """The spends that wait at the site, of all its clients."""
+        found: Queue = json.loads(self._get("/queue"))
         return found
 
     def metrics(self) -> dict[str, int | dict[str, int]]:

@@ -135,6 +135,11 @@ class Site:
         found: dict[str, Any] = json.loads(self.ask("status"))
         return found
 
+    def queue(self) -> dict[str, Any]:
+        """The spends that wait, in their order, and how many outcomes nobody has read."""
+        found: dict[str, Any] = json.loads(self.ask("queue"))
+        return found
+
     # ---- the end
 
     def end(self, timeout: float = 30.0) -> int:

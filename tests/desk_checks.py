@@ -205,6 +205,19 @@ def a_cancelled_spend_frees_its_slot(trial):
     trial.say(*["spend 1 9"] * 33, "cancel 7", "spend 1 9", "spend 1 9", "cancel 33", "status")
 
 
+def the_queue_lists_what_waits_in_its_order(trial):
+    trial.say("queue", "spend 2 9", "spend 1000000000 3", f"spend 3 {2**64 - 1}", "queue", "cancel 2", "queue", "outcome 9", "queue")
+    trial.say("issue 2", "tick 4", "queue", "outcome 1", "queue", "spend 4 6", "queue", "tick 5", "queue", "cancel 4", "queue")
+
+
+def all_that_the_queue_has_room_for_is_listed(trial):
+    trial.say(*[f"spend {amount} {amount % 5}" for amount in range(1, 34)], "queue", "tick 3", "queue", "outcome 3", "queue")
+
+
+def a_site_without_ticks_of_its_own_has_no_clock(trial):
+    trial.say("spend 1 +5", "spend 1 +0", f"spend 1 {2**64 - 1}", "tick 5", "queue")
+
+
 def what_waits_is_not_taken(trial):
     trial.say("take 1", "issue 9", "take 10", "take 0", f"take {2**64 - 1}", "take 2", "spend 8 9", "take 1", "issue 3", "take 3", "take 2")
     trial.say("tick 1", "outcome 1", "close", "take 0", "take 1", "cancel 1", "status")

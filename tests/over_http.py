@@ -199,7 +199,7 @@ def calls_as_commands():
                 (client.outcome, (7,), "/", "outcome 7", "waiting", Waiting()),
                 (client.close_site, (), "/", "close", "number 5", 5),
                 (client.close_site, (2,), "/", "close 2", "number 6", 6),
-                (client.spend, (4,), "/wait", "spend 4", "queued 9", Queued(9)),
+                (client.spend, (4,), "/wait", "spend 4 +0", "queued 9", Queued(9)),
             ]:
                 server.replies = {command.split()[0]: reply}
                 expect(call(*words), result, command)

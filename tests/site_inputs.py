@@ -25,6 +25,7 @@ NO_COMMANDS = [
     b" status", b"status ", b"stat", b"issue +1", b"issue 1_0", b"issue 0x1", b"issue 1.0", b"issue 1\0", b"issue 1\x001",
     b"issue 18446744073709551617", b"give 18 1", b"give +2 1", b"give 02 1", b"spend 1  2", b"tick ", b"close ", b"close 01",
     b"take", b"take 1 2", b"take -1", b"cancel", b"cancel 1 1", b"spend +1 5",
+    b"spend 1 +5", b"spend 1 +0", b"queue 1", b"queue ", b"queue +1",
     b"report", b"\xff\xfe", b"\x00", b"H 2", b"x" * (MOST_BYTES - 1), b"x" * MOST_BYTES,
     b"issue ".ljust(MOST_BYTES + 7, b"1"),
 ]  # fmt: skip
@@ -108,7 +109,7 @@ class Inputs:
             return rng.choice(NO_COMMANDS)
         if rng.random() < self.closes:
             return b"close" if rng.random() < 0.5 else b"close %d" % self.site()
-        weights = {"issue": 4, "give": 5, "spend": 7, "take": 2, "outcome": 3, "cancel": 1, "tick": 6, "status": 1}
+        weights = {"issue": 4, "give": 5, "spend": 7, "take": 2, "outcome": 3, "cancel": 1, "tick": 6, "status": 1, "queue": 1}
         name = weighted(rng, weights)
         match name:
             case "issue":
@@ -123,8 +124,8 @@ class Inputs:
                 return b"%s %d" % (name.encode(), rng.randint(0, self.desk.tickets + 1))
             case "tick":
                 return self.tick()
-            case "status":
-                return b"status"
+            case "status" | "queue":
+                return name.encode()
 
     def commands(self):
         rng = self.rng

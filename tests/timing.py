@@ -1,6 +1,7 @@
 """What a site does in time: limits, ticks, and the order of its end. The clock is the test's own (tests/clock.c): it stands
 still until the test moves it. So a minute passes at once, and a busy machine changes nothing."""
 
+import json
 import mmap
 import os
 import resource
@@ -222,6 +223,37 @@ def its_ticks_have_the_time_of_day():
         sites.goes_on("the second expires", lambda: sites.site.ask("outcome 2") == "expired")
 
 
+def deadlines_are_counted_from_its_time():
+    """From the time of its last tick: `+m` is m milliseconds later, and the latest deadline is a day later."""
+    with TimedSite(tick=100) as sites:
+        day, times = 86_400_000, [0]
+
+        def deadlines_of(*deadlines):
+            """Those of spends that wait then; nothing waits afterwards."""
+            replies = sites.site.ask_all([*(f"spend 9 {deadline}" for deadline in deadlines), "queue"])
+            waiting = json.loads(replies.pop())["requests"]
+            sites.site.ask_all([f"cancel {reply.split()[1]}" for reply in replies if reply.startswith("queued")])
+            return [spend["deadline"] for spend in waiting], replies
+
+        def is_found():
+            before, _ = deadlines_of("+0")
+            if not before or before[0] <= times[-1]:
+                return False
+            now = before[0]
+            found, replies = deadlines_of("+0", "+1", f"+{day}", now + day, now + day + 1, f"+{day + 1}", now - 1)
+            # It may have ticked meanwhile.
+            if deadlines_of("+0")[0] != before:
+                return False
+            expect(found, [now, now + 1, now + day, now + day, now - 1])
+            expect(replies[-3:-1], ["error BadDeadline", "error BadCommand"])
+            times.append(now)
+            return True
+
+        for _ in range(3):
+            sites.goes_on("a tick is done", is_found)
+            sites.clock.advance(5)
+
+
 def ticks_go_on_when_the_time_can_be_read_again():
     with TimedSite(tick=100) as sites:
         expect(sites.site.ask("spend 1 5"), "queued 1")
@@ -352,7 +384,7 @@ def nothing_is_done_for_clients_that_cannot_be_told():
 
 CASES = [case("Timing", [
     a_first_line_has_five_seconds, a_link_has_no_limit, a_client_may_be_idle_for_a_minute, peers_come_after_too_many,
-    clients_come_after_too_many, one_that_gets_no_handle_rests, its_ticks_have_the_time_of_day,
+    clients_come_after_too_many, one_that_gets_no_handle_rests, its_ticks_have_the_time_of_day, deadlines_are_counted_from_its_time,
     ticks_go_on_when_the_time_can_be_read_again, who_waits_for_a_tick_rests, waits_end_with_the_tick_that_serves_them,
     a_tick_before_the_end_is_told, lines_of_the_last_requests_go_out, nothing_is_done_for_clients_that_cannot_be_told,
 ])]  # fmt: skip

@@ -444,12 +444,42 @@ def a_site_that_ticks_by_itself():
             expect(client.command(f"spend 50 {in_seconds(0.3)}", target="/wait"), (200, ["expired"]))
             if time.monotonic() - begun < 0.25:
                 raise AssertionError(f"it expired after {time.monotonic() - begun:.2f} seconds")
-        # Its time is in milliseconds since 1970.
-        expect(sites[1].ask(f"tick {in_seconds(-60)}"), "error TimeWentBack")
-        expect(sites[1].ask(f"tick {in_seconds(2)}")[:4], "tick")
         before = sites.metrics(1)["rights_commands_total"]
         time.sleep(0.2)
         expect(sites.metrics(1)["rights_commands_total"], before, "its own ticks are no commands")
+
+
+def nobody_else_ticks_a_site_that_ticks_by_itself():
+    """A tick of a client does nothing, on any way in. A deadline that is too far ahead is refused."""
+    with alone(tick=20) as sites, sites.client() as client:
+        expect(sites[1].ask_all(["tick 0", f"tick {2**64 - 1}", f"tick {in_seconds(0)}"]), ["error OwnClock"] * 3)
+        for target in ("/", "/wait"):
+            expect(client.command(f"tick {2**64 - 1}", target=target), (409, ["error OwnClock"]))
+        expect(client.command("issue 5", "tick 1", "spend 2 0"), (200, ["number 1", "error OwnClock", "spent 2"]))
+        # In microseconds by mistake, or in a number that is none.
+        for wrong in (in_seconds(1) * 1000, 2**64 - 1, in_seconds(90_000)):
+            expect(sites[1].ask(f"spend 1 {wrong}"), "error BadDeadline", wrong)
+            expect(client.command(f"spend 9 {wrong}", target="/wait"), (409, ["error BadDeadline"]), wrong)
+        expect(sites[1].ask_all([f"spend 0 {2**64 - 1}", "spend 9 +86400001"]), ["error BadAmount", "error BadCommand"])
+        expect(client.command("spend 9 +1", target="/wait"), (200, ["expired"]))
+        expect(client.command(f"spend 9 {in_seconds(86_000)}"), (200, ["queued 2"]))
+        # Its own ticks go on: none of these times is its own.
+        expect(client.command("spend 9 +0"), (200, ["queued 3"]))
+        wait_for("the last spend expires", lambda: sites[1].ask("outcome 3") == "expired")
+        metrics = sites.metrics(1)
+        for name in ("OwnClock", "BadDeadline"):
+            expect(metrics["rights_commands_refused_total", name], 6, name)
+
+
+def the_spends_that_wait_are_listed():
+    """As the command `queue` lists them."""
+    with alone() as sites, sites.client() as client:
+        for commands in ([], ["spend 9 5", "spend 1 7"], ["spend 2 6", "cancel 2"], ["spend 3 1", "tick 6"]):
+            sites[1].ask_all(commands)
+            expected = sites[1].ask("queue").encode() + b"\n"
+            expect_served(client.ask(request("GET", "/queue")), 200, expected, "application/json")
+            expect_served(client.ask(request("POST", "/", b"queue")), 200, expected)
+        expect(expected, b'{"requests":[{"amount":2,"deadline":6,"ticket":3}],"unread":2}\n')
 
 
 def a_site_that_gets_no_handles():
@@ -583,6 +613,7 @@ TESTS = [
     waits_whose_clients_have_gone, waits_at_the_end, the_form_of_metrics, metrics_are_the_status,
     lines_of_a_peer_are_counted, lines_for_a_dead_peer_are_dropped, what_is_said_of_a_peer, nothing_is_said_unless_asked_for, a_peer_that_is_started_anew,
     entries_that_no_peer_was_sent, addresses_of_peers_that_cannot_be_resolved, a_site_is_started_once, addresses_that_cannot_be_listened_on, words_that_are_refused, a_site_without_http,
-    a_site_that_ticks_by_itself, a_site_that_gets_no_handles, requests_that_have_begun_are_answered, the_end_with_clients_that_never_end,
+    a_site_that_ticks_by_itself, nobody_else_ticks_a_site_that_ticks_by_itself, the_spends_that_wait_are_listed,
+    a_site_that_gets_no_handles, requests_that_have_begun_are_answered, the_end_with_clients_that_never_end,
     a_site_at_rest_ends_at_once, the_report_adds_up, a_service_that_is_stopped,
 ]

@@ -48,3 +48,11 @@ error_text error = codes "error " ++ desk_error_name error
 -- the line spells no command
 abbrev pub bad_command : List ℕ
 bad_command = codes "error BadCommand"
+
+-- the deadline of a spend is too far ahead of the site's clock
+abbrev pub bad_deadline : List ℕ
+bad_deadline = codes "error BadDeadline"
+
+-- a client may not tick, since the site ticks by its own clock
+abbrev pub own_clock : List ℕ
+own_clock = codes "error OwnClock"

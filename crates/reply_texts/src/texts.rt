@@ -2,7 +2,7 @@
 //! have a part of it, and the whole replies are unchanged.
 ghost use Rattle.std.specs.Prelude.{◌≡◌, ◌≤◌, ◌++◌, length, OnOk, IsOk};
 ghost use Rattle.reply_texts.specs.Texts.{number_text, spending_text, status_text, desk_error_name, error_text};
-ghost use Rattle.reply_texts.specs.Texts.{bad_command};
+ghost use Rattle.reply_texts.specs.Texts.{bad_command, bad_deadline, own_clock};
 
 use line_streams::Replies;
 use request_queue::Status;
@@ -74,6 +74,24 @@ pub fn put_bad_command<A: Allocator>(replies: &mut Replies<A>) -> Result<(), Out
     ensures room { REPLY_ROOM ≤ replies.old.room → IsOk result × (1 ≤ replies.new.room) }
 {
     replies.put(b"error BadCommand")
+}
+
+/// Appends that the deadline of a spend is too far ahead.
+pub fn put_bad_deadline<A: Allocator>(replies: &mut Replies<A>) -> Result<(), OutOfMemory>
+    ensures ok { OnOk result (replies.new.part ≡ replies.old.part ++ bad_deadline) }
+    ensures kept { replies.new.whole ≡ replies.old.whole }
+    ensures room { REPLY_ROOM ≤ replies.old.room → IsOk result × (1 ≤ replies.new.room) }
+{
+    replies.put(b"error BadDeadline")
+}
+
+/// Appends that a client may not tick, since the site ticks by its own clock.
+pub fn put_own_clock<A: Allocator>(replies: &mut Replies<A>) -> Result<(), OutOfMemory>
+    ensures ok { OnOk result (replies.new.part ≡ replies.old.part ++ own_clock) }
+    ensures kept { replies.new.whole ≡ replies.old.whole }
+    ensures room { REPLY_ROOM ≤ replies.old.room → IsOk result × (1 ≤ replies.new.room) }
+{
+    replies.put(b"error OwnClock")
 }
 
 /// The name of a refusal, at most 16 bytes.

@@ -3,8 +3,10 @@
 
 use rights_program::run_given;
 use site_server::run_site;
+use std::io::IsTerminal;
 use std::process::ExitCode;
 use timed_streams::TimedStream;
+use word_notes::{explain_refusal, note_peers};
 
 /// How many milliseconds a running site waits for input before it looks whether it can continue.
 const INPUT_MILLISECONDS: u16 = 200;
@@ -16,11 +18,19 @@ const LOG_MILLISECONDS: u16 = 50;
 const CAUSE_MILLISECONDS: u16 = 500;
 
 fn main(rt: HostRuntime) -> ExitCode {
+    let is_terminal = rt.stderr().is_terminal();
     let ended = run_given(
         rt.alloc(),
         |config, reader, writer| {
             let mut reader = TimedStream::new(*reader, INPUT_MILLISECONDS);
             let log = TimedStream::new(rt.stderr(), LOG_MILLISECONDS);
+            if is_terminal || config.log() {
+                note_peers(
+                    rt.alloc(),
+                    &config,
+                    &mut TimedStream::new(rt.stderr(), CAUSE_MILLISECONDS),
+                );
+            }
             run_site(&rt, config, &mut reader, writer, log)
         },
         &rt,
@@ -28,5 +38,9 @@ fn main(rt: HostRuntime) -> ExitCode {
         &mut rt.stdout(),
         &mut TimedStream::new(rt.stderr(), CAUSE_MILLISECONDS),
     );
+    if ended.status == 2 {
+        let mut errors = TimedStream::new(rt.stderr(), CAUSE_MILLISECONDS);
+        explain_refusal(&rt, is_terminal, &mut errors);
+    }
     ExitCode::from(ended.status)
 }

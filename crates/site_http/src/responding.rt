@@ -26,7 +26,7 @@ pub(crate) fn respond<C: Backend>(
     response: &mut Response,
 ) -> Result<(), AllocError>
     requires { IsBlank response.old }
-    ensures ok { OnOk result (Responds C.answers C.status C.metrics C.closed (map string_bytes names.now) client.old
+    ensures ok { OnOk result (Responds C.answers C.status C.queue C.metrics C.closed (map string_bytes names.now) client.old
         request.now response.new client.new) }
     ensures err { OnErr result (client.new ≡ client.old) }
 {
@@ -35,6 +35,7 @@ pub(crate) fn respond<C: Backend>(
         Route::Commands => reply_to_lines(client, false, replies, body, response),
         Route::Wait => reply_to_lines(client, true, replies, body, response),
         Route::Status => tell_status(client, replies, response),
+        Route::Queue => tell_queue(client, replies, response),
         Route::Metrics => tell_metrics(client, replies, response),
         Route::Health => tell_health(client, response),
         Route::Page => show_page(response),
@@ -71,6 +72,25 @@ fn tell_status<C: Backend>(
 {
     replies.clear();
     let Ok(()) = client.put_status(replies) else {
+        return Err(AllocError);
+    };
+    tell(
+        response,
+        HeaderValue::from_static("application/json"),
+        replies,
+    )
+}
+
+fn tell_queue<C: Backend>(
+    client: &C,
+    replies: &mut Replies<Global>,
+    response: &mut Response,
+) -> Result<(), AllocError>
+    requires { IsBlank response.old }
+    ensures { OnOk result (TellsLine C.queue (codes "application/json") client.now response.new) }
+{
+    replies.clear();
+    let Ok(()) = client.put_queue(replies) else {
         return Err(AllocError);
     };
     tell(

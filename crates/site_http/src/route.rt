@@ -28,6 +28,7 @@ pub(crate) enum Target {
     Root,
     Wait,
     Status,
+    Queue,
     Metrics,
     Health,
     Unknown,
@@ -49,6 +50,7 @@ pub enum Route {
     /// Carry out one command and wait for its outcome.
     Wait,
     Status,
+    Queue,
     Metrics,
     Health,
     Page,
@@ -155,10 +157,11 @@ fn verb_of(method: &str) -> Verb
     named(&VERBS, method.as_bytes()).unwrap_or(Verb::Other)
 }
 
-const TARGETS: [(&[u8], Target); 5] = [
+const TARGETS: [(&[u8], Target); 6] = [
     (b"/", Target::Root),
     (b"/wait", Target::Wait),
     (b"/status", Target::Status),
+    (b"/queue", Target::Queue),
     (b"/metrics", Target::Metrics),
     (b"/healthz", Target::Health),
 ];
@@ -185,6 +188,7 @@ fn route_by(own: bool, foreign: bool, verb: Verb, target: Target) -> Route
         (Verb::Post, Target::Wait) => Route::Wait,
         (_, Target::Wait) => Route::NotAllowed(Allowed::Post),
         (Verb::Get, Target::Status) => Route::Status,
+        (Verb::Get, Target::Queue) => Route::Queue,
         (Verb::Get, Target::Metrics) => Route::Metrics,
         (Verb::Get, Target::Health) => Route::Health,
         _ => Route::NotAllowed(Allowed::Get),

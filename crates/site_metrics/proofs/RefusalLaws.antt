@@ -9,6 +9,7 @@ use Rattle.std.proofs.lemmas.List.{flat_map_more, take_more}
 use Rattle.std.proofs.lemmas.Slice.Zip.{length-zip, get_or-zip}
 use Rattle.std.specs.Str.{bytes_eq}
 use Rattle.site_metrics.specs.Refusals.{refusal_names}
+use Rattle.site_metrics.specs.declared.refusals.TheConstants.{REFUSAL_COUNT}
 
 abbrev all_below : (ℕ → Bool) → ℕ → Bool
 all_below test zero = true
@@ -53,8 +54,8 @@ none_then None f h = f h
 none_then (Some x) f h = h
 
 -- the counts of one more name were appended
-pub name_more : (f : List ℕ × ℕ → List ℕ) (text before after counts : List ℕ) (index : ℕ) (name : List ℕ) → index < 15
-    → length counts ≡ 15
+pub name_more : (f : List ℕ × ℕ → List ℕ) (text before after counts : List ℕ) (index : ℕ) (name : List ℕ)
+    → index < REFUSAL_COUNT → length counts ≡ REFUSAL_COUNT
     → before ≡ text ++ flat_map f (take index (zip refusal_names counts)) → name ≡ get_or refusal_names index []
     → after ≡ before ++ f (name, get_or counts index 0)
     → after ≡ text ++ flat_map f (take (index + 1) (zip refusal_names counts))
@@ -70,6 +71,6 @@ name_more f text before after counts index name low long done named more =
     ∙ ap (λ (es : List (List ℕ × ℕ)). text ++ flat_map f es) (sym (take_more all index ([], 0) within))
 
 -- no name is longer
-pub short_name : (index : ℕ) → index < 15 → length (get_or refusal_names index []) ≤ 16
+pub short_name : (index : ℕ) → index < REFUSAL_COUNT → length (get_or refusal_names index []) ≤ 16
 short_name index low = leb-true (length (get_or refusal_names index [])) 16
-    (below (λ i. leb (length (get_or refusal_names i [])) 16) 15 refl index low)
+    (below (λ i. leb (length (get_or refusal_names i [])) 16) REFUSAL_COUNT refl index low)

@@ -3,9 +3,10 @@ ghost use Rattle.std.specs.Prelude.{◌≡◌, ◌≢◌, ℕ, ◌<◌, ◌≤�
 ghost use Rattle.site_metrics.specs.Refusals.{refusal_names, refusal_text};
 
 /// How many names `REFUSALS` has.
-pub const REFUSAL_COUNT: usize = 15;
+pub const REFUSAL_COUNT: usize = 17;
 
-/// The NAMEs of the replies `error NAME`: those of a desk's refusals, and that of a line that spells no command.
+/// The NAMEs of the replies `error NAME`: those of a desk's refusals, that of a line that spells no command, and those
+/// of a site that ticks by its own clock.
 pub const REFUSALS: [&[u8]; REFUSAL_COUNT] = [
     b"Closed",
     b"BadCount",
@@ -22,6 +23,8 @@ pub const REFUSALS: [&[u8]; REFUSAL_COUNT] = [
     b"HeldTooMuch",
     b"TimeWentBack",
     b"BadCommand",
+    b"BadDeadline",
+    b"OwnClock",
 ];
 
 /// The name at an index.

@@ -10,7 +10,7 @@ use Rattle.site_words.specs.declared.commands.DeskCommand.{DeskCommand}
 use Rattle.site_words.specs.declared.commands.DeskCommand.TheVariants.{Issue, Give, Spend, Take}
 use Rattle.site_words.specs.declared.commands.DeskCommand.TheVariants.{Outcome, Cancel, Close}
 use Rattle.site_node.specs.declared.reply.Reply.{Reply}
-use Rattle.site_node.specs.declared.reply.Reply.TheVariants.{Number, Spending, Outcome as Tells, Refused}
+use Rattle.site_node.specs.declared.reply.Reply.TheVariants.{Number, Spending, Outcome as Tells, Refused, BadDeadline}
 use Rattle.site_node.specs.declared.tick.Ticked.{Ticked}
 use Rattle.site_node.specs.Acting.{Acts}
 use Rattle.site_node.specs.Ticking.{ServesEach, Ticks}
@@ -44,25 +44,28 @@ acts old was (Issue amount) (Number n) new now h =
 acts old was (Issue amount) (Spending spending) new now h = absurd h
 acts old was (Issue amount) (Tells status) new now h = absurd h
 acts old was (Issue amount) (Refused cause) new now h = same was now h.same_seat
+acts old was (Issue amount) BadDeadline new now h = absurd h
 acts old was (Give peer amount) (Number n) new now h = same was now h.1.same_seat
 acts old was (Give peer amount) (Spending spending) new now h = absurd h
 acts old was (Give peer amount) (Tells status) new now h = absurd h
 acts old was (Give peer amount) (Refused cause) new now h = same was now h.same_seat
-acts old was (Spend amount deadline) (Number n) new now h = absurd h
-acts old was (Spend amount deadline) (Spending (Spent n)) new now h =
-    let e = h.1.counted in
+acts old was (Give peer amount) BadDeadline new now h = absurd h
+acts old was (Spend amount deadline latest) (Number n) new now h = absurd h
+acts old was (Spend amount deadline latest) (Spending (Spent n)) new now h =
+    let e = h.2.counted in
     let issued : now.issued ≡ was.issued = ap (λ (s : SeatValue). s.issued) e in
     let spent : now.spent ≡ was.spent + amount = ap (λ (s : SeatValue). s.spent) e in
     let served : now.served ≡ was.served = ap (λ (s : SeatValue). s.served) e in
     record { issued_is = omega arith; spent_is = omega arith }
-acts old was (Spend amount deadline) (Spending (Queued ticket)) new now h =
-    let e = h.1.counted in
+acts old was (Spend amount deadline latest) (Spending (Queued ticket)) new now h =
+    let e = h.2.counted in
     let issued : now.issued ≡ was.issued = ap (λ (s : SeatValue). s.issued) e in
     let spent : now.spent ≡ was.spent + 0 = ap (λ (s : SeatValue). s.spent) e in
     let served : now.served ≡ was.served = ap (λ (s : SeatValue). s.served) e in
     record { issued_is = omega arith; spent_is = omega arith }
-acts old was (Spend amount deadline) (Tells status) new now h = absurd h
-acts old was (Spend amount deadline) (Refused cause) new now h = same was now h.same_seat
+acts old was (Spend amount deadline latest) (Tells status) new now h = absurd h
+acts old was (Spend amount deadline latest) (Refused cause) new now h = same was now h.same_seat
+acts old was (Spend amount deadline latest) BadDeadline new now h = same was now h.same_seat
 acts old was (Take amount) (Number n) new now h = absurd h
 acts old was (Take amount) (Spending (Spent n)) new now h =
     let e = h.1.counted in
@@ -73,18 +76,22 @@ acts old was (Take amount) (Spending (Spent n)) new now h =
 acts old was (Take amount) (Spending (Queued ticket)) new now h = absurd h
 acts old was (Take amount) (Tells status) new now h = absurd h
 acts old was (Take amount) (Refused cause) new now h = same was now h.same_seat
+acts old was (Take amount) BadDeadline new now h = absurd h
 acts old was (Cancel ticket) (Number n) new now h = absurd h
 acts old was (Cancel ticket) (Spending spending) new now h = absurd h
 acts old was (Cancel ticket) (Tells status) new now h = same was now h.same_seat
 acts old was (Cancel ticket) (Refused cause) new now h = absurd h
+acts old was (Cancel ticket) BadDeadline new now h = absurd h
 acts old was (Outcome ticket) (Number n) new now h = absurd h
 acts old was (Outcome ticket) (Spending spending) new now h = absurd h
 acts old was (Outcome ticket) (Tells status) new now h = same was now h.same_seat
 acts old was (Outcome ticket) (Refused cause) new now h = absurd h
+acts old was (Outcome ticket) BadDeadline new now h = absurd h
 acts old was (Close heir) (Number n) new now h = same was now h.1.same_seat
 acts old was (Close heir) (Spending spending) new now h = absurd h
 acts old was (Close heir) (Tells status) new now h = absurd h
 acts old was (Close heir) (Refused cause) new now h = same was now h.same_seat
+acts old was (Close heir) BadDeadline new now h = absurd h
 
 -- ---- ticks
 

@@ -1,6 +1,6 @@
 -- The effect of a command at the desk: from the desk and a seat to a reply, and to the desk and the seat afterwards.
 -- The desk is `old` and becomes `new`; the seat is `was` and becomes `now`.
-use Rattle.std.specs.Prelude.{◌≡◌, ◌≢◌, ℕ, true, [], ◌∷◌, Option, None}
+use Rattle.std.specs.Prelude.{◌≡◌, ◌≢◌, ℕ, Bool, true, false, nat_lt, [], ◌∷◌, Option, Some, None, if◌then◌else◌}
 use Rattle.rights_types.specs.Chains.{end}
 use Rattle.rights_types.specs.declared.moves.Move.TheVariants.{Issue as Issues, Spend as Spends, Give as Gives}
 use Rattle.request_queue.specs.Calls.{TellsOutcome}
@@ -9,7 +9,10 @@ use Rattle.request_queue.specs.declared.request.Status.TheVariants.{Waiting}
 use Rattle.site_core.specs.declared.desk.requests.Spending.{Spending as SpendResult}
 use Rattle.site_core.specs.declared.desk.requests.Spending.TheVariants.{Spent}
 use Rattle.site_core.specs.declared.fault.DeskError.{DeskError}
+use Rattle.site_core.specs.declared.fault.DeskError.TheVariants.{Closed, BadAmount}
+use Rattle.site_core.specs.Desks.{DeskValue}
 use Rattle.site_core.specs.Faults.{issue_fault, give_fault, spend_fault, take_fault, close_fault, can_spend}
+use Rattle.site_core.specs.Faults.{has_closed, is_no_amount}
 use Rattle.site_core.specs.Ledgers.{EntryKeeps, ClosingKeeps}
 use Rattle.site_core.specs.Calls.{DeskWrites, DeskSpends, SpendKeeps, DeskCancels, DeskCloses}
 use Rattle.apply_lanes.specs.Kepts.{KeptValue, SeatValue, raised, told_issued, told_spent, told_taken}
@@ -19,7 +22,7 @@ use Rattle.site_words.specs.declared.commands.DeskCommand.TheVariants.{Issue, Gi
 use Rattle.site_words.specs.declared.commands.DeskCommand.TheVariants.{Outcome, Cancel, Close}
 use Rattle.site_node.specs.Refusals.{Refuses, Always}
 use Rattle.site_node.specs.declared.reply.Reply.{Reply}
-use Rattle.site_node.specs.declared.reply.Reply.TheVariants.{Number, Spending, Outcome as Tells, Refused}
+use Rattle.site_node.specs.declared.reply.Reply.TheVariants.{Number, Spending, Outcome as Tells, Refused, BadDeadline}
 
 -- ---- what a command leaves that is not refused
 
@@ -104,13 +107,39 @@ ActsGive old was peer amount (Refused cause) new now
     = IsRefused old was (give_fault old.desk peer amount) Always cause new now
 ActsGive old was peer amount reply new now = ⊥
 
+-- the deadline is later than the latest one, if there is one
+abbrev pub is_too_far : ℕ → Option ℕ → Bool
+is_too_far deadline None = false
+is_too_far deadline (Some latest) = nat_lt latest deadline
+
+-- the causes for which a spend is refused before its deadline is looked at
+abbrev pub first_fault : DeskValue → ℕ → Option DeskError
+first_fault d amount =
+    if has_closed d then Some Closed else (if is_no_amount amount then Some BadAmount else None)
+
+-- .. and all causes but its deadline, by whether that is too far ahead: the others come after it
+abbrev pub fault_by : Bool → DeskValue → ℕ → Option DeskError
+fault_by true = first_fault
+fault_by false = spend_fault
+
+-- a refusal for the deadline alone, and nothing changed
+pub record IsTooFar (old : KeptValue) (was : SeatValue) (amount deadline : ℕ) (latest : Option ℕ) (new : KeptValue)
+    (now : SeatValue) : Type 0 where
+  pub far : is_too_far deadline latest ≡ true
+  pub no_other : first_fault old.desk amount ≡ None
+  pub same_desk : new ≡ old
+  pub same_seat : now ≡ was
+
 -- a spend may run out of memory only if it is served at once
-abbrev pub ActsSpend : KeptValue → SeatValue → ℕ → ℕ → Reply → KeptValue → SeatValue → Type 0
-ActsSpend old was amount deadline (Spending spending) new now =
-    (spend_fault old.desk amount ≡ None) × HasSpent old was amount deadline spending new now
-ActsSpend old was amount deadline (Refused cause) new now =
-    IsRefused old was (spend_fault old.desk amount) (can_spend old.desk amount ≡ true) cause new now
-ActsSpend old was amount deadline reply new now = ⊥
+abbrev pub ActsSpend : KeptValue → SeatValue → ℕ → ℕ → Option ℕ → Reply → KeptValue → SeatValue → Type 0
+ActsSpend old was amount deadline latest (Spending spending) new now =
+    (is_too_far deadline latest ≡ false) × (spend_fault old.desk amount ≡ None)
+    × HasSpent old was amount deadline spending new now
+ActsSpend old was amount deadline latest (Refused cause) new now =
+    IsRefused old was (fault_by (is_too_far deadline latest) old.desk amount)
+    ((is_too_far deadline latest ≡ false) × (can_spend old.desk amount ≡ true)) cause new now
+ActsSpend old was amount deadline latest BadDeadline new now = IsTooFar old was amount deadline latest new now
+ActsSpend old was amount deadline latest reply new now = ⊥
 
 -- what is taken is spent at once, and never waits
 abbrev pub ActsTake : KeptValue → SeatValue → ℕ → Reply → KeptValue → SeatValue → Type 0
@@ -139,7 +168,7 @@ ActsClose old was heir reply new now = ⊥
 abbrev pub Acts : KeptValue → SeatValue → DeskCommand → Reply → KeptValue → SeatValue → Type 0
 Acts old was (Issue amount) reply new now = ActsIssue old was amount reply new now
 Acts old was (Give peer amount) reply new now = ActsGive old was peer amount reply new now
-Acts old was (Spend amount deadline) reply new now = ActsSpend old was amount deadline reply new now
+Acts old was (Spend amount deadline latest) reply new now = ActsSpend old was amount deadline latest reply new now
 Acts old was (Take amount) reply new now = ActsTake old was amount reply new now
 Acts old was (Cancel ticket) reply new now = ActsCancel old was ticket reply new now
 Acts old was (Outcome ticket) reply new now = ActsOutcome old was ticket reply new now

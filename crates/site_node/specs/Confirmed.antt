@@ -30,7 +30,7 @@ issued_in (ATick time served ticked) = 0
 -- the rights that the client was told as spent: those of a `spend` or `take` that was answered by `spent`, and of the
 -- requests that a tick served
 abbrev pub confirmed_as_spent : DeskCommand → Reply → ℕ
-confirmed_as_spent (Spend amount deadline) (Spending (Spent number)) = amount
+confirmed_as_spent (Spend amount deadline latest) (Spending (Spent number)) = amount
 confirmed_as_spent (Take amount) (Spending (Spent number)) = amount
 confirmed_as_spent command reply = 0
 

@@ -3,16 +3,17 @@ use Rattle.std.specs.Prelude.{ℕ, List, [], ◌∷◌, ◌++◌, decimal, codes
 use Rattle.std.specs.List.{flat_map}
 use Rattle.request_queue.specs.declared.request.Request.{Request}
 use Rattle.site_core.specs.declared.fault.DeskError.{DeskError}
-use Rattle.reply_texts.specs.Texts.{number_text, spending_text, status_text, error_text}
+use Rattle.reply_texts.specs.Texts.{number_text, spending_text, status_text, error_text, bad_deadline}
 use Rattle.site_node.specs.declared.tick.Ticked.{Ticked}
 use Rattle.site_node.specs.declared.reply.Reply.{Reply}
-use Rattle.site_node.specs.declared.reply.Reply.TheVariants.{Number, Spending, Outcome, Refused}
+use Rattle.site_node.specs.declared.reply.Reply.TheVariants.{Number, Spending, Outcome, Refused, BadDeadline}
 
 abbrev pub reply_text : Reply → List ℕ
 reply_text (Number number) = number_text number
 reply_text (Spending spending) = spending_text spending
 reply_text (Outcome status) = status_text status
 reply_text (Refused cause) = error_text cause
+reply_text BadDeadline = bad_deadline
 
 -- a request that waits, as an object of JSON
 abbrev pub request_text : Request → List ℕ

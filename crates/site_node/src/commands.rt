@@ -1,12 +1,13 @@
 //! The commands that are one call of the desk.
+ghost use Rattle.std.specs.Prelude.{◌≡◌, ℕ, Option, true};
 ghost use Rattle.apply_lanes.specs.Kepts.{SeatValue};
 ghost use Rattle.site_node.specs.Acting.{Acts, ActsIssue, ActsGive, ActsSpend, ActsTake, ActsOutcome};
-ghost use Rattle.site_node.specs.Acting.{ActsCancel, ActsClose};
+ghost use Rattle.site_node.specs.Acting.{ActsCancel, ActsClose, is_too_far};
 
 use crate::reply::Reply;
 use apply_lanes::{DeskNames, Kept, Seat};
-use rights_types::SiteId;
-use site_core::Spending;
+use rights_types::{Amount, SiteId};
+use site_core::{DeskError, Spending};
 use site_words::DeskCommand;
 
 /// Carries out a command at the desk, for this seat, and returns the reply.
@@ -16,7 +17,9 @@ pub fn act<D: DeskNames>(kept: &mut Kept<D>, seat: &mut Seat<D>, command: DeskCo
     match command {
         DeskCommand::Issue(amount) => issue(kept, seat, amount),
         DeskCommand::Give(peer, amount) => give(kept, peer, amount),
-        DeskCommand::Spend(amount, deadline) => spend(kept, seat, amount, deadline),
+        DeskCommand::Spend(amount, deadline, latest) => {
+            spend(kept, seat, amount, deadline, latest)
+        }
         DeskCommand::Take(amount) => take(kept, seat, amount),
         DeskCommand::Outcome(ticket) => outcome(kept, ticket),
         DeskCommand::Cancel(ticket) => cancel(kept, ticket),
@@ -42,12 +45,45 @@ fn give<D: DeskNames>(kept: &mut Kept<D>, peer: SiteId, amount: u64) -> Reply
     }
 }
 
-fn spend<D: DeskNames>(kept: &mut Kept<D>, seat: &mut Seat<D>, amount: u64, deadline: u64) -> Reply
-    ensures { ActsSpend kept.old seat.old amount deadline result kept.new seat.new }
+fn spend<D: DeskNames>(
+    kept: &mut Kept<D>,
+    seat: &mut Seat<D>,
+    amount: u64,
+    deadline: u64,
+    latest: Option<u64>,
+) -> Reply
+    ensures { ActsSpend kept.old seat.old amount deadline latest result kept.new seat.new }
 {
+    if is_too_far(deadline, latest) {
+        return refuse_far(kept, amount);
+    }
     match kept.spend(seat, amount, deadline) {
         Ok(spending) => Reply::Spending(spending),
         Err(cause) => Reply::Refused(cause),
+    }
+}
+
+/// Whether a deadline is later than the latest one, if there is one.
+fn is_too_far(deadline: u64, latest: Option<u64>) -> bool
+    ensures { result ≡ is_too_far deadline latest }
+{
+    match latest {
+        Some(latest) => deadline > latest,
+        None => false,
+    }
+}
+
+/// The refusal of a spend whose deadline is too far ahead: for that, unless another cause comes before.
+fn refuse_far<D: DeskNames>(kept: &Kept<D>, amount: u64) -> Reply
+    ensures { (seat : SeatValue) (deadline : ℕ) (latest : Option ℕ) → is_too_far deadline latest ≡ true
+        → ActsSpend kept.now seat amount deadline latest result kept.now seat }
+{
+    if kept.desk().log().closed() {
+        return Reply::Refused(DeskError::Closed);
+    }
+    match Amount::new(amount) {
+        Ok(_) => Reply::BadDeadline,
+        Err(_) => Reply::Refused(DeskError::BadAmount),
     }
 }
 

@@ -14,4 +14,6 @@ pub enum Reply {
     Outcome(Status),
     /// Why the command was refused. Nothing changed.
     Refused(DeskError),
+    /// The deadline of a spend is too far ahead of the site's clock. Nothing changed.
+    BadDeadline,
 }

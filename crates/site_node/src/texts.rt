@@ -5,7 +5,9 @@ ghost use Rattle.site_node.specs.Texts.{reply_text, ticked_text, tick_text};
 use crate::reply::Reply;
 use crate::tick::Ticked;
 use line_streams::{MAX_DIGITS, Replies};
-use reply_texts::{REPLY_ROOM, desk_error_name, put_error, put_number, put_spending, put_status};
+use reply_texts::{
+    REPLY_ROOM, desk_error_name, put_bad_deadline, put_error, put_number, put_spending, put_status,
+};
 use request_queue::Status;
 use rights_types::OutOfMemory;
 use site_core::{DeskError, Spending};
@@ -28,6 +30,7 @@ pub(crate) fn put_reply<A: Allocator>(
         Reply::Spending(spending) => put_spending(replies, spending),
         Reply::Outcome(status) => put_status(replies, status),
         Reply::Refused(cause) => put_error(replies, cause),
+        Reply::BadDeadline => put_bad_deadline(replies),
     }
 }
 
@@ -62,6 +65,7 @@ pub(crate) fn reply_fits(reply: Reply)
         Reply::Spending(Spending::Queued(ticket)) => digits_fit(ticket),
         Reply::Outcome(Status::Spent(number)) => digits_fit(number),
         Reply::Outcome(Status::Waiting | Status::Expired | Status::Unknown) => {}
+        Reply::BadDeadline => {}
         Reply::Refused(cause) => {
             let _ = desk_error_name(cause);
         }

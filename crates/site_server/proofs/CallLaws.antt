@@ -9,20 +9,20 @@ use Rattle.line_streams.specs.Talk.{lines_of}
 use Rattle.apply_lanes.specs.Names.{DeskId}
 use Rattle.apply_lanes.specs.Kepts.{SeatValue}
 use Rattle.site_words.specs.declared.commands.SiteCommand.{SiteCommand}
-use Rattle.site_words.specs.declared.commands.SiteCommand.TheVariants.{AtDesk, Tick, Status, Quit}
+use Rattle.site_words.specs.declared.commands.SiteCommand.TheVariants.{AtDesk, Tick, RefusedTick, Status, Queue, Quit}
 use Rattle.site_node.specs.Texts.{reply_text}
 use Rattle.site_node.specs.Confirmed.{Turn, ACommand, HasTurns}
 use Rattle.site_node.specs.declared.reply.Reply.{Reply}
-use Rattle.site_node.specs.declared.reply.Reply.TheVariants.{Number, Spending, Outcome, Refused}
+use Rattle.site_node.specs.declared.reply.Reply.TheVariants.{Number, Spending, Outcome, Refused, BadDeadline}
 use Rattle.site_core.specs.declared.desk.requests.Spending.TheVariants.{Spent, Queued}
 use Rattle.site_node.proofs.ConfirmedLaws.{turns_count}
 use Rattle.site_http.specs.Replying.{Answering, AnswersEach, RepliesTo, RepliesToOne, text_of}
 use Rattle.site_http.specs.Responding.{RespondsBy}
 use Rattle.site_http.specs.declared.route.Route.{Route}
-use Rattle.site_http.specs.declared.route.Route.TheVariants.{Commands, Wait, Status as Shows, Metrics, Health, Page}
-use Rattle.site_http.specs.declared.route.Route.TheVariants.{Foreign, Misdirected, NotAllowed, NotFound}
+use Rattle.site_http.specs.declared.route.Route.TheVariants.{Commands, Wait, Status as Shows, Queue as ShowsQueue, Metrics}
+use Rattle.site_http.specs.declared.route.Route.TheVariants.{Health, Page, Foreign, Misdirected, NotAllowed, NotFound}
 use Rattle.desk_turns.specs.Seated.{SeatedValue}
-use Rattle.site_server.specs.Replying.{asked, TellsStatus}
+use Rattle.site_server.specs.Replying.{asked, TellsStatus, TellsQueue}
 use Rattle.site_server.specs.Measuring.{TellsMetrics, TellsClosed}
 use Rattle.site_server.specs.Settling.{Settles}
 use Rattle.site_server.specs.Connections.{ClientValue, Tells, TellsSettled, Answers, Responded}
@@ -36,7 +36,8 @@ use Rattle.site_server.proofs.SettleLaws.{keeps_told, waited_told}
 module _ {S : Type 0} (seat : S → SeatValue)
     (is_turn : Option SiteCommand → List ℕ → List Turn → Type 0) (answers : Answering S)
     (one : (old : S) (line reply : List ℕ) (new : S) → answers old line reply new
-    → (turns : List Turn) × is_turn (asked line) reply turns × HasTurns (seat old) turns (seat new)) where
+    → (turns : List Turn) × ((time : Option ℕ) × is_turn (asked time line) reply turns)
+    × HasTurns (seat old) turns (seat new)) where
   pub turns_of_each : (old : S) (lines replies : List (List ℕ)) (new : S) → AnswersEach answers old lines replies new
       → (turns : List Turn) × AreTurnsOf is_turn lines replies turns × HasTurns (seat old) turns (seat new)
   turns_of_each old [] replies new h
@@ -101,6 +102,7 @@ settled_text HasEnded id seat (Spending (Spent n)) settled now text h says = inl
 settled_text HasEnded id seat (Spending (Queued ticket)) settled now text h says = inr (ticket, refl)
 settled_text HasEnded id seat (Outcome status) settled now text h says = inl (says ∙ ap reply_text h.0)
 settled_text HasEnded id seat (Refused cause) settled now text h says = inl (says ∙ ap reply_text h.0)
+settled_text HasEnded id seat BadDeadline settled now text h says = inl (says ∙ ap reply_text h.0)
 
 -- however the client waits, its seat counts the same
 settled_told : (HasEnded : Type 0) (id : DeskId) (was : SeatedValue) (reply settled : Reply) (now : SeatedValue)
@@ -112,6 +114,7 @@ settled_told HasEnded id was (Spending (Queued ticket)) settled now (inl h) =
 settled_told HasEnded id was (Spending (Queued ticket)) settled now (inr h) = waited_told id was ticket now h.waited
 settled_told HasEnded id was (Outcome status) settled now h = ap (λ (s : SeatedValue). s.told) h.1
 settled_told HasEnded id was (Refused cause) settled now h = ap (λ (s : SeatedValue). s.told) h.1
+settled_told HasEnded id was BadDeadline settled now h = ap (λ (s : SeatedValue). s.told) h.1
 
 module _ {P : Type 0} (size : P → ℕ) (sends : P → ℕ → ℕ → P → Type 0)
     (stops : P → ℕ → P → Type 0) (id : DeskId) where
@@ -124,6 +127,10 @@ module _ {P : Type 0} (size : P → ℕ) (sends : P → ℕ → ℕ → P → Ty
       = turns_of_line size sends stops id (Some (AtDesk command)) was before text now after h
   tells_turns (Some (Tick time)) was before text now after h
       = turns_of_line size sends stops id (Some (Tick time)) was before text now after h
+  tells_turns (Some RefusedTick) was before text now after h
+      = turns_of_line size sends stops id (Some RefusedTick) was before text now after h
+  tells_turns (Some Queue) was before text now after h
+      = turns_of_line size sends stops id (Some Queue) was before text now after h
   tells_turns (Some Status) was before text now after h
       = turns_of_line size sends stops id (Some Status) was before text now after h
   tells_turns (Some Quit) was before text now after h = ([], refl, ap (λ (s : SeatedValue). s.told) h.1)
@@ -141,33 +148,43 @@ module _ {P : Type 0} (size : P → ℕ) (sends : P → ℕ → ℕ → P → Ty
       )
   settled_turns HasEnded (Some (Tick time)) was before text now after h
       = tells_turns (Some (Tick time)) was before text now after h
+  settled_turns HasEnded (Some RefusedTick) was before text now after h
+      = tells_turns (Some RefusedTick) was before text now after h
+  settled_turns HasEnded (Some Queue) was before text now after h
+      = tells_turns (Some Queue) was before text now after h
   settled_turns HasEnded (Some Status) was before text now after h
       = tells_turns (Some Status) was before text now after h
   settled_turns HasEnded (Some Quit) was before text now after h = tells_turns (Some Quit) was before text now after h
 
-  module _ {B : Type 0} (has_ended : B → Type 0) where
+  module _ {B : Type 0} (has_ended : B → Type 0) (shows : B → Option ℕ → Type 0) where
     one : (old : ClientValue P B) (line reply : List ℕ) (new : ClientValue P B)
-        → Answers size sends stops has_ended id false old line reply new
-        → (turns : List Turn) × IsTurn (asked line) reply turns × HasTurns old.seat.told turns new.seat.told
-    one old line reply new h = tells_turns (asked line) old.seat old.peers reply new.seat new.peers h
+        → Answers size sends stops has_ended shows id false old line reply new
+        → (turns : List Turn) × ((time : Option ℕ) × IsTurn (asked time line) reply turns)
+        × HasTurns old.seat.told turns new.seat.told
+    one old line reply new h =
+        let found = tells_turns (asked h.time line) old.seat old.peers reply new.seat new.peers h.tells in
+        (found.0, (h.time, found.1), found.2)
 
     one_settled : (old : ClientValue P B) (line reply : List ℕ) (new : ClientValue P B)
-        → Answers size sends stops has_ended id true old line reply new
-        → (turns : List Turn) × IsSettledTurn (asked line) reply turns × HasTurns old.seat.told turns new.seat.told
+        → Answers size sends stops has_ended shows id true old line reply new
+        → (turns : List Turn) × ((time : Option ℕ) × IsSettledTurn (asked time line) reply turns)
+        × HasTurns old.seat.told turns new.seat.told
     one_settled old line reply new h =
-        settled_turns (has_ended old.signal) (asked line) old.seat old.peers reply new.seat new.peers h
+        let found = settled_turns (has_ended old.signal) (asked h.time line) old.seat old.peers reply new.seat new.peers
+        h.tells in (found.0, (h.time, found.1), found.2)
 
     turns_of_route : (old : ClientValue P B) (route : Route) (body : List ℕ) (r : Response) (new : ClientValue P B)
-        → RespondsBy (Answers size sends stops has_ended id) (λ client text. TellsStatus id text)
-        (λ client text. TellsMetrics id text) (λ client is_closed. TellsClosed id is_closed) old route body r new
+        → RespondsBy (Answers size sends stops has_ended shows id) (λ client text. TellsStatus id text)
+        (λ client text. TellsQueue id text) (λ client text. TellsMetrics id text) (λ client is_closed. TellsClosed id is_closed) old route body r new
         → (turns : List Turn) × AreRouteTurns route body r turns × HasTurns old.seat.told turns new.seat.told
     turns_of_route old Commands body r new h =
-        turns_of_body (λ c. c.seat.told) IsTurn (Answers size sends stops has_ended id false) one old
+        turns_of_body (λ c. c.seat.told) IsTurn (Answers size sends stops has_ended shows id false) one old
         (lines_of body) h.replies h.code r new h.replied h.response.body
     turns_of_route old Wait body r new h =
-        turns_of_one (λ c. c.seat.told) IsSettledTurn (Answers size sends stops has_ended id true) one_settled old
+        turns_of_one (λ c. c.seat.told) IsSettledTurn (Answers size sends stops has_ended shows id true) one_settled old
         (lines_of body) h.replies h.code r new h.replied h.response.body
     turns_of_route old Shows body r new h = ([], refl, ap (λ (c : ClientValue P B). c.seat.told) h.1)
+    turns_of_route old ShowsQueue body r new h = ([], refl, ap (λ (c : ClientValue P B). c.seat.told) h.1)
     turns_of_route old Metrics body r new h = ([], refl, ap (λ (c : ClientValue P B). c.seat.told) h.1)
     turns_of_route old Health body r new h = ([], refl, ap (λ (c : ClientValue P B). c.seat.told) h.1)
     turns_of_route old Page body r new h = ([], refl, ap (λ (c : ClientValue P B). c.seat.told) h.1)
@@ -177,7 +194,7 @@ module _ {P : Type 0} (size : P → ℕ) (sends : P → ℕ → ℕ → P → Ty
     turns_of_route old NotFound body r new h = ([], refl, ap (λ (c : ClientValue P B). c.seat.told) h.1)
 
     turns_of_calls : (names : List (List ℕ)) (old : ClientValue P B) (calls : List Call) (new : ClientValue P B)
-        → Chain (Responded size sends stops has_ended id names) old calls new
+        → Chain (Responded size sends stops has_ended shows id names) old calls new
         → (turns : List Turn) × AreCallsTurns names calls turns × HasTurns old.seat.told turns new.seat.told
     turns_of_calls names old [] new h = ([], refl, ap (λ (c : ClientValue P B). c.seat.told) h)
     turns_of_calls names old (call ∷ calls) new h =
@@ -190,7 +207,7 @@ module _ {P : Type 0} (size : P → ℕ) (sends : P → ℕ → ℕ → P → Ty
         )
 
     pub counts_calls : (names : List (List ℕ)) (old : ClientValue P B) (calls : List Call) (new : ClientValue P B)
-        → Chain (Responded size sends stops has_ended id names) old calls new
+        → Chain (Responded size sends stops has_ended shows id names) old calls new
         → CountsCalls names old.seat.told calls new.seat.told
     counts_calls names old calls new h =
         let found = turns_of_calls names old calls new h in

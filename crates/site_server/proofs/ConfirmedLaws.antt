@@ -14,14 +14,14 @@ use Rattle.line_streams.specs.declared.handler.Goes.TheVariants.{On, Ends}
 use Rattle.apply_lanes.specs.Names.{DeskId}
 use Rattle.apply_lanes.specs.Kepts.{SeatValue}
 use Rattle.site_words.specs.declared.commands.SiteCommand.{SiteCommand}
-use Rattle.site_words.specs.declared.commands.SiteCommand.TheVariants.{AtDesk, Tick, Status, Quit}
+use Rattle.site_words.specs.declared.commands.SiteCommand.TheVariants.{AtDesk, Tick, RefusedTick, Status, Queue, Quit}
 use Rattle.site_node.specs.Confirmed.{Turn, ACommand, ATick, HasTurns}
 use Rattle.site_node.proofs.ConfirmedLaws.{turns_count}
 use Rattle.desk_turns.specs.Seated.{SeatedValue}
 use Rattle.site_core.specs.declared.fault.DeskError.{DeskError}
 use Rattle.site_node.specs.Texts.{tick_text}
 use Rattle.site_node.specs.declared.tick.Ticked.{Ticked}
-use Rattle.site_server.specs.Replying.{asked, ThenSends, Says, Gets, GetsBy}
+use Rattle.site_server.specs.Replying.{asked, ThenSends, Says, Gets, GetsBy, GetsLine}
 use Rattle.site_server.specs.Conversations.{TellsTick, IsTurn, AreTurns, CountsReplies}
 
 pub both : (was half now : SeatValue) (first rest : List Turn) → HasTurns was first half → HasTurns half rest now
@@ -58,38 +58,48 @@ module _ {P : Type 0} (size : P → ℕ) (sends : P → ℕ → ℕ → P → Ty
         (t.does.served, h.does.ticked, refl, tells_tick before after h.does.ticked h.result text h.does.then_sends h.says),
         (now.told, (t.old, t.new, t.does.ticks), refl),
       )
+  turns_of_line (Some RefusedTick) was before text now after h = ([], refl, ap (λ (s : SeatedValue). s.told) h.1)
+  turns_of_line (Some Queue) was before text now after h = ([], refl, ap (λ (s : SeatedValue). s.told) h.1)
   turns_of_line (Some Status) was before text now after h = ([], refl, ap (λ (s : SeatedValue). s.told) h.1)
   turns_of_line (Some Quit) was before text now after h = absurd h
 
-  module _ {S : Type 0} (seat : S → SeatedValue) (peers : S → P) where
-    -- the replies of a handler with such a seat and such peers, and its state after a memory refusal
+  module _ {S : Type 0} (seat : S → SeatedValue) (peers : S → P) (shows : S → Option ℕ → Type 0) where
+    -- the replies of a handler with such a seat, such peers and such a clock, and its state after a memory refusal
     abbrev pub Answers : Answering S
-    Answers before line reply after
-        = Gets size sends stops id (asked line) (seat before) (peers before) reply (seat after) (peers after)
+    Answers before line reply after =
+        GetsLine size sends stops (shows before) id line (seat before) (peers before) reply (seat after) (peers after)
 
     abbrev pub Fails : S → S → Type 0
     Fails before after = (seat after ≡ seat before) × (peers after ≡ peers before)
 
+    gets_line : (command : Option SiteCommand) (line : List ℕ) (old : S) (text : Option (List ℕ)) (new : S)
+        → (time : Option ℕ) × shows old time × (command ≡ asked time line)
+        → Gets size sends stops id command (seat old) (peers old) text (seat new) (peers new)
+        → Answers old line text new
+    gets_line command line old text new spelled h =
+        record {
+          time = spelled.0;
+          shown = spelled.1;
+          gets = subst (λ (c : Option SiteCommand). Gets size sends stops id c (seat old) (peers old) text (seat new)
+              (peers new)) spelled.2 h;
+        }
+
     -- the command of a line had this effect
     pub line_gets : (goes : Goes) (command : Option SiteCommand) (line : List ℕ) (old new : S) (waits waits' : Waiting)
-        → command ≡ asked line
+        → (time : Option ℕ) × shows old time × (command ≡ asked time line)
         → GetsBy size sends stops goes id command (seat old) (peers old) waits (seat new) (peers new) waits'
         → LineGets Answers goes old line new waits waits'
-    line_gets On command line old new waits waits' same h =
-        subst (λ (c : Option SiteCommand). GetsBy size sends stops On id c (seat old) (peers old) waits (seat new)
-        (peers new) waits') same h
-    line_gets Ends command line old new waits waits' same h =
-        subst (λ (c : Option SiteCommand). GetsBy size sends stops Ends id c (seat old) (peers old) waits (seat new)
-        (peers new) waits') same h
+    line_gets On command line old new waits waits' spelled h = (h.0, gets_line command line old (Some h.0) new spelled h.1, h.2)
+    line_gets Ends command line old new waits waits' spelled h = (gets_line command line old None new spelled h.0, h.1, h.2)
 
     turns_of : (start : S) (lines : List (List ℕ)) (text : List ℕ) (state : S) → LinesGet Answers start lines text state
         → (turns : List Turn) × AreTurns lines text turns × HasTurns (seat start).told turns (seat state).told
     turns_of start [] text state h = ([], (h.0, refl), ap (λ s. (seat s).told) h.1)
     turns_of start (line ∷ lines) text state h =
-        let first = turns_of_line (asked line) (seat start) (peers start) h.0 (seat h.1) (peers h.1) h.3 in
+        let first = turns_of_line (asked h.3.time line) (seat start) (peers start) h.0 (seat h.1) (peers h.1) h.3.gets in
         let rest = turns_of h.1 lines h.2 state h.4 in (
           first.0 ++ rest.0,
-          (h.0, h.2, first.0, rest.0, first.1, rest.1, h.5, refl),
+          (h.0, h.2, first.0, rest.0, (h.3.time, first.1), rest.1, h.5, refl),
           both (seat start).told (seat h.1).told (seat state).told first.0 rest.0 first.2 rest.2,
         )
 
@@ -98,11 +108,11 @@ module _ {P : Type 0} (size : P → ℕ) (sends : P → ℕ → ℕ → P → Ty
         (talk : Talk Answers start given left held holds)
         → Leaves Fails result talk after → seat after ≡ seat talk.state
     seat_left start after (Ok Input) talk h = ap seat h
-    seat_left start after (Ok Handler) talk h = h.ends.1
+    seat_left start after (Ok Handler) talk h = h.ends.gets.1
     seat_left start after (Err ReadFailed) talk h = ap seat h
     seat_left start after (Err WriteFailed) talk (inl h) = ap seat h
     seat_left start after (Err WriteFailed) talk (inr (inl h)) = h.0
-    seat_left start after (Err WriteFailed) talk (inr (inr h)) = h.ends.1
+    seat_left start after (Err WriteFailed) talk (inr (inr h)) = h.ends.gets.1
     seat_left start after (Err OutOfMemory) talk (inl h) = ap seat h
     seat_left start after (Err OutOfMemory) talk (inr h) = h.0
     seat_left start after (Err TooManyLines) talk h = ap seat h

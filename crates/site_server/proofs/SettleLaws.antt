@@ -5,7 +5,7 @@ use Rattle.apply_lanes.specs.Kepts.{KeptValue, SeatValue}
 use Rattle.site_words.specs.declared.commands.DeskCommand.TheVariants.{Outcome as AsksOutcome}
 use Rattle.site_node.specs.Acting.{ActsOutcome}
 use Rattle.site_node.specs.declared.reply.Reply.{Reply}
-use Rattle.site_node.specs.declared.reply.Reply.TheVariants.{Number, Spending, Outcome, Refused}
+use Rattle.site_node.specs.declared.reply.Reply.TheVariants.{Number, Spending, Outcome, Refused, BadDeadline}
 use Rattle.desk_turns.specs.Seated.{SeatedValue, ActsAtDesk}
 use Rattle.site_server.specs.Settling.{HasWaited, WaitsFor, TellsOutcome, StillQueued, still_waits}
 
@@ -15,6 +15,7 @@ same_seat old was ticket (Number n) new now h = absurd h
 same_seat old was ticket (Spending spending) new now h = absurd h
 same_seat old was ticket (Outcome status) new now h = h.same_seat
 same_seat old was ticket (Refused cause) new now h = absurd h
+same_seat old was ticket BadDeadline new now h = absurd h
 
 -- asking for an outcome leaves what the seat counts unchanged
 pub keeps_told : (id : DeskId) (was : SeatedValue) (ticket : ℕ) (reply : Reply) (now : SeatedValue)

@@ -9,7 +9,7 @@ use Rattle.site_http.specs.Replying.{Answering}
 use Rattle.site_http.specs.Responding.{Responds}
 use Rattle.site_server.specs.Measuring.{TellsMetrics, TellsClosed}
 use Rattle.desk_turns.specs.Seated.{SeatedValue}
-use Rattle.site_server.specs.Replying.{asked, Says, TellsStatus}
+use Rattle.site_server.specs.Replying.{asked, Says, TellsStatus, TellsQueue}
 use Rattle.site_server.specs.Settling.{SettlesCommand}
 
 -- a client, as plain data: its seat with its turns, its peers, and what notifies it of ticks
@@ -36,13 +36,17 @@ module _ {P : Type 0} (size : P → ℕ) (sends : P → ℕ → ℕ → P → Ty
   TellsBy false HasEnded = Tells
   TellsBy true HasEnded = TellsSettled HasEnded
 
-  module _ {B : Type 0} (has_ended : B → Type 0) (id : DeskId) where
-    -- the reply to a line, by whether the client waits
-    abbrev pub Answers : Bool → Answering (ClientValue P B)
-    Answers waits before line text after =
-        TellsBy waits (has_ended before.signal) id (asked line) before.seat before.peers text after.seat after.peers
+  module _ {B : Type 0} (has_ended : B → Type 0) (shows : B → Option ℕ → Type 0) (id : DeskId) where
+    -- the reply to a line, by whether the client waits, and by the command that it spells at a time that the site's own
+    -- clock may show
+    pub record Answers (waits : Bool) (before : ClientValue P B) (line text : List ℕ)
+        (after : ClientValue P B) : Type 0 where
+      pub time : Option ℕ
+      pub shown : shows before.signal time
+      pub tells : TellsBy waits (has_ended before.signal) id (asked time line) before.seat before.peers text after.seat
+          after.peers
 
     -- the response to a request of a client over a connection, at a site whose host has these names
     abbrev pub Responded : List (List ℕ) → ClientValue P B → Request (List ℕ) → Response → ClientValue P B → Type 0
-    Responded = Responds Answers (λ client text. TellsStatus id text) (λ client text. TellsMetrics id text)
-        (λ client is_closed. TellsClosed id is_closed)
+    Responded = Responds Answers (λ client text. TellsStatus id text) (λ client text. TellsQueue id text)
+        (λ client text. TellsMetrics id text) (λ client is_closed. TellsClosed id is_closed)

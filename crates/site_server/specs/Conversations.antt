@@ -33,7 +33,8 @@ abbrev pub AreTurns : List (List ℕ) → List ℕ → List Turn → Type 0
 AreTurns [] text turns = (text ≡ []) × (turns ≡ [])
 AreTurns (line ∷ lines) text turns =
     (reply : List ℕ) × (more : List ℕ) × (first : List Turn) × (rest : List Turn)
-    × IsTurn (asked line) reply first × AreTurns lines more rest × (text ≡ (reply ++ 10 ∷ []) ++ more)
+    × ((time : Option ℕ) × IsTurn (asked time line) reply first) × AreTurns lines more rest
+    × (text ≡ (reply ++ 10 ∷ []) ++ more)
     × (turns ≡ first ++ rest)
 
 -- what the replies to these lines report to the client as issued and as spent is what its seat counts in addition

@@ -14,24 +14,24 @@ use Rattle.apply_lanes.specs.Views.{IsViewOf}
 use Rattle.line_streams.specs.Waiting.{Waiting, AddsReply}
 use Rattle.line_streams.specs.declared.handler.Goes.{Goes}
 use Rattle.line_streams.specs.declared.handler.Goes.TheVariants.{On, Ends}
-use Rattle.reply_texts.specs.Texts.{bad_command}
+use Rattle.reply_texts.specs.Texts.{bad_command, own_clock}
 use Rattle.site_words.specs.Commands.{command_of}
 use Rattle.site_words.specs.Status.{status_text}
 use Rattle.site_words.specs.declared.commands.DeskCommand.{DeskCommand}
 use Rattle.site_words.specs.declared.commands.SiteCommand.{SiteCommand}
-use Rattle.site_words.specs.declared.commands.SiteCommand.TheVariants.{AtDesk, Tick, Status, Quit}
+use Rattle.site_words.specs.declared.commands.SiteCommand.TheVariants.{AtDesk, Tick, RefusedTick, Status, Queue, Quit}
 use Rattle.site_words.specs.declared.status_object.PeerView.{PeerView}
 use Rattle.site_sockets.specs.declared.peer.PeerState.{PeerState}
 use Rattle.desk_turns.specs.Seated.{SeatedValue, ActsAtDesk, TicksAtDesk}
-use Rattle.site_node.specs.Texts.{reply_text, tick_text}
+use Rattle.site_node.specs.Texts.{reply_text, tick_text, queue_text}
 use Rattle.site_node.specs.ToPeers.{SendsToFirst, StopsAtPeer}
 use Rattle.site_node.specs.declared.reply.Reply.{Reply}
 use Rattle.site_node.specs.declared.tick.Ticked.{Ticked}
 
--- the command that a line, with its line feed, spells; `None` if it spells none, or has more bytes than a line may
--- have
-abbrev pub asked : List ℕ → Option SiteCommand
-asked line = if nat_le (length line) MAX_LINE then command_of (take (length line - 1) line) else None
+-- the command that a line, with its line feed, spells, if the site's own clock shows this time; `None` if it spells
+-- none, or has more bytes than a line may have
+abbrev pub asked : Option ℕ → List ℕ → Option SiteCommand
+asked time line = if nat_le (length line) MAX_LINE then command_of time (take (length line - 1) line) else None
 
 -- ---- replies
 
@@ -67,6 +67,12 @@ pub record TellsStatus (id : DeskId) (text : List ℕ) : Type 0 where
   pub views : AreViews id view peers
   pub says : text ≡ status_text view peers
 
+-- the spends that wait at the desk at one moment, and how many outcomes nobody has read
+pub record TellsQueue (id : DeskId) (text : List ℕ) : Type 0 where
+  pub kept : KeptValue
+  pub valid : IsKept id kept
+  pub says : text ≡ queue_text kept.desk.queue.waiting (length kept.desk.queue.outcomes)
+
 module _ {P : Type 0} (size : P → ℕ) (sends : P → ℕ → ℕ → P → Type 0)
     (stops : P → ℕ → P → Type 0) where
   -- after a tick at the desk every peer is sent what is due to it, or each one before that for which memory ran out;
@@ -98,6 +104,8 @@ module _ {P : Type 0} (size : P → ℕ) (sends : P → ℕ → ℕ → P → Ty
   Says id None was before text now after = (text ≡ bad_command) × (now ≡ was) × (after ≡ before)
   Says id (Some (AtDesk command)) was before text now after = CarriesOut id was command text now × (after ≡ before)
   Says id (Some (Tick time)) was before text now after = DoesDue id was before time text now after
+  Says id (Some RefusedTick) was before text now after = (text ≡ own_clock) × (now ≡ was) × (after ≡ before)
+  Says id (Some Queue) was before text now after = TellsQueue id text × (now ≡ was) × (after ≡ before)
   Says id (Some Status) was before text now after = TellsStatus id text × (now ≡ was) × (after ≡ before)
   Says id (Some Quit) was before text now after = ⊥
 
@@ -105,6 +113,13 @@ module _ {P : Type 0} (size : P → ℕ) (sends : P → ℕ → ℕ → P → Ty
   abbrev pub Gets : DeskId → Option SiteCommand → SeatedValue → P → Option (List ℕ) → SeatedValue → P → Type 0
   Gets id command was before (Some text) now after = Says id command was before text now after
   Gets id command was before None now after = (command ≡ Some Quit) × (now ≡ was) × (after ≡ before)
+
+  -- the same for a line, by the command that it spells at a time that the site's own clock may show
+  pub record GetsLine (shows : Option ℕ → Type 0) (id : DeskId) (line : List ℕ) (was : SeatedValue) (before : P)
+      (text : Option (List ℕ)) (now : SeatedValue) (after : P) : Type 0 where
+    pub time : Option ℕ
+    pub shown : shows time
+    pub gets : Gets id (asked time line) was before text now after
 
   -- the same, for replies that wait to be written
   abbrev pub GetsBy : Goes → DeskId → Option SiteCommand → SeatedValue → P → Waiting → SeatedValue → P → Waiting → Type 0

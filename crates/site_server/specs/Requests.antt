@@ -36,7 +36,8 @@ module _ (is_turn : Option SiteCommand → List ℕ → List Turn → Type 0) wh
   AreTurnsOf [] [] turns = turns ≡ []
   AreTurnsOf (line ∷ lines) (reply ∷ replies) turns =
       (first : List Turn) × (rest : List Turn)
-      × is_turn (asked line) reply first × AreTurnsOf lines replies rest × (turns ≡ first ++ rest)
+      × ((time : Option ℕ) × is_turn (asked time line) reply first) × AreTurnsOf lines replies rest
+      × (turns ≡ first ++ rest)
   AreTurnsOf lines replies turns = ⊥
 
   -- the first of these lines were carried out, and the response has their replies; after them at most a refusal for

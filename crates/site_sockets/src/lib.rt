@@ -19,6 +19,7 @@ mod polling;
 mod sending;
 mod shutdown_handle;
 mod site;
+mod site_clock;
 mod tick_notifier;
 
 pub use acceptor::begin_acceptor;
@@ -31,4 +32,5 @@ pub use peer::{PeerLines, PeerState};
 pub use peer_reader::PeerReader;
 pub use sending::begin_sender;
 pub use site::SiteSockets;
+pub use site_clock::SiteClock;
 pub use tick_notifier::TickNotifier;

@@ -6,6 +6,7 @@ use crate::clients::{Clients, wake};
 use crate::connection_pool::ConnectionPool;
 use crate::peer::{PeerState, event_log, peers_of};
 use crate::sending::Senders;
+use crate::site_clock::SiteClock;
 use crate::tick_notifier::TickNotifier;
 use log_lines::LogQueue;
 use rights_types::{OutOfMemory, SiteId};
@@ -43,6 +44,7 @@ pub struct SiteSockets {
     /// Accepts clients, if any may connect.
     pub clients: Option<Clients>,
     pub tick_notifier: TickNotifier,
+    pub clock: SiteClock,
     /// Counters of the commands that were answered.
     pub commands: Counters,
     /// The log lines that wait to be written.
@@ -81,6 +83,7 @@ impl SiteSockets {
             senders: Senders::new(),
             clients,
             tick_notifier: TickNotifier::new(),
+            clock: SiteClock::new(config.tick().is_some()),
             commands: Counters::new(),
             log,
             out_of_memory: AtomicBool::new(false),

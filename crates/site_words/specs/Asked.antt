@@ -55,6 +55,12 @@ abbrev pub asks_for_version : List Text → Bool
 asks_for_version [] = false
 asks_for_version (word ∷ rest) = bytes_eq word (codes "--version") || bytes_eq word (codes "-V")
 
+-- `help` is the only word
+abbrev pub is_help_word : List Text → Bool
+is_help_word (word ∷ []) = bytes_eq word (codes "help")
+is_help_word words = false
+
 -- what all the words ask for
 abbrev pub asked_by : List Text → Asked
-asked_by words = if asks_for_version words then version else asked_of_clap words
+asked_by words =
+    if asks_for_version words then version else (if is_help_word words then help else asked_of_clap words)

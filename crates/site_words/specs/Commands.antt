@@ -1,15 +1,18 @@
--- The command of a site that a line spells, by the words of the line.
-use Rattle.std.specs.Prelude.{ℕ, List, [], ◌∷◌, Option, Some, None, codes}
-use Rattle.entry_codec.specs.Moves.{◌>>=◌}
+-- The command of a site that a line spells, by the words of the line. The time is what the site's own clock shows; a
+-- site has none that does not tick itself.
+use Rattle.std.specs.Prelude.{ℕ, ◌+◌, ◌-◌, ◌^◌, ◌==◌, min, List, [], ◌∷◌, Option, Some, None, codes, option_map}
+use Rattle.std.specs.Prelude.{if◌then◌else◌}
+use Rattle.entry_codec.specs.Moves.{◌>>=◌, number_of}
 use Rattle.line_streams.specs.Words.{words_of, named, alone, first_number, only_number, optional_site, site_and_number}
 use Rattle.site_words.specs.declared.commands.Name.{Name}
 use Rattle.site_words.specs.declared.commands.Name.TheVariants.{Issue as AnIssue, Give as AGive, Spend as ASpend}
 use Rattle.site_words.specs.declared.commands.Name.TheVariants.{Outcome as AnOutcome, Tick as ATick, Status as AStatus}
 use Rattle.site_words.specs.declared.commands.Name.TheVariants.{Close as AClose, Quit as AQuit, Take as ATake}
-use Rattle.site_words.specs.declared.commands.Name.TheVariants.{Cancel as ACancel}
+use Rattle.site_words.specs.declared.commands.Name.TheVariants.{Cancel as ACancel, Queue as AQueue}
 use Rattle.site_words.specs.declared.commands.DeskCommand.TheVariants.{Issue, Give, Spend, Take, Outcome, Cancel, Close}
 use Rattle.site_words.specs.declared.commands.SiteCommand.{SiteCommand}
-use Rattle.site_words.specs.declared.commands.SiteCommand.TheVariants.{AtDesk, Tick, Status, Quit}
+use Rattle.site_words.specs.declared.commands.SiteCommand.TheVariants.{AtDesk, Tick, RefusedTick, Status, Queue, Quit}
+use Rattle.site_words.specs.declared.commands.TheConstants.{MAX_AHEAD}
 
 -- a command by the words after its name
 
@@ -21,12 +24,34 @@ issue_in words = only_number words >>= (λ amount. Some (AtDesk (Issue amount)))
 abbrev pub give_in : List (List ℕ) → Option SiteCommand
 give_in words = site_and_number words >>= (λ gift. Some (AtDesk (Give gift.0 gift.1)))
 
+-- the time that is so many milliseconds later
+abbrev pub later : ℕ → ℕ → ℕ
+later time ahead = min (time + ahead) (2 ^ 64 - 1)
+
+-- .. by the digits of a number of milliseconds, at most a day
+abbrev pub ahead_of : ℕ → List ℕ → Option ℕ
+ahead_of time digits = number_of 0 MAX_AHEAD digits >>= (λ ahead. Some (later time ahead))
+
+-- a deadline: a time; or, at a site with a clock of its own, `+` (43) and how far ahead of its time the deadline is
+abbrev pub deadline_of : Option ℕ → List ℕ → Option ℕ
+deadline_of (Some time) (first ∷ digits) =
+    if first == 43 then ahead_of time digits else number_of 0 (2 ^ 64 - 1) (first ∷ digits)
+deadline_of time word = number_of 0 (2 ^ 64 - 1) word
+
+abbrev pub deadline_in : Option ℕ → List (List ℕ) → Option ℕ
+deadline_in time (word ∷ []) = deadline_of time word
+deadline_in time words = None
+
+-- the latest deadline, at a site with a clock of its own: a day ahead of its time
+abbrev pub latest_at : Option ℕ → Option ℕ
+latest_at = option_map (λ time. later time MAX_AHEAD)
+
 -- the amount and the deadline
-unfoldable pub spend_in : List (List ℕ) → Option SiteCommand
-spend_in words = do
+unfoldable pub spend_in : Option ℕ → List (List ℕ) → Option SiteCommand
+spend_in time words = do
   amount ← first_number words
-  deadline ← only_number amount.1
-  Some (AtDesk (Spend amount.0 deadline))
+  deadline ← deadline_in time amount.1
+  Some (AtDesk (Spend amount.0 deadline (latest_at time)))
 
 -- the amount
 abbrev pub take_in : List (List ℕ) → Option SiteCommand
@@ -39,22 +64,28 @@ outcome_in words = only_number words >>= (λ ticket. Some (AtDesk (Outcome ticke
 abbrev pub cancel_in : List (List ℕ) → Option SiteCommand
 cancel_in words = only_number words >>= (λ ticket. Some (AtDesk (Cancel ticket)))
 
+-- the time of the tick, at a site that has no clock of its own
+abbrev pub tick_by : Option ℕ → ℕ → SiteCommand
+tick_by None at = Tick at
+tick_by (Some time) at = RefusedTick
+
 -- the heir, if any
 abbrev pub close_in : List (List ℕ) → Option SiteCommand
 close_in words = optional_site words >>= (λ heir. Some (AtDesk (Close heir)))
 
--- a command by its name, and the words after the name
-abbrev pub command_by : Name → List (List ℕ) → Option SiteCommand
-command_by AnIssue words = issue_in words
-command_by AGive words = give_in words
-command_by ASpend words = spend_in words
-command_by ATake words = take_in words
-command_by AnOutcome words = outcome_in words
-command_by ACancel words = cancel_in words
-command_by ATick words = only_number words >>= (λ time. Some (Tick time))
-command_by AStatus words = alone Status words
-command_by AClose words = close_in words
-command_by AQuit words = alone Quit words
+-- a command by its name, the time, and the words after the name
+abbrev pub command_by : Name → Option ℕ → List (List ℕ) → Option SiteCommand
+command_by AnIssue time words = issue_in words
+command_by AGive time words = give_in words
+command_by ASpend time words = spend_in time words
+command_by ATake time words = take_in words
+command_by AnOutcome time words = outcome_in words
+command_by ACancel time words = cancel_in words
+command_by ATick time words = only_number words >>= (λ at. Some (tick_by time at))
+command_by AStatus time words = alone Status words
+command_by AQueue time words = alone Queue words
+command_by AClose time words = close_in words
+command_by AQuit time words = alone Quit words
 
 unfoldable pub name_of : List ℕ → Option Name
 name_of text =
@@ -67,14 +98,15 @@ name_of text =
     ∷ (codes "cancel", ACancel)
     ∷ (codes "tick", ATick)
     ∷ (codes "status", AStatus)
+    ∷ (codes "queue", AQueue)
     ∷ (codes "close", AClose)
     ∷ (codes "quit", AQuit) ∷ []
     ) text
 
-abbrev pub command_with : List (List ℕ) → Option SiteCommand
-command_with [] = None
-command_with (first ∷ words) = name_of first >>= (λ name. command_by name words)
+abbrev pub command_with : Option ℕ → List (List ℕ) → Option SiteCommand
+command_with time [] = None
+command_with time (first ∷ words) = name_of first >>= (λ name. command_by name time words)
 
 -- the command of a line without its line feed
-abbrev pub command_of : List ℕ → Option SiteCommand
-command_of line = command_with (words_of line)
+abbrev pub command_of : Option ℕ → List ℕ → Option SiteCommand
+command_of time line = command_with time (words_of line)

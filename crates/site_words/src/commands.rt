@@ -1,13 +1,18 @@
 //! The commands of a running site.
 ghost use Rattle.std.specs.Prelude.{◌≡◌};
 ghost use Rattle.line_streams.specs.Words.{words_left};
-ghost use Rattle.site_words.specs.Commands.{issue_in, give_in, spend_in, take_in};
-ghost use Rattle.site_words.specs.Commands.{outcome_in, cancel_in, close_in, command_by, name_of, command_of};
+ghost use Rattle.site_words.specs.Commands.{issue_in, give_in, spend_in, take_in, ahead_of, deadline_of, deadline_in};
+ghost use Rattle.site_words.specs.Commands.{latest_at, outcome_in, cancel_in, tick_by, close_in, command_by, name_of};
+ghost use Rattle.site_words.specs.Commands.{command_of};
 
+use entry_codec::read_decimal;
 use line_streams::{
     alone, first_number, named, only_number, optional_site, site_and_number, split_word,
 };
 use rights_types::SiteId;
+
+/// How far ahead of a site's own clock a deadline may be, in milliseconds: a day.
+pub const MAX_AHEAD: u64 = 86_400_000;
 
 /// A command that is one call of the desk.
 #[derive(Clone, Copy)]
@@ -16,8 +21,9 @@ pub enum DeskCommand {
     Issue(u64),
     /// Give a peer this many rights.
     Give(SiteId, u64),
-    /// Spend this many rights, at once or by this deadline.
-    Spend(u64, u64),
+    /// Spend this many rights, at once or by this deadline, which may not be later than the last number, if there is
+    /// one.
+    Spend(u64, u64, Option<u64>),
     /// Spend this many rights now, or not at all.
     Take(u64),
     /// Report the outcome of the spend with this ticket.
@@ -35,8 +41,12 @@ pub enum SiteCommand {
     AtDesk(DeskCommand),
     /// Do everything that is due at this time: expire, serve, plan, and send to the peers.
     Tick(u64),
+    /// A tick at a site that has a clock of its own, which refuses it.
+    RefusedTick,
     /// Report the state of the site and of its links.
     Status,
+    /// Report the spends that wait.
+    Queue,
     /// End the program.
     Quit,
 }
@@ -52,11 +62,12 @@ enum Name {
     Cancel,
     Tick,
     Status,
+    Queue,
     Close,
     Quit,
 }
 
-const NAMES: [(&[u8], Name); 10] = [
+const NAMES: [(&[u8], Name); 11] = [
     (b"issue", Name::Issue),
     (b"give", Name::Give),
     (b"spend", Name::Spend),
@@ -65,6 +76,7 @@ const NAMES: [(&[u8], Name); 10] = [
     (b"cancel", Name::Cancel),
     (b"tick", Name::Tick),
     (b"status", Name::Status),
+    (b"queue", Name::Queue),
     (b"close", Name::Close),
     (b"quit", Name::Quit),
 ];
@@ -84,12 +96,52 @@ fn read_give(words: Option<&[u8]>) -> Option<SiteCommand>
 }
 
 #[tactic(auto, unfolding(crate::specs::Commands::spend_in))]
-fn read_spend(words: Option<&[u8]>) -> Option<SiteCommand>
-    ensures { result ≡ spend_in (words_left words.entry) }
+fn read_spend(words: Option<&[u8]>, time: Option<u64>) -> Option<SiteCommand>
+    ensures { result ≡ spend_in time (words_left words.entry) }
 {
     let (amount, words) = first_number(words)?;
-    let deadline = only_number(words)?;
-    Some(SiteCommand::AtDesk(DeskCommand::Spend(amount, deadline)))
+    let deadline = read_deadline(words, time)?;
+    Some(SiteCommand::AtDesk(DeskCommand::Spend(amount, deadline, latest_at(time))))
+}
+
+/// The deadline that the only word spells.
+fn read_deadline(words: Option<&[u8]>, time: Option<u64>) -> Option<u64>
+    ensures { result ≡ deadline_in time (words_left words.entry) }
+{
+    let (word, rest) = split_word(words?);
+    match rest {
+        None => deadline_of(word, time),
+        Some(_) => None,
+    }
+}
+
+/// The deadline that a word spells: a time; or, at a site with a clock of its own, `+` and how many milliseconds ahead
+/// of its time the deadline is.
+fn deadline_of(word: &[u8], time: Option<u64>) -> Option<u64>
+    ensures { result ≡ deadline_of time word.now }
+{
+    match (time, word) {
+        (Some(time), [first, ahead @ ..]) if *first == b'+' => ahead_of(time, ahead),
+        _ => read_decimal(word, 0, u64::MAX),
+    }
+}
+
+/// This time and the milliseconds that the digits spell, which are at most a day.
+fn ahead_of(time: u64, digits: &[u8]) -> Option<u64>
+    ensures { result ≡ ahead_of time digits.now }
+{
+    let ahead = read_decimal(digits, 0, MAX_AHEAD)?;
+    Some(time.saturating_add(ahead))
+}
+
+/// The latest deadline at a site whose own clock shows this time: a day later. None if it has no clock.
+fn latest_at(time: Option<u64>) -> Option<u64>
+    ensures { result ≡ latest_at time }
+{
+    match time {
+        Some(time) => Some(time.saturating_add(MAX_AHEAD)),
+        None => None,
+    }
 }
 
 fn read_take(words: Option<&[u8]>) -> Option<SiteCommand>
@@ -113,6 +165,16 @@ fn read_outcome(words: Option<&[u8]>) -> Option<SiteCommand>
     Some(SiteCommand::AtDesk(DeskCommand::Outcome(ticket)))
 }
 
+/// A tick at a time. A site that has a clock of its own ticks by it alone.
+fn tick_by(time: Option<u64>, at: u64) -> SiteCommand
+    ensures { result ≡ tick_by time at }
+{
+    match time {
+        Some(_) => SiteCommand::RefusedTick,
+        None => SiteCommand::Tick(at),
+    }
+}
+
 fn read_close(words: Option<&[u8]>) -> Option<SiteCommand>
     ensures { result ≡ close_in (words_left words.entry) }
 {
@@ -120,19 +182,20 @@ fn read_close(words: Option<&[u8]>) -> Option<SiteCommand>
     Some(SiteCommand::AtDesk(DeskCommand::Close(heir)))
 }
 
-/// The command with this name, given the words after it.
-fn command_by(name: Name, words: Option<&[u8]>) -> Option<SiteCommand>
-    ensures { result ≡ command_by name (words_left words.entry) }
+/// The command with this name, given the words after it, at a site whose own clock shows this time.
+fn command_by(name: Name, words: Option<&[u8]>, time: Option<u64>) -> Option<SiteCommand>
+    ensures { result ≡ command_by name time (words_left words.entry) }
 {
     match name {
         Name::Issue => read_issue(words),
         Name::Give => read_give(words),
-        Name::Spend => read_spend(words),
+        Name::Spend => read_spend(words, time),
         Name::Take => read_take(words),
         Name::Outcome => read_outcome(words),
         Name::Cancel => read_cancel(words),
-        Name::Tick => Some(SiteCommand::Tick(only_number(words)?)),
+        Name::Tick => Some(tick_by(time, only_number(words)?)),
         Name::Status => alone(SiteCommand::Status, words),
+        Name::Queue => alone(SiteCommand::Queue, words),
         Name::Close => read_close(words),
         Name::Quit => alone(SiteCommand::Quit, words),
     }
@@ -146,10 +209,11 @@ fn name_of(text: &[u8]) -> Option<Name>
 }
 
 /// The command that a line spells, given without its line feed; None if it spells none. Words are separated by single
-/// spaces, and numbers are decimals with no sign and no leading zero.
-pub fn read_command(line: &[u8]) -> Option<SiteCommand>
-    ensures { result ≡ command_of line.now }
+/// spaces, and numbers are decimals with no sign and no leading zero. `time` is what the site's own clock shows, in
+/// milliseconds; None for a site that has none, whose time comes with the ticks of its clients.
+pub fn read_command(line: &[u8], time: Option<u64>) -> Option<SiteCommand>
+    ensures { result ≡ command_of time line.now }
 {
     let (first, words) = split_word(line);
-    command_by(name_of(first)?, words)
+    command_by(name_of(first)?, words, time)
 }

@@ -6,7 +6,7 @@ ghost use Rattle.clap.specs.Simple.{app_of, new_shape, shape_of, subcommand_rows
 ghost use Rattle.clap.specs.Walk.{rows_of, rule_of, texts};
 ghost use Rattle.clap.specs.declared.builder.command.Command.TheViews.{out-Command};
 ghost use Rattle.rights_types.specs.declared.limits.TheConstants.{MIN_SITES, MAX_SITES};
-ghost use Rattle.site_words.specs.Asked.{asked_by, asked_of_clap, asks_for_version};
+ghost use Rattle.site_words.specs.Asked.{asked_by, asked_of_clap, asks_for_version, is_help_word};
 ghost use Rattle.site_words.specs.CommandLine.{app, flag_rule, host_rule, number_rule, option_rule, peer_rule, required_shape};
 ghost use Rattle.site_words.specs.CommandLine.{run_numbers_shape, run_shape, silent_rule, tick_rule, value_rule};
 ghost use Rattle.site_words.specs.Settings.{AreFound, AreInRange, HasFlag, HasNumber, IsFound, MayHaveNumber, Options};
@@ -93,11 +93,13 @@ Commands, one a line on standard input, and their replies:
   issue N      creates N rights             number E   (E: its entry in the log)
   give J N     gives N rights to site J     number E
   spend N T    spends N rights              spent E, or queued K: it waits until time T
+  spend N +M   the same, with --tick        .. until M milliseconds from now
   take N       spends N rights, or fails    spent E
   outcome K    what became of ticket K      waiting, spent E, expired or unknown
   cancel K     ends what waits              as outcome K
-  tick T       does what is due at time T, and sends what is new
+  tick T       does what is due at time T, and sends what is new (not with --tick)
   status       the state of the site, as an object of JSON
+  queue        the spends that wait, as an object of JSON
   close [J]    closes the site; site J gets what it holds
   quit         ends the program
 
@@ -398,7 +400,17 @@ fn read_by_clap(alloc: Global, words: &[&str]) -> Result<Command, WordsFault>
     }
 }
 
-/// Parses the program's words, without its name. `sim` takes no further word, except that one `--` may end its flags,
+/// Whether `help` is the only word.
+fn is_help_word(words: &[&str]) -> bool
+    ensures { result ≡ is_help_word (texts words.now) }
+{
+    match words {
+        [word] => *word == "help",
+        _ => false,
+    }
+}
+
+/// Parses the program's words, without its name. `help` alone stands for `--help`. `sim` takes no further word, except that one `--` may end its flags,
 /// as everywhere in `clap`. `run` is refused if `clap` refuses its words, or if the values that it finds are not a
 /// configuration. The words determine the result, but `OutOfMemory` may come instead of any result except the version.
 /// The help text is made by `clap`, and no contract says what it is.
@@ -407,6 +419,9 @@ pub fn read_words(alloc: Global, words: &[&str]) -> Result<Command, WordsFault>
 {
     if asks_for_version(words) {
         return Ok(Command::Version);
+    }
+    if is_help_word(words) {
+        return read_by_clap(alloc, &["--help"]);
     }
     read_by_clap(alloc, words)
 }

@@ -56,6 +56,8 @@ rights_commands_refused_total{name=\"QueueBusy\"} 0\n\
 rights_commands_refused_total{name=\"HeldTooMuch\"} 0\n\
 rights_commands_refused_total{name=\"TimeWentBack\"} 0\n\
 rights_commands_refused_total{name=\"BadCommand\"} 9\n\
+rights_commands_refused_total{name=\"BadDeadline\"} 6\n\
+rights_commands_refused_total{name=\"OwnClock\"} 0\n\
 # HELP rights_log_lines_dropped_total Log lines that were not written, since the log was not read.\n\
 # TYPE rights_log_lines_dropped_total counter\n\
 rights_log_lines_dropped_total 22\n\

@@ -11,6 +11,7 @@ fn site_metrics() -> Metrics {
     refused[8] = 17;
     refused[9] = 1;
     refused[14] = 9;
+    refused[15] = 6;
     Metrics {
         held: 7,
         queued: 5,
@@ -80,10 +81,12 @@ fn each_value_is_at_its_name(rt: HostRuntime) {
     assert!(rt; is_text(rt.alloc(), &site_metrics(), &peer_metrics(), EXPECTED));
 }
 
-const REPLIES: [(&[u8], Option<usize>); 9] = [
+const REPLIES: [(&[u8], Option<usize>); 11] = [
     (b"error Closed", Some(0)),
     (b"error Short", Some(8)),
     (b"error BadCommand", Some(14)),
+    (b"error BadDeadline", Some(15)),
+    (b"error OwnClock", Some(16)),
     (b"error Short ", None),
     (b"error Shor", None),
     (b"error ", None),

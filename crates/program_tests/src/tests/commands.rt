@@ -8,7 +8,7 @@ type Shown = (&'static str, u64, u64);
 const MOST: u64 = u64::MAX;
 
 /// Lines without their line feeds, and the commands that they spell.
-const COMMANDS: [(&str, Shown); 15] = [
+const COMMANDS: [(&str, Shown); 16] = [
     ("issue 5", ("issue", 5, 0)),
     ("issue 0", ("issue", 0, 0)),
     ("issue 18446744073709551615", ("issue", MOST, 0)),
@@ -21,13 +21,14 @@ const COMMANDS: [(&str, Shown); 15] = [
     ("cancel 12", ("cancel", 12, 0)),
     ("tick 0", ("tick", 0, 0)),
     ("status", ("status", 0, 0)),
+    ("queue", ("queue", 0, 0)),
     ("close", ("close", 0, 0)),
     ("close 16", ("close", 16, 0)),
     ("quit", ("quit", 0, 0)),
 ];
 
 /// Lines that spell no command.
-const OTHERS: [&str; 32] = [
+const OTHERS: [&str; 39] = [
     "issue 18446744073709551616",
     "issue 05",
     "issue +5",
@@ -50,6 +51,11 @@ const OTHERS: [&str; 32] = [
     "spend 3",
     "spend 3 9 1",
     "spend +3 5",
+    "spend 3 +5",
+    "spend 3 +",
+    "spend 3 ",
+    "spend 3  9",
+    "spend 3 9 +1",
     "take",
     "take 1 9",
     "outcome",
@@ -57,6 +63,8 @@ const OTHERS: [&str; 32] = [
     "tick 1 2",
     "status ",
     "status 1",
+    "queue ",
+    "queue 1",
     "close 0",
     "close ",
     "",
@@ -66,7 +74,9 @@ fn shown(command: SiteCommand) -> Shown {
     match command {
         SiteCommand::AtDesk(command) => shown_at_desk(command),
         SiteCommand::Tick(time) => ("tick", time, 0),
+        SiteCommand::RefusedTick => ("refused tick", 0, 0),
         SiteCommand::Status => ("status", 0, 0),
+        SiteCommand::Queue => ("queue", 0, 0),
         SiteCommand::Quit => ("quit", 0, 0),
     }
 }
@@ -75,7 +85,10 @@ fn shown_at_desk(command: DeskCommand) -> Shown {
     match command {
         DeskCommand::Issue(amount) => ("issue", amount, 0),
         DeskCommand::Give(peer, amount) => ("give", peer.number(), amount),
-        DeskCommand::Spend(amount, deadline) => ("spend", amount, deadline),
+        DeskCommand::Spend(amount, deadline, None) => ("spend", amount, deadline),
+        DeskCommand::Spend(amount, deadline, Some(latest)) => {
+            ("spend by", amount, latest.wrapping_sub(deadline))
+        }
         DeskCommand::Take(amount) => ("take", amount, 0),
         DeskCommand::Outcome(ticket) => ("outcome", ticket, 0),
         DeskCommand::Cancel(ticket) => ("cancel", ticket, 0),
@@ -83,24 +96,85 @@ fn shown_at_desk(command: DeskCommand) -> Shown {
     }
 }
 
-fn is_read_as(line: &str, expected: Shown) -> bool {
-    match read_command(line.as_bytes()) {
+/// Lines at a site whose own clock shows `NOW`, and the commands that they spell: for a spend, how long before the
+/// latest deadline its own is.
+const TIMED: [(&str, Shown); 11] = [
+    ("spend 3 +0", ("spend by", 3, DAY)),
+    ("spend 3 +1", ("spend by", 3, DAY - 1)),
+    ("spend 0 +86400000", ("spend by", 0, 0)),
+    ("spend 3 5", ("spend by", 3, NOW + DAY - 5)),
+    ("spend 3 0", ("spend by", 3, NOW + DAY)),
+    (
+        "spend 3 18446744073709551615",
+        ("spend by", 3, NOW + DAY + 1),
+    ),
+    ("tick 5", ("refused tick", 0, 0)),
+    ("tick 0", ("refused tick", 0, 0)),
+    ("take 4", ("take", 4, 0)),
+    ("queue", ("queue", 0, 0)),
+    ("quit", ("quit", 0, 0)),
+];
+
+const NOW: u64 = 1_000_000_000_000;
+
+const DAY: u64 = 86_400_000;
+
+/// Lines that spell no command there.
+const OTHERS_TIMED: [&str; 15] = [
+    "spend 3 +86400001",
+    "spend 3 +",
+    "spend 3 ++5",
+    "spend 3 +-5",
+    "spend 3 +05",
+    "spend 3 + 5",
+    "spend 3 +5 ",
+    "spend 3 +5 6",
+    "spend +3 +5",
+    "spend 3 5+",
+    "spend 3",
+    "spend 3 ",
+    "take +4",
+    "tick",
+    "tick +5",
+];
+
+fn is_read_as(line: &str, time: Option<u64>, expected: Shown) -> bool {
+    match read_command(line.as_bytes(), time) {
         Some(command) => shown(command) == expected,
         None => false,
     }
 }
 
-fn is_refused(line: &str) -> bool {
-    read_command(line.as_bytes()).is_none()
+fn is_refused(line: &str, time: Option<u64>) -> bool {
+    read_command(line.as_bytes(), time).is_none()
 }
 
 /// Each line spells its command, and no other line spells any.
 #[test]
 fn lines_ask_for_commands(rt: HostRuntime) {
     for (line, expected) in COMMANDS {
-        assert!(rt; is_read_as(line, expected), "at {line:?}");
+        assert!(rt; is_read_as(line, None, expected), "at {line:?}");
     }
     for line in OTHERS {
-        assert!(rt; is_refused(line), "at {line:?}");
+        assert!(rt; is_refused(line, None), "at {line:?}");
     }
+}
+
+/// The same at a site with a clock of its own.
+#[test]
+fn lines_ask_for_commands_by_the_clock(rt: HostRuntime) {
+    for (line, expected) in TIMED {
+        assert!(rt; is_read_as(line, Some(NOW), expected), "at {line:?}");
+    }
+    for line in OTHERS_TIMED {
+        assert!(rt; is_refused(line, Some(NOW)), "at {line:?}");
+    }
+}
+
+/// A deadline too large for a number is the largest.
+#[test]
+fn deadlines_end_at_the_largest_number(rt: HostRuntime) {
+    let late = MOST - 10;
+    assert!(rt; is_read_as("spend 3 +5", Some(late), ("spend by", 3, 5)));
+    assert!(rt; is_read_as("spend 3 +20", Some(late), ("spend by", 3, 0)));
 }

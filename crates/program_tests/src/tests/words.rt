@@ -50,11 +50,13 @@ Commands, one a line on standard input, and their replies:
   issue N      creates N rights             number E   (E: its entry in the log)
   give J N     gives N rights to site J     number E
   spend N T    spends N rights              spent E, or queued K: it waits until time T
+  spend N +M   the same, with --tick        .. until M milliseconds from now
   take N       spends N rights, or fails    spent E
   outcome K    what became of ticket K      waiting, spent E, expired or unknown
   cancel K     ends what waits              as outcome K
-  tick T       does what is due at time T, and sends what is new
+  tick T       does what is due at time T, and sends what is new (not with --tick)
   status       the state of the site, as an object of JSON
+  queue        the spends that wait, as an object of JSON
   close [J]    closes the site; site J gets what it holds
   quit         ends the program
 
@@ -64,8 +66,9 @@ Example, one site of two, which ticks by itself and also serves HTTP:
 ";
 
 /// Each line of words that asks for help, and the text.
-const HELPS: [(&str, &str); 9] = [
+const HELPS: [(&str, &str); 10] = [
     ("--help", HELP),
+    ("help", HELP),
     ("-h x", HELP),
     ("-h run", HELP),
     ("sim --help", SIM_HELP),
@@ -128,7 +131,7 @@ const OTHER_WORDS: [&str; 16] = [
     "run --id 1",
     "run sim",
     "-- run --id 1 --sites 2 --listen a 2=b",
-    "help",
+    "help sim",
     "--help=sim",
     "--version=1",
     "-v",

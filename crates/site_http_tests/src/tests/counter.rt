@@ -87,6 +87,8 @@ impl Backend for Counter {
 
     ghost status = { λ client text. ⊤ };
 
+    ghost queue = { λ client text. ⊤ };
+
     ghost metrics = { λ client text. ⊤ };
 
     ghost closed = { λ client is_closed. ⊤ };
@@ -110,6 +112,10 @@ impl Backend for Counter {
 
     fn put_status(&self, replies: &mut Replies<Global>) -> Result<(), OutOfMemory> {
         put_line(replies, b"{\"held\":0}")
+    }
+
+    fn put_queue(&self, replies: &mut Replies<Global>) -> Result<(), OutOfMemory> {
+        put_line(replies, b"{\"requests\":[],\"unread\":0}")
     }
 
     fn put_metrics(&self, replies: &mut Replies<Global>) -> Result<(), OutOfMemory> {

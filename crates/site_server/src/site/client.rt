@@ -1,15 +1,15 @@
 //! The replies to a client of a site. site_node decides what is done and replied; this module decides under which
 //! lock of the desk it is done.
-ghost use Rattle.std.specs.Prelude.{◌≡◌, ◌++◌, ◌+◌, ◌≤◌, ◌⊎◌, List, ℕ, [], length, IfOk, OnOk, OnErr, Result, Ok};
+ghost use Rattle.std.specs.Prelude.{◌≡◌, ◌++◌, ◌+◌, ◌≤◌, ◌⊎◌, List, ℕ, [], length, IfOk, OnOk, OnErr, Option, Result, Ok};
 ghost use Rattle.std.specs.Io.KnownBytes.{IsAtEnd};
 ghost use Rattle.line_streams.specs.Handling.{IsGiven};
 ghost use Rattle.line_streams.specs.Talk.{Talk, EndsBy};
 ghost use Rattle.line_streams.specs.Waiting.{AddsReply};
-ghost use Rattle.reply_texts.specs.Texts.{bad_command};
+ghost use Rattle.reply_texts.specs.Texts.{bad_command, own_clock};
 ghost use Rattle.site_words.specs.Status.{status_text};
 ghost use Rattle.desk_turns.specs.Seated.{ActsAtDesk, TicksAtDesk};
 ghost use Rattle.site_server.specs.Replying.{asked, CarriesOut, AreOfPeers, AreViews};
-ghost use Rattle.site_server.specs.Replying.{TellsStatus, TicksAndSends, DoesDue, Gets, GetsBy};
+ghost use Rattle.site_server.specs.Replying.{TellsStatus, TellsQueue, TicksAndSends, DoesDue, GetsBy, GetsLine};
 ghost use Rattle.site_server.specs.Conversations.{CountsReplies};
 
 use crate::site::outboxes::Outboxes;
@@ -17,10 +17,12 @@ use crate::site::tick_signal::{SiteTickSignal, TickSignal};
 use apply_lanes::{DeskNames, DeskView};
 use desk_turns::{Seated, Seats};
 use line_streams::{ConversationError, EndedBy, Goes, LineHandler, Replies, answer_lines};
-use reply_texts::{REPLY_ROOM, put_bad_command};
+use reply_texts::{REPLY_ROOM, put_bad_command, put_own_clock};
 use rights_types::OutOfMemory;
 use site_core::{Desk, DeskError};
-use site_node::{Peers, Reply, TICK_ROOM, Ticked, answer_reply, answer_tick, send_to_all};
+use site_node::{
+    Peers, Reply, TICK_ROOM, Ticked, answer_queue, answer_reply, answer_tick, send_to_all,
+};
 use site_sockets::{PeerState, SiteSockets};
 use site_words::{DeskCommand, PeerView, SiteCommand, read_command, status_text};
 use std::alloc::{Allocator, Global};
@@ -73,17 +75,17 @@ pub(crate) fn client_at<'a, D: DeskNames, R: Wait + Clock + AllocGlobal>(
     index: usize,
 ) -> Option<ClientOf<'a, D, R>> {
     let peers = Outboxes::new(rt, seats.turns()?, site.peers())?;
-    let signal = SiteTickSignal::new(rt, &site.tick_notifier);
+    let signal = SiteTickSignal::new(rt, site);
     let seat = seats.sit(index)?;
     Some(SiteClient::new(rt, rt.alloc(), site, index, seat, peers, signal))
 }
 
-/// The command that a line spells, which is passed without its line feed; `None` is passed for a line that is too
-/// long.
-pub(crate) fn command_in(text: Option<&[u8]>) -> Option<SiteCommand>
-    ensures { (line : List ℕ) → IsGiven line text.entry → result ≡ asked line }
+/// The command that a line spells, which is passed without its line feed, at a site whose own clock shows this time;
+/// `None` is passed for a line that is too long.
+fn command_in(text: Option<&[u8]>, time: Option<u64>) -> Option<SiteCommand>
+    ensures { (line : List ℕ) → IsGiven line text.entry → result ≡ asked time line }
 {
-    read_command(text?)
+    read_command(text?, time)
 }
 
 /// Adds the reply to a line that is no command.
@@ -93,6 +95,16 @@ pub(crate) fn refuse<A: Allocator>(replies: &mut Replies<A>) -> Result<(), OutOf
     ensures err { OnErr result (replies.new.whole ≡ replies.old.whole) }
 {
     put_bad_command(replies)?;
+    replies.finish()
+}
+
+/// Adds the reply to a tick at a site that ticks itself.
+fn refuse_tick<A: Allocator>(replies: &mut Replies<A>) -> Result<(), OutOfMemory>
+    requires { replies.old.part ≡ [] }
+    ensures ok { OnOk result (AddsReply replies.old replies.new own_clock) }
+    ensures err { OnErr result (replies.new.whole ≡ replies.old.whole) }
+{
+    put_own_clock(replies)?;
     replies.finish()
 }
 
@@ -161,8 +173,8 @@ impl<'a, D: DeskNames, R: Wait, P: Peers + Drop, B: TickSignal + Drop> SiteClien
         writer: &mut W,
     ) -> Result<EndedBy, ConversationError>
         ensures ends { (talk : Talk
-            (λ before line text after. Gets P.size P.sends P.stops D.id (asked line) before.seat before.peers text
-            after.seat after.peers)
+            (λ before line text after. GetsLine P.size P.sends P.stops (B.shows before.signal) D.id line before.seat
+            before.peers text after.seat after.peers)
             self.old (I.remaining reader.old) (I.remaining reader.new) (W.contents writer.old) (W.contents writer.new))
             × EndsBy result talk × CountsReplies self.old.seat.told talk.lines talk.replies
             self.new.seat.told }
@@ -256,6 +268,29 @@ impl<'a, D: DeskNames, R: Wait, P: Peers + Drop, B: TickSignal + Drop> SiteClien
         add_status(self.alloc, &desk, peers.as_slice(), replies)
     }
 
+    /// Adds the report of the spends that wait.
+    pub(crate) fn tell_queue<A: Allocator>(
+        &self,
+        replies: &mut Replies<A>,
+    ) -> Result<(), OutOfMemory>
+        requires { replies.old.part ≡ [] }
+        ensures ok { OnOk result ((text : List ℕ) × TellsQueue D.id text × AddsReply replies.old replies.new text) }
+        ensures err { OnErr result (replies.new.whole ≡ replies.old.whole) }
+    {
+        let look = self.seat.look(self.rt);
+        let desk = look.kept().desk();
+        answer_queue(replies, desk.requests(), desk.outcomes_unread() as u64)
+    }
+
+    /// The command that a line spells now, which is passed without its line feed; `None` is passed for a line that is
+    /// too long.
+    pub(crate) fn command_in(&self, text: Option<&[u8]>) -> Option<SiteCommand>
+        ensures { (line : List ℕ) → IsGiven line text.entry
+            → (time : Option ℕ) × B.shows self.now.signal time × (result ≡ asked time line) }
+    {
+        command_in(text, self.signal.time())
+    }
+
     /// The views of the desk and of its peers.
     pub(crate) fn views(&self) -> Result<(DeskView, Vec<PeerView>), OutOfMemory>
         ensures { IfOk result (λ views. AreViews D.id views.0 views.1.items) }
@@ -288,7 +323,9 @@ impl<'a, D: DeskNames, R: Wait, P: Peers + Drop, B: TickSignal + Drop> SiteClien
             None => refuse(replies)?,
             Some(SiteCommand::AtDesk(command)) => self.carry_out(command, replies)?,
             Some(SiteCommand::Tick(time)) => self.tick(time, replies)?,
+            Some(SiteCommand::RefusedTick) => refuse_tick(replies)?,
             Some(SiteCommand::Status) => self.tell_status(replies)?,
+            Some(SiteCommand::Queue) => self.tell_queue(replies)?,
             Some(SiteCommand::Quit) => return Ok(Goes::Ends),
         }
         Ok(Goes::On)
@@ -297,10 +334,10 @@ impl<'a, D: DeskNames, R: Wait, P: Peers + Drop, B: TickSignal + Drop> SiteClien
 
 impl<D: DeskNames, R: Wait, P: Peers + Drop, B: TickSignal + Drop> LineHandler
     for SiteClient<'_, D, R, P, B> {
-    ghost use Rattle.site_server.specs.Replying.{asked, Gets};
+    ghost use Rattle.site_server.specs.Replying.{GetsLine};
 
-    ghost answers = { λ before line text after. Gets P.size P.sends P.stops D.id (asked line) before.seat before.peers text
-        after.seat after.peers };
+    ghost answers = { λ before line text after. GetsLine P.size P.sends P.stops (B.shows before.signal) D.id line
+        before.seat before.peers text after.seat after.peers };
 
     // No command was carried out whose reply had no room.
     ghost fails = { λ before after. (after.seat ≡ before.seat) × (after.peers ≡ before.peers) };
@@ -316,7 +353,8 @@ impl<D: DeskNames, R: Wait, P: Peers + Drop, B: TickSignal + Drop> LineHandler
         replies: &mut Replies<A>,
     ) -> Result<Goes, OutOfMemory> {
         let before = replies.whole().len();
-        let goes = self.answer_command(command_in(text), replies)?;
+        let command = self.command_in(text);
+        let goes = self.answer_command(command, replies)?;
         if let Some(reply) = replies.whole().get(before..) {
             self.count_reply(reply);
         }

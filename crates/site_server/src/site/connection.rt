@@ -3,7 +3,7 @@ ghost use Rattle.std.specs.Prelude.{◌≡◌, ◌+◌, ◌≤◌, ◌⊎◌, []
 ghost use Rattle.line_streams.specs.Waiting.{AddsReply};
 ghost use Rattle.site_server.specs.Connections.{Tells, TellsSettled, TellsBy};
 
-use crate::site::client::{SiteClient, command_in, refuse};
+use crate::site::client::{SiteClient, refuse};
 use crate::site::tick_signal::TickSignal;
 use apply_lanes::DeskNames;
 use line_streams::Replies;
@@ -87,13 +87,15 @@ impl<D: DeskNames, R: Wait, P: Peers + Drop, B: TickSignal + Drop> SiteClient<'_
 
 impl<D: DeskNames, R: Wait, P: Peers + Drop, B: TickSignal + Drop> Backend
     for SiteClient<'_, D, R, P, B> {
-    ghost use Rattle.site_server.specs.Replying.{TellsStatus};
+    ghost use Rattle.site_server.specs.Replying.{TellsQueue, TellsStatus};
     ghost use Rattle.site_server.specs.Connections.{Answers};
     ghost use Rattle.site_server.specs.Measuring.{TellsMetrics, TellsClosed};
 
-    ghost answers = { Answers P.size P.sends P.stops B.has_ended D.id };
+    ghost answers = { Answers P.size P.sends P.stops B.has_ended B.shows D.id };
 
     ghost status = { λ _ text. TellsStatus D.id text };
+
+    ghost queue = { λ _ text. TellsQueue D.id text };
 
     ghost metrics = { λ _ text. TellsMetrics D.id text };
 
@@ -105,7 +107,8 @@ impl<D: DeskNames, R: Wait, P: Peers + Drop, B: TickSignal + Drop> Backend
         text: Option<&[u8]>,
         replies: &mut Replies<Global>,
     ) -> Result<(), OutOfMemory> {
-        self.tell_by(waits, command_in(text), replies)?;
+        let command = self.command_in(text);
+        self.tell_by(waits, command, replies)?;
         self.count_reply(replies.whole());
         Ok(())
     }
@@ -116,6 +119,10 @@ impl<D: DeskNames, R: Wait, P: Peers + Drop, B: TickSignal + Drop> Backend
 
     fn put_status(&self, replies: &mut Replies<Global>) -> Result<(), OutOfMemory> {
         self.tell_status(replies)
+    }
+
+    fn put_queue(&self, replies: &mut Replies<Global>) -> Result<(), OutOfMemory> {
+        self.tell_queue(replies)
     }
 
     fn put_metrics(&self, replies: &mut Replies<Global>) -> Result<(), OutOfMemory> {

@@ -42,7 +42,7 @@ fn answer_requests<
     reader: &mut I,
     writer: &mut W,
 ) -> SiteClient<'a, D, R, P, B>
-    ensures { (talk : Conversed (Responded P.size P.sends P.stops B.has_ended D.id (map string_bytes names.now))
+    ensures { (talk : Conversed (Responded P.size P.sends P.stops B.has_ended B.shows D.id (map string_bytes names.now))
         (I.remaining reader.old) (I.remaining reader.new) (W.contents writer.old)
         (W.contents writer.new) client.entry result)
         × CountsCalls (map string_bytes names.now) client.entry.seat.told talk.history.calls result.seat.told }

@@ -1,13 +1,23 @@
-//! Notifies threads that a tick was done.
-ghost use Rattle.std.specs.Prelude.{◌≡◌, IfNone};
+//! Notifies threads that a tick was done, and of the site's time.
+ghost use Rattle.std.specs.Prelude.{◌≡◌, ℕ, Option, IfNone};
 
-use site_sockets::TickNotifier;
+use crate::site::ticking::milliseconds;
+use site_sockets::{SiteClock, SiteSockets, TickNotifier};
 use std::sync::Wait;
+use std::time::Clock;
 
 /// Notifies the threads that wait that a tick was done. A tick decides spends that wait.
 pub(crate) trait TickSignal {
     /// The site has ended: no thread waits for a tick any more.
     ghost has_ended: { Self → Type 0 };
+
+    /// The site's own clock may show this time; None for a site that does not tick itself.
+    ghost shows: { Self → Option ℕ → Type 0 };
+
+    /// What the site's own clock shows, in milliseconds since 1970: the time of its last tick, or the wall clock before
+    /// the first one. None for a site that does not tick itself.
+    fn time(&self) -> Option<u64>
+        ensures { shows self.now result };
 
     /// How many ticks were done; passed to `next`.
     fn count(&self) -> u64;
@@ -20,21 +30,38 @@ pub(crate) trait TickSignal {
         ensures { IfNone result (has_ended self.now) };
 }
 
-/// The ticks of a site. Its lock hides whether the site has ended.
+/// The ticks of a site. Their lock hides whether the site has ended, and the clock when it ticked last.
 #[derive(Drop)]
-pub(crate) struct SiteTickSignal<'a, R: Wait> {
+pub(crate) struct SiteTickSignal<'a, R: Wait + Clock> {
     rt: &'a R,
     tick_notifier: &'a TickNotifier,
+    clock: &'a SiteClock,
 }
 
-impl<'a, R: Wait> SiteTickSignal<'a, R> {
-    pub(crate) fn new(rt: &'a R, tick_notifier: &'a TickNotifier) -> SiteTickSignal<'a, R> {
-        SiteTickSignal { rt, tick_notifier }
+impl<'a, R: Wait + Clock> SiteTickSignal<'a, R> {
+    pub(crate) fn new(rt: &'a R, site: &'a SiteSockets) -> SiteTickSignal<'a, R> {
+        SiteTickSignal {
+            rt,
+            tick_notifier: &site.tick_notifier,
+            clock: &site.clock,
+        }
     }
 }
 
-impl<R: Wait> TickSignal for SiteTickSignal<'_, R> {
+impl<R: Wait + Clock> TickSignal for SiteTickSignal<'_, R> {
     ghost has_ended = { λ _. Unit {0} };
+
+    ghost shows = { λ _ time. Unit {0} };
+
+    fn time(&self) -> Option<u64> {
+        if !self.clock.is_own() {
+            return None;
+        }
+        match self.clock.last() {
+            0 => Some(milliseconds(self.rt).unwrap_or(0)),
+            last => Some(last),
+        }
+    }
 
     fn count(&self) -> u64 {
         self.tick_notifier.count(self.rt)

@@ -12,7 +12,7 @@ use std::thread::Scope;
 use std::time::{Clock, Duration, SystemTime, UNIX_EPOCH};
 
 /// The milliseconds since 1970. `None` if the clock cannot be read.
-fn milliseconds<R: Clock>(rt: &R) -> Option<u64> {
+pub(crate) fn milliseconds<R: Clock>(rt: &R) -> Option<u64> {
     let now = SystemTime::now(rt).ok()?;
     let since = now.duration_since(UNIX_EPOCH).ok()?;
     u64::try_from(since.as_millis()).ok()
@@ -34,6 +34,7 @@ impl<D: DeskNames, R: Wait + Clock, P: Peers + Drop, B: TickSignal + Drop> SiteC
                 return;
             }
             if let Some(now) = milliseconds(rt) {
+                site.clock.note(now);
                 self.tick_alone(now);
             }
         }

@@ -7,5 +7,5 @@ returns-clause-ends g c =
       ends.0,
       ends.1,
       counts_replies g.P.Peers.size g.P.Peers.sends g.P.Peers.stops g.D.DeskNames.id (λ s. s.seat)
-          (λ s. s.peers) c.args.self.now c.answer_lines.new.handler c.answer_lines.result ends.0 ends.2,
+          (λ s. s.peers) (λ s. g.B.TickSignal.shows s.signal) c.args.self.now c.answer_lines.new.handler c.answer_lines.result ends.0 ends.2,
     )
