@@ -5,6 +5,7 @@ use Rattle.std.proofs.lemmas.Bool.{le-leb, lt-leb}
 use Rattle.std.proofs.lemmas.List.{take_at}
 use Rattle.std.specs.Option.{option_map}
 use Rattle.std.specs.Borrow.{Bor}
+use Rattle.rights_types.specs.declared.limits.TheConstants.{MAX_LINE}
 use Rattle.rights_types.specs.declared.moves.Move.{Move}
 use Rattle.entry_codec.specs.Moves.{◌>>=◌, move_of}
 use Rattle.std.specs.List.{join_with_byte}
@@ -66,15 +67,15 @@ take_memory word rest words (Ok x) is h = tt
 take_memory word rest words (Err e) is h = ((word, rest), is, h)
 
 module _ {A : Type 0} (line : List ℕ) where
-  pub short_line : (text : List ℕ) → line ≡ text ++ 10 ∷ [] → length line ≤ 16384
+  pub short_line : (text : List ℕ) → line ≡ text ++ 10 ∷ [] → length line ≤ MAX_LINE
       → command_of {A = A} line ≡ command_in text
   unfolding command_of
   short_line text ended short =
       let front : take (length line - 1) line ≡ text =
       ap (λ (l : List ℕ). take (length line - 1) l) ended
       ∙ take_at text (10 ∷ []) (length line - 1) (omega (arith, ap length ended, length-append text (10 ∷ []))) in
-      rw (le-leb (length line) 16384 short, front) refl
+      rw (le-leb (length line) MAX_LINE short, front) refl
 
-  pub long_line : 16384 < length line → command_of {A = A} line ≡ None
+  pub long_line : MAX_LINE < length line → command_of {A = A} line ≡ None
   unfolding command_of
-  long_line many = rw (lt-leb (length line) 16384 many) refl
+  long_line many = rw (lt-leb (length line) MAX_LINE many) refl
