@@ -1,5 +1,4 @@
 mod CallLaws
-mod LineLaws
 mod SendLaws
 mod SettleLaws
 mod ConfirmedLaws
