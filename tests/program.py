@@ -4,6 +4,7 @@ import glob
 import os
 import pty
 import shutil
+import socket
 import subprocess
 import sys
 import tempfile
@@ -137,6 +138,17 @@ def addresses_that_are_none():
     refused("cannot listen", 1, "run", "--id", "1", "--sites", "2", "--listen", "", "2=a")
 
 
+def an_address_that_is_taken_is_named():
+    """With the system's reason, where events are logged."""
+    with socket.create_server(("127.0.0.1", 0)) as server:
+        taken = at(server.getsockname()[1])
+        for listen, http in ((taken, "127.0.0.1:0"), ("127.0.0.1:0", taken)):
+            words = ["run", "--id", "1", "--sites", "2", "--listen", listen, "--http", http, "2=127.0.0.1:1"]
+            refused("cannot listen", 1, *words)
+            why = f"rights-site: cannot listen on {taken}: Address already in use (os error 98)\n".encode()
+            refused("cannot listen", 1, *words, "--log", why=why)
+
+
 def streams_that_fail():
     with open("/dev/full", "wb") as full:
         folder = os.open(TOP, os.O_RDONLY)
@@ -203,7 +215,7 @@ CASES = [
     case_of_pairs("Examples", [(os.path.basename(path)[:-7], lambda path=path: example_fault(path)) for path in EXAMPLES]),
     case("Program", [
         no_commands_need_no_reply, bad_command_lines, bad_command_lines_are_explained, a_terminal_is_told_why,
-        addresses_that_cannot_be_meant, addresses_that_are_none, streams_that_fail, help_texts, the_version,
+        addresses_that_cannot_be_meant, addresses_that_are_none, an_address_that_is_taken_is_named, streams_that_fail, help_texts, the_version,
         a_clone_answers_before_it_is_built, the_page_is_compiled_in, sales,
     ]),
 ]  # fmt: skip

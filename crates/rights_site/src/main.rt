@@ -3,10 +3,12 @@
 
 use rights_program::run_given;
 use site_server::run_site;
+use site_words::SiteFault;
 use std::io::IsTerminal;
 use std::process::ExitCode;
+use std::sync::atomic::{AtomicBool, Ordering};
 use timed_streams::TimedStream;
-use word_notes::{explain_refusal, note_peers};
+use word_notes::{explain_listening, explain_refusal, note_peers};
 
 /// How many milliseconds a running site waits for input before it looks whether it can continue.
 const INPUT_MILLISECONDS: u16 = 200;
@@ -19,6 +21,7 @@ const CAUSE_MILLISECONDS: u16 = 500;
 
 fn main(rt: HostRuntime) -> ExitCode {
     let is_terminal = rt.stderr().is_terminal();
+    let cannot_listen = AtomicBool::new(false);
     let ended = run_given(
         rt.alloc(),
         |config, reader, writer| {
@@ -31,16 +34,22 @@ fn main(rt: HostRuntime) -> ExitCode {
                     &mut TimedStream::new(rt.stderr(), CAUSE_MILLISECONDS),
                 );
             }
-            run_site(&rt, config, &mut reader, writer, log)
+            let ended = run_site(&rt, config, &mut reader, writer, log);
+            if matches!(ended, Err(SiteFault::CannotListen)) {
+                cannot_listen.store(true, Ordering::Relaxed);
+            }
+            ended
         },
         &rt,
         &mut rt.stdin(),
         &mut rt.stdout(),
         &mut TimedStream::new(rt.stderr(), CAUSE_MILLISECONDS),
     );
+    let mut errors = TimedStream::new(rt.stderr(), CAUSE_MILLISECONDS);
     if ended.status == 2 {
-        let mut errors = TimedStream::new(rt.stderr(), CAUSE_MILLISECONDS);
         explain_refusal(&rt, is_terminal, &mut errors);
+    } else if cannot_listen.load(Ordering::Relaxed) {
+        explain_listening(&rt, is_terminal, &mut errors);
     }
     ExitCode::from(ended.status)
 }

@@ -8,5 +8,5 @@ mod options;
 mod reading;
 
 pub use explanation::{Explanation, USAGE};
-pub use notes::{explain_refusal, is_due, note_peers};
+pub use notes::{explain_listening, explain_refusal, is_due, note_peers};
 pub use reading::explain;

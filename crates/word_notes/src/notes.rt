@@ -3,11 +3,12 @@ use crate::explanation::{Explanation, USAGE};
 use crate::options::known;
 use crate::reading::explain;
 use line_streams::write_whole;
-use site_words::{Config, PeerAddress};
+use site_words::{Command, Config, PeerAddress, read_words};
 use std::alloc::{AllocError, Global};
-use std::env;
 use std::env::Env;
 use std::io::Write;
+use std::net::{Net, TcpListener, TcpStream};
+use std::{env, io};
 
 /// Whether refused words are explained: someone reads standard error at a terminal, or asked for log lines; or a word
 /// is used that is none of the first ones, for which nothing but one line may be printed.
@@ -47,26 +48,73 @@ fn is_other(word: &str) -> bool {
     }
 }
 
-/// Prints why the words of this process are refused, if that is due. If a memory request is refused, nothing.
-pub fn explain_refusal<R: Env + AllocGlobal, W: Write>(rt: &R, is_terminal: bool, errors: &mut W) {
-    let alloc = rt.alloc();
-    let Ok(given) = env::args(rt) else {
-        return;
-    };
-    let given: Result<Vec<String>, AllocError> = given.collect(alloc);
-    let Ok(given) = given else {
-        return;
-    };
+/// The words of this process. `None` if one is not UTF-8 text, or memory for them was refused.
+fn given_words<R: Env + AllocGlobal>(rt: &R) -> Option<Vec<String>> {
+    let given: Result<Vec<String>, AllocError> = env::args(rt).ok()?.collect(rt.alloc());
+    given.ok()
+}
+
+/// These words without the first one, which is the program's name.
+fn behind_name<'a>(alloc: Global, given: &'a [String]) -> Option<Vec<&'a str>> {
     let words: Result<Vec<&str>, AllocError> = given
         .iter()
         .skip(1)
         .map(|word| word.as_str())
         .collect(alloc);
-    if let Ok(words) = words
+    words.ok()
+}
+
+/// Prints why the words of this process are refused, if that is due. If a memory request is refused, nothing.
+pub fn explain_refusal<R: Env + AllocGlobal, W: Write>(rt: &R, is_terminal: bool, errors: &mut W) {
+    let Some(given) = given_words(rt) else {
+        return;
+    };
+    if let Some(words) = behind_name(rt.alloc(), given.as_slice())
         && is_due(words.as_slice(), is_terminal)
     {
-        say_why(alloc, words.as_slice(), errors);
+        say_why(rt.alloc(), words.as_slice(), errors);
     }
+}
+
+/// Prints which address this process cannot listen on, and the system's reason, if that is due. Tries the addresses
+/// once more.
+pub fn explain_listening<
+    R: Env + Net<Listener = TcpListener, Stream = TcpStream> + AllocGlobal,
+    W: Write,
+>(rt: &R, is_terminal: bool, errors: &mut W) {
+    let Some(given) = given_words(rt) else {
+        return;
+    };
+    if let Some(words) = behind_name(rt.alloc(), given.as_slice())
+        && is_due(words.as_slice(), is_terminal)
+        && let Ok(Command::Run(config)) = read_words(rt.alloc(), words.as_slice())
+    {
+        say_listening(rt, &config, errors);
+    }
+}
+
+fn say_listening<R: Net<Listener = TcpListener, Stream = TcpStream> + AllocGlobal, W: Write>(
+    rt: &R,
+    config: &Config,
+    errors: &mut W,
+) {
+    // It is held while the next address is tried, which may be the same.
+    let _listener = match TcpListener::bind(rt, config.listen()) {
+        Ok(listener) => listener,
+        Err(error) => return say_address(rt.alloc(), config.listen(), error, errors),
+    };
+    if let Some(http) = config.http()
+        && let Err(error) = TcpListener::bind(rt, http)
+    {
+        say_address(rt.alloc(), http, error, errors);
+    }
+}
+
+fn say_address<W: Write>(alloc: Global, address: &str, error: io::Error, errors: &mut W) {
+    say(
+        errors,
+        format!(in alloc; "rights-site: cannot listen on {address}: {error}\n"),
+    );
 }
 
 fn say_why<W: Write>(alloc: Global, words: &[&str], errors: &mut W) {
