@@ -1,6 +1,8 @@
 """Bugs that another implementation of a running site may have, for tests of ./conformance: what it decides at its desk,
 what it sends, and what it hears."""
 
+import json
+
 import desk_model
 import line_model
 import site_model
@@ -113,6 +115,44 @@ def an_equal_time_goes_back(right, site, time):
     if time == site.now and time > 0:
         raise Refusal("TimeWentBack")
     return right(time)
+
+
+def changed_queue(change):
+    """The reply to `queue`, with its object changed."""
+
+    def queue(right, site):
+        said = json.loads(right())
+        change(said, site)
+        return json.dumps(said, separators=(",", ":"))
+
+    return queue
+
+
+@replaces(RunningSite, "queue")
+def the_queue_leaves_out_the_last(right, site):
+    return changed_queue(lambda said, site: said["requests"].pop() if said["requests"] else None)(right, site)
+
+
+@replaces(RunningSite, "queue")
+def the_queue_is_told_from_its_end(right, site):
+    return changed_queue(lambda said, site: said["requests"].reverse())(right, site)
+
+
+@replaces(RunningSite, "queue")
+def the_queue_tells_all_slots_as_unread(right, site):
+    return changed_queue(lambda said, site: said.update(unread=said["unread"] + len(said["requests"])))(right, site)
+
+
+@replaces(RunningSite, "queue")
+def the_queue_is_told_with_spaces(right, site):
+    return json.dumps(json.loads(right()))
+
+
+@replaces(RunningSite, "queue")
+def to_tell_the_queue_reads_outcomes(right, site):
+    said = right()
+    site.desk.outcomes.clear()
+    return said
 
 
 @replaces(Site, "status")
