@@ -3,3 +3,4 @@ pub mod Serving
 pub mod Publishing
 pub mod ConfirmedLaws
 pub mod Beside
+pub mod TellingLaws

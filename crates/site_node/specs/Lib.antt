@@ -6,3 +6,4 @@ pub mod ToPeers
 pub mod Hearing
 pub mod Texts
 pub mod Confirmed
+pub mod Telling
