@@ -1,5 +1,5 @@
 -- What clients are told as spent, turn by turn.
-use Rattle.std.proofs.Common.{◌≡◌, ℕ, suc, ◌+◌, ◌≤◌, ◌<◌, Bool, true, false, not, cond, ◌==◌, List, [], ◌∷◌, ◌++◌, map}
+use Rattle.std.proofs.Common.{◌≡◌, ℕ, ◌+◌, ◌≤◌, ◌<◌, Bool, true, false, not, cond, ◌==◌, List, [], ◌∷◌, ◌++◌, map}
 use Rattle.std.proofs.Common.{filter, Option, Some, None, Result, Ok, Err, inl, inr, refl, sym, ap, ◌∙◌, subst, arith}
 use Rattle.std.proofs.Common.{append_assoc, length, if◌then◌else◌}
 use Rattle.std.specs.List.{list_any}
@@ -17,7 +17,7 @@ use Rattle.rights_protocol.specs.Retiring.{entry_at_end}
 use Rattle.rights_types.proofs.Chains.{end-push}
 use Rattle.origin_log.specs.Logs.{LogValue, next_entry, with_entry}
 use Rattle.rights_book.specs.Books.{BookValue, held_by}
-use Rattle.request_queue.specs.Queues.{QueueValue, IsQueue, outcome_of, settled, without, tickets}
+use Rattle.request_queue.specs.Queues.{QueueValue, IsQueue}
 use Rattle.request_queue.specs.Calls.{Cancels, TellsOutcome}
 use Rattle.request_queue.specs.declared.request.Request.{Request}
 use Rattle.request_queue.specs.declared.request.Outcome.{Outcome}
@@ -41,7 +41,7 @@ use Rattle.site_words.specs.declared.commands.DeskCommand.{DeskCommand}
 use Rattle.site_words.specs.declared.commands.DeskCommand.TheVariants.{Issue, Give, Spend, Take}
 use Rattle.site_words.specs.declared.commands.DeskCommand.TheVariants.{Outcome as AsksOutcome, Cancel, Close}
 use Rattle.site_node.specs.declared.reply.Reply.{Reply}
-use Rattle.site_node.specs.declared.reply.Reply.TheVariants.{Number, Spending, Outcome as Tells, Refused}
+use Rattle.site_node.specs.declared.reply.Reply.TheVariants.{Number, Spending, Outcome as Tells, Refused, BadDeadline}
 use Rattle.site_node.specs.declared.tick.Ticked.{Ticked}
 use Rattle.site_node.specs.Acting.{Acts}
 use Rattle.site_node.specs.Ticking.{ServesEach, ExpiresAll, TicksBeside}
@@ -287,6 +287,7 @@ acts old was (Issue amount) (Spending spending) new now valid h = absurd h
 acts old was (Issue amount) (Tells status) new now valid h = absurd h
 acts old was (Issue amount) (Refused cause) new now valid h =
     same old.desk new.desk (ap (λ (k : KeptValue). k.desk) h.same_desk)
+acts old was (Issue amount) BadDeadline new now valid h = absurd h
 acts old was (Give peer amount) (Number n) new now valid h =
     let e = h.1.entry in
     writes_other old.desk new.desk (Gives peer amount ∷ []) e.entry.log refl (ap (λ (d : DeskValue). d.queue) e.rest)
@@ -294,19 +295,22 @@ acts old was (Give peer amount) (Spending spending) new now valid h = absurd h
 acts old was (Give peer amount) (Tells status) new now valid h = absurd h
 acts old was (Give peer amount) (Refused cause) new now valid h =
     same old.desk new.desk (ap (λ (k : KeptValue). k.desk) h.same_desk)
-acts old was (Spend amount deadline) (Number n) new now valid h = absurd h
-acts old was (Spend amount deadline) (Spending (Spent n)) new now valid h =
-    let d = h.1.desk in
+acts old was (Give peer amount) BadDeadline new now valid h = absurd h
+acts old was (Spend amount deadline latest) (Number n) new now valid h = absurd h
+acts old was (Spend amount deadline latest) (Spending (Spent n)) new now valid h =
+    let d = h.2.desk in
     writes_spend old.desk new.desk amount n d.1.entry.log d.2 (ap (λ (d : DeskValue). d.queue) d.1.rest)
-acts old was (Spend amount deadline) (Spending (Queued ticket)) new now valid h =
-    let d = h.1.desk in
+acts old was (Spend amount deadline latest) (Spending (Queued ticket)) new now valid h =
+    let d = h.2.desk in
     let outcomes = ap (λ (q : QueueValue). q.outcomes) d.1.2 in
     nothing old.desk new.desk (record {
       spends = ap (λ (d : DeskValue). spends_in d.ledger.log.entries) d.2;
       outcomes = outcomes;
     })
-acts old was (Spend amount deadline) (Tells status) new now valid h = absurd h
-acts old was (Spend amount deadline) (Refused cause) new now valid h =
+acts old was (Spend amount deadline latest) (Tells status) new now valid h = absurd h
+acts old was (Spend amount deadline latest) (Refused cause) new now valid h =
+    same old.desk new.desk (ap (λ (k : KeptValue). k.desk) h.same_desk)
+acts old was (Spend amount deadline latest) BadDeadline new now valid h =
     same old.desk new.desk (ap (λ (k : KeptValue). k.desk) h.same_desk)
 acts old was (Take amount) (Number n) new now valid h = absurd h
 acts old was (Take amount) (Spending (Spent n)) new now valid h =
@@ -316,6 +320,7 @@ acts old was (Take amount) (Spending (Queued ticket)) new now valid h = absurd h
 acts old was (Take amount) (Tells status) new now valid h = absurd h
 acts old was (Take amount) (Refused cause) new now valid h =
     same old.desk new.desk (ap (λ (k : KeptValue). k.desk) h.same_desk)
+acts old was (Take amount) BadDeadline new now valid h = absurd h
 acts old was (Cancel ticket) (Number n) new now valid h = absurd h
 acts old was (Cancel ticket) (Spending spending) new now valid h = absurd h
 acts old was (Cancel ticket) (Tells status) new now valid h =
@@ -325,6 +330,7 @@ acts old was (Cancel ticket) (Tells status) new now valid h =
     let untold = ap (times n) ended.untold in
     omega (arith, untold, tells c.between ticket status new.desk.queue c.tells ended.once n))
 acts old was (Cancel ticket) (Refused cause) new now valid h = absurd h
+acts old was (Cancel ticket) BadDeadline new now valid h = absurd h
 acts old was (AsksOutcome ticket) (Number n) new now valid h = absurd h
 acts old was (AsksOutcome ticket) (Spending spending) new now valid h = absurd h
 acts old was (AsksOutcome ticket) (Tells status) new now valid h =
@@ -332,6 +338,7 @@ acts old was (AsksOutcome ticket) (Tells status) new now valid h =
     in_queue old.desk (told_by (Tells status)) new.desk (ap (λ (k : KeptValue). k.desk.ledger) h.rest) (λ n.
     tells old.desk.queue ticket status new.desk.queue h.outcome (omega (arith, whole)) n)
 acts old was (AsksOutcome ticket) (Refused cause) new now valid h = absurd h
+acts old was (AsksOutcome ticket) BadDeadline new now valid h = absurd h
 acts old was (Close heir) (Number n) new now valid h =
     let e = h.1.entry in
     writes_other old.desk new.desk (closing_by old.desk.ledger.book heir) e.entry.log
@@ -340,6 +347,7 @@ acts old was (Close heir) (Spending spending) new now valid h = absurd h
 acts old was (Close heir) (Tells status) new now valid h = absurd h
 acts old was (Close heir) (Refused cause) new now valid h =
     same old.desk new.desk (ap (λ (k : KeptValue). k.desk) h.same_desk)
+acts old was (Close heir) BadDeadline new now valid h = absurd h
 
 -- ---- ticks
 
