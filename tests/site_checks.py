@@ -23,6 +23,7 @@ NOT_TRIED = [
     "that a tick waits for lines that wait in an outbox",
     "that an attempt to connect is given up after a second",
     "that a first line and the one behind it, and lines which wait together, are written together, and that replies are written before the next read of a slow input",
+    "the options `--http`, `--tick`, `--silent`, `--once` and `--log`, and what a site does by its own clock",
     "the command line, its refusals, and the exit statuses 1 and 2, which `./conformance words` tries",
 ]
 
