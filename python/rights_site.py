@@ -74,6 +74,7 @@ class Site:
         http: str | None = None,
         hosts: Sequence[str] = (),
         tick: int | None = None,
+        silent: int | None = None,
         once: str | None = None,
         log: bool = False,
         errors: IO[Any] | int | None = None,
@@ -82,13 +83,13 @@ class Site:
         """Starts the site, and returns once it listens. If it cannot, raises SiteEnded with the reason.
 
         `peers` has the address of each other site by its number. `program` is the path of the program, or a list of
-        words that replaces it and its word `run`. `http`, `tick` (milliseconds), `once` and `log` are the options of
-        these names, and `hosts` the names of `--host`. The standard error of the site goes to `errors`, an open file; without it, it is kept, and `said`
-        reads it. `timeout` is how many seconds a reply may take: no command waits for another site, but a tick for
+        words that replaces it and its word `run`. `http`, `tick` and `silent` (milliseconds), `once` and `log` are the
+        options of these names, and `hosts` the names of `--host`. The standard error of the site goes to `errors`, an
+        open file; without it, it is kept, and `said` reads it. `timeout` is how many seconds a reply may take: no command waits for another site, but a tick for
         50 milliseconds at most, so a longer wait means that the process is stuck."""
         words = list(program) if isinstance(program, (list, tuple)) else [program or find_program(), "run"]
         words += ["--id", str(number), "--sites", str(sites), "--listen", listen]
-        for option, value in (("--http", http), ("--tick", tick), ("--once", once)):
+        for option, value in (("--http", http), ("--tick", tick), ("--silent", silent), ("--once", once)):
             words += [] if value is None else [option, str(value)]
         for name in hosts:
             words += ["--host", name]

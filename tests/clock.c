@@ -4,8 +4,8 @@
  *     CLOCK_FILE=PATH LD_PRELOAD=./clock.so ./rights-site run ..
  *
  * PATH is a file that begins with a `struct shared`, which the test writes and reads while the program runs. Time is what
- * the system says, or stands still, and `shift` is added to it. All waits that have an end follow this clock: they look
- * at it every few milliseconds. `fails` has the time of day refuse to be read, and `holds` has each shutdown of a stream
+ * the system says, or stands still, and `shift` is added to it; to the time of day `wall` too. All waits that have an
+ * end follow this clock: they look at it every few milliseconds. `fails` has the time of day refuse to be read, and `holds` has each shutdown of a stream
  * wait until it is cleared. */
 
 #define _GNU_SOURCE
@@ -36,6 +36,8 @@ struct shared {
     _Atomic int64_t shift, is_still, fails, holds;
     /* Written by the program: attempts to accept, shutdowns that waited, and how often the time of day was refused. */
     _Atomic int64_t accepts, held, refused;
+    /* Written by the test: nanoseconds that the wall clock is ahead of that. */
+    _Atomic int64_t wall;
 };
 
 static struct shared none;
@@ -66,7 +68,8 @@ static int64_t system_time(clockid_t clock)
 /* The time of the test's clock. */
 static int64_t now(clockid_t clock)
 {
-    return (shared->is_still ? begun[clock == CLOCK_REALTIME] : system_time(clock)) + shared->shift;
+    int is_wall = clock == CLOCK_REALTIME;
+    return (shared->is_still ? begun[is_wall] : system_time(clock)) + shared->shift + (is_wall ? shared->wall : 0);
 }
 
 /* The end of a wait that is so long, by the test's clock. */

@@ -61,6 +61,7 @@ def count_matches(pattern, paths):
 
 def count_suite():
     import documents
+    import ends
     import lane_orders
     import lockstep
     import loopback
@@ -70,9 +71,10 @@ def count_suite():
     import repository
     import schedules
     import scripts
+    import silence
     import timing
 
-    modules = (repository, documents, lane_orders, program, scripts, loopback, over_http, timing, schedules, lockstep, packages)
+    modules = (repository, documents, lane_orders, program, scripts, loopback, over_http, ends, silence, timing, schedules, lockstep, packages)
     return sum(len(each.order) for module in modules for each in module.CASES)
 
 

@@ -41,7 +41,7 @@ PEER = {
 }
 # The metrics that the status has too, and the key of each.
 BY_STATUS = {"held": "held", "queued": "queued", "issued_total": "issued", "spent_total": "spent",
-             "received_total": "received", "log_number": "number"}
+             "received_total": "received", "log_moves_total": "number"}
 
 
 class Situation:
@@ -80,7 +80,7 @@ class Situation:
         lines += [f'rights_commands_refused_total{{name="{name}"}} {count}' for name, count in self.refused(n).items()]
         for peer in status["peers"]:
             number = peer["site"]
-            known = {**self.peer(number, n), "applied": peer["applied"], "buffering": int(peer["buffering"]),
+            known = {**self.peer(number, n), "moves_applied_total": peer["applied"], "buffering": int(peer["buffering"]),
                      "entries_held": peer["held"]}
             lines += [f'rights_peer_{name}{{peer="{number}"}} {value}' for name, value in known.items()]
         return "\n".join(lines) + "\n"
@@ -117,6 +117,23 @@ class Silent(Situation):
 
     def peer(self, number, n):
         return {**PEER, "lines_total": min(n, 120) if number == 3 else n // 50}
+
+
+class Stuck(Situation):
+    """The site counts site 3 as silent, nothing leaves its queue, and its wall clock was set back."""
+
+    shows = [*Situation.shows, "open, needs attention", "1 of 2 need attention", "Silent since", "it is not asked for rights",
+             "The queue is stuck: nothing has left it since", "7 rights are waited for", "stands still for 60 seconds"]
+    hides = [each for each in Situation.hides if each not in ("Silent", "went back")]
+
+    def status(self, n):
+        return {**super().status(n), "queued": 7}
+
+    def peer(self, number, n):
+        return {**super().peer(number, n), "silent_seconds": 42 if number == 3 else 0}
+
+    def more(self, n):
+        return {**super().more(n), "requests_waiting": 2, "clock_behind_seconds": 60}
 
 
 class Gap(Situation):
@@ -160,7 +177,7 @@ class Started(Situation):
         return {**super().status(n), "number": 700 if n < 100 else 3, "issued": 999_999_999_999_999_999}
 
 
-SITUATIONS = {each.__name__.lower(): each for each in (Healthy, Cut, Silent, Gap, Closed, Unreachable, Started)}
+SITUATIONS = {each.__name__.lower(): each for each in (Healthy, Cut, Silent, Stuck, Gap, Closed, Unreachable, Started)}
 
 
 class StandIn:

@@ -103,6 +103,7 @@ if __name__ == "__main__":
         sys.exit(0)
     words = own_words(sys.argv[1:])
     import documents
+    import ends
     import lane_orders
     import lockstep
     import loopback
@@ -112,9 +113,10 @@ if __name__ == "__main__":
     import repository
     import schedules
     import scripts
+    import silence
     import timing
 
-    modules = [repository, documents, lane_orders, program, scripts, loopback, over_http, timing, schedules, lockstep, packages]
+    modules = [repository, documents, lane_orders, program, scripts, loopback, over_http, ends, silence, timing, schedules, lockstep, packages]
     CASES = [case for module in modules for case in module.CASES]
     for each in CASES:
         globals()[each.__name__] = each

@@ -30,7 +30,7 @@ class Clock:
     flags: the time of day cannot be read; streams that are shut down wait."""
 
     # As they stand in the file, each of 8 bytes.
-    FIELDS = ["shift", "is_still", "fails", "holds", "accepts", "held", "refused"]
+    FIELDS = ["shift", "is_still", "fails", "holds", "accepts", "held", "refused", "wall"]
 
     def __init__(self):
         file, self.path = tempfile.mkstemp(dir=ROOM.name, prefix="clock-")
@@ -48,6 +48,10 @@ class Clock:
     def advance(self, seconds):
         """Moves the clock on."""
         self["shift"] += int(seconds * NANOSECONDS)
+
+    def set_wall(self, seconds):
+        """Sets the time of day, by so many seconds from what it would be."""
+        self["wall"] = int(seconds * NANOSECONDS)
 
     def program(self):
         """The program with this clock."""
@@ -254,15 +258,48 @@ def deadlines_are_counted_from_its_time():
             sites.clock.advance(5)
 
 
-def ticks_go_on_when_the_time_can_be_read_again():
+def ticks_go_on_while_the_time_cannot_be_read():
+    """The site's time stands still then: what can be served is served, and no deadline passes."""
     with TimedSite(tick=100) as sites:
-        expect(sites.site.ask("spend 1 5"), "queued 1")
+        now = int(time.time() * MILLISECONDS)
+        expect(sites.site.ask_all([f"spend 1 {now + 60_000}", f"spend 1 {now + 70_000}"]), ["queued 1", "queued 2"])
         sites.clock["fails"] = 1
-        for count in range(1, 4):
-            sites.goes_on("a tick reads no time", lambda: sites.clock["refused"] >= count)
-        expect(sites.site.ask("outcome 1"), "waiting")
+        sites.clock.advance(90)
+        sites.site.ask("issue 1")
+        sites.goes_on("one is served", lambda: sites.site.ask("outcome 1") == "spent 2")
+        sites.goes_on("the time was not read", lambda: sites.clock["refused"] >= 3)
+        expect(sites.site.ask("outcome 2"), "waiting")
         sites.clock["fails"] = 0
-        sites.goes_on("a tick is done", lambda: sites.site.ask("outcome 1") == "expired")
+        sites.goes_on("the other one expires", lambda: sites.site.ask("outcome 2") == "expired")
+
+
+def a_wall_clock_that_goes_back():
+    """By an hour: the site's time stands still until that is caught up, while the site goes on serving and sending. It
+    is said once, and so is the end of it."""
+    with TimedSite(tick=100, log=True) as sites:
+
+        def behind():
+            return sites.metrics()["rights_clock_behind_seconds"]
+
+        now = int(time.time() * MILLISECONDS)
+        expect(sites.site.ask_all([f"spend 1 {now + 600_000}", f"spend 1 {now + 7_200_000}"]), ["queued 1", "queued 2"])
+        sites.clock.set_wall(60)
+        sites.goes_on("a tick is done", lambda: sites.metrics()["rights_peer_lines_dropped_total", "2"] > 0)
+        sites.clock.set_wall(-3540)
+        sites.goes_on("it is an hour behind", lambda: 3590 <= behind() <= 3600)
+        # Ticks go on, and serve.
+        sites.site.ask("issue 1")
+        sites.goes_on("a spend is served", lambda: sites.site.ask("outcome 1") == "spent 2")
+        seen = behind()
+        sites.goes_on("it is caught up by and by", lambda: behind() < seen)
+        sites.clock.set_wall(61)
+        sites.goes_on("it is caught up", lambda: behind() == 0)
+        expect(sites.site.ask("outcome 2"), "waiting")
+        sites.clock.set_wall(7300)
+        sites.goes_on("the other one expires", lambda: sites.site.ask("outcome 2") == "expired")
+        expect(sites.metrics()["rights_commands_refused_total", "TimeWentBack"], 0)
+        said = [line.split(": ")[1] for line in sites.site.said().splitlines() if "clock" in line]
+        expect(said, ["the wall clock went back", "the wall clock has caught up"])
 
 
 def who_waits_for_a_tick_rests():
@@ -384,7 +421,8 @@ def nothing_is_done_for_clients_that_cannot_be_told():
 
 CASES = [case("Timing", [
     a_first_line_has_five_seconds, a_link_has_no_limit, a_client_may_be_idle_for_a_minute, peers_come_after_too_many,
-    clients_come_after_too_many, one_that_gets_no_handle_rests, its_ticks_have_the_time_of_day, deadlines_are_counted_from_its_time,
-    ticks_go_on_when_the_time_can_be_read_again, who_waits_for_a_tick_rests, waits_end_with_the_tick_that_serves_them,
+    clients_come_after_too_many, one_that_gets_no_handle_rests, its_ticks_have_the_time_of_day,
+    deadlines_are_counted_from_its_time, ticks_go_on_while_the_time_cannot_be_read, a_wall_clock_that_goes_back,
+    who_waits_for_a_tick_rests, waits_end_with_the_tick_that_serves_them,
     a_tick_before_the_end_is_told, lines_of_the_last_requests_go_out, nothing_is_done_for_clients_that_cannot_be_told,
 ])]  # fmt: skip

@@ -111,13 +111,14 @@ class Client:
 class WebCluster(Cluster):
     """Sites that serve HTTP too."""
 
-    def __init__(self, count, *rest, tick=None, log=False, hosts=(), errors=None, **others):
-        self.tick, self.log, self.hosts, self.errors = tick, log, hosts, errors
+    def __init__(self, count, *rest, tick=None, silent=None, log=False, hosts=(), errors=None, **others):
+        self.tick, self.silent, self.log, self.hosts, self.errors = tick, silent, log, hosts, errors
         self.web_ports = free_ports(count)
         super().__init__(count, *rest, **others)
 
     def options(self, number):
-        return {"http": self.address(number), "hosts": self.hosts, "tick": self.tick, "log": self.log, "errors": self.errors}
+        names = ("hosts", "tick", "silent", "log", "errors")
+        return {"http": self.address(number), **{name: getattr(self, name) for name in names}}
 
     def address(self, number=1):
         return at(self.web_ports[number - 1])

@@ -122,13 +122,14 @@ def waits_at_the_end():
 PLAIN = {
     "rights_held": "gauge", "rights_queued": "gauge", "rights_issued_total": "counter", "rights_spent_total": "counter",
     "rights_received_total": "counter", "rights_given_total": "counter", "rights_taken_back_total": "counter",
-    "rights_log_number": "counter", "rights_closed": "gauge", "rights_requests_waiting": "gauge",
-    "rights_outcomes_unread": "gauge", "rights_clients": "gauge", "rights_commands_total": "counter",
-    "rights_log_lines_dropped_total": "counter",
+    "rights_log_moves_total": "counter", "rights_closed": "gauge", "rights_requests_waiting": "gauge",
+    "rights_outcomes_unread": "gauge", "rights_clock_behind_seconds": "gauge", "rights_clients": "gauge",
+    "rights_commands_total": "counter", "rights_log_lines_dropped_total": "counter",
 }
 OF_PEERS = {
-    "rights_peer_applied": "counter", "rights_peer_buffering": "gauge", "rights_peer_entries_held": "gauge",
-    "rights_peer_receiving": "gauge", "rights_peer_sending": "gauge", "rights_peer_lines_total": "counter",
+    "rights_peer_moves_applied_total": "counter", "rights_peer_buffering": "gauge", "rights_peer_entries_held": "gauge",
+    "rights_peer_receiving": "gauge", "rights_peer_sending": "gauge", "rights_peer_silent_seconds": "gauge",
+    "rights_peer_lines_total": "counter",
     "rights_peer_lines_refused_total": "counter", "rights_peer_lines_dropped_total": "counter",
     "rights_peer_lines_waiting": "gauge", "rights_peer_number_went_back_total": "counter",
 }
@@ -195,11 +196,11 @@ def are_alike(client, count, number):
     wanted = {
         "rights_held": status["held"], "rights_queued": status["queued"], "rights_issued_total": status["issued"],
         "rights_spent_total": status["spent"], "rights_received_total": status["received"],
-        "rights_log_number": status["number"], "rights_closed": int(status["closed"]),
+        "rights_log_moves_total": status["number"], "rights_closed": int(status["closed"]),
     }
     for peer in status["peers"]:
         label = str(peer["site"])
-        wanted["rights_peer_applied", label] = peer["applied"]
+        wanted["rights_peer_moves_applied_total", label] = peer["applied"]
         wanted["rights_peer_buffering", label] = int(peer["buffering"])
         wanted["rights_peer_entries_held", label] = peer["held"]
     expect(len(status["peers"]), count - 1)
@@ -241,9 +242,9 @@ def lines_of_a_peer_are_counted():
         ear = Ear(stack)
         expect((ear.metric("receiving"), ear.metric("sending"), ear.metric("lines_total")), (0, 0, 0))
         stream = stack.enter_context(ear.speak(b"E 2 0 2 I:9 R:1:7\nB 2 9\nnonsense\nB 3 1\nE 2 3 4 I:1\n"))
-        ear.waits_for(lines_total=5, lines_refused_total=2, applied=2, buffering=1, entries_held=1, receiving=1)
+        ear.waits_for(lines_total=5, lines_refused_total=2, moves_applied_total=2, buffering=1, entries_held=1, receiving=1)
         stream.sendall(b"A 2 1;E 2 2 3 I:1\nx\n")
-        ear.waits_for(lines_total=7, lines_refused_total=3, applied=4, entries_held=0)
+        ear.waits_for(lines_total=7, lines_refused_total=3, moves_applied_total=4, entries_held=0)
         stream.sendall(b"B 2 3\n")
         ear.waits_for(number_went_back_total=1)
         stream.sendall(b"B 2 4\nB 2 2\n")
@@ -380,9 +381,9 @@ def a_site_is_started_once():
         expect(run("--once", path, text=b"issue 1\n"), (0, b"number 1\n", b""))
         expect(os.path.isfile(path), True, "the file stays")
         expect(run("--once", path, text=b"issue 1\n"), refused)
-        # It is tested before anything is bound.
-        expect(run("--once", path, listen=address), refused)
-        expect(run("--once", path, "--http", address), refused)
+        # What can be listened on is tested before that.
+        expect(run("--once", path, listen=address)[2], b"rights-site: cannot listen\n")
+        expect(run("--once", path, "--http", address)[2], b"rights-site: cannot listen\n")
         for stale in ("folder", "link"):
             path = os.path.join(room, stale)
             os.mkdir(path) if stale == "folder" else os.symlink("nowhere", path)
@@ -394,10 +395,10 @@ def a_site_is_started_once():
             os.chmod(room, 0o500)
             expect(run("--once", os.path.join(room, "new")), failed, "a folder that can't be written")
             os.chmod(room, 0o700)
-        # A file that was created stays, whatever comes then.
+        # A start that failed was none.
         path = os.path.join(room, "other")
         expect(run("--once", path, listen=address)[2], b"rights-site: cannot listen\n")
-        expect(run("--once", path), refused)
+        expect(run("--once", path)[0], 0)
 
 
 def addresses_of_peers_that_cannot_be_resolved():

@@ -1,5 +1,5 @@
 -- What is done for a seat, each time in one turn at the desk.
-use Rattle.std.specs.Prelude.{◌≡◌, ℕ, List, [], ◌∷◌, ◌++◌, Result}
+use Rattle.std.specs.Prelude.{◌≡◌, ℕ, Bool, List, [], ◌∷◌, ◌++◌, Result}
 use Rattle.site_core.specs.declared.fault.DeskError.{DeskError}
 use Rattle.apply_lanes.specs.Names.{DeskId}
 use Rattle.apply_lanes.specs.Kepts.{KeptValue, SeatValue, IsKept}
@@ -23,11 +23,11 @@ pub record ActsAtDesk (id : DeskId) (was : SeatedValue) (command : DeskCommand) 
   pub valid : IsKept id old
   pub acts : Acts old was.told command reply new now.told
 
--- in one turn, everything due at this time was done at the desk
-pub record TicksAtDesk (id : DeskId) (was : SeatedValue) (time : ℕ) (ticked : Result Ticked DeskError)
-    (now : SeatedValue) : Type 0 where
+-- in one turn, everything due at this time, beside these silent sites, was done at the desk
+pub record TicksAtDesk (silent : ℕ → Bool) (id : DeskId) (was : SeatedValue) (time : ℕ)
+    (ticked : Result Ticked DeskError) (now : SeatedValue) : Type 0 where
   pub old : KeptValue
   pub new : KeptValue
   pub one : now.states ≡ was.states ++ old ∷ new ∷ []
   pub valid : IsKept id old
-  pub does : ServesDue old was.told time ticked new now.told
+  pub does : ServesDue silent old was.told time ticked new now.told

@@ -1,10 +1,10 @@
 -- A turn at a desk, under one hold of its lock.
-use Rattle.std.specs.Prelude.{◌≡◌, ℕ, List, [], ◌∷◌, ◌++◌, Result}
+use Rattle.std.specs.Prelude.{◌≡◌, ℕ, Bool, List, [], ◌∷◌, ◌++◌, Result}
 use Rattle.request_queue.specs.declared.request.Request.{Request}
 use Rattle.site_core.specs.declared.fault.DeskError.{DeskError}
 use Rattle.apply_lanes.specs.Names.{DeskId}
 use Rattle.apply_lanes.specs.Kepts.{KeptValue, SeatValue, IsKept}
-use Rattle.site_node.specs.Ticking.{Ticks}
+use Rattle.site_node.specs.Ticking.{TicksBeside}
 use Rattle.site_node.specs.declared.tick.Ticked.{Ticked}
 
 -- one more turn was taken, and it did this; the lists have the states of the desk before and after each turn
@@ -16,8 +16,8 @@ pub record TakesTurn (id : DeskId) (Does : KeptValue → KeptValue → Type 0) (
   pub after : IsKept id new
   pub does : Does old new
 
--- what is due at this time was done at the desk, for a seat
-pub record ServesDue (old : KeptValue) (was : SeatValue) (time : ℕ) (ticked : Result Ticked DeskError)
-    (new : KeptValue) (now : SeatValue) : Type 0 where
+-- what is due at this time, beside these silent sites, was done at the desk, for a seat
+pub record ServesDue (silent : ℕ → Bool) (old : KeptValue) (was : SeatValue) (time : ℕ)
+    (ticked : Result Ticked DeskError) (new : KeptValue) (now : SeatValue) : Type 0 where
   pub served : List Request
-  pub ticks : Ticks old was time served ticked new now
+  pub ticks : TicksBeside silent old was time served ticked new now

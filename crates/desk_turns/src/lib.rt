@@ -9,4 +9,4 @@ mod work;
 
 pub use seats::{Seated, Seats};
 pub use turns::{Look, TurnDesk, Turns};
-pub use work::{Act, ApplyReady, Tick, Work};
+pub use work::{Act, ApplyReady, Tick, TickBeside, Work};

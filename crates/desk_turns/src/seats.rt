@@ -1,10 +1,11 @@
 //! The seats of a desk, each under a lock of its own.
-ghost use Rattle.std.specs.Prelude.{◌≡◌, ◌+◌, ◌≤◌, [], IfOk, IfSome};
+ghost use Rattle.std.specs.Prelude.{◌≡◌, ◌+◌, ◌≤◌, false, [], IfOk, IfSome};
 ghost use Rattle.apply_lanes.specs.declared.names.TheConstants.{SEATS};
+ghost use Rattle.transfer_manager.specs.SiteSets.{has_site};
 ghost use Rattle.desk_turns.specs.Seated.{ActsAtDesk, TicksAtDesk};
 
 use crate::turns::{Look, TurnDesk, Turns};
-use crate::work::{Act, Tick};
+use crate::work::{Act, Tick, TickBeside};
 use apply_lanes::{DeskNames, Seat};
 use rights_types::OutOfMemory;
 use site_core::DeskError;
@@ -13,6 +14,7 @@ use site_words::DeskCommand;
 use std::alloc::Global;
 use std::marker::Model;
 use std::sync::{Arc, Mutex, MutexGuard, Wait};
+use transfer_manager::SiteSet;
 
 /// The seats of a desk, the clock's last, each under a lock of its own. Whoever has a seat holds its lock, so a seat
 /// cannot get lost, nor into the place of another. A clause reads it as their number.
@@ -113,9 +115,22 @@ impl<D: DeskNames> Seated<'_, D> {
 
     /// Does what is due at this time, in milliseconds, at the desk, in one turn.
     pub fn tick<R: Wait>(&mut self, rt: &R, time: u64) -> Result<Ticked, DeskError>
-        ensures { TicksAtDesk D.id self.old time result self.new }
+        ensures { TicksAtDesk (λ _. false) D.id self.old time result self.new }
     {
         self.turns.take(rt, Tick(time), &mut *self.seat)
+    }
+
+    /// The same beside silent peers.
+    pub fn tick_beside<R: Wait>(
+        &mut self,
+        rt: &R,
+        time: u64,
+        silent: SiteSet,
+    ) -> Result<Ticked, DeskError>
+        ensures { TicksAtDesk (has_site silent) D.id self.old time result self.new }
+    {
+        self.turns
+            .take(rt, TickBeside { time, silent }, &mut *self.seat)
     }
 
     /// Waits until no other thread holds the desk, and holds it for reading.

@@ -3,8 +3,9 @@ ghost use Rattle.std.specs.Prelude.{ℕ};
 
 use apply_lanes::{Applier, DeskNames, Free, Kept, Seat, StepError};
 use site_core::DeskError;
-use site_node::{Reply, Ticked, act, serve_due};
+use site_node::{Reply, Ticked, act, serve_due, serve_due_beside};
 use site_words::DeskCommand;
+use transfer_manager::SiteSet;
 
 /// The work of one turn at a desk.
 pub trait Work<D: DeskNames> {
@@ -54,6 +55,7 @@ impl<D: DeskNames> Work<D> for Act {
 pub struct Tick(pub u64);
 
 impl<D: DeskNames> Work<D> for Tick {
+    ghost use Rattle.std.specs.Prelude.{false};
     ghost use Rattle.desk_turns.specs.Turns.{ServesDue};
 
     type With = Seat<D>;
@@ -62,10 +64,34 @@ impl<D: DeskNames> Work<D> for Tick {
 
     ghost may = { λ _. Unit {0} };
 
-    ghost does = { λ tick was old ticked now new. ServesDue old was tick.0 ticked new now };
+    ghost does = { λ tick was old ticked now new. ServesDue (λ _. false) old was tick.0 ticked new now };
 
     fn work(self, kept: &mut Kept<D>, with: &mut Seat<D>) -> Result<Ticked, DeskError> {
         serve_due(kept, with, self.0)
+    }
+}
+
+/// To do what is due at this time, in milliseconds, beside silent peers, for a seat.
+#[derive(Drop)]
+pub struct TickBeside {
+    pub time: u64,
+    pub silent: SiteSet,
+}
+
+impl<D: DeskNames> Work<D> for TickBeside {
+    ghost use Rattle.transfer_manager.specs.SiteSets.{has_site};
+    ghost use Rattle.desk_turns.specs.Turns.{ServesDue};
+
+    type With = Seat<D>;
+
+    type Told = Result<Ticked, DeskError>;
+
+    ghost may = { λ _. Unit {0} };
+
+    ghost does = { λ tick was old ticked now new. ServesDue (has_site tick.silent) old was tick.time ticked new now };
+
+    fn work(self, kept: &mut Kept<D>, with: &mut Seat<D>) -> Result<Ticked, DeskError> {
+        serve_due_beside(kept, with, self.time, &self.silent)
     }
 }
 

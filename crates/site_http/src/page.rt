@@ -157,6 +157,7 @@ const SPAN = 300000;     // milliseconds that the picture shows
 const RECENT = 60000;    // a counter that grew within this many milliseconds is marked
 const RATE_SPAN = 10000; // milliseconds over which a rate is computed
 const SILENCE = 10000;   // a peer that sends nothing for this many milliseconds is marked
+const STUCK = 10000;     // a queue that nothing has left for this many milliseconds is marked
 const OUTBOX = 256;      // the greatest number of lines in an outbox
 
 const byId = id => document.getElementById(id);
@@ -187,6 +188,7 @@ const heard = {};         // by peer: the lines received, when they last grew, a
 let last = null;          // the last status
 let lastAt = 0;           // when it arrived
 let lostAt = 0;           // since when the site cannot be reached; 0 if it can
+let queueAt = 0;          // when a spend last left the queue, as far as this page saw it; 0 if none waits
 let wentBack = false;     // whether this site's own log went back while the page was open
 let cursor = null;        // the selected time, or null
 
@@ -223,6 +225,14 @@ function silenceOf(site, lines, now) {
   return silence > Math.max(SILENCE, 3 * known.pause) ? silence : 0;
 }
 
+// Since when nothing has left the queue, if that is long; else 0. Spends leave it as they are served or expire.
+function stuckSince(status, now) {
+  const queued = BigInt(status.queued);
+  if (queued == 0n) queueAt = 0;
+  else if (!queueAt || last && queued < BigInt(last.queued)) queueAt = now;
+  return queueAt && now - queueAt > STUCK ? queueAt : 0;
+}
+
 // ---- peers
 
 function findingsOf(peer, metric, now) {
@@ -232,8 +242,10 @@ function findingsOf(peer, metric, now) {
   if (of("number_went_back_total") > 0) add("bad", "Its log went back: it was started anew, or runs twice");
   if (of("receiving") == 0) add("bad", "Cut off: nothing comes from it");
   if (of("sending") == 0) add("bad", "Cut off: nothing goes to it");
+  const silent = of("silent_seconds") ?? 0;
   const silence = silenceOf(peer.site, of("lines_total"), now);
-  if (silence && of("receiving") == 1) add("bad", `Silent: no line came for ${Math.round(silence / 1000)} seconds`);
+  if (silent > 0) add("bad", `Silent since ${clock(now - silent * 1000)}: it is not asked for rights`);
+  else if (silence && of("receiving") == 1) add("bad", `Silent: no line came for ${Math.round(silence / 1000)} seconds`);
   if (peer.buffering) add("warn", `Entries after ${number(peer.applied)} are missing`);
   for (const [name, what] of [["lines_refused_total", "refused"], ["lines_dropped_total", "dropped"]]) {
     const grown = growth(name + peer.site, of(name) ?? 0, now);
@@ -326,6 +338,8 @@ const clock = time => new Date(time).toLocaleTimeString("en-GB");
 
 function show(status, metric, now) {
   if (last && (last.site !== status.site || BigInt(status.number) < BigInt(last.number))) wentBack = true;
+  const stuck = stuckSince(status, now);
+  const behind = metric.rights_clock_behind_seconds ?? 0;
   last = status;
   lastAt = now;
   lostAt = 0;
@@ -334,11 +348,16 @@ function show(status, metric, now) {
   showNumbers(status, metric, now);
   const notices = [];
   if (wentBack) notices.push(["bad", "The log of this site went back while this page was open: it was started anew under its number."]);
+  if (stuck) notices.push(["warn", `The queue is stuck: nothing has left it since ${clock(stuck)}, and ${number(status.queued)} rights are waited for.`]);
+  if (behind > 0) notices.push(["warn", `The wall clock went back: this site's time stands still for ${many(behind, "second", "seconds")}.`]);
   if (status.closed) notices.push(["warn", "This site has closed. It no longer issues, spends or gives rights."]);
   showNotices(notices);
   byId("main").classList.remove("stale");
   if (status.closed) showState("warn", "closed");
-  else showState(troubled || wentBack ? "warn" : "good", troubled || wentBack ? "open, needs attention" : "open");
+  else {
+    const needs = troubled || wentBack || stuck || behind > 0;
+    showState(needs ? "warn" : "good", needs ? "open, needs attention" : "open");
+  }
 }
 
 function showLost(cause, now) {

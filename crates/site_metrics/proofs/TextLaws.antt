@@ -13,7 +13,7 @@ use Rattle.site_metrics.specs.Table.{state_metrics, client_metrics, log_metrics,
 use Rattle.site_metrics.specs.Table.{metrics_text}
 use Rattle.site_metrics.specs.PeerValues.{peer_value}
 use Rattle.site_metrics.specs.declared.peer_value.PeerValue.{PeerValue}
-use Rattle.site_metrics.specs.declared.peer_value.PeerValue.TheVariants.{Applied, Buffering, Held, Receiving, Sending}
+use Rattle.site_metrics.specs.declared.peer_value.PeerValue.TheVariants.{Applied, Buffering, Held, Receiving, Sending, Silent}
 use Rattle.site_metrics.specs.declared.peer_value.PeerValue.TheVariants.{Lines, Refused, Dropped, Waiting, WentBack}
 use Rattle.site_metrics.specs.Refusals.{refusal_names}
 
@@ -72,6 +72,11 @@ module _ (text : List ℕ) where
       → ((((text ++ led_lines a) ++ led_lines b) ++ led_lines c) ++ led_lines d) ++ led_lines e
       ≡ text ++ flat_map led_lines (a ∷ b ∷ c ∷ d ∷ e ∷ [])
   five a b c d e = more _ (a ∷ b ∷ c ∷ d ∷ []) e (four a b c d)
+
+  pub six : (a b c d e f : Family)
+      → (((((text ++ led_lines a) ++ led_lines b) ++ led_lines c) ++ led_lines d) ++ led_lines e) ++ led_lines f
+      ≡ text ++ flat_map led_lines (a ∷ b ∷ c ∷ d ∷ e ∷ f ∷ [])
+  six a b c d e f = more _ (a ∷ b ∷ c ∷ d ∷ e ∷ []) f (five a b c d e)
 
   -- the same if the first line feed is left out
   first_one : (a : Family) → text ++ drop 1 (led_lines a) ≡ text ++ drop 1 (flat_map led_lines (a ∷ []))
@@ -213,6 +218,7 @@ is_peer_metric Buffering peers name help kind a b c = rw (a, b, c) refl
 is_peer_metric Held peers name help kind a b c = rw (a, b, c) refl
 is_peer_metric Receiving peers name help kind a b c = rw (a, b, c) refl
 is_peer_metric Sending peers name help kind a b c = rw (a, b, c) refl
+is_peer_metric Silent peers name help kind a b c = rw (a, b, c) refl
 is_peer_metric Lines peers name help kind a b c = rw (a, b, c) refl
 is_peer_metric Refused peers name help kind a b c = rw (a, b, c) refl
 is_peer_metric Dropped peers name help kind a b c = rw (a, b, c) refl

@@ -6,7 +6,7 @@ use Rattle.site_metrics.specs.declared.kind.Kind.TheVariants.{Gauge, Counter}
 use Rattle.site_metrics.specs.declared.metrics.Metrics.{Metrics}
 use Rattle.site_metrics.specs.declared.metrics.PeerMetrics.{PeerMetrics}
 use Rattle.site_metrics.specs.declared.peer_value.PeerValue.{PeerValue}
-use Rattle.site_metrics.specs.declared.peer_value.PeerValue.TheVariants.{Applied, Buffering, Held, Receiving, Sending}
+use Rattle.site_metrics.specs.declared.peer_value.PeerValue.TheVariants.{Applied, Buffering, Held, Receiving, Sending, Silent}
 use Rattle.site_metrics.specs.declared.peer_value.PeerValue.TheVariants.{Lines, Refused, Dropped, Waiting, WentBack}
 use Rattle.site_metrics.specs.Format.{Sample, Family, exposition}
 use Rattle.site_metrics.specs.Refusals.{refusal_names}
@@ -60,12 +60,15 @@ rights_metrics m =
 
 abbrev pub state_metrics : Metrics → List Family
 state_metrics m =
-    counter (codes "rights_log_number") (codes "Number of the last entry of the site's log.") (alone m.log_number)
+    counter (codes "rights_log_moves_total") (codes "Moves in the site's log: the number of its last entry.")
+    (alone m.log_number)
     ∷ gauge (codes "rights_closed") (codes "1 once the site has closed, else 0.") (alone (bit m.closed))
     ∷ gauge (codes "rights_requests_waiting") (codes "Slots of the queue taken by spends that wait.")
     (alone m.requests_waiting)
     ∷ gauge (codes "rights_outcomes_unread") (codes "Slots of the queue taken by outcomes that nobody has read.")
     (alone m.outcomes_unread)
+    ∷ gauge (codes "rights_clock_behind_seconds") (codes "How far the wall clock is behind the site's time, rounded up.")
+    (alone m.clock_behind)
     ∷ []
 
 abbrev pub client_metrics : Metrics → List Family
@@ -82,7 +85,7 @@ client_metrics m =
 -- the metric with this value of each peer
 abbrev pub peer_metric : PeerValue → List PeerMetrics → Family
 peer_metric Applied peers
-    = counter (codes "rights_peer_applied") (codes "Number up to which the peer's log is applied.")
+    = counter (codes "rights_peer_moves_applied_total") (codes "Moves of the peer's log that are applied.")
     (by_peer (λ p. p.applied) peers)
 peer_metric Buffering peers
     = gauge (codes "rights_peer_buffering") (codes "1 while entries of the peer wait for one that is missing, else 0.")
@@ -95,6 +98,9 @@ peer_metric Receiving peers
 peer_metric Sending peers
     = gauge (codes "rights_peer_sending") (codes "1 while a connection to the peer stands, else 0.")
     (by_peer (λ p. bit p.sending) peers)
+peer_metric Silent peers
+    = gauge (codes "rights_peer_silent_seconds")
+    (codes "How long nothing has come from the peer, once that makes it silent; else 0.") (by_peer (λ p. p.silent) peers)
 peer_metric Lines peers = counter (codes "rights_peer_lines_total") (codes "Lines that came from the peer.")
     (by_peer (λ p. p.lines) peers)
 peer_metric Refused peers
@@ -113,7 +119,7 @@ peer_metric WentBack peers
     (by_peer (λ p. p.went_back) peers)
 
 abbrev pub log_metrics : List PeerMetrics → List Family
-log_metrics peers = map (λ v. peer_metric v peers) (Applied ∷ Buffering ∷ Held ∷ Receiving ∷ Sending ∷ [])
+log_metrics peers = map (λ v. peer_metric v peers) (Applied ∷ Buffering ∷ Held ∷ Receiving ∷ Sending ∷ Silent ∷ [])
 
 abbrev pub line_metrics : List PeerMetrics → List Family
 line_metrics peers = map (λ v. peer_metric v peers) (Lines ∷ Refused ∷ Dropped ∷ Waiting ∷ WentBack ∷ [])

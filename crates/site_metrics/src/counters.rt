@@ -1,6 +1,6 @@
 //! The counters that threads share. Each is added to and read atomically, without a lock, so the values of several
 //! counters need not belong to one moment.
-use crate::refusals::{REFUSAL_COUNT, refusal_index};
+use crate::refusals::{REFUSAL_COUNT, index_of, refusal_index};
 use std::sync::atomic::{AtomicBool, AtomicU64, Ordering};
 
 /// How many clients may be connected at a time, each with a thread that counts its replies.
@@ -37,6 +37,13 @@ impl Counters {
             commands.store(count, Ordering::Release);
         }
         if let Some(index) = refusal_index(reply) {
+            add(&self.refused[index], 1);
+        }
+    }
+
+    /// Counts a refusal by this name that no reply reports, as of a tick of the site's own.
+    pub fn note_refused(&self, name: &[u8]) {
+        if let Some(index) = index_of(name) {
             add(&self.refused[index], 1);
         }
     }

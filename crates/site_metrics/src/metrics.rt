@@ -27,6 +27,8 @@ pub struct Metrics {
     pub requests_waiting: u64,
     /// The queue's slots that are taken by outcomes that nobody has read.
     pub outcomes_unread: u64,
+    /// How many seconds the wall clock is behind the site's time, rounded up.
+    pub clock_behind: u64,
     /// The open HTTP connections.
     pub clients: u64,
     /// The commands that were answered, of all clients and of standard input.
@@ -51,6 +53,8 @@ pub struct PeerMetrics {
     pub receiving: bool,
     /// Whether a connection over which lines are sent to the peer is open.
     pub sending: bool,
+    /// For how many seconds nothing has come from the peer, if that makes it silent; else 0.
+    pub silent: u64,
     /// The lines that came from the peer.
     pub lines: u64,
     /// How many of these were skipped.

@@ -15,6 +15,7 @@ pub(crate) enum PeerValue {
     Held,
     Receiving,
     Sending,
+    Silent,
     Lines,
     Refused,
     Dropped,
@@ -33,6 +34,7 @@ impl PeerValue {
             PeerValue::Held => peer.held,
             PeerValue::Receiving => peer.receiving as u64,
             PeerValue::Sending => peer.sending as u64,
+            PeerValue::Silent => peer.silent,
             PeerValue::Lines => peer.lines,
             PeerValue::Refused => peer.refused,
             PeerValue::Dropped => peer.dropped,
@@ -55,6 +57,7 @@ impl PeerValue {
             | PeerValue::Held
             | PeerValue::Receiving
             | PeerValue::Sending
+            | PeerValue::Silent
             | PeerValue::Waiting => Kind::Gauge,
         }
     }
@@ -65,11 +68,12 @@ impl PeerValue {
         ensures short { length result.now ≤ MAX_NAME }
     {
         match self {
-            PeerValue::Applied => b"rights_peer_applied",
+            PeerValue::Applied => b"rights_peer_moves_applied_total",
             PeerValue::Buffering => b"rights_peer_buffering",
             PeerValue::Held => b"rights_peer_entries_held",
             PeerValue::Receiving => b"rights_peer_receiving",
             PeerValue::Sending => b"rights_peer_sending",
+            PeerValue::Silent => b"rights_peer_silent_seconds",
             PeerValue::Lines => b"rights_peer_lines_total",
             PeerValue::Refused => b"rights_peer_lines_refused_total",
             PeerValue::Dropped => b"rights_peer_lines_dropped_total",
@@ -84,12 +88,14 @@ impl PeerValue {
         ensures short { length result.now ≤ MAX_HELP }
     {
         match self {
-            PeerValue::Applied => b"Number up to which the peer's log is applied.",
+            PeerValue::Applied => b"Moves of the peer's log that are applied.",
             PeerValue::Buffering =>
                 b"1 while entries of the peer wait for one that is missing, else 0.",
             PeerValue::Held => b"Entries of the peer that wait for one that is missing.",
             PeerValue::Receiving => b"1 while a connection from the peer stands, else 0.",
             PeerValue::Sending => b"1 while a connection to the peer stands, else 0.",
+            PeerValue::Silent =>
+                b"How long nothing has come from the peer, once that makes it silent; else 0.",
             PeerValue::Lines => b"Lines that came from the peer.",
             PeerValue::Refused => b"Lines from the peer that were skipped.",
             PeerValue::Dropped =>

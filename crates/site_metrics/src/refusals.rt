@@ -47,7 +47,8 @@ pub fn refusal_index(reply: &[u8]) -> Option<usize>
     index_of(name)
 }
 
-fn index_of(name: &[u8]) -> Option<usize>
+/// The index of a name. `None` if it is none of `REFUSALS`.
+pub(crate) fn index_of(name: &[u8]) -> Option<usize>
     ensures some { IfSome result (λ index. (index < REFUSAL_COUNT) × (name.now ≡ get_or refusal_names index [])) }
     ensures none { IfNone result ((index : ℕ) → index < REFUSAL_COUNT → name.now ≢ get_or refusal_names index []) }
 {

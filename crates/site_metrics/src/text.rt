@@ -18,9 +18,9 @@ use rights_types::OutOfMemory;
 use std::alloc::Allocator;
 
 /// The text has at most this many bytes, and as many again as the second constant for each peer.
-pub const SITE_ROOM: usize = 8704;
+pub const SITE_ROOM: usize = 12_288;
 
-pub const PEER_ROOM: usize = 1024;
+pub const PEER_ROOM: usize = 1280;
 
 /// Appends the metrics of a site and of its peers, in the given order, as one of the whole replies: a text for
 /// Prometheus, of the content type `text/plain; version=0.0.4`, in which each line ends with a line feed. Every name
@@ -145,14 +145,14 @@ fn put_rights<A: Allocator>(metrics: &Metrics, replies: &mut Replies<A>) -> Resu
 fn put_state<A: Allocator>(metrics: &Metrics, replies: &mut Replies<A>) -> Result<(), OutOfMemory>
     ensures ok { OnOk result (replies.new.part ≡ replies.old.part ++ flat_map led_lines (state_metrics metrics.now)) }
     ensures kept { replies.new.whole ≡ replies.old.whole }
-    ensures room { 4 * (HEAD_ROOM + SAMPLE_ROOM) ≤ replies.old.room → IsOk result }
-    ensures left { replies.old.room ≤ replies.new.room + (4 * (HEAD_ROOM + SAMPLE_ROOM)) }
+    ensures room { 5 * (HEAD_ROOM + SAMPLE_ROOM) ≤ replies.old.room → IsOk result }
+    ensures left { replies.old.room ≤ replies.new.room + (5 * (HEAD_ROOM + SAMPLE_ROOM)) }
 {
     put_alone(
         replies,
         Kind::Counter,
-        b"rights_log_number",
-        b"Number of the last entry of the site's log.",
+        b"rights_log_moves_total",
+        b"Moves in the site's log: the number of its last entry.",
         metrics.log_number,
     )?;
     put_alone(
@@ -175,6 +175,13 @@ fn put_state<A: Allocator>(metrics: &Metrics, replies: &mut Replies<A>) -> Resul
         b"rights_outcomes_unread",
         b"Slots of the queue taken by outcomes that nobody has read.",
         metrics.outcomes_unread,
+    )?;
+    put_alone(
+        replies,
+        Kind::Gauge,
+        b"rights_clock_behind_seconds",
+        b"How far the wall clock is behind the site's time, rounded up.",
+        metrics.clock_behind,
     )
 }
 
@@ -220,14 +227,15 @@ fn put_logs<A: Allocator>(
 ) -> Result<(), OutOfMemory>
     ensures ok { OnOk result (replies.new.part ≡ replies.old.part ++ flat_map led_lines (log_metrics peers.now)) }
     ensures kept { replies.new.whole ≡ replies.old.whole }
-    ensures room { 5 * HEAD_ROOM + 5 * (SAMPLE_ROOM * length peers.now) ≤ replies.old.room → IsOk result }
-    ensures left { replies.old.room ≤ replies.new.room + (5 * HEAD_ROOM + 5 * (SAMPLE_ROOM * length peers.now)) }
+    ensures room { 6 * HEAD_ROOM + 6 * (SAMPLE_ROOM * length peers.now) ≤ replies.old.room → IsOk result }
+    ensures left { replies.old.room ≤ replies.new.room + (6 * HEAD_ROOM + 6 * (SAMPLE_ROOM * length peers.now)) }
 {
     put_by_peer(replies, peers, PeerValue::Applied)?;
     put_by_peer(replies, peers, PeerValue::Buffering)?;
     put_by_peer(replies, peers, PeerValue::Held)?;
     put_by_peer(replies, peers, PeerValue::Receiving)?;
-    put_by_peer(replies, peers, PeerValue::Sending)
+    put_by_peer(replies, peers, PeerValue::Sending)?;
+    put_by_peer(replies, peers, PeerValue::Silent)
 }
 
 fn put_lines<A: Allocator>(

@@ -16,6 +16,7 @@ mod peers;
 mod queue;
 mod reply;
 mod sending;
+mod silence;
 mod texts;
 mod tick;
 
@@ -27,5 +28,6 @@ pub use peers::{Peers, send_to_all};
 pub use queue::answer_queue;
 pub use reply::Reply;
 pub use sending::{Sink, send_due};
+pub use silence::{is_silent, note_silent};
 pub use texts::TICK_ROOM;
 pub use tick::{Ticked, serve_due, serve_due_beside};

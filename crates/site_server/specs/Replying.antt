@@ -1,5 +1,5 @@
 -- The reply to each line of a client at a running site, and its effect on the client's seat and on the peers.
-use Rattle.std.specs.Prelude.{◌≡◌, ℕ, ◌-◌, nat_le, List, [], ◌∷◌, ◌++◌, length, take, Option, Some, None, Result, Ok, Err}
+use Rattle.std.specs.Prelude.{◌≡◌, ℕ, ◌-◌, nat_le, Bool, false, List, [], ◌∷◌, ◌++◌, length, take, Option, Some, None, Result, Ok, Err}
 use Rattle.std.specs.Prelude.{if◌then◌else◌}
 use Rattle.rights_types.specs.declared.limits.TheConstants.{MAX_LINE}
 use Rattle.rights_book.specs.Books.{peer}
@@ -84,17 +84,18 @@ module _ {P : Type 0} (size : P → ℕ) (sends : P → ℕ → ℕ → P → Ty
       (fault ≡ OutOfMemory) × StopsAtPeer sends stops (size before) before after
   ThenSends (Err fault) before result after = (result ≡ Err fault) × (after ≡ before)
 
-  pub record TicksAndSends (id : DeskId) (was : SeatedValue) (before : P) (time : ℕ)
+  -- a tick beside these silent sites
+  pub record TicksAndSends (silent : ℕ → Bool) (id : DeskId) (was : SeatedValue) (before : P) (time : ℕ)
       (result : Result (Ticked × ℕ) DeskError) (now : SeatedValue) (after : P) : Type 0 where
     pub ticked : Result Ticked DeskError
-    pub at_desk : TicksAtDesk id was time ticked now
+    pub at_desk : TicksAtDesk silent id was time ticked now
     pub then_sends : ThenSends ticked before result after
 
-  -- the same, and this is the text of the reply
+  -- the same with no site silent, and this is the text of the reply
   pub record DoesDue (id : DeskId) (was : SeatedValue) (before : P) (time : ℕ) (text : List ℕ) (now : SeatedValue)
       (after : P) : Type 0 where
     pub result : Result (Ticked × ℕ) DeskError
-    pub does : TicksAndSends id was before time result now after
+    pub does : TicksAndSends (λ j. false) id was before time result now after
     pub says : text ≡ tick_text result
 
   -- ---- lines

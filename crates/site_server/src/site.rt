@@ -17,8 +17,10 @@ mod runtime;
 mod serving;
 mod settling;
 mod shared;
+mod site_time;
 mod slots;
 mod starting;
+mod tick_log;
 mod tick_signal;
 mod ticking;
 
@@ -31,7 +33,7 @@ use crate::site::runtime::SiteRuntime;
 use crate::site::serving::begin_clients;
 use crate::site::shared::{COMMANDS, Shared};
 use crate::site::starting::start_once;
-use crate::site::ticking::begin_ticks;
+use crate::site::ticking::{begin_ticks, tick_last};
 use apply_lanes::{Blanks, DeskNames};
 use desk_turns::Seats;
 use line_streams::ConversationError;
@@ -61,8 +63,9 @@ struct Streams<I, W, E> {
 /// Runs one site until `quit` or the end of its commands. It listens before it reads the first one. Replies are
 /// written before each read, so they never wait for further commands. A read or a write of `errors` that fails with
 /// `WouldBlock` is tried again: no thread but that of the log waits for `errors`, and a silent input does not keep the
-/// site from ending for lack of memory. Errors before the first read, in this order: `StartedBefore` or
-/// `CannotCreateStartFile`; `CannotListen`; `OutOfMemory`, also if a thread cannot be started.
+/// site from ending for lack of memory. Errors before the first read, in this order: `CannotListen`; `StartedBefore` or
+/// `CannotCreateStartFile`; `OutOfMemory`, also if a thread cannot be started. So a site that cannot listen does not
+/// count as started.
 pub fn run_site<
     R: Net<Listener = TcpListener, Stream = TcpStream>
         + Threads
@@ -76,8 +79,8 @@ pub fn run_site<
     W: Write,
     E: Write + Send + Drop,
 >(rt: &R, config: Config, reader: &mut I, writer: &mut W, errors: E) -> Result<(), SiteFault> {
-    start_once(rt, config.once())?;
     let site = SiteSockets::open(rt, &config)?;
+    start_once(rt, config.once())?;
     site.announce(rt, &config);
     let desk = Desk::new(rt.alloc(), config.id(), config.sites())?;
     let streams = Streams {
@@ -204,11 +207,23 @@ fn run_threads<D: DeskNames + Send + Sync, R: SiteRuntime, I: Read + Drop, W: Wr
         let ended = if begin_all(scope, rt, site, every, seats, links) {
             answer_commands(rt, site, seats, &mut reader, &mut writer)
         } else {
+            say_no_thread(rt, site);
             Err(ConversationError::OutOfMemory)
         };
+        site.end_clients(rt);
+        if ended.is_ok() {
+            tick_last(rt, site, seats);
+        }
         site.shut_down(rt);
         ended
     })
+}
+
+/// Logs what the system refused, if events are logged.
+fn say_no_thread<R: Wait>(rt: &R, site: &SiteSockets) {
+    if site.logs_events {
+        site.log.put(rt, "a thread could not be started");
+    }
 }
 
 /// Answers the commands, with their seat. If the site cannot continue for lack of memory, no further read begins.

@@ -62,6 +62,7 @@ fn run_acceptor<R: Threads + Wait + Clock + AllocGlobal + Sync>(rt: &R, site: &S
                 .is_err()
             {
                 site.handshakes.leave(rt, place);
+                site.listening.note_no_thread(rt);
             }
         }
     })

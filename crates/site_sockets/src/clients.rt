@@ -7,16 +7,19 @@ use crate::budget::{Budget, Share};
 use crate::client_stream::{ClientReader, ClientWriter, IDLE_MILLISECONDS, RESPONSE_MILLISECONDS};
 use crate::connection_pool::{ConnectionPool, NoPlace};
 use crate::deadline_reader::DeadlineReader;
+use crate::listening::Listening;
+use crate::stopwatch::Stopwatch;
 use log_lines::LogQueue;
+use rights_types::OutOfMemory;
 use site_metrics::CLIENTS;
-use site_words::{Config, SiteFault};
+use site_words::Config;
 use std::alloc::{AllocError, Global};
+use std::io;
 use std::io::Read;
-use std::net::{Net, Shutdown, TcpListener, TcpStream};
+use std::net::{Shutdown, TcpStream};
 use std::sync::atomic::{AtomicBool, Ordering};
 use std::sync::{Arc, Wait};
-use std::time::{Clock, Duration, Instant};
-use std::{io, thread};
+use std::time::{Clock, Duration};
 
 /// How many connections may be closing at a time: those that are turned away, and those that have got their last
 /// response. A further one that would be turned away is closed.
@@ -24,9 +27,6 @@ const CLOSING: usize = 192;
 
 /// For how many seconds input is still read from a client that is turned away, or that has got its last response.
 const LAST_READ_SECONDS: u64 = 1;
-
-/// How many milliseconds the accepting thread pauses after a connection could not be accepted.
-const REST_MILLISECONDS: u64 = 10;
 
 /// How many milliseconds a connection waits at least before it ends for another one, and how long a new one waits for
 /// a place if none has waited so long.
@@ -72,13 +72,12 @@ struct Watched {
 /// Accepts the connections of clients.
 #[derive(Drop)]
 pub struct Clients {
-    listener: TcpListener,
+    listening: Listening,
     /// Where it is logged that clients are turned away, if it is.
     log: Option<Arc<LogQueue>>,
     /// The names of the host to which the site answers, besides `localhost`.
     pub hosts: Vec<String>,
-    /// Times are milliseconds since then.
-    began: Instant,
+    stopwatch: Stopwatch,
     pool: ConnectionPool,
     /// What is known of each connection in it.
     watched: Vec<Watched>,
@@ -89,33 +88,31 @@ pub struct Clients {
 }
 
 impl Clients {
-    pub(crate) fn new<R: Clock + AllocGlobal>(
-        rt: &R,
-        listener: TcpListener,
+    pub(crate) fn new(
+        alloc: Global,
+        listening: Listening,
+        stopwatch: Stopwatch,
         config: &Config,
         log: Option<Arc<LogQueue>>,
-    ) -> Result<Clients, SiteFault>
+    ) -> Result<Clients, OutOfMemory>
         ensures { IfOk result (λ clients. map string_bytes clients.hosts.items ≡ config.now.options.hosts) }
     {
-        let mut watched = Vec::with_capacity(rt.alloc(), CLIENTS)?;
+        let mut watched = Vec::with_capacity(alloc, CLIENTS)?;
         for _ in 0..CLIENTS {
             watched.push(Watched {
                 activity: Activity::new(),
                 share: Share::new(),
             })?;
         }
-        let Ok(began) = Instant::now(rt) else {
-            return Err(SiteFault::CannotListen);
-        };
         Ok(Clients {
-            listener,
+            listening,
             log,
-            hosts: copies_of(rt.alloc(), config.hosts())?,
-            began,
-            pool: ConnectionPool::new(rt.alloc(), CLIENTS)?,
+            hosts: copies_of(alloc, config.hosts())?,
+            stopwatch,
+            pool: ConnectionPool::new(alloc, CLIENTS)?,
             watched,
             budget: Budget::new(),
-            closing: ConnectionPool::new(rt.alloc(), CLOSING)?,
+            closing: ConnectionPool::new(alloc, CLOSING)?,
             is_full: AtomicBool::new(false),
         })
     }
@@ -127,22 +124,20 @@ impl Clients {
 
     /// The next connection that gets a place. `None` once the site ends.
     pub fn next<R: Wait + Clock>(&self, rt: &R) -> Option<Accepted> {
-        for stream in self.listener.incoming() {
+        for _ in rt.forever() {
             if self.pool.is_closed(rt) {
                 return None;
             }
-            let Ok(stream) = stream else {
-                thread::sleep(rt, Duration::from_millis(REST_MILLISECONDS));
-                continue;
-            };
-            if let Some(accepted) = self.admit(rt, stream) {
+            if let Some(accepted) = self.admit(rt) {
                 return Some(accepted);
             }
         }
-        None
+        unreachable!()
     }
 
-    fn admit<R: Wait + Clock>(&self, rt: &R, stream: TcpStream) -> Option<Accepted> {
+    /// A connection that comes soon, and gets a place.
+    fn admit<R: Wait + Clock>(&self, rt: &R) -> Option<Accepted> {
+        let stream = self.listening.look(rt)?;
         prepare(&stream).ok()?;
         let why = match self.enter(rt, &stream) {
             Ok(place) => {
@@ -266,6 +261,11 @@ impl Clients {
         ClientWriter::new(rt, self, stream, place.index)
     }
 
+    /// No thread could be started for a connection.
+    pub fn note_no_thread<R: Wait + Clock>(&self, rt: &R) {
+        self.listening.note_no_thread(rt);
+    }
+
     /// Frees the place of a client.
     pub fn leave<R: Wait>(&self, rt: &R, place: ClientPlace) {
         if let Some(watched) = self.watched.get(place.index) {
@@ -299,10 +299,9 @@ impl Clients {
 
     /// Accepts no further client, and lets no further request begin. Waits until the requests that have begun are
     /// answered, or the time is over.
-    pub(crate) fn end<R: Net<Stream = TcpStream> + Wait + Clock>(&self, rt: &R, time: Duration) {
+    pub(crate) fn end<R: Wait + Clock>(&self, rt: &R, time: Duration) {
         self.pool.end(rt);
         self.closing.end(rt);
-        wake(rt, &self.listener);
         self.pool.wait_until_empty(rt, time);
     }
 
@@ -317,8 +316,7 @@ impl Clients {
 impl Clients {
     /// How many milliseconds it is since the site began.
     pub(crate) fn now<R: Clock>(&self, rt: &R) -> io::Result<u64> {
-        let time = self.began.elapsed(rt)?;
-        Ok(u64::try_from(time.as_millis()).unwrap_or(u64::MAX))
+        self.stopwatch.read(rt)
     }
 
     pub(crate) fn is_crowded(&self) -> bool {
@@ -379,13 +377,6 @@ fn copies_of(alloc: Global, texts: &[String]) -> Result<Vec<String>, AllocError>
         copies.push(String::from_str(alloc, text.as_str())?)?;
     }
     Ok(copies)
-}
-
-/// Wakes the thread that accepts connections, by connecting to it.
-pub(crate) fn wake<R: Net<Stream = TcpStream>>(rt: &R, listener: &TcpListener) {
-    if let Ok(address) = listener.local_addr() {
-        let _ = TcpStream::connect_timeout(rt, &address, Duration::from_secs(1));
-    }
 }
 
 /// Sets the stream to send replies without delay, and not to wait for the client for longer than it may take.

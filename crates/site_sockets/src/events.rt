@@ -8,6 +8,12 @@ use std::fmt::Display;
 use std::sync::atomic::{AtomicBool, AtomicU64, Ordering};
 use std::sync::{Arc, Wait};
 
+/// How many milliseconds a connection has to last, after one that did not, before sending counts as resumed: at first, and
+/// at most. Each further one that does not last doubles it, and one that lasts so long at most ends it.
+const MIN_PATIENCE: u64 = 1_000;
+
+const MAX_PATIENCE: u64 = 64_000;
+
 /// Why lines of a peer are skipped.
 #[derive(Clone, Copy, Debug, PartialEq, Eq)]
 pub enum SkipCause {
@@ -52,6 +58,10 @@ pub struct LinkEvents {
     counters: PeerCounters,
     /// Whether sending failed, and has not been resumed.
     failed: AtomicBool,
+    /// How many milliseconds the next connection to the peer has to last before sending counts as resumed.
+    patience: AtomicU64,
+    /// For how many milliseconds nothing had been read of the peer at the last tick, if it was silent then; else 0.
+    silent: AtomicU64,
     /// Whether entries are missing.
     lacking: AtomicBool,
     /// The causes for which lines were skipped since a line was last taken.
@@ -65,6 +75,8 @@ impl LinkEvents {
             log,
             counters: PeerCounters::new(),
             failed: AtomicBool::new(false),
+            patience: AtomicU64::new(0),
+            silent: AtomicU64::new(0),
             lacking: AtomicBool::new(false),
             skipping: AtomicU64::new(0),
         }
@@ -110,8 +122,42 @@ impl LinkEvents {
         self.say(rt, "receives from it no more");
     }
 
-    /// A connection is open on which lines go to the peer.
-    pub(crate) fn sends<R: Wait>(&self, rt: &R) {
+    /// A connection was made on which lines go to the peer. If the last one did not last, sending is not resumed yet.
+    pub(crate) fn connects<R: Wait>(&self, rt: &R) {
+        if !self.is_on_trial() {
+            self.sends(rt);
+        }
+    }
+
+    /// Whether it is still to be seen if the connection lasts: the far end of a tunnel may be dead, whose near end takes
+    /// every connection.
+    pub(crate) fn is_on_trial(&self) -> bool {
+        self.patience.load(Ordering::Relaxed) > 0
+    }
+
+    /// The connection to the peer has lasted for so many milliseconds.
+    pub(crate) fn lasts<R: Wait>(&self, rt: &R, time: u64) {
+        if time >= self.patience.load(Ordering::Relaxed) {
+            self.sends(rt);
+        }
+        if time >= MAX_PATIENCE {
+            self.patience.store(0, Ordering::Relaxed);
+        }
+    }
+
+    /// The connection to the peer broke after so many milliseconds.
+    pub(crate) fn breaks<R: Wait>(&self, rt: &R, time: u64) {
+        if time < MAX_PATIENCE {
+            let patience = self.patience.load(Ordering::Relaxed);
+            let longer = patience.saturating_mul(2).max(MIN_PATIENCE);
+            self.patience
+                .store(longer.min(MAX_PATIENCE), Ordering::Relaxed);
+        }
+        self.sends_no_more(rt, "a write failed");
+    }
+
+    /// Lines go to the peer.
+    fn sends<R: Wait>(&self, rt: &R) {
         self.failed.store(false, Ordering::Relaxed);
         let is_new = !self.counters.is_sending();
         self.counters.set_sending(true);
@@ -120,7 +166,7 @@ impl LinkEvents {
         }
     }
 
-    /// That connection has ended, or none could be made. A line was lost with it.
+    /// No connection to the peer is open, or none could be made. A line was lost with it.
     pub(crate) fn sends_no_more<R: Wait>(&self, rt: &R, cause: &str) {
         self.drops_line();
         self.counters.set_sending(false);
@@ -132,6 +178,27 @@ impl LinkEvents {
     /// Whether the last connection to the peer ended, or could not be made.
     pub(crate) fn cannot_send(&self) -> bool {
         self.failed.load(Ordering::Relaxed)
+    }
+
+    /// At a tick, nothing had been read of the peer for so many milliseconds, which makes it silent; 0 if it is not.
+    pub fn notes_silence<R: Wait>(&self, rt: &R, time: u64) {
+        let before = self.silent.swap(time, Ordering::Relaxed);
+        if (time > 0) == (before > 0) {
+            return;
+        }
+        if time > 0 {
+            self.say(
+                rt,
+                format_args!("silent: nothing came from it for {} milliseconds", time),
+            );
+        } else {
+            self.say(rt, "silent no more");
+        }
+    }
+
+    /// For how many milliseconds nothing had been read of the peer at the last tick, if it was silent then; else 0.
+    pub fn silent(&self) -> u64 {
+        self.silent.load(Ordering::Relaxed)
     }
 
     /// Lines for the peer are about to be made of a log that ends at this number.

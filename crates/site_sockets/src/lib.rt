@@ -11,6 +11,8 @@ mod connection_pool;
 mod connection_slot;
 mod deadline_reader;
 mod events;
+mod limits;
+mod listening;
 mod peer;
 mod peer_reader;
 mod peer_writer;
@@ -20,6 +22,7 @@ mod sending;
 mod shutdown_handle;
 mod site;
 mod site_clock;
+mod stopwatch;
 mod tick_notifier;
 
 pub use acceptor::begin_acceptor;

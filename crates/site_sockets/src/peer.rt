@@ -8,6 +8,7 @@ use crate::connection_slot::ConnectionSlot;
 use crate::events::LinkEvents;
 use crate::peer_writer::PeerWriter;
 use crate::shutdown_handle::ShutdownHandle;
+use crate::stopwatch::Stopwatch;
 use log_lines::LogQueue;
 use peer_links::{OUTBOX_LINES, Outbox, OutboxLines};
 use rights_types::{MAX_HELD, OutOfMemory, SiteId};
@@ -39,6 +40,9 @@ pub struct PeerState {
     /// The state of the buffer after the last line, in one word, since the reading thread records it after each line:
     /// twice the number of held entries, and 1 more if entries are missing.
     buffer: AtomicU64,
+    stopwatch: Stopwatch,
+    /// When something was last read of it, in milliseconds since the site began; 0 if nothing was.
+    heard: AtomicU64,
     /// Whether a tick waited in vain until the lines in the outbox are sent, and they were not sent since.
     stalled: AtomicBool,
 }
@@ -48,6 +52,7 @@ impl PeerState {
         alloc: Global,
         site: SiteId,
         address: &str,
+        stopwatch: Stopwatch,
         log: Option<Arc<LogQueue>>,
     ) -> Result<PeerState, OutOfMemory> {
         Ok(PeerState {
@@ -59,6 +64,8 @@ impl PeerState {
             connection_slot: ConnectionSlot::new(),
             events: LinkEvents::new(site, log),
             buffer: AtomicU64::new(0),
+            stopwatch,
+            heard: AtomicU64::new(0),
             stalled: AtomicBool::new(false),
         })
     }
@@ -113,6 +120,23 @@ impl PeerState {
         (word % 2 == 1, (word / 2) as usize)
     }
 
+    /// Records that something was read of it.
+    pub(crate) fn note_heard<R: Clock>(&self, rt: &R) {
+        self.heard.store(self.now(rt), Ordering::Relaxed);
+    }
+
+    /// For how many milliseconds nothing has been read of it. A peer of which nothing was read yet counts from the start
+    /// of the site.
+    pub fn unheard<R: Clock>(&self, rt: &R) -> u64 {
+        self.now(rt)
+            .saturating_sub(self.heard.load(Ordering::Relaxed))
+    }
+
+    /// How many milliseconds it is since the site began.
+    pub(crate) fn now<R: Clock>(&self, rt: &R) -> u64 {
+        self.stopwatch.read(rt).unwrap_or(0)
+    }
+
     /// Closes every stream, and lets no other be opened.
     pub(crate) fn close<R: Wait>(&self, rt: &R) {
         self.outbox.abandon(rt);
@@ -156,12 +180,14 @@ impl PeerLines<'_> {
 pub(crate) fn peers_of(
     alloc: Global,
     config: &Config,
+    stopwatch: Stopwatch,
     log: &Arc<LogQueue>,
 ) -> Result<Vec<PeerState>, OutOfMemory> {
     let mut peers = Vec::new(alloc);
     for peer in config.peers() {
         let log = event_log(config, log)?;
-        peers.push(PeerState::new(alloc, peer.site(), peer.address(), log)?)?;
+        let (site, address) = (peer.site(), peer.address());
+        peers.push(PeerState::new(alloc, site, address, stopwatch, log)?)?;
     }
     Ok(peers)
 }

@@ -1,5 +1,6 @@
 //! Sending the lines that wait in the outboxes to the peers.
 
+use crate::limits::handle_limit;
 use crate::peer::PeerState;
 use crate::peer_writer::{PatientStream, Writing};
 use crate::polling::Polling;
@@ -9,12 +10,14 @@ use line_streams::write_whole;
 use peer_links::{Batch, LineSource, Outbox, write_link};
 use rights_types::{Message, SiteId};
 use std::alloc::Global;
+use std::io::{ErrorKind, Write};
 use std::marker::Model;
 use std::net::{Net, TcpListener, TcpStream, ToSocketAddrs};
 use std::sync::{Condvar, CondvarTimeouts, Mutex, Wait};
-use std::thread;
 use std::thread::{Scope, Threads};
 use std::time::{Clock, Duration, Instant};
+use std::{io, thread};
+use timed_streams::wait_readable;
 
 /// How often a sending thread looks for a line before it sleeps, if it polls: for some 50 microseconds.
 const LOOKS: u32 = 150;
@@ -139,9 +142,12 @@ fn send_to<R: Net<Stream = TcpStream> + Wait + Clock + AllocGlobal>(
         let Some(line) = peer.outbox.take(rt) else {
             break;
         };
-        let Some(stream) = connect(rt, peer.address.as_str()) else {
-            peer.events.sends_no_more(rt, "it cannot be connected to");
-            continue;
+        let stream = match connect(rt, peer.address.as_str()) {
+            Ok(stream) => stream,
+            Err(error) => {
+                peer.events.sends_no_more(rt, cause_of(&error));
+                continue;
+            }
         };
         if send_by(rt, site, peer, stream, line) {
             break;
@@ -160,31 +166,36 @@ fn try_address<R: Net + Wait>(rt: &R, peer: &PeerState) {
 }
 
 /// Sends this line and all that wait after it on a connection. `false` if that failed, or the site has ended.
-fn send_by<R: Wait + AllocGlobal>(
-    rt: &R,
+fn send_by<'x, R: Wait + Clock + AllocGlobal>(
+    rt: &'x R,
     site: &SiteSockets,
-    peer: &PeerState,
+    peer: &'x PeerState,
     mut stream: TcpStream,
     line: Vec<u8>,
 ) -> bool {
     if !peer.sending.hold(rt, &stream) {
         return false;
     }
-    peer.events.sends(rt);
+    let since = peer.now(rt);
+    peer.events.connects(rt);
     peer.events.writes();
     let is_sent = send_hello(rt.alloc(), site.id, &mut stream, line.as_slice())
         && {
             peer.writer.open(rt, &stream);
-            let mut stream = PatientStream {
-                rt,
-                stream: &stream,
+            let mut stream = ProvingStream {
+                stream: PatientStream {
+                    rt,
+                    stream: &stream,
+                },
+                peer,
+                since,
             };
             write_link(rt, &mut stream, &mut Noted::new(peer)).is_ok()
         };
     peer.writer.close(rt);
     peer.sending.release(rt);
     if !is_sent {
-        peer.events.sends_no_more(rt, "a write failed");
+        peer.events.breaks(rt, peer.now(rt).saturating_sub(since));
     }
     is_sent
 }
@@ -197,20 +208,66 @@ fn send_hello(alloc: Global, site: SiteId, stream: &mut TcpStream, line: &[u8]) 
     text.extend_from_slice(line).is_ok() && write_whole(stream, text.as_slice()).is_ok()
 }
 
-/// One attempt to connect. The addresses of the name are tried in turn, `CONNECT_SECONDS` in all. `None` if none
-/// could be connected to.
-fn connect<R: Net<Stream = TcpStream> + Clock>(rt: &R, address: &str) -> Option<TcpStream> {
-    let addresses = address.to_socket_addrs(rt).ok()?;
-    let since = Instant::now(rt).ok()?;
+/// A connection to a peer which, while it is on trial, is looked at before each write.
+#[derive(Drop)]
+struct ProvingStream<'a, R: Wait> {
+    stream: PatientStream<'a, R>,
+    peer: &'a PeerState,
+    /// When it was made.
+    since: u64,
+}
+
+impl<R: Wait + Clock> ProvingStream<'_, R> {
+    /// The peer sends nothing on this connection, so there is something to be read only if it has ended.
+    fn prove(&self) -> io::Result<()> {
+        if wait_readable(self.stream.stream, 0).is_ok() {
+            return Err(io::Error::from(ErrorKind::ConnectionReset));
+        }
+        let rt = self.stream.rt;
+        let time = self.peer.now(rt).saturating_sub(self.since);
+        self.peer.events.lasts(rt, time);
+        Ok(())
+    }
+}
+
+impl<R: Wait + Clock> Write for ProvingStream<'_, R> {
+    fn write(&mut self, buf: &[u8]) -> io::Result<usize> {
+        if self.peer.events.is_on_trial() {
+            self.prove()?;
+        }
+        self.stream.write(buf)
+    }
+
+    fn flush(&mut self) -> io::Result<()> {
+        Ok(())
+    }
+}
+
+/// One attempt to connect. The addresses of the name are tried in turn, `CONNECT_SECONDS` in all.
+fn connect<R: Net<Stream = TcpStream> + Clock>(rt: &R, address: &str) -> io::Result<TcpStream> {
+    let addresses = address.to_socket_addrs(rt)?;
+    let since = Instant::now(rt)?;
+    let mut last = io::Error::from(ErrorKind::AddrNotAvailable);
     for address in addresses {
-        let left = Duration::from_secs(CONNECT_SECONDS).checked_sub(since.elapsed(rt).ok()?)?;
-        if let Ok(stream) = TcpStream::connect_timeout(rt, &address, left) {
-            // Lines are sent without delay.
-            let _ = stream.set_nodelay(true);
-            return Some(stream);
+        let waited = since.elapsed(rt)?;
+        let Some(left) = Duration::from_secs(CONNECT_SECONDS).checked_sub(waited) else {
+            break;
+        };
+        match TcpStream::connect_timeout(rt, &address, left) {
+            Ok(stream) => {
+                // Lines are sent without delay.
+                let _ = stream.set_nodelay(true);
+                return Ok(stream);
+            }
+            Err(error) => last = error,
         }
     }
-    None
+    Err(last)
+}
+
+/// Why there is no connection.
+fn cause_of(error: &io::Error) -> &'static str {
+    handle_limit(error).unwrap_or("it cannot be connected to")
 }
 
 /// Starts the thread that sends to this peer. `false` if it could not be started.

@@ -2,11 +2,13 @@
 ghost use Rattle.std.specs.Prelude.{◌≡◌, IfSome};
 
 use crate::acceptor::WAITING;
-use crate::clients::{Clients, wake};
-use crate::connection_pool::ConnectionPool;
+use crate::clients::Clients;
+use crate::connection_pool::{ConnectionPool, NoPlace};
+use crate::listening::{Listening, listen};
 use crate::peer::{PeerState, event_log, peers_of};
 use crate::sending::Senders;
 use crate::site_clock::SiteClock;
+use crate::stopwatch::Stopwatch;
 use crate::tick_notifier::TickNotifier;
 use log_lines::LogQueue;
 use rights_types::{OutOfMemory, SiteId};
@@ -16,7 +18,6 @@ use std::alloc::Global;
 use std::net::{Net, TcpListener, TcpStream};
 use std::sync::atomic::{AtomicBool, Ordering};
 use std::sync::{Arc, Wait};
-use std::thread;
 use std::time::{Clock, Duration};
 
 /// How many seconds an attempt to connect may take.
@@ -28,14 +29,11 @@ const LAST_REPLIES_SECONDS: u64 = 1;
 /// For how many seconds after that lines that wait are still written.
 const LAST_LINES_SECONDS: u64 = 1;
 
-/// How many milliseconds the accepting thread pauses after a connection could not be accepted.
-const REST_MILLISECONDS: u64 = 10;
-
 /// What the threads of a site share, besides its desk.
 #[derive(Drop)]
 pub struct SiteSockets {
     pub(crate) id: SiteId,
-    listener: TcpListener,
+    pub(crate) listening: Listening,
     /// The peers, in the order of the sites.
     peers: Vec<PeerState>,
     /// The connections that wait for their first line.
@@ -44,7 +42,12 @@ pub struct SiteSockets {
     /// Accepts clients, if any may connect.
     pub clients: Option<Clients>,
     pub tick_notifier: TickNotifier,
-    pub clock: SiteClock,
+    /// The site's own clock, if it ticks by itself.
+    pub clock: Option<SiteClock>,
+    /// After how many milliseconds in which nothing was read of it a peer counts as silent. `None` if never.
+    pub silent_after: Option<u64>,
+    /// Whether events are logged.
+    pub logs_events: bool,
     /// Counters of the commands that were answered.
     pub commands: Counters,
     /// The log lines that wait to be written.
@@ -62,28 +65,35 @@ impl SiteSockets {
         rt: &R,
         config: &Config,
     ) -> Result<SiteSockets, SiteFault> {
+        let Ok(stopwatch) = Stopwatch::start(rt) else {
+            return Err(SiteFault::CannotListen);
+        };
         let listener = listen(rt, config.listen())?;
         let log = Arc::new(rt.alloc(), LogQueue::new(rt.alloc())?)?;
-        let clients = clients_of(rt, config, &log)?;
-        Ok(SiteSockets::new(rt.alloc(), config, listener, clients, log)?)
+        let listening = Listening::new(listener, stopwatch, event_log(config, &log)?);
+        let clients = clients_of(rt, config, stopwatch, &log)?;
+        Ok(SiteSockets::new(rt.alloc(), config, stopwatch, listening, clients, log)?)
     }
 
     fn new(
         alloc: Global,
         config: &Config,
-        listener: TcpListener,
+        stopwatch: Stopwatch,
+        listening: Listening,
         clients: Option<Clients>,
         log: Arc<LogQueue>,
     ) -> Result<SiteSockets, OutOfMemory> {
         Ok(SiteSockets {
             id: config.id(),
-            listener,
-            peers: peers_of(alloc, config, &log)?,
+            listening,
+            peers: peers_of(alloc, config, stopwatch, &log)?,
             handshakes: ConnectionPool::new(alloc, WAITING)?,
             senders: Senders::new(),
             clients,
             tick_notifier: TickNotifier::new(),
-            clock: SiteClock::new(config.tick().is_some()),
+            clock: config.tick().map(|_| SiteClock::new()),
+            silent_after: config.silent_after(),
+            logs_events: config.log(),
             commands: Counters::new(),
             log,
             out_of_memory: AtomicBool::new(false),
@@ -157,28 +167,41 @@ impl SiteSockets {
 
     /// The next connection that gets a place to wait for its first line. `None` once the site ends.
     pub(crate) fn accept<R: Wait + Clock>(&self, rt: &R) -> Option<(TcpStream, usize)> {
-        for stream in self.listener.incoming() {
+        for _ in rt.forever() {
             if self.handshakes.is_closed(rt) {
                 return None;
             }
-            let Ok(stream) = stream else {
-                thread::sleep(rt, Duration::from_millis(REST_MILLISECONDS));
-                continue;
-            };
-            if let Ok(place) = self.handshakes.enter(rt, &stream) {
-                return Some((stream, place));
+            if let Some(accepted) = self.next(rt) {
+                return Some(accepted);
             }
         }
-        None
+        unreachable!()
     }
 
-    /// Ends all threads: for a while requests that have begun are still answered and lines that wait still sent; then
-    /// every stream is closed.
-    pub fn shut_down<R: Net<Stream = TcpStream> + Wait + Clock>(&self, rt: &R) {
+    /// A connection that comes soon, and its place.
+    fn next<R: Wait + Clock>(&self, rt: &R) -> Option<(TcpStream, usize)> {
+        let stream = self.listening.look(rt)?;
+        match self.handshakes.enter(rt, &stream) {
+            Ok(place) => Some((stream, place)),
+            Err(NoPlace::NoHandle) => {
+                self.listening.note_no_handle(rt);
+                None
+            }
+            Err(_) => None,
+        }
+    }
+
+    /// Ends the waiting for ticks, and lets no further request begin. For a while requests that have begun are still
+    /// answered.
+    pub fn end_clients<R: Wait + Clock>(&self, rt: &R) {
         self.tick_notifier.end(rt);
         if let Some(clients) = &self.clients {
             clients.end(rt, Duration::from_secs(LAST_REPLIES_SECONDS));
         }
+    }
+
+    /// Ends all threads: for a while lines that wait are still sent; then every stream is closed.
+    pub fn shut_down<R: Wait + Clock>(&self, rt: &R) {
         for peer in &self.peers {
             peer.outbox.end(rt);
         }
@@ -188,7 +211,7 @@ impl SiteSockets {
     }
 
     /// Closes every stream.
-    fn close<R: Net<Stream = TcpStream> + Wait>(&self, rt: &R) {
+    fn close<R: Wait>(&self, rt: &R) {
         self.is_over.store(true, Ordering::SeqCst);
         if let Some(clients) = &self.clients {
             clients.close(rt);
@@ -197,17 +220,6 @@ impl SiteSockets {
         for peer in &self.peers {
             peer.close(rt);
         }
-        wake(rt, &self.listener);
-    }
-}
-
-fn listen<R: Net<Listener = TcpListener, Stream = TcpStream>>(
-    rt: &R,
-    address: &str,
-) -> Result<TcpListener, SiteFault> {
-    match TcpListener::bind(rt, address) {
-        Ok(listener) => Ok(listener),
-        Err(_) => Err(SiteFault::CannotListen),
     }
 }
 
@@ -215,11 +227,14 @@ fn listen<R: Net<Listener = TcpListener, Stream = TcpStream>>(
 fn clients_of<R: Net<Listener = TcpListener, Stream = TcpStream> + Clock + AllocGlobal>(
     rt: &R,
     config: &Config,
+    stopwatch: Stopwatch,
     log: &Arc<LogQueue>,
 ) -> Result<Option<Clients>, SiteFault> {
     let Some(address) = config.http() else {
         return Ok(None);
     };
     let listener = listen(rt, address)?;
-    Ok(Some(Clients::new(rt, listener, config, event_log(config, log)?)?))
+    let listening = Listening::new(listener, stopwatch, event_log(config, log)?);
+    let events = event_log(config, log)?;
+    Ok(Some(Clients::new(rt.alloc(), listening, stopwatch, config, events)?))
 }

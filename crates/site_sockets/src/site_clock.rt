@@ -1,36 +1,48 @@
-//! The time of a site that ticks itself, as its threads share it.
+//! The time of a site that ticks by itself, as its threads share it.
 
-use std::sync::atomic::{AtomicU64, Ordering};
+use std::sync::atomic::{AtomicBool, AtomicU64, Ordering};
 
-/// The clock of a site.
+/// The latest time of the site, and how far the wall clock was behind it at the last tick, in milliseconds. No thread
+/// reads a time that is less than one that was read before.
 #[derive(Drop)]
 pub struct SiteClock {
-    /// Whether the site ticks itself. If not, its time comes with the ticks of its clients.
-    is_own: bool,
-    /// The time of its last tick, in milliseconds since 1970; 0 before the first one.
-    last: AtomicU64,
+    latest: AtomicU64,
+    behind: AtomicU64,
+    /// Whether the last tick was refused.
+    refused: AtomicBool,
 }
 
 impl SiteClock {
-    pub(crate) fn new(is_own: bool) -> SiteClock {
+    pub(crate) fn new() -> SiteClock {
         SiteClock {
-            is_own,
-            last: AtomicU64::new(0),
+            latest: AtomicU64::new(0),
+            behind: AtomicU64::new(0),
+            refused: AtomicBool::new(false),
         }
     }
 
-    /// Whether the site ticks itself.
-    pub fn is_own(&self) -> bool {
-        self.is_own
+    /// The latest time; 0 if there is none yet.
+    pub fn latest(&self) -> u64 {
+        self.latest.load(Ordering::SeqCst)
     }
 
-    /// The time of the site's last tick, in milliseconds since 1970; 0 before the first one.
-    pub fn last(&self) -> u64 {
-        self.last.load(Ordering::Relaxed)
+    /// Makes this the latest time if it is later, and returns the latest time.
+    pub fn advance(&self, time: u64) -> u64 {
+        self.latest.fetch_max(time, Ordering::SeqCst).max(time)
     }
 
-    /// Notes the time of a tick.
-    pub fn note(&self, time: u64) {
-        self.last.store(time, Ordering::Relaxed);
+    /// Records how far the wall clock is behind, and returns how far it was at the tick before.
+    pub fn note_behind(&self, behind: u64) -> u64 {
+        self.behind.swap(behind, Ordering::SeqCst)
+    }
+
+    /// Records whether the last tick was refused, and returns whether the one before was.
+    pub fn note_refused(&self, is_refused: bool) -> bool {
+        self.refused.swap(is_refused, Ordering::SeqCst)
+    }
+
+    /// How far the wall clock was behind at the last tick.
+    pub fn behind(&self) -> u64 {
+        self.behind.load(Ordering::SeqCst)
     }
 }

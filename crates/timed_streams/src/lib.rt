@@ -32,18 +32,28 @@ impl<S> TimedStream<S> {
 }
 
 impl<S: AsRawFd> TimedStream<S> {
-    /// Waits for these events. Errors: `WouldBlock` if none came in time, or what the system reports.
     fn wait(&self, events: i16) -> io::Result<()> {
-        let mut fds = [pollfd {
-            fd: self.stream.as_raw_fd(),
-            events,
-            revents: 0,
-        }];
-        match poll(&mut fds, i32::from(self.milliseconds)) {
-            -1 => Err(Error::from_raw_os_error(errno())),
-            0 => Err(Error::from(ErrorKind::WouldBlock)),
-            _ => Ok(()),
-        }
+        wait_for(&self.stream, events, self.milliseconds)
+    }
+}
+
+/// Waits until the stream or the listener has something to be read or accepted, for so many milliseconds at most.
+/// Errors: `WouldBlock` if nothing came in time, or what the system reports.
+pub fn wait_readable<S: AsRawFd>(stream: &S, milliseconds: u16) -> io::Result<()> {
+    wait_for(stream, POLLIN, milliseconds)
+}
+
+/// Waits for these events. Errors: `WouldBlock` if none came in time, or what the system reports.
+fn wait_for<S: AsRawFd>(stream: &S, events: i16, milliseconds: u16) -> io::Result<()> {
+    let mut fds = [pollfd {
+        fd: stream.as_raw_fd(),
+        events,
+        revents: 0,
+    }];
+    match poll(&mut fds, i32::from(milliseconds)) {
+        -1 => Err(Error::from_raw_os_error(errno())),
+        0 => Err(Error::from(ErrorKind::WouldBlock)),
+        _ => Ok(()),
     }
 }
 

@@ -21,9 +21,9 @@ rights_given_total 60\n\
 # HELP rights_taken_back_total Rights taken back after the site they were given to closed.\n\
 # TYPE rights_taken_back_total counter\n\
 rights_taken_back_total 3\n\
-# HELP rights_log_number Number of the last entry of the site's log.\n\
-# TYPE rights_log_number counter\n\
-rights_log_number 21\n\
+# HELP rights_log_moves_total Moves in the site's log: the number of its last entry.\n\
+# TYPE rights_log_moves_total counter\n\
+rights_log_moves_total 21\n\
 # HELP rights_closed 1 once the site has closed, else 0.\n\
 # TYPE rights_closed gauge\n\
 rights_closed 1\n\
@@ -33,6 +33,9 @@ rights_requests_waiting 2\n\
 # HELP rights_outcomes_unread Slots of the queue taken by outcomes that nobody has read.\n\
 # TYPE rights_outcomes_unread gauge\n\
 rights_outcomes_unread 4\n\
+# HELP rights_clock_behind_seconds How far the wall clock is behind the site's time, rounded up.\n\
+# TYPE rights_clock_behind_seconds gauge\n\
+rights_clock_behind_seconds 11\n\
 # HELP rights_clients HTTP connections that stand.\n\
 # TYPE rights_clients gauge\n\
 rights_clients 6\n\
@@ -61,10 +64,10 @@ rights_commands_refused_total{name=\"OwnClock\"} 0\n\
 # HELP rights_log_lines_dropped_total Log lines that were not written, since the log was not read.\n\
 # TYPE rights_log_lines_dropped_total counter\n\
 rights_log_lines_dropped_total 22\n\
-# HELP rights_peer_applied Number up to which the peer's log is applied.\n\
-# TYPE rights_peer_applied counter\n\
-rights_peer_applied{peer=\"2\"} 382\n\
-rights_peer_applied{peer=\"16\"} 0\n\
+# HELP rights_peer_moves_applied_total Moves of the peer's log that are applied.\n\
+# TYPE rights_peer_moves_applied_total counter\n\
+rights_peer_moves_applied_total{peer=\"2\"} 382\n\
+rights_peer_moves_applied_total{peer=\"16\"} 0\n\
 # HELP rights_peer_buffering 1 while entries of the peer wait for one that is missing, else 0.\n\
 # TYPE rights_peer_buffering gauge\n\
 rights_peer_buffering{peer=\"2\"} 1\n\
@@ -81,6 +84,10 @@ rights_peer_receiving{peer=\"16\"} 0\n\
 # TYPE rights_peer_sending gauge\n\
 rights_peer_sending{peer=\"2\"} 0\n\
 rights_peer_sending{peer=\"16\"} 1\n\
+# HELP rights_peer_silent_seconds How long nothing has come from the peer, once that makes it silent; else 0.\n\
+# TYPE rights_peer_silent_seconds gauge\n\
+rights_peer_silent_seconds{peer=\"2\"} 0\n\
+rights_peer_silent_seconds{peer=\"16\"} 13\n\
 # HELP rights_peer_lines_total Lines that came from the peer.\n\
 # TYPE rights_peer_lines_total counter\n\
 rights_peer_lines_total{peer=\"2\"} 500\n\

@@ -1,15 +1,16 @@
 //! The replies to a client of a site. site_node decides what is done and replied; this module decides under which
 //! lock of the desk it is done.
-ghost use Rattle.std.specs.Prelude.{◌≡◌, ◌++◌, ◌+◌, ◌≤◌, ◌⊎◌, List, ℕ, [], length, IfOk, OnOk, OnErr, Option, Result, Ok};
+ghost use Rattle.std.specs.Prelude.{◌≡◌, ◌++◌, ◌+◌, ◌≤◌, ◌⊎◌, false, List, ℕ, [], length, IfOk, OnOk, OnErr, Option, Ok};
 ghost use Rattle.std.specs.Io.KnownBytes.{IsAtEnd};
 ghost use Rattle.line_streams.specs.Handling.{IsGiven};
 ghost use Rattle.line_streams.specs.Talk.{Talk, EndsBy};
 ghost use Rattle.line_streams.specs.Waiting.{AddsReply};
 ghost use Rattle.reply_texts.specs.Texts.{bad_command, own_clock};
 ghost use Rattle.site_words.specs.Status.{status_text};
+ghost use Rattle.transfer_manager.specs.SiteSets.{has_site};
 ghost use Rattle.desk_turns.specs.Seated.{ActsAtDesk, TicksAtDesk};
 ghost use Rattle.site_server.specs.Replying.{asked, CarriesOut, AreOfPeers, AreViews};
-ghost use Rattle.site_server.specs.Replying.{TellsStatus, TellsQueue, TicksAndSends, DoesDue, GetsBy, GetsLine};
+ghost use Rattle.site_server.specs.Replying.{TellsStatus, TellsQueue, ThenSends, TicksAndSends, DoesDue, GetsBy, GetsLine};
 ghost use Rattle.site_server.specs.Conversations.{CountsReplies};
 
 use crate::site::outboxes::Outboxes;
@@ -30,6 +31,7 @@ use std::io::{Read, Write};
 use std::marker::Model;
 use std::sync::Wait;
 use std::time::Clock;
+use transfer_manager::SiteSet;
 
 /// A client of a site: a seat at its desk, its peers, and what notifies it of ticks.
 #[derive(Drop)]
@@ -227,32 +229,52 @@ impl<'a, D: DeskNames, R: Wait, P: Peers + Drop, B: TickSignal + Drop> SiteClien
         Ok(())
     }
 
-    /// Does everything due at this time, which is the wall clock's, with no reply.
-    pub(crate) fn tick_alone(&mut self, time: u64)
-        ensures { (outcome : Result (Ticked × ℕ) DeskError)
-            × TicksAndSends P.size P.sends P.stops D.id self.old.seat self.old.peers time outcome self.new.seat self.new.peers }
+    /// Does everything due at this time, which is the site's own, beside these silent peers.
+    pub(crate) fn tick_alone(
+        &mut self,
+        time: u64,
+        silent: SiteSet,
+    ) -> Result<(Ticked, u64), DeskError>
+        ensures { TicksAndSends P.size P.sends P.stops (has_site silent) D.id self.old.seat self.old.peers time result
+            self.new.seat self.new.peers }
     {
-        let _ = self.tick_and_send(time);
+        let at_desk = self.tick_beside(time, silent);
+        self.send_after(at_desk)
     }
 
     /// Does what is due at the desk under its lock, and then sends each peer what is due to it. In between, entries
     /// of peers may be applied.
     fn tick_and_send(&mut self, time: u64) -> Result<(Ticked, u64), DeskError>
-        ensures { TicksAndSends P.size P.sends P.stops D.id self.old.seat self.old.peers time result self.new.seat
-            self.new.peers }
+        ensures { TicksAndSends P.size P.sends P.stops (λ _. false) D.id self.old.seat self.old.peers time result
+            self.new.seat self.new.peers }
     {
         let ticked = self.tick_at_desk(time);
+        self.send_after(ticked)
+    }
+
+    fn tick_at_desk(&mut self, time: u64) -> Result<Ticked, DeskError>
+        ensures ticks { TicksAtDesk (λ _. false) D.id self.old.seat time result self.new.seat }
+        ensures rest { self.new ≡ record self.old { seat = self.new.seat } }
+    {
+        self.seat.tick(self.rt, time)
+    }
+
+    fn tick_beside(&mut self, time: u64, silent: SiteSet) -> Result<Ticked, DeskError>
+        ensures ticks { TicksAtDesk (has_site silent) D.id self.old.seat time result self.new.seat }
+        ensures rest { self.new ≡ record self.old { seat = self.new.seat } }
+    {
+        self.seat.tick_beside(self.rt, time, silent)
+    }
+
+    /// Notifies of a tick, and then, if it was not refused, sends each peer what is due to it.
+    fn send_after(&mut self, ticked: Result<Ticked, DeskError>) -> Result<(Ticked, u64), DeskError>
+        ensures sends { ThenSends P.size P.sends P.stops ticked self.old.peers result self.new.peers }
+        ensures seat { self.new.seat ≡ self.old.seat }
+    {
         self.signal.notify();
         let ticked = ticked?;
         let sent = send_to_all(&mut self.peers)?;
         Ok((ticked, sent))
-    }
-
-    fn tick_at_desk(&mut self, time: u64) -> Result<Ticked, DeskError>
-        ensures ticks { TicksAtDesk D.id self.old.seat time result self.new.seat }
-        ensures rest { self.new ≡ record self.old { seat = self.new.seat } }
-    {
-        self.seat.tick(self.rt, time)
     }
 
     /// Adds the status object.

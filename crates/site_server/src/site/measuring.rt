@@ -42,10 +42,19 @@ fn metrics_of<R: Wait>(rt: &R, site: &SiteSockets, values: DeskValues) -> Metric
         closed: desk.closed,
         requests_waiting: values.waiting as u64,
         outcomes_unread: values.unread as u64,
+        clock_behind: clock_behind(site),
         clients: site.client_count(rt) as u64,
         commands: site.commands.commands(),
         refused: site.commands.refused(),
         log_lines_dropped: site.log.dropped(rt),
+    }
+}
+
+/// How many seconds the wall clock was behind the site's time at the last tick, rounded up.
+fn clock_behind(site: &SiteSockets) -> u64 {
+    match &site.clock {
+        Some(clock) => clock.behind().div_ceil(1000),
+        None => 0,
     }
 }
 
@@ -63,6 +72,7 @@ fn peer_metrics_of<R: Wait>(rt: &R, peer: &PeerState, applied: u64) -> PeerMetri
         held: held as u64,
         receiving: counters.is_receiving(),
         sending: counters.is_sending(),
+        silent: peer.events.silent() / 1000,
         lines: counters.lines(),
         refused: counters.refused(),
         dropped: counters.dropped(),

@@ -19,6 +19,7 @@ use site_words::Config;
 use std::alloc::Global;
 use std::marker::{Model, PhantomData};
 use std::sync::{Arc, Wait};
+use std::time::Clock;
 use sub_buffer::State;
 
 /// What takes in the lines of one peer, and what applies its entries.
@@ -161,7 +162,7 @@ impl<D: DeskNames> Receiver<D> {
     }
 
     /// Reads the connections of this peer, one after another, until the connection slot is closed.
-    pub(crate) fn receive_all<R: Wait>(mut self, rt: &R, peer: &PeerState) {
+    pub(crate) fn receive_all<R: Wait + Clock>(mut self, rt: &R, peer: &PeerState) {
         for _ in rt.forever() {
             let Some(connection) = peer.connection_slot.take(rt) else {
                 break;
@@ -176,7 +177,7 @@ impl<D: DeskNames> Receiver<D> {
     }
 
     /// Reads one connection to its end, or until an error, which has the same effect, as has a want of memory.
-    fn receive<R: Wait>(&mut self, rt: &R, peer: &PeerState, connection: Connection) {
+    fn receive<R: Wait + Clock>(&mut self, rt: &R, peer: &PeerState, connection: Connection) {
         let Connection { stream, mut cutter } = connection;
         let Ok(desk) = self.desk.clone() else {
             return;
@@ -187,7 +188,7 @@ impl<D: DeskNames> Receiver<D> {
             peer,
             outbox: PeerOutbox::new(rt, peer),
         };
-        let mut reader = PeerReader::new(&stream);
+        let mut reader = PeerReader::new(rt, peer, &stream);
         let _ = read_link(rt, &mut reader, &mut cutter, &mut self.intake, &mut port);
     }
 }

@@ -130,6 +130,7 @@ fn begin_client<
     };
     if !is_begun {
         clients.leave(rt, place);
+        clients.note_no_thread(rt);
     }
 }
 
@@ -146,6 +147,7 @@ fn begin_turning_away<'s, E, R: Wait + Clock + RandomSource + AllocGlobal + Sync
         .is_err()
     {
         clients.leave_closing(rt, place);
+        clients.note_no_thread(rt);
     }
 }
 

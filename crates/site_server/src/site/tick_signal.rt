@@ -1,7 +1,7 @@
 //! Notifies threads that a tick was done, and of the site's time.
 ghost use Rattle.std.specs.Prelude.{◌≡◌, ℕ, Option, IfNone};
 
-use crate::site::ticking::milliseconds;
+use crate::site::site_time::own_time;
 use site_sockets::{SiteClock, SiteSockets, TickNotifier};
 use std::sync::Wait;
 use std::time::Clock;
@@ -14,8 +14,8 @@ pub(crate) trait TickSignal {
     /// The site's own clock may show this time; None for a site that does not tick itself.
     ghost shows: { Self → Option ℕ → Type 0 };
 
-    /// What the site's own clock shows, in milliseconds since 1970: the time of its last tick, or the wall clock before
-    /// the first one. None for a site that does not tick itself.
+    /// What the site's own clock shows, in milliseconds since 1970: the wall clock's time, but never less than before.
+    /// None for a site that does not tick itself.
     fn time(&self) -> Option<u64>
         ensures { shows self.now result };
 
@@ -30,12 +30,12 @@ pub(crate) trait TickSignal {
         ensures { IfNone result (has_ended self.now) };
 }
 
-/// The ticks of a site. Their lock hides whether the site has ended, and the clock when it ticked last.
+/// The ticks of a site. Their lock hides whether the site has ended, and the clock what it shows.
 #[derive(Drop)]
 pub(crate) struct SiteTickSignal<'a, R: Wait + Clock> {
     rt: &'a R,
     tick_notifier: &'a TickNotifier,
-    clock: &'a SiteClock,
+    clock: Option<&'a SiteClock>,
 }
 
 impl<'a, R: Wait + Clock> SiteTickSignal<'a, R> {
@@ -43,7 +43,7 @@ impl<'a, R: Wait + Clock> SiteTickSignal<'a, R> {
         SiteTickSignal {
             rt,
             tick_notifier: &site.tick_notifier,
-            clock: &site.clock,
+            clock: site.clock.as_ref(),
         }
     }
 }
@@ -54,13 +54,8 @@ impl<R: Wait + Clock> TickSignal for SiteTickSignal<'_, R> {
     ghost shows = { λ _ time. Unit {0} };
 
     fn time(&self) -> Option<u64> {
-        if !self.clock.is_own() {
-            return None;
-        }
-        match self.clock.last() {
-            0 => Some(milliseconds(self.rt).unwrap_or(0)),
-            last => Some(last),
-        }
+        let time = own_time(self.rt, self.clock?);
+        Some(time.now)
     }
 
     fn count(&self) -> u64 {
