@@ -9,11 +9,11 @@ use std::io::{Error, ErrorKind, Read};
 #[derive(Drop)]
 pub(crate) struct CommandReader<'a, I> {
     site: &'a SiteSockets,
-    input: &'a mut I,
+    input: I,
 }
 
 impl<'a, I: Read> CommandReader<'a, I> {
-    pub(crate) fn new(site: &'a SiteSockets, input: &'a mut I) -> CommandReader<'a, I> {
+    pub(crate) fn new(site: &'a SiteSockets, input: I) -> CommandReader<'a, I> {
         CommandReader { site, input }
     }
 
