@@ -5,7 +5,7 @@ ghost use Rattle.peer_links.specs.declared.link.DeskMessage.{DeskMessage};
 
 use crate::tests::links::hello::first_line;
 use crate::tests::links::ports::{Lacking, Noting, link_in};
-use crate::tests::links::streams::{Failing, Interrupted};
+use crate::tests::links::streams::{Counted, Failing, Interrupted};
 use crate::tests::outbox::finds_no_room;
 use apply_lanes::{Intake, Item, Outlet};
 use entry_codec::LineCutter;
@@ -218,6 +218,19 @@ fn a_read_that_is_interrupted_is_tried_again(rt: HostRuntime) {
         interrupted: false,
     };
     assert!(rt; comes_first(&rt, rt.alloc(), &mut reader, Ok(()), TOLD));
+}
+
+#[test]
+fn what_came_is_taken_in_by_one_read(rt: HostRuntime) {
+    let (mut intake, _outlet) = link_in(rt.alloc()).expect(&rt, "memory");
+    let mut reader = Counted {
+        rest: &[b'\n'; 16_384],
+        reads: 0,
+    };
+    let read = connect(&rt, rt.alloc(), &mut intake, &mut reader, &mut Lacking);
+    assert_eq!(rt; read, Ok(()));
+    // The second read finds the end.
+    assert_eq!(rt; reader.reads, 2);
 }
 
 #[test]

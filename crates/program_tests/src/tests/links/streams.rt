@@ -105,6 +105,24 @@ impl Read for Interrupted<'_> {
     }
 }
 
+/// A reader that counts its reads, and returns as many bytes as they have room for.
+#[derive(Drop)]
+pub(crate) struct Counted<'a> {
+    /// The bytes that are still to be read.
+    pub(crate) rest: &'a [u8],
+    pub(crate) reads: u64,
+}
+
+impl Read for Counted<'_> {
+    fn read(&mut self, buf: &mut [u8]) -> io::Result<usize> {
+        self.reads = self.reads.wrapping_add(1);
+        let count = buf.len().min(self.rest.len());
+        buf[..count].copy_from_slice(&self.rest[..count]);
+        self.rest = &self.rest[count..];
+        Ok(count)
+    }
+}
+
 /// A writer that puts the next beat into the outbox at each write, so that each write is of one line, and
 /// ends the outbox after the last one.
 #[derive(Drop)]
