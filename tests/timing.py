@@ -228,7 +228,7 @@ def its_ticks_have_the_time_of_day():
 
 
 def deadlines_are_counted_from_its_time():
-    """From the time of its last tick: `+m` is m milliseconds later, and the latest deadline is a day later."""
+    """From the time that it shows: `+m` is m milliseconds later, and the latest deadline is a day later."""
     with TimedSite(tick=100) as sites:
         day, times = 86_400_000, [0]
 
@@ -245,7 +245,7 @@ def deadlines_are_counted_from_its_time():
                 return False
             now = before[0]
             found, replies = deadlines_of("+0", "+1", f"+{day}", now + day, now + day + 1, f"+{day + 1}", now - 1)
-            # It may have ticked meanwhile.
+            # The clock may have gone on meanwhile.
             if deadlines_of("+0")[0] != before:
                 return False
             expect(found, [now, now + 1, now + day, now + day, now - 1])
