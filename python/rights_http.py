@@ -228,7 +228,8 @@ class SiteClient:
     def wait(self, command: str, timeout: float = 60.0) -> str:
         """Sends one command. If its reply would be `queued T`, waits for the outcome of the spend: `spent N`, or
         `expired` after its deadline. `timeout` is how many seconds that may take; it should exceed the time to the
-        deadline. If the site ends meanwhile, the reply is `queued T` after all."""
+        deadline: after it the connection is closed, and the site cancels the spend. If the site ends meanwhile, the reply is
+        `queued T` after all."""
         return self._post("/wait", [command], timeout).rstrip("\n")
 
     # ---- status and metrics

@@ -90,19 +90,33 @@ def waits_that_fill_the_queue():
 
 
 def waits_whose_clients_have_gone():
-    """No slot stays taken, whatever a client does: all 32 are free again."""
+    """However they go, their spends are cancelled: no place and no slot of the queue stays taken."""
     with alone() as sites:
-        for way in range(32):
-            client = sites.client()
-            client.send(post("spend 1 9", target="/wait"))
-            waiting(sites, way + 1)
+        clients = [sites.client() for _ in range(60)]
+        for client in clients:
+            client.send(post("spend 5 999999", target="/wait"))
+        wait_for("the queue is full", lambda: sites.metrics()["rights_requests_waiting"] == 32)
+        for way, client in enumerate(clients):
             client.reset() if way % 2 else client.close()
-        sites[1].ask_all(["issue 10", "tick 1", "tick 10"])
-        wait_for("all slots are free", lambda: sites.metrics()["rights_outcomes_unread"] == 0)
-        expect(sites[1].ask_all(["spend 2 9"] * 33), [f"queued {n}" for n in range(33, 65)] + ["error QueueFull"])
         seats(sites, 1)
+        expect_slots(sites, 0, 0)
+        expect(sites.command("issue 7"), (200, ["number 1"]))
+        expect(sites.command("spend 5 9", target="/wait"), (200, ["spent 2"]))
         report = sites.end()
-        expect((report.spent, report.told_spent, report.told_served), (10, 0, 10))
+        expect((report.spent, report.told_spent, report.told_served), (5, 5, 0))
+
+
+def a_wait_whose_client_sends_no_more():
+    """A client that shuts its connection down for writing has left too. It can still read what became of its spend. What
+    it sent before does not hide that."""
+    with alone() as sites, sites.client() as client:
+        client.send(post("spend 5 999999", target="/wait") + post("issue 3"))
+        waiting(sites, 5)
+        client.stream.shutdown(socket.SHUT_WR)
+        expect_served(client.read(), 200, b"expired\n")
+        expect_served(client.read(), 200, b"number 1\n")
+        expect(client.has_ended(), True)
+        expect_slots(sites, 0, 0)
 
 
 def waits_at_the_end():
@@ -611,7 +625,7 @@ def command_at(address, *commands):
 
 TESTS = [
     wait_that_is_answered_at_once, wait_that_is_served_by_a_tick, wait_that_expires, waits_that_fill_the_queue,
-    waits_whose_clients_have_gone, waits_at_the_end, the_form_of_metrics, metrics_are_the_status,
+    waits_whose_clients_have_gone, a_wait_whose_client_sends_no_more, waits_at_the_end, the_form_of_metrics, metrics_are_the_status,
     lines_of_a_peer_are_counted, lines_for_a_dead_peer_are_dropped, what_is_said_of_a_peer, nothing_is_said_unless_asked_for, a_peer_that_is_started_anew,
     entries_that_no_peer_was_sent, addresses_of_peers_that_cannot_be_resolved, a_site_is_started_once, addresses_that_cannot_be_listened_on, words_that_are_refused, a_site_without_http,
     a_site_that_ticks_by_itself, nobody_else_ticks_a_site_that_ticks_by_itself, the_spends_that_wait_are_listed,

@@ -30,7 +30,7 @@ use Rattle.site_server.specs.Conversations.{IsTurn}
 use Rattle.site_server.specs.Requests.{IsSettledTurn, IsQueued, AreTurnsOf, AreBodyTurns, AreRouteTurns, AreCallsTurns}
 use Rattle.site_server.specs.Requests.{CountsCalls}
 use Rattle.site_server.proofs.ConfirmedLaws.{turns_of_line, both}
-use Rattle.site_server.proofs.SettleLaws.{keeps_told, waited_told}
+use Rattle.site_server.proofs.SettleLaws.{keeps_told, cancel_keeps_told, waited_told}
 
 -- a line has turns, which lead from one value of the seat to another
 module _ {S : Type 0} (seat : S → SeatValue)
@@ -94,27 +94,30 @@ module _ {S : Type 0} (seat : S → SeatValue)
       let found = turns_of_body old (line ∷ []) replies code r new h body in (found.0, inl found.1, found.2)
   turns_of_one old (line ∷ next ∷ lines) replies code r new h body = ([], inr refl, ap seat h.2)
 
-settled_text : (HasEnded : Type 0) (id : DeskId) (seat : SeatedValue) (reply settled : Reply) (now : SeatedValue)
+settled_text : (HasEnded HasLeft : Type 0) (id : DeskId) (seat : SeatedValue) (reply settled : Reply) (now : SeatedValue)
     (text : List ℕ)
-    → Settles HasEnded id seat reply settled now → text ≡ reply_text settled → (text ≡ reply_text reply) ⊎ IsQueued reply
-settled_text HasEnded id seat (Number n) settled now text h says = inl (says ∙ ap reply_text h.0)
-settled_text HasEnded id seat (Spending (Spent n)) settled now text h says = inl (says ∙ ap reply_text h.0)
-settled_text HasEnded id seat (Spending (Queued ticket)) settled now text h says = inr (ticket, refl)
-settled_text HasEnded id seat (Outcome status) settled now text h says = inl (says ∙ ap reply_text h.0)
-settled_text HasEnded id seat (Refused cause) settled now text h says = inl (says ∙ ap reply_text h.0)
-settled_text HasEnded id seat BadDeadline settled now text h says = inl (says ∙ ap reply_text h.0)
+    → Settles HasEnded HasLeft id seat reply settled now → text ≡ reply_text settled → (text ≡ reply_text reply) ⊎ IsQueued reply
+settled_text HasEnded HasLeft id seat (Number n) settled now text h says = inl (says ∙ ap reply_text h.0)
+settled_text HasEnded HasLeft id seat (Spending (Spent n)) settled now text h says = inl (says ∙ ap reply_text h.0)
+settled_text HasEnded HasLeft id seat (Spending (Queued ticket)) settled now text h says = inr (ticket, refl)
+settled_text HasEnded HasLeft id seat (Outcome status) settled now text h says = inl (says ∙ ap reply_text h.0)
+settled_text HasEnded HasLeft id seat (Refused cause) settled now text h says = inl (says ∙ ap reply_text h.0)
+settled_text HasEnded HasLeft id seat BadDeadline settled now text h says = inl (says ∙ ap reply_text h.0)
 
 -- however the client waits, its seat counts the same
-settled_told : (HasEnded : Type 0) (id : DeskId) (was : SeatedValue) (reply settled : Reply) (now : SeatedValue)
-    → Settles HasEnded id was reply settled now → now.told ≡ was.told
-settled_told HasEnded id was (Number n) settled now h = ap (λ (s : SeatedValue). s.told) h.1
-settled_told HasEnded id was (Spending (Spent n)) settled now h = ap (λ (s : SeatedValue). s.told) h.1
-settled_told HasEnded id was (Spending (Queued ticket)) settled now (inl h) =
+settled_told : (HasEnded HasLeft : Type 0) (id : DeskId) (was : SeatedValue) (reply settled : Reply) (now : SeatedValue)
+    → Settles HasEnded HasLeft id was reply settled now → now.told ≡ was.told
+settled_told HasEnded HasLeft id was (Number n) settled now h = ap (λ (s : SeatedValue). s.told) h.1
+settled_told HasEnded HasLeft id was (Spending (Spent n)) settled now h = ap (λ (s : SeatedValue). s.told) h.1
+settled_told HasEnded HasLeft id was (Spending (Queued ticket)) settled now (inl h) =
     keeps_told id h.mid ticket settled now h.at_desk ∙ waited_told id was ticket h.mid h.waited
-settled_told HasEnded id was (Spending (Queued ticket)) settled now (inr h) = waited_told id was ticket now h.waited
-settled_told HasEnded id was (Outcome status) settled now h = ap (λ (s : SeatedValue). s.told) h.1
-settled_told HasEnded id was (Refused cause) settled now h = ap (λ (s : SeatedValue). s.told) h.1
-settled_told HasEnded id was BadDeadline settled now h = ap (λ (s : SeatedValue). s.told) h.1
+settled_told HasEnded HasLeft id was (Spending (Queued ticket)) settled now (inr (inl h)) =
+    waited_told id was ticket now h.waited
+settled_told HasEnded HasLeft id was (Spending (Queued ticket)) settled now (inr (inr h)) =
+    cancel_keeps_told id h.mid ticket settled now h.at_desk ∙ waited_told id was ticket h.mid h.waited
+settled_told HasEnded HasLeft id was (Outcome status) settled now h = ap (λ (s : SeatedValue). s.told) h.1
+settled_told HasEnded HasLeft id was (Refused cause) settled now h = ap (λ (s : SeatedValue). s.told) h.1
+settled_told HasEnded HasLeft id was BadDeadline settled now h = ap (λ (s : SeatedValue). s.told) h.1
 
 module _ {P : Type 0} (size : P → ℕ) (sends : P → ℕ → ℕ → P → Type 0)
     (stops : P → ℕ → P → Type 0) (id : DeskId) where
@@ -135,30 +138,30 @@ module _ {P : Type 0} (size : P → ℕ) (sends : P → ℕ → ℕ → P → Ty
       = turns_of_line size sends stops id (Some Status) was before text now after h
   tells_turns (Some Quit) was before text now after h = ([], refl, ap (λ (s : SeatedValue). s.told) h.1)
 
-  settled_turns : (HasEnded : Type 0) (command : Option SiteCommand) (was : SeatedValue) (before : P) (text : List ℕ)
+  settled_turns : (HasEnded HasLeft : Type 0) (command : Option SiteCommand) (was : SeatedValue) (before : P) (text : List ℕ)
       (now : SeatedValue) (after : P)
-      → TellsSettled size sends stops HasEnded id command was before text now after
+      → TellsSettled size sends stops HasEnded HasLeft id command was before text now after
       → (turns : List Turn) × IsSettledTurn command text turns × HasTurns was.told turns now.told
-  settled_turns HasEnded None was before text now after h = tells_turns None was before text now after h
-  settled_turns HasEnded (Some (AtDesk command)) was before text now after h =
+  settled_turns HasEnded HasLeft None was before text now after h = tells_turns None was before text now after h
+  settled_turns HasEnded HasLeft (Some (AtDesk command)) was before text now after h =
       let c = h.0 in (
         ACommand command c.reply ∷ [],
-        (c.reply, refl, settled_text HasEnded id c.half c.reply c.settled now text c.settles c.says),
-        (c.half.told, (c.at_desk.old, c.at_desk.new, c.at_desk.acts), settled_told HasEnded id c.half c.reply c.settled now c.settles),
+        (c.reply, refl, settled_text HasEnded HasLeft id c.half c.reply c.settled now text c.settles c.says),
+        (c.half.told, (c.at_desk.old, c.at_desk.new, c.at_desk.acts), settled_told HasEnded HasLeft id c.half c.reply c.settled now c.settles),
       )
-  settled_turns HasEnded (Some (Tick time)) was before text now after h
+  settled_turns HasEnded HasLeft (Some (Tick time)) was before text now after h
       = tells_turns (Some (Tick time)) was before text now after h
-  settled_turns HasEnded (Some RefusedTick) was before text now after h
+  settled_turns HasEnded HasLeft (Some RefusedTick) was before text now after h
       = tells_turns (Some RefusedTick) was before text now after h
-  settled_turns HasEnded (Some Queue) was before text now after h
+  settled_turns HasEnded HasLeft (Some Queue) was before text now after h
       = tells_turns (Some Queue) was before text now after h
-  settled_turns HasEnded (Some Status) was before text now after h
+  settled_turns HasEnded HasLeft (Some Status) was before text now after h
       = tells_turns (Some Status) was before text now after h
-  settled_turns HasEnded (Some Quit) was before text now after h = tells_turns (Some Quit) was before text now after h
+  settled_turns HasEnded HasLeft (Some Quit) was before text now after h = tells_turns (Some Quit) was before text now after h
 
-  module _ {B : Type 0} (has_ended : B → Type 0) (shows : B → Option ℕ → Type 0) where
+  module _ {B : Type 0} (has_ended has_left : B → Type 0) (shows : B → Option ℕ → Type 0) where
     one : (old : ClientValue P B) (line reply : List ℕ) (new : ClientValue P B)
-        → Answers size sends stops has_ended shows id false old line reply new
+        → Answers size sends stops has_ended has_left shows id false old line reply new
         → (turns : List Turn) × ((time : Option ℕ) × IsTurn (asked time line) reply turns)
         × HasTurns old.seat.told turns new.seat.told
     one old line reply new h =
@@ -166,22 +169,22 @@ module _ {P : Type 0} (size : P → ℕ) (sends : P → ℕ → ℕ → P → Ty
         (found.0, (h.time, found.1), found.2)
 
     one_settled : (old : ClientValue P B) (line reply : List ℕ) (new : ClientValue P B)
-        → Answers size sends stops has_ended shows id true old line reply new
+        → Answers size sends stops has_ended has_left shows id true old line reply new
         → (turns : List Turn) × ((time : Option ℕ) × IsSettledTurn (asked time line) reply turns)
         × HasTurns old.seat.told turns new.seat.told
     one_settled old line reply new h =
-        let found = settled_turns (has_ended old.signal) (asked h.time line) old.seat old.peers reply new.seat new.peers
+        let found = settled_turns (has_ended old.signal) (has_left old.signal) (asked h.time line) old.seat old.peers reply new.seat new.peers
         h.tells in (found.0, (h.time, found.1), found.2)
 
     turns_of_route : (old : ClientValue P B) (route : Route) (body : List ℕ) (r : Response) (new : ClientValue P B)
-        → RespondsBy (Answers size sends stops has_ended shows id) (λ client text. TellsStatus id text)
+        → RespondsBy (Answers size sends stops has_ended has_left shows id) (λ client text. TellsStatus id text)
         (λ client text. TellsQueue id text) (λ client text. TellsMetrics id text) (λ client is_closed. TellsClosed id is_closed) old route body r new
         → (turns : List Turn) × AreRouteTurns route body r turns × HasTurns old.seat.told turns new.seat.told
     turns_of_route old Commands body r new h =
-        turns_of_body (λ c. c.seat.told) IsTurn (Answers size sends stops has_ended shows id false) one old
+        turns_of_body (λ c. c.seat.told) IsTurn (Answers size sends stops has_ended has_left shows id false) one old
         (lines_of body) h.replies h.code r new h.replied h.response.body
     turns_of_route old Wait body r new h =
-        turns_of_one (λ c. c.seat.told) IsSettledTurn (Answers size sends stops has_ended shows id true) one_settled old
+        turns_of_one (λ c. c.seat.told) IsSettledTurn (Answers size sends stops has_ended has_left shows id true) one_settled old
         (lines_of body) h.replies h.code r new h.replied h.response.body
     turns_of_route old Shows body r new h = ([], refl, ap (λ (c : ClientValue P B). c.seat.told) h.1)
     turns_of_route old ShowsQueue body r new h = ([], refl, ap (λ (c : ClientValue P B). c.seat.told) h.1)
@@ -194,7 +197,7 @@ module _ {P : Type 0} (size : P → ℕ) (sends : P → ℕ → ℕ → P → Ty
     turns_of_route old NotFound body r new h = ([], refl, ap (λ (c : ClientValue P B). c.seat.told) h.1)
 
     turns_of_calls : (names : List (List ℕ)) (old : ClientValue P B) (calls : List Call) (new : ClientValue P B)
-        → Chain (Responded size sends stops has_ended shows id names) old calls new
+        → Chain (Responded size sends stops has_ended has_left shows id names) old calls new
         → (turns : List Turn) × AreCallsTurns names calls turns × HasTurns old.seat.told turns new.seat.told
     turns_of_calls names old [] new h = ([], refl, ap (λ (c : ClientValue P B). c.seat.told) h)
     turns_of_calls names old (call ∷ calls) new h =
@@ -207,7 +210,7 @@ module _ {P : Type 0} (size : P → ℕ) (sends : P → ℕ → ℕ → P → Ty
         )
 
     pub counts_calls : (names : List (List ℕ)) (old : ClientValue P B) (calls : List Call) (new : ClientValue P B)
-        → Chain (Responded size sends stops has_ended shows id names) old calls new
+        → Chain (Responded size sends stops has_ended has_left shows id names) old calls new
         → CountsCalls names old.seat.told calls new.seat.told
     counts_calls names old calls new h =
         let found = turns_of_calls names old calls new h in

@@ -26,24 +26,24 @@ module _ {P : Type 0} (size : P → ℕ) (sends : P → ℕ → ℕ → P → Ty
   Tells id command was before text now after = Says size sends stops id command was before text now after
 
   -- the same for a client that waits for the outcome of its spend
-  abbrev pub TellsSettled : Type 0 → DeskId → Option SiteCommand → SeatedValue → P → List ℕ → SeatedValue → P → Type 0
-  TellsSettled HasEnded id (Some (AtDesk command)) was before text now after =
-      SettlesCommand HasEnded id was command text now × (after ≡ before)
-  TellsSettled HasEnded id command was before text now after = Tells id command was before text now after
+  abbrev pub TellsSettled : Type 0 → Type 0 → DeskId → Option SiteCommand → SeatedValue → P → List ℕ → SeatedValue → P → Type 0
+  TellsSettled HasEnded HasLeft id (Some (AtDesk command)) was before text now after =
+      SettlesCommand HasEnded HasLeft id was command text now × (after ≡ before)
+  TellsSettled HasEnded HasLeft id command was before text now after = Tells id command was before text now after
 
   -- the one or the other, by whether the client waits
-  abbrev pub TellsBy : Bool → Type 0 → DeskId → Option SiteCommand → SeatedValue → P → List ℕ → SeatedValue → P → Type 0
-  TellsBy false HasEnded = Tells
-  TellsBy true HasEnded = TellsSettled HasEnded
+  abbrev pub TellsBy : Bool → Type 0 → Type 0 → DeskId → Option SiteCommand → SeatedValue → P → List ℕ → SeatedValue → P → Type 0
+  TellsBy false HasEnded HasLeft = Tells
+  TellsBy true HasEnded HasLeft = TellsSettled HasEnded HasLeft
 
-  module _ {B : Type 0} (has_ended : B → Type 0) (shows : B → Option ℕ → Type 0) (id : DeskId) where
+  module _ {B : Type 0} (has_ended has_left : B → Type 0) (shows : B → Option ℕ → Type 0) (id : DeskId) where
     -- the reply to a line, by whether the client waits, and by the command that it spells at a time that the site's own
     -- clock may show
     pub record Answers (waits : Bool) (before : ClientValue P B) (line text : List ℕ)
         (after : ClientValue P B) : Type 0 where
       pub time : Option ℕ
       pub shown : shows before.signal time
-      pub tells : TellsBy waits (has_ended before.signal) id (asked time line) before.seat before.peers text after.seat
+      pub tells : TellsBy waits (has_ended before.signal) (has_left before.signal) id (asked time line) before.seat before.peers text after.seat
           after.peers
 
     -- the response to a request of a client over a connection, at a site whose host has these names

@@ -4,7 +4,7 @@ use Rattle.request_queue.specs.declared.request.Status.TheVariants.{Waiting}
 use Rattle.site_core.specs.declared.desk.requests.Spending.TheVariants.{Queued}
 use Rattle.apply_lanes.specs.Names.{DeskId}
 use Rattle.site_words.specs.declared.commands.DeskCommand.{DeskCommand}
-use Rattle.site_words.specs.declared.commands.DeskCommand.TheVariants.{Outcome as AsksOutcome}
+use Rattle.site_words.specs.declared.commands.DeskCommand.TheVariants.{Outcome as AsksOutcome, Cancel as Cancels}
 use Rattle.site_node.specs.Texts.{reply_text}
 use Rattle.site_node.specs.declared.reply.Reply.{Reply}
 use Rattle.site_node.specs.declared.reply.Reply.TheVariants.{Spending, Outcome}
@@ -45,19 +45,28 @@ pub record StillQueued (HasEnded : Type 0) (id : DeskId) (was : SeatedValue) (ti
   pub ended : HasEnded
   pub queued : settled ≡ Spending (Queued ticket)
 
--- what a client that waits gets instead of a reply: for a queued spend its outcome, or, if the site has ended, that
--- it is queued; otherwise the reply itself
-abbrev pub Settles : Type 0 → DeskId → SeatedValue → Reply → Reply → SeatedValue → Type 0
-Settles HasEnded id was (Spending (Queued ticket)) settled now =
+-- after such turns, the client has left, and in one more the desk ended the wait of its spend
+pub record EndsWait (HasLeft : Type 0) (id : DeskId) (was : SeatedValue) (ticket : ℕ) (settled : Reply)
+    (now : SeatedValue) : Type 0 where
+  pub mid : SeatedValue
+  pub waited : HasWaited id was ticket mid
+  pub left : HasLeft
+  pub at_desk : ActsAtDesk id mid (Cancels ticket) settled now
+
+-- what a client that waits gets instead of a reply: for a queued spend its outcome; or, if the site has ended, that
+-- it is queued; or, if the client has left, what became of it where it was cancelled; otherwise the reply itself
+abbrev pub Settles : Type 0 → Type 0 → DeskId → SeatedValue → Reply → Reply → SeatedValue → Type 0
+Settles HasEnded HasLeft id was (Spending (Queued ticket)) settled now =
     TellsOutcome id was ticket settled now ⊎ StillQueued HasEnded id was ticket settled now
-Settles HasEnded id was reply settled now = (settled ≡ reply) × (now ≡ was)
+    ⊎ EndsWait HasLeft id was ticket settled now
+Settles HasEnded HasLeft id was reply settled now = (settled ≡ reply) × (now ≡ was)
 
 -- the desk carried out the command in one turn, and this is the text of what the client finally gets
-pub record SettlesCommand (HasEnded : Type 0) (id : DeskId) (was : SeatedValue) (command : DeskCommand) (text : List ℕ)
+pub record SettlesCommand (HasEnded HasLeft : Type 0) (id : DeskId) (was : SeatedValue) (command : DeskCommand) (text : List ℕ)
     (now : SeatedValue) : Type 0 where
   pub reply : Reply
   pub settled : Reply
   pub half : SeatedValue
   pub at_desk : ActsAtDesk id was command reply half
-  pub settles : Settles HasEnded id half reply settled now
+  pub settles : Settles HasEnded HasLeft id half reply settled now
   pub says : text ≡ reply_text settled

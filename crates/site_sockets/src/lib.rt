@@ -36,4 +36,4 @@ pub use peer_reader::PeerReader;
 pub use sending::begin_sender;
 pub use site::SiteSockets;
 pub use site_clock::SiteClock;
-pub use tick_notifier::TickNotifier;
+pub use tick_notifier::{NextTick, TickNotifier};

@@ -1,8 +1,19 @@
 //! The ticks of a site, and the threads that wait for them.
-ghost use Rattle.std.specs.Prelude.{◌≢◌, IfSome};
+ghost use Rattle.std.specs.Prelude.{◌≡◌, ◌≢◌, ℕ};
 
 use std::sync::{Condvar, CondvarTimeouts, Mutex, Wait};
 use std::time::{Clock, Duration};
+
+/// What a wait for a tick came to.
+#[derive(Clone, Copy, Debug, PartialEq, Eq)]
+pub enum NextTick {
+    /// A tick was done: how many were in all, modulo 2^64.
+    Done(u64),
+    /// The site has ended.
+    Ended,
+    /// No tick came in time.
+    Late,
+}
 
 /// Counts the ticks of a site, and notifies the threads that wait for one, or for the site's end.
 #[derive(Drop)]
@@ -45,18 +56,28 @@ impl TickNotifier {
         self.ticked.notify_all();
     }
 
-    /// Waits until the number of ticks is not `seen`, and returns it. `None` at the end of the site.
-    pub fn next<R: Wait>(&self, rt: &R, seen: u64) -> Option<u64>
-        ensures { IfSome result (λ ticks. ticks ≢ seen) }
+    /// Waits until the number of ticks is not `seen`, for this time at most, or until the site ends.
+    pub fn next<R: Wait + Clock>(&self, rt: &R, seen: u64, time: Duration) -> NextTick
+        ensures { (ticks : ℕ) → result ≡ NextTick.Done ticks → ticks ≢ seen }
     {
-        let state = self.ticked.wait_while(rt, self.state.lock(rt), |state| {
-            state.ticks == seen && !state.has_ended
-        });
+        let (state, _) = self
+            .ticked
+            .wait_timeout_while(rt, self.state.lock(rt), time, |state| {
+                state.ticks == seen && !state.has_ended
+            });
         // A tick done before the end is reported first.
-        if state.ticks == seen {
-            return None;
+        if state.ticks != seen {
+            NextTick::Done(state.ticks)
+        } else if state.has_ended {
+            NextTick::Ended
+        } else {
+            NextTick::Late
         }
-        Some(state.ticks)
+    }
+
+    /// Whether the site has ended.
+    pub fn has_ended<R: Wait>(&self, rt: &R) -> bool {
+        self.state.lock(rt).has_ended
     }
 
     /// Waits for this time, or until the site ends. `false` if it has ended.

@@ -3,7 +3,7 @@
 
 ghost use Rattle.std.specs.Prelude.{◌≤◌, ◌∷◌, [], length};
 
-use libc::net::{POLLIN, POLLOUT, poll};
+use libc::net::{POLLIN, POLLOUT, POLLRDHUP, poll};
 use libc::types::pollfd;
 use os::errno;
 use std::io;
@@ -55,6 +55,17 @@ fn wait_for<S: AsRawFd>(stream: &S, events: i16, milliseconds: u16) -> io::Resul
         0 => Err(Error::from(ErrorKind::WouldBlock)),
         _ => Ok(()),
     }
+}
+
+/// Whether the other end of this connection sends nothing more: it was closed, shut down for writing, or reset. Bytes
+/// that were not read yet do not hide that.
+pub fn has_left<S: AsRawFd>(stream: &S) -> bool {
+    let mut fds = [pollfd {
+        fd: stream.as_raw_fd(),
+        events: POLLRDHUP,
+        revents: 0,
+    }];
+    poll(&mut fds, 0) > 0
 }
 
 impl<S: Read + AsRawFd> Read for TimedStream<S> {

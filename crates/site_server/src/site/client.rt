@@ -29,6 +29,7 @@ use site_words::{DeskCommand, PeerView, SiteCommand, read_command, status_text};
 use std::alloc::{Allocator, Global};
 use std::io::{Read, Write};
 use std::marker::Model;
+use std::net::TcpStream;
 use std::sync::Wait;
 use std::time::Clock;
 use transfer_manager::SiteSet;
@@ -68,16 +69,18 @@ pub(crate) type ClientOf<'a, D, R> = SiteClient<
     SiteTickSignal<'a, R>,
 >;
 
-/// A client with the seat at this index, which is free again once the client is dropped. `None` if that seat is taken,
+/// A client with the seat at this index, over this connection, if it has one. The seat is free again once the client is
+/// dropped. `None` if that seat is taken,
 /// or memory was refused; then no seat is taken.
 pub(crate) fn client_at<'a, D: DeskNames, R: Wait + Clock + AllocGlobal>(
     rt: &'a R,
     site: &'a SiteSockets,
     seats: &'a Seats<D>,
     index: usize,
+    stream: Option<&'a TcpStream>,
 ) -> Option<ClientOf<'a, D, R>> {
     let peers = Outboxes::new(rt, seats.turns()?, site.peers())?;
-    let signal = SiteTickSignal::new(rt, site);
+    let signal = SiteTickSignal::new(rt, site, stream);
     let seat = seats.sit(index)?;
     Some(SiteClient::new(rt, rt.alloc(), site, index, seat, peers, signal))
 }

@@ -50,7 +50,7 @@ impl<D: DeskNames, R: Wait, P: Peers + Drop, B: TickSignal + Drop> SiteClient<'_
     ) -> Result<(), OutOfMemory>
         requires { replies.old.part ≡ [] }
         ensures ok { OnOk result ((text : List ℕ)
-            × TellsSettled P.size P.sends P.stops (B.has_ended self.old.signal) D.id command self.old.seat self.old.peers text
+            × TellsSettled P.size P.sends P.stops (B.has_ended self.old.signal) (B.has_left self.old.signal) D.id command self.old.seat self.old.peers text
             self.new.seat self.new.peers × AddsReply replies.old replies.new text) }
         ensures short { OnOk result ((length replies.new.whole ≤ length replies.old.whole + TICK_ROOM)
             ⊎ (self.new ≡ self.old)) }
@@ -71,7 +71,7 @@ impl<D: DeskNames, R: Wait, P: Peers + Drop, B: TickSignal + Drop> SiteClient<'_
     ) -> Result<(), OutOfMemory>
         requires { replies.old.part ≡ [] }
         ensures ok { OnOk result ((text : List ℕ)
-            × TellsBy P.size P.sends P.stops waits (B.has_ended self.old.signal) D.id command self.old.seat self.old.peers text
+            × TellsBy P.size P.sends P.stops waits (B.has_ended self.old.signal) (B.has_left self.old.signal) D.id command self.old.seat self.old.peers text
             self.new.seat self.new.peers × AddsReply replies.old replies.new text) }
         ensures short { OnOk result ((length replies.new.whole ≤ length replies.old.whole + TICK_ROOM)
             ⊎ (self.new ≡ self.old)) }
@@ -91,7 +91,7 @@ impl<D: DeskNames, R: Wait, P: Peers + Drop, B: TickSignal + Drop> Backend
     ghost use Rattle.site_server.specs.Connections.{Answers};
     ghost use Rattle.site_server.specs.Measuring.{TellsMetrics, TellsClosed};
 
-    ghost answers = { Answers P.size P.sends P.stops B.has_ended B.shows D.id };
+    ghost answers = { Answers P.size P.sends P.stops B.has_ended B.has_left B.shows D.id };
 
     ghost status = { λ _ text. TellsStatus D.id text };
 

@@ -42,7 +42,7 @@ fn answer_requests<
     reader: &mut I,
     writer: &mut W,
 ) -> SiteClient<'a, D, R, P, B>
-    ensures { (talk : Conversed (Responded P.size P.sends P.stops B.has_ended B.shows D.id (map string_bytes names.now))
+    ensures { (talk : Conversed (Responded P.size P.sends P.stops B.has_ended B.has_left B.shows D.id (map string_bytes names.now))
         (I.remaining reader.old) (I.remaining reader.new) (W.contents writer.old)
         (W.contents writer.new) client.entry result)
         × CountsCalls (map string_bytes names.now) client.entry.seat.told talk.history.calls result.seat.told }
@@ -63,7 +63,7 @@ fn seat_client<D: DeskNames, R: Wait + Clock + RandomSource + AllocGlobal>(
     let Ok(keys) = RandomState::new(rt) else {
         return;
     };
-    let Some(client) = client_at(rt, site, seats, place.index()) else {
+    let Some(client) = client_at(rt, site, seats, place.index(), Some(stream)) else {
         return;
     };
     let names = clients.hosts.as_slice();

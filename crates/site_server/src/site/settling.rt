@@ -6,7 +6,7 @@ ghost use Rattle.site_core.specs.declared.desk.requests.Spending.TheVariants.{Qu
 ghost use Rattle.site_server.specs.Settling.{Settles, SettlesCommand, still_waits};
 
 use crate::site::client::SiteClient;
-use crate::site::tick_signal::TickSignal;
+use crate::site::tick_signal::{TickSignal, Woken};
 use apply_lanes::DeskNames;
 use line_streams::Replies;
 use reply_texts::REPLY_ROOM;
@@ -27,7 +27,7 @@ impl<D: DeskNames, R: Wait, P: Peers + Drop, B: TickSignal + Drop> SiteClient<'_
     ) -> Result<(), OutOfMemory>
         requires { replies.old.part ≡ [] }
         ensures ok { OnOk result ((text : List ℕ)
-            × SettlesCommand (B.has_ended self.old.signal) D.id self.old.seat command text self.new.seat
+            × SettlesCommand (B.has_ended self.old.signal) (B.has_left self.old.signal) D.id self.old.seat command text self.new.seat
             × AddsReply replies.old replies.new text) }
         ensures short { OnOk result (length replies.new.whole ≤ length replies.old.whole + REPLY_ROOM) }
         ensures err { OnErr result (self.new ≡ self.old) }
@@ -45,7 +45,7 @@ impl<D: DeskNames, R: Wait, P: Peers + Drop, B: TickSignal + Drop> SiteClient<'_
 
     /// The outcome of a spend that was queued after this number of ticks was seen; otherwise the reply itself.
     fn settled(&mut self, reply: Reply, seen: u64) -> Reply
-        ensures settles { Settles (B.has_ended self.old.signal) D.id self.old.seat reply result self.new.seat }
+        ensures settles { Settles (B.has_ended self.old.signal) (B.has_left self.old.signal) D.id self.old.seat reply result self.new.seat }
         ensures rest { self.new ≡ record self.old { seat = self.new.seat } }
     {
         match reply {
@@ -54,19 +54,20 @@ impl<D: DeskNames, R: Wait, P: Peers + Drop, B: TickSignal + Drop> SiteClient<'_
         }
     }
 
-    /// Waits, tick by tick, for the outcome of the spend with this ticket, and reads it, which frees its slot. At the
-    /// end of the site the reply is that it is queued.
-    #[tactic(auto, using(crate::proofs::SettleLaws::tells_outcome, crate::proofs::SettleLaws::waits_again, crate::proofs::SettleLaws::none_waited))]
+    /// Waits, tick by tick, for the outcome of the spend with this ticket, and reads it, which frees its slot. If the
+    /// client leaves, the spend is cancelled, which frees it too. At the end of the site the reply is that it is queued.
+    #[tactic(auto, using(crate::proofs::SettleLaws::tells_outcome, crate::proofs::SettleLaws::waits_again, crate::proofs::SettleLaws::none_waited, crate::proofs::SettleLaws::ends_wait, crate::proofs::SettleLaws::still_queued))]
     fn outcome(&mut self, ticket: u64, mut seen: u64) -> Reply
-        ensures settles { Settles (B.has_ended self.old.signal) D.id self.old.seat (Spends (IsQueued ticket)) result
+        ensures settles { Settles (B.has_ended self.old.signal) (B.has_left self.old.signal) D.id self.old.seat (Spends (IsQueued ticket)) result
             self.new.seat }
         ensures rest { self.new ≡ record self.old { seat = self.new.seat } }
     {
         'ticks: for _ in self.rt.forever() {
-            let Some(count) = self.signal.next(seen) else {
-                return Reply::Spending(Spending::Queued(ticket));
-            };
-            seen = count;
+            match self.signal.next(seen) {
+                Woken::ByTick(count) => seen = count,
+                Woken::ByEnd => return Reply::Spending(Spending::Queued(ticket)),
+                Woken::ByClient => return self.act(DeskCommand::Cancel(ticket)),
+            }
             let reply = self.act(DeskCommand::Outcome(ticket));
             if !is_waiting(reply) {
                 return reply;

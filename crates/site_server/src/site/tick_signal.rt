@@ -1,15 +1,34 @@
 //! Notifies threads that a tick was done, and of the site's time.
-ghost use Rattle.std.specs.Prelude.{◌≡◌, ℕ, Option, IfNone};
+ghost use Rattle.std.specs.Prelude.{◌≡◌, ℕ, Option};
 
 use crate::site::site_time::own_time;
-use site_sockets::{SiteClock, SiteSockets, TickNotifier};
+use site_sockets::{NextTick, SiteClock, SiteSockets, TickNotifier};
+use std::net::TcpStream;
 use std::sync::Wait;
-use std::time::Clock;
+use std::time::{Clock, Duration};
+use timed_streams::has_left;
+
+/// How many milliseconds a thread waits for a tick before it looks whether its client is still there.
+const LOOK_MILLISECONDS: u64 = 200;
+
+/// What ends a wait for a tick.
+#[derive(Clone, Copy, Debug, PartialEq, Eq)]
+pub(crate) enum Woken {
+    /// A tick was done: how many were in all.
+    ByTick(u64),
+    /// The site has ended.
+    ByEnd,
+    /// The client has left.
+    ByClient,
+}
 
 /// Notifies the threads that wait that a tick was done. A tick decides spends that wait.
 pub(crate) trait TickSignal {
     /// The site has ended: no thread waits for a tick any more.
     ghost has_ended: { Self → Type 0 };
+
+    /// The client for which the thread waits has left.
+    ghost has_left: { Self → Type 0 };
 
     /// The site's own clock may show this time; None for a site that does not tick itself.
     ghost shows: { Self → Option ℕ → Type 0 };
@@ -25,31 +44,50 @@ pub(crate) trait TickSignal {
     /// Notifies that a tick was done.
     fn notify(&self);
 
-    /// Waits until the number of ticks is not `seen`, and returns it. `None` at the end of the site.
-    fn next(&self, seen: u64) -> Option<u64>
-        ensures { IfNone result (has_ended self.now) };
+    /// Waits until the number of ticks is not `seen`, the site ends, or the client leaves.
+    fn next(&self, seen: u64) -> Woken
+        ensures ended { result ≡ Woken.ByEnd → has_ended self.now }
+        ensures left { result ≡ Woken.ByClient → has_left self.now };
 }
 
-/// The ticks of a site. Their lock hides whether the site has ended, and the clock what it shows.
+/// The ticks of a site, for the thread of a client. Their lock hides whether the site has ended, the clock what it shows,
+/// and the stream whether the client has left.
 #[derive(Drop)]
 pub(crate) struct SiteTickSignal<'a, R: Wait + Clock> {
     rt: &'a R,
     tick_notifier: &'a TickNotifier,
     clock: Option<&'a SiteClock>,
+    /// The client's connection. A client without one never leaves.
+    stream: Option<&'a TcpStream>,
 }
 
 impl<'a, R: Wait + Clock> SiteTickSignal<'a, R> {
-    pub(crate) fn new(rt: &'a R, site: &'a SiteSockets) -> SiteTickSignal<'a, R> {
+    pub(crate) fn new(
+        rt: &'a R,
+        site: &'a SiteSockets,
+        stream: Option<&'a TcpStream>,
+    ) -> SiteTickSignal<'a, R> {
         SiteTickSignal {
             rt,
             tick_notifier: &site.tick_notifier,
             clock: site.clock.as_ref(),
+            stream,
+        }
+    }
+
+    /// Whether the client has left. At its end the site shuts connections down itself, which does not count.
+    fn is_left(&self) -> bool {
+        match self.stream {
+            Some(stream) => has_left(stream) && !self.tick_notifier.has_ended(self.rt),
+            None => false,
         }
     }
 }
 
 impl<R: Wait + Clock> TickSignal for SiteTickSignal<'_, R> {
     ghost has_ended = { λ _. Unit {0} };
+
+    ghost has_left = { λ _. Unit {0} };
 
     ghost shows = { λ _ time. Unit {0} };
 
@@ -66,7 +104,19 @@ impl<R: Wait + Clock> TickSignal for SiteTickSignal<'_, R> {
         self.tick_notifier.tick(self.rt);
     }
 
-    fn next(&self, seen: u64) -> Option<u64> {
-        self.tick_notifier.next(self.rt, seen)
+    fn next(&self, seen: u64) -> Woken {
+        let time = Duration::from_millis(LOOK_MILLISECONDS);
+        for _ in self.rt.forever() {
+            let next = self.tick_notifier.next(self.rt, seen, time);
+            if self.is_left() {
+                return Woken::ByClient;
+            }
+            match next {
+                NextTick::Done(ticks) => return Woken::ByTick(ticks),
+                NextTick::Ended => return Woken::ByEnd,
+                NextTick::Late => {}
+            }
+        }
+        unreachable!()
     }
 }
