@@ -1,6 +1,6 @@
 -- What the responses to a client's requests report to it is what its seat counts.
-use Rattle.std.proofs.Common.{◌≡◌, ◌∙◌, ◌⊎◌, ℕ, List, [], ◌∷◌, ◌++◌, append-nil, true, false, Option, Some, None, inl}
-use Rattle.std.proofs.Common.{inr, refl, ap, sym, subst}
+use Rattle.std.proofs.Common.{◌≡◌, ◌∙◌, ◌⊎◌, ℕ, List, [], ◌∷◌, ◌++◌, append-nil, Bool, true, false, Option, Some, None}
+use Rattle.std.proofs.Common.{inl, inr, refl, ap, sym, subst}
 use Rattle.http.specs.declared.request.Request.{Request}
 use Rattle.http.specs.Request.{body_of}
 use Rattle.http_server.specs.Exchange.{Call, Chain}
@@ -25,7 +25,7 @@ use Rattle.desk_turns.specs.Seated.{SeatedValue}
 use Rattle.site_server.specs.Replying.{asked, TellsStatus, TellsQueue}
 use Rattle.site_server.specs.Measuring.{TellsMetrics, TellsClosed}
 use Rattle.site_server.specs.Settling.{Settles}
-use Rattle.site_server.specs.Connections.{ClientValue, Tells, TellsSettled, Answers, Responded}
+use Rattle.site_server.specs.Connections.{ClientValue, Tells, TellsSettled, TellsBy, Answers, Responded}
 use Rattle.site_server.specs.Conversations.{IsTurn}
 use Rattle.site_server.specs.Requests.{IsSettledTurn, IsQueued, AreTurnsOf, AreBodyTurns, AreRouteTurns, AreCallsTurns}
 use Rattle.site_server.specs.Requests.{CountsCalls}
@@ -160,6 +160,20 @@ module _ {P : Type 0} (size : P → ℕ) (sends : P → ℕ → ℕ → P → Ty
   settled_turns HasEnded HasLeft (Some Quit) was before text now after h = tells_turns (Some Quit) was before text now after h
 
   module _ {B : Type 0} (has_ended has_left : B → Type 0) (shows : B → Option ℕ → Type 0) where
+    -- the command of a line had this effect
+    pub answers_line : (waits : Bool) (command : Option SiteCommand) (line text : List ℕ) (old new : ClientValue P B)
+        → (time : Option ℕ) × shows old.signal time × (command ≡ asked time line)
+        → TellsBy size sends stops waits (has_ended old.signal) (has_left old.signal) id command old.seat old.peers text
+        new.seat new.peers
+        → Answers size sends stops has_ended has_left shows id waits old line text new
+    answers_line waits command line text old new spelled h =
+        record {
+          time = spelled.0;
+          shown = spelled.1;
+          tells = subst (λ (c : Option SiteCommand). TellsBy size sends stops waits (has_ended old.signal) (has_left old.signal)
+              id c old.seat old.peers text new.seat new.peers) spelled.2 h;
+        }
+
     one : (old : ClientValue P B) (line reply : List ℕ) (new : ClientValue P B)
         → Answers size sends stops has_ended has_left shows id false old line reply new
         → (turns : List Turn) × ((time : Option ℕ) × IsTurn (asked time line) reply turns)
