@@ -300,9 +300,9 @@ def a_silent_peer_holds_up_nobody():
 
 def the_newest_connection_is_heard():
     with Sites(2, started=[1]) as sites:
-        with connect(sites, 1, b"H 2\n") as old:
-            time.sleep(0.1)
-            with connect(sites, 1, b"H 2\nE 2 0 2 I:9 R:1:7\n"):
+        with connect(sites, 1, b"H 2\nE 2 0 1 I:9\n") as old:
+            wait_for("site 1 hears the first one", sees(sites[1], 2, applied=1))
+            with connect(sites, 1, b"H 2\nE 2 1 2 R:1:7\n"):
                 wait_for("site 1 heard site 2", sees(sites[1], None, received=7))
                 old.settimeout(PATIENCE)
                 try:
