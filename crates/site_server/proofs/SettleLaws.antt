@@ -1,5 +1,5 @@
 -- The outcome of a spend that waits.
-use Rattle.std.proofs.Common.{◌≡◌, ◌∙◌, ℕ, suc, zero, true, false, ◌⊎◌, inl, inr, refl, ap}
+use Rattle.std.proofs.Common.{◌≡◌, ◌∙◌, ℕ, suc, zero, true, false, inl, inr, refl, ap}
 use Rattle.apply_lanes.specs.Names.{DeskId}
 use Rattle.apply_lanes.specs.Kepts.{KeptValue, SeatValue}
 use Rattle.site_words.specs.declared.commands.DeskCommand.TheVariants.{Outcome as AsksOutcome, Cancel as Cancels}
@@ -29,6 +29,7 @@ same_after old was ticket (Number n) new now h = absurd h
 same_after old was ticket (Spending spending) new now h = absurd h
 same_after old was ticket (Outcome status) new now h = h.same_seat
 same_after old was ticket (Refused cause) new now h = absurd h
+same_after old was ticket BadDeadline new now h = absurd h
 
 -- .. and so does cancelling
 pub cancel_keeps_told : (id : DeskId) (was : SeatedValue) (ticket : ℕ) (reply : Reply) (now : SeatedValue)

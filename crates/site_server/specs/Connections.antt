@@ -5,7 +5,6 @@ use Rattle.http_server.specs.declared.response.Response.{Response}
 use Rattle.apply_lanes.specs.Names.{DeskId}
 use Rattle.site_words.specs.declared.commands.SiteCommand.{SiteCommand}
 use Rattle.site_words.specs.declared.commands.SiteCommand.TheVariants.{AtDesk, Quit}
-use Rattle.site_http.specs.Replying.{Answering}
 use Rattle.site_http.specs.Responding.{Responds}
 use Rattle.site_server.specs.Measuring.{TellsMetrics, TellsClosed}
 use Rattle.desk_turns.specs.Seated.{SeatedValue}

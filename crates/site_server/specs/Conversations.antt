@@ -1,5 +1,5 @@
 -- The lines of a client and their replies, as the turns that its seat counts.
-use Rattle.std.specs.Prelude.{◌≡◌, ◌⊎◌, ℕ, List, [], ◌∷◌, ◌++◌, Option, Some, None, Result, Ok, Err}
+use Rattle.std.specs.Prelude.{◌≡◌, ◌⊎◌, ℕ, List, [], ◌∷◌, ◌++◌, Option, Some, Result, Ok, Err}
 use Rattle.request_queue.specs.declared.request.Request.{Request}
 use Rattle.site_core.specs.declared.fault.DeskError.{DeskError}
 use Rattle.site_core.specs.declared.fault.DeskError.TheVariants.{OutOfMemory}

@@ -1,5 +1,5 @@
 -- What a reading thread does at its site with the messages of a peer.
-use Rattle.std.specs.Prelude.{◌≡◌, ◌≢◌, ℕ, ◌≤◌, Bool, List, [], ◌∷◌, ◌++◌, Result, Ok, Err}
+use Rattle.std.specs.Prelude.{◌≡◌, ℕ, ◌≤◌, Bool, List, [], ◌∷◌, ◌++◌, Result, Ok, Err}
 use Rattle.rights_types.specs.declared.fault.OutOfMemory.{OutOfMemory}
 use Rattle.apply_lanes.specs.Names.{DeskId}
 use Rattle.apply_lanes.specs.Kepts.{KeptValue, IsKept}

@@ -1,15 +1,14 @@
 -- The reply to each line of a client at a running site, and its effect on the client's seat and on the peers.
-use Rattle.std.specs.Prelude.{◌≡◌, ℕ, ◌-◌, nat_le, Bool, false, List, [], ◌∷◌, ◌++◌, length, take, Option, Some, None, Result, Ok, Err}
+use Rattle.std.specs.Prelude.{◌≡◌, ℕ, ◌-◌, nat_le, Bool, false, List, [], ◌∷◌, length, take, Option, Some, None, Result, Ok, Err}
 use Rattle.std.specs.Prelude.{if◌then◌else◌}
 use Rattle.rights_types.specs.declared.limits.TheConstants.{MAX_LINE}
 use Rattle.rights_book.specs.Books.{peer}
-use Rattle.request_queue.specs.declared.request.Request.{Request}
 use Rattle.site_core.specs.Desks.{DeskValue}
 use Rattle.site_core.specs.declared.fault.DeskError.{DeskError}
 use Rattle.site_core.specs.declared.fault.DeskError.TheVariants.{OutOfMemory}
 use Rattle.thread_parts.specs.declared.view.DeskView.{DeskView}
 use Rattle.apply_lanes.specs.Names.{DeskId}
-use Rattle.apply_lanes.specs.Kepts.{KeptValue, SeatValue, IsKept}
+use Rattle.apply_lanes.specs.Kepts.{KeptValue, IsKept}
 use Rattle.apply_lanes.specs.Views.{IsViewOf}
 use Rattle.line_streams.specs.Waiting.{Waiting, AddsReply}
 use Rattle.line_streams.specs.declared.handler.Goes.{Goes}

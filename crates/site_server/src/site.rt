@@ -227,17 +227,17 @@ fn say_no_thread<R: Wait>(rt: &R, site: &SiteSockets) {
 }
 
 /// Answers the commands, with their seat. If the site cannot continue for lack of memory, no further read begins.
-fn answer_commands<'a, D: DeskNames, R: Wait + Clock + AllocGlobal, I: Read, W: Write>(
-    rt: &'a R,
-    site: &'a SiteSockets,
-    seats: &'a Seats<D>,
-    reader: &'a mut I,
+fn answer_commands<D: DeskNames, R: Wait + Clock + AllocGlobal, I: Read, W: Write>(
+    rt: &R,
+    site: &SiteSockets,
+    seats: &Seats<D>,
+    reader: &mut I,
     writer: &mut W,
 ) -> Result<(), ConversationError> {
-    let Some(mut client) = client_at(rt, site, seats, COMMANDS, None) else {
+    let Some(mut client) = client_at(rt, site, seats, COMMANDS) else {
         return Err(ConversationError::OutOfMemory);
     };
-    let mut reader = CommandReader::new(site, &mut *reader);
+    let mut reader = CommandReader::new(site, reader);
     match client.answer_all(&mut reader, writer) {
         Err(ConversationError::ReadFailed) if site.has_failed() => {
             Err(ConversationError::OutOfMemory)

@@ -23,7 +23,7 @@ fn replies_add_up(rt: HostRuntime) {
     counters.note_reply(WRITERS - 1, b"spent 4\n");
     counters.note_reply(WRITERS - 1, b"spent 5\n");
     assert!(rt; counters.commands() == 10);
-    assert!(rt; counters.refused() == [1, 0, 0, 0, 0, 0, 0, 0, 2, 0, 0, 0, 0, 0, 1]);
+    assert!(rt; counters.refused() == [1, 0, 0, 0, 0, 0, 0, 0, 2, 0, 0, 0, 0, 0, 1, 0, 0]);
 }
 
 fn note_all(counters: &Counters) {

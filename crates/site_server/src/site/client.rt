@@ -69,18 +69,42 @@ pub(crate) type ClientOf<'a, D, R> = SiteClient<
     SiteTickSignal<'a, R>,
 >;
 
-/// A client with the seat at this index, over this connection, if it has one. The seat is free again once the client is
-/// dropped. `None` if that seat is taken,
+/// A client with the seat at this index, which is free again once the client is dropped. `None` if that seat is taken,
 /// or memory was refused; then no seat is taken.
 pub(crate) fn client_at<'a, D: DeskNames, R: Wait + Clock + AllocGlobal>(
     rt: &'a R,
     site: &'a SiteSockets,
     seats: &'a Seats<D>,
     index: usize,
-    stream: Option<&'a TcpStream>,
+) -> Option<ClientOf<'a, D, R>> {
+    client_by(rt, site, seats, index, SiteTickSignal::new(rt, site, None))
+}
+
+/// The same for a client over a connection, which may leave.
+pub(crate) fn client_over<'a, D: DeskNames, R: Wait + Clock + AllocGlobal>(
+    rt: &'a R,
+    site: &'a SiteSockets,
+    seats: &'a Seats<D>,
+    index: usize,
+    stream: &'a TcpStream,
+) -> Option<ClientOf<'a, D, R>> {
+    client_by(
+        rt,
+        site,
+        seats,
+        index,
+        SiteTickSignal::new(rt, site, Some(stream)),
+    )
+}
+
+fn client_by<'a, D: DeskNames, R: Wait + Clock + AllocGlobal>(
+    rt: &'a R,
+    site: &'a SiteSockets,
+    seats: &'a Seats<D>,
+    index: usize,
+    signal: SiteTickSignal<'a, R>,
 ) -> Option<ClientOf<'a, D, R>> {
     let peers = Outboxes::new(rt, seats.turns()?, site.peers())?;
-    let signal = SiteTickSignal::new(rt, site, stream);
     let seat = seats.sit(index)?;
     Some(SiteClient::new(rt, rt.alloc(), site, index, seat, peers, signal))
 }

@@ -5,7 +5,7 @@ ghost use Rattle.site_http.specs.Conversing.{Conversed};
 ghost use Rattle.site_server.specs.Requests.{CountsCalls};
 ghost use Rattle.site_server.specs.Connections.{Responded};
 
-use crate::site::client::{SiteClient, client_at};
+use crate::site::client::{SiteClient, client_over};
 use crate::site::tick_signal::TickSignal;
 use apply_lanes::DeskNames;
 use desk_turns::Seats;
@@ -63,7 +63,7 @@ fn seat_client<D: DeskNames, R: Wait + Clock + RandomSource + AllocGlobal>(
     let Ok(keys) = RandomState::new(rt) else {
         return;
     };
-    let Some(client) = client_at(rt, site, seats, place.index(), Some(stream)) else {
+    let Some(client) = client_over(rt, site, seats, place.index(), stream) else {
         return;
     };
     let names = clients.hosts.as_slice();

@@ -61,7 +61,7 @@ fn keep_time<D: DeskNames, R: Wait + Clock + AllocGlobal>(
     every: u64,
     seats: Arc<Seats<D>>,
 ) {
-    if let Some(mut client) = client_at(rt, site, &seats, TICKS, None) {
+    if let Some(mut client) = client_at(rt, site, &seats, TICKS) {
         client.tick_all(rt, site, clock, every);
     }
 }
@@ -76,7 +76,7 @@ pub(crate) fn tick_last<D: DeskNames, R: Wait + Clock + AllocGlobal>(
     let Some(clock) = &site.clock else {
         return;
     };
-    if let Some(mut client) = client_at(rt, site, seats, COMMANDS, None) {
+    if let Some(mut client) = client_at(rt, site, seats, COMMANDS) {
         client.tick_now(rt, site, clock);
     }
 }
