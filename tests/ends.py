@@ -79,23 +79,27 @@ def a_limit_of_handles():
             expect([line for line in site.lines if "63 clients" in line], [], "clients that are not there")
 
 
-def a_network_that_is_gone():
-    """Nothing can be connected to any more, also not the site's own addresses."""
-    unshare, ip = shutil.which("unshare"), shutil.which("ip")
-    if unshare is None or ip is None:
-        raise Skipped("unshare or ip is not here")
-    inside = [unshare, "--net", "--map-root-user"]
+def tool(name):
+    path = shutil.which(name)
+    if path is None:
+        raise Skipped(f"{name} is not here")
+    return path
+
+
+def ends_where(hindrance):
+    """A site has a network of its own, in which this command is carried out once the site has started. Then its input
+    ends."""
+    ip, inside = tool("ip"), [tool("unshare"), "--net", "--map-root-user"]
     if subprocess.run([*inside, ip, "link", "set", "lo", "up"], capture_output=True).returncode != 0:
         raise Skipped("this user may have no network of its own")
     words = words_of(7001, 7002, "--log", "--tick", "20")
-    # The shell takes the network down once the site has started, and then ends the site's input.
     script = f"""
         {ip} link set lo up
         mkfifo "$ROOM/input"
         "$0" "$@" < "$ROOM/input" 2> "$ROOM/said" &
         exec 3> "$ROOM/input"
         until grep -q "listens on" "$ROOM/said"; do sleep 0.01; done
-        {ip} link set lo down
+        {hindrance} || touch "$ROOM/not-hindered"
         exec 3>&-
         wait $!"""
     with tempfile.TemporaryDirectory() as room:
@@ -103,8 +107,20 @@ def a_network_that_is_gone():
             timeout=PATIENCE, capture_output=True)  # fmt: skip
         with open(os.path.join(room, "said")) as file:
             said = file.read()
+        if os.path.exists(os.path.join(room, "not-hindered")):
+            raise Skipped(f"{hindrance.split()[0]} fails here: {done.stderr.decode()[:80]}")
     expect(done.returncode, 0, (said, done.stderr))
     expect("rights-site: ended: issued 0 " in said, True, said)
+
+
+def a_network_that_is_gone():
+    """Nothing can be connected to any more, also not the site's own addresses."""
+    ends_where(f"{tool('ip')} link set lo down")
+
+
+def a_firewall_before_its_own_ports():
+    """Whoever connects to them gets no answer, but for one host: also the site itself."""
+    ends_where(f"{tool('iptables')} -A INPUT -p tcp --dport 7001:7002 ! -s 10.0.0.2 -j DROP")
 
 
 def a_start_that_fails_uses_up_no_number():
@@ -222,6 +238,6 @@ def names_of_group(group):
 
 
 CASES = [case("Ends", [
-    a_limit_of_handles, a_network_that_is_gone, a_start_that_fails_uses_up_no_number, what_was_done_last_is_sent,
-    a_tunnel_to_nowhere, a_peer_that_comes_back, a_terminal_that_is_closed,
+    a_limit_of_handles, a_network_that_is_gone, a_firewall_before_its_own_ports, a_start_that_fails_uses_up_no_number,
+    what_was_done_last_is_sent, a_tunnel_to_nowhere, a_peer_that_comes_back, a_terminal_that_is_closed,
 ])]  # fmt: skip
