@@ -1,7 +1,7 @@
 //! A client that counts the lines that it carries out.
 ghost use Rattle.std.specs.Prelude.{◌≡◌, ◌+◌, ◌≤◌, ◌⊎◌, ⊤, ℕ, List, length, OnOk, OnErr};
 ghost use Rattle.line_streams.specs.Waiting.{IsEmpty, AddsReply};
-ghost use Rattle.site_http.specs.declared.client.TheConstants.{LONGEST_REPLY};
+ghost use Rattle.site_http.specs.declared.backend.TheConstants.{LONGEST_REPLY};
 
 use line_streams::Replies;
 use rights_types::OutOfMemory;
