@@ -85,14 +85,18 @@ fn shown_at_desk(command: DeskCommand) -> Shown {
     match command {
         DeskCommand::Issue(amount) => ("issue", amount, 0),
         DeskCommand::Give(peer, amount) => ("give", peer.number(), amount),
-        DeskCommand::Spend(amount, deadline, None) => ("spend", amount, deadline),
-        DeskCommand::Spend(amount, deadline, Some(latest)) => {
-            ("spend by", amount, latest.wrapping_sub(deadline))
-        }
+        DeskCommand::Spend(amount, deadline, latest) => shown_spend(amount, deadline, latest),
         DeskCommand::Take(amount) => ("take", amount, 0),
         DeskCommand::Outcome(ticket) => ("outcome", ticket, 0),
         DeskCommand::Cancel(ticket) => ("cancel", ticket, 0),
         DeskCommand::Close(heir) => ("close", heir.map_or(0, SiteId::number), 0),
+    }
+}
+
+fn shown_spend(amount: u64, deadline: u64, latest: Option<u64>) -> Shown {
+    match latest {
+        None => ("spend", amount, deadline),
+        Some(latest) => ("spend by", amount, latest.wrapping_sub(deadline)),
     }
 }
 
