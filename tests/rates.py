@@ -9,6 +9,7 @@ import statistics
 import subprocess
 import sys
 import time
+from contextlib import suppress
 
 sys.path.insert(0, os.path.dirname(os.path.abspath(__file__)))
 
@@ -115,7 +116,8 @@ def spent_by(pid):
         ticks = stat.read().rpartition(")")[2].split()[11:13]
     sleeps = 0
     for task in os.listdir(f"{folder}/task"):
-        with open(f"{folder}/task/{task}/status") as status:
+        # A thread may end meanwhile, such as one that read a first line.
+        with suppress(OSError), open(f"{folder}/task/{task}/status") as status:
             sleeps += int(status.read().partition("\nvoluntary_ctxt_switches:")[2].split()[0])
     return *(int(count) / os.sysconf("SC_CLK_TCK") for count in ticks), sleeps
 
