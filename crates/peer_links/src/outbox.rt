@@ -275,7 +275,10 @@ impl<A: Allocator> Drop for OutboxLines<'_, A> {
             // Without the lock: whoever sees this takes the lock next.
             outbox.is_ready.store(is_ready, Ordering::Release);
         }
-        outbox.changed.notify_one();
+        // Who waits, waits for this alone: a look at an idle outbox wakes nobody.
+        if is_ready {
+            outbox.changed.notify_one();
+        }
     }
 }
 
