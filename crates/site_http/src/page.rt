@@ -225,11 +225,13 @@ function silenceOf(site, lines, now) {
   return silence > Math.max(SILENCE, 3 * known.pause) ? silence : 0;
 }
 
-// Since when nothing has left the queue, if that is long; else 0. Spends leave it as they are served or expire.
+// Since when nothing has left the queue, if that is long; else 0. Spends leave it as they are served or expire; others
+// may come at the same time.
 function stuckSince(status, now) {
   const queued = BigInt(status.queued);
+  const hasMoved = last && (queued < BigInt(last.queued) || BigInt(status.spent) > BigInt(last.spent));
   if (queued == 0n) queueAt = 0;
-  else if (!queueAt || last && queued < BigInt(last.queued)) queueAt = now;
+  else if (!queueAt || hasMoved) queueAt = now;
   return queueAt && now - queueAt > STUCK ? queueAt : 0;
 }
 
@@ -285,7 +287,7 @@ function showPeers(status, metric, now) {
     return rowOf(peer, metric, findings);
   });
   byId("peers").replaceChildren(...rows);
-  setText("peers-sum", troubled ? `${troubled} of ${rows.length} need attention` : "all in order");
+  setText("peers-sum", troubled ? `${troubled} of ${rows.length} ${troubled == 1 ? "needs" : "need"} attention` : "all in order");
   return troubled;
 }
 
@@ -348,7 +350,7 @@ function show(status, metric, now) {
   showNumbers(status, metric, now);
   const notices = [];
   if (wentBack) notices.push(["bad", "The log of this site went back while this page was open: it was started anew under its number."]);
-  if (stuck) notices.push(["warn", `The queue is stuck: nothing has left it since ${clock(stuck)}, and ${number(status.queued)} rights are waited for.`]);
+  if (stuck) notices.push(["warn", `The queue is stuck: nothing has left it since ${clock(stuck)}, and ${many(status.queued, "right is", "rights are")} waited for.`]);
   if (behind > 0) notices.push(["warn", `The wall clock went back: this site's time stands still for ${many(behind, "second", "seconds")}.`]);
   if (status.closed) notices.push(["warn", "This site has closed. It no longer issues, spends or gives rights."]);
   showNotices(notices);
