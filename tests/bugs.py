@@ -2,11 +2,11 @@
 """Plants one bug after another in a second implementation of a running site, and says which check of ./conformance finds it:
 tests/bugs.py [WORD].
 
-With a WORD, only the bugs whose names contain it. The inputs of the checks are first given to the model with the bug in it,
-in this process: where what it says differs from what the model says, the check finds it. Bugs that no such check finds, as
-those of connections, are tried by ./conformance itself, on tests/model_site.py. A line for each bug names the check that
-finds it. Then comes a table by the files in which the bugs are. The last line is 'N passed, M failed': how many were found,
-and how many were not.
+With a WORD, only the bugs whose names, or the names of whose files, contain it. The inputs of the checks are first given
+to the model with the bug in it, in this process: where what it says differs from what the model says, the check finds it.
+Bugs that no such check finds, as those of connections, are tried by ./conformance itself, on tests/model_site.py; those of
+a clock by its checks of clocks alone. A line for each bug names the check that finds it. Then comes a table by the files in
+which the bugs are. The last line is 'N passed, M failed': how many were found, and how many were not.
 """
 
 import os
@@ -80,7 +80,8 @@ def said_by_check(bug=None):
 def by_conformance(name):
     """The check of ./conformance that finds the bug, or None."""
     part = "words" if MODULE_OF[name] == "word_bugs" else "run"
-    words = [os.path.join(HERE, "..", "conformance"), part, "--ours=none", "--fail-fast", f"--seconds={SECONDS}", f"--patience={PATIENCE}"]
+    words = [os.path.join(HERE, "..", "conformance"), part, "--ours=none", "--fail-fast", f"--seconds={SECONDS}"]
+    words += [f"--patience={PATIENCE}", *["--only=clock_checks"] * (MODULE_OF[name] == "clock_bugs")]
     ended = subprocess.run([*words, os.path.join(HERE, "model_site.py"), "--bug", name], capture_output=True, text=True)
     lines = [line for line in ended.stdout.splitlines() if ": FAILED: " in line]
     if not lines and ended.returncode != 0:
@@ -114,7 +115,7 @@ def print_table(names, ways):
 def main(words):
     begun = time.monotonic()
     right, fork = said_by_check(), get_context("fork")
-    names = [name for name in all_bugs() if not words or words[0] in name]
+    names = [name for name in all_bugs() if not words or words[0] in name or words[0] in MODULE_OF[name]]
     ways = []
     with ThreadPoolExecutor(AT_ONCE) as pool:
         for name, (way, check) in zip(names, pool.map(lambda name: found_by(name, right, fork), names)):

@@ -1,4 +1,4 @@
-"""The model of a running site as a process: its threads, its connections and its end."""
+"""The model of a running site as a process: its threads, its connections, its clock and its end."""
 
 import os
 import socket
@@ -7,11 +7,18 @@ import threading
 import time
 from contextlib import suppress
 
+from desk_model import Refusal
 from line_model import COUNTS, MOST_BYTES, SITES, Hello, message_in, number_in
 from site_model import RunningSite
 
 CONNECT_SECONDS = 1
 LAST_SECONDS = 1
+
+# In milliseconds: how often a site may tick by itself, and how long a silent peer has said nothing, 0 if no peer is silent.
+TICKS = range(1, 60_001)
+SILENCES = range(1_000, 3_600_001)
+# If the words do not say: so long, or so many ticks, if that is longer.
+USUAL_SILENCE, TICKS_OF_SILENCE = 3_000, 10
 
 
 class Limits:
@@ -29,13 +36,13 @@ def number_in_words(text, numbers):
 
 
 def options_in(words):
-    """The number of the site, how many there are, where it listens, and where each peer does; None where the words are
-    refused."""
+    """The number of the site, how many there are, where it listens, where each peer does, how often it ticks by itself
+    and after what time a peer is silent; None where the words are refused."""
     options, peers = {}, []
-    words = list(words)
+    words = [part for word in words for part in (word.split("=", 1) if word.startswith("--") else [word])]
     while words:
         word = words.pop(0)
-        if word in ("--id", "--sites", "--listen"):
+        if word in ("--id", "--sites", "--listen", "--tick", "--silent"):
             if word in options or not words:
                 return None
             options[word] = words.pop(0)
@@ -48,7 +55,23 @@ def options_in(words):
     numbers = [number_in_words(text, SITES) for text, _ in peers]
     if number is None or "--listen" not in options or None in numbers or not are_peers(number, count, numbers):
         return None
-    return number, count, options["--listen"], dict(zip(numbers, (address for _, address in peers)))
+    if (clock := clock_in(options)) is None:
+        return None
+    return number, count, options["--listen"], dict(zip(numbers, (address for _, address in peers))), *clock
+
+
+def clock_in(options):
+    """How often the site ticks by itself, None if it does not, and after what time a peer is silent, 0 if never; None where
+    these options are refused."""
+    tick = number_in_words(options.get("--tick"), TICKS)
+    silent = 0 if options.get("--silent") == "0" else number_in_words(options.get("--silent"), SILENCES)
+    if (tick is None and "--tick" in options) or (silent is None and "--silent" in options):
+        return None
+    return tick, usual_silence(tick) if silent is None else silent
+
+
+def usual_silence(tick):
+    return max(USUAL_SILENCE, TICKS_OF_SILENCE * (tick or 0))
 
 
 def are_peers(number, count, numbers):
@@ -61,12 +84,26 @@ def address_of(text):
     return host.strip("[]"), int(port)
 
 
-class Process:
-    """A model, with a thread for each connection."""
+class SiteClock:
+    """The time of a site that ticks by itself, in milliseconds: that of day, but never less than it was."""
 
-    def __init__(self, number, count, listen, peers, limits):
-        self.model = RunningSite(number, count)
-        self.limits = limits
+    def __init__(self):
+        self.latest = 0
+
+    def __call__(self):
+        self.latest = max(self.latest, time.time_ns() // 1_000_000)
+        return self.latest
+
+
+class Process:
+    """A model, with a thread for each connection, and one for its clock if it ticks by itself."""
+
+    def __init__(self, limits, number, count, listen, peers, tick=None, silence=0):
+        """`tick` and `silence` are in milliseconds."""
+        self.model = RunningSite(number, count, SiteClock() if tick else None)
+        self.limits, self.every, self.silence = limits, tick, silence
+        # When something was read of each peer; at first, when the site began.
+        self.read_at = dict.fromkeys(peers, time.monotonic())
         self.lock = threading.Condition()
         self.peers = peers
         self.is_ending = False
@@ -76,10 +113,14 @@ class Process:
         self.senders = [threading.Thread(target=self.send_all, args=(peer,), daemon=True) for peer in peers]
 
     def run(self):
-        for thread in [threading.Thread(target=self.accept_all, daemon=True), *self.senders]:
+        for thread in [threading.Thread(target=target, daemon=True) for target in (self.accept_all, self.tick_all)]:
+            thread.start()
+        for thread in self.senders:
             thread.start()
         status = self.answer_or_fail()
         with self.lock:
+            if self.every:
+                self.tick_last()
             self.is_ending = True
             if not self.limits.sends_at_end:
                 for peer in self.peers:
@@ -93,6 +134,32 @@ class Process:
         until = time.monotonic() + LAST_SECONDS
         for thread in self.senders:
             thread.join(max(0, until - time.monotonic()))
+
+    # ---- its clock
+
+    def tick_all(self):
+        while self.every:
+            time.sleep(self.every / 1000)
+            with self.lock:
+                if self.is_ending:
+                    return
+                self.tick()
+
+    def tick(self):
+        with suppress(Refusal):
+            self.model.tick_itself(self.silent_peers())
+        self.lock.notify_all()
+
+    def tick_last(self):
+        """The tick at its end."""
+        self.tick()
+
+    def silent_peers(self):
+        return {peer for peer in self.peers if self.is_silent(time.monotonic() - self.read_at[peer])}
+
+    def is_silent(self, seconds):
+        """Whether a peer is, of which nothing was read for so long."""
+        return self.silence > 0 and seconds * 1000 >= self.silence
 
     # ---- commands
 
@@ -166,6 +233,8 @@ class Process:
 
     def hear(self, peer, stream, unread):
         stream.settimeout(None)
+        if unread:
+            self.note_read(peer, unread)
         with self.lock:
             older, self.heard[peer] = self.heard.get(peer), stream
             if older is not None and self.limits.newest_wins:
@@ -182,7 +251,11 @@ class Process:
             block = stream.recv(1 << 16)
             if not block:
                 return self.hear_end(peer, unread)
+            self.note_read(peer, block)
             unread += block
+
+    def note_read(self, peer, block):
+        self.read_at[peer] = time.monotonic()
 
     def hear_line(self, peer, line, stream):
         self.model.hear(peer, line)

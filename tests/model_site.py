@@ -1,7 +1,7 @@
 #!/usr/bin/env python3
 """The model of a running site as a process: a second implementation of docs/PROTOCOL.md, slow and small.
 
-    tests/model_site.py [--bug NAME] --id I --sites N --listen ADDRESS J=ADDRESS...
+    tests/model_site.py [--bug NAME] [--tick MS] [--silent MS] --id I --sites N --listen ADDRESS J=ADDRESS...
 
 `./conformance run tests/model_site.py` passes. With `--bug` it has one of the bugs of bug_kit.py, and does not.
 """
@@ -23,7 +23,7 @@ def main(words):
     if (options := model_process.options_in(words)) is None:
         sys.exit(fails("bad command line", 2))
     try:
-        process = model_process.Process(*options, limits)
+        process = model_process.Process(limits, *options)
     except (OSError, ValueError):
         sys.exit(fails("cannot listen", 1))
     process.run()

@@ -95,7 +95,7 @@ class Cut(Situation):
     """Nothing goes to site 3 or comes from it, and spends wait."""
 
     shows = [*Situation.shows, "open, needs attention", "Cut off: nothing comes from it", "Cut off: nothing goes to it",
-             "lines dropped in the last minute", "1 of 2 need attention", "4 spends wait"]
+             "lines dropped in the last minute", "1 of 2 needs attention", "4 spends wait"]
     hides = ["unreachable", "are missing", "has closed", "went back"]
 
     def peer(self, number, n):
@@ -112,7 +112,7 @@ class Cut(Situation):
 class Silent(Situation):
     """The connections with site 3 stand, but nothing comes any more; site 2 ticks rarely."""
 
-    shows = [*Situation.shows, "open, needs attention", "1 of 2 need attention", "Silent: no line came for"]
+    shows = [*Situation.shows, "open, needs attention", "1 of 2 needs attention", "Silent: no line came for"]
     hides = [each for each in Situation.hides if each != "Silent"]
 
     def peer(self, number, n):
@@ -122,18 +122,37 @@ class Silent(Situation):
 class Stuck(Situation):
     """The site counts site 3 as silent, nothing leaves its queue, and its wall clock was set back."""
 
-    shows = [*Situation.shows, "open, needs attention", "1 of 2 need attention", "Silent since", "it is not asked for rights",
+    shows = [*Situation.shows, "open, needs attention", "1 of 2 needs attention", "Silent since", "it is not asked for rights",
              "The queue is stuck: nothing has left it since", "7 rights are waited for", "stands still for 60 seconds"]
     hides = [each for each in Situation.hides if each not in ("Silent", "went back")]
 
     def status(self, n):
-        return {**super().status(n), "queued": 7}
+        return {**super().status(n), "held": 3, "queued": 7}
+
+    def spent(self, n):
+        return super().spent(min(n, 120))
 
     def peer(self, number, n):
         return {**super().peer(number, n), "silent_seconds": 42 if number == 3 else 0}
 
     def more(self, n):
         return {**super().more(n), "requests_waiting": 2, "clock_behind_seconds": 60}
+
+
+class Busy(Situation):
+    """More spends come than can be served, but some are."""
+
+    shows = [*Situation.shows, "open", "spends wait", "all in order"]
+    hides = [*Situation.hides, "needs attention", "stuck"]
+
+    def status(self, n):
+        return {**super().status(n), "held": 0, "queued": 7 + n}
+
+    def spent(self, n):
+        return 10 + 2 * n
+
+    def more(self, n):
+        return {**super().more(n), "requests_waiting": 4 + n // 20}
 
 
 class Gap(Situation):
@@ -177,7 +196,7 @@ class Started(Situation):
         return {**super().status(n), "number": 700 if n < 100 else 3, "issued": 999_999_999_999_999_999}
 
 
-SITUATIONS = {each.__name__.lower(): each for each in (Healthy, Cut, Silent, Stuck, Gap, Closed, Unreachable, Started)}
+SITUATIONS = {each.__name__.lower(): each for each in (Healthy, Cut, Silent, Stuck, Busy, Gap, Closed, Unreachable, Started)}
 
 
 class StandIn:
@@ -281,7 +300,7 @@ def try_program(browser, program):
         address = f"http://{sites.address()}/"
         said = shown_by(browser, address)
         for text in ("Site 1 of 3", "open, needs attention", "Held 58", "Spent 12", "Queued 500", "Issued 100", "Received 0",
-                     "1 of 2 need attention", "Cut off: nothing comes from it", "in order", "Short 1"):
+                     "1 of 2 needs attention", "Cut off: nothing comes from it", "in order", "Short 1"):
             expect(text in said, True, f"{text!r} in {said}")
         sites.command("tick 10", "close")
         said = shown_by(browser, address)

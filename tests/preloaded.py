@@ -31,9 +31,14 @@ def built(program=PROGRAM):
 
 
 def with_library(name, program, **settings):
-    """The words that start the program with this library and these settings: a script in place of the program, since
-    what starts it, and what that starts besides, is to go without."""
-    words = [f"{key}={shlex.quote(str(value))}" for key, value in {"LD_PRELOAD": library(name), **settings}.items()]
+    """The words that start the program with this library and these settings."""
+    return with_settings(program, LD_PRELOAD=library(name), **settings)
+
+
+def with_settings(program, **settings):
+    """The words that start the program with these settings: a script in place of the program, since what starts it, and
+    what that starts besides, is to go without."""
+    words = [f"{key}={shlex.quote(str(value))}" for key, value in settings.items()]
     script, path = tempfile.mkstemp(dir=ROOM.name, prefix="program-")
     with open(script, "w") as text:
         text.write(f'#!/bin/sh\n{" ".join(words)} exec {shlex.quote(built(program))} "$@"\n')

@@ -2,17 +2,20 @@
 
 The site is site 1 mostly, and the test is all its peers: it speaks the line protocol itself. A check is a list of inputs. What
 the site has to say to them is what the model of a running site says, so each check compares all replies, all lines to
-each peer, and the status object after each input.
+each peer, and the status object after each input. What a site that ticks by itself says depends on time, and is compared
+with what a check expects (clock_trial.py).
 """
 
 from types import FunctionType
 
+import clock_checks
 import desk_checks
 import end_checks
 import link_checks
 import log_checks
 import reading_checks
 import word_checks
+from clock_trial import ClockTrial
 from site_trial import Trial
 
 # What neither these checks nor the seeded runs test.
@@ -23,7 +26,7 @@ NOT_TRIED = [
     "that a tick waits for lines that wait in an outbox",
     "that an attempt to connect is given up after a second",
     "that a first line and the one behind it, and lines which wait together, are written together, and that replies are written before the next read of a slow input",
-    "the options `--http`, `--tick`, `--silent`, `--once` and `--log`, and what a site does by its own clock",
+    "the options `--http`, `--once` and `--log`, and a wall clock that goes back",
     "the command line, its refusals, and the exit statuses 1 and 2, which `./conformance words` tries",
 ]
 
@@ -55,7 +58,9 @@ LATE = {
 TRIES = 20
 
 # The modules whose checks need a process, and not its model alone.
-OF_CONNECTIONS = ("link_checks", "end_checks", "word_checks")
+OF_CONNECTIONS = ("link_checks", "end_checks", "clock_checks", "word_checks")
+# Those whose sites tick by themselves.
+OF_CLOCKS = ("clock_checks",)
 
 
 def system_of(name):
@@ -65,7 +70,7 @@ def system_of(name):
 
 def all_checks():
     """Each check of a running site with its name, file by file."""
-    for module in (link_checks, end_checks, desk_checks, log_checks, reading_checks):
+    for module in (link_checks, end_checks, desk_checks, log_checks, reading_checks, clock_checks):
         yield from checks_of(module)
 
 
@@ -89,10 +94,16 @@ def is_check(value, module):
 
 def try_check(name, check, command):
     """Raises what a check fails with. One that the machine is too busy for is tried again."""
-    count, number = system_of(name)
     for _ in range(TRIES):
-        host = "localhost" if name in NAMED else "127.0.0.1"
-        with Trial(command, count, LATE.get(name, ()), number, host) as trial:
+        with trial_of(name, check, command) as trial:
             if check(trial) is not False:
                 trial.finish()
                 return
+
+
+def trial_of(name, check, command):
+    """What a check is given."""
+    if check.__module__ in OF_CLOCKS:
+        return ClockTrial(command)
+    count, number = system_of(name)
+    return Trial(command, count, LATE.get(name, ()), number, "localhost" if name in NAMED else "127.0.0.1")

@@ -1,6 +1,7 @@
 """What a site does in time: limits, ticks, and the order of its end. The clock is the test's own (tests/clock.c): it stands
 still until the test moves it. So a minute passes at once, and a busy machine changes nothing."""
 
+import glob
 import json
 import mmap
 import os
@@ -12,10 +13,10 @@ import tempfile
 import time
 from contextlib import ExitStack, suppress
 
-from cases import case
+from cases import Skipped, case
 from cluster import expect, processor_seconds, sees, wait_for
 from loopback import connect
-from preloaded import ROOM, with_library
+from preloaded import ROOM, with_library, with_settings
 from web_driver import ENDED, WebCluster, expect_served, post
 
 # What is waited for comes within so many seconds, or never: of the system's clock, not of the test's.
@@ -302,6 +303,52 @@ def a_wall_clock_that_goes_back():
         expect(said, ["the wall clock went back", "the wall clock has caught up"])
 
 
+def faketime():
+    """The library of the package faketime, for programs with threads."""
+    found = sorted(glob.glob("/usr/lib/*/faketime/libfaketimeMT.so.1"))
+    if not found:
+        raise Skipped("libfaketime is not here")
+    return found[0]
+
+
+def a_wall_clock_that_is_set_back_by_an_hour():
+    """By libfaketime, beside a site whose clock is right. The site sends, and answers who waits, as before."""
+    library = faketime()
+    with tempfile.TemporaryDirectory() as room:
+        shift = os.path.join(room, "shift")
+
+        def set_clock(seconds):
+            with open(shift + ".new", "w") as file:
+                file.write(f"{seconds:+d}\n")
+            os.rename(shift + ".new", shift)
+
+        set_clock(0)
+        settings = {"LD_PRELOAD": library, "FAKETIME_TIMESTAMP_FILE": shift, "FAKETIME_NO_CACHE": 1, "FAKETIME_DONT_FAKE_MONOTONIC": 1}
+        with WebCluster(2, tick=20, log=True, programs={1: with_settings(WebCluster.program, **settings)}) as sites:
+
+            def is_behind(least, most):
+                return lambda: least <= sites.metrics()["rights_clock_behind_seconds"] <= most
+
+            expect(sites.command("issue 9", "give 2 4"), (200, ["number 1", "number 2"]))
+            wait_for("it is sent", sees(sites[2], 1, applied=2))
+            set_clock(-3600)
+            wait_for("it is an hour behind", is_behind(3500, 3600))
+            expect(sites.command(f"tick {time.time_ns() // 1000}"), (409, ["error OwnClock"]))
+            expect(sites.command("give 2 5"), (200, ["number 3"]))
+            wait_for("it is sent", sees(sites[2], 1, applied=3))
+            with sites.client() as client:
+                client.send(post("spend 99 +60000", target="/wait"))
+                wait_for("a spend waits", sees(sites[1], None, queued=99))
+                expect(sites.command("issue 99"), (200, ["number 4"]))
+                expect_served(client.read(), 200, b"spent 5\n")
+            set_clock(0)
+            wait_for("it is caught up", is_behind(0, 0))
+            expect(sites.command("spend 999 +50", target="/wait"), (200, ["expired"]))
+            said = [line.split(": ")[1] for line in sites[1].said().splitlines() if "clock" in line]
+            expect(said, ["the wall clock went back", "the wall clock has caught up"])
+            expect((sites.end().issued, sites.metrics(2)["rights_received_total"]), (108, 9))
+
+
 def who_waits_for_a_tick_rests():
     """A client that waits for its spend uses no processor time, also after a tick that did not serve it."""
     with TimedSite() as sites, sites.client() as client:
@@ -423,6 +470,7 @@ CASES = [case("Timing", [
     a_first_line_has_five_seconds, a_link_has_no_limit, a_client_may_be_idle_for_a_minute, peers_come_after_too_many,
     clients_come_after_too_many, one_that_gets_no_handle_rests, its_ticks_have_the_time_of_day,
     deadlines_are_counted_from_its_time, ticks_go_on_while_the_time_cannot_be_read, a_wall_clock_that_goes_back,
+    a_wall_clock_that_is_set_back_by_an_hour,
     who_waits_for_a_tick_rests, waits_end_with_the_tick_that_serves_them,
     a_tick_before_the_end_is_told, lines_of_the_last_requests_go_out, nothing_is_done_for_clients_that_cannot_be_told,
 ])]  # fmt: skip

@@ -36,6 +36,21 @@ words_read_as("a_system_of_one_site", lambda right, words: (
     (1, 1, words[5], {}) if words[:4] == ["--id", "1", "--sites", "1"] else None))
 words_read_as("seventeen_sites", lambda right, words: (
     (17, 17, words[5], dict.fromkeys(range(1, 17), words[5])) if words[:4] == ["--id", "17", "--sites", "17"] else None))
+BUGS["a_tick_of_0"] = sets(model_process, "TICKS", range(60_001))
+BUGS["a_tick_of_more_than_a_minute"] = sets(model_process, "TICKS", range(1, 2**64))
+BUGS["a_tick_of_a_minute_and_a_bit"] = sets(model_process, "TICKS", range(1, 60_002))
+BUGS["silence_after_less_than_a_second"] = sets(model_process, "SILENCES", range(1, 3_600_001))
+BUGS["silence_after_999_milliseconds"] = sets(model_process, "SILENCES", range(999, 3_600_001))
+BUGS["silence_after_more_than_an_hour"] = sets(model_process, "SILENCES", range(1_000, 3_600_002))
+words_read_as("the_first_of_two_ticks_counts", lambda right, words: right([word for word in words if word != "--tick=30"]))
+words_read_as("the_last_of_two_silences_counts", lambda right, words: right([word for word in words if word != "--silent=0"]))
+words_read_as("a_tick_without_a_value_is_none", lambda right, words: right(words[:-1]) if words[-1:] == ["--tick"] else None)
+words_read_as("a_silence_without_a_value_is_none", lambda right, words: right(words[:-1]) if words[-1:] == ["--silent"] else None)
+words_read_as("a_tick_may_have_a_unit", lambda right, words: right([word.removesuffix("s") if word.startswith("--tick") else word for word in words]))
+words_read_as("a_tick_that_is_no_number_is_none", lambda right, words: (
+    right([word for word in words if not word.startswith("--tick=")]) if "--tick=x" in words else None))
+words_read_as("a_silence_that_is_no_number_is_none", lambda right, words: (
+    right([word for word in words if not word.startswith("--silent=")]) if "--silent=x" in words else None))
 
 
 @replaces(Process, "answer_or_fail")

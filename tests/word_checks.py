@@ -53,6 +53,22 @@ def words_that_name_no_system_are_refused(trial):
     expect_failure(trial, 2, "without words")
 
 
+def words_of_a_clock_that_are_out_of_range_are_refused(trial):
+    own, other = map(at, free_ports(2))
+
+    def expect_refusal(*clock):
+        expect_failure(trial, 2, f"with {' '.join(clock)!r}", "--id", "1", "--sites", "2", "--listen", own, *clock, f"2={other}")
+
+    for tick in ("0", "60001", "4294967297", f"{2**64 + 1}", "x", "", "1.5", "-1", "1s"):
+        expect_refusal(f"--tick={tick}")
+    for silent in ("1", "999", "3600001", f"{2**32}", f"{2**64}", "x", "", "1.5", "-1", "3s"):
+        expect_refusal("--tick=20", f"--silent={silent}")
+    for twice in (["--tick=20", "--tick=20"], ["--tick=20", "--tick=30"], ["--tick=20", "--silent=0", "--silent=3000"]):
+        expect_refusal(*twice)
+    expect_failure(trial, 2, "without a value of --tick", "--id", "1", "--sites", "2", "--listen", own, f"2={other}", "--tick")
+    expect_failure(trial, 2, "without a value of --silent", "--id", "1", "--sites", "2", "--listen", own, f"2={other}", "--tick=20", "--silent")
+
+
 def an_address_that_cannot_be_listened_on_ends_a_site(trial):
     for listen in (at(trial.node.port), "nowhere", ""):
         expect_failure(trial, 1, f"where it is to listen on {listen!r}", "--id", "1", "--sites", "2", "--listen", listen, f"2={at(trial.node.port)}")
