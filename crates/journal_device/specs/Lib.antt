@@ -1,0 +1,5 @@
+pub mod Calls
+pub mod Device
+pub mod Laws
+pub mod Moments
+pub mod Note

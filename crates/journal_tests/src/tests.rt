@@ -1,0 +1,5 @@
+//! A journal by its public calls alone.
+mod crashes;
+mod failures;
+mod files;
+mod kit;

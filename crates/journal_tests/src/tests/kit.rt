@@ -1,0 +1,74 @@
+//! What the tests share.
+use journal_device::{Device, Memory};
+use site_journal::{Batch, Journal, JournalError, TakeRecords, is_text, open};
+use std::alloc::Global;
+use std::test::Fail;
+
+/// Keeps what it is handed: each record and a bar.
+#[derive(Drop)]
+pub(crate) struct Texts {
+    pub(crate) all: Vec<u8>,
+}
+
+impl TakeRecords for Texts {
+    ghost takes = { λ old text new. Unit {0} };
+
+    fn take_record(&mut self, text: &[u8]) -> bool {
+        self.all.extend_from_slice(text).is_ok() && self.all.push(b'|').is_ok()
+    }
+}
+
+pub(crate) fn no_texts(alloc: Global) -> Texts {
+    Texts {
+        all: Vec::new(alloc),
+    }
+}
+
+/// A journal in memory over a file with these bytes, and the records that it was opened with.
+pub(crate) fn opened(alloc: Global, image: &[u8]) -> Result<(Journal<Memory>, Vec<u8>), Fail> {
+    let mut texts = no_texts(alloc);
+    let file = Memory::new(alloc, image.to_vec(alloc)?)?;
+    match open(alloc, file, &mut texts) {
+        Ok(journal) => Ok((journal, texts.all)),
+        Err(_) => Err(Fail::new("not opened")),
+    }
+}
+
+/// What opening answers: the byte of the damage, or None.
+pub(crate) fn damage(alloc: Global, image: &[u8]) -> Result<Option<usize>, Fail> {
+    let mut texts = no_texts(alloc);
+    let file = Memory::new(alloc, image.to_vec(alloc)?)?;
+    match open(alloc, file, &mut texts) {
+        Ok(_) => Ok(None),
+        Err((JournalError::Damage { at_byte }, _)) => Ok(Some(at_byte)),
+        Err(_) => Err(Fail::new("another error")),
+    }
+}
+
+/// A batch of the records in a text, which bars end.
+pub(crate) fn batch_of(alloc: Global, texts: &[u8]) -> Result<Batch, Fail> {
+    let mut batch = Batch::new(alloc)?;
+    let mut start = 0;
+    for (i, byte) in texts.iter().enumerate() {
+        if *byte == b'|' {
+            let text = texts.get(start..i).unwrap_or(b"");
+            if is_text(text) {
+                batch.push(text)?;
+            }
+            start = i + 1;
+        }
+    }
+    Ok(batch)
+}
+
+pub(crate) fn append<D: Device>(
+    alloc: Global,
+    journal: &mut Journal<D>,
+    texts: &[u8],
+) -> Result<(), Fail> {
+    let mut batch = batch_of(alloc, texts)?;
+    match journal.append(&mut batch) {
+        Ok(()) => Ok(()),
+        Err(_) => Err(Fail::new("not appended")),
+    }
+}
