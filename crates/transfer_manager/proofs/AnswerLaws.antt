@@ -66,6 +66,23 @@ pub ended_answered : (m new : ManagerValue) (j ask : ℕ) → new ≡ ended m j 
     → IsAnswered new past
 ended_answered m new j ask same low high = rw same (still_answered m (ended m j ask) (ended_keeps m j ask low high))
 
+-- one more ask
+
+asked_keeps : (m : ManagerValue) (j amount : ℕ) → 1 ≤ j → j ≤ sites m → (k : ℕ)
+    → IsAnsweredAs (asks m k) (asks (with_asks m j (with_ask (asks m j) amount)) k)
+asked_keeps m j amount low high k =
+    let p : PeerAsks = asks m j in
+    elim (at_set_site m.peers j k (with_ask p amount) no_asks low high) [
+      | inl q ↦ subst (λ i. IsAnsweredAs (asks m i) (asks (with_asks m j (with_ask p amount)) k)) (sym q.0)
+          (subst (IsAnsweredAs p) (sym q.1) (record { last = refl; granted = refl }))
+      | inr q ↦ answered_as_is (asks m k) (asks (with_asks m j (with_ask p amount)) k) q.1
+    ]
+
+pub asked_answered : (m new : ManagerValue) (j amount : ℕ) → new ≡ with_asks m j (with_ask (asks m j) amount) → 1 ≤ j
+    → j ≤ sites m → (past : AskValue) → IsAnswered m past → IsAnswered new past
+asked_answered m new j amount same low high =
+    rw same (still_answered m (with_asks m j (with_ask (asks m j) amount)) (asked_keeps m j amount low high))
+
 -- a plan
 
 plan_keeps : (t u : Bool) (p : PeerAsks) (n : ℕ)

@@ -1,11 +1,12 @@
 -- What holds of every manager.
-use Rattle.std.proofs.Common.{◌≡◌, ℕ, ◌+◌, ◌<◌, ◌≤◌, Bool, true, false, cond, eqb, List, length, take, get_or, set, inl}
+use Rattle.std.proofs.Common.{◌≡◌, ◌≢◌, ℕ, ◌+◌, ◌<◌, ◌≤◌, Bool, true, false, cond, eqb, List, length, take, get_or, set, inl}
 use Rattle.std.proofs.Common.{inr, refl, sym, ap, ◌∙◌, subst, arith}
 use Rattle.std.specs.Prelude.{replicate, None}
 use Rattle.std.proofs.Math.Seq.{take-set-lt}
 use Rattle.std.proofs.lemmas.List.{length-replicate, length-take, take-replicate, get_or-take, get_or_default}
 use Rattle.std.proofs.lemmas.Bool.{ne_eqb}
 use Rattle.rights_types.specs.Places.{at_site}
+use Rattle.rights_types.specs.Ranges.{IsAmount}
 use Rattle.rights_types.proofs.Places.{at_site-index, set_site-index, at_site-replicate, at_set_site, length-set_site}
 use Rattle.rights_types.proofs.Places.{set_site_keeps}
 use Rattle.transfer_manager.specs.declared.peer_asks.PeerAsks.{PeerAsks}
@@ -96,6 +97,22 @@ pub ended_set : (me n i j ask : ℕ) (ps : List PeerAsks) (d p : PeerAsks) → i
 ended_set me n i j ask ps d p at high ends =
     asks_set me n i j ps p (with_ended (asks (front me n ps) j) ask) at high (ends
     ∙ ap (λ q. with_ended q ask) (asks_read me n i j ps d at high))
+
+-- one more ask there
+pub asked_set : (me n i j amount k : ℕ) (ps : List PeerAsks) (d p : PeerAsks) → i + 1 ≡ j → j ≤ length (take n ps)
+    → p ≡ with_ask (get_or ps i d) amount → amount ≡ k
+    → front me n (set ps i p) ≡ with_asks (front me n ps) j (with_ask (asks (front me n ps) j) k)
+asked_set me n i j amount k ps d p at high is same =
+    asks_set me n i j ps p (with_ask (asks (front me n ps) j) k) at high (is
+    ∙ ap (λ q. with_ask q amount) (asks_read me n i j ps d at high)
+    ∙ ap (λ m. with_ask (asks (front me n ps) j) m) same)
+
+pub asked_is : (m new : ManagerValue) (j amount : ℕ) → new ≡ with_asks m j (with_ask (asks m j) amount)
+    → IsManager m → 1 ≤ j → j ≤ sites m → j ≢ m.me → IsAmount amount → (asks m j).last_ask < 1000000000
+    → IsManager new
+asked_is m new j amount same is low high other in_range below =
+    rw same (with_asks_is m j (with_ask (asks m j) amount) is low high
+    (record { numbers = omega (arith, below); asked = (in_range, omega arith) }) (λ e. absurd (other e)))
 
 -- an answer noted there
 abbrev pub answered : PeerAsks → ℕ → Bool → PeerAsks

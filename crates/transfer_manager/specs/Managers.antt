@@ -62,6 +62,16 @@ with_ended p ask = if p.last_ask == ask then record p { outstanding = None } els
 abbrev pub ended : ManagerValue → ℕ → ℕ → ManagerValue
 ended m j ask = with_asks m j (with_ended (asks m j) ask)
 
+-- this ask of the manager's own site, which is the next one to its peer, is outstanding
+abbrev pub asked_again : ManagerValue → AskValue → ManagerValue
+asked_again m ask = with_asks m ask.asked (with_ask (asks m ask.asked) ask.amount)
+
+-- it is of this site, to another one of the system, under the next number
+pub record IsNextAsk (m : ManagerValue) (ask : AskValue) : Type 0 where
+  pub mine : ask.asker ≡ m.me
+  pub site : ask.asked ≤ sites m
+  pub next : ask.ask ≡ (asks m ask.asked).last_ask + 1
+
 -- an outstanding ask has an amount and a number within their ranges
 pub record IsPeerAsks (p : PeerAsks) : Type 0 where
   pub numbers : p.last_ask ≤ MAX_ASK

@@ -3,6 +3,7 @@
 #![tactic(auto)]
 
 mod answer;
+pub mod laws;
 mod manager;
 mod peer_asks;
 mod plan;

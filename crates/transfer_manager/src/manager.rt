@@ -1,5 +1,5 @@
 //! The transfer manager of one site.
-ghost use Rattle.std.specs.Prelude.{◌≡◌, ℕ, ◌<◌, ◌≤◌, List, length, IfSome};
+ghost use Rattle.std.specs.Prelude.{◌≡◌, ℕ, ◌<◌, ◌≤◌, true, false, List, length, IfSome};
 ghost use Rattle.rights_types.specs.Entries.{EntryValue};
 ghost use Rattle.rights_types.specs.Messages.{AskValue, IsAsk};
 
@@ -41,6 +41,7 @@ impl Manager {
     ghost use Rattle.rights_book.specs.StandsFor.{StandsFor};
     ghost use Rattle.request_queue.specs.Queues.{total_of};
     ghost use Rattle.transfer_manager.specs.Managers.{sites, asks, SameSystem, new_manager, outstanding_ask, ended};
+    ghost use Rattle.transfer_manager.specs.Managers.{asked_again, IsNextAsk};
     ghost use Rattle.transfer_manager.specs.Plans.{of_book, of_logs, beside, Plans};
     ghost use Rattle.transfer_manager.specs.AskAnswers.{answer_to, with_answer, noted, IfNew, IsWithin, IsAnswered};
 
@@ -103,6 +104,23 @@ impl Manager {
         let rights = eligible_rights(self.me, peers, book, silent);
         let sites = peers.len();
         ask_each(peers, &rights[..sites], need)
+    }
+
+    /// Makes an ask of this site again, which is outstanding from then on. `false` if it is not the next one to a peer:
+    /// then nothing changes.
+    pub fn ask_again(&mut self, ask: &Ask) -> bool
+        ensures next { result ≡ true → IsNextAsk self.old ask.now }
+        ensures yes { result ≡ true → self.new ≡ asked_again self.old ask.now }
+        ensures other { result ≡ false → ¬ IsNextAsk self.old ask.now }
+        ensures no { result ≡ false → self.new ≡ self.old }
+        ensures same { SameSystem self.old self.new }
+        ensures answered { (past : AskValue) → IsAnswered self.old past → IsAnswered self.new past }
+    {
+        if !self.is_next(ask) {
+            return false;
+        }
+        self.make_again(ask);
+        true
     }
 
     /// The outstanding ask to that peer, if there is one.
@@ -173,6 +191,34 @@ impl Manager {
         ensures answered { (past : AskValue) → IsAnswered self.old past → IsAnswered self.new past }
     {
         self.end(peer, ask);
+    }
+
+    // Whether it is the next ask of this site to a peer.
+    fn is_next(&self, ask: &Ask) -> bool
+        ensures next { result ≡ true → IsNextAsk self.now ask.now }
+        ensures other { result ≡ false → ¬ IsNextAsk self.now ask.now }
+    {
+        let peer = ask.asked();
+        if ask.asker() != self.me {
+            return false;
+        }
+        if peer.index() >= self.peers[..self.sites].len() {
+            return false;
+        }
+        ask.ask().value() == self.asks(peer).last_ask + 1
+    }
+
+    // Makes the next ask to a peer.
+    fn make_again(&mut self, ask: &Ask)
+        requires { IsNextAsk self.old ask.now }
+        ensures made { self.new ≡ asked_again self.old ask.now }
+        ensures same { SameSystem self.old self.new }
+        ensures answered { (past : AskValue) → IsAnswered self.old past → IsAnswered self.new past }
+    {
+        // For the proof: the ranges of the ask's number and amount.
+        let _ = (ask.ask().value(), ask.amount().value());
+        let asks = &mut self.peers[ask.asked().index()];
+        asks.ask(ask.amount());
     }
 
     // Records the first answer to this ask.
