@@ -18,7 +18,7 @@ use Rattle.request_queue.specs.Queues.{total_of}
 use Rattle.transfer_manager.specs.declared.answer.AskAnswer.TheVariants.{Grant as Granted}
 use Rattle.transfer_manager.specs.Managers.{ManagerValue, SameSystem, sites as asked_sites}
 use Rattle.transfer_manager.specs.Plans.{Plans, of_book, of_logs, beside}
-use Rattle.transfer_manager.specs.AskAnswers.{IsAnswered, IsLate}
+use Rattle.transfer_manager.specs.AskAnswers.{answer_to, IsAnswered, IsLate}
 use Rattle.site_core.specs.Ledgers.{WritesEntry, IsLedger}
 use Rattle.site_core.specs.Desks.{DeskValue, grant_count, IsDesk}
 use Rattle.site_core.specs.Faults.{has_closed, is_full}
@@ -95,12 +95,12 @@ grant_unrefused b j n a high other unclosed within =
 -- ---- a grant
 
 -- an ask that is granted now was not granted before
-not_yet : (d : DeskValue) (ask : AskValue) (n : ℕ) → IsDesk d → answer_of d ask ≡ Granted n
+not_yet : (d : DeskValue) (ask : AskValue) (n most : ℕ) → IsDesk d → answer_to d.manager ask most ≡ Granted n
     → grant_count ask.asker ask.ask (moves_of d.ledger.log.entries) ≡ 0
-not_yet d ask n is now =
+not_yet d ask n most is now =
     elim (cases_lt 0 (grant_count ask.asker ask.ask (moves_of d.ledger.log.entries))) [
       | inl some ↦ absurd (subst IsLate now
-          (is.answered ask (omega (arith, some)) ask (available d ask.asker) refl (omega arith)))
+          (is.answered ask (omega (arith, some)) ask most refl (omega arith)))
       | inr none ↦ omega (arith, none)
     ]
 
@@ -114,11 +114,13 @@ at_most true = omega arith
 at_most false = omega arith
 
 -- after an entry that grants, once the answer was noted
-pub wrote_grant : (old new : DeskValue) (ask : AskValue) (n : ℕ) → IsDesk old → answer_of old ask ≡ Granted n
+-- .. whatever was available then
+pub wrote_grant_at : (old new : DeskValue) (ask : AskValue) (n k most : ℕ) → IsDesk old
+    → answer_to old.manager ask most ≡ Granted k
     → WritesEntry old.ledger (Grant ask.asker n ask.ask ∷ []) new.ledger → SameSystem old.manager new.manager
     → ((past : AskValue) → IsAnswered old.manager past → IsAnswered new.manager past)
     → IsAnswered new.manager ask → IsDesk new
-wrote_grant old new ask n is now w same answered now_answered =
+wrote_grant_at old new ask n k most is now w same answered now_answered =
     let ms : List Move = Grant ask.asker n ask.ask ∷ [] in
     let before : List Move = moves_of old.ledger.log.entries in
     let more : moves_of new.ledger.log.entries ≡ before ++ ms = ap (λ (l : LogValue). moves_of l.entries) w.log
@@ -134,7 +136,7 @@ wrote_grant old new ask n is now w same answered now_answered =
     ) in
     let opened : is_closed new.ledger.log.entries ≡ false = ap (λ (l : LogValue). is_closed l.entries) w.log
     ∙ closed_with old.ledger.log ms in
-    let none = not_yet old ask n is now in
+    let none = not_yet old ask k most is now in
     record {
       same_site = same.same_me ∙ is.same_site ∙ ap (λ (l : LogValue). l.site) (sym w.log);
       same_sites = same.same_sites ∙ is.same_sites ∙ sym w.book.same_sites;
@@ -157,3 +159,10 @@ wrote_grant old new ask n is now w same answered now_answered =
             ∙ sym (eqb-true ask.asker past.asker it.0)) (omega (arith, number, below))
       ];
     }
+
+pub wrote_grant : (old new : DeskValue) (ask : AskValue) (n : ℕ) → IsDesk old → answer_of old ask ≡ Granted n
+    → WritesEntry old.ledger (Grant ask.asker n ask.ask ∷ []) new.ledger → SameSystem old.manager new.manager
+    → ((past : AskValue) → IsAnswered old.manager past → IsAnswered new.manager past)
+    → IsAnswered new.manager ask → IsDesk new
+wrote_grant old new ask n is now w same answered now_answered
+    = wrote_grant_at old new ask n n (available old ask.asker) is now w same answered now_answered

@@ -10,3 +10,8 @@ pub mod RetiringLaws
 pub mod InboundLaws
 pub mod Keeping
 pub mod Tested
+pub mod ReplayLaws
+pub mod RefusalLaws
+pub mod RestoredLaws
+pub mod RecordedLaws
+pub mod JournalLaws

@@ -65,7 +65,7 @@ open_taken : (none : Bool) (log : LogValue) (o n : ℕ) → is_closed log.entrie
 open_taken true log o n opened = ap is_closed (append-nil log.entries) ∙ opened
 open_taken false log o n opened = closed_with log (TakeBack o n ∷ [])
 
-sites_taken : (none : Bool) (old : BookValue) (o n : ℕ) (new : BookValue) → TakesBackIf none old o n new
+pub sites_taken : (none : Bool) (old : BookValue) (o n : ℕ) (new : BookValue) → TakesBackIf none old o n new
     → sites new ≡ sites old
 sites_taken true old o n new t = ap (λ (b : BookValue). sites b) t
 sites_taken false old o n new t = t.same_sites

@@ -50,7 +50,7 @@ no_causes : {E : Type 0} (a b c : Bool) (x y z : E) → a ≡ false → b ≡ fa
     → cond a (Some x) (cond b (Some y) (cond c (Some z) None)) ≡ None
 no_causes a b c x y z p q r = rw (p, q, r) refl
 
-log_takes : (log : LogValue) (ms : List Move) → is_closed log.entries ≡ false
+pub log_takes : (log : LogValue) (ms : List Move) → is_closed log.entries ≡ false
     → (ltb (length ms) 1 || ltb 16 (length ms)) ≡ false
     → ltb 999999900 (end log.entries + length ms) ≡ false → append_fault log ms ≡ None
 log_takes log ms unclosed count room =
@@ -58,7 +58,7 @@ log_takes log ms unclosed count room =
     (ltb 999999900 (end log.entries + length ms)) LogShut NoCount NoNumber unclosed count room
 
 -- neither the book nor a full log refuses
-no_book_cause : (full : Bool) (fault : Option BookError) → book_cause full fault ≡ None
+pub no_book_cause : (full : Bool) (fault : Option BookError) → book_cause full fault ≡ None
     → (fault ≡ None) × (full ≡ false)
 no_book_cause full (Some NoSite) h = absurd cc
 no_book_cause full (Some OwnSite) h = absurd cc

@@ -4,4 +4,8 @@ pub mod Ledgers
 pub mod Desks
 pub mod Faults
 pub mod Calls
+pub mod Replaying
+pub mod Restored
+pub mod Recorded
+pub mod Journaling
 pub mod Inbounds

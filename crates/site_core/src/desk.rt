@@ -11,6 +11,7 @@ use transfer_manager::Manager;
 mod asks;
 mod entries;
 mod readers;
+mod replaying;
 mod requests;
 mod retiring;
 mod streams;

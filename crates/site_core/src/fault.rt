@@ -1,6 +1,7 @@
 //! Why a desk or an inbound refuses.
 ghost use Rattle.std.specs.Prelude.{◌≡◌};
 ghost use Rattle.site_core.specs.declared.fault.DeskError.TheVariants.{OutOfMemory as NoMemory};
+ghost use Rattle.site_core.specs.declared.fault.ReplayError.TheVariants.{NotPermitted as Denied};
 ghost use Rattle.site_core.specs.declared.fault.InboundError.TheVariants.{OutOfMemory as NoRoom};
 
 use entry_codec::LineError;
@@ -45,6 +46,37 @@ impl From<OutOfMemory> for DeskError {
 
     fn from(_error: OutOfMemory) -> DeskError {
         DeskError::OutOfMemory
+    }
+}
+
+/// Why a record of a journal is not replayed: the journal is damaged, or that of another site. The desk is unchanged.
+#[derive(Clone, Copy, Debug, PartialEq, Eq)]
+pub enum ReplayError {
+    /// The entry is not the next one of its site's log, or the ask is not the next one of this site to a peer.
+    OutOfOrder,
+    /// The entry grants an ask that was granted before, or one from before that.
+    GrantedBefore,
+    /// The entry closes, but with another frontier, gift or amount than those with which this site would close.
+    OtherClosing,
+    /// The desk refuses the step for this cause.
+    NotPermitted(DeskError),
+    /// The message is neither an entry nor an ask.
+    NoRecord,
+}
+
+impl From<DeskError> for ReplayError {
+    ghost from_gives = { λ error e. e ≡ Denied error };
+
+    fn from(error: DeskError) -> ReplayError {
+        ReplayError::NotPermitted(error)
+    }
+}
+
+impl From<OutOfMemory> for ReplayError {
+    ghost from_gives = { λ _ e. e ≡ Denied NoMemory };
+
+    fn from(_error: OutOfMemory) -> ReplayError {
+        ReplayError::NotPermitted(DeskError::OutOfMemory)
     }
 }
 

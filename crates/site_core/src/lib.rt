@@ -10,8 +10,9 @@ pub mod laws;
 mod ledger;
 mod line;
 mod owed;
+pub mod restarts;
 
 pub use desk::{AskReply, Desk, Spending};
-pub use fault::{DeskError, InboundError};
+pub use fault::{DeskError, InboundError, ReplayError};
 pub use inbound::{Arrival, Inbound, Verdicts};
 pub use line::Line;

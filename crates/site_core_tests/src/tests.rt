@@ -8,6 +8,8 @@ mod memory;
 mod random;
 mod readers;
 mod refusals;
+mod replays;
+mod restarts;
 mod retiring;
 mod room;
 mod sites;

@@ -6,7 +6,7 @@ use origin_log::ReadError;
 use refusing_allocator::Refusing;
 use request_queue::Status;
 use rights_types::{Ask, Deny, Entry, Message, Move, OutOfMemory, Query, SiteId};
-use site_core::{AskReply, Desk, DeskError, Spending};
+use site_core::{AskReply, Desk, DeskError, ReplayError, Spending};
 use std::alloc::{AllocError, Global};
 use std::process::Abort;
 use std::str;
@@ -151,6 +151,24 @@ pub(crate) fn hear(rt: &impl Abort, alloc: Global, desk: &mut Counted, text: &st
     match read_line(alloc, &line) {
         Ok(message) => on_message(rt, alloc, desk, message),
         Err(fault) => format!(in alloc; "error {fault:?}"),
+    }
+}
+
+/// The desk replays the record that the text spells.
+pub(crate) fn replay(alloc: Global, desk: &mut Counted, text: &str) -> Reply {
+    let mut line = Vec::from_slice(alloc, text.as_bytes())?;
+    line.push(b'\n')?;
+    match read_line(alloc, &line) {
+        Ok(record) => replayed(alloc, desk.replay(&record)),
+        Err(fault) => format!(in alloc; "error {fault:?}"),
+    }
+}
+
+fn replayed(alloc: Global, answer: Result<(), ReplayError>) -> Reply {
+    match answer {
+        Ok(()) => String::from_str(alloc, "replayed"),
+        Err(ReplayError::NotPermitted(error)) => format!(in alloc; "error {error:?}"),
+        Err(error) => format!(in alloc; "error {error:?}"),
     }
 }
 

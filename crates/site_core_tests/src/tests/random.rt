@@ -11,16 +11,16 @@ const GAMES: u64 = 25;
 
 const CALLS: u64 = 200;
 
-// Two of three sites.
-fn pair(dice: &mut Dice) -> (u64, u64) {
-    let site = dice.roll(3).saturating_add(1);
-    let next = site.saturating_add(dice.roll(2));
-    (site, (next % 3).saturating_add(1))
+/// Two of this many sites.
+pub(crate) fn pair(dice: &mut Dice, sites: u64) -> (u64, u64) {
+    let site = dice.roll(sites).saturating_add(1);
+    let next = site.saturating_add(dice.roll(sites.saturating_sub(1)));
+    (site, next.checked_rem(sites).unwrap_or(0).saturating_add(1))
 }
 
-// A call that involves no line.
-fn command(alloc: Global, dice: &mut Dice) -> Reply {
-    let (site, peer) = pair(dice);
+/// A call that involves no line.
+pub(crate) fn command(alloc: Global, dice: &mut Dice, sites: u64) -> Reply {
+    let (site, peer) = pair(dice, sites);
     let amount = dice.roll(9).saturating_add(1);
     let time = dice.roll(1_000);
     match dice.roll(60) {
@@ -42,7 +42,7 @@ fn draw(
     sites: &mut Sites,
     dice: &mut Dice,
 ) -> Result<(), AllocError> {
-    let drawn = command(rt.alloc(), dice)?;
+    let drawn = command(rt.alloc(), dice, 3)?;
     let _ = sites.say(rt, &drawn)?;
     Ok(())
 }
@@ -68,7 +68,7 @@ fn exchange(
     sites: &mut Sites,
     dice: &mut Dice,
 ) -> Result<(), AllocError> {
-    let (site, peer) = pair(dice);
+    let (site, peer) = pair(dice, 3);
     let _ = match dice.roll(4) {
         0 => send(rt, sites, dice, "publish", (site, peer))?,
         1 => sites.catch_up(rt, site, peer)?,

@@ -2,7 +2,7 @@
 use crate::tests::balance::Totals;
 use crate::tests::calls::{
     Counted, NO_MEMORY, Reply, ask_line, beat_line, cancel, close, expire, give, hear, issue,
-    new_desk, numbered, plan, plan_beside, post, publish, serve, spend, status, take,
+    new_desk, numbered, plan, plan_beside, post, publish, replay, serve, spend, status, take,
 };
 use crate::tests::readers::{Told, peer_numbers, tell_peer, tell_site};
 use refusing_allocator::Refusing;
@@ -34,9 +34,11 @@ fn numbers(words: &str) -> [u64; 2] {
 
 // Whether a command with this reply may request memory: only entries, lines and frontiers do.
 fn may_ask_for_memory(command: &str, reply: &str) -> bool {
-    let writes = ["number ", "spent ", "served ", "granted ", "denied "]
-        .iter()
-        .any(|word| reply.starts_with(*word));
+    let writes = [
+        "number ", "spent ", "served ", "granted ", "denied ", "replayed",
+    ]
+    .iter()
+    .any(|word| reply.starts_with(*word));
     let sends = ["A ", "B ", "E ", "W "]
         .iter()
         .any(|word| reply.starts_with(*word));
@@ -120,11 +122,17 @@ impl<'a> Sites<'a> {
         self.say(rt, &answer)
     }
 
-    fn applied(&self, rt: &impl Abort, site: u64, origin: u64) -> u64 {
-        let desk = self.desks.get(site.wrapping_sub(1) as usize);
+    /// The number of the origin's last entry that the site applied.
+    pub(crate) fn applied(&self, rt: &impl Abort, site: u64, origin: u64) -> u64 {
         let origin = SiteId::new(origin).ok().expect(rt, "an origin");
-        let [applied, ..] = peer_numbers(desk.expect(rt, "a desk"), origin);
+        let [applied, ..] = peer_numbers(self.desk(rt, site), origin);
         applied
+    }
+
+    /// The desk of a site.
+    pub(crate) fn desk(&self, rt: &impl Abort, site: u64) -> &Counted<'a> {
+        let desk = self.desks.get(site.wrapping_sub(1) as usize);
+        desk.expect(rt, "a desk")
     }
 
     /// The sums over all desks, if each has conserved its rights.
@@ -156,6 +164,7 @@ impl<'a> Sites<'a> {
             ("plan", _) => numbered(alloc, "asks", plan(desk)),
             ("close", _) => numbered(alloc, "number", close(desk, peer)),
             ("hear", _) => hear(rt, alloc, desk, words),
+            ("replay", _) => replay(alloc, desk, words),
             ("site", _) => tell_site(alloc, desk),
             (_, Some(peer)) => say_of_peer(alloc, desk, verb, peer, second),
             _ => String::from_str(alloc, "no command"),
