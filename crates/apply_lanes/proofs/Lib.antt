@@ -5,3 +5,4 @@ pub mod ScheduleLaws
 pub mod ApplierLaws
 pub mod StopLaws
 pub mod BetweenLaws
+pub mod JournalLaws

@@ -4,6 +4,7 @@ pub mod Views
 pub mod Admissions
 pub mod Appliers
 pub mod Steps
+pub mod Journals
 pub mod Batches
 pub mod Stops
 pub mod Between

@@ -32,6 +32,7 @@ use std::marker::Model;
 use thread_parts::{DeskView, Outlet, Shard, SplitCounter};
 
 mod lines;
+mod replaying;
 mod requests;
 
 /// A desk under its lock, reached only through the guard of `SharedDesk::lock`. Its calls are those of the desk, with

@@ -5,6 +5,7 @@ ghost use Rattle.thread_parts.specs.Items.{StartsWith};
 ghost use Rattle.link_intake.specs.Intakes.{Sends, IsIntake};
 ghost use Rattle.apply_lanes.specs.Between.{IsBetween};
 ghost use Rattle.apply_lanes.specs.Steps.{EverySchedule};
+ghost use Rattle.apply_lanes.specs.Journals.{CallIsDeskStep};
 
 use crate::applier::Applier;
 use crate::gate::Gate;
@@ -37,4 +38,9 @@ pub fn taken_in<D: DeskNames, G: Gate, A: Allocator>(
 /// a site applies is already in its origin's log, which has one writer.
 pub fn every_schedule()
     ensures { EverySchedule }
+{}
+
+/// Each call under the lock, by its clause `step`, is a step in the sense of the law `every_crash` of site_core.
+pub fn call_is_desk_step()
+    ensures { CallIsDeskStep }
 {}

@@ -12,6 +12,7 @@ mod many;
 mod parts;
 mod ready;
 mod replays;
+mod restarts;
 mod scenes;
 mod seats;
 mod sites;
