@@ -102,6 +102,7 @@ if __name__ == "__main__":
         print(__doc__.strip())
         sys.exit(0)
     words = own_words(sys.argv[1:])
+    import builds
     import documents
     import ends
     import lane_orders
@@ -116,7 +117,7 @@ if __name__ == "__main__":
     import silence
     import timing
 
-    modules = [repository, documents, lane_orders, program, scripts, loopback, over_http, ends, silence, timing, schedules, lockstep, packages]
+    modules = [repository, documents, builds, lane_orders, program, scripts, loopback, over_http, ends, silence, timing, schedules, lockstep, packages]
     CASES = [case for module in modules for case in module.CASES]
     for each in CASES:
         globals()[each.__name__] = each

@@ -1,0 +1,501 @@
+#!/usr/bin/env python3
+"""Tries the wrong bodies, crates/NAME/must-fail/*.edit, several in one check:
+
+    tests/wrong_bodies.py [--libraries FOLDER] [NAME[/EDIT]]..
+
+`rt must-fail` tries one edit at a time, and each check loads all libraries below the crate. Here one check has several
+edits, each in a function of its own. That is sound, since the proof of a function cites the contracts of what it calls
+and cannot open their bodies: what is proved or refused of one function is the same whatever stands in the bodies of the
+others. An edit counts as refused only if a goal of the function that it changes is refused; that the function calls
+another one that is not proved says nothing. An edit of a definition, of a contract or of a cycle of calls is tried
+alone, and so is one of which the check of several says nothing.
+
+FOLDER has the libraries below the crates, as `rt` (NAME/out/rlib/NAME.rlib) or `./build` (NAME.rlib) makes them, and each
+check begins with nothing else. Where it is not given, they are those that `rt` or else `./build` made here, and a check
+begins with what `rt check` kept. A crate whose edits were all refused before is passed over if nothing that they stand on
+has changed. Prints a line for each edit, the processor time of each crate, and
+as the last line 'N passed, M failed'.
+"""
+
+import hashlib
+import os
+import re
+import shutil
+import signal
+import subprocess
+import sys
+import tempfile
+import threading
+import time
+from concurrent.futures import ThreadPoolExecutor
+from dataclasses import dataclass, field
+from importlib.machinery import SourceFileLoader
+from importlib.util import module_from_spec, spec_from_loader
+from pathlib import Path
+
+TOP = Path(__file__).resolve().parent.parent
+# What one check of one job takes at most, in bytes.
+MEMORY = 5_000_000_000
+REFUSED, MISSED, BAD, UNSURE = "refused", "missed", "bad", "unsure"
+# What an edit takes from a proof that names it: this says little of a contract.
+NAMES = re.compile(r"has no field|is not in scope|has no `|was not admitted")
+ERROR = re.compile(r"(?:note: )?(?:\./)?((?:src|specs|proofs)/\S+?):(\d+):\d+: (?:error|note): (.*)")
+GOAL = re.compile(r"note: (src/\S+?):(\d+):\d+: (it is not proved that .*)")
+NO_GOAL = "`search` did not prove"
+UNKNOWN = r"(?:has no function|several functions are named) `([^`]+)`"
+
+
+def load_build():
+    """The script `./build`, which knows where the toolchain and the crates are."""
+    loader = SourceFileLoader("build", str(TOP / "build"))
+    module = module_from_spec(spec_from_loader("build", loader))
+    loader.exec_module(module)
+    return module
+
+
+build = load_build()
+
+
+@dataclass
+class Edit:
+    """One wrong body: the texts that it changes, and the function that has them, if it is one body alone."""
+
+    crate: str
+    name: str
+    texts: dict = field(default_factory=dict)
+    pairs: list = field(default_factory=list)
+    fault: str = ""
+    function: "Function | None" = None
+
+    @property
+    def label(self):
+        return f"must-fail {self.crate}/{self.name}.edit"
+
+
+@dataclass(frozen=True)
+class Function:
+    """A function by its lines in a file, and by the names that a check prints for it and for its closures."""
+
+    file: str
+    lines: range
+    modules: tuple
+    owner: str
+    name: str
+
+    def is_named(self, path):
+        """Whether a check means this function, or a closure in it, by this path. That of a method begins with the
+        module of its type."""
+        modules = "::".join(self.modules)
+        if not self.owner:
+            return re.fullmatch(rf"{modules}::{self.name}|{modules}::fn::{self.name}::.*", path) is not None
+        crate, owner = self.modules[0], rf"{self.owner}\w*"
+        return re.fullmatch(rf"{crate}::(?:\w+::)*(?:fn::)?{owner}::{self.name}(?:::.*)?", path) is not None
+
+    def has_proof(self, path):
+        """Whether a file of proofs is of this function, or of a closure in it."""
+        if self.owner:
+            return re.match(rf"proofs/(?:\w+/)*{self.owner}\w*/{self.name}/", path) is not None
+        folder = "/".join(["proofs", *self.modules[1:]])
+        return re.match(rf"{folder}/(?:fn/)?{self.name}/", path) is not None
+
+    def query(self):
+        """What `--only` takes for it: the end of its name."""
+        return "::".join([*([self.owner] if self.owner else self.modules[1:]), self.name])
+
+
+FUNCTION = re.compile(r"\s*(?:pub(?:\([^)]*\))? )?(?:const )?(?:unsafe )?fn (\w+)")
+BLOCK = re.compile(r"\s*(?:unsafe )?(?:pub )?(?:impl|trait|mod)\b")
+
+
+def indent_of(line):
+    return len(line) - len(line.lstrip(" "))
+
+
+def lines_around(lines, number):
+    """The numbers of the lines that a line is inside of, from within, by the indentation that `rt fmt` gives."""
+    depth = indent_of(lines[number])
+    for at in range(number - 1, -1, -1):
+        line = lines[at]
+        if line.strip() and indent_of(line) < depth:
+            yield at
+            # A body after clauses begins with a brace alone, and a long list of parameters ends with one, both as far in
+            # as `fn`.
+            depth = indent_of(line) + bool(re.match(r"\s*(\{$|\)|where\b)", line))
+
+
+def is_in_cycle(lines, at):
+    """Whether the function that begins there is part of a cycle of calls, which has one proof."""
+    above = at - 1
+    while above >= 0 and lines[above].strip().startswith(("#", "//")):
+        if "#[cycle" in lines[above]:
+            return True
+        above -= 1
+    return False
+
+
+def function_at(crate, file, lines, number):
+    """The function whose body has this line. None where it is part of no body, or of a function in a cycle of calls."""
+    around = list(lines_around(lines, number))
+    at = next((it for it in around if FUNCTION.match(lines[it])), None)
+    if at is None or is_in_cycle(lines, at):
+        return None
+    opens = (it for it in range(at, number) if lines[it].rstrip().endswith("{") and indent_of(lines[it]) == indent_of(lines[at]))
+    if next(opens, None) is None:
+        return None
+    block = next((it for it in around if it < at and BLOCK.match(lines[it])), None)
+    owner = owner_of(lines[block]) if block is not None else ""
+    if owner is None:
+        return None
+    ends = (it for it in range(number, len(lines)) if lines[it].strip() == "}" and indent_of(lines[it]) == indent_of(lines[at]))
+    inside = Path(file).relative_to("src").with_suffix("").parts
+    modules = (crate, *(() if inside == ("lib",) else inside))
+    return Function(file, range(at + 1, next(ends, number) + 2), modules, owner, FUNCTION.match(lines[at])[1])
+
+
+def owner_of(line):
+    """The name of what a block is about, as a check prints it: a type, or a type with the trait that it implements."""
+    header = re.sub(r"<[^<>]*>", "", line)
+    while "<" in header and header != (header := re.sub(r"<[^<>]*>", "", header)):
+        pass
+    found = re.match(r"\s*(?:unsafe )?impl\s*(?:([\w:]+) for )?&?(?:'\w+ )?(?:mut )?([\w:]+)", header)
+    if not found:
+        return None
+    kind = found[2].split("::")[-1]
+    return kind + (found[1].split("::")[-1] if found[1] else "")
+
+
+def read_edit(crate, path, folder):
+    """An edit as its file has it."""
+    edit = Edit(crate, path.stem)
+    functions, file, old = set(), None, None
+    for line in path.read_text().split("\n"):
+        key, colon, text = line.partition(":")
+        text = text.removeprefix(" ")
+        if key == "file" and colon:
+            file = text.strip()
+            if file not in edit.texts:
+                edit.texts[file] = (folder / file).read_text() if (folder / file).is_file() else None
+        elif key == "old" and colon:
+            old = text
+        elif key == "new" and colon:
+            before = edit.texts.get(file)
+            if not old or before is None or before.count(old) != 1:
+                edit.fault = f"an 'old:' text is in {file} {before.count(old) if before and old else 0} times, and not once"
+                return edit
+            functions.add(function_of_change(crate, file, before, old))
+            edit.texts[file] = before.replace(old, text)
+            edit.pairs.append((file, old, text))
+            old = None
+    if not edit.pairs:
+        edit.fault = "it has no 'old:' and 'new:' pair"
+        return edit
+    edit.function = functions.pop() if len(functions) == 1 else None
+    return edit
+
+
+def function_of_change(crate, file, text, old):
+    """The function whose body has the old text of a file of the crate."""
+    if not file.startswith("src/"):
+        return None
+    return function_at(crate, file, text.split("\n"), text[: text.index(old)].count("\n"))
+
+
+def changed(edits, folder):
+    """The texts of the files that several edits change together, or None where two of them meet."""
+    texts = {}
+    for edit in edits:
+        for file, old, new in edit.pairs:
+            text = texts.get(file) or (folder / file).read_text()
+            if text.count(old) != 1:
+                return None
+            texts[file] = text.replace(old, new)
+    return texts
+
+
+@dataclass
+class Check:
+    """What a check said, and its status."""
+
+    said: str
+    status: int
+
+    def lines(self):
+        return self.said.rstrip("\n").split("\n")
+
+
+class Crate:
+    """A crate whose edits are tried, and the libraries of ours that are below it."""
+
+    def __init__(self, name, used, libraries, kept, kit):
+        self.name, self.folder, self.used, self.kept = name, build.CRATES / name, used[name], kept
+        self.libraries, self.kit, self.seconds = libraries, kit, 0.0
+
+    def stamp(self):
+        """Where the digest stands of what all edits were refused over."""
+        return self.folder / "out/wrong_bodies.stamp"
+
+    def digest(self):
+        """A sum of all that the verdicts on the edits depend on."""
+        found = hashlib.sha256(f"{self.kit.rattle.stat().st_mtime_ns} {self.used}\n".encode())
+        for name, library in sorted(self.libraries.items()):
+            found.update(f"{name}\n".encode() + (library / "format").read_bytes())
+        files = (it for part in (*build.SOURCES, "must-fail") for it in (self.folder / part).rglob("*") if it.is_file())
+        for file in sorted(files):
+            text = file.read_bytes()
+            found.update(f"{file.relative_to(self.folder)} {len(text)}\n".encode() + text)
+        return found.hexdigest()
+
+    def words(self):
+        words = [self.kit.rattle, "check", "--crate-name", self.name, "src/lib.rt"]
+        for it in ["std", *self.used]:
+            words += ["--extern", f"{it}={self.libraries.get(it, self.kit.libraries / f'{it}.rlib')}"]
+        for it in [self.kit.libraries, *sorted({it.parent for it in self.libraries.values()})]:
+            words += ["-L", f"dependency={it}"]
+        logic = ["--antt-project", self.kit.logic, "--logic-built", self.kit.logic_built]
+        return [*words, *logic, "--jobs", "1"]
+
+    def check(self, texts, more):
+        """Checks a copy of the crate with these texts in place of its own."""
+        with tempfile.TemporaryDirectory(prefix="wrong-body-") as room:
+            for part in build.SOURCES:
+                if (self.folder / part).is_dir():
+                    shutil.copytree(self.folder / part, f"{room}/{part}")
+            for file, text in texts.items():
+                Path(room, file).write_text(text)
+            with tempfile.TemporaryFile("w+", errors="replace") as out:
+                begun = subprocess.Popen(
+                    [*self.words(), *more], cwd=room, stdin=subprocess.DEVNULL, stdout=out, stderr=subprocess.STDOUT
+                )
+                _, status, usage = os.wait4(begun.pid, 0)
+                begun.returncode = os.waitstatus_to_exitcode(status)
+                out.seek(0)
+                said = out.read()
+        self.seconds += usage.ru_utime + usage.ru_stime
+        return Check(said, begun.returncode)
+
+    def edits(self):
+        paths = sorted((self.folder / "must-fail").glob("*.edit"))
+        return [read_edit(self.name, it, self.folder) for it in paths]
+
+
+def verdict_on(edit, check):
+    """What a check of several edits says of one of them: (REFUSED, why), or None where that does not follow."""
+    own = [it for it in check.lines() if (found := re.match(r"fn (\S+): (?!proved)", it)) and edit.function.is_named(found[1])]
+    if not own:
+        return None
+    if any(NO_GOAL in it for it in own):
+        goal = next(it[it.index(NO_GOAL) :] for it in own if NO_GOAL in it)
+        return REFUSED, f"{edit.function.name}: {goal.split('; it calls')[0]}"
+    for line in check.lines():
+        goal, error = GOAL.match(line), ERROR.match(line)
+        if goal and goal[1] == edit.function.file and int(goal[2]) in edit.function.lines:
+            return REFUSED, line[:160]
+        if error and ": error: " in line and edit.function.has_proof(error[1]) and not NAMES.search(error[3]):
+            return REFUSED, line[:160]
+    return None
+
+
+def verdict_alone(check):
+    """What a check of one edit alone says of it."""
+    lines = check.lines()
+    if check.status == 0:
+        return MISSED, "the crate is still proved with this edit (one that means the same as before cannot be refused)"
+    if check.status == 1 and lines[-1].startswith(("logic=not-proved", "only=")):
+        told = [it for it in lines if ERROR.match(it) or GOAL.match(it)]
+        unread = next((it for it in told if re.match(r"(?:\./)?(?:src|specs)/\S+: error: (?!`)", it)), None)
+        if unread:
+            return BAD, f"the prover cannot read the edited text: {unread[:160]}"
+        told = [it for it in told if ": error: " in it or it.startswith("note: ")] or told
+        first = next((it for it in told if not NAMES.search(it)), None)
+        if told and first is None:
+            return REFUSED, f"only because a proof names what the edit took away: {told[0][:160]}"
+        return REFUSED, (first or "")[:160]
+    limit = next((it for it in lines if "ran out of" in it or "stopped at the" in it or "outgrew" in it), None)
+    if check.status == 3 and limit:
+        return REFUSED, f"only by a limit of the prover: {limit[:160]}"
+    if check.status == 1:
+        return BAD, f"it did not reach the prover: {' '.join(lines[:3])[:300]}"
+    return UNSURE, f"its check ended with status {check.status}: {lines[-1][:160]}"
+
+
+class Trial:
+    """The edits of one crate, from the first check to the last."""
+
+    def __init__(self, crate, edits, is_whole, reports):
+        self.crate, self.edits, self.is_whole, self.reports = crate, edits, is_whole, reports
+        self.verdicts = []
+
+    def settle(self, edit, kind, why):
+        self.verdicts.append(kind)
+        self.reports.report(edit, kind, why)
+
+    def run(self):
+        begun_with = self.crate.digest()
+        with tempfile.TemporaryDirectory(prefix="wrong-bodies-") as room:
+            self.room = f"{room}/kept"
+            if self.crate.kept and (self.crate.folder / "out/incremental").is_dir():
+                shutil.copytree(self.crate.folder / "out/incremental", self.room, symlinks=True, copy_function=link_or_copy)
+            else:
+                os.mkdir(self.room)
+            self.run_all()
+        if self.is_whole and set(self.verdicts) == {REFUSED} and self.crate.digest() == begun_with:
+            self.crate.stamp().parent.mkdir(exist_ok=True)
+            self.crate.stamp().write_text(begun_with)
+
+    def run_all(self):
+        for edit in self.edits:
+            if edit.fault:
+                self.settle(edit, BAD, edit.fault)
+        whole = [it for it in self.edits if not it.fault]
+        bodies, alone = [it for it in whole if it.function], [it for it in whole if not it.function]
+        while bodies:
+            group, bodies = self.group(bodies)
+            alone += self.together(group)
+        for edit in alone:
+            self.alone(edit)
+
+    def group(self, edits):
+        """One edit for each function, and the others."""
+        group, others = [], []
+        for edit in edits:
+            is_free = all(it.function != edit.function for it in group)
+            fits = is_free and changed([*group, edit], self.crate.folder) is not None
+            (group if fits else others).append(edit)
+        return group, others
+
+    def check(self, texts, functions):
+        """Checks the crate with these texts: these functions alone, if there are any."""
+        only = [it for function in functions for it in ("--only", function.query())]
+        words = ["--incremental", self.room, *only]
+        check = self.crate.check(texts, words)
+        # Most likely for want of memory.
+        return self.crate.check(texts, words) if check.status == -signal.SIGKILL else check
+
+    def together(self, group):
+        """Tries several edits in one check. Answers those of which it says nothing."""
+        check, undecided = None, []
+        while group:
+            check = self.check(changed(group, self.crate.folder), [it.function for it in group])
+            unknown = re.findall(UNKNOWN, check.said) if check.status == 2 else []
+            strange = [it for it in group if it.function.query() in unknown]
+            if not strange:
+                break
+            for edit in strange:
+                edit.function = None
+            group = [it for it in group if it.function]
+            undecided += strange
+        for edit in group:
+            verdict = verdict_on(edit, check)
+            if verdict is None:
+                undecided.append(edit)
+            else:
+                self.settle(edit, *verdict)
+        return undecided
+
+    def alone(self, edit):
+        """Tries one edit. What is no body may matter anywhere in the crate."""
+        check = self.check(edit.texts, [edit.function] if edit.function else [])
+        if edit.function and check.status != 1:
+            check = self.check(edit.texts, [])
+        self.settle(edit, *verdict_alone(check))
+
+
+def link_or_copy(one, other):
+    """Gives what was proved a second name: a check replaces such a file, and never writes into it."""
+    if one.endswith(".oantt"):
+        try:
+            return os.link(one, other)
+        except OSError:
+            pass
+    return shutil.copy2(one, other)
+
+
+def libraries_in(folders, names):
+    """The libraries of some crates, in the first of these folders that has all. They are made by one tool: the toolchain
+    refuses a mixture."""
+    ways = [lambda folder, name: folder / name / "out/rlib" / f"{name}.rlib", lambda folder, name: folder / f"{name}.rlib"]
+    found = [{name: way(folder, name) for name in names} for folder in folders for way in ways]
+    return next((it for it in found if all((library / "format").is_file() for library in it.values())), found[0])
+
+
+def crates_with_edits(folders, kept):
+    """The crates with wrong bodies, over the libraries in these folders. kept: whether a check may begin with what `rt
+    check` kept of the crate."""
+    used = {}
+    for line in (TOP / "crates.txt").read_text().splitlines():
+        name, colon, names = line.partition(":")
+        if colon and not line.startswith("#"):
+            used[name] = names.split()
+
+    def below(name):
+        ours = [it for it in used[name] if it in used]
+        return set(ours).union(*map(below, ours))
+
+    kit = build.Kit(shutil.which("rt"))
+    found = [it for it in used if any((build.CRATES / it / "must-fail").glob("*.edit"))]
+    return [Crate(it, used, libraries_in(folders, below(it)), kept, kit) for it in found]
+
+
+class Reports:
+    """Prints what each edit came to, and counts."""
+
+    TEXTS = {REFUSED: "refused, as it must be", MISSED: "NOT REFUSED", BAD: "BAD EDIT", UNSURE: "NOT TRIED"}
+
+    def __init__(self):
+        self.counts, self.lock = dict.fromkeys(self.TEXTS, 0), threading.Lock()
+
+    def report(self, edit, kind, why):
+        with self.lock:
+            self.counts[kind] += 1
+            print(f"{edit.label}: {self.TEXTS[kind]}{': ' if why else ''}{why}", flush=True)
+
+    def failed(self):
+        return sum(self.counts.values()) - self.counts[REFUSED]
+
+
+def try_all(trials):
+    """Tries the edits of several crates, as many crates at once as there are processors, and memory for."""
+    # The longest first: the others fill what it leaves.
+    trials = sorted(trials, key=lambda it: -len(it.edits))
+    lanes = max(1, min(build.processors(), build.memory_free() // MEMORY))
+    with ThreadPoolExecutor(lanes) as pool:
+        for done in [pool.submit(it.run) for it in trials]:
+            done.result()
+    print("Processor time in seconds, wrong bodies, crate:")
+    for trial in sorted(trials, key=lambda it: -it.crate.seconds):
+        print(f"{trial.crate.seconds:8.0f}  {len(trial.edits):4}  {trial.crate.name}")
+    print(f"{sum(it.crate.seconds for it in trials):8.0f}  {sum(len(it.edits) for it in trials):4}  in all")
+
+
+def main(words):
+    if words[:1] in (["--help"], ["-h"]):
+        print(__doc__)
+        return 0
+    folders, kept = [build.CRATES, build.PROVED], True
+    if words[:1] == ["--libraries"] and len(words) > 1:
+        folders, kept, words = [Path(words[1]).resolve()], False, words[2:]
+    crates = {it.name: it for it in crates_with_edits(folders, kept)}
+    unknown = [it for it in words if it.startswith("-") or it.split("/")[0] not in crates]
+    if unknown:
+        print(f"no crate with wrong bodies: {' '.join(unknown)}", file=sys.stderr)
+        return 2
+    reports, trials = Reports(), []
+    for crate in crates.values():
+        lacking = [it for it, library in crate.libraries.items() if not (library / "format").is_file()]
+        is_whole = not words or crate.name in words
+        edits = [it for it in crate.edits() if is_whole or f"{crate.name}/{it.name}" in words]
+        if edits and lacking:
+            print(f"{crate.name}: its wrong bodies are not tried: there is no library of {' '.join(lacking)}")
+            reports.counts[UNSURE] += len(edits)
+        elif is_whole and edits and crate.stamp().is_file() and crate.stamp().read_text() == crate.digest():
+            print(f"{crate.name}: its {len(edits)} wrong bodies were refused before, and nothing that they stand on has changed")
+            reports.counts[REFUSED] += len(edits)
+        elif edits:
+            trials.append(Trial(crate, edits, is_whole, reports))
+    try_all(trials)
+    print(f"{reports.counts[REFUSED]} passed, {reports.failed()} failed")
+    return 1 if reports.failed() else 0
+
+
+if __name__ == "__main__":
+    sys.exit(main(sys.argv[1:]))
