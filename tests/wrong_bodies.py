@@ -418,9 +418,9 @@ def libraries_in(folders, names):
     return next((it for it in found if all((library / "format").is_file() for library in it.values())), found[0])
 
 
-def crates_with_edits(folders, kept):
-    """The crates with wrong bodies, over the libraries in these folders. kept: whether a check may begin with what `rt
-    check` kept of the crate."""
+def all_crates(folders, kept=False):
+    """The crates, over the libraries in these folders. kept: whether a check may begin with what `rt check` kept of the
+    crate."""
     used = {}
     for line in (TOP / "crates.txt").read_text().splitlines():
         name, colon, names = line.partition(":")
@@ -432,8 +432,7 @@ def crates_with_edits(folders, kept):
         return set(ours).union(*map(below, ours))
 
     kit = build.Kit(shutil.which("rt"))
-    found = [it for it in used if any((build.CRATES / it / "must-fail").glob("*.edit"))]
-    return [Crate(it, used, libraries_in(folders, below(it)), kept, kit) for it in found]
+    return [Crate(it, used, libraries_in(folders, below(it)), kept, kit) for it in used]
 
 
 class Reports:
@@ -474,7 +473,7 @@ def main(words):
     folders, kept = [build.CRATES, build.PROVED], True
     if words[:1] == ["--libraries"] and len(words) > 1:
         folders, kept, words = [Path(words[1]).resolve()], False, words[2:]
-    crates = {it.name: it for it in crates_with_edits(folders, kept)}
+    crates = {it.name: it for it in all_crates(folders, kept) if any((it.folder / "must-fail").glob("*.edit"))}
     unknown = [it for it in words if it.startswith("-") or it.split("/")[0] not in crates]
     if unknown:
         print(f"no crate with wrong bodies: {' '.join(unknown)}", file=sys.stderr)
