@@ -1,5 +1,5 @@
 -- The one spelling of each message: parts separated by `;`, each of fields separated by spaces, and a line feed.
-use Rattle.std.specs.Prelude.{◌≡◌, ℕ, List, [], ◌∷◌, ◌++◌, map, decimal}
+use Rattle.std.specs.Prelude.{◌≡◌, ℕ, List, [], ◌∷◌, ◌++◌, map, decimal, Option, Some, None}
 use Rattle.std.specs.List.{join_with_byte}
 use Rattle.rights_types.specs.declared.moves.Move.{Move}
 use Rattle.rights_types.specs.declared.moves.Move.TheVariants.{Issue, Spend, Grant, Give, Close, CloseAt, TakeBack}
@@ -73,3 +73,9 @@ line m = text_of m ++ LINE_END ∷ []
 -- the text spells the message
 abbrev pub Spells : MessageValue → List ℕ → Type 0
 Spells m text = IsMessage m × (text ≡ line m)
+
+-- the text spells this message; without a message there is no text
+abbrev pub LineOf : {V : Type 0} → (V → List ℕ) → Option MessageValue → Option V → Type 0
+LineOf bytes None None = Unit {0}
+LineOf bytes (Some m) (Some text) = Spells m (bytes text)
+LineOf bytes m text = ⊥

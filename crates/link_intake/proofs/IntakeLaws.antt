@@ -17,9 +17,9 @@ use Rattle.sub_buffer.specs.Buffers.{BufferValue}
 use Rattle.sub_buffer.specs.Table.{after_beat}
 use Rattle.sub_buffer.specs.Follows.{HasPut}
 use Rattle.sub_buffer.specs.declared.arrivals.TheConstants.{MAX_VERDICTS}
-use Rattle.site_core.specs.Inbounds.{InboundValue, ready_in, BringsEntries, Arrives, EntriesCome}
-use Rattle.site_core.specs.declared.inbound.Arrival.{Arrival}
-use Rattle.site_core.specs.declared.inbound.Arrival.TheVariants.{Entries, Beat, Query, Ask, Deny, Hello}
+use Rattle.inbound.specs.Inbounds.{InboundValue, ready_in, BringsEntries, Arrives, EntriesCome}
+use Rattle.inbound.specs.declared.inbound.Arrival.{Arrival}
+use Rattle.inbound.specs.declared.inbound.Arrival.TheVariants.{Entries, Beat, Query, Ask, Deny, Hello}
 use Rattle.thread_parts.specs.declared.item.Item.{Item}
 use Rattle.thread_parts.specs.declared.item.Item.TheVariants.{Entry, End}
 use Rattle.thread_parts.specs.Ends.{InletValue}

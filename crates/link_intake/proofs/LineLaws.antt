@@ -16,9 +16,9 @@ use Rattle.sub_buffer.specs.declared.verdict.Verdict.TheVariants.{Ready, Held, R
 use Rattle.sub_buffer.proofs.Offers.{follows_new, follows_beat}
 use Rattle.sub_buffer.proofs.Missing.{follows_asked}
 use Rattle.entry_codec.specs.declared.fault.LineError.{LineError}
-use Rattle.site_core.specs.Inbounds.{InboundValue, entries_of, ready_in, BringsEntries, Arrives, QueryOf}
-use Rattle.site_core.specs.declared.inbound.Arrival.{Arrival}
-use Rattle.site_core.specs.declared.inbound.Arrival.TheVariants.{Entries, Beat, Query, Ask, Deny, Hello}
+use Rattle.inbound.specs.Inbounds.{InboundValue, entries_of, ready_in, BringsEntries, Arrives, QueryOf}
+use Rattle.inbound.specs.declared.inbound.Arrival.{Arrival}
+use Rattle.inbound.specs.declared.inbound.Arrival.TheVariants.{Entries, Beat, Query, Ask, Deny, Hello}
 use Rattle.link_intake.specs.declared.intake.Arrived.{Arrived}
 use Rattle.link_intake.specs.declared.intake.IntakeError.{IntakeError}
 use Rattle.link_intake.specs.Intakes.{IntakeValue, Receives, ReceivesMore, entries_read, ready_of}

@@ -8,11 +8,11 @@ use Rattle.entry_codec.specs.declared.fault.LineError.{LineError}
 use Rattle.sub_buffer.specs.Follows.{HasPut, Follows}
 use Rattle.sub_buffer.specs.declared.verdict.Verdict.{Verdict}
 use Rattle.sub_buffer.specs.declared.verdict.Verdict.TheVariants.{Ready, Held, Repeat, AfterClose, Full}
-use Rattle.site_core.specs.Inbounds.{InboundValue, entries_of, line_fault, InboundRefuses, ready_in, Arrives}
-use Rattle.site_core.specs.declared.inbound.Arrival.{Arrival}
-use Rattle.site_core.specs.declared.inbound.Arrival.TheVariants.{Entries as ComesEntries, Beat as ComesBeat}
-use Rattle.site_core.specs.declared.inbound.Arrival.TheVariants.{Query as ComesQuery, Ask as ComesAsk}
-use Rattle.site_core.specs.declared.inbound.Arrival.TheVariants.{Deny as ComesDeny, Hello as ComesHello}
+use Rattle.inbound.specs.Inbounds.{InboundValue, entries_of, line_fault, InboundRefuses, ready_in, Arrives}
+use Rattle.inbound.specs.declared.inbound.Arrival.{Arrival}
+use Rattle.inbound.specs.declared.inbound.Arrival.TheVariants.{Entries as ComesEntries, Beat as ComesBeat}
+use Rattle.inbound.specs.declared.inbound.Arrival.TheVariants.{Query as ComesQuery, Ask as ComesAsk}
+use Rattle.inbound.specs.declared.inbound.Arrival.TheVariants.{Deny as ComesDeny, Hello as ComesHello}
 use Rattle.thread_parts.specs.declared.item.Item.{Item}
 use Rattle.thread_parts.specs.declared.item.Item.TheVariants.{End}
 use Rattle.link_intake.specs.declared.intake.VerdictCounts.{VerdictCounts}

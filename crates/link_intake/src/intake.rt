@@ -12,9 +12,9 @@ ghost use Rattle.sub_buffer.specs.declared.arrivals.TheConstants.{MAX_VERDICTS};
 ghost use Rattle.sub_buffer.specs.Gaps.{GapOf, GapIs, StateOf};
 ghost use Rattle.sub_buffer.specs.Follows.{HasPut, Follows};
 ghost use Rattle.sub_buffer.specs.declared.verdict.Verdict.TheVariants.{Ready as IsReady};
-ghost use Rattle.site_core.specs.declared.fault.InboundError.TheVariants.{OutOfMemory as NoMemory};
-ghost use Rattle.site_core.specs.Calls.{LineOf};
-ghost use Rattle.site_core.specs.Inbounds.{QueryOf, ready_in, Arrives, InboundRefuses, message_fault};
+ghost use Rattle.inbound.specs.declared.fault.InboundError.TheVariants.{OutOfMemory as NoMemory};
+ghost use Rattle.entry_codec.specs.Spelling.{LineOf};
+ghost use Rattle.inbound.specs.Inbounds.{QueryOf, ready_in, Arrives, InboundRefuses, message_fault};
 ghost use Rattle.thread_parts.specs.Items.{IsOpen, IsEnded};
 ghost use Rattle.link_intake.specs.Intakes.{counts_of, with_verdict, all_counts, verdicts_of, ready_of, arrived_of};
 ghost use Rattle.link_intake.specs.Intakes.{arrival_of};
@@ -23,8 +23,8 @@ ghost use Rattle.link_intake.specs.declared.intake.IntakeError.TheVariants.{Inbo
 ghost use Rattle.link_intake.specs.declared.intake.IntakeError.TheVariants.{LaneClosed as ClosedLane};
 ghost use Rattle.link_intake.specs.declared.intake.Arrived.TheVariants.{Entries as EntriesCame};
 
+use inbound::{Arrival, Inbound, InboundError};
 use rights_types::{Ask, Deny, Entry, Message, OutOfMemory, Query};
-use site_core::{Arrival, Inbound, InboundError};
 use std::alloc::{Allocator, Global};
 use std::marker::Model;
 use std::sync::Wait;

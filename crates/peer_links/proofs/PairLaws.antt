@@ -11,11 +11,11 @@ use Rattle.sub_buffer.specs.Arrivals.{ArriveAll}
 use Rattle.sub_buffer.specs.Table.{after_beat}
 use Rattle.sub_buffer.specs.Gaps.{asked_for}
 use Rattle.sub_buffer.specs.declared.verdict.Verdict.{Verdict}
-use Rattle.site_core.specs.Inbounds.{InboundValue, sender, addressee, is_for, has_foreign, entries_of, message_fault}
-use Rattle.site_core.specs.Inbounds.{line_fault, BringsEntries, Arrives, QueryOf}
-use Rattle.site_core.specs.declared.inbound.Arrival.{Arrival}
-use Rattle.site_core.specs.declared.inbound.Arrival.TheVariants.{Entries, Beat, Query as ComesQuery, Ask as ComesAsk}
-use Rattle.site_core.specs.declared.inbound.Arrival.TheVariants.{Deny as ComesDenial, Hello}
+use Rattle.inbound.specs.Inbounds.{InboundValue, sender, addressee, is_for, has_foreign, entries_of, message_fault}
+use Rattle.inbound.specs.Inbounds.{line_fault, BringsEntries, Arrives, QueryOf}
+use Rattle.inbound.specs.declared.inbound.Arrival.{Arrival}
+use Rattle.inbound.specs.declared.inbound.Arrival.TheVariants.{Entries, Beat, Query as ComesQuery, Ask as ComesAsk}
+use Rattle.inbound.specs.declared.inbound.Arrival.TheVariants.{Deny as ComesDenial, Hello}
 use Rattle.link_intake.specs.Intakes.{IntakeValue, LineLeaves, TakesIn, Brings, IntakeRefuses, arrived_of}
 use Rattle.link_intake.specs.declared.intake.Arrived.{Arrived}
 use Rattle.link_intake.specs.declared.intake.IntakeError.{IntakeError}

@@ -11,7 +11,7 @@ use Rattle.rights_types.specs.Messages.MessageValue.{AQuery}
 use Rattle.entry_codec.specs.Cutter.{CutterView}
 use Rattle.entry_codec.specs.Pieces.{pieces, IsLine}
 use Rattle.entry_codec.proofs.Lines.{is_line}
-use Rattle.site_core.specs.Calls.{LineOf}
+use Rattle.entry_codec.specs.Spelling.{LineOf}
 use Rattle.line_streams.specs.Counting.{counts_for, still}
 use Rattle.line_streams.proofs.CountLaws.{none_parted, parted_more, counted_more, lines_both}
 use Rattle.line_streams.proofs.WriteLaws.{take_both}

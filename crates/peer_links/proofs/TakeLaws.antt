@@ -20,7 +20,7 @@ use Rattle.peer_links.proofs.LineLaws.{found_end}
 use Rattle.peer_links.proofs.ReadLaws.{next_taken, all_taken, none_ended}
 use Rattle.peer_links.proofs.TurnLaws.{turn_one, turns_both}
 use Rattle.peer_links.specs.declared.link.DeskMessage.{DeskMessage}
-use Rattle.site_core.specs.Calls.{LineOf}
+use Rattle.entry_codec.specs.Spelling.{LineOf}
 use Rattle.std.specs.Borrow.{Bor}
 use Rattle.rights_types.specs.declared.limits.TheConstants.{MAX_LINE}
 use Rattle.sub_buffer.specs.Gaps.{GapOf, StateOf}

@@ -5,7 +5,7 @@ use Rattle.rights_types.specs.Messages.MessageValue.{AQuery, AnAsk, ADenial}
 use Rattle.rights_types.specs.declared.fault.OutOfMemory.{OutOfMemory}
 use Rattle.sub_buffer.specs.Buffers.{BufferValue}
 use Rattle.sub_buffer.specs.declared.buffer.State.{State}
-use Rattle.site_core.specs.Inbounds.{sender, addressee}
+use Rattle.inbound.specs.Inbounds.{sender, addressee}
 use Rattle.peer_links.specs.declared.link.DeskMessage.{DeskMessage}
 use Rattle.peer_links.specs.declared.link.DeskMessage.TheVariants.{Query, Ask, Deny}
 

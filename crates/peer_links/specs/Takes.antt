@@ -11,8 +11,8 @@ use Rattle.entry_codec.specs.Reading.{reading, has_entries}
 use Rattle.entry_codec.specs.Spelling.{Spells}
 use Rattle.sub_buffer.specs.Gaps.{GapOf, StateOf}
 use Rattle.sub_buffer.specs.declared.buffer.State.{State}
-use Rattle.site_core.specs.Inbounds.{QueryOf}
-use Rattle.site_core.specs.declared.fault.InboundError.TheVariants.{OutOfMemory as LineWants}
+use Rattle.inbound.specs.Inbounds.{QueryOf}
+use Rattle.inbound.specs.declared.fault.InboundError.TheVariants.{OutOfMemory as LineWants}
 use Rattle.line_streams.specs.declared.limit.TheConstants.{LINE_LIMIT}
 use Rattle.link_intake.specs.Intakes.{IntakeValue, IntakeRefuses, LineLeaves}
 use Rattle.link_intake.specs.declared.intake.Arrived.{Arrived}

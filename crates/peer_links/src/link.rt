@@ -12,10 +12,10 @@ mod reading;
 mod writing;
 
 pub use hello::read_hello;
+use inbound::InboundError;
 use line_streams::{InputError, TooManyLines};
 pub use reading::read_link;
 use rights_types::{Ask, Deny, OutOfMemory, Query};
-use site_core::InboundError;
 use std::sync::Wait;
 use sub_buffer::State;
 pub use writing::write_link;

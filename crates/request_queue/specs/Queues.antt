@@ -1,6 +1,6 @@
 -- A queue: the requests that wait, in order, and a finite map from tickets to unread outcomes.
 use Rattle.std.specs.Prelude.{ℕ, ◌+◌, ◌<◌, ◌≤◌, Bool, not, nat_lt, ◌==◌, List, [], ◌∷◌, ◌++◌, length, map, count_by}
-use Rattle.std.specs.Prelude.{Option, Some, None}
+use Rattle.std.specs.Prelude.{Option, Some, None, max, min}
 use Rattle.std.specs.List.{All, filter, list_any, sum_by}
 use Rattle.std.specs.Map.{lookup}
 use Rattle.rights_types.specs.Ranges.{IsAmount}
@@ -63,6 +63,10 @@ without q t = record {
   outcomes = filter (λ (e : ℕ × Outcome). not (e.0 == t)) q.outcomes;
   next = q.next;
 }
+
+-- the queue that gives out no ticket up to this one
+abbrev pub without_tickets : QueueValue → ℕ → QueueValue
+without_tickets q t = record q { next = max q.next (min t LAST_TICKET + 1) }
 
 -- the tickets of what takes up a slot
 abbrev pub tickets : QueueValue → List ℕ

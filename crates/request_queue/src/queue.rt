@@ -1,7 +1,8 @@
 //! The queue of spends that wait for rights.
 ghost use Rattle.std.specs.Prelude.{◌≡◌, ℕ, ◌+◌, ◌*◌, ◌<◌, ◌≤◌, ◌==◌, ◌↔◌, true, false, Some, length, IfOk, IfSome, IsSome};
-ghost use Rattle.std.specs.Prelude.{position};
+ghost use Rattle.std.specs.Prelude.{position, Ok};
 ghost use Rattle.request_queue.specs.Queues.{no_requests, front_of, total_of, has_ticket, outcome_of, is_late, IsQueue};
+ghost use Rattle.request_queue.specs.Queues.{QueueValue, without_tickets};
 ghost use Rattle.request_queue.specs.declared.request.Request.{Request};
 ghost use Rattle.request_queue.specs.declared.request.Outcome.{Outcome};
 ghost use Rattle.request_queue.specs.Calls.{Puts, Serves, Expires, Cancels, TellsOutcome, Finishes};
@@ -76,6 +77,16 @@ impl<A: Allocator> RequestQueue<A> {
             .unwrap();
         self.next += 1;
         Ok(ticket)
+    }
+
+    /// Gives out no ticket up to `last` from now on, as after a restart: each of them may have been given out before. No
+    /// ticket above `LAST_TICKET` is given out.
+    pub fn skip_tickets(&mut self, last: u64)
+        ensures skips { self.new ≡ without_tickets self.old last }
+        ensures above { (amount deadline ticket : ℕ) (later : QueueValue)
+            → Puts self.new amount deadline (Ok ticket) later → last < ticket }
+    {
+        self.next = self.next.max(last.min(LAST_TICKET) + 1);
     }
 
     /// Ticket, amount and deadline of the next request to be served.

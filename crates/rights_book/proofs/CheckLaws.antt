@@ -11,7 +11,7 @@ use Rattle.rights_book.specs.Books.{BookValue, sites, held_by}
 use Rattle.rights_book.specs.Checks.{names_above, gives_to_closed, check_fault}
 
 -- no cause was found: neither this one nor one of the others
-no_cause : {E : Type 0} (b : Bool) (x : E) (others : Option E) → cond b (Some x) others ≡ None
+pub no_cause : {E : Type 0} (b : Bool) (x : E) (others : Option E) → cond b (Some x) others ≡ None
     → (b ≡ false) × (others ≡ None)
 no_cause true x others h = absurd cc
 no_cause false x others h = (refl, h)

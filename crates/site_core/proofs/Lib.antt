@@ -7,7 +7,6 @@ pub mod ExpiryLaws
 pub mod CancelLaws
 pub mod AskLaws
 pub mod RetiringLaws
-pub mod InboundLaws
 pub mod Keeping
 pub mod Tested
 pub mod ReplayLaws

@@ -10,7 +10,6 @@ use Rattle.rights_types.specs.Messages.{AskValue, DenyValue, MessageValue}
 use Rattle.rights_types.specs.Messages.MessageValue.{AnEntry, ABeat, ADenial}
 use Rattle.rights_types.specs.declared.moves.Move.{Move}
 use Rattle.rights_types.specs.declared.moves.Move.TheVariants.{Spend, Grant}
-use Rattle.entry_codec.specs.Spelling.{Spells}
 use Rattle.origin_log.specs.Logs.{LogValue, published, all_published}
 use Rattle.rights_book.specs.Books.{held_by, account, sites}
 use Rattle.request_queue.specs.declared.request.Request.{Request}
@@ -103,12 +102,6 @@ pub record DeskCancels (old : DeskValue) (ticket : ℕ) (status : Status) (new :
   pub rest : new ≡ record old { queue = new.queue }
 
 -- ---- lines
-
--- the text spells this message; without a message there is no text
-abbrev pub LineOf : {V : Type 0} → (V → List ℕ) → Option MessageValue → Option V → Type 0
-LineOf bytes None None = Unit {0}
-LineOf bytes (Some m) (Some text) = Spells m (bytes text)
-LineOf bytes m text = ⊥
 
 -- the index of the next entry for the peer
 abbrev pub next_place : LogValue → ℕ → Option ℕ

@@ -1,5 +1,5 @@
--- One site, to be read in this order: its log and book, the whole desk, why it refuses, the result and effect of each
--- call, and the input from one other site.
+-- One site, to be read in this order: its log and book, the whole desk, why it refuses, and the result and effect of each
+-- call.
 pub mod Ledgers
 pub mod Desks
 pub mod Faults
@@ -8,4 +8,3 @@ pub mod Replaying
 pub mod Restored
 pub mod Recorded
 pub mod Journaling
-pub mod Inbounds

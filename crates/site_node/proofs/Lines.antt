@@ -4,7 +4,7 @@ use Rattle.rights_types.specs.Messages.{MessageValue}
 use Rattle.entry_codec.specs.Pieces.{IsLine}
 use Rattle.entry_codec.specs.Spelling.{Spells}
 use Rattle.entry_codec.proofs.Lines.{is_line}
-use Rattle.site_core.specs.Calls.{LineOf}
+use Rattle.entry_codec.specs.Spelling.{LineOf}
 
 of_some : {V : Type 0} (bytes : V → List ℕ) (due : Option MessageValue) (text : V) → LineOf bytes due (Some text)
     → (message : MessageValue) × (due ≡ Some message) × Spells message (bytes text)

@@ -19,10 +19,10 @@ use Rattle.entry_codec.specs.declared.fault.LineError.{LineError}
 use Rattle.entry_codec.specs.Reading.{reading, has_entries}
 use Rattle.entry_codec.specs.Spelling.{Spells}
 use Rattle.entry_codec.proofs.Lines.{reading_again}
-use Rattle.site_core.specs.Inbounds.{InboundValue, sender, is_for, entries_of, is_foreign, has_foreign, message_fault}
-use Rattle.site_core.specs.Inbounds.{line_fault, InboundRefuses}
-use Rattle.site_core.specs.declared.fault.InboundError.{InboundError}
-use Rattle.site_core.specs.declared.fault.InboundError.TheVariants.{Line, WrongOrigin, BadSite, OutOfMemory}
+use Rattle.inbound.specs.Inbounds.{InboundValue, sender, is_for, entries_of, is_foreign, has_foreign, message_fault}
+use Rattle.inbound.specs.Inbounds.{line_fault, InboundRefuses}
+use Rattle.inbound.specs.declared.fault.InboundError.{InboundError}
+use Rattle.inbound.specs.declared.fault.InboundError.TheVariants.{Line, WrongOrigin, BadSite, OutOfMemory}
 use Rattle.world_core.specs.Values.{LinkValue, BodyValue, PacketValue, WorldValue}
 use Rattle.world_core.specs.Values.BodyValue.{EntryAt, Text}
 use Rattle.world_core.specs.Worlds.{count, log, link, packet, line_of, body_text, packet_text}

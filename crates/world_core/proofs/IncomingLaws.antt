@@ -10,7 +10,7 @@ use Rattle.sub_buffer.specs.Follows.{put_after, reached_after}
 use Rattle.sub_buffer.specs.Table.{more_held}
 use Rattle.sub_buffer.specs.declared.verdict.Verdict.{Verdict as BufferVerdict}
 use Rattle.sub_buffer.specs.declared.verdict.Verdict.TheVariants.{Ready, Held, Repeat, AfterClose, Full}
-use Rattle.site_core.specs.Inbounds.{ready_in}
+use Rattle.inbound.specs.Inbounds.{ready_in}
 use Rattle.world_core.specs.LinkEvents.{reported, reported_all}
 use Rattle.world_core.specs.IncomingLists.{HasRoom, IncomingTakes}
 use Rattle.world_core.specs.declared.link.incoming.Incoming.{Incoming}

@@ -16,8 +16,9 @@ use Rattle.rights_book.specs.Books.{sites, peer}
 use Rattle.site_core.specs.Desks.{DeskValue}
 use Rattle.site_core.specs.Faults.{has_closed}
 use Rattle.site_core.specs.Ledgers.{owed_by, number_of_taking}
-use Rattle.site_core.specs.Calls.{LineOf, DeskApplies}
-use Rattle.site_core.specs.Inbounds.{QueryOf}
+use Rattle.entry_codec.specs.Spelling.{LineOf}
+use Rattle.site_core.specs.Calls.{DeskApplies}
+use Rattle.inbound.specs.Inbounds.{QueryOf}
 use Rattle.world_core.specs.Values.{LinkValue, PacketValue, WorldValue}
 use Rattle.world_core.specs.Values.BodyValue.{Text}
 use Rattle.world_core.specs.Worlds.{count, desk, log, row, link, with_packet, put, applied, with_desk, with_link}

@@ -16,7 +16,7 @@ use Rattle.sub_buffer.specs.Follows.{Follows, SettledVerdict, put_after, reached
 use Rattle.sub_buffer.specs.Table.{OfferLeaves}
 use Rattle.sub_buffer.specs.declared.verdict.Verdict.{Verdict as BufferVerdict}
 use Rattle.sub_buffer.specs.declared.verdict.Verdict.TheVariants.{Ready, Held, Repeat, AfterClose, Full}
-use Rattle.site_core.specs.Inbounds.{InboundValue}
+use Rattle.inbound.specs.Inbounds.{InboundValue}
 use Rattle.world_core.specs.Values.{LinkValue}
 use Rattle.world_core.specs.LinkEvents.{reported_all, LinkTakes, LinkTakesAll, with_applied}
 use Rattle.world_core.specs.IncomingLists.{reached_by, reached_in, gone_in, put_in, link_of, NoneAhead, SameLists}

@@ -14,7 +14,7 @@ use Rattle.rights_types.proofs.Sums.{moves_of-push}
 use Rattle.rights_protocol.specs.Lists.{IsSiteOf}
 use Rattle.rights_protocol.specs.Retiring.{own_frontier}
 use Rattle.rights_protocol.specs.Writing.{is_plain, MayAppend, MayClose, closing_moves}
-use Rattle.site_core.specs.Inbounds.{is_foreign}
+use Rattle.inbound.specs.Inbounds.{is_foreign}
 
 -- a move of a system of n sites
 abbrev pub NativeMove : ℕ → Move → Type 0

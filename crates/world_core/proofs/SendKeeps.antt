@@ -16,7 +16,7 @@ use Rattle.sub_buffer.specs.Buffers.{BufferValue}
 use Rattle.sub_buffer.specs.Gaps.{GapOf}
 use Rattle.site_core.specs.Desks.{DeskValue}
 use Rattle.site_core.specs.Calls.{next_push, published_if, after_publish, beat_of}
-use Rattle.site_core.specs.Inbounds.{Asks}
+use Rattle.inbound.specs.Inbounds.{Asks}
 use Rattle.world_core.specs.Values.{PacketValue, WorldValue}
 use Rattle.world_core.specs.Values.BodyValue.{EntryAt, Text}
 use Rattle.world_core.specs.Worlds.{count, desk, with_desk, log, lists_of, with_packet, ended}

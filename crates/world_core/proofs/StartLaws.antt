@@ -20,7 +20,7 @@ use Rattle.rights_book.proofs.StandLaws.{new_stands}
 use Rattle.sub_buffer.proofs.Offers.{follows_new}
 use Rattle.site_core.specs.Ledgers.{LedgerValue, HasApplied, new_ledger}
 use Rattle.site_core.specs.Desks.{DeskValue, DeskSound, new_desk}
-use Rattle.site_core.specs.Inbounds.{is_foreign}
+use Rattle.inbound.specs.Inbounds.{is_foreign}
 use Rattle.site_core.proofs.LedgerLaws.{new_is_ledger}
 use Rattle.site_core.proofs.Protocol.{none_applied}
 use Rattle.world_core.specs.Values.{LinkValue}

@@ -26,7 +26,7 @@ use Rattle.transfer_manager.specs.declared.answer.AskAnswer.TheVariants.{Grant, 
 use Rattle.site_core.specs.Ledgers.{owed_by, number_of_taking}
 use Rattle.site_core.specs.Desks.{DeskValue}
 use Rattle.site_core.specs.Calls.{next_place, after_publish, beat_of, answer_of, denial, DeskAnswers, DeskApplies}
-use Rattle.site_core.specs.Inbounds.{InboundValue, QueryOf}
+use Rattle.inbound.specs.Inbounds.{InboundValue, QueryOf}
 use Rattle.world_core.specs.Values.{LinkValue, PacketValue, WorldValue}
 use Rattle.world_core.specs.Values.BodyValue.{EntryAt, Text}
 use Rattle.world_core.specs.Worlds.{desk, with_desk, log, link, with_link, put, applied, with_packet, packet_text}

@@ -13,7 +13,7 @@ use Rattle.sub_buffer.specs.Buffers.{IsSettled}
 use Rattle.sub_buffer.specs.Follows.{Follows}
 use Rattle.site_core.specs.Ledgers.{HasApplied}
 use Rattle.site_core.specs.Desks.{DeskSound}
-use Rattle.site_core.specs.Inbounds.{is_foreign}
+use Rattle.inbound.specs.Inbounds.{is_foreign}
 use Rattle.world_core.specs.Values.{LinkValue, BodyValue, PacketValue, WorldValue}
 use Rattle.world_core.specs.Values.BodyValue.{EntryAt, Text}
 use Rattle.world_core.specs.Worlds.{count, desk, log, row, link, applied, lists_of}

@@ -2,7 +2,7 @@
 use Rattle.std.specs.Prelude.{ℕ, Bool, List, Option}
 use Rattle.rights_types.specs.Entries.{EntryValue}
 use Rattle.site_core.specs.Desks.{DeskValue}
-use Rattle.site_core.specs.Inbounds.{InboundValue}
+use Rattle.inbound.specs.Inbounds.{InboundValue}
 
 -- what a site has of the log of an origin: its inbound; the entries that reached the site, each listed once, in the
 -- order in which they first arrived; those that its buffer delivered, in order; and those that it applied

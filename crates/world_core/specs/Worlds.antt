@@ -7,7 +7,7 @@ use Rattle.rights_types.specs.Entries.{EntryValue}
 use Rattle.rights_protocol.specs.Lists.{Lists, held_at, on_way as way_between}
 use Rattle.origin_log.specs.Logs.{entry_line}
 use Rattle.site_core.specs.Desks.{DeskValue, new_desk}
-use Rattle.site_core.specs.Inbounds.{new_inbound}
+use Rattle.inbound.specs.Inbounds.{new_inbound}
 use Rattle.world_core.specs.Values.{LinkValue, BodyValue, PacketValue, WorldValue}
 use Rattle.world_core.specs.Values.BodyValue.{EntryAt, Text}
 

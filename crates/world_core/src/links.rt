@@ -13,9 +13,9 @@ ghost use Rattle.rights_types.specs.Values.{value_of};
 ghost use Rattle.rights_types.specs.declared.limits.TheConstants.{MIN_SITES, MAX_SITES, MAX_ANSWER};
 ghost use Rattle.entry_codec.specs.Reading.{reading, has_entries};
 ghost use Rattle.sub_buffer.specs.Follows.{Follows};
-ghost use Rattle.site_core.specs.declared.fault.InboundError.TheVariants.{OutOfMemory as NoMemory};
-ghost use Rattle.site_core.specs.Calls.{LineOf};
-ghost use Rattle.site_core.specs.Inbounds.{InboundRefuses, QueryOf};
+ghost use Rattle.inbound.specs.declared.fault.InboundError.TheVariants.{OutOfMemory as NoMemory};
+ghost use Rattle.entry_codec.specs.Spelling.{LineOf};
+ghost use Rattle.inbound.specs.Inbounds.{InboundRefuses, QueryOf};
 ghost use Rattle.world_core.specs.Values.{LinkValue};
 ghost use Rattle.world_core.specs.Worlds.{new_row, list_of};
 ghost use Rattle.world_core.specs.LinkEvents.{LinkTakesAll, heard, with_applied};
@@ -23,8 +23,8 @@ ghost use Rattle.world_core.specs.LinkEvents.{LinkTakesAll, heard, with_applied}
 use crate::keeping::Keeping;
 use crate::link::{Link, Scratch};
 use crate::reply::EntryVerdicts;
+use inbound::InboundError;
 use rights_types::{Entry, Message, OutOfMemory, SiteId};
-use site_core::InboundError;
 use std::alloc::Allocator;
 use std::marker::Model;
 

@@ -6,7 +6,8 @@ ghost use Rattle.entry_codec.specs.Spelling.{Spells};
 ghost use Rattle.origin_log.specs.Answering.{answer_to_query};
 ghost use Rattle.origin_log.specs.Faults.{query_fault, ReadRefuses};
 ghost use Rattle.transfer_manager.specs.Managers.{outstanding_ask};
-ghost use Rattle.site_core.specs.Calls.{LineOf, next_push, after_publish, after_skip, beat_of};
+ghost use Rattle.entry_codec.specs.Spelling.{LineOf};
+ghost use Rattle.site_core.specs.Calls.{next_push, after_publish, after_skip, beat_of};
 ghost use Rattle.rights_protocol.specs.Schedules.LocalChange.{Other};
 ghost use Rattle.apply_lanes.specs.Steps.{StepsBy};
 

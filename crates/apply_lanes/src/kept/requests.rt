@@ -14,7 +14,8 @@ ghost use Rattle.site_core.specs.Faults.{can_spend, can_serve, issue_fault, give
 ghost use Rattle.site_core.specs.Faults.{take_fault, expire_fault, close_fault, DeskRefuses};
 ghost use Rattle.site_core.specs.Ledgers.{EntryKeeps, ClosingKeeps};
 ghost use Rattle.site_core.specs.Calls.{DeskWrites, DeskSpends, SpendKeeps, DeskServes, ServeKeeps, DeskExpires};
-ghost use Rattle.site_core.specs.Calls.{DeskPlans, DeskCloses, answer_of, is_ignored, denial_of, LineOf, DeskAnswers};
+ghost use Rattle.entry_codec.specs.Spelling.{LineOf};
+ghost use Rattle.site_core.specs.Calls.{DeskPlans, DeskCloses, answer_of, is_ignored, denial_of, DeskAnswers};
 ghost use Rattle.site_core.specs.Calls.{AnswerKeeps, DeskCancels, DeskPlansBeside};
 ghost use Rattle.site_core.specs.declared.fault.DeskError.TheVariants.{OutOfMemory as NoMemory};
 ghost use Rattle.rights_protocol.specs.Schedules.LocalChange.{Write, Retire, Other};

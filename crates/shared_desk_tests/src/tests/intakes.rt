@@ -6,7 +6,7 @@ use apply_lanes::{Arrived, Intake, IntakeError, Outlet, VerdictCounts};
 use entry_codec::LineError;
 use refusing_allocator::Refusing;
 use rights_types::OutOfMemory;
-use site_core::InboundError;
+use inbound::InboundError;
 use std::alloc::Global;
 use std::process::Abort;
 use std::sync::Wait;

@@ -3,7 +3,7 @@ ghost use Rattle.std.specs.Prelude.{◌≡◌, ◌≤◌, [], false, IfOk};
 
 use apply_lanes::{Intake, Outlet, lane};
 use rights_types::{OutOfMemory, SiteId};
-use site_core::Inbound;
+use inbound::Inbound;
 use std::alloc::{Allocator, Global};
 use std::process::Abort;
 use std::sync::Wait;

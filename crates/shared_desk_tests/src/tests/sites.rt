@@ -8,7 +8,8 @@ use apply_lanes::{
 };
 use request_queue::Status;
 use rights_types::{Ask, Deny, OutOfMemory, Query, SiteId};
-use site_core::{AskReply, Desk, DeskError, Inbound, Spending};
+use inbound::Inbound;
+use site_core::{AskReply, Desk, DeskError, Spending};
 use std::alloc::{AllocError, Global};
 use std::process::Abort;
 use std::str;

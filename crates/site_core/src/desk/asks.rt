@@ -8,7 +8,8 @@ ghost use Rattle.rights_book.specs.Books.{sites};
 ghost use Rattle.transfer_manager.specs.Managers.{asks, outstanding_ask, ended};
 ghost use Rattle.transfer_manager.specs.AskAnswers.{IfNew, IsWithin, noted};
 ghost use Rattle.transfer_manager.specs.declared.answer.AskAnswer.TheVariants.{Grant as Grants};
-ghost use Rattle.site_core.specs.Calls.{DeskPlans, DeskPlansBeside, available, answer_of, is_ignored, denial, denial_of, LineOf};
+ghost use Rattle.entry_codec.specs.Spelling.{LineOf};
+ghost use Rattle.site_core.specs.Calls.{DeskPlans, DeskPlansBeside, available, answer_of, is_ignored, denial, denial_of};
 ghost use Rattle.site_core.specs.Calls.{DeskAnswers, AnswerKeeps};
 
 use crate::desk::Desk;

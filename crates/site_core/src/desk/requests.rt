@@ -2,7 +2,7 @@
 ghost use Rattle.std.specs.Prelude.{◌≡◌, ◌<◌, ◌≤◌, true, ◌∷◌, [], IfOk, IfErr, IfSome, OnOk, OnErr, length};
 ghost use Rattle.rights_types.specs.Chains.{end};
 ghost use Rattle.rights_types.specs.declared.moves.Move.TheVariants.{Spend as Spends};
-ghost use Rattle.request_queue.specs.Queues.{front_of};
+ghost use Rattle.request_queue.specs.Queues.{front_of, without_tickets};
 ghost use Rattle.request_queue.specs.declared.request.Status.TheVariants.{Waiting as Waits};
 ghost use Rattle.request_queue.specs.declared.queue.TheConstants.{SLOTS};
 ghost use Rattle.request_queue.specs.Calls.{TellsOutcome};
@@ -143,6 +143,13 @@ impl<A: Allocator + Copy> Desk<A> {
     {
         self.queue.cancel(ticket);
         self.queue.status(ticket)
+    }
+
+    /// Gives out no ticket up to `last` from now on, as after a restart: each of them may have been given out before.
+    pub fn skip_tickets(&mut self, last: u64)
+        ensures { self.new ≡ record self.old { queue = without_tickets self.old.queue last } }
+    {
+        self.queue.skip_tickets(last);
     }
 
     // What is held beyond the waiting spends.

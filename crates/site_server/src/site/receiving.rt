@@ -12,7 +12,7 @@ use desk_turns::{TurnDesk, Turns, Work};
 use line_streams::{first_number, only_number, split_word};
 use peer_links::{DeskMessage, Port, Skipped, read_link};
 use rights_types::{OutOfMemory, SiteId};
-use site_core::{Inbound, InboundError};
+use inbound::{Inbound, InboundError};
 use site_node::{Sink, answer_ask, answer_query, note_denial};
 use site_sockets::{Connection, PeerReader, PeerState, SiteSockets, SkipCause};
 use site_words::Config;

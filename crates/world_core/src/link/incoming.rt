@@ -8,15 +8,15 @@ ghost use Rattle.sub_buffer.specs.Follows.{reached_after};
 ghost use Rattle.sub_buffer.specs.Arrivals.{Arrives};
 ghost use Rattle.sub_buffer.specs.declared.verdict.Verdict.{Verdict as AVerdict};
 ghost use Rattle.sub_buffer.specs.declared.verdict.Verdict.TheVariants.{Ready as IsReady};
-ghost use Rattle.site_core.specs.Inbounds.{ready_in};
+ghost use Rattle.inbound.specs.Inbounds.{ready_in};
 ghost use Rattle.world_core.specs.LinkEvents.{reported as as_reported};
 ghost use Rattle.world_core.specs.IncomingLists.{reached_in, NoneAhead, HasRoom, SameLists, IncomingTakes};
 
 use crate::keeping::Keeping;
 use crate::reply::{EntryVerdict, EntryVerdicts};
 use histories::History;
+use inbound::Inbound;
 use rights_types::{Entry, OutOfMemory};
-use site_core::Inbound;
 use std::alloc::Allocator;
 use std::marker::PhantomData;
 use std::mem;

@@ -15,9 +15,10 @@ use crate::keeping::Keeping;
 use crate::packets::{Body, Packet};
 use crate::reply::Reply;
 use crate::system::System;
+use inbound::InboundError;
 use origin_log::ReadError;
 use rights_types::{Ask, Message, OutOfMemory, Query, SiteId};
-use site_core::{InboundError, Line};
+use site_core::Line;
 use std::alloc::Allocator;
 use transfer_manager::AskAnswer;
 

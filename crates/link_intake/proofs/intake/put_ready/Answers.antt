@@ -1,6 +1,6 @@
 use Rattle.std.proofs.Common.{◌∷◌, ◌++◌, [], sym, subst, ◌∙◌, rules}
 use Rattle.std.specs.Vec.Iter.{into_iter_items}
-use Rattle.site_core.specs.Inbounds.{ready_in}
+use Rattle.inbound.specs.Inbounds.{ready_in}
 use Rattle.link_intake.specs.Intakes.{CanPut, PutsAll, PutsFront}
 use Rattle.link_intake.proofs.IntakeLaws.{ready-append, one_more, split_ready, can_first, others_can, both_put}
 use Rattle.link_intake.proofs.IntakeLaws.{front_put}

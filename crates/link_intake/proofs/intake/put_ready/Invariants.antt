@@ -1,6 +1,6 @@
 use Rattle.std.proofs.Common.{◌≡◌, ◌++◌, length}
 use Rattle.std.specs.Vec.Iter.{into_iter_items, into_iter_len}
-use Rattle.site_core.specs.Inbounds.{ready_in}
+use Rattle.inbound.specs.Inbounds.{ready_in}
 use Rattle.link_intake.specs.Intakes.{PutsAll}
 use Rattle.link_intake.proofs.intake.put_ready.Given as goal
 

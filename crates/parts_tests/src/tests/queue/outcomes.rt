@@ -1,5 +1,5 @@
 //! Requests from their tickets to their outcomes.
-use request_queue::{QueueError, RequestQueue, SLOTS, Status};
+use request_queue::{LAST_TICKET, QueueError, RequestQueue, SLOTS, Status};
 use rights_types::{MAX_AMOUNT, OutOfMemory};
 use std::alloc::Global;
 use std::process::Abort;
@@ -26,6 +26,8 @@ enum Call {
     /// Ticket, amount and deadline of the front.
     Front(u64, u64, u64),
     NoFront,
+    /// The last ticket that is not given out any more.
+    Skip(u64),
 }
 
 // Whether the request with that ticket, for this number of rights until that deadline, is at the front.
@@ -52,6 +54,12 @@ fn serves(queue: &mut RequestQueue, number: u64) -> bool {
     true
 }
 
+fn skips(queue: &mut RequestQueue, last: u64) -> bool {
+    let waiting = queue.waiting();
+    queue.skip_tickets(last);
+    queue.waiting() == waiting
+}
+
 fn answers(queue: &mut RequestQueue, call: Call) -> bool {
     match call {
         Call::Put(amount, deadline, ticket) => queue.put(amount, deadline) == ticket,
@@ -65,6 +73,7 @@ fn answers(queue: &mut RequestQueue, call: Call) -> bool {
         Call::Status(ticket, status) => queue.status(ticket) == status,
         Call::Front(ticket, amount, deadline) => is_at_front(queue, ticket, amount, deadline),
         Call::NoFront => queue.front().is_none(),
+        Call::Skip(last) => skips(queue, last),
     }
 }
 
@@ -113,6 +122,28 @@ const FIRST_SERVED: [Call; 11] = [
 #[test]
 fn requests_expire_or_are_served(rt: HostRuntime) -> Result<(), OutOfMemory> {
     a_new_queue_answers(&rt, rt.alloc(), &FIRST_SERVED)
+}
+
+const TICKETS_SKIPPED: [Call; 13] = [
+    Call::Put(4, 9, Ok(1)),
+    Call::Skip(0),
+    Call::Put(4, 9, Ok(2)),
+    Call::Skip(1000),
+    Call::Put(4, 9, Ok(1001)),
+    Call::Skip(7),
+    Call::Put(4, 9, Ok(1002)),
+    Call::Status(1, Status::Waiting),
+    Call::Status(1000, Status::Unknown),
+    Call::Skip(LAST_TICKET - 1),
+    Call::Put(4, 9, Ok(LAST_TICKET)),
+    Call::Skip(u64::MAX),
+    Call::Put(4, 9, Err(QueueError::QueueFull)),
+];
+
+/// Tickets up to one that was skipped are not given out; those that were stand, and the next ticket never goes back.
+#[test]
+fn skipped_tickets_are_not_given_out(rt: HostRuntime) -> Result<(), OutOfMemory> {
+    a_new_queue_answers(&rt, rt.alloc(), &TICKETS_SKIPPED)
 }
 
 const OUTCOME_READ: [Call; 5] = [

@@ -5,7 +5,7 @@ ghost use Rattle.entry_codec.specs.Pieces.{IsLine};
 use apply_lanes::{Intake, Outlet, lane};
 use peer_links::{DeskMessage, Port};
 use rights_types::{OutOfMemory, SiteId};
-use site_core::Inbound;
+use inbound::Inbound;
 use std::alloc::Global;
 use std::sync::Wait;
 use sub_buffer::State;

@@ -3,7 +3,7 @@ use Rattle.std.specs.List.{All}
 use Rattle.std.proofs.lemmas.List.{nil_from_length}
 use Rattle.std.proofs.lemmas.List.Elements.{All-head, All-tail}
 use Rattle.rights_types.specs.Entries.{EntryValue}
-use Rattle.site_core.specs.Inbounds.{InboundValue}
+use Rattle.inbound.specs.Inbounds.{InboundValue}
 use Rattle.world_core.specs.Values.{LinkValue}
 use Rattle.world_core.specs.IncomingLists.{HasRoom, NoneAhead}
 use Rattle.world_core.proofs.IncomingLaws.{next_copy, still_some}

@@ -3,7 +3,7 @@ use Rattle.std.specs.Prelude.{Bool, true, None}
 use Rattle.std.specs.List.{All, Contains}
 use Rattle.std.proofs.lemmas.Bool.{leb-true}
 use Rattle.std.proofs.lemmas.List.Elements.{All-cons, All-nil}
-use Rattle.site_core.specs.Inbounds.{InboundValue}
+use Rattle.inbound.specs.Inbounds.{InboundValue}
 use Rattle.world_core.proofs.LinkLaws.{goes_on_start, goes_on_next, goes_on_last}
 use Rattle.world_core.proofs.link.Link.take_entry.Goals as goal
 

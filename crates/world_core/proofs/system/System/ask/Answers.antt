@@ -2,7 +2,7 @@ use Rattle.std.proofs.Common.{Some, refl, subst}
 use Rattle.std.specs.Option.{option_map}
 use Rattle.rights_types.specs.Messages.MessageValue.{AnAsk}
 use Rattle.transfer_manager.specs.Managers.{outstanding_ask}
-use Rattle.site_core.specs.Calls.{LineOf}
+use Rattle.entry_codec.specs.Spelling.{LineOf}
 use Rattle.site_core.specs.Desks.{DeskValue}
 use Rattle.world_core.proofs.EventPlaces.{link_known, lent}
 use Rattle.world_core.proofs.LinkCalls.{sends_line}

@@ -1,7 +1,8 @@
 use Rattle.std.proofs.Common.{◌≡◌, ℕ, List, Result, Ok, sym, ap, refl, subst, ◌∙◌, arith}
 use Rattle.transfer_manager.specs.declared.answer.AskAnswer.{AskAnswer}
 use Rattle.transfer_manager.specs.declared.answer.AskAnswer.TheVariants.{Grant, Repeated, OldAsk}
-use Rattle.site_core.specs.Calls.{denial_of, LineOf, DeskAnswers}
+use Rattle.entry_codec.specs.Spelling.{LineOf}
+use Rattle.site_core.specs.Calls.{denial_of, DeskAnswers}
 use Rattle.world_core.specs.Values.{PacketValue, WorldValue}
 use Rattle.world_core.specs.Values.BodyValue.{Text}
 use Rattle.world_core.specs.Worlds.{with_desk}

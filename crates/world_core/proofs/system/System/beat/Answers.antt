@@ -1,6 +1,7 @@
 use Rattle.std.proofs.Common.{Some, refl, subst}
 use Rattle.std.proofs.lemmas.Result.{err_from_is_err_and}
-use Rattle.site_core.specs.Calls.{LineOf, beat_of}
+use Rattle.entry_codec.specs.Spelling.{LineOf}
+use Rattle.site_core.specs.Calls.{beat_of}
 use Rattle.site_core.specs.Desks.{DeskValue}
 use Rattle.world_core.specs.Worlds.{desk}
 use Rattle.world_core.proofs.EventPlaces.{link_known, lent}

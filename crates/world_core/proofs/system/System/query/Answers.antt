@@ -2,7 +2,7 @@ use Rattle.std.proofs.Common.{inr, refl, subst}
 use Rattle.std.specs.Option.{option_map}
 use Rattle.std.proofs.lemmas.Result.{err_from_is_err_and}
 use Rattle.rights_types.specs.Messages.MessageValue.{AQuery}
-use Rattle.site_core.specs.Calls.{LineOf}
+use Rattle.entry_codec.specs.Spelling.{LineOf}
 use Rattle.world_core.specs.Bodies.{world_of}
 use Rattle.world_core.proofs.EventPlaces.{link_known, LentRow, lent_row}
 use Rattle.world_core.proofs.LinkCalls.{asked, sends_line, sends_none}

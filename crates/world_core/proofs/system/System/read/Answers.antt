@@ -2,7 +2,7 @@ use Rattle.std.proofs.Common.{◌≡◌, ℕ, Option, Some, None, sym, ap, ◌�
 use Rattle.entry_codec.specs.Reading.{reading}
 use Rattle.rights_types.specs.Places.{at_site}
 use Rattle.rights_types.specs.declared.message.Message.{Message}
-use Rattle.site_core.specs.Inbounds.{line_fault}
+use Rattle.inbound.specs.Inbounds.{line_fault}
 use Rattle.world_core.specs.Values.{LinkValue}
 use Rattle.world_core.specs.Worlds.{link}
 use Rattle.world_core.proofs.EventPlaces.{lent_row}

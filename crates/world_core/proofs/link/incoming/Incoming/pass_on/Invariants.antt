@@ -1,5 +1,5 @@
 use Rattle.std.proofs.Common.{◌≡◌, ◌+◌, ◌≤◌, ◌++◌, length, map, reverse, vec_capacity}
-use Rattle.site_core.specs.Inbounds.{ready_in}
+use Rattle.inbound.specs.Inbounds.{ready_in}
 use Rattle.world_core.specs.LinkEvents.{reported}
 use Rattle.world_core.proofs.link.incoming.Incoming.pass_on.Given as goal
 

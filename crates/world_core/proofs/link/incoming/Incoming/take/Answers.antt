@@ -6,7 +6,7 @@ use Rattle.sub_buffer.specs.Arrivals.{Arrives, all_ready}
 use Rattle.sub_buffer.specs.Follows.{reached_after}
 use Rattle.sub_buffer.specs.declared.verdict.Verdict.{Verdict as BufferVerdict}
 use Rattle.sub_buffer.specs.declared.verdict.Verdict.TheVariants.{Ready}
-use Rattle.site_core.specs.Inbounds.{ready_in}
+use Rattle.inbound.specs.Inbounds.{ready_in}
 use Rattle.world_core.specs.IncomingLists.{IncomingTakes}
 use Rattle.world_core.specs.LinkEvents.{reported as as_reported}
 use Rattle.world_core.proofs.IncomingLaws.{puts_one, tells_one, keeps_room, none_apart}

@@ -19,10 +19,10 @@ use Rattle.sub_buffer.specs.Gaps.{GapOf, GapIs, Wants, asked_for}
 use Rattle.sub_buffer.specs.declared.arrivals.TheConstants.{MAX_VERDICTS}
 use Rattle.sub_buffer.specs.declared.verdict.Verdict.{Verdict}
 use Rattle.sub_buffer.specs.declared.verdict.Verdict.TheVariants.{Ready}
-use Rattle.site_core.specs.declared.fault.InboundError.{InboundError}
-use Rattle.site_core.specs.declared.fault.InboundError.TheVariants.{Line, WrongOrigin, BadSite, OutOfMemory}
-use Rattle.site_core.specs.declared.inbound.Arrival.{Arrival}
-use Rattle.site_core.specs.declared.inbound.Arrival.TheVariants.{Entries, Beat, Query, Ask, Deny, Hello}
+use Rattle.inbound.specs.declared.fault.InboundError.{InboundError}
+use Rattle.inbound.specs.declared.fault.InboundError.TheVariants.{Line, WrongOrigin, BadSite, OutOfMemory}
+use Rattle.inbound.specs.declared.inbound.Arrival.{Arrival}
+use Rattle.inbound.specs.declared.inbound.Arrival.TheVariants.{Entries, Beat, Query, Ask, Deny, Hello}
 
 -- the buffer of the origin's entries, and how many sites the system has
 pub record InboundValue : Type 0 where

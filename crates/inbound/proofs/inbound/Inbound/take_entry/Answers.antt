@@ -1,6 +1,6 @@
 use Rattle.std.proofs.Common.{◌≤◌, length, arith}
-use Rattle.site_core.proofs.InboundLaws.{entry_comes}
-use Rattle.site_core.proofs.inbound.Inbound.take_entry.Goals as goal
+use Rattle.inbound.proofs.InboundLaws.{entry_comes}
+use Rattle.inbound.proofs.inbound.Inbound.take_entry.Goals as goal
 
 pub returns-clause-ok : goal.returns-clause-ok
 returns-clause-ok g c =

@@ -1,6 +1,6 @@
 use Rattle.std.proofs.Common.{refl}
-use Rattle.site_core.proofs.InboundLaws.{query_of}
-use Rattle.site_core.proofs.inbound.Inbound.query.Goals as goal
+use Rattle.inbound.proofs.InboundLaws.{query_of}
+use Rattle.inbound.proofs.inbound.Inbound.query.Goals as goal
 
 pub returns-then-again : goal.returns-then-again
 returns-then-again g c =

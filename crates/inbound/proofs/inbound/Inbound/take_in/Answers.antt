@@ -1,6 +1,6 @@
 use Rattle.rights_types.specs.Messages.MessageValue.{AnEntry}
-use Rattle.site_core.proofs.InboundLaws.{from_origin, all_from_origin}
-use Rattle.site_core.proofs.inbound.Inbound.take_in.Goals as goal
+use Rattle.inbound.proofs.InboundLaws.{from_origin, all_from_origin}
+use Rattle.inbound.proofs.inbound.Inbound.take_in.Goals as goal
 
 pub take_entry-requires : goal.take_entry-requires
 take_entry-requires g c = from_origin c.args.self.now (AnEntry c.in-Push.entry) (rw c.in-Push.is at c.requires)

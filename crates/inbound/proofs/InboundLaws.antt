@@ -15,9 +15,9 @@ use Rattle.sub_buffer.specs.declared.verdict.Verdict.{Verdict}
 use Rattle.sub_buffer.specs.declared.verdict.Verdict.TheVariants.{Ready, Held, Repeat, AfterClose, Full}
 use Rattle.sub_buffer.proofs.Offers.{settled_longest}
 use Rattle.sub_buffer.proofs.Missing.{gap_is}
-use Rattle.site_core.specs.Inbounds.{InboundValue, IsInbound, message_fault, sender, ready_in, EntriesCome, Asks}
-use Rattle.site_core.specs.Inbounds.{QueryOf}
-use Rattle.site_core.proofs.LedgerLaws.{no_cause}
+use Rattle.inbound.specs.Inbounds.{InboundValue, IsInbound, message_fault, sender, ready_in, EntriesCome, Asks}
+use Rattle.inbound.specs.Inbounds.{QueryOf}
+use Rattle.rights_book.proofs.CheckLaws.{no_cause}
 
 -- ---- whose entries they are
 

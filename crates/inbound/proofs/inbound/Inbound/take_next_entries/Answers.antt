@@ -1,6 +1,6 @@
 use Rattle.std.proofs.Common.{◌≤◌, length, arith}
-use Rattle.site_core.proofs.InboundLaws.{inbound_after, entries_come}
-use Rattle.site_core.proofs.inbound.Inbound.take_next_entries.Goals as goal
+use Rattle.inbound.proofs.InboundLaws.{inbound_after, entries_come}
+use Rattle.inbound.proofs.inbound.Inbound.take_next_entries.Goals as goal
 
 pub arrive_in_order-requires-clause-next : goal.arrive_in_order-requires-clause-next
 arrive_in_order-requires-clause-next g c = rw (← c.self.view_is) at c.requires.next

@@ -17,9 +17,9 @@ ghost use Rattle.sub_buffer.specs.Table.{after_beat};
 ghost use Rattle.sub_buffer.specs.Arrivals.{all_ready, Arrives as IsArrival, IsContinuedBy};
 ghost use Rattle.sub_buffer.specs.declared.verdict.Verdict.{Verdict as AVerdict};
 ghost use Rattle.sub_buffer.specs.declared.verdict.Verdict.TheVariants.{Ready};
-ghost use Rattle.site_core.specs.Calls.{LineOf};
-ghost use Rattle.site_core.specs.declared.fault.InboundError.TheVariants.{OutOfMemory as NoMemory};
-ghost use Rattle.site_core.specs.Inbounds.{sender, is_for, entries_of, is_foreign, has_foreign};
+ghost use Rattle.entry_codec.specs.Spelling.{LineOf};
+ghost use Rattle.inbound.specs.declared.fault.InboundError.TheVariants.{OutOfMemory as NoMemory};
+ghost use Rattle.inbound.specs.Inbounds.{sender, is_for, entries_of, is_foreign, has_foreign};
 
 use crate::fault::InboundError;
 use entry_codec::{LineError, read_line, write_line};
@@ -87,7 +87,7 @@ pub struct Inbound<A: Allocator = Global> {
 }
 
 impl<A: Allocator> Model for Inbound<A> {
-    ghost use Rattle.site_core.specs.Inbounds.{InboundValue, IsInbound};
+    ghost use Rattle.inbound.specs.Inbounds.{InboundValue, IsInbound};
 
     ghost Value = { InboundValue };
 
@@ -97,8 +97,8 @@ impl<A: Allocator> Model for Inbound<A> {
 }
 
 impl<A: Allocator + Copy> Inbound<A> {
-    ghost use Rattle.site_core.specs.Inbounds.{new_inbound, message_fault, InboundRefuses, BringsEntries, Arrives};
-    ghost use Rattle.site_core.specs.Inbounds.{QueryOf};
+    ghost use Rattle.inbound.specs.Inbounds.{new_inbound, message_fault, InboundRefuses, BringsEntries, Arrives};
+    ghost use Rattle.inbound.specs.Inbounds.{QueryOf};
 
     /// The input of site `me` from the origin, in a system of `sites` sites, 2 to 16. `OutOfMemory` if its memory is
     /// refused.

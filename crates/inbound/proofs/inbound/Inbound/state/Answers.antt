@@ -1,5 +1,5 @@
-use Rattle.site_core.proofs.InboundLaws.{gap_by_log}
-use Rattle.site_core.proofs.inbound.Inbound.state.Goals as goal
+use Rattle.inbound.proofs.InboundLaws.{gap_by_log}
+use Rattle.inbound.proofs.inbound.Inbound.state.Goals as goal
 
 pub returns-clause-log : goal.returns-clause-log
 returns-clause-log g c = rw (← c.self.view_is) (λ es set put f.

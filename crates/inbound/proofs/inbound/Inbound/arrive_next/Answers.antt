@@ -1,8 +1,8 @@
 use Rattle.std.proofs.Common.{[], subst}
 use Rattle.sub_buffer.specs.Arrivals.{Arrives as IsArrival}
 use Rattle.sub_buffer.specs.declared.verdict.Verdict.TheVariants.{Ready}
-use Rattle.site_core.specs.Inbounds.{InboundValue}
-use Rattle.site_core.proofs.inbound.Inbound.arrive_next.Goals as goal
+use Rattle.inbound.specs.Inbounds.{InboundValue}
+use Rattle.inbound.proofs.inbound.Inbound.arrive_next.Goals as goal
 
 pub returns-clause-arrives : goal.returns-clause-arrives
 returns-clause-arrives g c t =
