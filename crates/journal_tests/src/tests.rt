@@ -3,3 +3,4 @@ mod crashes;
 mod failures;
 mod files;
 mod kit;
+mod records;
