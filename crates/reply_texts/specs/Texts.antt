@@ -8,6 +8,9 @@ use Rattle.site_core.specs.declared.fault.DeskError.{DeskError}
 use Rattle.site_core.specs.declared.fault.DeskError.TheVariants.{Closed, BadCount, BadMove, BadAmount, NoSuchSite}
 use Rattle.site_core.specs.declared.fault.DeskError.TheVariants.{SameSite, PeerClosed, LogFull, Short, OutOfMemory}
 use Rattle.site_core.specs.declared.fault.DeskError.TheVariants.{QueueFull, QueueBusy, HeldTooMuch, TimeWentBack}
+use Rattle.refusals.specs.Refusals.{refusal_name, refusal_text}
+use Rattle.refusals.specs.declared.refusal.Refusal.{Refusal}
+use Rattle.refusals.specs.declared.refusal.Refusal.TheVariants as refused
 
 -- the number of a new entry
 abbrev pub number_text : ℕ → List ℕ
@@ -25,34 +28,34 @@ status_text (SpentAt number) = codes "spent " ++ decimal number
 status_text Expired = codes "expired"
 status_text Unknown = codes "unknown"
 
+-- what a client is told of a refusal of the desk
+abbrev pub refusal_of : DeskError → Refusal
+refusal_of Closed = refused.Closed
+refusal_of BadCount = refused.BadCount
+refusal_of BadMove = refused.BadMove
+refusal_of BadAmount = refused.BadAmount
+refusal_of NoSuchSite = refused.NoSuchSite
+refusal_of SameSite = refused.SameSite
+refusal_of PeerClosed = refused.PeerClosed
+refusal_of LogFull = refused.LogFull
+refusal_of Short = refused.Short
+refusal_of OutOfMemory = refused.OutOfMemory
+refusal_of QueueFull = refused.QueueFull
+refusal_of QueueBusy = refused.QueueBusy
+refusal_of HeldTooMuch = refused.HeldTooMuch
+refusal_of TimeWentBack = refused.TimeWentBack
+
 abbrev pub desk_error_name : DeskError → List ℕ
-desk_error_name Closed = codes "Closed"
-desk_error_name BadCount = codes "BadCount"
-desk_error_name BadMove = codes "BadMove"
-desk_error_name BadAmount = codes "BadAmount"
-desk_error_name NoSuchSite = codes "NoSuchSite"
-desk_error_name SameSite = codes "SameSite"
-desk_error_name PeerClosed = codes "PeerClosed"
-desk_error_name LogFull = codes "LogFull"
-desk_error_name Short = codes "Short"
-desk_error_name OutOfMemory = codes "OutOfMemory"
-desk_error_name QueueFull = codes "QueueFull"
-desk_error_name QueueBusy = codes "QueueBusy"
-desk_error_name HeldTooMuch = codes "HeldTooMuch"
-desk_error_name TimeWentBack = codes "TimeWentBack"
+desk_error_name error = refusal_name (refusal_of error)
 
 -- a desk refused
 abbrev pub error_text : DeskError → List ℕ
-error_text error = codes "error " ++ desk_error_name error
+error_text error = refusal_text (refusal_of error)
 
 -- the line spells no command
 abbrev pub bad_command : List ℕ
-bad_command = codes "error BadCommand"
+bad_command = refusal_text refused.BadCommand
 
 -- the deadline of a spend is too far ahead of the site's clock
 abbrev pub bad_deadline : List ℕ
-bad_deadline = codes "error BadDeadline"
-
--- a client may not tick, since the site ticks by its own clock
-abbrev pub own_clock : List ℕ
-own_clock = codes "error OwnClock"
+bad_deadline = refusal_text refused.BadDeadline

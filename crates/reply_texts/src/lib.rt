@@ -5,5 +5,5 @@ mod texts;
 
 pub use texts::{
     REPLY_ROOM, desk_error_name, put_bad_command, put_bad_deadline, put_error, put_number,
-    put_own_clock, put_spending, put_status,
+    put_refusal, put_spending, put_status, refusal_of,
 };

@@ -1,10 +1,12 @@
 //! One function for each kind of reply, which appends its text to the current reply. On `Err` the current reply may
 //! have a part of it, and the whole replies are unchanged.
 ghost use Rattle.std.specs.Prelude.{◌≡◌, ◌≤◌, ◌++◌, length, OnOk, IsOk};
+ghost use Rattle.refusals.specs.Refusals.{refusal_text};
 ghost use Rattle.reply_texts.specs.Texts.{number_text, spending_text, status_text, desk_error_name, error_text};
-ghost use Rattle.reply_texts.specs.Texts.{bad_command, bad_deadline, own_clock};
+ghost use Rattle.reply_texts.specs.Texts.{refusal_of, bad_command, bad_deadline};
 
 use line_streams::Replies;
+use refusals::Refusal;
 use request_queue::Status;
 use rights_types::OutOfMemory;
 use site_core::{DeskError, Spending};
@@ -54,6 +56,19 @@ pub fn put_status<A: Allocator>(replies: &mut Replies<A>, status: Status) -> Res
     }
 }
 
+/// Appends that a line was refused, and why.
+pub fn put_refusal<A: Allocator>(
+    replies: &mut Replies<A>,
+    why: Refusal,
+) -> Result<(), OutOfMemory>
+    ensures ok { OnOk result (replies.new.part ≡ replies.old.part ++ refusal_text why) }
+    ensures kept { replies.new.whole ≡ replies.old.whole }
+    ensures room { REPLY_ROOM ≤ replies.old.room → IsOk result × (1 ≤ replies.new.room) }
+{
+    replies.put(b"error ")?;
+    replies.put(why.name())
+}
+
 /// Appends the refusal of a desk.
 pub fn put_error<A: Allocator>(
     replies: &mut Replies<A>,
@@ -63,8 +78,7 @@ pub fn put_error<A: Allocator>(
     ensures kept { replies.new.whole ≡ replies.old.whole }
     ensures room { REPLY_ROOM ≤ replies.old.room → IsOk result × (1 ≤ replies.new.room) }
 {
-    replies.put(b"error ")?;
-    replies.put(desk_error_name(error))
+    put_refusal(replies, refusal_of(error))
 }
 
 /// Appends that a line spells no command.
@@ -73,7 +87,7 @@ pub fn put_bad_command<A: Allocator>(replies: &mut Replies<A>) -> Result<(), Out
     ensures kept { replies.new.whole ≡ replies.old.whole }
     ensures room { REPLY_ROOM ≤ replies.old.room → IsOk result × (1 ≤ replies.new.room) }
 {
-    replies.put(b"error BadCommand")
+    put_refusal(replies, Refusal::BadCommand)
 }
 
 /// Appends that the deadline of a spend is too far ahead.
@@ -82,16 +96,29 @@ pub fn put_bad_deadline<A: Allocator>(replies: &mut Replies<A>) -> Result<(), Ou
     ensures kept { replies.new.whole ≡ replies.old.whole }
     ensures room { REPLY_ROOM ≤ replies.old.room → IsOk result × (1 ≤ replies.new.room) }
 {
-    replies.put(b"error BadDeadline")
+    put_refusal(replies, Refusal::BadDeadline)
 }
 
-/// Appends that a client may not tick, since the site ticks by its own clock.
-pub fn put_own_clock<A: Allocator>(replies: &mut Replies<A>) -> Result<(), OutOfMemory>
-    ensures ok { OnOk result (replies.new.part ≡ replies.old.part ++ own_clock) }
-    ensures kept { replies.new.whole ≡ replies.old.whole }
-    ensures room { REPLY_ROOM ≤ replies.old.room → IsOk result × (1 ≤ replies.new.room) }
+/// What a client is told of a refusal of the desk.
+pub fn refusal_of(error: DeskError) -> Refusal
+    ensures { result ≡ refusal_of error }
 {
-    replies.put(b"error OwnClock")
+    match error {
+        DeskError::Closed => Refusal::Closed,
+        DeskError::BadCount => Refusal::BadCount,
+        DeskError::BadMove => Refusal::BadMove,
+        DeskError::BadAmount => Refusal::BadAmount,
+        DeskError::NoSuchSite => Refusal::NoSuchSite,
+        DeskError::SameSite => Refusal::SameSite,
+        DeskError::PeerClosed => Refusal::PeerClosed,
+        DeskError::LogFull => Refusal::LogFull,
+        DeskError::Short => Refusal::Short,
+        DeskError::OutOfMemory => Refusal::OutOfMemory,
+        DeskError::QueueFull => Refusal::QueueFull,
+        DeskError::QueueBusy => Refusal::QueueBusy,
+        DeskError::HeldTooMuch => Refusal::HeldTooMuch,
+        DeskError::TimeWentBack => Refusal::TimeWentBack,
+    }
 }
 
 /// The name of a refusal, at most 16 bytes.
@@ -99,20 +126,5 @@ pub fn desk_error_name(error: DeskError) -> &'static [u8]
     ensures name { result.now ≡ desk_error_name error }
     ensures short { length result.now ≤ 16 }
 {
-    match error {
-        DeskError::Closed => b"Closed",
-        DeskError::BadCount => b"BadCount",
-        DeskError::BadMove => b"BadMove",
-        DeskError::BadAmount => b"BadAmount",
-        DeskError::NoSuchSite => b"NoSuchSite",
-        DeskError::SameSite => b"SameSite",
-        DeskError::PeerClosed => b"PeerClosed",
-        DeskError::LogFull => b"LogFull",
-        DeskError::Short => b"Short",
-        DeskError::OutOfMemory => b"OutOfMemory",
-        DeskError::QueueFull => b"QueueFull",
-        DeskError::QueueBusy => b"QueueBusy",
-        DeskError::HeldTooMuch => b"HeldTooMuch",
-        DeskError::TimeWentBack => b"TimeWentBack",
-    }
+    refusal_of(error).name()
 }

@@ -1,91 +1,98 @@
 -- The replies to the lines of a body.
 use Rattle.std.specs.Prelude.{◌≡◌, ℕ, ◌-◌, ◌<◌, ◌≤◌, ◌⊎◌, Bool, true, false, List, [], ◌∷◌, ◌++◌, length, take}
-use Rattle.std.specs.Prelude.{flat_map, codes, nat_eq, if◌then◌else◌, bytes_eq}
-use Rattle.std.specs.List.{starts_with}
+use Rattle.std.specs.Prelude.{flat_map}
 use Rattle.bytes.specs.Filled.{Filled}
+use Rattle.refusals.specs.Refusals.{LineAnswer, refusal_text}
+use Rattle.refusals.specs.declared.refusal.Refusal.{Refusal}
+use Rattle.refusals.specs.declared.refusal.Refusal.TheVariants.{BadCommand, OutOfMemory}
+use Rattle.refusals.specs.declared.answered.Answered.{Answered}
+use Rattle.refusals.specs.declared.answered.Answered.TheVariants.{Done, Refused}
 use Rattle.line_streams.specs.Waiting.{Waiting}
 use Rattle.site_http.specs.declared.replying.TheConstants.{LAST_ROOM, MAX_REPLIES}
 
--- in the first state, this line with its line feed gets this reply, without a line feed, and leads to the second state
+-- in the first state, this line with its line feed gets this answer, and leads to the second state
 abbrev pub Answering : Type 0 → Type 1
-Answering S = S → List ℕ → List ℕ → S → Type 0
+Answering S = S → List ℕ → LineAnswer → S → Type 0
 
--- the reply to a line that spells no command
-abbrev pub bad_command : List ℕ
-bad_command = codes "error BadCommand"
+-- the answer that reports this refusal
+abbrev pub refused : Refusal → LineAnswer
+refused why = record { text = refusal_text why; how = Refused why }
 
--- the reply to a command that was not carried out for lack of memory
-abbrev pub no_memory : List ℕ
-no_memory = codes "error OutOfMemory"
+-- the answer to a line that spells no command
+abbrev pub bad_command : LineAnswer
+bad_command = refused BadCommand
 
--- the status of a response with one reply
-abbrev pub status_of : List ℕ → ℕ
-status_of reply =
-    if bytes_eq reply bad_command then 400
-    else if bytes_eq reply no_memory then 503
-    else if starts_with nat_eq reply (codes "error ") then 409
-    else 200
+-- the answer to a command that was not carried out for lack of memory
+abbrev pub no_memory : LineAnswer
+no_memory = refused OutOfMemory
 
--- .. and of one with several
-abbrev pub status_of_all : List (List ℕ) → ℕ
-status_of_all (reply ∷ []) = status_of reply
-status_of_all replies = 200
+-- the status of a response to one line, by how it was answered
+abbrev pub status_of : Answered → ℕ
+status_of Done = 200
+status_of (Refused BadCommand) = 400
+status_of (Refused OutOfMemory) = 503
+status_of (Refused why) = 409
+
+-- .. and of one to several
+abbrev pub status_of_all : List LineAnswer → ℕ
+status_of_all (answer ∷ []) = status_of answer.how
+status_of_all answers = 200
 
 -- the replies one after another, each with its line feed
-abbrev pub text_of : List (List ℕ) → List ℕ
-text_of replies = flat_map (λ reply. reply ++ 10 ∷ []) replies
+abbrev pub text_of : List LineAnswer → List ℕ
+text_of answers = flat_map (λ (a : LineAnswer). a.text ++ 10 ∷ []) answers
 
--- all replies but the last
-abbrev pub but_last : List (List ℕ) → List (List ℕ)
-but_last replies = take (length replies - 1) replies
+-- all answers but the last
+abbrev pub but_last : List LineAnswer → List LineAnswer
+but_last answers = take (length answers - 1) answers
 
 -- each line began below the limit: the replies before the last one have fewer bytes
-abbrev pub WithinLimit : List (List ℕ) → Type 0
-WithinLimit replies = length (text_of (but_last replies)) < MAX_REPLIES
+abbrev pub WithinLimit : List LineAnswer → Type 0
+WithinLimit answers = length (text_of (but_last answers)) < MAX_REPLIES
 
 module _ {S : Type 0} (answers : Answering S) where
-  -- each line got its reply, in order
-  abbrev pub AnswersEach : S → List (List ℕ) → List (List ℕ) → S → Type 0
-  AnswersEach old [] replies new = (replies ≡ []) × (new ≡ old)
-  AnswersEach old (line ∷ lines) replies new =
-      (reply : List ℕ) × (mid : S) × (others : List (List ℕ))
-      × answers old line reply mid × AnswersEach mid lines others new × (replies ≡ reply ∷ others)
+  -- each line got its answer, in order
+  abbrev pub AnswersEach : S → List (List ℕ) → List LineAnswer → S → Type 0
+  AnswersEach old [] given new = (given ≡ []) × (new ≡ old)
+  AnswersEach old (line ∷ lines) given new =
+      (answer : LineAnswer) × (mid : S) × (others : List LineAnswer)
+      × answers old line answer mid × AnswersEach mid lines others new × (given ≡ answer ∷ others)
 
   -- all lines were answered
-  pub record AnswersAll (old : S) (lines : List (List ℕ)) (code : ℕ) (replies : List (List ℕ)) (new : S) : Type 0 where
-    pub each : AnswersEach old lines replies new
-    pub within : WithinLimit replies
-    pub status : code ≡ status_of_all replies
+  pub record AnswersAll (old : S) (lines : List (List ℕ)) (code : ℕ) (given : List LineAnswer) (new : S) : Type 0 where
+    pub each : AnswersEach old lines given new
+    pub within : WithinLimit given
+    pub status : code ≡ status_of_all given
 
-  -- the first lines got these replies, and at least one line is left
-  pub record AnswersSome (old : S) (lines : List (List ℕ)) (replies : List (List ℕ)) (new : S) : Type 0 where
+  -- the first lines got these answers, and at least one line is left
+  pub record AnswersSome (old : S) (lines : List (List ℕ)) (given : List LineAnswer) (new : S) : Type 0 where
     pub done : List (List ℕ)
     pub line : List ℕ
     pub left : List (List ℕ)
     pub parted : lines ≡ done ++ line ∷ left
-    pub each : AnswersEach old done replies new
-    pub within : WithinLimit replies
+    pub each : AnswersEach old done given new
+    pub within : WithinLimit given
 
-  -- at a line memory ran out, or the replies had reached their limit: those before it were answered, its reply says so,
-  -- and neither it nor those after it were carried out
-  pub record StopsAt (old : S) (lines : List (List ℕ)) (code : ℕ) (replies : List (List ℕ)) (new : S) : Type 0 where
-    pub given : List (List ℕ)
+  -- at a line memory ran out, or the replies had reached their limit: those before it were answered, its answer says
+  -- so, and neither it nor those after it were carried out
+  pub record StopsAt (old : S) (lines : List (List ℕ)) (code : ℕ) (all : List LineAnswer) (new : S) : Type 0 where
+    pub given : List LineAnswer
     pub some : AnswersSome old lines given new
-    pub told : replies ≡ given ++ no_memory ∷ []
+    pub told : all ≡ given ++ no_memory ∷ []
     pub status : code ≡ 503
 
-  -- these replies, with this status, are the answer to the lines of a body
-  abbrev pub RepliesTo : S → List (List ℕ) → ℕ → List (List ℕ) → S → Type 0
-  RepliesTo old lines code replies new = AnswersAll old lines code replies new ⊎ StopsAt old lines code replies new
+  -- these answers, with this status, are the response to the lines of a body
+  abbrev pub RepliesTo : S → List (List ℕ) → ℕ → List LineAnswer → S → Type 0
+  RepliesTo old lines code given new = AnswersAll old lines code given new ⊎ StopsAt old lines code given new
 
   -- the same for a body that must have exactly one line
-  abbrev pub RepliesToOne : S → List (List ℕ) → ℕ → List (List ℕ) → S → Type 0
-  RepliesToOne old (line ∷ []) code replies new = RepliesTo old (line ∷ []) code replies new
-  RepliesToOne old lines code replies new = (code ≡ 400) × (replies ≡ bad_command ∷ []) × (new ≡ old)
+  abbrev pub RepliesToOne : S → List (List ℕ) → ℕ → List LineAnswer → S → Type 0
+  RepliesToOne old (line ∷ []) code given new = RepliesTo old (line ∷ []) code given new
+  RepliesToOne old lines code given new = (code ≡ 400) × (given ≡ bad_command ∷ []) × (new ≡ old)
 
--- the answer to the lines of a body, by whether its client waits for the outcome: if it does, there must be exactly one
+-- the response to the lines of a body, by whether its client waits for the outcome: if it does, there must be exactly one
 abbrev pub RepliesToBody : {S : Type 0} → (Bool → Answering S) → Bool → S → List (List ℕ) → ℕ
-    → List (List ℕ) → S → Type 0
+    → List LineAnswer → S → Type 0
 RepliesToBody answers false = RepliesTo (answers false)
 RepliesToBody answers true = RepliesToOne (answers true)
 

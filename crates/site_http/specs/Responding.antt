@@ -6,6 +6,7 @@ use Rattle.http1.specs.Fields.{Header}
 use Rattle.http_server.specs.declared.response.Response.{Response}
 use Rattle.http_server.specs.Response.{IsResponse}
 use Rattle.line_streams.specs.Talk.{lines_of}
+use Rattle.refusals.specs.Refusals.{LineAnswer}
 use Rattle.site_http.specs.declared.page.TheConstants.{PAGE}
 use Rattle.site_http.specs.declared.route.Allowed.{Allowed}
 use Rattle.site_http.specs.declared.route.Allowed.TheVariants as Only
@@ -46,12 +47,12 @@ IsBusy r =
 
 module _ {S : Type 0} where
   -- the response to the lines of a body is their replies
-  pub record IsReplied (replies_to : S → List (List ℕ) → ℕ → List (List ℕ) → S
+  pub record IsReplied (replies_to : S → List (List ℕ) → ℕ → List LineAnswer → S
       → Type 0) (old : S) (body : List ℕ) (r : Response) (new : S) : Type 0 where
     pub code : ℕ
-    pub replies : List (List ℕ)
-    pub replied : replies_to old (lines_of body) code replies new
-    pub response : IsResponse code plain (text_of replies) r
+    pub given : List LineAnswer
+    pub replied : replies_to old (lines_of body) code given new
+    pub response : IsResponse code plain (text_of given) r
 
   -- the response is a text that the site reports
   abbrev pub Tells : (S → List ℕ → Type 0) → List ℕ → S → Response → Type 0

@@ -1,9 +1,11 @@
 //! The client of a connection's requests.
-ghost use Rattle.std.specs.Prelude.{◌≡◌, ℕ, ◌≤◌, ◌⊎◌, Bool, List, ◌++◌, length, OnOk, OnErr};
+ghost use Rattle.std.specs.Prelude.{◌≡◌, ℕ, ◌≤◌, ◌⊎◌, Bool, List, ◌++◌, length, IfOk, OnOk, OnErr};
 ghost use Rattle.line_streams.specs.Handling.{IsGiven};
 ghost use Rattle.line_streams.specs.Waiting.{IsEmpty, AddsReply};
+ghost use Rattle.refusals.specs.Refusals.{LineAnswer};
 
 use line_streams::Replies;
+use refusals::Answered;
 use rights_types::OutOfMemory;
 use std::alloc::Global;
 
@@ -15,8 +17,8 @@ pub const LONGEST_REPLY: usize = 128;
 /// A call that returns `OutOfMemory` has changed nothing.
 pub trait Backend {
     // By whether the client waits for the outcome of the command: in the first state, this line with its line feed
-    // gets this reply, without a line feed, and leads to the second state.
-    ghost answers: { Bool → Self → List ℕ → List ℕ → Self → Type 0 };
+    // gets this answer, and leads to the second state.
+    ghost answers: { Bool → Self → List ℕ → LineAnswer → Self → Type 0 };
 
     // The text is the site's status object.
     ghost status: { Self → List ℕ → Type 0 };
@@ -39,10 +41,11 @@ pub trait Backend {
         waits: bool,
         text: Option<&[u8]>,
         replies: &mut Replies<Global>,
-    ) -> Result<(), OutOfMemory>
+    ) -> Result<Answered, OutOfMemory>
         requires { IsEmpty replies.old }
-        ensures ok { OnOk result ((line : List ℕ) → IsGiven line text.entry
-            → (reply : List ℕ) × answers waits self.old line reply self.new × AddsReply replies.old replies.new reply) }
+        ensures ok { IfOk result (λ how. (line : List ℕ) → IsGiven line text.entry
+            → (text : List ℕ) × answers waits self.old line (record { text = text; how = how }) self.new
+            × AddsReply replies.old replies.new text) }
         // So memory for it can be reserved before a command is carried out.
         ensures short { OnOk result ((length replies.new.whole ≤ LONGEST_REPLY) ⊎ (self.new ≡ self.old)) }
         ensures err { OnErr result (self.new ≡ self.old) };

@@ -1,7 +1,8 @@
 //! The replies to the lines of a body. No command is carried out whose reply finds no memory.
-ghost use Rattle.std.specs.Prelude.{◌≡◌, ◌≢◌, ℕ, ◌+◌, ◌<◌, ◌≤◌, false, List, [], ◌∷◌, ◌++◌, length, nat_le, IsOk, OnOk};
-ghost use Rattle.std.specs.Prelude.{OnErr};
+ghost use Rattle.std.specs.Prelude.{◌≡◌, ◌≢◌, ℕ, ◌+◌, ◌<◌, ◌≤◌, false, List, [], ◌∷◌, ◌++◌, length, nat_le, IsOk, IfOk};
+ghost use Rattle.std.specs.Prelude.{OnOk, OnErr};
 ghost use Rattle.line_streams.specs.Talk.{lines_of};
+ghost use Rattle.refusals.specs.Refusals.{LineAnswer, refusal_text};
 ghost use Rattle.site_http.specs.Replying.{bad_command, no_memory, status_of, text_of, AnswersEach, AnswersSome};
 ghost use Rattle.site_http.specs.Replying.{RepliesTo, RepliesToBody, IsPut, KeepsRoom, WithinLimit};
 
@@ -11,6 +12,7 @@ use bytes::BufMut;
 use http::StatusCode;
 use http_server::Rope;
 use line_streams::Replies;
+use refusals::{Answered, Refusal};
 use rights_types::OutOfMemory;
 use std::alloc::Global;
 
@@ -33,7 +35,7 @@ pub(crate) fn answer_body<C: Backend>(
 ) -> StatusCode
     requires fresh { out.old.items ≡ [] }
     requires room { LAST_ROOM ≤ out.old.spare }
-    ensures { (told : List (List ℕ))
+    ensures { (told : List LineAnswer)
         × RepliesToBody C.answers waits client.old (lines_of body.now) result told client.new
         × (out.new.items ≡ text_of told) }
 {
@@ -59,12 +61,12 @@ fn answer_one<C: Backend>(
 ) -> StatusCode
     requires fresh { out.old.items ≡ [] }
     requires room { LAST_ROOM ≤ out.old.spare }
-    ensures { (told : List (List ℕ))
+    ensures { (told : List LineAnswer)
         × RepliesTo (C.answers waits) client.old ((text.now ++ 10 ∷ []) ∷ []) result told client.new
         × (out.new.items ≡ text_of told) }
 {
     match answer_line(client, waits, text, replies, out) {
-        Ok(()) => status_of_line(replies.whole()),
+        Ok(answered) => status_of(answered),
         Err(OutOfMemory) => stop(out),
     }
 }
@@ -79,7 +81,7 @@ fn answer_many<C: Backend>(
     requires fresh { out.old.items ≡ [] }
     requires room { LAST_ROOM ≤ out.old.spare }
     requires other { length (lines_of body.now) ≢ 1 }
-    ensures { (told : List (List ℕ)) × RepliesTo (C.answers false) client.old (lines_of body.now) result told client.new
+    ensures { (told : List LineAnswer) × RepliesTo (C.answers false) client.old (lines_of body.now) result told client.new
         × (out.new.items ≡ text_of told) }
 {
     match answer_lines(client, body, replies, out) {
@@ -97,10 +99,10 @@ fn answer_lines<C: Backend>(
 ) -> Result<(), OutOfMemory>
     requires fresh { out.old.items ≡ [] }
     requires room { LAST_ROOM ≤ out.old.spare }
-    ensures ok { OnOk result ((given : List (List ℕ))
+    ensures ok { OnOk result ((given : List LineAnswer)
         × AnswersEach (C.answers false) client.old (lines_of body.now) given client.new × WithinLimit given
         × (out.new.items ≡ text_of given)) }
-    ensures err { OnErr result ((given : List (List ℕ))
+    ensures err { OnErr result ((given : List LineAnswer)
         × AnswersSome (C.answers false) client.old (lines_of body.now) given client.new
         × (out.new.items ≡ text_of given)) }
     ensures room { LAST_ROOM ≤ out.new.spare }
@@ -130,8 +132,9 @@ fn answer_line<C: Backend>(
     text: &[u8],
     replies: &mut Replies<Global>,
     out: &mut Rope,
-) -> Result<(), OutOfMemory>
-    ensures ok { OnOk result ((reply : List ℕ) × C.answers waits client.old (text.now ++ 10 ∷ []) reply client.new
+) -> Result<Answered, OutOfMemory>
+    ensures ok { IfOk result (λ how. (reply : List ℕ)
+        × C.answers waits client.old (text.now ++ 10 ∷ []) (record { text = reply; how = how }) client.new
         × IsPut reply replies.new out.old out.new) }
     ensures err { OnErr result ((client.new ≡ client.old) × KeepsRoom out.old out.new) }
 {
@@ -140,8 +143,9 @@ fn answer_line<C: Backend>(
     }
     replies.clear();
     out.reserve(LONGEST_REPLY + LAST_ROOM)?;
-    client.reply(waits, within_limit(text), replies)?;
-    put_reply(replies, out)
+    let answered = client.reply(waits, within_limit(text), replies)?;
+    put_reply(replies, out)?;
+    Ok(answered)
 }
 
 /// Appends a reply, after which there is memory for one more.
@@ -156,44 +160,44 @@ fn put_reply(replies: &Replies<Global>, out: &mut Rope) -> Result<(), OutOfMemor
     Ok(())
 }
 
-/// The status of a response that consists of this reply, with its line feed.
-fn status_of_line(line: &[u8]) -> StatusCode
-    requires { 0 < length line.now }
-    ensures { (reply : List ℕ) → line.now ≡ reply ++ 10 ∷ [] → result ≡ status_of reply }
+/// The status of a response to one line that was answered so.
+fn status_of(answered: Answered) -> StatusCode
+    ensures { result ≡ status_of answered }
 {
-    status_of(&line[..line.len() - 1])
-}
-
-fn status_of(reply: &[u8]) -> StatusCode
-    ensures { result ≡ status_of reply.now }
-{
-    if reply == b"error BadCommand".as_slice() {
-        StatusCode::BAD_REQUEST
-    } else if reply == b"error OutOfMemory".as_slice() {
-        StatusCode::SERVICE_UNAVAILABLE
-    } else if reply.starts_with(b"error ") {
-        StatusCode::CONFLICT
-    } else {
-        StatusCode::OK
+    match answered {
+        Answered::Done => StatusCode::OK,
+        Answered::Refused(Refusal::BadCommand) => StatusCode::BAD_REQUEST,
+        Answered::Refused(Refusal::OutOfMemory) => StatusCode::SERVICE_UNAVAILABLE,
+        Answered::Refused(_) => StatusCode::CONFLICT,
     }
 }
 
 /// Replies that memory ran out.
 fn stop(out: &mut Rope) -> StatusCode
     requires { LAST_ROOM ≤ out.old.spare }
-    ensures text { out.new.items ≡ out.old.items ++ (no_memory ++ 10 ∷ []) }
+    ensures text { out.new.items ≡ out.old.items ++ (no_memory.text ++ 10 ∷ []) }
     ensures status { result ≡ 503 }
 {
-    out.put_slice(b"error OutOfMemory\n").unwrap();
+    put_refusal(out, Refusal::OutOfMemory);
     StatusCode::SERVICE_UNAVAILABLE
 }
 
 /// Replies that a body is not a command.
 fn refuse(out: &mut Rope) -> StatusCode
     requires { LAST_ROOM ≤ out.old.spare }
-    ensures text { out.new.items ≡ out.old.items ++ (bad_command ++ 10 ∷ []) }
+    ensures text { out.new.items ≡ out.old.items ++ (bad_command.text ++ 10 ∷ []) }
     ensures status { result ≡ 400 }
 {
-    out.put_slice(b"error BadCommand\n").unwrap();
+    put_refusal(out, Refusal::BadCommand);
     StatusCode::BAD_REQUEST
+}
+
+/// Appends a refusal, for which memory was reserved.
+fn put_refusal(out: &mut Rope, why: Refusal)
+    requires { length (refusal_text why) < out.old.spare }
+    ensures { out.new.items ≡ out.old.items ++ (refusal_text why ++ 10 ∷ []) }
+{
+    out.put_slice(b"error ").unwrap();
+    out.put_slice(why.name()).unwrap();
+    out.put_slice(b"\n").unwrap();
 }

@@ -15,7 +15,7 @@ use Rattle.site_metrics.specs.PeerValues.{peer_value}
 use Rattle.site_metrics.specs.declared.peer_value.PeerValue.{PeerValue}
 use Rattle.site_metrics.specs.declared.peer_value.PeerValue.TheVariants.{Applied, Buffering, Held, Receiving, Sending, Silent}
 use Rattle.site_metrics.specs.declared.peer_value.PeerValue.TheVariants.{Lines, Refused, Dropped, Waiting, WentBack}
-use Rattle.site_metrics.specs.Refusals.{refusal_names}
+use Rattle.refusals.specs.Refusals.{refusal_names}
 
 abbrev led : List (List ℕ) → List ℕ
 led lines = flat_map (λ (line : List ℕ). 10 ∷ line) lines

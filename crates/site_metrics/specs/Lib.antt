@@ -1,4 +1,3 @@
-pub mod Refusals
 pub mod Format
 pub mod Table
 pub mod PeerValues

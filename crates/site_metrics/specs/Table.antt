@@ -9,7 +9,7 @@ use Rattle.site_metrics.specs.declared.peer_value.PeerValue.{PeerValue}
 use Rattle.site_metrics.specs.declared.peer_value.PeerValue.TheVariants.{Applied, Buffering, Held, Receiving, Sending, Silent}
 use Rattle.site_metrics.specs.declared.peer_value.PeerValue.TheVariants.{Lines, Refused, Dropped, Waiting, WentBack}
 use Rattle.site_metrics.specs.Format.{Sample, Family, exposition}
-use Rattle.site_metrics.specs.Refusals.{refusal_names}
+use Rattle.refusals.specs.Refusals.{refusal_names}
 
 -- the word for a type
 abbrev pub kind_word : Kind → List ℕ

@@ -1,6 +1,6 @@
 //! The counters that threads share. Each is added to and read atomically, without a lock, so the values of several
 //! counters need not belong to one moment.
-use crate::refusals::{REFUSAL_COUNT, index_of, refusal_index};
+use refusals::{Answered, REFUSAL_COUNT, Refusal};
 use std::sync::atomic::{AtomicBool, AtomicU64, Ordering};
 
 /// How many clients may be connected at a time, each with a thread that counts its replies.
@@ -26,26 +26,21 @@ impl Counters {
         }
     }
 
-    /// Counts a reply of this writer, from 0 to `WRITERS` - 1, given with its line feed. Any other text is not counted.
-    /// Only one thread at a time may count for a writer.
-    pub fn note_reply(&self, writer: usize, line: &[u8]) {
-        let [reply @ .., b'\n'] = line else {
-            return;
-        };
+    /// Counts an answer of this writer, from 0 to `WRITERS` - 1. Only one thread at a time may count for a writer.
+    pub fn note_answer(&self, writer: usize, answered: Answered) {
         if let Some(commands) = self.commands.get(writer) {
             let count = commands.load(Ordering::Relaxed).wrapping_add(1);
             commands.store(count, Ordering::Release);
         }
-        if let Some(index) = refusal_index(reply) {
-            add(&self.refused[index], 1);
+        match answered {
+            Answered::Done => {}
+            Answered::Refused(why) => self.note_refused(why),
         }
     }
 
-    /// Counts a refusal by this name that no reply reports, as of a tick of the site's own.
-    pub fn note_refused(&self, name: &[u8]) {
-        if let Some(index) = index_of(name) {
-            add(&self.refused[index], 1);
-        }
+    /// Counts a refusal that no reply reports, as of a tick of the site's own.
+    pub fn note_refused(&self, why: Refusal) {
+        add(&self.refused[why.index()], 1);
     }
 
     /// How many commands were answered.
@@ -57,7 +52,7 @@ impl Counters {
         sum
     }
 
-    /// How many commands were refused, by the index of the refusal's name in `REFUSALS`.
+    /// How many commands were refused, by the refusal's place in `REFUSALS`.
     pub fn refused(&self) -> [u64; REFUSAL_COUNT] {
         let mut refused = [0; REFUSAL_COUNT];
         for index in 0..REFUSAL_COUNT {

@@ -2,20 +2,19 @@
 //! the counters behind them.
 //!
 //! The text is exact for the values that were read. What counters hold at a given moment is not proved: other threads
-//! may add to them at any time. What is proved is which refusal a reply reports, by `refusal_index`.
+//! may add to them at any time.
 #![tactic(auto)]
 
 mod counters;
 mod kind;
 mod metrics;
+mod names;
 mod peer_value;
-mod refusals;
 mod samples;
 mod text;
 mod unsent;
 
 pub use counters::{CLIENTS, Counters, PeerCounters, WRITERS};
 pub use metrics::{Metrics, PeerMetrics};
-pub use refusals::{REFUSAL_COUNT, REFUSALS, refusal_index};
 pub use text::{PEER_ROOM, SITE_ROOM, put_metrics};
 pub use unsent::unsent_numbers;

@@ -1,5 +1,5 @@
 //! The values that a site reports of itself and of its peers, as plain numbers.
-use crate::refusals::REFUSAL_COUNT;
+use refusals::REFUSAL_COUNT;
 use rights_types::SiteId;
 
 /// The values of a site at one moment.
@@ -33,7 +33,7 @@ pub struct Metrics {
     pub clients: u64,
     /// The commands that were answered, of all clients and of standard input.
     pub commands: u64,
-    /// How many of these were refused, by the index of the refusal's name in `REFUSALS`.
+    /// How many of these were refused, by the refusal's place in `REFUSALS`.
     pub refused: [u64; REFUSAL_COUNT],
     /// The log lines that were not written to standard error.
     pub log_lines_dropped: u64,

@@ -4,14 +4,15 @@ ghost use Rattle.std.specs.Prelude.{◌≡◌, ℕ, List, ◌++◌, ◌∷◌, [
 ghost use Rattle.std.specs.List.{zip};
 ghost use Rattle.site_metrics.specs.Format.{help_line, type_line, sample_line, led_lines};
 ghost use Rattle.site_metrics.specs.Table.{kind_word, family, alone, peer_sample, peer_metric, name_sample, by_name};
-ghost use Rattle.site_metrics.specs.Refusals.{refusal_names};
+ghost use Rattle.refusals.specs.Refusals.{refusal_names};
 ghost use Rattle.site_metrics.specs.PeerValues.{peer_value};
 
 use crate::kind::Kind;
 use crate::metrics::PeerMetrics;
+use crate::names::refusal_name;
 use crate::peer_value::PeerValue;
-use crate::refusals::{REFUSAL_COUNT, refusal_name};
 use line_streams::Replies;
+use refusals::REFUSAL_COUNT;
 use rights_types::OutOfMemory;
 use std::alloc::Allocator;
 

@@ -9,11 +9,11 @@ ghost use Rattle.site_metrics.specs.Table.{all_metrics, metrics_text, bit};
 use crate::kind::Kind;
 use crate::metrics::{Metrics, PeerMetrics};
 use crate::peer_value::PeerValue;
-use crate::refusals::REFUSAL_COUNT;
 use crate::samples::{
     HEAD_ROOM, SAMPLE_ROOM, put_alone, put_by_name, put_by_peer, put_head, put_value,
 };
 use line_streams::Replies;
+use refusals::REFUSAL_COUNT;
 use rights_types::OutOfMemory;
 use std::alloc::Allocator;
 

@@ -1,9 +1,12 @@
--- The text of each reply, without the line feed at its end.
+-- The text of each reply, without the line feed at its end, and how it answers a line.
 use Rattle.std.specs.Prelude.{ℕ, List, [], ◌∷◌, ◌++◌, decimal, codes, Result, Ok, Err}
 use Rattle.std.specs.List.{flat_map}
 use Rattle.request_queue.specs.declared.request.Request.{Request}
 use Rattle.site_core.specs.declared.fault.DeskError.{DeskError}
-use Rattle.reply_texts.specs.Texts.{number_text, spending_text, status_text, error_text, bad_deadline}
+use Rattle.refusals.specs.declared.answered.Answered.{Answered}
+use Rattle.refusals.specs.declared.answered.Answered.TheVariants.{Done, Refused as IsRefused}
+use Rattle.refusals.specs.declared.refusal.Refusal.TheVariants as refusal
+use Rattle.reply_texts.specs.Texts.{number_text, spending_text, status_text, error_text, bad_deadline, refusal_of}
 use Rattle.site_node.specs.declared.tick.Ticked.{Ticked}
 use Rattle.site_node.specs.declared.reply.Reply.{Reply}
 use Rattle.site_node.specs.declared.reply.Reply.TheVariants.{Number, Spending, Outcome, Refused, BadDeadline}
@@ -14,6 +17,12 @@ reply_text (Spending spending) = spending_text spending
 reply_text (Outcome status) = status_text status
 reply_text (Refused cause) = error_text cause
 reply_text BadDeadline = bad_deadline
+
+-- how a command with this reply is answered
+abbrev pub reply_answered : Reply → Answered
+reply_answered (Refused cause) = IsRefused (refusal_of cause)
+reply_answered BadDeadline = IsRefused refusal.BadDeadline
+reply_answered reply = Done
 
 -- a request that waits, as an object of JSON
 abbrev pub request_text : Request → List ℕ
@@ -47,3 +56,8 @@ ticked_text ticked sent =
 abbrev pub tick_text : Result (Ticked × ℕ) DeskError → List ℕ
 tick_text (Ok now) = ticked_text now.0 now.1
 tick_text (Err cause) = error_text cause
+
+-- how such a tick is answered
+abbrev pub tick_answered : Result (Ticked × ℕ) DeskError → Answered
+tick_answered (Ok now) = Done
+tick_answered (Err cause) = IsRefused (refusal_of cause)

@@ -1,12 +1,14 @@
 //! The texts of replies, without the line feed at their end.
 ghost use Rattle.std.specs.Prelude.{◌≡◌, ◌<◌, ◌≤◌, ◌++◌, length, decimal, OnOk, IsOk};
-ghost use Rattle.site_node.specs.Texts.{reply_text, ticked_text, tick_text};
+ghost use Rattle.site_node.specs.Texts.{reply_text, reply_answered, ticked_text, tick_text, tick_answered};
 
 use crate::reply::Reply;
 use crate::tick::Ticked;
 use line_streams::{MAX_DIGITS, Replies};
+use refusals::{Answered, Refusal};
 use reply_texts::{
     REPLY_ROOM, desk_error_name, put_bad_deadline, put_error, put_number, put_spending, put_status,
+    refusal_of,
 };
 use request_queue::Status;
 use rights_types::OutOfMemory;
@@ -31,6 +33,27 @@ pub(crate) fn put_reply<A: Allocator>(
         Reply::Outcome(status) => put_status(replies, status),
         Reply::Refused(cause) => put_error(replies, cause),
         Reply::BadDeadline => put_bad_deadline(replies),
+    }
+}
+
+/// How a command with this reply is answered.
+pub(crate) fn reply_answered(reply: Reply) -> Answered
+    ensures { result ≡ reply_answered reply }
+{
+    match reply {
+        Reply::Number(_) | Reply::Spending(_) | Reply::Outcome(_) => Answered::Done,
+        Reply::Refused(cause) => Answered::Refused(refusal_of(cause)),
+        Reply::BadDeadline => Answered::Refused(Refusal::BadDeadline),
+    }
+}
+
+/// How such a tick is answered.
+pub(crate) fn tick_answered(outcome: Result<(Ticked, u64), DeskError>) -> Answered
+    ensures { result ≡ tick_answered outcome }
+{
+    match outcome {
+        Ok(_) => Answered::Done,
+        Err(cause) => Answered::Refused(refusal_of(cause)),
     }
 }
 

@@ -5,6 +5,7 @@ use Rattle.http.specs.Request.{body_of}
 use Rattle.http_server.specs.Exchange.{Call, Chain}
 use Rattle.http_server.specs.declared.response.Response.{Response}
 use Rattle.line_streams.specs.Talk.{lines_of}
+use Rattle.refusals.specs.Refusals.{LineAnswer}
 use Rattle.apply_lanes.specs.Names.{DeskId}
 use Rattle.apply_lanes.specs.Kepts.{SeatValue}
 use Rattle.site_words.specs.declared.commands.SiteCommand.{SiteCommand}
@@ -34,18 +35,19 @@ use Rattle.site_server.proofs.SettleLaws.{keeps_told, cancel_keeps_told, waited_
 -- a line has turns, which lead from one value of the seat to another
 module _ {S : Type 0} (seat : S → SeatValue)
     (is_turn : Option SiteCommand → List ℕ → List Turn → Type 0) (answers : Answering S)
-    (one : (old : S) (line reply : List ℕ) (new : S) → answers old line reply new
-    → (turns : List Turn) × ((time : Option ℕ) × is_turn (asked time line) reply turns)
+    (one : (old : S) (line : List ℕ) (answer : LineAnswer) (new : S) → answers old line answer new
+    → (turns : List Turn) × ((time : Option ℕ) × is_turn (asked time line) answer.text turns)
     × HasTurns (seat old) turns (seat new)) where
-  pub turns_of_each : (old : S) (lines replies : List (List ℕ)) (new : S) → AnswersEach answers old lines replies new
-      → (turns : List Turn) × AreTurnsOf is_turn lines replies turns × HasTurns (seat old) turns (seat new)
-  turns_of_each old [] replies new h
-      = subst (λ (r : List (List ℕ)). (turns : List Turn) × AreTurnsOf is_turn [] r turns
+  pub turns_of_each : (old : S) (lines : List (List ℕ)) (given : List LineAnswer) (new : S)
+      → AnswersEach answers old lines given new
+      → (turns : List Turn) × AreTurnsOf is_turn lines given turns × HasTurns (seat old) turns (seat new)
+  turns_of_each old [] given new h
+      = subst (λ (r : List LineAnswer). (turns : List Turn) × AreTurnsOf is_turn [] r turns
       × HasTurns (seat old) turns (seat new)) (sym h.0) ([], refl, ap seat h.1)
-  turns_of_each old (line ∷ lines) replies new h =
+  turns_of_each old (line ∷ lines) given new h =
       let first = one old line h.0 h.1 h.3 in
       let rest = turns_of_each h.1 lines h.2 new h.4 in
-      subst (λ (r : List (List ℕ)). (turns : List Turn) × AreTurnsOf is_turn (line ∷ lines) r turns
+      subst (λ (r : List LineAnswer). (turns : List Turn) × AreTurnsOf is_turn (line ∷ lines) r turns
       × HasTurns (seat old) turns (seat new)) (sym h.5) (
         first.0 ++ rest.0,
         (first.0, rest.0, first.1, rest.1, refl),
@@ -53,23 +55,23 @@ module _ {S : Type 0} (seat : S → SeatValue)
       )
 
   -- the lines of a body, as far as they were carried out
-  pub turns_of_body : (old : S) (lines replies : List (List ℕ)) (code : ℕ) (r : Response) (new : S)
-      → RepliesTo answers old lines code replies new → r.body.items ≡ text_of replies
+  pub turns_of_body : (old : S) (lines : List (List ℕ)) (given : List LineAnswer) (code : ℕ) (r : Response) (new : S)
+      → RepliesTo answers old lines code given new → r.body.items ≡ text_of given
       → (turns : List Turn) × AreBodyTurns is_turn lines r turns × HasTurns (seat old) turns (seat new)
-  turns_of_body old lines replies code r new (inl all) body =
-      let found = turns_of_each old lines replies new all.each in (
+  turns_of_body old lines given code r new (inl all) body =
+      let found = turns_of_each old lines given new all.each in (
         found.0,
         record {
           carried = lines;
           left = [];
           parted = sym (append-nil lines);
-          replies = replies;
+          given = given;
           are_turns = found.1;
           replied = inl body;
         },
         found.2,
       )
-  turns_of_body old lines replies code r new (inr stop) body =
+  turns_of_body old lines given code r new (inr stop) body =
       let some = stop.some in
       let found = turns_of_each old some.done stop.given new some.each in (
         found.0,
@@ -77,7 +79,7 @@ module _ {S : Type 0} (seat : S → SeatValue)
           carried = some.done;
           left = some.line ∷ some.left;
           parted = some.parted;
-          replies = stop.given;
+          given = stop.given;
           are_turns = found.1;
           replied = inr (body ∙ ap text_of stop.told);
         },
@@ -85,13 +87,13 @@ module _ {S : Type 0} (seat : S → SeatValue)
       )
 
   -- the same if there must be one line
-  pub turns_of_one : (old : S) (lines replies : List (List ℕ)) (code : ℕ) (r : Response) (new : S)
-      → RepliesToOne answers old lines code replies new → r.body.items ≡ text_of replies
+  pub turns_of_one : (old : S) (lines : List (List ℕ)) (given : List LineAnswer) (code : ℕ) (r : Response) (new : S)
+      → RepliesToOne answers old lines code given new → r.body.items ≡ text_of given
       → (turns : List Turn) × (AreBodyTurns is_turn lines r turns ⊎ (turns ≡ [])) × HasTurns (seat old) turns (seat new)
-  turns_of_one old [] replies code r new h body = ([], inr refl, ap seat h.2)
-  turns_of_one old (line ∷ []) replies code r new h body =
-      let found = turns_of_body old (line ∷ []) replies code r new h body in (found.0, inl found.1, found.2)
-  turns_of_one old (line ∷ next ∷ lines) replies code r new h body = ([], inr refl, ap seat h.2)
+  turns_of_one old [] given code r new h body = ([], inr refl, ap seat h.2)
+  turns_of_one old (line ∷ []) given code r new h body =
+      let found = turns_of_body old (line ∷ []) given code r new h body in (found.0, inl found.1, found.2)
+  turns_of_one old (line ∷ next ∷ lines) given code r new h body = ([], inr refl, ap seat h.2)
 
 settled_text : (HasEnded HasLeft : Type 0) (id : DeskId) (seat : SeatedValue) (reply settled : Reply) (now : SeatedValue)
     (text : List ℕ)
@@ -120,73 +122,73 @@ settled_told HasEnded HasLeft id was BadDeadline settled now h = ap (λ (s : Sea
 
 module _ {P : Type 0} (size : P → ℕ) (sends : P → ℕ → ℕ → P → Type 0)
     (stops : P → ℕ → P → Type 0) (id : DeskId) where
-  tells_turns : (command : Option SiteCommand) (was : SeatedValue) (before : P) (text : List ℕ)
+  tells_turns : (command : Option SiteCommand) (was : SeatedValue) (before : P) (answer : LineAnswer)
       (now : SeatedValue) (after : P)
-      → Tells size sends stops id command was before text now after
-      → (turns : List Turn) × IsTurn command text turns × HasTurns was.told turns now.told
-  tells_turns None was before text now after h = turns_of_line size sends stops id None was before text now after h
-  tells_turns (Some (AtDesk command)) was before text now after h
-      = turns_of_line size sends stops id (Some (AtDesk command)) was before text now after h
-  tells_turns (Some (Tick time)) was before text now after h
-      = turns_of_line size sends stops id (Some (Tick time)) was before text now after h
-  tells_turns (Some RefusedTick) was before text now after h
-      = turns_of_line size sends stops id (Some RefusedTick) was before text now after h
-  tells_turns (Some Queue) was before text now after h
-      = turns_of_line size sends stops id (Some Queue) was before text now after h
-  tells_turns (Some Status) was before text now after h
-      = turns_of_line size sends stops id (Some Status) was before text now after h
-  tells_turns (Some Quit) was before text now after h = ([], refl, ap (λ (s : SeatedValue). s.told) h.1)
+      → Tells size sends stops id command was before answer now after
+      → (turns : List Turn) × IsTurn command answer.text turns × HasTurns was.told turns now.told
+  tells_turns None was before answer now after h = turns_of_line size sends stops id None was before answer now after h
+  tells_turns (Some (AtDesk command)) was before answer now after h
+      = turns_of_line size sends stops id (Some (AtDesk command)) was before answer now after h
+  tells_turns (Some (Tick time)) was before answer now after h
+      = turns_of_line size sends stops id (Some (Tick time)) was before answer now after h
+  tells_turns (Some RefusedTick) was before answer now after h
+      = turns_of_line size sends stops id (Some RefusedTick) was before answer now after h
+  tells_turns (Some Queue) was before answer now after h
+      = turns_of_line size sends stops id (Some Queue) was before answer now after h
+  tells_turns (Some Status) was before answer now after h
+      = turns_of_line size sends stops id (Some Status) was before answer now after h
+  tells_turns (Some Quit) was before answer now after h = ([], refl, ap (λ (s : SeatedValue). s.told) h.1)
 
-  settled_turns : (HasEnded HasLeft : Type 0) (command : Option SiteCommand) (was : SeatedValue) (before : P) (text : List ℕ)
+  settled_turns : (HasEnded HasLeft : Type 0) (command : Option SiteCommand) (was : SeatedValue) (before : P) (answer : LineAnswer)
       (now : SeatedValue) (after : P)
-      → TellsSettled size sends stops HasEnded HasLeft id command was before text now after
-      → (turns : List Turn) × IsSettledTurn command text turns × HasTurns was.told turns now.told
-  settled_turns HasEnded HasLeft None was before text now after h = tells_turns None was before text now after h
-  settled_turns HasEnded HasLeft (Some (AtDesk command)) was before text now after h =
+      → TellsSettled size sends stops HasEnded HasLeft id command was before answer now after
+      → (turns : List Turn) × IsSettledTurn command answer.text turns × HasTurns was.told turns now.told
+  settled_turns HasEnded HasLeft None was before answer now after h = tells_turns None was before answer now after h
+  settled_turns HasEnded HasLeft (Some (AtDesk command)) was before answer now after h =
       let c = h.0 in (
         ACommand command c.reply ∷ [],
-        (c.reply, refl, settled_text HasEnded HasLeft id c.half c.reply c.settled now text c.settles c.says),
+        (c.reply, refl, settled_text HasEnded HasLeft id c.half c.reply c.settled now answer.text c.settles c.says),
         (c.half.told, (c.at_desk.old, c.at_desk.new, c.at_desk.acts), settled_told HasEnded HasLeft id c.half c.reply c.settled now c.settles),
       )
-  settled_turns HasEnded HasLeft (Some (Tick time)) was before text now after h
-      = tells_turns (Some (Tick time)) was before text now after h
-  settled_turns HasEnded HasLeft (Some RefusedTick) was before text now after h
-      = tells_turns (Some RefusedTick) was before text now after h
-  settled_turns HasEnded HasLeft (Some Queue) was before text now after h
-      = tells_turns (Some Queue) was before text now after h
-  settled_turns HasEnded HasLeft (Some Status) was before text now after h
-      = tells_turns (Some Status) was before text now after h
-  settled_turns HasEnded HasLeft (Some Quit) was before text now after h = tells_turns (Some Quit) was before text now after h
+  settled_turns HasEnded HasLeft (Some (Tick time)) was before answer now after h
+      = tells_turns (Some (Tick time)) was before answer now after h
+  settled_turns HasEnded HasLeft (Some RefusedTick) was before answer now after h
+      = tells_turns (Some RefusedTick) was before answer now after h
+  settled_turns HasEnded HasLeft (Some Queue) was before answer now after h
+      = tells_turns (Some Queue) was before answer now after h
+  settled_turns HasEnded HasLeft (Some Status) was before answer now after h
+      = tells_turns (Some Status) was before answer now after h
+  settled_turns HasEnded HasLeft (Some Quit) was before answer now after h = tells_turns (Some Quit) was before answer now after h
 
   module _ {B : Type 0} (has_ended has_left : B → Type 0) (shows : B → Option ℕ → Type 0) where
     -- the command of a line had this effect
-    pub answers_line : (waits : Bool) (command : Option SiteCommand) (line text : List ℕ) (old new : ClientValue P B)
+    pub answers_line : (waits : Bool) (command : Option SiteCommand) (line : List ℕ) (answer : LineAnswer) (old new : ClientValue P B)
         → (time : Option ℕ) × shows old.signal time × (command ≡ asked time line)
-        → TellsBy size sends stops waits (has_ended old.signal) (has_left old.signal) id command old.seat old.peers text
+        → TellsBy size sends stops waits (has_ended old.signal) (has_left old.signal) id command old.seat old.peers answer
         new.seat new.peers
-        → Answers size sends stops has_ended has_left shows id waits old line text new
-    answers_line waits command line text old new spelled h =
+        → Answers size sends stops has_ended has_left shows id waits old line answer new
+    answers_line waits command line answer old new spelled h =
         record {
           time = spelled.0;
           shown = spelled.1;
           tells = subst (λ (c : Option SiteCommand). TellsBy size sends stops waits (has_ended old.signal) (has_left old.signal)
-              id c old.seat old.peers text new.seat new.peers) spelled.2 h;
+              id c old.seat old.peers answer new.seat new.peers) spelled.2 h;
         }
 
-    one : (old : ClientValue P B) (line reply : List ℕ) (new : ClientValue P B)
-        → Answers size sends stops has_ended has_left shows id false old line reply new
-        → (turns : List Turn) × ((time : Option ℕ) × IsTurn (asked time line) reply turns)
+    one : (old : ClientValue P B) (line : List ℕ) (answer : LineAnswer) (new : ClientValue P B)
+        → Answers size sends stops has_ended has_left shows id false old line answer new
+        → (turns : List Turn) × ((time : Option ℕ) × IsTurn (asked time line) answer.text turns)
         × HasTurns old.seat.told turns new.seat.told
-    one old line reply new h =
-        let found = tells_turns (asked h.time line) old.seat old.peers reply new.seat new.peers h.tells in
+    one old line answer new h =
+        let found = tells_turns (asked h.time line) old.seat old.peers answer new.seat new.peers h.tells in
         (found.0, (h.time, found.1), found.2)
 
-    one_settled : (old : ClientValue P B) (line reply : List ℕ) (new : ClientValue P B)
-        → Answers size sends stops has_ended has_left shows id true old line reply new
-        → (turns : List Turn) × ((time : Option ℕ) × IsSettledTurn (asked time line) reply turns)
+    one_settled : (old : ClientValue P B) (line : List ℕ) (answer : LineAnswer) (new : ClientValue P B)
+        → Answers size sends stops has_ended has_left shows id true old line answer new
+        → (turns : List Turn) × ((time : Option ℕ) × IsSettledTurn (asked time line) answer.text turns)
         × HasTurns old.seat.told turns new.seat.told
-    one_settled old line reply new h =
-        let found = settled_turns (has_ended old.signal) (has_left old.signal) (asked h.time line) old.seat old.peers reply new.seat new.peers
+    one_settled old line answer new h =
+        let found = settled_turns (has_ended old.signal) (has_left old.signal) (asked h.time line) old.seat old.peers answer new.seat new.peers
         h.tells in (found.0, (h.time, found.1), found.2)
 
     turns_of_route : (old : ClientValue P B) (route : Route) (body : List ℕ) (r : Response) (new : ClientValue P B)
@@ -195,10 +197,10 @@ module _ {P : Type 0} (size : P → ℕ) (sends : P → ℕ → ℕ → P → Ty
         → (turns : List Turn) × AreRouteTurns route body r turns × HasTurns old.seat.told turns new.seat.told
     turns_of_route old Commands body r new h =
         turns_of_body (λ c. c.seat.told) IsTurn (Answers size sends stops has_ended has_left shows id false) one old
-        (lines_of body) h.replies h.code r new h.replied h.response.body
+        (lines_of body) h.given h.code r new h.replied h.response.body
     turns_of_route old Wait body r new h =
         turns_of_one (λ c. c.seat.told) IsSettledTurn (Answers size sends stops has_ended has_left shows id true) one_settled old
-        (lines_of body) h.replies h.code r new h.replied h.response.body
+        (lines_of body) h.given h.code r new h.replied h.response.body
     turns_of_route old Shows body r new h = ([], refl, ap (λ (c : ClientValue P B). c.seat.told) h.1)
     turns_of_route old ShowsQueue body r new h = ([], refl, ap (λ (c : ClientValue P B). c.seat.told) h.1)
     turns_of_route old Metrics body r new h = ([], refl, ap (λ (c : ClientValue P B). c.seat.told) h.1)

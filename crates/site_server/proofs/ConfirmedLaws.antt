@@ -11,6 +11,8 @@ use Rattle.line_streams.specs.declared.handler.EndedBy.{EndedBy}
 use Rattle.line_streams.specs.declared.handler.EndedBy.TheVariants.{Input, Handler}
 use Rattle.line_streams.specs.declared.handler.Goes.{Goes}
 use Rattle.line_streams.specs.declared.handler.Goes.TheVariants.{On, Ends}
+use Rattle.refusals.specs.Refusals.{LineAnswer}
+use Rattle.refusals.specs.declared.answered.Answered.{Answered}
 use Rattle.apply_lanes.specs.Names.{DeskId}
 use Rattle.apply_lanes.specs.Kepts.{SeatValue}
 use Rattle.site_words.specs.declared.commands.SiteCommand.{SiteCommand}
@@ -21,7 +23,7 @@ use Rattle.desk_turns.specs.Seated.{SeatedValue}
 use Rattle.site_core.specs.declared.fault.DeskError.{DeskError}
 use Rattle.site_node.specs.Texts.{tick_text}
 use Rattle.site_node.specs.declared.tick.Ticked.{Ticked}
-use Rattle.site_server.specs.Replying.{asked, ThenSends, Says, Gets, GetsBy, GetsLine}
+use Rattle.site_server.specs.Replying.{asked, goes_by, ThenSends, Says, Gets, GetsBy, GetsLine}
 use Rattle.site_server.specs.Conversations.{TellsTick, IsTurn, AreTurns, CountsReplies}
 
 pub both : (was half now : SeatValue) (first rest : List Turn) → HasTurns was first half → HasTurns half rest now
@@ -41,27 +43,27 @@ module _ {P : Type 0} (size : P → ℕ) (sends : P → ℕ → ℕ → P → Ty
   tells_tick before after (Err fault) result text h says = says ∙ ap tick_text h.0
 
   -- one line
-  pub turns_of_line : (command : Option SiteCommand) (was : SeatedValue) (before : P) (text : List ℕ)
+  pub turns_of_line : (command : Option SiteCommand) (was : SeatedValue) (before : P) (answer : LineAnswer)
       (now : SeatedValue) (after : P)
-      → Says size sends stops id command was before text now after
-      → (turns : List Turn) × IsTurn command text turns × HasTurns was.told turns now.told
-  turns_of_line None was before text now after h = ([], refl, ap (λ (s : SeatedValue). s.told) h.1)
-  turns_of_line (Some (AtDesk command)) was before text now after h =
+      → Says size sends stops id command was before answer now after
+      → (turns : List Turn) × IsTurn command answer.text turns × HasTurns was.told turns now.told
+  turns_of_line None was before answer now after h = ([], refl, ap (λ (s : SeatedValue). s.told) h.1)
+  turns_of_line (Some (AtDesk command)) was before answer now after h =
       let c = h.0 in (
         ACommand command c.reply ∷ [],
         (c.reply, refl, c.says),
         (now.told, (c.at_desk.old, c.at_desk.new, c.at_desk.acts), refl),
       )
-  turns_of_line (Some (Tick time)) was before text now after h =
+  turns_of_line (Some (Tick time)) was before answer now after h =
       let t = h.does.at_desk in (
         ATick time t.does.served h.does.ticked ∷ [],
-        (t.does.served, h.does.ticked, refl, tells_tick before after h.does.ticked h.result text h.does.then_sends h.says),
+        (t.does.served, h.does.ticked, refl, tells_tick before after h.does.ticked h.result answer.text h.does.then_sends h.says),
         (now.told, (t.old, t.new, t.does.ticks), refl),
       )
-  turns_of_line (Some RefusedTick) was before text now after h = ([], refl, ap (λ (s : SeatedValue). s.told) h.1)
-  turns_of_line (Some Queue) was before text now after h = ([], refl, ap (λ (s : SeatedValue). s.told) h.1)
-  turns_of_line (Some Status) was before text now after h = ([], refl, ap (λ (s : SeatedValue). s.told) h.1)
-  turns_of_line (Some Quit) was before text now after h = absurd h
+  turns_of_line (Some RefusedTick) was before answer now after h = ([], refl, ap (λ (s : SeatedValue). s.told) h.1)
+  turns_of_line (Some Queue) was before answer now after h = ([], refl, ap (λ (s : SeatedValue). s.told) h.1)
+  turns_of_line (Some Status) was before answer now after h = ([], refl, ap (λ (s : SeatedValue). s.told) h.1)
+  turns_of_line (Some Quit) was before answer now after h = absurd h
 
   module _ {S : Type 0} (seat : S → SeatedValue) (peers : S → P) (shows : S → Option ℕ → Type 0) where
     -- the replies of a handler with such a seat, such peers and such a clock, and its state after a memory refusal
@@ -85,18 +87,30 @@ module _ {P : Type 0} (size : P → ℕ) (sends : P → ℕ → ℕ → P → Ty
         }
 
     -- the command of a line had this effect
-    pub line_gets : (goes : Goes) (command : Option SiteCommand) (line : List ℕ) (old new : S) (waits waits' : Waiting)
-        → (time : Option ℕ) × shows old time × (command ≡ asked time line)
-        → GetsBy size sends stops goes id command (seat old) (peers old) waits (seat new) (peers new) waits'
-        → LineGets Answers goes old line new waits waits'
-    line_gets On command line old new waits waits' spelled h = (h.0, gets_line command line old (Some h.0) new spelled h.1, h.2)
-    line_gets Ends command line old new waits waits' spelled h = (gets_line command line old None new spelled h.0, h.1, h.2)
+    answer_gets : (how : Option Answered) (command : Option SiteCommand) (line : List ℕ) (old new : S)
+        (waits waits' : Waiting) → (time : Option ℕ) × shows old time × (command ≡ asked time line)
+        → GetsBy size sends stops how id command (seat old) (peers old) waits (seat new) (peers new) waits'
+        → LineGets Answers (goes_by how) old line new waits waits'
+    answer_gets (Some how) command line old new waits waits' spelled h =
+        (h.0, gets_line command line old (Some h.0) new spelled (how, h.1), h.2)
+    answer_gets None command line old new waits waits' spelled h =
+        (gets_line command line old None new spelled h.0, h.1, h.2)
+
+    pub line_gets : (how : Option Answered) (goes : Goes) (command : Option SiteCommand) (line : List ℕ) (old new : S)
+        (waits waits' : Waiting) → (time : Option ℕ) × shows old time × (command ≡ asked time line)
+        → GetsBy size sends stops how id command (seat old) (peers old) waits (seat new) (peers new) waits'
+        → goes ≡ goes_by how → LineGets Answers goes old line new waits waits'
+    line_gets how goes command line old new waits waits' spelled h goes_on =
+        subst (λ (g : Goes). LineGets Answers g old line new waits waits') (sym goes_on)
+        (answer_gets how command line old new waits waits' spelled h)
 
     turns_of : (start : S) (lines : List (List ℕ)) (text : List ℕ) (state : S) → LinesGet Answers start lines text state
         → (turns : List Turn) × AreTurns lines text turns × HasTurns (seat start).told turns (seat state).told
     turns_of start [] text state h = ([], (h.0, refl), ap (λ s. (seat s).told) h.1)
     turns_of start (line ∷ lines) text state h =
-        let first = turns_of_line (asked h.3.time line) (seat start) (peers start) h.0 (seat h.1) (peers h.1) h.3.gets in
+        let answer : LineAnswer = record { text = h.0; how = h.3.gets.0 } in
+        let first = turns_of_line (asked h.3.time line) (seat start) (peers start) answer (seat h.1) (peers h.1)
+        h.3.gets.1 in
         let rest = turns_of h.1 lines h.2 state h.4 in (
           first.0 ++ rest.0,
           (h.0, h.2, first.0, rest.0, (h.3.time, first.1), rest.1, h.5, refl),

@@ -1,4 +1,4 @@
--- The reply to each line of a client at a running site, and its effect on the client's seat and on the peers.
+-- The answer to each line of a client at a running site, and its effect on the client's seat and on the peers.
 use Rattle.std.specs.Prelude.{◌≡◌, ℕ, ◌-◌, nat_le, Bool, false, List, [], ◌∷◌, length, take, Option, Some, None, Result, Ok, Err}
 use Rattle.std.specs.Prelude.{if◌then◌else◌}
 use Rattle.rights_types.specs.declared.limits.TheConstants.{MAX_LINE}
@@ -13,7 +13,10 @@ use Rattle.apply_lanes.specs.Views.{IsViewOf}
 use Rattle.line_streams.specs.Waiting.{Waiting, AddsReply}
 use Rattle.line_streams.specs.declared.handler.Goes.{Goes}
 use Rattle.line_streams.specs.declared.handler.Goes.TheVariants.{On, Ends}
-use Rattle.reply_texts.specs.Texts.{bad_command, own_clock}
+use Rattle.refusals.specs.Refusals.{LineAnswer, IsRefusedFor}
+use Rattle.refusals.specs.declared.answered.Answered.{Answered}
+use Rattle.refusals.specs.declared.answered.Answered.TheVariants.{Done}
+use Rattle.refusals.specs.declared.refusal.Refusal.TheVariants.{BadCommand, OwnClock}
 use Rattle.site_words.specs.Commands.{command_of}
 use Rattle.site_words.specs.Status.{status_text}
 use Rattle.site_words.specs.declared.commands.DeskCommand.{DeskCommand}
@@ -22,7 +25,7 @@ use Rattle.site_words.specs.declared.commands.SiteCommand.TheVariants.{AtDesk, T
 use Rattle.site_words.specs.declared.status_object.PeerView.{PeerView}
 use Rattle.site_sockets.specs.declared.peer.PeerState.{PeerState}
 use Rattle.desk_turns.specs.Seated.{SeatedValue, ActsAtDesk, TicksAtDesk}
-use Rattle.site_node.specs.Texts.{reply_text, tick_text, queue_text}
+use Rattle.site_node.specs.Texts.{reply_text, reply_answered, tick_text, tick_answered, queue_text}
 use Rattle.site_node.specs.ToPeers.{SendsToFirst, StopsAtPeer}
 use Rattle.site_node.specs.declared.reply.Reply.{Reply}
 use Rattle.site_node.specs.declared.tick.Ticked.{Ticked}
@@ -34,12 +37,13 @@ asked time line = if nat_le (length line) MAX_LINE then command_of time (take (l
 
 -- ---- replies
 
--- in one turn, the desk carried out the command, and this is the text of the reply
-pub record CarriesOut (id : DeskId) (was : SeatedValue) (command : DeskCommand) (text : List ℕ)
+-- in one turn, the desk carried out the command, and this answer tells its reply
+pub record CarriesOut (id : DeskId) (was : SeatedValue) (command : DeskCommand) (answer : LineAnswer)
     (now : SeatedValue) : Type 0 where
   pub reply : Reply
   pub at_desk : ActsAtDesk id was command reply now
-  pub says : text ≡ reply_text reply
+  pub says : answer.text ≡ reply_text reply
+  pub how : answer.how ≡ reply_answered reply
 
 -- this value is how far the desk applied that peer's log
 abbrev pub IsApplied : DeskValue → PeerView → Type 0
@@ -72,6 +76,16 @@ pub record TellsQueue (id : DeskId) (text : List ℕ) : Type 0 where
   pub valid : IsKept id kept
   pub says : text ≡ queue_text kept.desk.queue.waiting (length kept.desk.queue.outcomes)
 
+-- the conversation continues after a line that was answered
+abbrev pub goes_by : Option Answered → Goes
+goes_by (Some how) = On
+goes_by None = Ends
+
+-- the answer is a text that the site reports
+pub record IsReportOf (says : List ℕ → Type 0) (answer : LineAnswer) : Type 0 where
+  pub text : says answer.text
+  pub how : answer.how ≡ Done
+
 module _ {P : Type 0} (size : P → ℕ) (sends : P → ℕ → ℕ → P → Type 0)
     (stops : P → ℕ → P → Type 0) where
   -- after a tick at the desk every peer is sent what is due to it, or each one before that for which memory ran out;
@@ -90,28 +104,30 @@ module _ {P : Type 0} (size : P → ℕ) (sends : P → ℕ → ℕ → P → Ty
     pub at_desk : TicksAtDesk silent id was time ticked now
     pub then_sends : ThenSends ticked before result after
 
-  -- the same with no site silent, and this is the text of the reply
-  pub record DoesDue (id : DeskId) (was : SeatedValue) (before : P) (time : ℕ) (text : List ℕ) (now : SeatedValue)
+  -- the same with no site silent, and this answer tells the result
+  pub record DoesDue (id : DeskId) (was : SeatedValue) (before : P) (time : ℕ) (answer : LineAnswer) (now : SeatedValue)
       (after : P) : Type 0 where
     pub result : Result (Ticked × ℕ) DeskError
     pub does : TicksAndSends (λ j. false) id was before time result now after
-    pub says : text ≡ tick_text result
+    pub says : answer.text ≡ tick_text result
+    pub how : answer.how ≡ tick_answered result
 
   -- ---- lines
 
-  -- the reply to a line, and its effect on the seat and the peers; `quit` has no reply
-  abbrev pub Says : DeskId → Option SiteCommand → SeatedValue → P → List ℕ → SeatedValue → P → Type 0
-  Says id None was before text now after = (text ≡ bad_command) × (now ≡ was) × (after ≡ before)
-  Says id (Some (AtDesk command)) was before text now after = CarriesOut id was command text now × (after ≡ before)
-  Says id (Some (Tick time)) was before text now after = DoesDue id was before time text now after
-  Says id (Some RefusedTick) was before text now after = (text ≡ own_clock) × (now ≡ was) × (after ≡ before)
-  Says id (Some Queue) was before text now after = TellsQueue id text × (now ≡ was) × (after ≡ before)
-  Says id (Some Status) was before text now after = TellsStatus id text × (now ≡ was) × (after ≡ before)
-  Says id (Some Quit) was before text now after = ⊥
+  -- the answer to a line, and its effect on the seat and the peers; `quit` has no answer
+  abbrev pub Says : DeskId → Option SiteCommand → SeatedValue → P → LineAnswer → SeatedValue → P → Type 0
+  Says id None was before answer now after = IsRefusedFor BadCommand answer × (now ≡ was) × (after ≡ before)
+  Says id (Some (AtDesk command)) was before answer now after = CarriesOut id was command answer now × (after ≡ before)
+  Says id (Some (Tick time)) was before answer now after = DoesDue id was before time answer now after
+  Says id (Some RefusedTick) was before answer now after = IsRefusedFor OwnClock answer × (now ≡ was) × (after ≡ before)
+  Says id (Some Queue) was before answer now after = IsReportOf (TellsQueue id) answer × (now ≡ was) × (after ≡ before)
+  Says id (Some Status) was before answer now after = IsReportOf (TellsStatus id) answer × (now ≡ was) × (after ≡ before)
+  Says id (Some Quit) was before answer now after = ⊥
 
-  -- `quit` ends the conversation, and no other line does
+  -- .. by the text of the reply; `quit` ends the conversation, and no other line does
   abbrev pub Gets : DeskId → Option SiteCommand → SeatedValue → P → Option (List ℕ) → SeatedValue → P → Type 0
-  Gets id command was before (Some text) now after = Says id command was before text now after
+  Gets id command was before (Some text) now after =
+      (how : Answered) × Says id command was before (record { text = text; how = how }) now after
   Gets id command was before None now after = (command ≡ Some Quit) × (now ≡ was) × (after ≡ before)
 
   -- the same for a line, by the command that it spells at a time that the site's own clock may show
@@ -121,9 +137,11 @@ module _ {P : Type 0} (size : P → ℕ) (sends : P → ℕ → ℕ → P → Ty
     pub shown : shows time
     pub gets : Gets id (asked time line) was before text now after
 
-  -- the same, for replies that wait to be written
-  abbrev pub GetsBy : Goes → DeskId → Option SiteCommand → SeatedValue → P → Waiting → SeatedValue → P → Waiting → Type 0
-  GetsBy On id command was before waits now after waits' =
-      (text : List ℕ) × Gets id command was before (Some text) now after × AddsReply waits waits' text
-  GetsBy Ends id command was before waits now after waits' =
+  -- the same for a command and replies that wait to be written, by how the line was answered, if it was
+  abbrev pub GetsBy : Option Answered → DeskId → Option SiteCommand → SeatedValue → P → Waiting → SeatedValue → P
+      → Waiting → Type 0
+  GetsBy (Some how) id command was before waits now after waits' =
+      (text : List ℕ) × Says id command was before (record { text = text; how = how }) now after
+      × AddsReply waits waits' text
+  GetsBy None id command was before waits now after waits' =
       Gets id command was before None now after × (waits'.whole ≡ waits.whole) × (waits'.part ≡ [])

@@ -5,6 +5,7 @@ use Rattle.http.specs.Request.{body_of}
 use Rattle.http_server.specs.Exchange.{Call}
 use Rattle.http_server.specs.declared.response.Response.{Response}
 use Rattle.line_streams.specs.Talk.{lines_of}
+use Rattle.refusals.specs.Refusals.{LineAnswer}
 use Rattle.site_core.specs.declared.desk.requests.Spending.TheVariants.{Queued}
 use Rattle.apply_lanes.specs.Kepts.{SeatValue}
 use Rattle.site_words.specs.declared.commands.SiteCommand.{SiteCommand}
@@ -31,14 +32,14 @@ IsSettledTurn (Some (AtDesk command)) text turns =
 IsSettledTurn command text turns = IsTurn command text turns
 
 module _ (is_turn : Option SiteCommand → List ℕ → List Turn → Type 0) where
-  -- the turns of these lines with these replies
-  abbrev pub AreTurnsOf : List (List ℕ) → List (List ℕ) → List Turn → Type 0
+  -- the turns of these lines with these answers
+  abbrev pub AreTurnsOf : List (List ℕ) → List LineAnswer → List Turn → Type 0
   AreTurnsOf [] [] turns = turns ≡ []
-  AreTurnsOf (line ∷ lines) (reply ∷ replies) turns =
+  AreTurnsOf (line ∷ lines) (answer ∷ given) turns =
       (first : List Turn) × (rest : List Turn)
-      × ((time : Option ℕ) × is_turn (asked time line) reply first) × AreTurnsOf lines replies rest
+      × ((time : Option ℕ) × is_turn (asked time line) answer.text first) × AreTurnsOf lines given rest
       × (turns ≡ first ++ rest)
-  AreTurnsOf lines replies turns = ⊥
+  AreTurnsOf lines given turns = ⊥
 
   -- the first of these lines were carried out, and the response has their replies; after them at most a refusal for
   -- lack of memory
@@ -46,9 +47,9 @@ module _ (is_turn : Option SiteCommand → List ℕ → List Turn → Type 0) wh
     pub carried : List (List ℕ)
     pub left : List (List ℕ)
     pub parted : lines ≡ carried ++ left
-    pub replies : List (List ℕ)
-    pub are_turns : AreTurnsOf carried replies turns
-    pub replied : (r.body.items ≡ text_of replies) ⊎ (r.body.items ≡ text_of (replies ++ no_memory ∷ []))
+    pub given : List LineAnswer
+    pub are_turns : AreTurnsOf carried given turns
+    pub replied : (r.body.items ≡ text_of given) ⊎ (r.body.items ≡ text_of (given ++ no_memory ∷ []))
 
 -- the turns of a request and its response, by its route
 abbrev pub AreRouteTurns : Route → List ℕ → Response → List Turn → Type 0

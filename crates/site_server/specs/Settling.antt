@@ -3,9 +3,10 @@ use Rattle.std.specs.Prelude.{◌≡◌, ◌⊎◌, ℕ, suc, zero, Bool, true, 
 use Rattle.request_queue.specs.declared.request.Status.TheVariants.{Waiting}
 use Rattle.site_core.specs.declared.desk.requests.Spending.TheVariants.{Queued}
 use Rattle.apply_lanes.specs.Names.{DeskId}
+use Rattle.refusals.specs.Refusals.{LineAnswer}
 use Rattle.site_words.specs.declared.commands.DeskCommand.{DeskCommand}
 use Rattle.site_words.specs.declared.commands.DeskCommand.TheVariants.{Outcome as AsksOutcome, Cancel as Cancels}
-use Rattle.site_node.specs.Texts.{reply_text}
+use Rattle.site_node.specs.Texts.{reply_text, reply_answered}
 use Rattle.site_node.specs.declared.reply.Reply.{Reply}
 use Rattle.site_node.specs.declared.reply.Reply.TheVariants.{Spending, Outcome}
 use Rattle.desk_turns.specs.Seated.{SeatedValue, ActsAtDesk}
@@ -61,12 +62,13 @@ Settles HasEnded HasLeft id was (Spending (Queued ticket)) settled now =
     ⊎ EndsWait HasLeft id was ticket settled now
 Settles HasEnded HasLeft id was reply settled now = (settled ≡ reply) × (now ≡ was)
 
--- the desk carried out the command in one turn, and this is the text of what the client finally gets
-pub record SettlesCommand (HasEnded HasLeft : Type 0) (id : DeskId) (was : SeatedValue) (command : DeskCommand) (text : List ℕ)
-    (now : SeatedValue) : Type 0 where
+-- the desk carried out the command in one turn, and this answer tells what the client finally gets
+pub record SettlesCommand (HasEnded HasLeft : Type 0) (id : DeskId) (was : SeatedValue) (command : DeskCommand)
+    (answer : LineAnswer) (now : SeatedValue) : Type 0 where
   pub reply : Reply
   pub settled : Reply
   pub half : SeatedValue
   pub at_desk : ActsAtDesk id was command reply half
   pub settles : Settles HasEnded HasLeft id half reply settled now
-  pub says : text ≡ reply_text settled
+  pub says : answer.text ≡ reply_text settled
+  pub how : answer.how ≡ reply_answered settled

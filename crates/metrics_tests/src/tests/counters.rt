@@ -1,34 +1,32 @@
 //! What counters count.
+use refusals::{Answered, Refusal};
 use site_metrics::{Counters, PeerCounters, WRITERS, unsent_numbers};
 
-const REPLIES: [&[u8]; 11] = [
-    b"number 1\n",
-    b"error Short\n",
-    b"spent 2\n",
-    b"error BadCommand\n",
-    b"error Short\n",
-    b"\n",
-    b"error Shorter\n",
-    b"error Closed\n",
-    b"",
-    b"error Short",
-    b"spent 3",
+const ANSWERS: [Answered; 6] = [
+    Answered::Done,
+    Answered::Refused(Refusal::Short),
+    Answered::Done,
+    Answered::Refused(Refusal::BadCommand),
+    Answered::Refused(Refusal::Short),
+    Answered::Refused(Refusal::Closed),
 ];
 
-/// Replies add up, each with its line feed. Nothing else is counted.
+/// Answers add up, those of all writers. A writer that there is not counts no commands.
 #[test]
-fn replies_add_up(rt: HostRuntime) {
+fn answers_add_up(rt: HostRuntime) {
     let counters = Counters::new();
     note_all(&counters);
-    counters.note_reply(WRITERS - 1, b"spent 4\n");
-    counters.note_reply(WRITERS - 1, b"spent 5\n");
-    assert!(rt; counters.commands() == 10);
-    assert!(rt; counters.refused() == [1, 0, 0, 0, 0, 0, 0, 0, 2, 0, 0, 0, 0, 0, 1, 0, 0]);
+    counters.note_answer(WRITERS - 1, Answered::Done);
+    counters.note_answer(WRITERS - 1, Answered::Done);
+    counters.note_answer(WRITERS, Answered::Done);
+    counters.note_refused(Refusal::OwnClock);
+    assert!(rt; counters.commands() == 8);
+    assert!(rt; counters.refused() == [1, 0, 0, 0, 0, 0, 0, 0, 2, 0, 0, 0, 0, 0, 1, 0, 1]);
 }
 
 fn note_all(counters: &Counters) {
-    for reply in REPLIES {
-        counters.note_reply(0, reply);
+    for answered in ANSWERS {
+        counters.note_answer(0, answered);
     }
 }
 

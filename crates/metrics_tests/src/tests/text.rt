@@ -1,17 +1,18 @@
 //! The text of all metrics.
 use super::expected::EXPECTED;
 use line_streams::Replies;
+use refusals::{REFUSAL_COUNT, Refusal};
 use rights_types::SiteId;
-use site_metrics::{Metrics, PeerMetrics, REFUSAL_COUNT, put_metrics, refusal_index};
+use site_metrics::{Metrics, PeerMetrics, put_metrics};
 use std::alloc::{Allocator, Global};
 
 fn site_metrics() -> Metrics {
     let mut refused = [0; REFUSAL_COUNT];
-    refused[3] = 8;
-    refused[8] = 17;
-    refused[9] = 1;
-    refused[14] = 9;
-    refused[15] = 6;
+    refused[Refusal::BadAmount.index()] = 8;
+    refused[Refusal::Short.index()] = 17;
+    refused[Refusal::OutOfMemory.index()] = 1;
+    refused[Refusal::BadCommand.index()] = 9;
+    refused[Refusal::BadDeadline.index()] = 6;
     Metrics {
         held: 7,
         queued: 5,
@@ -82,26 +83,4 @@ fn is_text(alloc: Global, metrics: &Metrics, peers: &[PeerMetrics], wanted: &[u8
 #[test]
 fn each_value_is_at_its_name(rt: HostRuntime) {
     assert!(rt; is_text(rt.alloc(), &site_metrics(), &peer_metrics(), EXPECTED));
-}
-
-const REPLIES: [(&[u8], Option<usize>); 11] = [
-    (b"error Closed", Some(0)),
-    (b"error Short", Some(8)),
-    (b"error BadCommand", Some(14)),
-    (b"error BadDeadline", Some(15)),
-    (b"error OwnClock", Some(16)),
-    (b"error Short ", None),
-    (b"error Shor", None),
-    (b"error ", None),
-    (b"expired", None),
-    (b"spent 3", None),
-    (b"", None),
-];
-
-/// Only a whole name counts as one.
-#[test]
-fn a_refusal_has_its_place(rt: HostRuntime) {
-    for (reply, place) in REPLIES {
-        assert!(rt; refusal_index(reply) == place);
-    }
 }

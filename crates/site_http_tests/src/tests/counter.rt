@@ -4,12 +4,13 @@ ghost use Rattle.line_streams.specs.Waiting.{IsEmpty, AddsReply};
 ghost use Rattle.site_http.specs.declared.backend.TheConstants.{LONGEST_REPLY};
 
 use line_streams::Replies;
+use refusals::{Answered, Refusal};
 use rights_types::OutOfMemory;
 use site_http::Backend;
 use std::alloc::Global;
 
 /// Carries out each line, and replies how many it had carried out before. It refuses a line that is too long, or that
-/// begins with `error`, and tells a long text for the line `tell`.
+/// begins with `error`, tells a long text for the line `tell`, and for the line `lie` the text of a refusal.
 #[derive(Drop)]
 pub struct Counter {
     pub count: u8,
@@ -35,7 +36,7 @@ impl Counter {
         text: Option<&[u8]>,
         word: &[u8],
         replies: &mut Replies<Global>,
-    ) -> Result<(), OutOfMemory>
+    ) -> Result<Answered, OutOfMemory>
         requires empty { IsEmpty replies.old }
         requires short { length word.now ≤ 20 }
         ensures ok { OnOk result ((reply : List ℕ) × AddsReply replies.old replies.new reply) }
@@ -46,23 +47,53 @@ impl Counter {
             return Err(OutOfMemory);
         }
         let Some(text) = text else {
-            return put_line(replies, b"error BadCommand");
+            return say(
+                replies,
+                b"error BadCommand",
+                Answered::Refused(Refusal::BadCommand),
+            );
         };
         if text.starts_with(b"error ") {
-            return put_line(replies, text);
+            return say(replies, text, Answered::Refused(refusal_in(text)));
+        }
+        if text == b"lie".as_slice() {
+            return say(replies, b"error Short", Answered::Done);
         }
         if text == b"tell".as_slice() {
-            return put_line(replies, LONG.as_bytes());
+            return say(replies, LONG.as_bytes(), Answered::Done);
         }
         put_counted(replies, word, self.count)?;
         self.count += 1;
-        Ok(())
+        Ok(Answered::Done)
     }
 }
 
 /// The reply to `tell`, which has a hundred bytes with its line feed.
 pub const LONG: &str =
     "A reply of a hundred bytes, with its line feed: so that a body of many lines reaches its limit here";
+
+/// The refusal that a line asks for.
+fn refusal_in(text: &[u8]) -> Refusal {
+    if text == b"error BadCommand".as_slice() {
+        Refusal::BadCommand
+    } else if text == b"error OutOfMemory".as_slice() {
+        Refusal::OutOfMemory
+    } else {
+        Refusal::Short
+    }
+}
+
+fn say(
+    replies: &mut Replies<Global>,
+    text: &[u8],
+    answered: Answered,
+) -> Result<Answered, OutOfMemory>
+    requires { IsEmpty replies.old }
+    ensures { OnOk result (AddsReply replies.old replies.new text.now) }
+{
+    put_line(replies, text)?;
+    Ok(answered)
+}
 
 fn put_line(replies: &mut Replies<Global>, text: &[u8]) -> Result<(), OutOfMemory>
     requires { IsEmpty replies.old }
@@ -83,7 +114,7 @@ fn put_counted(replies: &mut Replies<Global>, word: &[u8], count: u8) -> Result<
 }
 
 impl Backend for Counter {
-    ghost answers = { λ waits old line reply new. ⊤ };
+    ghost answers = { λ waits old line answer new. ⊤ };
 
     ghost status = { λ client text. ⊤ };
 
@@ -98,7 +129,7 @@ impl Backend for Counter {
         waits: bool,
         text: Option<&[u8]>,
         replies: &mut Replies<Global>,
-    ) -> Result<(), OutOfMemory> {
+    ) -> Result<Answered, OutOfMemory> {
         if waits {
             self.answer(text, b"spent ", replies)
         } else {

@@ -17,7 +17,7 @@ type Case = (
     &'static str,
 );
 
-const CASES: [Case; 27] = [
+const CASES: [Case; 28] = [
     ("POST /", "", "spend 1 1\n", "200 OK", "", "number 0\n"),
     ("POST /", "", "spend 1 1", "200 OK", "", "number 0\n"),
     ("POST /?a=b", "", "x\n", "200 OK", "", "number 0\n"),
@@ -63,6 +63,7 @@ const CASES: [Case; 27] = [
         "",
         "error Short\nnumber 0\n",
     ),
+    ("POST /", "", "lie\n", "200 OK", "", "error Short\n"),
     (
         "POST /",
         "Origin: http://h\r\n",
@@ -116,10 +117,10 @@ const CASES: [Case; 27] = [
     (
         "POST /wait",
         "",
-        "error Gone\n",
+        "error Short\n",
         "409 Conflict",
         "",
-        "error Gone\n",
+        "error Short\n",
     ),
     (
         "POST /wait",

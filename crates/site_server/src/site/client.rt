@@ -5,12 +5,15 @@ ghost use Rattle.std.specs.Io.KnownBytes.{IsAtEnd};
 ghost use Rattle.line_streams.specs.Handling.{IsGiven};
 ghost use Rattle.line_streams.specs.Talk.{Talk, EndsBy};
 ghost use Rattle.line_streams.specs.Waiting.{AddsReply};
-ghost use Rattle.reply_texts.specs.Texts.{bad_command, own_clock};
+ghost use Rattle.refusals.specs.Refusals.{refusal_text};
+ghost use Rattle.refusals.specs.declared.answered.Answered.TheVariants.{Refused};
 ghost use Rattle.site_words.specs.Status.{status_text};
 ghost use Rattle.transfer_manager.specs.SiteSets.{has_site};
 ghost use Rattle.desk_turns.specs.Seated.{ActsAtDesk, TicksAtDesk};
 ghost use Rattle.site_server.specs.Replying.{asked, CarriesOut, AreOfPeers, AreViews};
 ghost use Rattle.site_server.specs.Replying.{TellsStatus, TellsQueue, ThenSends, TicksAndSends, DoesDue, GetsBy, GetsLine};
+ghost use Rattle.site_server.specs.Replying.{IsReportOf, goes_by};
+ghost use Rattle.site_server.specs.Connections.{Tells};
 ghost use Rattle.site_server.specs.Conversations.{CountsReplies};
 
 use crate::site::outboxes::Outboxes;
@@ -18,7 +21,8 @@ use crate::site::tick_signal::{SiteTickSignal, TickSignal};
 use apply_lanes::{DeskNames, DeskView};
 use desk_turns::{Seated, Seats};
 use line_streams::{ConversationError, EndedBy, Goes, LineHandler, Replies, answer_lines};
-use reply_texts::{REPLY_ROOM, put_bad_command, put_own_clock};
+use refusals::{Answered, Refusal};
+use reply_texts::{REPLY_ROOM, put_refusal};
 use rights_types::OutOfMemory;
 use site_core::{Desk, DeskError};
 use site_node::{
@@ -117,24 +121,19 @@ fn command_in(text: Option<&[u8]>, time: Option<u64>) -> Option<SiteCommand>
     read_command(text?, time)
 }
 
-/// Adds the reply to a line that is no command.
-pub(crate) fn refuse<A: Allocator>(replies: &mut Replies<A>) -> Result<(), OutOfMemory>
+/// Adds the reply that a line is refused, and why.
+pub(crate) fn refuse<A: Allocator>(
+    replies: &mut Replies<A>,
+    why: Refusal,
+) -> Result<Answered, OutOfMemory>
     requires { replies.old.part ≡ [] }
-    ensures ok { OnOk result (AddsReply replies.old replies.new bad_command) }
+    ensures how { IfOk result (λ how. how ≡ Refused why) }
+    ensures ok { OnOk result (AddsReply replies.old replies.new (refusal_text why)) }
     ensures err { OnErr result (replies.new.whole ≡ replies.old.whole) }
 {
-    put_bad_command(replies)?;
-    replies.finish()
-}
-
-/// Adds the reply to a tick at a site that ticks itself.
-fn refuse_tick<A: Allocator>(replies: &mut Replies<A>) -> Result<(), OutOfMemory>
-    requires { replies.old.part ≡ [] }
-    ensures ok { OnOk result (AddsReply replies.old replies.new own_clock) }
-    ensures err { OnErr result (replies.new.whole ≡ replies.old.whole) }
-{
-    put_own_clock(replies)?;
-    replies.finish()
+    put_refusal(replies, why)?;
+    replies.finish()?;
+    Ok(Answered::Refused(why))
 }
 
 /// Adds the status object of these views.
@@ -217,9 +216,10 @@ impl<'a, D: DeskNames, R: Wait, P: Peers + Drop, B: TickSignal + Drop> SiteClien
         &mut self,
         command: DeskCommand,
         replies: &mut Replies<A>,
-    ) -> Result<(), OutOfMemory>
+    ) -> Result<Answered, OutOfMemory>
         requires { replies.old.part ≡ [] }
-        ensures ok { OnOk result ((text : List ℕ) × CarriesOut D.id self.old.seat command text self.new.seat
+        ensures ok { IfOk result (λ how. (text : List ℕ)
+            × CarriesOut D.id self.old.seat command (record { text = text; how = how }) self.new.seat
             × AddsReply replies.old replies.new text) }
         ensures short { OnOk result (length replies.new.whole ≤ length replies.old.whole + REPLY_ROOM) }
         ensures err { OnErr result ((self.new ≡ self.old) × (replies.new.whole ≡ replies.old.whole)) }
@@ -228,8 +228,7 @@ impl<'a, D: DeskNames, R: Wait, P: Peers + Drop, B: TickSignal + Drop> SiteClien
         // Reserved first, so that a command is carried out only if its reply has room.
         replies.reserve(REPLY_ROOM)?;
         let reply = self.act(command);
-        answer_reply(replies, reply);
-        Ok(())
+        Ok(answer_reply(replies, reply))
     }
 
     /// Carries out a command at the desk, in one turn.
@@ -241,10 +240,15 @@ impl<'a, D: DeskNames, R: Wait, P: Peers + Drop, B: TickSignal + Drop> SiteClien
     }
 
     /// Does everything due at this time, and adds the reply.
-    fn tick<A: Allocator>(&mut self, time: u64, replies: &mut Replies<A>) -> Result<(), OutOfMemory>
+    fn tick<A: Allocator>(
+        &mut self,
+        time: u64,
+        replies: &mut Replies<A>,
+    ) -> Result<Answered, OutOfMemory>
         requires { replies.old.part ≡ [] }
-        ensures ok { OnOk result ((text : List ℕ)
-            × DoesDue P.size P.sends P.stops D.id self.old.seat self.old.peers time text self.new.seat self.new.peers
+        ensures ok { IfOk result (λ how. (text : List ℕ)
+            × DoesDue P.size P.sends P.stops D.id self.old.seat self.old.peers time (record { text = text; how = how })
+            self.new.seat self.new.peers
             × AddsReply replies.old replies.new text) }
         ensures short { OnOk result (length replies.new.whole ≤ length replies.old.whole + TICK_ROOM) }
         ensures err { OnErr result ((self.new ≡ self.old) × (replies.new.whole ≡ replies.old.whole)) }
@@ -252,8 +256,7 @@ impl<'a, D: DeskNames, R: Wait, P: Peers + Drop, B: TickSignal + Drop> SiteClien
         // Reserved first, so that a tick is done only if its reply has room.
         replies.reserve(TICK_ROOM)?;
         let outcome = self.tick_and_send(time);
-        answer_tick(replies, outcome);
-        Ok(())
+        Ok(answer_tick(replies, outcome))
     }
 
     /// Does everything due at this time, which is the site's own, beside these silent peers.
@@ -350,34 +353,91 @@ impl<'a, D: DeskNames, R: Wait, P: Peers + Drop, B: TickSignal + Drop> SiteClien
         Ok((kept.view(), peers))
     }
 
-    /// Counts a reply, given with its line feed.
-    pub(crate) fn count_reply(&self, reply: &[u8]) {
-        self.site.commands.note_reply(self.index, reply);
+    /// Counts an answer.
+    pub(crate) fn count(&self, answered: Answered) {
+        self.site.commands.note_answer(self.index, answered);
     }
 
-    /// Answers a line, by its command; `None` is not a command.
+    /// Counts the answer to a line, if it has one, and returns whether the conversation continues after it.
+    fn counted(&self, answered: Option<Answered>) -> Goes
+        ensures { result ≡ goes_by answered }
+    {
+        match answered {
+            Some(answered) => {
+                self.count(answered);
+                Goes::On
+            }
+            None => Goes::Ends,
+        }
+    }
+
+    /// Adds the status object as the answer to a line.
+    fn answer_status<A: Allocator>(
+        &self,
+        replies: &mut Replies<A>,
+    ) -> Result<Answered, OutOfMemory>
+        requires { replies.old.part ≡ [] }
+        ensures ok { IfOk result (λ how. (text : List ℕ)
+            × IsReportOf (TellsStatus D.id) (record { text = text; how = how }) × AddsReply replies.old replies.new text) }
+        ensures err { OnErr result (replies.new.whole ≡ replies.old.whole) }
+    {
+        self.tell_status(replies)?;
+        Ok(Answered::Done)
+    }
+
+    /// Adds the report of the spends that wait as the answer to a line.
+    fn answer_queue<A: Allocator>(&self, replies: &mut Replies<A>) -> Result<Answered, OutOfMemory>
+        requires { replies.old.part ≡ [] }
+        ensures ok { IfOk result (λ how. (text : List ℕ)
+            × IsReportOf (TellsQueue D.id) (record { text = text; how = how }) × AddsReply replies.old replies.new text) }
+        ensures err { OnErr result (replies.new.whole ≡ replies.old.whole) }
+    {
+        self.tell_queue(replies)?;
+        Ok(Answered::Done)
+    }
+
+    /// Answers a line, by its command; `None` and `quit` are not commands.
     pub(crate) fn answer_command<A: Allocator>(
         &mut self,
         command: Option<SiteCommand>,
         replies: &mut Replies<A>,
-    ) -> Result<Goes, OutOfMemory>
+    ) -> Result<Answered, OutOfMemory>
         requires { replies.old.part ≡ [] }
-        ensures ok { IfOk result (λ goes. GetsBy P.size P.sends P.stops goes D.id command self.old.seat self.old.peers
-            replies.old self.new.seat self.new.peers replies.new) }
+        ensures ok { IfOk result (λ how. (text : List ℕ)
+            × Tells P.size P.sends P.stops D.id command self.old.seat self.old.peers
+            (record { text = text; how = how }) self.new.seat self.new.peers × AddsReply replies.old replies.new text) }
         ensures short { OnOk result ((length replies.new.whole ≤ length replies.old.whole + TICK_ROOM)
             ⊎ (self.new ≡ self.old)) }
         ensures err { OnErr result ((self.new ≡ self.old) × (replies.new.whole ≡ replies.old.whole)) }
     {
         match command {
-            None => refuse(replies)?,
-            Some(SiteCommand::AtDesk(command)) => self.carry_out(command, replies)?,
-            Some(SiteCommand::Tick(time)) => self.tick(time, replies)?,
-            Some(SiteCommand::RefusedTick) => refuse_tick(replies)?,
-            Some(SiteCommand::Status) => self.tell_status(replies)?,
-            Some(SiteCommand::Queue) => self.tell_queue(replies)?,
-            Some(SiteCommand::Quit) => return Ok(Goes::Ends),
+            None | Some(SiteCommand::Quit) => refuse(replies, Refusal::BadCommand),
+            Some(SiteCommand::AtDesk(command)) => self.carry_out(command, replies),
+            Some(SiteCommand::Tick(time)) => self.tick(time, replies),
+            Some(SiteCommand::RefusedTick) => refuse(replies, Refusal::OwnClock),
+            Some(SiteCommand::Status) => self.answer_status(replies),
+            Some(SiteCommand::Queue) => self.answer_queue(replies),
         }
-        Ok(Goes::On)
+    }
+
+    /// Answers a line, by its command; `None` is not a command. `quit` gets no answer.
+    fn answer_or_end<A: Allocator>(
+        &mut self,
+        command: Option<SiteCommand>,
+        replies: &mut Replies<A>,
+    ) -> Result<Option<Answered>, OutOfMemory>
+        requires { replies.old.part ≡ [] }
+        ensures ok { IfOk result (λ how. GetsBy P.size P.sends P.stops how D.id command self.old.seat self.old.peers
+            replies.old self.new.seat self.new.peers replies.new) }
+        ensures err { OnErr result ((self.new ≡ self.old) × (replies.new.whole ≡ replies.old.whole)) }
+    {
+        match command {
+            Some(SiteCommand::Quit) => Ok(None),
+            _ => {
+                let answered = self.answer_command(command, replies)?;
+                Ok(Some(answered))
+            }
+        }
     }
 }
 
@@ -401,12 +461,8 @@ impl<D: DeskNames, R: Wait, P: Peers + Drop, B: TickSignal + Drop> LineHandler
         text: Option<&[u8]>,
         replies: &mut Replies<A>,
     ) -> Result<Goes, OutOfMemory> {
-        let before = replies.whole().len();
         let command = self.command_in(text);
-        let goes = self.answer_command(command, replies)?;
-        if let Some(reply) = replies.whole().get(before..) {
-            self.count_reply(reply);
-        }
-        Ok(goes)
+        let answered = self.answer_or_end(command, replies)?;
+        Ok(self.counted(answered))
     }
 }

@@ -1,12 +1,13 @@
 //! A client of a site over a connection.
-ghost use Rattle.std.specs.Prelude.{◌≡◌, ◌+◌, ◌≤◌, ◌⊎◌, [], List, ℕ, length, OnOk, OnErr};
+ghost use Rattle.std.specs.Prelude.{◌≡◌, ◌+◌, ◌≤◌, ◌⊎◌, [], List, ℕ, length, IfOk, OnOk, OnErr};
 ghost use Rattle.line_streams.specs.Waiting.{AddsReply};
 ghost use Rattle.site_server.specs.Connections.{Tells, TellsSettled, TellsBy};
 
-use crate::site::client::{SiteClient, refuse};
+use crate::site::client::SiteClient;
 use crate::site::tick_signal::TickSignal;
 use apply_lanes::DeskNames;
 use line_streams::Replies;
+use refusals::Answered;
 use rights_types::OutOfMemory;
 use site_http::Backend;
 use site_node::{Peers, TICK_ROOM};
@@ -21,10 +22,11 @@ impl<D: DeskNames, R: Wait, P: Peers + Drop, B: TickSignal + Drop> SiteClient<'_
         &mut self,
         command: Option<SiteCommand>,
         replies: &mut Replies<Global>,
-    ) -> Result<(), OutOfMemory>
+    ) -> Result<Answered, OutOfMemory>
         requires { replies.old.part ≡ [] }
-        ensures ok { OnOk result ((text : List ℕ)
-            × Tells P.size P.sends P.stops D.id command self.old.seat self.old.peers text self.new.seat self.new.peers
+        ensures ok { IfOk result (λ how. (text : List ℕ)
+            × Tells P.size P.sends P.stops D.id command self.old.seat self.old.peers
+            (record { text = text; how = how }) self.new.seat self.new.peers
             × AddsReply replies.old replies.new text) }
         ensures short { OnOk result ((length replies.new.whole ≤ length replies.old.whole + TICK_ROOM)
             ⊎ (self.new ≡ self.old)) }
@@ -33,13 +35,7 @@ impl<D: DeskNames, R: Wait, P: Peers + Drop, B: TickSignal + Drop> SiteClient<'_
         if self.site.is_over() {
             return Err(OutOfMemory);
         }
-        match command {
-            Some(SiteCommand::Quit) => refuse(replies),
-            _ => {
-                self.answer_command(command, replies)?;
-                Ok(())
-            }
-        }
+        self.answer_command(command, replies)
     }
 
     /// The same for a client that waits for the outcome of a spend.
@@ -47,11 +43,11 @@ impl<D: DeskNames, R: Wait, P: Peers + Drop, B: TickSignal + Drop> SiteClient<'_
         &mut self,
         command: Option<SiteCommand>,
         replies: &mut Replies<Global>,
-    ) -> Result<(), OutOfMemory>
+    ) -> Result<Answered, OutOfMemory>
         requires { replies.old.part ≡ [] }
-        ensures ok { OnOk result ((text : List ℕ)
-            × TellsSettled P.size P.sends P.stops (B.has_ended self.old.signal) (B.has_left self.old.signal) D.id command self.old.seat self.old.peers text
-            self.new.seat self.new.peers × AddsReply replies.old replies.new text) }
+        ensures ok { IfOk result (λ how. (text : List ℕ)
+            × TellsSettled P.size P.sends P.stops (B.has_ended self.old.signal) (B.has_left self.old.signal) D.id command self.old.seat self.old.peers
+            (record { text = text; how = how }) self.new.seat self.new.peers × AddsReply replies.old replies.new text) }
         ensures short { OnOk result ((length replies.new.whole ≤ length replies.old.whole + TICK_ROOM)
             ⊎ (self.new ≡ self.old)) }
         ensures err { OnErr result (self.new ≡ self.old) }
@@ -68,11 +64,11 @@ impl<D: DeskNames, R: Wait, P: Peers + Drop, B: TickSignal + Drop> SiteClient<'_
         waits: bool,
         command: Option<SiteCommand>,
         replies: &mut Replies<Global>,
-    ) -> Result<(), OutOfMemory>
+    ) -> Result<Answered, OutOfMemory>
         requires { replies.old.part ≡ [] }
-        ensures ok { OnOk result ((text : List ℕ)
-            × TellsBy P.size P.sends P.stops waits (B.has_ended self.old.signal) (B.has_left self.old.signal) D.id command self.old.seat self.old.peers text
-            self.new.seat self.new.peers × AddsReply replies.old replies.new text) }
+        ensures ok { IfOk result (λ how. (text : List ℕ)
+            × TellsBy P.size P.sends P.stops waits (B.has_ended self.old.signal) (B.has_left self.old.signal) D.id command self.old.seat self.old.peers
+            (record { text = text; how = how }) self.new.seat self.new.peers × AddsReply replies.old replies.new text) }
         ensures short { OnOk result ((length replies.new.whole ≤ length replies.old.whole + TICK_ROOM)
             ⊎ (self.new ≡ self.old)) }
         ensures err { OnErr result (self.new ≡ self.old) }
@@ -106,11 +102,11 @@ impl<D: DeskNames, R: Wait, P: Peers + Drop, B: TickSignal + Drop> Backend
         waits: bool,
         text: Option<&[u8]>,
         replies: &mut Replies<Global>,
-    ) -> Result<(), OutOfMemory> {
+    ) -> Result<Answered, OutOfMemory> {
         let command = self.command_in(text);
-        self.tell_by(waits, command, replies)?;
-        self.count_reply(replies.whole());
-        Ok(())
+        let answered = self.tell_by(waits, command, replies)?;
+        self.count(answered);
+        Ok(answered)
     }
 
     fn has_room(&self, len: usize) -> bool {

@@ -1,5 +1,5 @@
 //! The reply to a client that waits for the outcome of its spend.
-ghost use Rattle.std.specs.Prelude.{◌≡◌, ◌+◌, ◌≤◌, [], List, ℕ, length, OnOk, OnErr};
+ghost use Rattle.std.specs.Prelude.{◌≡◌, ◌+◌, ◌≤◌, [], List, ℕ, length, IfOk, OnOk, OnErr};
 ghost use Rattle.line_streams.specs.Waiting.{AddsReply};
 ghost use Rattle.site_node.specs.declared.reply.Reply.TheVariants.{Spending as Spends};
 ghost use Rattle.site_core.specs.declared.desk.requests.Spending.TheVariants.{Queued as IsQueued};
@@ -9,6 +9,7 @@ use crate::site::client::SiteClient;
 use crate::site::tick_signal::{TickSignal, Woken};
 use apply_lanes::DeskNames;
 use line_streams::Replies;
+use refusals::Answered;
 use reply_texts::REPLY_ROOM;
 use request_queue::Status;
 use rights_types::OutOfMemory;
@@ -24,10 +25,11 @@ impl<D: DeskNames, R: Wait, P: Peers + Drop, B: TickSignal + Drop> SiteClient<'_
         &mut self,
         command: DeskCommand,
         replies: &mut Replies<A>,
-    ) -> Result<(), OutOfMemory>
+    ) -> Result<Answered, OutOfMemory>
         requires { replies.old.part ≡ [] }
-        ensures ok { OnOk result ((text : List ℕ)
-            × SettlesCommand (B.has_ended self.old.signal) (B.has_left self.old.signal) D.id self.old.seat command text self.new.seat
+        ensures ok { IfOk result (λ how. (text : List ℕ)
+            × SettlesCommand (B.has_ended self.old.signal) (B.has_left self.old.signal) D.id self.old.seat command
+            (record { text = text; how = how }) self.new.seat
             × AddsReply replies.old replies.new text) }
         ensures short { OnOk result (length replies.new.whole ≤ length replies.old.whole + REPLY_ROOM) }
         ensures err { OnErr result (self.new ≡ self.old) }
@@ -39,8 +41,7 @@ impl<D: DeskNames, R: Wait, P: Peers + Drop, B: TickSignal + Drop> SiteClient<'_
         let seen = self.signal.count();
         let reply = self.act(command);
         let settled = self.settled(reply, seen);
-        answer_reply(replies, settled);
-        Ok(())
+        Ok(answer_reply(replies, settled))
     }
 
     /// The outcome of a spend that was queued after this number of ticks was seen; otherwise the reply itself.

@@ -1,6 +1,6 @@
 //! What is said of the ticks that a site does by itself.
 
-use reply_texts::desk_error_name;
+use reply_texts::refusal_of;
 use site_core::DeskError;
 use site_sockets::{SiteClock, SiteSockets};
 use std::fmt::Display;
@@ -51,10 +51,10 @@ pub(crate) fn note_outcome<R: Wait>(
         }
         return;
     };
-    let name = desk_error_name(error);
-    site.commands.note_refused(name);
+    let why = refusal_of(error);
+    site.commands.note_refused(why);
     if !was_refused {
-        let name = str::from_utf8(name).unwrap_or("");
+        let name = str::from_utf8(why.name()).unwrap_or("");
         say(rt, site, format_args!("ticks are refused: {}", name));
     }
 }

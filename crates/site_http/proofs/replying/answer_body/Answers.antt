@@ -5,7 +5,7 @@ use Rattle.site_http.proofs.replying.answer_body.Goals as goal
 
 pub returns-then-waits : goal.returns-then-waits
 returns-then-waits g c =
-    let line = bad_command ++ 10 ∷ [] in (
+    let line = bad_command.text ++ 10 ∷ [] in (
       bad_command ∷ [],
       rw (c.if-waits.true, c.refuse.ensures.status)
           (refused_many (g.C.Backend.answers true) c.args.client.now _ c.in-None.ensures.other),

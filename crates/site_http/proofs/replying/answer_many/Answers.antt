@@ -20,5 +20,5 @@ returns-in-Err g c =
     let err = c.in-Err.ensures.err in (
       err.0 ++ no_memory ∷ [],
       inr (record { given = err.0; some = err.1; told = refl; status = c.stop.ensures.status }),
-      c.stop.ensures.text ∙ ap (λ (l : List ℕ). l ++ (no_memory ++ 10 ∷ [])) err.2 ∙ sym (text_more err.0 no_memory),
+      c.stop.ensures.text ∙ ap (λ (l : List ℕ). l ++ (no_memory.text ++ 10 ∷ [])) err.2 ∙ sym (text_more err.0 no_memory),
     )

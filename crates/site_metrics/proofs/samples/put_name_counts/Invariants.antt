@@ -2,7 +2,7 @@ use Rattle.std.proofs.Common.{◌≡◌, ◌≤◌, ◌+◌, ◌*◌, ◌∷◌,
 use Rattle.std.specs.List.{flat_map, zip}
 use Rattle.site_metrics.specs.Format.{sample_line}
 use Rattle.site_metrics.specs.Table.{name_sample}
-use Rattle.site_metrics.specs.Refusals.{refusal_names}
+use Rattle.refusals.specs.Refusals.{refusal_names}
 use Rattle.site_metrics.proofs.samples.put_name_counts.Given as goal
 
 abbrev pub invariant-loop-index : goal.invariant-loop-index
