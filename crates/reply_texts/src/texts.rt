@@ -57,10 +57,7 @@ pub fn put_status<A: Allocator>(replies: &mut Replies<A>, status: Status) -> Res
 }
 
 /// Appends that a line was refused, and why.
-pub fn put_refusal<A: Allocator>(
-    replies: &mut Replies<A>,
-    why: Refusal,
-) -> Result<(), OutOfMemory>
+pub fn put_refusal<A: Allocator>(replies: &mut Replies<A>, why: Refusal) -> Result<(), OutOfMemory>
     ensures ok { OnOk result (replies.new.part ≡ replies.old.part ++ refusal_text why) }
     ensures kept { replies.new.whole ≡ replies.old.whole }
     ensures room { REPLY_ROOM ≤ replies.old.room → IsOk result × (1 ≤ replies.new.room) }

@@ -12,7 +12,7 @@ loop-text-preserved g c =
     let done = inv.answered.0 in
     let given = inv.answered.1 in
     let put = c.in_ok-answer_line.ensures.ok in
-    let answer : LineAnswer = record { text = put.0; how = c.in_ok-answer_line.value } in
+    let answer : LineAnswer = record { text = put.0; how = c.in_ok-answer_line.field-0 } in
     let line = c.in-Some.text.now ++ 10 ∷ [] in
     let below = leb-false MAX_REPLIES (length (text_of given))
     (ap (λ (l : List ℕ). leb MAX_REPLIES (length l)) (sym inv.answered.5) ∙ sym c.is_full.ensures
