@@ -10,7 +10,7 @@ use Rattle.apply_lanes.specs.Kepts.{KeptValue, IsKept}
 use Rattle.apply_lanes.specs.Appliers.{ApplierValue, IsCounted, is_late, step_fault, StepRefuses, dropped, applied}
 use Rattle.apply_lanes.specs.Appliers.{MovesOn, counted_on, HasNext, HasEnded, Fills, LeavesHand, Steps, StepFails}
 use Rattle.apply_lanes.specs.Appliers.{Advances, Runs}
-use Rattle.apply_lanes.specs.Steps.{StepsBy, apply_change}
+use Rattle.apply_lanes.specs.Steps.{StepsBy, RecordsBy, apply_change}
 use Rattle.apply_lanes.specs.Batches.{LeavesLock, Handles, HandlesNext, KeepsNext, HandlesAll, HandlesBatch, BatchFails}
 use Rattle.apply_lanes.specs.Batches.{stays, StepsReady, ReadyFails}
 use Rattle.apply_lanes.proofs.ApplierLaws.{next_hand, leaves_hand, step_failed}
@@ -37,8 +37,9 @@ module _ {G A : Type 0} where
       → (is_late taken k.desk ≡ false
       → WithHand taken (λ e. MovesOn id.site k.desk taken.origin e l.desk × (l ≡ counted_on id k e l.desk)))
       → WithHand taken (λ e. StepsBy id k.desk (apply_change (is_late taken k.desk) taken.origin e) l.desk)
+      → WithHand taken (λ e. RecordsBy id k (apply_change (is_late taken k.desk) taken.origin e) l)
       → IsCounted id b → HandlesNext id a k b l
-  handled id a taken b k l fills kept fits gone done moves step counted =
+  handled id a taken b k l fills kept fits gone done moves step records counted =
       let e : EntryValue = fills.1 in
       let held : taken.hand ≡ Some e = next_hand a.hand a taken e refl fills.2 in record {
         taken = taken;
@@ -51,6 +52,7 @@ module _ {G A : Type 0} where
           lock = leaves_lock id (is_late taken k.desk) k taken.origin e l (λ late. (gone late).1)
               (λ late. moves late e held);
           step = step e held;
+          records = records e held;
           counted = counted;
         };
       }

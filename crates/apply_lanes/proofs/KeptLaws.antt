@@ -9,6 +9,9 @@ use Rattle.rights_types.specs.Entries.{EntryValue, own, IsEntry}
 use Rattle.rights_types.specs.Rights.{issued, spent, to, sum_sites}
 use Rattle.rights_types.specs.Messages.{AskValue, MessageValue}
 use Rattle.rights_protocol.specs.Invariant.{SiteInvariant}
+use Rattle.rights_protocol.specs.Schedules.{SiteLists}
+use Rattle.rights_protocol.specs.Crashes.{Record, lists_of}
+use Rattle.site_core.specs.Replaying.{HasLists}
 use Rattle.rights_types.specs.declared.moves.Move.{Move}
 use Rattle.rights_types.specs.declared.moves.Move.TheVariants.{Issue, Spend, Grant, Give, CloseAt, TakeBack}
 use Rattle.rights_types.specs.declared.limits.TheConstants.{MAX_NUMBER}
@@ -23,10 +26,7 @@ use Rattle.rights_book.specs.Books.{BookValue, sites, peer, applied_by, held_by,
 use Rattle.rights_book.specs.StandsFor.{StandsForApplied}
 use Rattle.rights_book.specs.Leaves.{OwnLeaves, ApplyLeaves}
 use Rattle.rights_book.specs.declared.account.Account.{Account}
-use Rattle.transfer_manager.specs.declared.answer.AskAnswer.{AskAnswer}
-use Rattle.transfer_manager.specs.declared.answer.AskAnswer.TheVariants.{Grant as Granted, Deny, RepeatedDeny, Repeated}
-use Rattle.transfer_manager.specs.declared.answer.AskAnswer.TheVariants.{OldAsk}
-use Rattle.site_core.specs.Calls.{DeskServes, ServesFront, ServeKeeps, DeskAnswers, AnswerKeeps, next_push}
+use Rattle.site_core.specs.Calls.{DeskServes, ServesFront, ServeKeeps, next_push}
 use Rattle.site_core.specs.Calls.{published_if, after_publish, after_skip}
 use Rattle.site_core.specs.Ledgers.{LedgerValue, EntryKeeps, HasApplied, SameApplied, MoreApplied, owed_by, frontier_of}
 use Rattle.site_core.specs.Ledgers.{TakingLeaves, AppliesEntry, ApplyKeeps, closing_by}
@@ -34,7 +34,7 @@ use Rattle.site_core.proofs.Protocol.{none_applied}
 use Rattle.site_core.specs.Desks.{DeskValue}
 use Rattle.thread_parts.specs.SplitCounters.{SplitCounterValue}
 use Rattle.apply_lanes.specs.Names.{DeskId, IsUnused}
-use Rattle.apply_lanes.specs.Kepts.{KeptValue, IsKept, KeepsProtocol, MatchesBook, HasShards, admitted_count, raised}
+use Rattle.apply_lanes.specs.Kepts.{KeptValue, IsKept, MatchesBook, HasShards, admitted_count, raised}
 
 -- ---- counters
 
@@ -57,11 +57,11 @@ raised_shards t u n h = record {
 raised_sum : (t u : SplitCounterValue) (n : ℕ) → u ≡ raised t n → u.sum ≡ t.sum + n
 raised_sum t u n h = ap (λ (x : SplitCounterValue). x.sum) h
 
-has_shards : (k : KeptValue) (d : DeskValue) (i s n r : SplitCounterValue) → HasShards k → SameShards k.issued i
+has_shards : (k : KeptValue) (d : DeskValue) (i s n r : SplitCounterValue) (rs : List Record) → HasShards k → SameShards k.issued i
     → SameShards k.spent s
     → SameShards k.number n → SameShards k.received r
-    → HasShards (record k { desk = d; issued = i; spent = s; number = n; received = r })
-has_shards k d i s n r p a b c e = record {
+    → HasShards (record k { desk = d; issued = i; spent = s; number = n; received = r; records = rs })
+has_shards k d i s n r rs p a b c e = record {
   seats = omega (arith, p.seats, a.left);
   clock = omega (arith, p.clock, a.left);
   both = b.left ∙ p.both ∙ sym a.left;
@@ -144,10 +144,10 @@ issued-give j n = omega (arith, issued-cons (Give j n) [], issued-nil)
 pub spent-give : (j n : ℕ) → spent (Give j n ∷ []) ≡ 0
 spent-give j n = omega (arith, spent-cons (Give j n) [], spent-nil)
 
-issued-grant : (j n a : ℕ) → issued (Grant j n a ∷ []) ≡ 0
+pub issued-grant : (j n a : ℕ) → issued (Grant j n a ∷ []) ≡ 0
 issued-grant j n a = omega (arith, issued-cons (Grant j n a) [], issued-nil)
 
-spent-grant : (j n a : ℕ) → spent (Grant j n a ∷ []) ≡ 0
+pub spent-grant : (j n a : ℕ) → spent (Grant j n a ∷ []) ≡ 0
 spent-grant j n a = omega (arith, spent-cons (Grant j n a) [], spent-nil)
 
 issued-take_back : (j n : ℕ) → issued (TakeBack j n ∷ []) ≡ 0
@@ -180,53 +180,63 @@ nothing_closing b (Some j) = closes_without (held_by b == 0) j (held_by b) (fron
 -- ---- the lock's value
 
 -- for anything that the desk wrote and applied, if the counters follow its book
-kept_by : (id : DeskId) (k : KeptValue) (d : DeskValue) (i s n r : SplitCounterValue) → IsKept id k
+kept_by : (id : DeskId) (k : KeptValue) (d : DeskValue) (i s n r : SplitCounterValue) (rs : List Record) → IsKept id k
     → d.ledger.log.site ≡ k.desk.ledger.log.site
     → d.ledger.book.me ≡ k.desk.ledger.book.me → sites d.ledger.book ≡ sites k.desk.ledger.book
     → MatchesBook d.ledger.book i.sum s.sum n.sum r.sum
     → SameShards k.issued i → SameShards k.spent s → SameShards k.number n → SameShards k.received r
-    → KeepsProtocol d.ledger
-    → IsKept id (record k { desk = d; issued = i; spent = s; number = n; received = r })
-kept_by id k d i s n r is site me count matches_book a b c e protocol = record {
+    → HasLists (lists_of id.site rs) d
+    → IsKept id (record k { desk = d; issued = i; spent = s; number = n; received = r; records = rs })
+kept_by id k d i s n r rs is site me count matches_book a b c e protocol = record {
   site = site ∙ is.site;
   same_me = me ∙ is.same_me;
   same_sites = count ∙ is.same_sites;
   few = is.few;
   matches_book = matches_book;
-  has_shards = has_shards k d i s n r is.has_shards a b c e;
+  has_shards = has_shards k d i s n r rs is.has_shards a b c e;
   protocol = protocol;
 }
-
--- what was applied is still applied
-still_applied : (l m : LedgerValue) → KeepsProtocol l → SameApplied l m → KeepsProtocol m
-still_applied l m h same = (h.0, same.all h.0 h.1)
 
 all_same : (t : SplitCounterValue) → SameShards t t
 all_same t = record { left = refl; returned = refl }
 
--- log and book are unchanged
-same_ledger : (id : DeskId) (k : KeptValue) (d : DeskValue) → IsKept id k → d.ledger ≡ k.desk.ledger
-    → IsKept id (record k { desk = d })
-same_ledger id k d is same =
-    kept_by id k d k.issued k.spent k.number k.received is (ap (λ (l : LedgerValue). l.log.site) same)
+-- the ledger alone has lists
+pub ledger_has : (l : SiteLists) (d e : DeskValue) → e.ledger ≡ d.ledger → HasLists l d → HasLists l e
+ledger_has l d e same h = record {
+  log = ap (λ (x : LedgerValue). x.log.entries) same ∙ h.log;
+  applied = subst (λ (x : LedgerValue). HasApplied l.applied x) (sym same) h.applied;
+}
+
+-- log and book are unchanged, and these are the records
+pub with_records : (id : DeskId) (k : KeptValue) (d : DeskValue) (rs : List Record) → IsKept id k
+    → d.ledger ≡ k.desk.ledger → HasLists (lists_of id.site rs) d → IsKept id (record k { desk = d; records = rs })
+with_records id k d rs is same has =
+    kept_by id k d k.issued k.spent k.number k.received rs is (ap (λ (l : LedgerValue). l.log.site) same)
     (ap (λ (l : LedgerValue). l.book.me) same)
     (ap (λ (l : LedgerValue). sites l.book) same)
     (subst (λ (l : LedgerValue). MatchesBook l.book k.issued.sum k.spent.sum k.number.sum k.received.sum)
     (sym same) is.matches_book) (all_same k.issued)
-    (all_same k.spent) (all_same k.number) (all_same k.received) (subst KeepsProtocol (sym same) is.protocol)
+    (all_same k.spent) (all_same k.number) (all_same k.received) has
+
+-- .. the same records
+pub same_ledger : (id : DeskId) (k : KeptValue) (d : DeskValue) → IsKept id k → d.ledger ≡ k.desk.ledger
+    → IsKept id (record k { desk = d })
+same_ledger id k d is same =
+    with_records id k d k.records is same (ledger_has (lists_of id.site k.records) k.desk d same is.protocol)
 
 -- the log has other cursors, and the same entries
 same_entries : (id : DeskId) (k : KeptValue) (log : LogValue) → IsKept id k → log.site ≡ k.desk.ledger.log.site
     → log.entries ≡ k.desk.ledger.log.entries
     → IsKept id (record k { desk = record k.desk { ledger = record k.desk.ledger { log = log } } })
 same_entries id k log is site entries =
-    let h : HasApplied is.protocol.0 k.desk.ledger = is.protocol.1 in
-    let kept = subst (λ (x : ℕ × List EntryValue). SiteInvariant (sites k.desk.ledger.book) x.0 x.1 is.protocol.0)
+    let lists : SiteLists = lists_of id.site k.records in
+    let h : HasApplied lists.applied k.desk.ledger = is.protocol.applied in
+    let kept = subst (λ (x : ℕ × List EntryValue). SiteInvariant (sites k.desk.ledger.book) x.0 x.1 lists.applied)
     (λ i. (sym site i, sym entries i)) h.kept in
-    kept_by id k (record k.desk { ledger = record k.desk.ledger { log = log } }) k.issued k.spent k.number k.received is
-    site refl refl is.matches_book
+    kept_by id k (record k.desk { ledger = record k.desk.ledger { log = log } }) k.issued k.spent k.number k.received
+    k.records is site refl refl is.matches_book
     (all_same k.issued) (all_same k.spent) (all_same k.number) (all_same k.received)
-    (is.protocol.0, record { in_book = h.in_book; kept = kept })
+    (record { log = entries ∙ is.protocol.log; applied = record { in_book = h.in_book; kept = kept } })
 
 -- entries were published to a peer
 published_kept : (id : DeskId) (k : KeptValue) (peer : ℕ) (m : Option MessageValue) → IsKept id k
@@ -251,20 +261,19 @@ kept_skip id k d peer is same =
     subst (λ (y : DeskValue). IsKept id (record k { desk = y })) (sym same)
     (same_entries id k (all_published k.desk.ledger.log peer) is refl refl)
 
--- the desk wrote an entry, which issued and spent these amounts
+-- the desk wrote an entry, which issued and spent these amounts; it has the lists of these records
 pub kept_write : (id : DeskId) (k : KeptValue) (d : DeskValue) (ms : List Move) (a b : ℕ) (i s : SplitCounterValue)
-    → IsKept id k
+    (rs : List Record) → IsKept id k
     → d.ledger.log ≡ with_entry k.desk.ledger.log ms → OwnLeaves k.desk.ledger.book ms d.ledger.book
-    → SameApplied k.desk.ledger d.ledger
+    → HasLists (lists_of id.site rs) d
     → issued ms ≡ a → spent ms ≡ b → i ≡ raised k.issued a → s ≡ raised k.spent b
-    → IsKept id (record k { desk = d; issued = i; spent = s })
-kept_write id k d ms a b i s is log l same ia sb more used =
-    kept_by id k d i s k.number k.received is (ap (λ (x : LogValue). x.site) log) l.same_me l.same_sites
+    → IsKept id (record k { desk = d; issued = i; spent = s; records = rs })
+kept_write id k d ms a b i s rs is log l has ia sb more used =
+    kept_by id k d i s k.number k.received rs is (ap (λ (x : LogValue). x.site) log) l.same_me l.same_sites
     (tallied_write k.desk.ledger.book d.ledger.book ms k.issued.sum k.spent.sum k.number.sum k.received.sum i.sum s.sum
     is.matches_book l
     (omega (arith, raised_sum k.issued i a more, ia)) (omega (arith, raised_sum k.spent s b used, sb)))
-    (raised_shards k.issued i a more) (raised_shards k.spent s b used) (all_same k.number) (all_same k.received)
-    (still_applied k.desk.ledger d.ledger is.protocol same)
+    (raised_shards k.issued i a more) (raised_shards k.spent s b used) (all_same k.number) (all_same k.received) has
 
 -- the book between the take-back of a closing entry and that entry itself
 pub tallied_taking : (c : Bool) (b m : BookValue) (o x i s n r : ℕ) → TakingLeaves c b o x m → MatchesBook b i s n r
@@ -316,21 +325,20 @@ has_one l m applied o e h live next of is more =
 
 -- the desk applied the next entry of site o
 pub kept_apply : (id : DeskId) (k : KeptValue) (d : DeskValue) (o : ℕ) (e : EntryValue) (n r : SplitCounterValue)
-    → IsKept id k
+    (rs : List Record) → IsKept id k
     → (a : AppliesEntry k.desk.ledger o e d.ledger) → ApplyKeeps k.desk.ledger o e a.between d.ledger → 1 ≤ o
     → o ≤ id.sites
-    → e.prev ≡ (peer k.desk.ledger.book o).log.end → (peer k.desk.ledger.book o).log.closed ≡ false
-    → e.origin ≡ o → IsEntry e
+    → e.prev ≡ (peer k.desk.ledger.book o).log.end → IsEntry e → HasLists (lists_of id.site rs) d
     → n ≡ raised k.number (length e.moves) → r ≡ raised k.received (to id.site e.moves)
-    → IsKept id (record k { desk = d; number = n; received = r })
-kept_apply id k d o e n r is applies keeps low high next live of entry more gift =
+    → IsKept id (record k { desk = d; number = n; received = r; records = rs })
+kept_apply id k d o e n r rs is applies keeps low high next entry has more gift =
     let old = k.desk.ledger.book in
     let mid = applies.between in
     let new = d.ledger.book in
     let l = keeps.leaves in
     let t = tallied_taking (owed_by k.desk.ledger o e == 0) old mid o (owed_by k.desk.ledger o e) k.issued.sum
     k.spent.sum k.number.sum k.received.sum keeps.taken is.matches_book in
-    kept_by id k d k.issued k.spent n r is (ap (λ (log : LogValue). log.site) applies.log) (l.same_me
+    kept_by id k d k.issued k.spent n r rs is (ap (λ (log : LogValue). log.site) applies.log) (l.same_me
     ∙ t.1) (l.same_sites ∙ t.2)
     (tallied_apply mid new o e k.issued.sum k.spent.sum k.number.sum k.received.sum n.sum r.sum t.0 l low
     (omega (arith, high, t.2, is.same_sites)) (next
@@ -338,10 +346,7 @@ kept_apply id k d o e n r is applies keeps low high next live of entry more gift
     (raised_sum k.received r (to id.site e.moves) gift
     ∙ ap (λ s. k.received.sum + to s e.moves) (sym (t.1 ∙ is.same_me))))
     (all_same k.issued) (all_same k.spent) (raised_shards k.number n (length e.moves) more)
-    (raised_shards k.received r (to id.site e.moves) gift) (
-      with_one is.protocol.0 o e,
-      has_one k.desk.ledger d.ledger is.protocol.0 o e is.protocol.1 live next of entry keeps.applied,
-    )
+    (raised_shards k.received r (to id.site e.moves) gift) has
 
 -- what the desk received with that entry
 pub gift_is : (id : DeskId) (k : KeptValue) (d : DeskValue) (o : ℕ) (e : EntryValue) → IsKept id k
@@ -447,13 +452,14 @@ nothing_tallied d is i s r =
       numbers = λ o. omega (arith, ap (λ (a : Account). a.end) (is.nothing_applied.sums o));
     }
 
-pub opens : (id : DeskId) (d : DeskValue) (i s n r : SplitCounterValue) (bs : List Bool) → id.site ≡ d.ledger.log.site
+pub opens : (id : DeskId) (d : DeskValue) (i s n r : SplitCounterValue) (bs : List Bool) (rs : List Record)
+    → id.site ≡ d.ledger.log.site
     → id.sites ≡ sites d.ledger.book
     → d.ledger.book.me ≡ d.ledger.log.site → sites d.ledger.book ≤ 16 → MatchesBook d.ledger.book 0 0 0 0
     → i ≡ record { sum = 0; left = 65; returned = 0 }
     → s ≡ record { sum = 0; left = 65; returned = 0 } → n ≡ record { sum = 0; left = 16; returned = 0 }
     → r ≡ record { sum = 0; left = 16; returned = 0 }
-    → length bs ≡ 16 → admitted_count bs ≡ 0 → IsUnused d
+    → length bs ≡ 16 → admitted_count bs ≡ 0 → IsUnused d → rs ≡ []
     → IsKept id (record {
       desk = d;
       issued = i;
@@ -462,8 +468,9 @@ pub opens : (id : DeskId) (d : DeskValue) (i s n r : SplitCounterValue) (bs : Li
       received = r;
       admitted = bs;
       clock_given = false;
+      records = rs;
     })
-opens id d i s n r bs site count me few matches_book hi hs hn hr places none unused = record {
+opens id d i s n r bs rs site count me few matches_book hi hs hn hr places none unused empty = record {
   site = sym site;
   same_me = me ∙ sym site;
   same_sites = sym count;
@@ -487,22 +494,13 @@ opens id d i s n r bs site count me few matches_book hi hs hn hr places none unu
     no_number_back = ap (λ (t : SplitCounterValue). t.returned) hn;
     no_received_back = ap (λ (t : SplitCounterValue). t.returned) hr;
   };
-  protocol = (λ o. [], none_applied d.ledger unused.nothing_written unused.nothing_applied);
+  protocol = subst (λ more. HasLists (lists_of id.site more) d) (sym empty) (record {
+    log = unused.nothing_written;
+    applied = none_applied d.ledger unused.nothing_written unused.nothing_applied;
+  });
 }
 
--- ---- asks
-
--- the desk answered an ask
-pub kept_answer : (id : DeskId) (k : KeptValue) (d : DeskValue) (ask : AskValue) (answer : AskAnswer)
-    (number : Option ℕ) → IsKept id k
-    → DeskAnswers k.desk ask answer number d → AnswerKeeps k.desk ask answer d → IsKept id (record k { desk = d })
-kept_answer id k d ask (Granted n) number is a keeps =
-    kept_write id k d (Grant ask.asker n ask.ask ∷ []) 0 0 k.issued k.spent is a.0.log keeps.leaves keeps.applied
-    (issued-grant ask.asker n ask.ask) (spent-grant ask.asker n ask.ask) (raised_none k.issued) (raised_none k.spent)
-kept_answer id k d ask Deny number is a keeps = same_ledger id k d is (ap (λ (x : DeskValue). x.ledger) a.1)
-kept_answer id k d ask RepeatedDeny number is a keeps = same_ledger id k d is (ap (λ (x : DeskValue). x.ledger) a.1)
-kept_answer id k d ask Repeated number is a keeps = same_ledger id k d is (ap (λ (x : DeskValue). x.ledger) a.1)
-kept_answer id k d ask OldAsk number is a keeps = same_ledger id k d is (ap (λ (x : DeskValue). x.ledger) a.1)
+-- ---- serving
 
 -- the request at the front was served: its amount is what the desk spent with it
 pub record IsServed (old : DeskValue) (ticket number spent : ℕ) (new : DeskValue) : Type 0 where

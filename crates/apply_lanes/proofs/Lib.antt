@@ -6,3 +6,6 @@ pub mod ApplierLaws
 pub mod StopLaws
 pub mod BetweenLaws
 pub mod JournalLaws
+pub mod RecordLaws
+pub mod Walks
+pub mod CrashLaws

@@ -10,6 +10,7 @@ use Rattle.rights_protocol.specs.Schedules.{SiteLists, LocalChange, LocalStep}
 use Rattle.rights_protocol.specs.Schedules.LocalChange.{Write, Apply, Retire, Other}
 use Rattle.rights_protocol.specs.Retiring.{entry_at_end}
 use Rattle.rights_protocol.specs.Invariant.{SiteInvariant}
+use Rattle.rights_protocol.specs.Crashes.{lists_of}
 use Rattle.origin_log.specs.Logs.{LogValue}
 use Rattle.rights_book.specs.Books.{peer, sites}
 use Rattle.transfer_manager.specs.declared.answer.AskAnswer.{AskAnswer}
@@ -24,7 +25,7 @@ use Rattle.site_core.specs.declared.desk.requests.Spending.{Spending}
 use Rattle.site_core.specs.declared.desk.requests.Spending.TheVariants.{Spent, Queued}
 use Rattle.site_core.specs.declared.fault.DeskError.{DeskError}
 use Rattle.apply_lanes.specs.Names.{DeskId}
-use Rattle.apply_lanes.specs.Kepts.{KeptValue, IsKept, KeepsProtocol}
+use Rattle.apply_lanes.specs.Kepts.{KeptValue, IsKept}
 use Rattle.apply_lanes.specs.Steps.{site_lists, StepsBy, spend_change, serve_change, answer_change, apply_change}
 use Rattle.apply_lanes.proofs.KeptLaws.{with_one, adds_one, next_applied, has_one}
 
@@ -149,11 +150,6 @@ pub steps_in_time : (id : DeskId) (old new : DeskValue) (late : Bool) (o : ℕ) 
 steps_in_time id old new false o e is step = step
 steps_in_time id old new true o e is step = absurd (true≢false is)
 
--- such a step preserves the protocol's invariant
-pub step_keeps : (id : DeskId) (old new : DeskValue) (change : LocalChange) → KeepsProtocol old.ledger
-    → StepsBy id old change new → KeepsProtocol new.ledger
-step_keeps id old new change h steps = let s = steps h.0 h.1 in (s.0, s.1)
-
 -- ---- by the result
 
 pub steps_spend : (id : DeskId) (k : KeptValue) (new : DeskValue) (n deadline : ℕ) (answer : Spending) → IsKept id k
@@ -183,14 +179,9 @@ steps_serve id k new ticket number amount is w keeps = steps_write id k new (Spe
 -- ---- what the lock's value preserves
 
 abbrev pub HasProtocol : DeskId → KeptValue → Type 0
-HasProtocol id k = (applied : ℕ → List EntryValue) × HasApplied applied k.desk.ledger
-    × SiteInvariant id.sites id.site k.desk.ledger.log.entries applied
+HasProtocol id k = SiteInvariant id.sites id.site k.desk.ledger.log.entries (lists_of id.site k.records).applied
 
 pub protocol_of : (id : DeskId) (k : KeptValue) → IsKept id k → HasProtocol id k
 protocol_of id k is =
-    let p = is.protocol in (
-      p.0,
-      p.1,
-      subst (λ (x : ℕ × ℕ). SiteInvariant x.0 x.1 k.desk.ledger.log.entries p.0)
-          (λ i. (is.same_sites i, is.site i)) p.1.kept,
-    )
+    subst (λ (x : ℕ × ℕ). SiteInvariant x.0 x.1 k.desk.ledger.log.entries (lists_of id.site k.records).applied)
+    (λ i. (is.same_sites i, is.site i)) is.protocol.applied.kept

@@ -5,6 +5,7 @@ use Rattle.rights_types.specs.Entries.{EntryValue, own}
 use Rattle.rights_types.specs.Chains.{end, moves_of, IsChain}
 use Rattle.rights_types.specs.Rights.{to}
 use Rattle.rights_protocol.specs.Retiring.{numbers_in, one_taking}
+use Rattle.rights_protocol.specs.Crashes.Record.{Applied as WasApplied}
 use Rattle.rights_book.specs.Books.{peer}
 use Rattle.site_core.specs.Ledgers.{owed_by, with_takings, ApplyKeeps}
 use Rattle.site_core.specs.Desks.{DeskValue}
@@ -123,6 +124,7 @@ counted_on id k e d = record k {
   desk = d;
   number = raised k.number (length e.moves);
   received = raised k.received (to id.site e.moves);
+  records = k.records ++ WasApplied e ∷ [];
 }
 
 -- ---- a step

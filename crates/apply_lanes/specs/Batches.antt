@@ -9,7 +9,7 @@ use Rattle.apply_lanes.specs.Names.{DeskId}
 use Rattle.apply_lanes.specs.Kepts.{KeptValue, IsKept}
 use Rattle.apply_lanes.specs.Appliers.{ApplierValue, IsCounted, is_late, step_fault, StepRefuses, MovesOn, counted_on}
 use Rattle.apply_lanes.specs.Appliers.{Fills, HasEnded, LeavesHand, Advances, Runs, RunFails}
-use Rattle.apply_lanes.specs.Steps.{StepsBy, apply_change}
+use Rattle.apply_lanes.specs.Steps.{StepsBy, RecordsBy, apply_change}
 
 -- under the lock: too late, the entry e of o changes nothing; else it moves the desk on, and is counted
 abbrev pub LeavesLock : DeskId → Bool → KeptValue → ℕ → EntryValue → KeptValue → Type 0
@@ -30,6 +30,7 @@ module _ {G A : Type 0} where
     pub hand : LeavesHand id (is_late old k.desk) old e new
     pub lock : LeavesLock id (is_late old k.desk) k old.origin e l
     pub step : StepsBy id k.desk (apply_change (is_late old k.desk) old.origin e) l.desk
+    pub records : RecordsBy id k (apply_change (is_late old k.desk) old.origin e) l
     pub counted : IsCounted id new
 
   -- the next entry was taken, unless one was in hand, and handled under the lock

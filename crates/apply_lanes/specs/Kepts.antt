@@ -1,21 +1,22 @@
 -- The value under the lock of a shared desk, and what the calls of its seats reported.
 use Rattle.std.specs.Prelude.{◌≡◌, ℕ, ◌+◌, ◌-◌, ◌≤◌, Bool, if◌then◌else◌, List, length, Option, Some, None, count_by}
-use Rattle.rights_types.specs.Entries.{EntryValue}
 use Rattle.rights_types.specs.Chains.{moves_of, IsChain}
 use Rattle.rights_types.specs.Rights.{issued, spent, out, taken_back, sum_sites}
 use Rattle.rights_types.specs.declared.limits.TheConstants.{MAX_NUMBER, MAX_SITES}
 use Rattle.rights_book.specs.Books.{BookValue, sites, peer, received_by, held_by, applied_by}
 use Rattle.request_queue.specs.declared.request.Request.{Request}
 use Rattle.request_queue.specs.Queues.{front_of}
-use Rattle.site_core.specs.Ledgers.{LedgerValue, HasApplied}
+use Rattle.rights_protocol.specs.Crashes.{Record, lists_of}
 use Rattle.site_core.specs.Desks.{DeskValue}
+use Rattle.site_core.specs.Replaying.{HasLists}
 use Rattle.site_core.specs.declared.desk.requests.Spending.{Spending}
 use Rattle.site_core.specs.declared.desk.requests.Spending.TheVariants.{Spent, Queued}
 use Rattle.apply_lanes.specs.declared.names.TheConstants.{SEATS, APPLIERS}
 use Rattle.apply_lanes.specs.Names.{DeskId}
 use Rattle.thread_parts.specs.SplitCounters.{SplitCounterValue}
 
--- the desk, its four counters, which sites have an applier of their logs, and whether the clock's seat was given out
+-- the desk, its four counters, which sites have an applier of their logs, whether the clock's seat was given out, and the
+-- records of the desk's steps
 pub record KeptValue : Type 0 where
   pub desk : DeskValue
   pub issued : SplitCounterValue
@@ -24,6 +25,7 @@ pub record KeptValue : Type 0 where
   pub received : SplitCounterValue
   pub admitted : List Bool
   pub clock_given : Bool
+  pub records : List Record
 
 -- ---- the invariant of the lock
 
@@ -65,12 +67,8 @@ pub record HasShards (k : KeptValue) : Type 0 where
   pub no_number_back : k.number.returned ≡ 0
   pub no_received_back : k.received.returned ≡ 0
 
--- for some lists of what the site applied of the other logs: its book has the sums of these lists, and the protocol's
--- invariant of one site holds of its log and them
-abbrev pub KeepsProtocol : LedgerValue → Type 0
-KeepsProtocol l = (applied : ℕ → List EntryValue) × HasApplied applied l
-
--- what holds whenever the lock is free
+-- What holds whenever the lock is free. The desk has the lists that its records stand for, and the protocol's invariant
+-- of one site holds of them.
 pub record IsKept (id : DeskId) (k : KeptValue) : Type 0 where
   pub site : k.desk.ledger.log.site ≡ id.site
   pub same_me : k.desk.ledger.book.me ≡ id.site
@@ -78,7 +76,7 @@ pub record IsKept (id : DeskId) (k : KeptValue) : Type 0 where
   pub few : id.sites ≤ MAX_SITES
   pub matches_book : MatchesBook k.desk.ledger.book k.issued.sum k.spent.sum k.number.sum k.received.sum
   pub has_shards : HasShards k
-  pub protocol : KeepsProtocol k.desk.ledger
+  pub protocol : HasLists (lists_of id.site k.records) k.desk
 
 -- the log is a chain; the sums are those of the log and of what was applied; and what is held is what was issued,
 -- received and taken back, less what was given and spent, so it is not negative

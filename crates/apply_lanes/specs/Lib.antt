@@ -1,4 +1,5 @@
 pub mod Names
+pub mod Recording
 pub mod Kepts
 pub mod Views
 pub mod Admissions

@@ -1,6 +1,6 @@
 -- The calls under the lock as steps of the protocol, each of one site. In every schedule of the calls at all desks of
 -- a system, the headline and retirement hold.
-use Rattle.std.specs.Prelude.{◌≡◌, ◌≢◌, ℕ, ◌≤◌, Bool, true, false, List, [], ◌∷◌, Option, Some, None}
+use Rattle.std.specs.Prelude.{◌≡◌, ◌≢◌, ℕ, ◌≤◌, Bool, true, false, List, [], ◌∷◌, ◌++◌, Option, Some, None}
 use Rattle.std.specs.List.{Contains}
 use Rattle.rights_types.specs.Entries.{EntryValue}
 use Rattle.rights_types.specs.Messages.{AskValue}
@@ -9,6 +9,7 @@ use Rattle.rights_types.specs.declared.moves.Move.TheVariants.{Spend, Grant}
 use Rattle.rights_protocol.specs.Lists.{IsSiteOf}
 use Rattle.rights_protocol.specs.Schedules.{SiteLists, LocalChange, LocalStep, Turn, AllPromised, together}
 use Rattle.rights_protocol.specs.Schedules.LocalChange.{Write, Apply, Other}
+use Rattle.rights_protocol.specs.Crashes.{lists_of, records_by}
 use Rattle.transfer_manager.specs.declared.answer.AskAnswer.{AskAnswer}
 use Rattle.transfer_manager.specs.declared.answer.AskAnswer.TheVariants.{Grant as Granted}
 use Rattle.site_core.specs.Ledgers.{HasApplied}
@@ -16,6 +17,7 @@ use Rattle.site_core.specs.Desks.{DeskValue}
 use Rattle.site_core.specs.declared.desk.requests.Spending.{Spending}
 use Rattle.site_core.specs.declared.desk.requests.Spending.TheVariants.{Spent, Queued}
 use Rattle.apply_lanes.specs.Names.{DeskId, IsUnused}
+use Rattle.apply_lanes.specs.Kepts.{KeptValue}
 
 -- ---- a call under the lock
 
@@ -30,6 +32,11 @@ StepsBy id old change new =
     (applied : ℕ → List EntryValue) → HasApplied applied old.ledger
     → (later : ℕ → List EntryValue) × HasApplied later new.ledger
     × LocalStep id.sites id.site (site_lists old applied) change (site_lists new later)
+
+-- the records of this step of the desk's site were appended, and no others
+abbrev pub RecordsBy : DeskId → KeptValue → LocalChange → KeptValue → Type 0
+RecordsBy id old change new =
+    new.records ≡ old.records ++ records_by id.sites id.site (lists_of id.site old.records) change
 
 -- the step of a spend with this result
 abbrev pub spend_change : ℕ → Spending → LocalChange

@@ -80,7 +80,7 @@ impl<D: DeskNames, G: Gate, A: Allocator> Applier<D, G, A> {
     ghost use Rattle.apply_lanes.specs.Appliers.{ApplierValue, IsCounted, is_late, step_fault, StepRefuses, MovesOn};
     ghost use Rattle.apply_lanes.specs.Appliers.{applied, dropped, counted_on, Fills, Steps, StepFails, Runs, RunFails};
     ghost use Rattle.apply_lanes.specs.Kepts.{IsKept};
-    ghost use Rattle.apply_lanes.specs.Steps.{StepsBy, apply_change};
+    ghost use Rattle.apply_lanes.specs.Steps.{StepsBy, RecordsBy, apply_change};
 
     /// Applies the entry in hand to the value under the lock; at a closed desk the entry is dropped. Errors, in this
     /// order: `OutOfStep`, `OutOfMemory`. An error leaves the entry in hand, and changes nothing.
@@ -98,6 +98,8 @@ impl<D: DeskNames, G: Gate, A: Allocator> Applier<D, G, A> {
         ensures step { OnOk result ((e : EntryValue) → self.old.hand ≡ Some e
             → StepsBy D.id kept.old.desk (apply_change (is_late self.old kept.old.desk) self.old.origin e)
             kept.new.desk) }
+        ensures records { OnOk result ((e : EntryValue) → self.old.hand ≡ Some e
+            → RecordsBy D.id kept.old (apply_change (is_late self.old kept.old.desk) self.old.origin e) kept.new) }
         ensures same { (self.new.origin ≡ self.old.origin) × (self.new.outlet ≡ self.old.outlet) }
         ensures before { IsCounted D.id self.old }
         ensures after { IsCounted D.id self.new }

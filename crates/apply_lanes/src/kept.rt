@@ -1,7 +1,6 @@
 //! The value under the lock of a shared desk: a desk, with the four counters of what it did.
-ghost use Rattle.std.specs.Prelude.{◌≡◌, ◌≢◌, ℕ, ◌+◌, ◌≤◌, ◌<◌, true, false, [], List, Option, Some, None, IfOk, IfErr};
+ghost use Rattle.std.specs.Prelude.{◌≡◌, ◌≢◌, ◌+◌, ◌≤◌, ◌<◌, true, false, [], ◌∷◌, ◌++◌, Option, Some, None, IfOk, IfErr};
 ghost use Rattle.std.specs.Prelude.{IfSome, IsOk, OnOk, OnErr, MatchResult, length};
-ghost use Rattle.rights_types.specs.Entries.{EntryValue};
 ghost use Rattle.rights_types.specs.Places.{at_site, set_site};
 ghost use Rattle.rights_types.specs.Rights.{to};
 ghost use Rattle.rights_protocol.specs.Retiring.{numbers_in};
@@ -10,10 +9,12 @@ ghost use Rattle.request_queue.specs.declared.queue.TheConstants.{SLOTS};
 ghost use Rattle.site_core.specs.Ledgers.{ApplyKeeps};
 ghost use Rattle.site_core.specs.Faults.{has_closed};
 ghost use Rattle.site_core.specs.Calls.{DeskApplies};
-ghost use Rattle.site_core.specs.Ledgers.{HasApplied};
+ghost use Rattle.site_core.specs.Replaying.{HasLists};
+ghost use Rattle.rights_protocol.specs.Crashes.{lists_of};
+ghost use Rattle.rights_protocol.specs.Crashes.Record.{Applied as IsApplied};
 ghost use Rattle.rights_protocol.specs.Invariant.{SiteInvariant};
 ghost use Rattle.rights_protocol.specs.Schedules.LocalChange.{Apply as Applies};
-ghost use Rattle.apply_lanes.specs.Steps.{StepsBy};
+ghost use Rattle.apply_lanes.specs.Steps.{StepsBy, RecordsBy};
 ghost use Rattle.apply_lanes.specs.Names.{id_of, AreBlank, IsUnused};
 ghost use Rattle.apply_lanes.specs.Kepts.{one_less, seats_left, told_nothing};
 ghost use Rattle.apply_lanes.specs.declared.names.TheConstants.{SEATS, APPLIERS};
@@ -23,6 +24,7 @@ ghost use Rattle.apply_lanes.specs.Admissions.{Admits, GivesSeat, GivesClockSeat
 use crate::applier::Applier;
 use crate::gate::Gate;
 use crate::names::{APPLIERS, Blanks, DeskNames, IssuedBy, NumberOf, ReceivedBy, SEATS, SpentBy};
+use crate::records::Records;
 use crate::seat::{Seat, SeatsFull};
 use request_queue::SLOTS;
 use rights_types::{Entry, OutOfMemory, SiteId};
@@ -48,6 +50,8 @@ pub struct Kept<D: DeskNames, A: Allocator = Global> {
     pub(crate) admitted: [bool; 16],
     // Whether the clock's seat was given out. Until then one shard of `issued` and one of `spent` is reserved for it.
     pub(crate) clock_given: bool,
+    // Of all steps of the desk, for clauses alone.
+    pub(crate) records: Records,
 }
 
 impl<D: DeskNames, A: Allocator> Model for Kept<D, A> {
@@ -63,6 +67,7 @@ impl<D: DeskNames, A: Allocator> Model for Kept<D, A> {
       received = k.received;
       admitted = k.admitted;
       clock_given = k.clock_given;
+      records = k.records.items;
     } };
 
     ghost invariant = { λ k. IsKept D.id (record {
@@ -73,6 +78,7 @@ impl<D: DeskNames, A: Allocator> Model for Kept<D, A> {
       received = k.received;
       admitted = k.admitted;
       clock_given = k.clock_given;
+      records = k.records.items;
     }) };
 }
 
@@ -118,6 +124,7 @@ impl<D: DeskNames, A: Allocator + Copy> Kept<D, A> {
         ensures seats { seats_left result ≡ SEATS }
         ensures clock { result.clock_given ≡ false }
         ensures appliers { result.number.left ≡ APPLIERS }
+        ensures records { result.records ≡ [] }
     {
         // For the proof: what a desk with an empty log issued, spent and received.
         let _ = (desk.site(), desk.sites());
@@ -136,6 +143,7 @@ impl<D: DeskNames, A: Allocator + Copy> Kept<D, A> {
             received: SplitCounter::open(received, APPLIERS),
             admitted: [false; 16],
             clock_given: false,
+            records: Records::new(),
         }
     }
 
@@ -145,8 +153,9 @@ impl<D: DeskNames, A: Allocator + Copy> Kept<D, A> {
         ensures balance { IsInBalance self.now }
         ensures valid { IsKept D.id self.now }
         ensures few { length self.now.desk.queue.waiting ≤ SLOTS }
-        ensures protocol { (applied : ℕ → List EntryValue) × HasApplied applied self.now.desk.ledger
-            × SiteInvariant D.id.sites D.id.site self.now.desk.ledger.log.entries applied }
+        ensures lists { HasLists (lists_of D.id.site self.now.records) self.now.desk }
+        ensures protocol { SiteInvariant D.id.sites D.id.site self.now.desk.ledger.log.entries
+            (lists_of D.id.site self.now.records).applied }
     {
         let desk = &self.desk;
         // For the proof: what the desk's readers say of its log and queue.
@@ -303,12 +312,14 @@ impl<D: DeskNames, A: Allocator + Copy> Kept<D, A> {
         ensures keeps { OnOk result ((h : DeskApplies self.old.desk origin entry.now self.new.desk)
             → ApplyKeeps self.old.desk.ledger origin entry.now h.entry.between self.new.desk.ledger) }
         ensures step { OnOk result (StepsBy D.id self.old.desk (Applies origin entry.now) self.new.desk) }
+        ensures records { OnOk result (RecordsBy D.id self.old (Applies origin entry.now) self.new) }
         ensures counters { OnOk result
             (self.new ≡ record self.old {
               desk = self.new.desk;
               number = raised self.old.number (length entry.now.moves);
               received
                   = raised self.old.received (to D.id.site entry.now.moves);
+              records = self.old.records ++ IsApplied entry.now ∷ [];
             }) }
         ensures added { OnOk result ((number.new ≡ number.old + length entry.now.moves)
             × (received.new ≡ received.old + to D.id.site entry.now.moves)) }
@@ -322,6 +333,7 @@ impl<D: DeskNames, A: Allocator + Copy> Kept<D, A> {
         let gift = self.desk.received() - before;
         self.number.add(number, entry.own() - entry.prev());
         self.received.add(received, gift);
+        self.records = self.records.and(entry);
         Ok(())
     }
 }

@@ -5,7 +5,7 @@ ghost use Rattle.thread_parts.specs.Items.{StartsWith};
 ghost use Rattle.link_intake.specs.Intakes.{Sends, IsIntake};
 ghost use Rattle.apply_lanes.specs.Between.{IsBetween};
 ghost use Rattle.apply_lanes.specs.Steps.{EverySchedule};
-ghost use Rattle.apply_lanes.specs.Journals.{CallIsDeskStep};
+ghost use Rattle.apply_lanes.specs.Journals.{CallIsDeskStep, EveryCrashUnderLocks};
 
 use crate::applier::Applier;
 use crate::gate::Gate;
@@ -43,4 +43,12 @@ pub fn every_schedule()
 /// Each call under the lock, by its clause `step`, is a step in the sense of the law `every_crash` of site_core.
 pub fn call_is_desk_step()
     ensures { CallIsDeskStep }
+{}
+
+/// The desks of a system's sites, each under its lock, unused at first, each with a journal that has its records. After
+/// any calls under these locks, syncs and crashes, whenever no lock is held: each desk has the lists that its records
+/// stand for, and all promises hold of these lists, of those that are durable, and of any mixture. The premises: what a
+/// desk applies is durable at its origin by then, and a crash leaves what was durable.
+pub fn every_crash_under_locks()
+    ensures { EveryCrashUnderLocks }
 {}

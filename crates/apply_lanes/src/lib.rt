@@ -8,6 +8,7 @@ mod gate;
 mod kept;
 pub mod laws;
 mod names;
+mod records;
 mod seat;
 mod shared_desk;
 mod stopping;

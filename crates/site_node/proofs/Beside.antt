@@ -1,7 +1,8 @@
 -- A tick beside no silent site is a tick.
-use Rattle.std.proofs.Common.{◌≡◌, ℕ, Bool, List, Result, Ok, Err, refl, subst}
+use Rattle.std.proofs.Common.{◌≡◌, ℕ, Bool, false, List, Result, Ok, Err, refl, subst}
 use Rattle.request_queue.specs.declared.request.Request.{Request}
 use Rattle.request_queue.specs.Queues.{total_of}
+use Rattle.rights_types.proofs.Places.{at_site-replicate}
 use Rattle.rights_book.specs.Books.{sites}
 use Rattle.transfer_manager.specs.SiteSets.{no_sites, has_site}
 use Rattle.transfer_manager.specs.Managers.{sites as asked_sites}
@@ -11,8 +12,12 @@ use Rattle.site_core.specs.Desks.{DeskValue}
 use Rattle.site_core.specs.Calls.{DeskPlans, DeskPlansBeside}
 use Rattle.site_core.specs.declared.fault.DeskError.{DeskError}
 use Rattle.apply_lanes.specs.Kepts.{KeptValue, SeatValue}
+use Rattle.apply_lanes.specs.Recording.{with_planned}
 use Rattle.site_node.specs.declared.tick.Ticked.{Ticked}
 use Rattle.site_node.specs.Ticking.{Ticks, TicksBeside}
+
+nobody_silent : (j : ℕ) → has_site no_sites j ≡ false
+nobody_silent j = at_site-replicate (λ (b : Bool). b ≡ false) 16 j false false (λ l h. refl) refl
 
 plans_alone : (d : DeskValue) (count : ℕ) (new : DeskValue) → DeskPlansBeside (has_site no_sites) d count new
     → DeskPlans d count new
@@ -38,7 +43,13 @@ alone old was time served (Ok ticked) new now h = record {
   expires = h.expires;
   serves = h.serves;
   counted = h.counted;
-  plans = record { desk = plans_alone h.left.desk ticked.asks new.desk h.plans.desk; rest = h.plans.rest };
+  plans = record {
+    desk = plans_alone h.left.desk ticked.asks new.desk h.plans.desk;
+    rest = subst (λ (silent : ℕ → Bool). new ≡ record h.left {
+      desk = new.desk;
+      records = with_planned silent h.left.records h.left.desk;
+    }) (λ i j. nobody_silent j i) h.plans.rest;
+  };
 }
 alone old was time served (Err fault) new now h = h
 

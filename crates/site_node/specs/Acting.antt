@@ -17,6 +17,7 @@ use Rattle.site_core.specs.Ledgers.{EntryKeeps, ClosingKeeps}
 use Rattle.site_core.specs.Calls.{DeskWrites, DeskSpends, SpendKeeps, DeskCancels, DeskCloses}
 use Rattle.apply_lanes.specs.Kepts.{KeptValue, SeatValue, raised, told_issued, told_spent, told_taken}
 use Rattle.apply_lanes.specs.Kepts.{spent_by}
+use Rattle.apply_lanes.specs.Recording.{with_written, with_spent}
 use Rattle.site_words.specs.declared.commands.DeskCommand.{DeskCommand}
 use Rattle.site_words.specs.declared.commands.DeskCommand.TheVariants.{Issue, Give, Spend, Take}
 use Rattle.site_words.specs.declared.commands.DeskCommand.TheVariants.{Outcome, Cancel, Close}
@@ -26,39 +27,51 @@ use Rattle.site_node.specs.declared.reply.Reply.TheVariants.{Number, Spending, O
 
 -- ---- what a command leaves that is not refused
 
--- an entry issued this many rights, and its number is returned; the counter and the seat count them
+-- an entry issued this many rights, is recorded, and its number is returned; the counter and the seat count them
 pub record HasIssued (old : KeptValue) (was : SeatValue) (amount number : ℕ) (new : KeptValue)
     (now : SeatValue) : Type 0 where
   pub entry : DeskWrites old.desk (Issues amount ∷ []) new.desk
   pub keeps : EntryKeeps old.desk.ledger (Issues amount ∷ []) new.desk.ledger
   pub at_end : number ≡ end new.desk.ledger.log.entries
-  pub counter : new ≡ record old { desk = new.desk; issued = raised old.issued amount }
+  pub counter : new ≡ record old {
+    desk = new.desk;
+    issued = raised old.issued amount;
+    records = with_written old.records new.desk;
+  }
   pub counted : now ≡ told_issued was amount
 
--- an entry gave this many rights to the peer, and its number is returned
+-- an entry gave this many rights to the peer, is recorded, and its number is returned
 pub record HasGiven (old : KeptValue) (was : SeatValue) (peer amount number : ℕ) (new : KeptValue)
     (now : SeatValue) : Type 0 where
   pub entry : DeskWrites old.desk (Gives peer amount ∷ []) new.desk
   pub keeps : EntryKeeps old.desk.ledger (Gives peer amount ∷ []) new.desk.ledger
   pub at_end : number ≡ end new.desk.ledger.log.entries
-  pub rest : new ≡ record old { desk = new.desk }
+  pub rest : new ≡ record old { desk = new.desk; records = with_written old.records new.desk }
   pub same_seat : now ≡ was
 
--- the spend was served or waits, as the reply says; the counter and the seat count what was spent
+-- the spend was served and recorded, or waits, as the reply says; the counter and the seat count what was spent
 pub record HasSpent (old : KeptValue) (was : SeatValue) (amount deadline : ℕ) (spending : SpendResult) (new : KeptValue)
     (now : SeatValue) : Type 0 where
   pub desk : DeskSpends old.desk amount deadline spending new.desk
   pub keeps : SpendKeeps old.desk amount spending new.desk
-  pub counter : new ≡ record old { desk = new.desk; spent = raised old.spent (spent_by amount spending) }
+  pub counter : new ≡ record old {
+    desk = new.desk;
+    spent = raised old.spent (spent_by amount spending);
+    records = with_spent old.records spending new.desk;
+  }
   pub counted : now ≡ told_spent was amount spending
 
--- an entry spent this many rights now; the counter and the seat count them
+-- an entry spent this many rights now, and is recorded; the counter and the seat count them
 pub record HasTaken (old : KeptValue) (was : SeatValue) (amount number : ℕ) (new : KeptValue)
     (now : SeatValue) : Type 0 where
   pub entry : DeskWrites old.desk (Spends amount ∷ []) new.desk
   pub keeps : EntryKeeps old.desk.ledger (Spends amount ∷ []) new.desk.ledger
   pub at_end : number ≡ end new.desk.ledger.log.entries
-  pub counter : new ≡ record old { desk = new.desk; spent = raised old.spent amount }
+  pub counter : new ≡ record old {
+    desk = new.desk;
+    spent = raised old.spent amount;
+    records = with_written old.records new.desk;
+  }
   pub counted : now ≡ told_taken was amount
 
 -- the spend no longer waits, and its outcome is returned, which frees its slot
@@ -76,13 +89,13 @@ pub record HasReported (old : KeptValue) (was : SeatValue) (ticket : ℕ) (statu
   pub rest : new ≡ record old { desk = record old.desk { queue = new.desk.queue } }
   pub same_seat : now ≡ was
 
--- the closing entry was written, and its number is returned
+-- the closing entry was written and recorded, and its number is returned
 pub record HasClosed (old : KeptValue) (was : SeatValue) (heir : Option ℕ) (number : ℕ) (new : KeptValue)
     (now : SeatValue) : Type 0 where
   pub entry : DeskCloses old.desk heir new.desk
   pub keeps : ClosingKeeps old.desk.ledger heir new.desk.ledger
   pub at_end : number ≡ end new.desk.ledger.log.entries
-  pub rest : new ≡ record old { desk = new.desk }
+  pub rest : new ≡ record old { desk = new.desk; records = with_written old.records new.desk }
   pub same_seat : now ≡ was
 
 -- ---- a command

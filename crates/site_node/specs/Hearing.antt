@@ -9,6 +9,7 @@ use Rattle.origin_log.specs.Faults.{query_fault}
 use Rattle.transfer_manager.specs.Managers.{ended}
 use Rattle.site_core.specs.Desks.{DeskValue}
 use Rattle.site_core.specs.Calls.{answer_of, denial_of, DeskAnswers, AnswerKeeps}
+use Rattle.apply_lanes.specs.Recording.{with_answered}
 use Rattle.apply_lanes.specs.Kepts.{KeptValue}
 use Rattle.site_node.specs.Sending.{OffersIf}
 
@@ -37,5 +38,8 @@ module _ {S : Type 0} (takes : S → List ℕ → Bool → S → Type 0) where
     pub number : Option ℕ
     pub answer : DeskAnswers old.desk ask (answer_of old.desk ask) number new.desk
     pub keeps : AnswerKeeps old.desk ask (answer_of old.desk ask) new.desk
-    pub rest : new ≡ record old { desk = new.desk }
+    pub rest : new ≡ record old {
+      desk = new.desk;
+      records = with_answered old.records (answer_of old.desk ask) new.desk;
+    }
     pub denial : Replies (denial_of ask (answer_of old.desk ask)) before after

@@ -6,19 +6,24 @@ use Rattle.site_core.specs.declared.fault.DeskError.{DeskError}
 use Rattle.site_core.specs.Faults.{can_serve, serve_fault, expire_fault}
 use Rattle.site_core.specs.Calls.{ServesFront, ServeKeeps, DeskExpires, DeskPlansBeside, CannotServe}
 use Rattle.apply_lanes.specs.Kepts.{KeptValue, SeatValue, raised, told_served}
+use Rattle.apply_lanes.specs.Recording.{with_written, with_planned}
 use Rattle.site_node.specs.Refusals.{Refuses}
 use Rattle.site_node.specs.declared.tick.Ticked.{Ticked}
 
 -- ---- serving
 
--- this request was at the front and was served; the counter and the seat count its amount
+-- this request was at the front, was served, and is recorded; the counter and the seat count its amount
 pub record ServesNext (old : KeptValue) (was : SeatValue) (request : Request) (new : KeptValue)
     (now : SeatValue) : Type 0 where
   pub first : old.desk.queue.waiting ≡ request ∷ new.desk.queue.waiting
   pub number : ℕ
   pub desk : ServesFront old.desk request.ticket number new.desk
   pub keeps : ServeKeeps old.desk (Some (request.ticket, number)) new.desk
-  pub counter : new ≡ record old { desk = new.desk; spent = raised old.spent request.amount }
+  pub counter : new ≡ record old {
+    desk = new.desk;
+    spent = raised old.spent request.amount;
+    records = with_written old.records new.desk;
+  }
   pub counted : now ≡ told_served was request.amount
 
 -- these requests were served, one after another
@@ -55,10 +60,10 @@ pub record ExpiresAll (old : KeptValue) (time count : ℕ) (new : KeptValue) : T
   pub desk : DeskExpires old.desk time count new.desk
   pub rest : new ≡ record old { desk = new.desk }
 
--- this many asks were planned beside these silent sites; only the desk changed
+-- this many asks were planned beside these silent sites, and each is recorded; only the desk changed
 pub record PlansAsks (silent : ℕ → Bool) (old : KeptValue) (count : ℕ) (new : KeptValue) : Type 0 where
   pub desk : DeskPlansBeside silent old.desk count new.desk
-  pub rest : new ≡ record old { desk = new.desk }
+  pub rest : new ≡ record old { desk = new.desk; records = with_planned silent old.records old.desk }
 
 -- everything late expired, then everything that could be was served, and then asks were planned for what still waits
 pub record HasTicked (silent : ℕ → Bool) (old : KeptValue) (was : SeatValue) (time : ℕ) (served : List Request)

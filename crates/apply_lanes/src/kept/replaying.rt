@@ -1,5 +1,5 @@
 //! Replaying the journal of a site that starts again. Entries of other sites go through their appliers.
-ghost use Rattle.std.specs.Prelude.{◌≡◌, IfErr, OnOk, OnErr};
+ghost use Rattle.std.specs.Prelude.{◌≡◌, [], ◌∷◌, ◌++◌, IfErr, OnOk, OnErr};
 ghost use Rattle.rights_types.specs.Rights.{issued, spent};
 ghost use Rattle.rights_protocol.specs.Schedules.{LocalChange};
 ghost use Rattle.rights_protocol.specs.Schedules.LocalChange.{Other};
@@ -9,6 +9,7 @@ ghost use Rattle.apply_lanes.specs.Steps.{StepsBy};
 
 use crate::kept::Kept;
 use crate::names::DeskNames;
+use crate::records::Again;
 use crate::seat::Seat;
 use rights_types::{Ask, Entry};
 use site_core::ReplayError;
@@ -32,6 +33,7 @@ impl<D: DeskNames, A: Allocator + Copy> Kept<D, A> {
               desk = self.new.desk;
               issued = raised self.old.issued (issued entry.now.moves);
               spent = raised self.old.spent (spent entry.now.moves);
+              records = self.old.records ++ IsWritten entry.now ∷ [];
             }) }
         ensures told { OnOk result (seat.new ≡ told_again seat.old entry.now.moves) }
         ensures refused { IfErr result (RefusesOwn self.old.desk entry.now) }
@@ -44,6 +46,7 @@ impl<D: DeskNames, A: Allocator + Copy> Kept<D, A> {
         self.issued.add(&mut seat.issued, more);
         self.spent.add(&mut seat.used, used);
         seat.spent += used;
+        self.records = self.records.and(&Again { entry });
         Ok(())
     }
 
@@ -51,10 +54,13 @@ impl<D: DeskNames, A: Allocator + Copy> Kept<D, A> {
     pub fn replay_ask(&mut self, ask: &Ask) -> Result<(), ReplayError>
         ensures replays { OnOk result (Replays self.old.desk (IsAsked ask.now) self.new.desk) }
         ensures step { OnOk result (StepsBy D.id self.old.desk Other self.new.desk) }
-        ensures rest { self.new ≡ record self.old { desk = self.new.desk } }
+        ensures rest { OnOk result (self.new
+            ≡ record self.old { desk = self.new.desk; records = self.old.records ++ IsAsked ask.now ∷ [] }) }
         ensures refused { IfErr result (RefusesAsk self.old.desk ask.now) }
         ensures err { OnErr result (self.new ≡ self.old) }
     {
-        self.desk.replay_ask(ask)
+        self.desk.replay_ask(ask)?;
+        self.records = self.records.and(ask);
+        Ok(())
     }
 }

@@ -1,5 +1,5 @@
 //! Calls under the lock that change a desk: those of seats, which issue and spend, and all others.
-ghost use Rattle.std.specs.Prelude.{◌≡◌, ℕ, ◌<◌, ◌≤◌, ◌∷◌, [], true, None, Some, IfOk, IfErr, IfSome, OnOk, OnErr};
+ghost use Rattle.std.specs.Prelude.{◌≡◌, ℕ, ◌<◌, ◌≤◌, ◌∷◌, [], true, false, None, Some, IfOk, IfErr, IfSome, OnOk, OnErr};
 ghost use Rattle.std.specs.Prelude.{IsOk, List, length};
 ghost use Rattle.rights_types.specs.Chains.{end};
 ghost use Rattle.rights_types.specs.declared.moves.Move.TheVariants.{Issue as Issues, Spend as Spends, Give as Gives};
@@ -19,10 +19,12 @@ ghost use Rattle.site_core.specs.Calls.{DeskPlans, DeskCloses, answer_of, is_ign
 ghost use Rattle.site_core.specs.Calls.{AnswerKeeps, DeskCancels, DeskPlansBeside};
 ghost use Rattle.site_core.specs.declared.fault.DeskError.TheVariants.{OutOfMemory as NoMemory};
 ghost use Rattle.rights_protocol.specs.Schedules.LocalChange.{Write, Retire, Other};
-ghost use Rattle.apply_lanes.specs.Steps.{StepsBy, spend_change, serve_change, answer_change};
+ghost use Rattle.apply_lanes.specs.Steps.{StepsBy, RecordsBy, spend_change, serve_change, answer_change};
+ghost use Rattle.apply_lanes.specs.Recording.{with_written, with_spent, with_served, with_answered, with_planned};
 
 use crate::kept::Kept;
 use crate::names::DeskNames;
+use crate::records::{Answered, Plan, PlanBeside};
 use crate::seat::Seat;
 use request_queue::{SLOTS, Status};
 use rights_types::{Ask, AskNumber, OutOfMemory, SiteId};
@@ -40,9 +42,14 @@ impl<D: DeskNames, A: Allocator + Copy> Kept<D, A> {
         ensures ok { OnOk result (DeskWrites self.old.desk (Issues amount ∷ []) self.new.desk) }
         ensures keeps { OnOk result (EntryKeeps self.old.desk.ledger (Issues amount ∷ []) self.new.desk.ledger) }
         ensures step { OnOk result (StepsBy D.id self.old.desk (Write (Issues amount ∷ [])) self.new.desk) }
+        ensures records { OnOk result (RecordsBy D.id self.old (Write (Issues amount ∷ [])) self.new) }
         ensures number { IfOk result (λ n. n ≡ end self.new.desk.ledger.log.entries) }
         ensures counters { OnOk result
-            (self.new ≡ record self.old { desk = self.new.desk; issued = raised self.old.issued amount }) }
+            (self.new ≡ record self.old {
+              desk = self.new.desk;
+              issued = raised self.old.issued amount;
+              records = with_written self.old.records self.new.desk;
+            }) }
         ensures told { OnOk result (seat.new ≡ told_issued seat.old amount) }
         ensures err { OnErr result ((self.new ≡ self.old) × (seat.new ≡ seat.old)) }
     {
@@ -50,6 +57,7 @@ impl<D: DeskNames, A: Allocator + Copy> Kept<D, A> {
         // For the proof: the sum is in its range.
         let _ = self.desk.issued();
         self.issued.add(&mut seat.issued, amount);
+        self.records = self.records.and(&self.desk);
         Ok(number)
     }
 
@@ -67,8 +75,13 @@ impl<D: DeskNames, A: Allocator + Copy> Kept<D, A> {
         ensures keeps { IfOk result (λ spending. SpendKeeps self.old.desk amount spending self.new.desk) }
         ensures step { IfOk result
             (λ spending. StepsBy D.id self.old.desk (spend_change amount spending) self.new.desk) }
+        ensures records { IfOk result (λ spending. RecordsBy D.id self.old (spend_change amount spending) self.new) }
         ensures counters { IfOk result (λ spending. self.new
-            ≡ record self.old { desk = self.new.desk; spent = raised self.old.spent (spent_by amount spending) }) }
+            ≡ record self.old {
+              desk = self.new.desk;
+              spent = raised self.old.spent (spent_by amount spending);
+              records = with_spent self.old.records spending self.new.desk;
+            }) }
         ensures told { IfOk result (λ spending. seat.new ≡ told_spent seat.old amount spending) }
         ensures err { OnErr result ((self.new ≡ self.old) × (seat.new ≡ seat.old)) }
         ensures memory { IfErr result (λ fault. fault ≡ NoMemory → can_spend self.old.desk amount ≡ true) }
@@ -79,6 +92,7 @@ impl<D: DeskNames, A: Allocator + Copy> Kept<D, A> {
             let _ = self.desk.spent();
             self.spent.add(&mut seat.used, amount);
             seat.spent += amount;
+            self.records = self.records.and(&self.desk);
         }
         Ok(spending)
     }
@@ -89,9 +103,14 @@ impl<D: DeskNames, A: Allocator + Copy> Kept<D, A> {
         ensures ok { OnOk result (DeskWrites self.old.desk (Spends rights ∷ []) self.new.desk) }
         ensures keeps { OnOk result (EntryKeeps self.old.desk.ledger (Spends rights ∷ []) self.new.desk.ledger) }
         ensures step { OnOk result (StepsBy D.id self.old.desk (Write (Spends rights ∷ [])) self.new.desk) }
+        ensures records { OnOk result (RecordsBy D.id self.old (Write (Spends rights ∷ [])) self.new) }
         ensures number { IfOk result (λ n. n ≡ end self.new.desk.ledger.log.entries) }
         ensures counters { OnOk result
-            (self.new ≡ record self.old { desk = self.new.desk; spent = raised self.old.spent rights }) }
+            (self.new ≡ record self.old {
+              desk = self.new.desk;
+              spent = raised self.old.spent rights;
+              records = with_written self.old.records self.new.desk;
+            }) }
         ensures told { OnOk result (seat.new ≡ told_taken seat.old rights) }
         ensures err { OnErr result ((self.new ≡ self.old) × (seat.new ≡ seat.old)) }
     {
@@ -100,6 +119,7 @@ impl<D: DeskNames, A: Allocator + Copy> Kept<D, A> {
         let _ = self.desk.spent();
         self.spent.add(&mut seat.used, rights);
         seat.spent += rights;
+        self.records = self.records.and(&self.desk);
         Ok(number)
     }
 
@@ -110,12 +130,17 @@ impl<D: DeskNames, A: Allocator + Copy> Kept<D, A> {
         ensures ok { IfOk result (λ served. DeskServes self.old.desk (without_amount served) self.new.desk) }
         ensures keeps { IfOk result (λ served. ServeKeeps self.old.desk (without_amount served) self.new.desk) }
         ensures step { IfOk result (λ served. StepsBy D.id self.old.desk (serve_change served) self.new.desk) }
+        ensures records { IfOk result (λ served. RecordsBy D.id self.old (serve_change served) self.new) }
         ensures front { IfOk result (λ served. IfSome served (IsFront self.old.desk.queue.waiting)) }
         ensures fewer { IfOk result
             (λ served. IfSome served (λ _. length self.new.desk.queue.waiting < length self.old.desk.queue.waiting)) }
         ensures few { length self.old.desk.queue.waiting ≤ SLOTS }
         ensures counters { IfOk result (λ served. self.new
-            ≡ record self.old { desk = self.new.desk; spent = raised self.old.spent (amount_of served) }) }
+            ≡ record self.old {
+              desk = self.new.desk;
+              spent = raised self.old.spent (amount_of served);
+              records = with_served self.old.records served self.new.desk;
+            }) }
         ensures told { IfOk result (λ served. seat.new ≡ told_served seat.old (amount_of served)) }
         ensures err { OnErr result ((self.new ≡ self.old) × (seat.new ≡ seat.old)) }
         ensures memory { IfErr result (λ fault. fault ≡ NoMemory
@@ -128,6 +153,7 @@ impl<D: DeskNames, A: Allocator + Copy> Kept<D, A> {
         let amount = self.desk.spent() - before;
         self.spent.add(&mut seat.used, amount);
         seat.served += amount;
+        self.records = self.records.and(&self.desk);
         Ok(Some((ticket, number, amount)))
     }
 
@@ -137,11 +163,15 @@ impl<D: DeskNames, A: Allocator + Copy> Kept<D, A> {
         ensures ok { OnOk result (DeskWrites self.old.desk (Gives peer amount ∷ []) self.new.desk) }
         ensures keeps { OnOk result (EntryKeeps self.old.desk.ledger (Gives peer amount ∷ []) self.new.desk.ledger) }
         ensures step { OnOk result (StepsBy D.id self.old.desk (Write (Gives peer amount ∷ [])) self.new.desk) }
+        ensures records { OnOk result (RecordsBy D.id self.old (Write (Gives peer amount ∷ [])) self.new) }
         ensures number { IfOk result (λ n. n ≡ end self.new.desk.ledger.log.entries) }
         ensures err { OnErr result (self.new ≡ self.old) }
-        ensures rest { self.new ≡ record self.old { desk = self.new.desk } }
+        ensures rest { OnOk result (self.new
+            ≡ record self.old { desk = self.new.desk; records = with_written self.old.records self.new.desk }) }
     {
-        Ok(self.desk.give_back(peer, amount)?)
+        let number = self.desk.give_back(peer, amount)?;
+        self.records = self.records.and(&self.desk);
+        Ok(number)
     }
 
     /// Expires all waiting spends whose deadlines are less than this time, and returns how many there were.
@@ -181,8 +211,12 @@ impl<D: DeskNames, A: Allocator + Copy> Kept<D, A> {
     pub fn plan(&mut self) -> u64
         ensures plans { DeskPlans self.old.desk result self.new.desk }
         ensures step { StepsBy D.id self.old.desk Other self.new.desk }
-        ensures rest { self.new ≡ record self.old { desk = self.new.desk } }
+        ensures rest { self.new ≡ record self.old {
+          desk = self.new.desk;
+          records = with_planned (λ j. false) self.old.records self.old.desk;
+        } }
     {
+        self.records = self.records.and(&Plan { desk: &self.desk });
         self.desk.plan()
     }
 
@@ -190,8 +224,15 @@ impl<D: DeskNames, A: Allocator + Copy> Kept<D, A> {
     pub fn plan_beside(&mut self, silent: &SiteSet) -> u64
         ensures plans { DeskPlansBeside (has_site silent.now) self.old.desk result self.new.desk }
         ensures step { StepsBy D.id self.old.desk Other self.new.desk }
-        ensures rest { self.new ≡ record self.old { desk = self.new.desk } }
+        ensures rest { self.new ≡ record self.old {
+          desk = self.new.desk;
+          records = with_planned (has_site silent.now) self.old.records self.old.desk;
+        } }
     {
+        self.records = self.records.and(&PlanBeside {
+            desk: &self.desk,
+            silent,
+        });
         self.desk.plan_beside(silent)
     }
 
@@ -204,12 +245,22 @@ impl<D: DeskNames, A: Allocator + Copy> Kept<D, A> {
         ensures keeps { IfOk result (λ reply. AnswerKeeps self.old.desk ask.now reply.answer self.new.desk) }
         ensures step { IfOk result
             (λ reply. StepsBy D.id self.old.desk (answer_change ask.now reply.answer) self.new.desk) }
+        ensures records { IfOk result
+            (λ reply. RecordsBy D.id self.old (answer_change ask.now reply.answer) self.new) }
         ensures line { IfOk result (λ reply. LineOf (λ (l : List ℕ). l) (denial_of ask.now reply.answer) reply.line) }
         ensures err { OnErr result (self.new ≡ self.old) }
-        ensures rest { self.new ≡ record self.old { desk = self.new.desk } }
+        ensures rest { IfOk result (λ reply. self.new ≡ record self.old {
+          desk = self.new.desk;
+          records = with_answered self.old.records reply.answer self.new.desk;
+        }) }
         ensures memory { is_ignored (answer_of self.old.desk ask.now) ≡ true → IsOk result }
     {
-        Ok(self.desk.on_ask(ask)?)
+        let reply = self.desk.on_ask(ask)?;
+        self.records = self.records.and(&Answered {
+            desk: &self.desk,
+            answer: reply.answer,
+        });
+        Ok(reply)
     }
 
     /// That peer denied the ask with this number. Only the outstanding ask can be ended by it.
@@ -231,10 +282,14 @@ impl<D: DeskNames, A: Allocator + Copy> Kept<D, A> {
         ensures ok { OnOk result (DeskCloses self.old.desk heir self.new.desk) }
         ensures keeps { OnOk result (ClosingKeeps self.old.desk.ledger heir self.new.desk.ledger) }
         ensures step { OnOk result (StepsBy D.id self.old.desk (Retire heir) self.new.desk) }
+        ensures records { OnOk result (RecordsBy D.id self.old (Retire heir) self.new) }
         ensures number { IfOk result (λ n. n ≡ end self.new.desk.ledger.log.entries) }
         ensures err { OnErr result (self.new ≡ self.old) }
-        ensures rest { self.new ≡ record self.old { desk = self.new.desk } }
+        ensures rest { OnOk result (self.new
+            ≡ record self.old { desk = self.new.desk; records = with_written self.old.records self.new.desk }) }
     {
-        Ok(self.desk.close(heir)?)
+        let number = self.desk.close(heir)?;
+        self.records = self.records.and(&self.desk);
+        Ok(number)
     }
 }

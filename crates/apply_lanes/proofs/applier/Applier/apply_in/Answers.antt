@@ -8,6 +8,7 @@ use Rattle.apply_lanes.specs.Appliers.{ApplierValue, is_late, MovesOn, counted_o
 use Rattle.rights_protocol.specs.Schedules.LocalChange.{Apply}
 use Rattle.apply_lanes.specs.Steps.{StepsBy}
 use Rattle.apply_lanes.proofs.StepLaws.{steps_late, steps_in_time}
+use Rattle.apply_lanes.proofs.RecordLaws.{Adds, adds_late, adds_in_time}
 use Rattle.apply_lanes.proofs.ApplierLaws.{same_some, not_dropping, applied_is, hand_follows, counted_apply}
 use Rattle.apply_lanes.proofs.ApplierLaws.{counted_drop, moves_on}
 use Rattle.apply_lanes.proofs.applier.Applier.apply_in.Goals as goal
@@ -87,3 +88,22 @@ returns-in-Ok-clause-step g c e held =
     (Apply x.0.origin x.1) new.desk)
     (λ i. (c.self.view_is i, same i)) c.in-Ok.ensures.step in
     steps_in_time id old.desk new.desk (is_late c.args.self.now old.desk) c.args.self.now.origin e late step
+
+pub returns-then-is_late-clause-records : goal.returns-then-is_late-clause-records
+returns-then-is_late-clause-records g c e held =
+    adds_late g.D.DeskNames.id c.args.kept.now (is_late c.args.self.now c.args.kept.now.desk) _ e
+    (sym c.is_late-is_late.ensures ∙ c.if-is_late.true)
+
+pub returns-in-Ok-clause-records : goal.returns-in-Ok-clause-records
+returns-in-Ok-clause-records g c e held =
+    let id = g.D.DeskNames.id in
+    let old : KeptValue = c.args.kept.now in
+    let new : KeptValue = c.apply.new.self in
+    let entry : EntryValue = c.in-Some.entry in
+    let late : is_late c.args.self.now old.desk ≡ false = sym c.is_late-is_late.ensures ∙ c.if-is_late.false in
+    let same : entry ≡ e = same_some entry e (sym c.in-Some.is
+    ∙ ap (λ (a : ApplierValue _ _). a.hand) c.self.view_is ∙ held) in
+    let added = subst (λ (x : ApplierValue g.row.G.Denot g.row.A.Denot × EntryValue). Adds id old
+    (Apply x.0.origin x.1) new.records)
+    (λ i. (c.self.view_is i, same i)) c.in-Ok.ensures.records in
+    adds_in_time id old (is_late c.args.self.now old.desk) c.args.self.now.origin e new.records late added

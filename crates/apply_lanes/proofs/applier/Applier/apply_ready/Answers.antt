@@ -36,7 +36,7 @@ loop-count-preserved g c =
     let fills = subst (λ b. Fills c.loop-count.self b taken) c.in-Some-true.field-0-test c.in-Some-true.ensures.some in
     let e = c.in_ok-apply_in-in-Some-true.ensures in
     let one = handled id c.loop-count.self taken c.apply_in.new.self c.loop-count.kept c.apply_in.new.kept fills e.kept
-    e.refused e.dropped e.applied e.desk e.step e.after in
+    e.refused e.dropped e.applied e.desk e.step e.records e.after in
     let count : suc c.loop-count.count ≡ c.loop-count.count + 1 = omega arith in
     let same = c.in-Some-true.ensures.same in (
       subst (λ (n : ℕ). HandlesAll id c.args.self.now c.args.kept.now n c.apply_in.new.self c.apply_in.new.kept) count

@@ -5,6 +5,7 @@ use Rattle.site_core.specs.Ledgers.{ApplyKeeps}
 use Rattle.site_core.specs.Calls.{DeskApplies}
 use Rattle.apply_lanes.specs.Kepts.{KeptValue, raised}
 use Rattle.apply_lanes.proofs.KeptLaws.{kept_apply, gift_is, numbers_bound}
+use Rattle.apply_lanes.proofs.RecordLaws.{keeps_lists, seen_adds}
 use Rattle.apply_lanes.proofs.StepLaws.{seen, steps_apply}
 use Rattle.apply_lanes.proofs.kept.Kept.apply.Goals as goal
 
@@ -32,8 +33,14 @@ invariant_of-self-2 g c =
       c.received-before.ensures.value,
       gift_is _ _ c.apply.new.self _ _ i applies keeps,
     ) in
-    kept_apply _ _ c.apply.new.self _ _ _ _ i applies keeps c.number.ensures.range.0 c.requires.site next live
-    c.requires.own c.own.ensures.valid
+    let unclosed = rw (← c.self.view_is) at c.requires.open in
+    let id = g.D.DeskNames.id in
+    let steps = steps_apply id _ c.apply.new.self c.args.origin c.args.entry.now i applies keeps
+    c.number.ensures.range.0 c.requires.site c.requires.other unclosed live next c.requires.own c.own.ensures.valid in
+    let has = keeps_lists id _ c.apply.new.self (Apply c.args.origin c.args.entry.now) c.and-self-inside.result.items i steps
+    c.and-self-inside.ensures in
+    kept_apply _ _ c.apply.new.self _ _ _ _ _ i applies keeps c.number.ensures.range.0 c.requires.site next
+    c.own.ensures.valid has
     (subst (λ n. c.add.new.self ≡ raised c.self.inside.number n) count c.add.ensures.sum)
     (subst (λ n. c.add-2.new.self ≡ raised c.self.inside.received n) gift c.add-2.ensures.sum)
 
@@ -68,3 +75,7 @@ returns-clause-step g c =
     (steps_apply id _ c.apply.new.self c.args.origin c.args.entry.now i applies keeps c.number.ensures.range.0
     c.requires.site c.requires.other unclosed
     live next c.requires.own c.own.ensures.valid)
+
+pub returns-clause-records : goal.returns-clause-records
+returns-clause-records g c =
+    seen_adds g.D.DeskNames.id _ _ (Apply c.args.origin c.args.entry.now) c.and-self-inside.result.items c.self.view_is c.and-self-inside.ensures

@@ -3,17 +3,15 @@ use Rattle.rights_types.specs.declared.moves.Move.{Move}
 use Rattle.rights_types.specs.declared.moves.Move.TheVariants.{Issue}
 use Rattle.rights_protocol.specs.Schedules.LocalChange.{Write}
 use Rattle.std.proofs.Common.{rules}
-use Rattle.apply_lanes.proofs.KeptLaws.{kept_write, raised_none, issued-issue, spent-issue}
+use Rattle.apply_lanes.proofs.KeptLaws.{raised_none, issued-issue, spent-issue}
+use Rattle.apply_lanes.proofs.RecordLaws.{kept_written, seen_adds, adds_write}
 use Rattle.apply_lanes.proofs.StepLaws.{seen, steps_write}
 use Rattle.apply_lanes.proofs.kept.Kept.issue.Goals as goal
 
 pub invariant_of-self-2 : goal.invariant_of-self-2
 invariant_of-self-2 g c =
-    let wrote = c.in_ok-number.ensures.ok.entry in
-    let keeps = c.in_ok-number.ensures.keeps in
-    kept_write _ _ _ _ _ _ _ _ c.self.invariant wrote.log keeps.leaves keeps.applied (issued-issue _)
-    (spent-issue _) c.add.ensures.sum
-    (raised_none _)
+    kept_written _ _ c.issue.new.self _ _ _ _ _ _ c.self.invariant c.in_ok-number.ensures.ok.entry
+    c.in_ok-number.ensures.keeps (issued-issue _) (spent-issue _) c.add.ensures.sum (raised_none _) c.and-self-inside.ensures
 
 pub returns-clause-counters : goal.returns-clause-counters
 returns-clause-counters g c = search rules
@@ -28,3 +26,10 @@ returns-clause-step g c =
     seen id _ _ (Write moves) c.issue.new.self c.self.view_is
     (steps_write id _ c.issue.new.self moves c.self.invariant c.in_ok-number.ensures.ok.entry
     c.in_ok-number.ensures.keeps)
+
+pub returns-clause-records : goal.returns-clause-records
+returns-clause-records g c =
+    let id = g.D.DeskNames.id in
+    let moves : List Move = Issue c.args.amount ∷ [] in
+    seen_adds id _ _ (Write moves) c.and-self-inside.result.items c.self.view_is
+    (adds_write id _ c.issue.new.self moves _ c.self.invariant c.in_ok-number.ensures.ok.entry.log c.and-self-inside.ensures)

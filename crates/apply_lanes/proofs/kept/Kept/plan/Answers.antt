@@ -1,7 +1,8 @@
 use Rattle.rights_protocol.specs.Schedules.LocalChange.{Other}
-use Rattle.std.proofs.Common.{ap}
+use Rattle.std.proofs.Common.{false, ap}
 use Rattle.site_core.specs.Desks.{DeskValue}
 use Rattle.apply_lanes.proofs.StepLaws.{seen, steps_none}
+use Rattle.apply_lanes.proofs.RecordLaws.{kept_plan, planned_is}
 use Rattle.apply_lanes.proofs.kept.Kept.plan.Goals as goal
 
 pub returns-clause-step : goal.returns-clause-step
@@ -9,3 +10,13 @@ returns-clause-step g c =
     seen g.D.DeskNames.id _ _ Other c.plan.new.self c.self.view_is
     (steps_none g.D.DeskNames.id c.self.inside.desk c.plan.new.self
     (ap (λ (d : DeskValue). d.ledger) c.plan.ensures.rest))
+
+pub invariant_of-self : goal.invariant_of-self
+invariant_of-self g c =
+    kept_plan _ _ c.plan.new.self (λ j. false) _ c.self.invariant
+    (ap (λ (d : DeskValue). d.ledger) c.plan.ensures.rest) c.and-self-inside.ensures
+
+pub returns-clause-rest : goal.returns-clause-rest
+returns-clause-rest g c =
+    planned_is _ c.args.self.now c.plan.new.self (λ j. false) c.and-self-inside.result.items c.self.view_is
+    c.and-self-inside.ensures

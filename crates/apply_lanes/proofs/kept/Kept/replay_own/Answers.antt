@@ -3,6 +3,7 @@ use Rattle.rights_types.specs.Rights.{issued, spent}
 use Rattle.rights_protocol.specs.Crashes.Record.{Wrote}
 use Rattle.apply_lanes.proofs.KeptLaws.{kept_write}
 use Rattle.apply_lanes.proofs.JournalLaws.{steps_replay, seen_some}
+use Rattle.apply_lanes.proofs.RecordLaws.{replayed_lists}
 use Rattle.apply_lanes.proofs.kept.Kept.replay_own.Goals as goal
 
 pub invariant_of-self-2 : goal.invariant_of-self-2
@@ -12,7 +13,9 @@ invariant_of-self-2 g c =
     = omega (arith, c.issued.ensures.booked, c.issued-issued.ensures.booked, keeps.leaves.issues) in
     let used : spent c.args.entry.now.moves ≡ c.spent.result - c.spent-spent.result
     = omega (arith, c.spent.ensures.booked, c.spent-spent.ensures.booked, keeps.leaves.spends) in
-    kept_write _ _ _ c.args.entry.now.moves _ _ _ _ c.self.invariant keeps.log keeps.leaves keeps.applied more used
+    let has = replayed_lists _ _ c.replay_own.new.self (Wrote c.args.entry.now) c.and-self-inside.result.items c.self.invariant
+    c.in_ok-replay_own.ensures.ok c.and-self-inside.ensures in
+    kept_write _ _ _ c.args.entry.now.moves _ _ _ _ _ c.self.invariant keeps.log keeps.leaves has more used
     c.add.ensures.sum c.add-2.ensures.sum
 
 pub returns-clause-step : goal.returns-clause-step

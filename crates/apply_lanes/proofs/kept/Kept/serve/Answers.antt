@@ -1,6 +1,9 @@
-use Rattle.std.proofs.Common.{ℕ, ◌-◌, subst, ◌∙◌, rules}
+use Rattle.std.proofs.Common.{ℕ, ◌-◌, [], ◌∷◌, subst, ◌∙◌, rules}
+use Rattle.rights_types.specs.declared.moves.Move.TheVariants.{Spend}
+use Rattle.rights_protocol.specs.Schedules.LocalChange.{Write}
 use Rattle.apply_lanes.specs.Kepts.{KeptValue, IsFront}
-use Rattle.apply_lanes.proofs.KeptLaws.{kept_write, raised_none, issued-spend, spent-spend, served}
+use Rattle.apply_lanes.proofs.KeptLaws.{raised_none, issued-spend, spent-spend, served}
+use Rattle.apply_lanes.proofs.RecordLaws.{kept_written, Adds, seen_adds, adds_write}
 use Rattle.std.proofs.Common.{Some}
 use Rattle.apply_lanes.specs.Steps.{StepsBy, serve_change}
 use Rattle.apply_lanes.proofs.StepLaws.{seen, steps_serve}
@@ -11,9 +14,8 @@ invariant_of-self-2 g c =
     let ticket = c.in_ok-ticket.ensures in
     let front = served c.self.inside.desk c.serve.new.self _ _ _ _ _ ticket.ok ticket.keeps c.in-Some.is
     c.spent-before.ensures.booked c.spent.ensures.booked in
-    kept_write _ _ _ _ _ _ _ _ c.self.invariant front.serves.entry.log front.keeps.leaves front.keeps.applied
-    (issued-spend _) (spent-spend _ ∙ front.amount) (raised_none _)
-    c.add.ensures.sum
+    kept_written _ _ c.serve.new.self _ _ _ _ _ _ c.self.invariant front.serves.entry front.keeps
+    (issued-spend _) (spent-spend _ ∙ front.amount) (raised_none _) c.add.ensures.sum c.and-self-inside.ensures
 
 pub returns-clause-front : goal.returns-clause-front
 returns-clause-front g c =
@@ -45,3 +47,15 @@ returns-clause-step g c =
     seen id _ _ (serve_change (Some (c.in-Some.ticket, c.in-Some.number, spent))) c.serve.new.self c.self.view_is
     (subst (λ n. StepsBy id c.self.inside.desk (serve_change (Some (c.in-Some.ticket, c.in-Some.number, n)))
     c.serve.new.self) front.amount step)
+
+pub returns-clause-records : goal.returns-clause-records
+returns-clause-records g c =
+    let id = g.D.DeskNames.id in
+    let ticket = c.in_ok-ticket.ensures in
+    let front = served c.self.inside.desk c.serve.new.self _ _ _ _ _ ticket.ok ticket.keeps c.in-Some.is
+    c.spent-before.ensures.booked c.spent.ensures.booked in
+    let added = seen_adds id _ c.args.self.now (Write (Spend front.serves.amount ∷ [])) c.and-self-inside.result.items
+    c.self.view_is (adds_write id _ c.serve.new.self (Spend front.serves.amount ∷ []) _ c.self.invariant
+    front.serves.entry.log c.and-self-inside.ensures) in
+    subst (λ n. Adds id c.args.self.now (serve_change (Some (c.in-Some.ticket, c.in-Some.number, n)))
+    c.and-self-inside.result.items) front.amount added

@@ -1,7 +1,8 @@
 use Rattle.apply_lanes.specs.Steps.{spend_change}
 use Rattle.std.proofs.Common.{subst, rules}
 use Rattle.site_core.specs.Calls.{DeskSpends, SpendKeeps}
-use Rattle.apply_lanes.proofs.KeptLaws.{kept_write, raised_none, issued-spend, spent-spend}
+use Rattle.apply_lanes.proofs.KeptLaws.{raised_none, issued-spend, spent-spend}
+use Rattle.apply_lanes.proofs.RecordLaws.{kept_written, seen_adds, adds_spend}
 use Rattle.apply_lanes.proofs.StepLaws.{seen, steps_spend}
 use Rattle.apply_lanes.proofs.kept.Kept.spend.Goals as goal
 
@@ -11,9 +12,8 @@ invariant_of-self-in-Spent g c =
     c.in-Spent.is c.in_ok-spending.ensures.ok in
     let keeps = subst (λ s. SpendKeeps c.self.inside.desk c.args.amount s c.spend.new.self) c.in-Spent.is
     c.in_ok-spending.ensures.keeps in
-    kept_write _ _ _ _ _ _ _ _ c.self.invariant spends.1.entry.log keeps.leaves keeps.applied (issued-spend _)
-    (spent-spend _) (raised_none _)
-    c.add.ensures.sum
+    kept_written _ _ c.spend.new.self _ _ _ _ _ _ c.self.invariant spends.1.entry keeps (issued-spend _)
+    (spent-spend _) (raised_none _) c.add.ensures.sum c.and-self-inside.ensures
 
 pub invariant_of-seat : goal.invariant_of-seat
 invariant_of-seat g c = search rules
@@ -48,3 +48,17 @@ pub returns-in_default-clause-step : goal.returns-in_default-clause-step
 returns-in_default-clause-step g c =
     seen g.D.DeskNames.id _ _ (spend_change c.args.amount c.in_ok-spending.spending) c.spend.new.self c.self.view_is
     (steps_spend _ _ _ _ c.args.deadline _ c.self.invariant c.in_ok-spending.ensures.ok c.in_ok-spending.ensures.keeps)
+
+pub returns-in-Spent-clause-records : goal.returns-in-Spent-clause-records
+returns-in-Spent-clause-records g c =
+    seen_adds g.D.DeskNames.id _ _ (spend_change c.args.amount c.in_ok-spending.spending) c.and-self-inside.result.items
+    c.self.view_is
+    (adds_spend _ _ c.spend.new.self _ c.args.deadline c.in_ok-spending.spending _ c.self.invariant
+    c.in_ok-spending.ensures.ok (search rules))
+
+pub returns-in_default-clause-records : goal.returns-in_default-clause-records
+returns-in_default-clause-records g c =
+    seen_adds g.D.DeskNames.id _ _ (spend_change c.args.amount c.in_ok-spending.spending) _
+    c.self.view_is
+    (adds_spend _ _ c.spend.new.self _ c.args.deadline c.in_ok-spending.spending _ c.self.invariant
+    c.in_ok-spending.ensures.ok (search rules))

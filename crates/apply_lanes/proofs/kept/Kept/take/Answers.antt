@@ -3,17 +3,15 @@ use Rattle.rights_types.specs.declared.moves.Move.{Move}
 use Rattle.rights_types.specs.declared.moves.Move.TheVariants.{Spend}
 use Rattle.rights_protocol.specs.Schedules.LocalChange.{Write}
 use Rattle.std.proofs.Common.{rules}
-use Rattle.apply_lanes.proofs.KeptLaws.{kept_write, raised_none, issued-spend, spent-spend}
+use Rattle.apply_lanes.proofs.KeptLaws.{raised_none, issued-spend, spent-spend}
+use Rattle.apply_lanes.proofs.RecordLaws.{kept_written, seen_adds, adds_write}
 use Rattle.apply_lanes.proofs.StepLaws.{seen, steps_write}
 use Rattle.apply_lanes.proofs.kept.Kept.take.Goals as goal
 
 pub invariant_of-self-2 : goal.invariant_of-self-2
 invariant_of-self-2 g c =
-    let wrote = c.in_ok-number.ensures.ok.entry in
-    let keeps = c.in_ok-number.ensures.keeps in
-    kept_write _ _ _ _ _ _ _ _ c.self.invariant wrote.log keeps.leaves keeps.applied (issued-spend _)
-    (spent-spend _) (raised_none _)
-    c.add.ensures.sum
+    kept_written _ _ c.take.new.self _ _ _ _ _ _ c.self.invariant c.in_ok-number.ensures.ok.entry
+    c.in_ok-number.ensures.keeps (issued-spend _) (spent-spend _) (raised_none _) c.add.ensures.sum c.and-self-inside.ensures
 
 pub invariant_of-seat : goal.invariant_of-seat
 invariant_of-seat g c = search rules
@@ -31,3 +29,10 @@ returns-clause-step g c =
     seen id _ _ (Write moves) c.take.new.self c.self.view_is
     (steps_write id _ c.take.new.self moves c.self.invariant c.in_ok-number.ensures.ok.entry
     c.in_ok-number.ensures.keeps)
+
+pub returns-clause-records : goal.returns-clause-records
+returns-clause-records g c =
+    let id = g.D.DeskNames.id in
+    let moves : List Move = Spend c.args.rights ∷ [] in
+    seen_adds id _ _ (Write moves) c.and-self-inside.result.items c.self.view_is
+    (adds_write id _ c.take.new.self moves _ c.self.invariant c.in_ok-number.ensures.ok.entry.log c.and-self-inside.ensures)
