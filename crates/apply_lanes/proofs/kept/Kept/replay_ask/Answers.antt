@@ -16,4 +16,4 @@ pub returns-clause-step : goal.returns-clause-step
 returns-clause-step g c =
     let id = g.D.DeskNames.id in
     seen id _ _ Other c.replay_ask.new.self c.self.view_is
-    (steps_none id _ c.replay_ask.new.self (ap (λ (d : DeskValue). d.ledger) c.in_ok-replay_ask.ensures.asks))
+    (steps_none id c.self.inside.desk c.replay_ask.new.self (ap (λ (d : DeskValue). d.ledger) c.in_ok-replay_ask.ensures.asks))
