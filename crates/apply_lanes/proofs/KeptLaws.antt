@@ -7,7 +7,7 @@ use Rattle.std.proofs.lemmas.List.{length-set, get_or_default}
 use Rattle.std.proofs.lemmas.List.Sums.{sum_by-set, count_by-le-length}
 use Rattle.rights_types.specs.Entries.{EntryValue, own, IsEntry}
 use Rattle.rights_types.specs.Rights.{issued, spent, to, sum_sites}
-use Rattle.rights_types.specs.Messages.{AskValue, MessageValue}
+use Rattle.rights_types.specs.Messages.{MessageValue}
 use Rattle.rights_protocol.specs.Invariant.{SiteInvariant}
 use Rattle.rights_protocol.specs.Schedules.{SiteLists}
 use Rattle.rights_protocol.specs.Crashes.{Record, lists_of}
@@ -28,7 +28,7 @@ use Rattle.rights_book.specs.Leaves.{OwnLeaves, ApplyLeaves}
 use Rattle.rights_book.specs.declared.account.Account.{Account}
 use Rattle.site_core.specs.Calls.{DeskServes, ServesFront, ServeKeeps, next_push}
 use Rattle.site_core.specs.Calls.{published_if, after_publish, after_skip}
-use Rattle.site_core.specs.Ledgers.{LedgerValue, EntryKeeps, HasApplied, SameApplied, MoreApplied, owed_by, frontier_of}
+use Rattle.site_core.specs.Ledgers.{LedgerValue, EntryKeeps, HasApplied, MoreApplied, owed_by, frontier_of}
 use Rattle.site_core.specs.Ledgers.{TakingLeaves, AppliesEntry, ApplyKeeps, closing_by}
 use Rattle.site_core.proofs.Protocol.{none_applied}
 use Rattle.site_core.specs.Desks.{DeskValue}

@@ -1,4 +1,4 @@
-use Rattle.std.proofs.Common.{◌≡◌, ℕ, ◌+◌, ◌-◌, sym, arith, rules}
+use Rattle.std.proofs.Common.{◌≡◌, ◌-◌, arith}
 use Rattle.rights_types.specs.Rights.{issued, spent}
 use Rattle.rights_protocol.specs.Crashes.Record.{Wrote}
 use Rattle.apply_lanes.proofs.KeptLaws.{kept_write}
