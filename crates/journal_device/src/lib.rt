@@ -9,5 +9,5 @@ mod record;
 
 pub use call::Call;
 pub use device::{Device, DeviceError};
-pub use memory::Memory;
+pub use memory::{Limits, Memory};
 pub use record::Record;

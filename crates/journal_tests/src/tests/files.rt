@@ -1,5 +1,6 @@
 //! The bytes of journals. The digests were made with Python's hashlib.
-use super::kit::{append, damage, opened};
+use super::kit::{append, damage, opened, reads_as};
+use std::alloc::Global;
 use std::test::Fail;
 
 const FIRST: &[u8] = b"= 9 883fe6fcd28b39b9\nA 1\nB 22\n";
@@ -7,7 +8,7 @@ const FIRST: &[u8] = b"= 9 883fe6fcd28b39b9\nA 1\nB 22\n";
 const SECOND: &[u8] = b"= 4 c198056f7db711ab\nC 3\n";
 
 /// Files that a crash may leave, and their records.
-const LEFT: [(&[u8], &[u8]); 15] = [
+const LEFT: [(&[u8], &[u8]); 18] = [
     (b"", b""),
     (b"\0\0\0", b""),
     (b"= 9 883fe6fcd28b39b9\nA 1\nB 22\n", b"A 1|B 22|"),
@@ -50,10 +51,21 @@ const LEFT: [(&[u8], &[u8]); 15] = [
         b"= 9 883fe6fcd28b39b9\nA 1\nB 22\n= 4 c198056f7db711ab\nC 3\n\0",
         b"A 1|B 22|C 3|",
     ),
+    // The order of batches and how often one stands there are for the records to say.
+    (
+        b"= 4 c198056f7db711ab\nC 3\n= 9 883fe6fcd28b39b9\nA 1\nB 22\n",
+        b"C 3|A 1|B 22|",
+    ),
+    (
+        b"= 4 c198056f7db711ab\nC 3\n= 4 c198056f7db711ab\nC 3\n",
+        b"C 3|C 3|",
+    ),
+    // Its count is too long.
+    (b"= 10 be455ae353735194\nA 1\nB 22\n", b""),
 ];
 
 /// Other files, and the byte of the damage, or None.
-const DAMAGED: [(&[u8], Option<usize>); 20] = [
+const DAMAGED: [(&[u8], Option<usize>); 24] = [
     (b"hello", Some(0)),
     (b"A 1\n", Some(0)),
     (b"= 4", None),
@@ -116,7 +128,65 @@ const DAMAGED: [(&[u8], Option<usize>); 20] = [
         b"= 9 883fe6fcd28b39b9\nA 1\nB 22\n= 4  123456789abcdef\nC 3\n",
         Some(30),
     ),
+    // A count that is too short, with the digest of what it counts, and of what it should.
+    (b"= 4 cb4a83c0c261066e\nA 1\nB 22\n", Some(25)),
+    (b"= 8 f582ee7a3a2f823d\nA 1\nB 22\n", Some(0)),
+    (b"= 8 a16b8672f1779f31\nA 1\nB 22\n", Some(0)),
+    // One that is too long, before another batch.
+    (
+        b"= 10 be455ae353735194\nA 1\nB 22\n= 4 c198056f7db711ab\nC 3\n",
+        Some(0),
+    ),
 ];
+
+/// Three batches, which end at 30, 55 and 80.
+const WHOLE: &[u8] =
+    b"= 9 883fe6fcd28b39b9\nA 1\nB 22\n= 4 c198056f7db711ab\nC 3\n= 4 73f2f66964b5822b\nD 4\n";
+
+const ENDS: [usize; 4] = [0, 30, 55, 80];
+
+/// The records up to there.
+const TEXTS: [&[u8]; 4] = [b"", b"A 1|B 22|", b"A 1|B 22|C 3|", b"A 1|B 22|C 3|D 4|"];
+
+/// The batch that a byte belongs to.
+fn batch_at(place: usize) -> usize {
+    if place < 30 {
+        0
+    } else if place < 55 {
+        1
+    } else {
+        2
+    }
+}
+
+fn texts_of(batch: usize) -> &'static [u8] {
+    TEXTS.get(batch).copied().unwrap_or(b"")
+}
+
+fn end_of(batch: usize) -> usize {
+    ENDS.get(batch).copied().unwrap_or(0)
+}
+
+/// Whether opening answers as it must where one byte has changed. A changed byte is damage, at the start of its batch,
+/// with two exceptions: a zero byte may be one that was not written, and the count of the last batch may count more
+/// bytes than came.
+fn is_told(alloc: Global, place: usize, byte: u8) -> Result<bool, Fail> {
+    let mut image = WHOLE.to_vec(alloc)?;
+    if let Some(old) = image.get_mut(place) {
+        *old = byte;
+    }
+    let batch = batch_at(place);
+    let is_header = place < end_of(batch) + 21;
+    let is_lost = byte == 0 && (is_header || batch == 2);
+    let is_more = place == 57 && byte > b'4' && byte <= b'9';
+    if WHOLE.get(place) == Some(&byte) {
+        reads_as(alloc, image.as_slice(), texts_of(3))
+    } else if is_lost || is_more {
+        reads_as(alloc, image.as_slice(), texts_of(batch))
+    } else {
+        Ok(damage(alloc, image.as_slice(), usize::MAX)? == Some(end_of(batch)))
+    }
+}
 
 #[test]
 fn batches_are_appended(rt: HostRuntime) -> Result<(), Fail> {
@@ -147,7 +217,45 @@ fn files_that_a_crash_leaves(rt: HostRuntime) -> Result<(), Fail> {
 fn damaged_files(rt: HostRuntime) -> Result<(), Fail> {
     let alloc = rt.alloc();
     for (image, at_byte) in DAMAGED {
-        assert_eq!(rt; damage(alloc, image)?, at_byte);
+        assert_eq!(rt; damage(alloc, image, usize::MAX)?, at_byte);
+    }
+    Ok(())
+}
+
+/// Each byte of a journal is set to each value.
+#[test]
+fn changed_bytes(rt: HostRuntime) -> Result<(), Fail> {
+    let alloc = rt.alloc();
+    for place in 0..80 {
+        for byte in 0..=255 {
+            assert!(rt; is_told(alloc, place, byte)?, "byte {place}: {byte}");
+        }
+    }
+    Ok(())
+}
+
+/// A file that ends at any byte has the batches that are whole.
+#[test]
+fn files_of_each_length(rt: HostRuntime) -> Result<(), Fail> {
+    let alloc = rt.alloc();
+    for len in 0..80 {
+        let image = WHOLE.get(..len).unwrap_or(b"");
+        let (journal, texts) = opened(alloc, image)?;
+        let batches = batch_at(len);
+        assert_eq!(rt; texts.as_slice(), texts_of(batches));
+        assert_eq!(rt; journal.len(), end_of(batches));
+        assert_eq!(rt; journal.was_cut(), len != end_of(batches));
+    }
+    Ok(())
+}
+
+/// Reads that return a few bytes at a time show the same.
+#[test]
+fn reads_in_pieces(rt: HostRuntime) -> Result<(), Fail> {
+    for (image, at_byte) in DAMAGED {
+        for piece in [1, 2, 7, 26, 27, 28, 29] {
+            assert_eq!(rt; damage(rt.alloc(), image, piece)?, at_byte);
+        }
     }
     Ok(())
 }

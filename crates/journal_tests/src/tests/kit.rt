@@ -1,5 +1,5 @@
 //! What the tests share.
-use journal_device::{Device, Memory};
+use journal_device::{Device, Limits, Memory};
 use site_journal::{Batch, Journal, JournalError, TakeRecords, is_text, open};
 use std::alloc::Global;
 use std::test::Fail;
@@ -27,25 +27,34 @@ pub(crate) fn no_texts(alloc: Global) -> Texts {
 /// A journal in memory over a file with these bytes, and the records that it was opened with.
 pub(crate) fn opened(alloc: Global, image: &[u8]) -> Result<(Journal<Memory>, Vec<u8>), Fail> {
     let mut texts = no_texts(alloc);
-    let file = Memory::new(alloc, image.to_vec(alloc)?)?;
+    let file = Memory::new(alloc, image, Limits::NONE)?;
     match open(alloc, file, &mut texts) {
         Ok(journal) => Ok((journal, texts.all)),
         Err(_) => Err(Fail::new("not opened")),
     }
 }
 
+/// Whether a file with these bytes is opened with these records.
+pub(crate) fn reads_as(alloc: Global, image: &[u8], texts: &[u8]) -> Result<bool, Fail> {
+    let mut got = no_texts(alloc);
+    let file = Memory::new(alloc, image, Limits::NONE)?;
+    let is_open = open(alloc, file, &mut got).is_ok();
+    Ok(is_open && got.all.as_slice() == texts)
+}
+
 /// What opening answers: the byte of the damage, or None.
-pub(crate) fn damage(alloc: Global, image: &[u8]) -> Result<Option<usize>, Fail> {
+pub(crate) fn damage(alloc: Global, image: &[u8], piece: usize) -> Result<Option<usize>, Fail> {
     let mut texts = no_texts(alloc);
-    let file = Memory::new(alloc, image.to_vec(alloc)?)?;
+    let limits = Limits { piece, ..Limits::NONE };
+    let file = Memory::new(alloc, image, limits)?;
     match open(alloc, file, &mut texts) {
         Ok(_) => Ok(None),
-        Err((JournalError::Damage { at_byte }, _)) => Ok(Some(at_byte)),
+        Err((JournalError::Damage { at_byte }, file)) if file.bytes() == image => Ok(Some(at_byte)),
         Err(_) => Err(Fail::new("another error")),
     }
 }
 
-/// A batch of the records in a text, which bars end.
+/// A batch of these records, each of which ends with a bar.
 pub(crate) fn batch_of(alloc: Global, texts: &[u8]) -> Result<Batch, Fail> {
     let mut batch = Batch::new(alloc)?;
     let mut start = 0;
@@ -61,13 +70,22 @@ pub(crate) fn batch_of(alloc: Global, texts: &[u8]) -> Result<Batch, Fail> {
     Ok(batch)
 }
 
+/// What the journal answers to a batch of these records.
+pub(crate) fn answer<D: Device>(
+    alloc: Global,
+    journal: &mut Journal<D>,
+    texts: &[u8],
+) -> Result<Result<(), JournalError>, Fail> {
+    let mut batch = batch_of(alloc, texts)?;
+    Ok(journal.append(&mut batch))
+}
+
 pub(crate) fn append<D: Device>(
     alloc: Global,
     journal: &mut Journal<D>,
     texts: &[u8],
 ) -> Result<(), Fail> {
-    let mut batch = batch_of(alloc, texts)?;
-    match journal.append(&mut batch) {
+    match answer(alloc, journal, texts)? {
         Ok(()) => Ok(()),
         Err(_) => Err(Fail::new("not appended")),
     }
