@@ -1,7 +1,7 @@
 //! Crashes at every call of short runs. Of each byte that no sync followed, the old one or the new one is there, and
 //! the file has any length that it may have.
 use super::kit::{answer, no_texts, reads_as};
-use journal_device::{Limits, Memory};
+use journal_device::{Device, Limits, Memory};
 use site_journal::{Journal, open};
 use std::alloc::Global;
 use std::test::Fail;
@@ -70,34 +70,29 @@ fn is_safe(alloc: Global, ended: &Ended, written: u64, len: usize) -> Result<boo
     has_either(alloc, image.as_slice(), ended.done)
 }
 
-/// The same, of the bytes in this set and of those not in it, and of every length up to those that a batch may add.
-fn are_lengths_safe(alloc: Global, ended: &Ended, written: u64) -> Result<bool, Fail> {
-    let shortest = ended.file.image(0, 0)?.len();
-    for more in 0..=WIDTH as usize {
-        let len = shortest.saturating_add(more);
-        if !is_safe(alloc, ended, written, len)? || !is_safe(alloc, ended, !written, len)? {
-            return Ok(false);
-        }
-    }
-    Ok(true)
-}
-
 /// The byte with this number, or none.
 fn byte(place: u64) -> u64 {
     if place < WIDTH { 1 << place } else { 0 }
 }
 
-/// Whether a crash now is safe, whichever one byte came to the disk, or did not come, at every length; and whichever
-/// two.
+/// Bytes of which all, or each second one, came to the disk.
+const SOME: [u64; 3] = [u64::MAX, 0x5555_5555_5555_5555, 0xaaaa_aaaa_aaaa_aaaa];
+
+/// Whether a crash now is safe, whichever one byte came to the disk or did not come, and whatever the length.
 fn is_crash_safe(alloc: Global, ended: &Ended) -> Result<bool, Fail> {
-    for a in 0..=WIDTH {
-        if !are_lengths_safe(alloc, ended, byte(a))? {
+    let shortest = ended.file.image(0, 0)?.len();
+    for place in 0..=WIDTH {
+        let one = byte(place);
+        if !is_safe(alloc, ended, one, usize::MAX)? || !is_safe(alloc, ended, !one, usize::MAX)? {
             return Ok(false);
         }
-        for b in 0..a {
-            let two = byte(a) | byte(b);
-            if !is_safe(alloc, ended, two, usize::MAX)? || !is_safe(alloc, ended, !two, usize::MAX)?
-            {
+        for written in SOME {
+            if !is_safe(
+                alloc,
+                ended,
+                written,
+                shortest.saturating_add(place as usize),
+            )? {
                 return Ok(false);
             }
         }
@@ -137,22 +132,37 @@ fn every_crash_of_a_run(rt: HostRuntime) -> Result<(), Fail> {
     Ok(())
 }
 
+/// A file that is opened until a call fails, and whether none did.
+fn open_until(alloc: Global, image: &[u8], calls: u64) -> Result<(Memory, bool), Fail> {
+    let limits = Limits {
+        calls: Some(calls),
+        ..Limits::NONE
+    };
+    let mut texts = no_texts(alloc);
+    match open(alloc, Memory::new(alloc, image, limits)?, &mut texts) {
+        Ok(journal) => Ok((journal.into_device(), true)),
+        Err((_, file)) => Ok((file, false)),
+    }
+}
+
+/// Whether a crash now leaves these records, whatever the length.
+fn leaves(alloc: Global, file: &Memory, texts: &[u8]) -> Result<bool, Fail> {
+    let longest = file.image(0, usize::MAX)?.len();
+    let shortest = file.image(0, 0)?.len();
+    for len in shortest..=longest {
+        if !reads_as(alloc, file.image(0, len)?.as_slice(), texts)? {
+            return Ok(false);
+        }
+    }
+    Ok(true)
+}
+
 /// Whether each crash while the file is opened leaves these records.
 fn opens_safely(alloc: Global, image: &[u8], texts: &[u8]) -> Result<bool, Fail> {
     for calls in 0..20 {
-        let limits = Limits {
-            calls: Some(calls),
-            ..Limits::NONE
-        };
-        let mut got = no_texts(alloc);
-        let (file, is_open) = match open(alloc, Memory::new(alloc, image, limits)?, &mut got) {
-            Ok(journal) => (journal.into_device(), true),
-            Err((_, file)) => (file, false),
-        };
-        for len in image.len().saturating_sub(WIDTH as usize)..=image.len() {
-            if !reads_as(alloc, file.image(u64::MAX, len)?.as_slice(), texts)? {
-                return Ok(false);
-            }
+        let (file, is_open) = open_until(alloc, image, calls)?;
+        if !leaves(alloc, &file, texts)? {
+            return Ok(false);
         }
         if is_open {
             return Ok(true);
@@ -166,7 +176,7 @@ fn opens_safely(alloc: Global, image: &[u8], texts: &[u8]) -> Result<bool, Fail>
 #[test]
 fn crashes_of_opening(rt: HostRuntime) -> Result<(), Fail> {
     let alloc = rt.alloc();
-    let ended = run(alloc, b"", 6)?;
+    let ended = run(alloc, b"", 5)?;
     assert_eq!(rt; ended.done, 1);
     for place in 0..WIDTH {
         let hole = ended.file.image(!byte(place), usize::MAX)?;
@@ -181,7 +191,7 @@ fn crashes_of_opening(rt: HostRuntime) -> Result<(), Fail> {
 #[test]
 fn any_three_bytes(rt: HostRuntime) -> Result<(), Fail> {
     let alloc = rt.alloc();
-    let ended = run(alloc, b"", 4)?;
+    let ended = run(alloc, b"", 3)?;
     assert!(rt; is_torn(&ended.file)?);
     for a in 0..23 {
         for b in 0..a {
@@ -191,6 +201,52 @@ fn any_three_bytes(rt: HostRuntime) -> Result<(), Fail> {
                 assert!(rt; is_safe(alloc, &ended, !three, usize::MAX)?);
             }
         }
+    }
+    Ok(())
+}
+
+/// What a crash may leave of "ab" with "XY" written at 1: which bytes came, the length, and the file.
+const WRITTEN: [(u64, usize, &[u8]); 9] = [
+    (0, 0, b"ab"),
+    (1, 0, b"aX"),
+    (2, 0, b"ab"),
+    (3, 2, b"aX"),
+    (0, 3, b"ab\0"),
+    (1, 3, b"aX\0"),
+    (2, 3, b"abY"),
+    (3, 3, b"aXY"),
+    (u64::MAX, 9, b"aXY"),
+];
+
+/// The same of "aXY" cut to one byte.
+const CUT: [(usize, &[u8]); 4] = [(0, b"a"), (1, b"a"), (2, b"aX"), (9, b"aXY")];
+
+fn written(alloc: Global) -> Result<Memory, Fail> {
+    let mut file = Memory::new(alloc, b"ab", Limits::NONE)?;
+    match file.write_at(1, b"XY") {
+        Ok(()) => Ok(file),
+        Err(_) => Err(Fail::new("not written")),
+    }
+}
+
+fn synced_and_cut(mut file: Memory) -> Result<Memory, Fail> {
+    if file.sync().is_ok() && file.cut(1).is_ok() {
+        Ok(file)
+    } else {
+        Err(Fail::new("not cut"))
+    }
+}
+
+/// The files in memory have the images that a crash may leave.
+#[test]
+fn images(rt: HostRuntime) -> Result<(), Fail> {
+    let file = written(rt.alloc())?;
+    for (came, len, image) in WRITTEN {
+        assert_eq!(rt; file.image(came, len)?.as_slice(), image);
+    }
+    let file = synced_and_cut(file)?;
+    for (len, image) in CUT {
+        assert_eq!(rt; file.image(0, len)?.as_slice(), image);
     }
     Ok(())
 }

@@ -56,9 +56,16 @@ fn meets(alloc: Global, calls: Option<u64>, room: usize) -> Result<Met, Fail> {
     let mut texts = no_texts(alloc);
     match open(alloc, file(alloc, calls, room)?, &mut texts) {
         Ok(journal) => meets_appending(alloc, journal),
-        Err((JournalError::Failed, file)) if opens(alloc, file)? => Ok(Met::Opening),
-        Err(_) => Ok(Met::Wrong),
+        Err((error, file)) => meets_opening(alloc, error, file),
     }
+}
+
+fn meets_opening(alloc: Global, error: JournalError, file: Memory) -> Result<Met, Fail> {
+    Ok(if error == JournalError::Failed && opens(alloc, file)? {
+        Met::Opening
+    } else {
+        Met::Wrong
+    })
 }
 
 fn meets_appending(alloc: Global, mut journal: Journal<Memory>) -> Result<Met, Fail> {
@@ -75,11 +82,7 @@ fn meets_appending(alloc: Global, mut journal: Journal<Memory>) -> Result<Met, F
 }
 
 /// Whether each later append fails too and writes nothing, and the file still has what was told.
-fn fails_for_good(
-    alloc: Global,
-    journal: &mut Journal<Memory>,
-    told: usize,
-) -> Result<bool, Fail> {
+fn fails_for_good(alloc: Global, journal: &mut Journal<Memory>, told: usize) -> Result<bool, Fail> {
     let before = journal.device().image(u64::MAX, usize::MAX)?;
     for texts in RUN {
         if answer(alloc, journal, texts)? != Err(JournalError::Failed) {
@@ -138,8 +141,11 @@ fn meets_refusal<A: Allocator + Copy>(plain: Global, alloc: A) -> Result<bool, F
 
 /// Whether a crash that loses what it can leaves these records.
 fn has<A: Allocator + Copy>(plain: Global, file: &Memory<A>, texts: &[u8]) -> Result<bool, Fail> {
-    let image = file.image(0, 0)?;
-    reads_as(plain, image.as_slice(), texts)
+    // It asks for memory itself.
+    match file.image(0, 0) {
+        Ok(image) => reads_as(plain, image.as_slice(), texts),
+        Err(_) => Ok(true),
+    }
 }
 
 fn appends_or_not<A: Allocator + Copy>(
@@ -155,8 +161,10 @@ fn appends_or_not<A: Allocator + Copy>(
     }
     match journal.append(&mut batch) {
         Ok(()) => has(plain, journal.device(), b"A 1|B 22|C 3|D|"),
-        Err(JournalError::Memory) => Ok(journal.append(&mut batch) == Err(JournalError::Failed)
-            && has(plain, journal.device(), TEXTS)?),
+        Err(JournalError::Memory) => Ok(
+            journal.append(&mut batch) == Err(JournalError::Failed)
+                && has(plain, journal.device(), TEXTS)?,
+        ),
         Err(_) => Ok(false),
     }
 }

@@ -13,6 +13,8 @@ pub(crate) struct Texts {
 impl TakeRecords for Texts {
     ghost takes = { λ old text new. Unit {0} };
 
+    ghost refuses = { λ old text new. Unit {0} };
+
     fn take_record(&mut self, text: &[u8]) -> bool {
         self.all.extend_from_slice(text).is_ok() && self.all.push(b'|').is_ok()
     }
@@ -45,12 +47,21 @@ pub(crate) fn reads_as(alloc: Global, image: &[u8], texts: &[u8]) -> Result<bool
 /// What opening answers: the byte of the damage, or None.
 pub(crate) fn damage(alloc: Global, image: &[u8], piece: usize) -> Result<Option<usize>, Fail> {
     let mut texts = no_texts(alloc);
-    let limits = Limits { piece, ..Limits::NONE };
+    let limits = Limits {
+        piece,
+        ..Limits::NONE
+    };
     let file = Memory::new(alloc, image, limits)?;
     match open(alloc, file, &mut texts) {
-        Ok(_) => Ok(None),
-        Err((JournalError::Damage { at_byte }, file)) if file.bytes() == image => Ok(Some(at_byte)),
-        Err(_) => Err(Fail::new("another error")),
+        Ok(_journal) => Ok(None),
+        Err((error, file)) => damage_of(error, file.bytes() == image),
+    }
+}
+
+fn damage_of(error: JournalError, is_unchanged: bool) -> Result<Option<usize>, Fail> {
+    match error {
+        JournalError::Damage { at_byte } if is_unchanged => Ok(Some(at_byte)),
+        _ => Err(Fail::new("another error")),
     }
 }
 
