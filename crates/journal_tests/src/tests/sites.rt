@@ -7,18 +7,9 @@ use std::test::Fail;
 /// granted it, grants, applies the closing of a peer, from which it takes back, and closes. The digests were made with
 /// Python's hashlib.
 const BATCHES: [(&[u8], &[u8]); 8] = [
-    (
-        b"= 13 ccefb4e27fda976e\nJ 1 1 3 sale\n",
-        b"J 1 1 3 sale|",
-    ),
-    (
-        b"= 13 c7fd9c192c248038\nE 1 0 1 I:10\n",
-        b"E 1 0 1 I:10|",
-    ),
-    (
-        b"= 10 1a6cf48759e02591\nW 1 2 1 5\n",
-        b"W 1 2 1 5|",
-    ),
+    (b"= 13 ccefb4e27fda976e\nJ 1 1 3 sale\n", b"J 1 1 3 sale|"),
+    (b"= 13 c7fd9c192c248038\nE 1 0 1 I:10\n", b"E 1 0 1 I:10|"),
+    (b"= 10 1a6cf48759e02591\nW 1 2 1 5\n", b"W 1 2 1 5|"),
     (
         b"= 23 a1687c4d2d75f861\nE 1 1 3 S:4 R:2:6\nT 64\n",
         b"E 1 1 3 S:4 R:2:6|T 64|",

@@ -2,8 +2,8 @@
 ghost use Rattle.std.specs.Prelude.{◌≡◌, ◌≤◌, [], false, IfOk};
 
 use apply_lanes::{Intake, Outlet, lane};
-use rights_types::{OutOfMemory, SiteId};
 use inbound::Inbound;
+use rights_types::{OutOfMemory, SiteId};
 use std::alloc::{Allocator, Global};
 use std::process::Abort;
 use std::sync::Wait;

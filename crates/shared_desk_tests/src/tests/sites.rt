@@ -6,9 +6,9 @@ use crate::tests::desks::{applier_at, seat_at};
 use apply_lanes::{
     Applier, Arrived, Blanks, DeskNames, Free, Intake, Kept, Outlet, Seat, SharedDesk, lane,
 };
+use inbound::Inbound;
 use request_queue::Status;
 use rights_types::{Ask, Deny, OutOfMemory, Query, SiteId};
-use inbound::Inbound;
 use site_core::{AskReply, Desk, DeskError, Spending};
 use std::alloc::{AllocError, Global};
 use std::process::Abort;

@@ -372,10 +372,7 @@ impl<'a, D: DeskNames, R: Wait, P: Peers + Drop, B: TickSignal + Drop> SiteClien
     }
 
     /// Adds the status object as the answer to a line.
-    fn answer_status<A: Allocator>(
-        &self,
-        replies: &mut Replies<A>,
-    ) -> Result<Answered, OutOfMemory>
+    fn answer_status<A: Allocator>(&self, replies: &mut Replies<A>) -> Result<Answered, OutOfMemory>
         requires { replies.old.part ≡ [] }
         ensures ok { IfOk result (λ how. (text : List ℕ)
             × IsReportOf (TellsStatus D.id) (record { text = text; how = how }) × AddsReply replies.old replies.new text) }

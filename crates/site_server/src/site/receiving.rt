@@ -9,10 +9,10 @@ use apply_lanes::{
     Applied, Applier, DeskNames, Free, Intake, Kept, MAX_LANE, Outlet, StepError, lane,
 };
 use desk_turns::{TurnDesk, Turns, Work};
+use inbound::{Inbound, InboundError};
 use line_streams::{first_number, only_number, split_word};
 use peer_links::{DeskMessage, Port, Skipped, read_link};
 use rights_types::{OutOfMemory, SiteId};
-use inbound::{Inbound, InboundError};
 use site_node::{Sink, answer_ask, answer_query, note_denial};
 use site_sockets::{Connection, PeerReader, PeerState, SiteSockets, SkipCause};
 use site_words::Config;

@@ -3,9 +3,9 @@ ghost use Rattle.std.specs.Prelude.{◌≡◌, [], false, IfOk};
 ghost use Rattle.entry_codec.specs.Pieces.{IsLine};
 
 use apply_lanes::{Intake, Outlet, lane};
+use inbound::Inbound;
 use peer_links::{DeskMessage, Port};
 use rights_types::{OutOfMemory, SiteId};
-use inbound::Inbound;
 use std::alloc::Global;
 use std::sync::Wait;
 use sub_buffer::State;
