@@ -4,3 +4,4 @@ mod failures;
 mod files;
 mod kit;
 mod records;
+mod sites;

@@ -23,25 +23,6 @@ const TOLD: [&[u8]; 4] = [
     b"A 1|B 22|C 3|D|E 4|FF|G|",
 ];
 
-/// The file, a call on which fails after so many, or which has no room past a length.
-fn file(alloc: Global, calls: Option<u64>, room: usize) -> Result<Memory, Fail> {
-    let limits = Limits {
-        calls,
-        room,
-        ..Limits::NONE
-    };
-    Ok(Memory::new(alloc, FILE, limits)?)
-}
-
-/// Whether the file is opened with its records.
-fn opens(alloc: Global, file: Memory) -> Result<bool, Fail> {
-    let mut texts = no_texts(alloc);
-    match open(alloc, file, &mut texts) {
-        Ok(_) => Ok(texts.all.as_slice() == TEXTS),
-        Err(_) => Ok(false),
-    }
-}
-
 /// Which call of a run failed, and whether it answered as it must.
 #[derive(Clone, Copy, PartialEq, Eq)]
 enum Met {
@@ -53,15 +34,22 @@ enum Met {
 
 /// A run whose call after so many fails, or whose file has no room past a length.
 fn meets(alloc: Global, calls: Option<u64>, room: usize) -> Result<Met, Fail> {
+    let limits = Limits {
+        calls,
+        room,
+        ..Limits::NONE
+    };
     let mut texts = no_texts(alloc);
-    match open(alloc, file(alloc, calls, room)?, &mut texts) {
+    match open(alloc, Memory::new(alloc, FILE, limits)?, &mut texts) {
         Ok(journal) => meets_appending(alloc, journal),
-        Err((error, file)) => meets_opening(alloc, error, file),
+        Err((error, file)) => meets_opening(alloc, error, &file),
     }
 }
 
-fn meets_opening(alloc: Global, error: JournalError, file: Memory) -> Result<Met, Fail> {
-    Ok(if error == JournalError::Failed && opens(alloc, file)? {
+/// After a restart the file has its records.
+fn meets_opening(alloc: Global, error: JournalError, file: &Memory) -> Result<Met, Fail> {
+    let image = file.image(u64::MAX, usize::MAX)?;
+    Ok(if error == JournalError::Failed && reads_as(alloc, image.as_slice(), TEXTS)? {
         Met::Opening
     } else {
         Met::Wrong
@@ -98,12 +86,12 @@ fn fails_for_good(alloc: Global, journal: &mut Journal<Memory>, told: usize) -> 
 /// A read, a cut or a sync that fails while the file is opened, and a write or a sync that fails in an append.
 #[test]
 fn calls_that_fail(rt: HostRuntime) -> Result<(), Fail> {
-    let mut opening = 0;
-    let mut appending = 0;
+    let mut opening = 0u64;
+    let mut appending = 0u64;
     for calls in 0..40 {
         match meets(rt.alloc(), Some(calls), usize::MAX)? {
-            Met::Opening => opening += 1,
-            Met::Appending => appending += 1,
+            Met::Opening => opening = opening.saturating_add(1),
+            Met::Appending => appending = appending.saturating_add(1),
             met => {
                 assert!(rt; met == Met::Nothing, "call {calls}");
                 break;
@@ -192,26 +180,30 @@ fn long_text(alloc: Global, count: usize) -> Result<Vec<u8>, Fail> {
     Ok(text)
 }
 
-#[test]
-fn too_long_a_batch(rt: HostRuntime) -> Result<(), Fail> {
-    let alloc = rt.alloc();
-    let (mut journal, _) = opened(alloc, b"")?;
-    let text = long_text(alloc, MAX_BATCH)?;
+/// A batch with so many bytes of records.
+fn long_batch(alloc: Global, count: usize) -> Result<Batch, Fail> {
+    let text = long_text(alloc, count.saturating_sub(1))?;
     let mut batch = Batch::new(alloc)?;
     if is_text(text.as_slice()) {
         batch.push(text.as_slice())?;
     }
-    assert!(rt; matches!(journal.append(&mut batch), Err(JournalError::TooLong)));
-    assert_eq!(rt; journal.device().bytes(), b"".as_slice());
-    batch.clear();
-    let shorter = text.get(1..).unwrap_or(b"");
-    if is_text(shorter) {
-        batch.push(shorter)?;
-    }
-    assert_eq!(rt; batch.len(), MAX_BATCH);
-    assert!(rt; journal.append(&mut batch).is_ok());
-    append(alloc, &mut journal, b"A 1|")?;
+    Ok(batch)
+}
+
+/// What a journal with no record answers to a batch of so many bytes, and the records that it has then.
+fn appends_long(alloc: Global, count: usize) -> Result<(Result<(), JournalError>, usize), Fail> {
+    let (mut journal, _) = opened(alloc, b"")?;
+    let mut batch = long_batch(alloc, count)?;
+    let answer = journal.append(&mut batch);
+    append(alloc, &mut journal, b"A|")?;
     let (_, texts) = opened(alloc, journal.device().bytes())?;
-    assert_eq!(rt; texts.len(), MAX_BATCH + 4);
+    Ok((answer, texts.len()))
+}
+
+/// The greatest batch, and one of a byte more.
+#[test]
+fn too_long_a_batch(rt: HostRuntime) -> Result<(), Fail> {
+    assert!(rt; appends_long(rt.alloc(), MAX_BATCH)? == (Ok(()), MAX_BATCH + 2));
+    assert!(rt; appends_long(rt.alloc(), MAX_BATCH + 1)? == (Err(JournalError::TooLong), 2));
     Ok(())
 }

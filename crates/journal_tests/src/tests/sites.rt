@@ -1,5 +1,7 @@
 //! Journals of sites: each command in a batch of its own, and the first records of all sites.
 use super::kit::{append, opened, reads_as};
+use journal_device::Memory;
+use site_journal::Journal;
 use std::alloc::Global;
 use std::test::Fail;
 
@@ -43,30 +45,43 @@ fn joined(alloc: Global, count: usize) -> Result<(Vec<u8>, Vec<u8>), Fail> {
     Ok((file, all))
 }
 
-/// A journal that was written by hand is opened, and one that is appended to has the same bytes.
+/// Whether the journal, to which so many batches were appended, has these bytes, and is opened with their records.
+fn is_written(alloc: Global, journal: &Journal<Memory>, count: usize) -> Result<bool, Fail> {
+    let (file, all) = joined(alloc, count)?;
+    Ok(
+        journal.device().bytes() == file.as_slice()
+            && journal.len() == file.len()
+            && reads_as(alloc, file.as_slice(), all.as_slice())?,
+    )
+}
+
+/// A journal that was written by hand is opened, and one that is appended to has the same bytes. A batch of no record
+/// changes nothing.
 #[test]
 fn each_command(rt: HostRuntime) -> Result<(), Fail> {
-    let alloc = rt.alloc();
-    let (mut journal, _) = opened(alloc, b"")?;
+    let (mut journal, _) = opened(rt.alloc(), b"")?;
     for (i, (_, texts)) in BATCHES.iter().enumerate() {
-        append(alloc, &mut journal, texts)?;
-        let (file, all) = joined(alloc, i + 1)?;
-        assert_eq!(rt; journal.device().bytes(), file.as_slice());
-        assert!(rt; reads_as(alloc, file.as_slice(), all.as_slice())?);
+        append(rt.alloc(), &mut journal, texts)?;
+        append(rt.alloc(), &mut journal, b"")?;
+        assert!(rt; is_written(rt.alloc(), &journal, i + 1)?, "batch {i}");
     }
     Ok(())
+}
+
+/// Whether the first record of a site is read again.
+fn begins(alloc: Global, site: u64, sites: u64) -> Result<bool, Fail> {
+    let text = format!(in alloc; "J 1 {site} {sites} sale|")?;
+    let (mut journal, _) = opened(alloc, b"")?;
+    append(alloc, &mut journal, text.as_bytes())?;
+    reads_as(alloc, journal.device().bytes(), text.as_bytes())
 }
 
 /// The first record of each site of systems of 2 to 16 sites.
 #[test]
 fn first_records(rt: HostRuntime) -> Result<(), Fail> {
-    let alloc = rt.alloc();
-    for sites in 2..=16u64 {
+    for sites in 2..=16 {
         for site in 1..=sites {
-            let text = format!(in alloc; "J 1 {site} {sites} sale|")?;
-            let (mut journal, _) = opened(alloc, b"")?;
-            append(alloc, &mut journal, text.as_bytes())?;
-            assert!(rt; reads_as(alloc, journal.device().bytes(), text.as_bytes())?);
+            assert!(rt; begins(rt.alloc(), site, sites)?, "site {site} of {sites}");
         }
     }
     Ok(())
