@@ -3,7 +3,7 @@ mod balance;
 mod bounds;
 mod calls;
 mod examples;
-mod inbound;
+mod incoming;
 mod memory;
 mod random;
 mod readers;

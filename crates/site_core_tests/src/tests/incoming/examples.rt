@@ -1,6 +1,6 @@
 //! Worked examples.
 
-use crate::tests::inbound::steps::{Came, Said, Step, at_site_1, at_site_2, first_wrong};
+use crate::tests::incoming::steps::{Came, Said, Step, at_site_1, at_site_2, first_wrong};
 use rights_types::OutOfMemory;
 use site_core::InboundError;
 use std::alloc::Global;

@@ -1,6 +1,6 @@
 //! Lines that are refused, and the order of the causes.
 
-use crate::tests::inbound::steps::{Came, at_site_2, comes, readers};
+use crate::tests::incoming::steps::{Came, at_site_2, comes, readers};
 use entry_codec::{LineError, Place};
 use site_core::InboundError;
 use sub_buffer::State;

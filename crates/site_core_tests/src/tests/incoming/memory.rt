@@ -1,9 +1,9 @@
 //! Lack of memory, and how much memory lines take.
 
-use crate::tests::inbound::steps::{
+use crate::tests::incoming::steps::{
     Came, Said, at_site_2, at_site_2_of_16, comes, is_outcome, is_query, readers,
 };
-use crate::tests::inbound::texts::{LONG_GRANT, answer_line};
+use crate::tests::incoming::texts::{LONG_GRANT, answer_line};
 use linked_list_allocator::LocalHeap;
 use refusing_allocator::Refusing;
 use rights_types::{MAX_ANSWER, MAX_MOVES, Move, OutOfMemory};

@@ -1,7 +1,7 @@
 //! Lines that arrive at an inbound, over many sizes with ample memory.
 
-use crate::tests::inbound::steps::{Came, Said, at_site_2, comes, is_query, readers};
-use crate::tests::inbound::texts::{answer_line, entry_line};
+use crate::tests::incoming::steps::{Came, Said, at_site_2, comes, is_query, readers};
+use crate::tests::incoming::texts::{answer_line, entry_line};
 use rights_types::MAX_HELD;
 use site_core::Inbound;
 use std::alloc::{AllocError, Global};

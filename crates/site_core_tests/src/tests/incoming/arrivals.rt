@@ -1,7 +1,7 @@
 //! Many entries that arrive at one inbound.
 
-use crate::tests::inbound::steps::{Came, Said, at_site_2, comes, readers};
-use crate::tests::inbound::texts::{add_entry, entry_line};
+use crate::tests::incoming::steps::{Came, Said, at_site_2, comes, readers};
+use crate::tests::incoming::texts::{add_entry, entry_line};
 use site_core::Inbound;
 use std::alloc::{AllocError, Global};
 use sub_buffer::State;

@@ -1,9 +1,9 @@
 //! Entries and answers of every size, with ample memory and with each memory request refused in turn. An inbound that
 //! gives up at some size can be proved, since it may always run out of memory; it is found here.
 
-use crate::tests::inbound::memory::comes_at_last;
-use crate::tests::inbound::steps::{Came, Said, at_site_2_of_16, comes, is_query, readers};
-use crate::tests::inbound::texts::{LONG_GRANT, answer_line, entry_line};
+use crate::tests::incoming::memory::comes_at_last;
+use crate::tests::incoming::steps::{Came, Said, at_site_2_of_16, comes, is_query, readers};
+use crate::tests::incoming::texts::{LONG_GRANT, answer_line, entry_line};
 use refusing_allocator::Refusing;
 use rights_types::{OutOfMemory, SiteId};
 use site_core::Inbound;
