@@ -78,23 +78,42 @@ fn byte(place: u64) -> u64 {
 /// Bytes of which all, or each second one, came to the disk.
 const SOME: [u64; 3] = [u64::MAX, 0x5555_5555_5555_5555, 0xaaaa_aaaa_aaaa_aaaa];
 
-/// Whether a crash now is safe, whichever one byte came to the disk or did not come, and whatever the length.
-fn is_crash_safe(alloc: Global, ended: &Ended) -> Result<bool, Fail> {
-    let shortest = ended.file.image(0, 0)?.len();
-    for place in 0..=WIDTH {
-        let one = byte(place);
-        if !is_safe(alloc, ended, one, usize::MAX)? || !is_safe(alloc, ended, !one, usize::MAX)? {
+/// Whether a crash is safe if these bytes came, or if the others did.
+fn are_safe(alloc: Global, ended: &Ended, bytes: u64) -> Result<bool, Fail> {
+    Ok(is_safe(alloc, ended, bytes, usize::MAX)? && is_safe(alloc, ended, !bytes, usize::MAX)?)
+}
+
+/// The same of this byte and any one before it.
+fn are_both_safe(alloc: Global, ended: &Ended, last: u64) -> Result<bool, Fail> {
+    for place in 0..=last {
+        if !are_safe(alloc, ended, byte(last) | byte(place))? {
             return Ok(false);
         }
-        for written in SOME {
-            if !is_safe(
-                alloc,
-                ended,
-                written,
-                shortest.saturating_add(place as usize),
-            )? {
-                return Ok(false);
-            }
+    }
+    Ok(true)
+}
+
+/// The same of a file that is so many bytes longer than before the write, at most.
+fn is_length_safe(alloc: Global, ended: &Ended, more: u64) -> Result<bool, Fail> {
+    let shortest = ended.file.image(0, 0)?.len();
+    for written in SOME {
+        if !is_safe(
+            alloc,
+            ended,
+            written,
+            shortest.saturating_add(more as usize),
+        )? {
+            return Ok(false);
+        }
+    }
+    Ok(true)
+}
+
+/// Whether a crash now is safe, whichever two bytes came to the disk or did not come, and whatever the length.
+fn is_crash_safe(alloc: Global, ended: &Ended) -> Result<bool, Fail> {
+    for place in 0..=WIDTH {
+        if !are_both_safe(alloc, ended, place)? || !is_length_safe(alloc, ended, place)? {
+            return Ok(false);
         }
     }
     Ok(true)
@@ -194,12 +213,7 @@ fn crashes_of_opening(rt: HostRuntime) -> Result<(), Fail> {
     Ok(())
 }
 
-/// Whether a crash is safe if these bytes came, or if the others did.
-fn are_safe(alloc: Global, ended: &Ended, bytes: u64) -> Result<bool, Fail> {
-    Ok(is_safe(alloc, ended, bytes, usize::MAX)? && is_safe(alloc, ended, !bytes, usize::MAX)?)
-}
-
-/// The same of this byte and any two before it.
+/// Whether a crash is safe, whether this byte and any two before it came or did not.
 fn are_any_safe(alloc: Global, ended: &Ended, last: u64) -> Result<bool, Fail> {
     for a in 0..=last {
         for b in 0..=a {

@@ -215,21 +215,17 @@ fn damaged_files(rt: HostRuntime) -> Result<(), Fail> {
     Ok(())
 }
 
-/// What a byte is set to, besides itself with one bit changed.
-const OTHERS: [u8; 8] = [0, b'\n', b' ', b'0', b'5', b'9', b'=', 255];
-
 /// Whether opening answers as it must, whatever is put in the place of this byte.
 fn are_told(alloc: Global, place: usize) -> Result<bool, Fail> {
-    let old = WHOLE.get(place).copied().unwrap_or(0);
-    for (bit, other) in OTHERS.iter().enumerate() {
-        if !is_told(alloc, place, *other)? || !is_told(alloc, place, old ^ (1 << bit))? {
+    for byte in 0..=255 {
+        if !is_told(alloc, place, byte)? {
             return Ok(false);
         }
     }
     Ok(true)
 }
 
-/// Each byte of a journal is changed.
+/// Each byte of a journal is set to each value.
 #[test]
 fn changed_bytes(rt: HostRuntime) -> Result<(), Fail> {
     for place in 0..WHOLE.len() {
