@@ -38,3 +38,6 @@ impl Records {
         }
     }
 }
+
+// A struct with `also_owns` has no `Send` by itself. This one owns nothing.
+unsafe impl Send for Records {}
