@@ -10,7 +10,10 @@ use std::alloc::{AllocError, AllocGlobal, Global};
 use std::process::Abort;
 use test_kit::Dice;
 
-const CALLS: u64 = 250;
+// How many games a test plays, and the calls of each, before the restart and after it.
+const GAMES: u64 = 280;
+
+const CALLS: u64 = 120;
 
 // A record of a site's journal, and what the site reported after it.
 #[derive(Drop)]
@@ -276,16 +279,37 @@ fn go_on(
     Ok(())
 }
 
-/// Systems of 2 to 16 sites start again from their journals, whatever happened before.
-#[test]
-fn restarts_of_all_sites(rt: HostRuntime) {
+// Systems of 2 to 16 sites start again from their journals, whatever happened before.
+fn restart_all(rt: &(impl Abort + AllocGlobal), first: u64) {
     let mut records = 0usize;
-    for seed in 0..30u64 {
+    for step in 0..GAMES {
+        let seed = first.saturating_add(step);
         let count = (seed % 15).saturating_add(2);
-        records = records.saturating_add(game(&rt, seed, count).expect(&rt, "memory"));
+        records = records.saturating_add(game(rt, seed, count).expect(rt, "memory"));
     }
     // The games were not idle.
     assert!(rt; records > 1_000);
+}
+
+/// 2,495 sites start again, and with the three tests below 10,055.
+#[test]
+fn restarts_of_all_sites(rt: HostRuntime) {
+    restart_all(&rt, 0);
+}
+
+#[test]
+fn restarts_of_a_second_draw(rt: HostRuntime) {
+    restart_all(&rt, GAMES);
+}
+
+#[test]
+fn restarts_of_a_third_draw(rt: HostRuntime) {
+    restart_all(&rt, 2 * GAMES);
+}
+
+#[test]
+fn restarts_of_a_fourth_draw(rt: HostRuntime) {
+    restart_all(&rt, 3 * GAMES);
 }
 
 // Two gifts to each other site, all of the first of which were applied, then closings in this order.
