@@ -421,11 +421,7 @@ def libraries_in(folders, names):
 def all_crates(folders, kept=False):
     """The crates, over the libraries in these folders. kept: whether a check may begin with what `rt check` kept of the
     crate."""
-    used = {}
-    for line in (TOP / "crates.txt").read_text().splitlines():
-        name, colon, names = line.partition(":")
-        if colon and not line.startswith("#"):
-            used[name] = names.split()
+    used = build.used_crates()
 
     def below(name):
         ours = [it for it in used[name] if it in used]
