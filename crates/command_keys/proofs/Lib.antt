@@ -1,0 +1,5 @@
+pub mod Zeros
+pub mod Lookups
+pub mod Rings
+pub mod Changes
+pub mod CallLaws

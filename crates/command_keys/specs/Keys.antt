@@ -1,0 +1,92 @@
+-- The keys of commands, with where each command ended.
+use Rattle.std.specs.Prelude.{◌≡◌, ℕ, ◌+◌, ◌≤◌, ◌==◌, List, [], ◌∷◌, length, Option, Some, None, position}
+use Rattle.std.specs.Prelude.{MatchOption, slice_get, remove, find, count_by, option_map}
+use Rattle.std.specs.Map.{lookup}
+use Rattle.std.specs.Str.{bytes_eq}
+use Rattle.command_keys.specs.Last.{LastValue, newest_of}
+use Rattle.command_keys.specs.declared.keys.TheConstants.{MAX_EXPIRED}
+use Rattle.command_keys.specs.declared.outcome.Waiting.{Waiting}
+use Rattle.command_keys.specs.declared.outcome.Outcome.{Outcome}
+use Rattle.command_keys.specs.declared.outcome.Outcome.TheVariants.{Wrote, Waits, Expired}
+
+-- The keys that wrote entries with the entries' numbers, the newest first, and how many are remembered at most; the
+-- spends that wait under keys, in order; the keys whose spend expired with its amount, the newest first; and how many
+-- more keys there is memory for.
+pub record KeysValue : Type 0 where
+  pub written : List (List ℕ × ℕ)
+  pub cap : ℕ
+  pub waiting : List Waiting
+  pub expired : List (List ℕ × ℕ)
+  pub room : ℕ
+
+abbrev pub no_keys : ℕ → KeysValue
+no_keys cap = record { written = []; cap = cap; waiting = []; expired = []; room = 0 }
+
+-- ---- where the command of a key ended
+
+abbrev pub outcome_by : Option ℕ → Option Waiting → Option ℕ → Option Outcome
+outcome_by (Some number) waits amount = Some (Wrote number)
+outcome_by None (Some w) amount = Some (Waits w.ticket w.amount)
+outcome_by None None (Some amount) = Some (Expired amount)
+outcome_by None None None = None
+
+abbrev pub outcome_of : KeysValue → List ℕ → Option Outcome
+outcome_of k key = outcome_by (lookup (bytes_eq key) k.written) (find (λ (w : Waiting). bytes_eq key w.key) k.waiting)
+    (lookup (bytes_eq key) k.expired)
+
+-- the key of the waiting spend with this ticket
+abbrev pub key_of : ℕ → List Waiting → Option (List ℕ)
+key_of ticket waiting = option_map (λ (w : Waiting). w.key) (find (λ (w : Waiting). w.ticket == ticket) waiting)
+
+-- ---- no key twice
+
+-- how often a key occurs
+abbrev pub times : List (List ℕ × ℕ) → List Waiting → List (List ℕ × ℕ) → List ℕ → ℕ
+times written waiting expired key =
+    count_by (λ e. bytes_eq key e.0) written
+    + (count_by (λ (w : Waiting). bytes_eq key w.key) waiting + count_by (λ e. bytes_eq key e.0) expired)
+
+abbrev pub IsOnce : KeysValue → Type 0
+IsOnce k = (key : List ℕ) → times k.written k.waiting k.expired key ≤ 1
+
+-- no key occurs twice, and each key of a spend that waits has room among those that wrote, and among the expired
+pub record IsKeys (written : LastValue) (waiting : List Waiting) (expired : LastValue) : Type 0 where
+  pub once : (key : List ℕ) → times written.entries waiting expired.entries key ≤ 1
+  pub may_write : length waiting ≤ written.spare
+  pub may_expire : length waiting ≤ expired.spare
+  pub cap : expired.cap ≡ MAX_EXPIRED
+
+-- ---- changes
+
+-- a key wrote the entry of this number
+abbrev pub remembered : KeysValue → List ℕ → ℕ → KeysValue
+remembered k key number = record k { written = newest_of k.cap ((key, number) ∷ k.written) }
+
+-- the waiting spend with this place was served by the entry of this number
+pub record ServesAt (old : KeysValue) (place number : ℕ) (new : KeysValue) : Type 0 where
+  pub spend : Waiting
+  pub found : slice_get old.waiting place ≡ Some spend
+  pub wrote : new.written ≡ newest_of old.cap ((spend.key, number) ∷ old.written)
+  pub others : new.waiting ≡ remove old.waiting place
+  pub cap : new.cap ≡ old.cap
+  pub expired : new.expired ≡ old.expired
+
+-- .. or expired
+pub record ExpiresAt (old : KeysValue) (place : ℕ) (new : KeysValue) : Type 0 where
+  pub spend : Waiting
+  pub found : slice_get old.waiting place ≡ Some spend
+  pub ended : new.expired ≡ newest_of MAX_EXPIRED ((spend.key, spend.amount) ∷ old.expired)
+  pub others : new.waiting ≡ remove old.waiting place
+  pub cap : new.cap ≡ old.cap
+  pub written : new.written ≡ old.written
+
+-- the place of the waiting spend with this ticket, if it has a key
+abbrev pub place_of : ℕ → List Waiting → Option ℕ
+place_of ticket waiting = position (λ (w : Waiting). w.ticket == ticket) waiting
+
+abbrev pub Serves : KeysValue → ℕ → ℕ → KeysValue → Type 0
+Serves old ticket number new =
+    MatchOption (place_of ticket old.waiting) (new ≡ old) (λ place. ServesAt old place number new)
+
+abbrev pub Expires : KeysValue → ℕ → KeysValue → Type 0
+Expires old ticket new = MatchOption (place_of ticket old.waiting) (new ≡ old) (λ place. ExpiresAt old place new)

@@ -1,0 +1,7 @@
+-- Keys of commands.
+pub mod Key
+pub mod Places
+pub mod KeyInverse
+pub mod Last
+pub mod Keys
+pub mod Calls

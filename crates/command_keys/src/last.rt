@@ -1,0 +1,107 @@
+//! The keys that were put last, each with a number.
+ghost use Rattle.std.specs.Prelude.{◌≡◌, ◌+◌, ◌<◌, ◌≤◌, [], ◌∷◌, length, None, OnOk, OnErr, IsOk};
+ghost use Rattle.std.specs.Map.{lookup};
+ghost use Rattle.std.specs.Str.{bytes_eq};
+ghost use Rattle.command_keys.specs.Last.{newest_of};
+
+use crate::key::Key;
+use indexmap::IndexMap;
+use rights_types::OutOfMemory;
+use std::alloc::{Allocator, Global};
+use std::hash::RandomState;
+use std::marker::Model;
+
+/// The keys that were put last, each with a number, at most `cap` of them: the oldest is forgotten first. No key occurs
+/// twice.
+// A ring over a map's columns: when it is full, a new key takes the place of the oldest.
+#[derive(Drop)]
+pub struct LastKeys<A: Allocator = Global> {
+    map: IndexMap<Key, u64, RandomState, A>,
+    oldest: usize,
+    cap: usize,
+}
+
+impl<A: Allocator> Model for LastKeys<A> {
+    ghost use Rattle.indexmap.specs.IndexMap.{spare};
+    ghost use Rattle.command_keys.specs.Last.{LastValue, IsRing, newest_first};
+
+    ghost Value = { LastValue };
+
+    ghost view = { λ l. record {
+      entries = newest_first l.map.entries l.oldest;
+      cap = l.cap;
+      spare = spare l.map;
+    } };
+
+    ghost invariant = { λ l. IsRing l.map.entries l.oldest l.cap };
+}
+
+impl<A: Allocator + Copy> LastKeys<A> {
+    /// No key yet. It asks for no memory.
+    pub fn new(alloc: A, hasher: RandomState, cap: usize) -> LastKeys<A>
+        ensures entries { result.entries ≡ [] }
+        ensures cap { result.cap ≡ cap }
+    {
+        LastKeys {
+            map: IndexMap::with_hasher(alloc, hasher),
+            oldest: 0,
+            cap,
+        }
+    }
+}
+
+impl<A: Allocator> LastKeys<A> {
+    /// How many keys there are, at most the cap.
+    pub fn len(&self) -> usize
+        ensures value { result ≡ length self.now.entries }
+        ensures few { result ≤ self.now.cap }
+    {
+        self.map.len()
+    }
+
+    /// The greatest number of keys.
+    pub fn cap(&self) -> usize
+        ensures { result ≡ self.now.cap }
+    {
+        self.cap
+    }
+
+    /// The number of a key.
+    pub fn get(&self, key: &Key) -> Option<u64>
+        ensures { result ≡ lookup (bytes_eq key.now) self.now.entries }
+    {
+        // The length is what says that no key occurs twice.
+        let _len = self.map.len();
+        self.map.get(key).copied()
+    }
+
+    /// Makes room for so many more keys, so that as many calls of `put` need no memory. `OutOfMemory` if it is refused.
+    pub fn reserve(&mut self, additional: usize) -> Result<(), OutOfMemory>
+        ensures same { self.new ≡ record self.old { spare = self.new.spare } }
+        ensures ok { OnOk result (additional ≤ self.new.spare) }
+        ensures more { self.old.spare ≤ self.new.spare }
+        ensures succeeds { additional ≤ self.old.spare → IsOk result }
+    {
+        self.map.reserve(additional)?;
+        Ok(())
+    }
+
+    /// Puts a key that is not there. If there are more than the cap then, the oldest is forgotten.
+    pub fn put(&mut self, key: Key, number: u64)
+        requires room { 0 < self.old.spare }
+        requires absent { lookup (bytes_eq key) self.old.entries ≡ None }
+        ensures entries { self.new.entries ≡ newest_of self.old.cap ((key, number) ∷ self.old.entries) }
+        ensures cap { self.new.cap ≡ self.old.cap }
+        ensures spare { self.old.spare ≤ self.new.spare + 1 }
+    {
+        if self.cap == 0 {
+            return;
+        }
+        let _new = self.map.insert(key, number).unwrap();
+        if self.map.len() > self.cap {
+            let oldest = self.oldest;
+            let _forgotten = self.map.swap_remove_index(oldest);
+            self.oldest = if oldest + 1 < self.cap { oldest + 1 } else { 0 };
+        }
+    }
+}

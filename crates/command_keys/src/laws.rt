@@ -1,0 +1,9 @@
+//! Laws of keys, with no program in them. The functions do nothing.
+ghost use Rattle.command_keys.specs.Calls.{LastAreRemembered};
+
+/// After any calls, the keys that wrote entries and are remembered are the last of all that ever wrote one, at most as
+/// many as the cap, each with the number that it had then; and no key occurs twice. So of each of them one number was
+/// remembered since it was last forgotten.
+pub fn last_are_remembered()
+    ensures { LastAreRemembered }
+{}
