@@ -1,5 +1,5 @@
 //! The bytes of journals. The digests were made with Python's hashlib.
-use super::kit::{damage, no_texts, opened, reads_as};
+use super::kit::{append, damage, no_texts, opened, reads_as};
 use journal_device::{Limits, Memory};
 use site_journal::{End, read};
 use std::alloc::Global;
@@ -65,7 +65,7 @@ const LEFT: [(&[u8], &[u8]); 18] = [
 ];
 
 /// Other files, and the byte of the damage, or None.
-const DAMAGED: [(&[u8], Option<usize>); 24] = [
+const DAMAGED: [(&[u8], Option<usize>); 31] = [
     (b"hello", Some(0)),
     (b"A 1\n", Some(0)),
     (b"= 4", None),
@@ -137,6 +137,21 @@ const DAMAGED: [(&[u8], Option<usize>); 24] = [
         b"= 10 be455ae353735194\nA 1\nB 22\n= 4 c198056f7db711ab\nC 3\n",
         Some(0),
     ),
+    // Batches that lack a byte, and behind them another one.
+    (
+        b"= 90 883fe6fcd28b39b9\nA 1\nB 22\n= 4 c198056f7db711ab\nC 3\n",
+        Some(0),
+    ),
+    (
+        b"\0 9 883fe6fcd28b39b9\nA 1\nB 22\n= 4 c198056f7db711ab\nC 3\n",
+        Some(0),
+    ),
+    (b"= 9 883fe6fcd28b39b9\nA 1\nB 22\n=\0", None),
+    (b"= 9 883fe6fcd28b39b9\nA 1\n=", Some(0)),
+    (b"= 9 883fe6fcd28b39b9\n=", Some(0)),
+    // Records that begin as a header does.
+    (b"= 4 45314b1db9905649\n= 1\n", Some(0)),
+    (b"= 6 c0ee059faf6d19fe\nA 1\n=\n", Some(0)),
 ];
 
 /// Three batches, which end at 30, 55 and 80.
@@ -168,16 +183,15 @@ fn end_of(batch: usize) -> usize {
 }
 
 /// Whether opening answers as it must where one byte has changed. A changed byte is damage, at the start of its batch,
-/// with two exceptions: a zero byte may be one that was not written, and the count of the last batch may count more
-/// bytes than came.
+/// with two exceptions in the last batch: a zero byte may be one that was not written, and the count may count more bytes
+/// than came.
 fn is_told(alloc: Global, place: usize, byte: u8) -> Result<bool, Fail> {
     let mut image = WHOLE.to_vec(alloc)?;
     if let Some(old) = image.get_mut(place) {
         *old = byte;
     }
     let batch = batch_at(place);
-    let is_header = place < end_of(batch).saturating_add(21);
-    let is_lost = byte == 0 && (is_header || batch == 2);
+    let is_lost = byte == 0 && batch == 2;
     let is_more = place == 57 && byte > b'4' && byte <= b'9';
     if WHOLE.get(place) == Some(&byte) {
         reads_as(alloc, image.as_slice(), texts_of(3))
@@ -230,6 +244,80 @@ fn are_told(alloc: Global, place: usize) -> Result<bool, Fail> {
 fn changed_bytes(rt: HostRuntime) -> Result<(), Fail> {
     for place in 0..WHOLE.len() {
         assert!(rt; are_told(rt.alloc(), place)?, "byte {place}");
+    }
+    Ok(())
+}
+
+/// Batches whose counts have two digits: a greater one counts more bytes than the file has.
+const RUN: [&[u8]; 4] = [
+    b"A 1|B 2222222|",
+    b"C 33333333333|",
+    b"D 4|E 5555555|",
+    b"F 666666666666|",
+];
+
+/// Their records but those of the last one.
+const BUT_LAST: &[u8] = b"A 1|B 2222222|C 33333333333|D 4|E 5555555|";
+
+/// A journal that they were appended to, and where the last one begins.
+fn appended(alloc: Global) -> Result<(Vec<u8>, usize), Fail> {
+    let (mut journal, _) = opened(alloc, b"")?;
+    let mut last = 0;
+    for texts in RUN {
+        last = journal.len();
+        append(alloc, &mut journal, texts)?;
+    }
+    Ok((journal.device().bytes().to_vec(alloc)?, last))
+}
+
+/// Whether a changed journal is refused as damage. Of the last batch it may also be one that was not told, and then it
+/// alone is cut off.
+fn is_kept(alloc: Global, image: &[u8], is_last: bool) -> Result<bool, Fail> {
+    Ok(
+        damage(alloc, image, usize::MAX)?.is_some()
+            || (is_last && reads_as(alloc, image, BUT_LAST)?),
+    )
+}
+
+/// Whether it is, with this byte in a place.
+fn is_kept_with(
+    alloc: Global,
+    whole: &[u8],
+    place: usize,
+    byte: u8,
+    is_last: bool,
+) -> Result<bool, Fail> {
+    let mut image = whole.to_vec(alloc)?;
+    if let Some(old) = image.get_mut(place) {
+        *old = byte;
+    }
+    is_kept(alloc, image.as_slice(), is_last)
+}
+
+/// Whether it is, if the byte becomes a zero byte, and if each bit of it is flipped.
+fn are_kept(alloc: Global, whole: &[u8], place: usize, is_last: bool) -> Result<bool, Fail> {
+    let old = whole.get(place).copied().unwrap_or(0);
+    if !is_kept_with(alloc, whole, place, 0, is_last)? {
+        return Ok(false);
+    }
+    for bit in [1, 2, 4, 8, 16, 32, 64, 128] {
+        if !is_kept_with(alloc, whole, place, old ^ bit, is_last)? {
+            return Ok(false);
+        }
+    }
+    Ok(true)
+}
+
+/// One byte of a journal that is lost, or one bit that is flipped, loses no batch but the last one.
+#[test]
+fn flipped_bits(rt: HostRuntime) -> Result<(), Fail> {
+    let (whole, last) = appended(rt.alloc())?;
+    for place in 0..whole.len() {
+        let is_last = place >= last;
+        assert!(rt;
+            are_kept(rt.alloc(), whole.as_slice(), place, is_last)?,
+            "byte {place}"
+        );
     }
     Ok(())
 }
