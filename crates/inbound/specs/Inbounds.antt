@@ -9,6 +9,7 @@ use Rattle.rights_types.specs.Messages.{MessageValue, QueryValue}
 use Rattle.rights_types.specs.Messages.MessageValue.{AnEntry, AQuery, AnAnswer, ABeat, AnAsk, ADenial, AHello}
 use Rattle.rights_types.specs.declared.moves.Move.{Move}
 use Rattle.rights_types.specs.declared.moves.Move.TheVariants.{CloseAt}
+use Rattle.entry_codec.specs.Spelling.{Spells}
 use Rattle.entry_codec.specs.declared.fault.LineError.{LineError}
 use Rattle.rights_book.specs.Checks.{names_above}
 use Rattle.sub_buffer.specs.Buffers.{BufferValue, new_buffer, IsSettled}
@@ -127,7 +128,8 @@ BringsEntries old es arrival new = ⊥
 abbrev pub Arrives : {A : Type 0} → InboundValue → MessageValue → Arrival A → InboundValue → Type 0
 Arrives old (AnEntry e) arrival new = BringsEntries old (e ∷ []) arrival new
 Arrives old (AnAnswer a) arrival new = BringsEntries old a.entries arrival new
-Arrives old (ABeat b) arrival new = (arrival ≡ Beat) × (new ≡ record old { buffer = after_beat old.buffer b.number })
+Arrives old (ABeat b) arrival new = (arrival ≡ Beat b)
+    × (new ≡ record old { buffer = after_beat old.buffer b.number })
 Arrives old (AQuery q) arrival new = (arrival ≡ Query q) × (new ≡ old)
 Arrives old (AnAsk a) arrival new = (arrival ≡ Ask a) × (new ≡ old)
 Arrives old (ADenial d) arrival new = (arrival ≡ Deny d) × (new ≡ old)
@@ -149,3 +151,9 @@ pub record QueryOf (old : InboundValue) (again : Bool) (q : Option QueryValue) (
       → GapIs old.buffer.me old.buffer.origin set put old.buffer.told gap
   pub asks : Asks again gap old.buffer.asked q
   pub left : new ≡ record old { buffer = asked_for old.buffer q }
+
+-- a query, if there is one, with a line that spells it
+abbrev pub IsWritten : {L : Type 0} → (L → List ℕ) → Option QueryValue → Option (QueryValue × L) → Type 0
+IsWritten bytes None None = Unit {0}
+IsWritten bytes (Some q) (Some given) = (given.0 ≡ q) × Spells (AQuery q) (bytes given.1)
+IsWritten bytes q given = ⊥

@@ -23,7 +23,7 @@ ghost use Rattle.inbound.specs.Inbounds.{sender, is_for, entries_of, is_foreign,
 
 use crate::fault::InboundError;
 use entry_codec::{LineError, read_line, write_line};
-use rights_types::{Ask, Deny, Entry, Message, Move, OutOfMemory, Query, SiteId};
+use rights_types::{Ask, Beat, Deny, Entry, Message, Move, OutOfMemory, Query, SiteId};
 use std::alloc::{Allocator, Global};
 use std::marker::Model;
 use sub_buffer::{MAX_VERDICTS, State, SubBuffer, Verdict};
@@ -66,7 +66,7 @@ pub enum Arrival<A: Allocator = Global> {
     /// Entries: one, or those of an answer.
     Entries { verdicts: Verdicts<A> },
     /// A beat, which the buffer has taken in.
-    Beat,
+    Beat(Beat),
     /// The origin asks for entries of this site's log.
     Query(Query),
     /// The origin asks for rights.
@@ -98,7 +98,7 @@ impl<A: Allocator> Model for Inbound<A> {
 
 impl<A: Allocator + Copy> Inbound<A> {
     ghost use Rattle.inbound.specs.Inbounds.{new_inbound, message_fault, InboundRefuses, BringsEntries, Arrives};
-    ghost use Rattle.inbound.specs.Inbounds.{QueryOf};
+    ghost use Rattle.inbound.specs.Inbounds.{QueryOf, IsWritten};
 
     /// The input of site `me` from the origin, in a system of `sites` sites, 2 to 16. `OutOfMemory` if its memory is
     /// refused.
@@ -214,7 +214,7 @@ impl<A: Allocator + Copy> Inbound<A> {
             Message::Answer(answer) => self.take_entries(answer.into_entries()),
             Message::Beat(beat) => {
                 self.buffer.beat(beat.number());
-                Ok(Arrival::Beat)
+                Ok(Arrival::Beat(beat))
             }
             Message::Query(query) => Ok(Arrival::Query(query)),
             Message::Ask(ask) => Ok(Arrival::Ask(ask)),
@@ -282,11 +282,26 @@ impl<A: Allocator + Copy> Inbound<A> {
         ensures { (q : Option QueryValue) × QueryOf self.old again q self.new
             × MatchResult result (λ line. LineOf (λ l. l.items) (option_map (λ x. AQuery x) q) line) (λ _. IsSome q) }
     {
+        match self.query_with_line(again)? {
+            Some((_, line)) => Ok(Some(line)),
+            None => Ok(None),
+        }
+    }
+
+    /// The query for the gap with its line, where `query_line` returns the line alone.
+    pub fn query_with_line(
+        &mut self,
+        again: bool,
+    ) -> Result<Option<(Query, Vec<u8, A>)>, OutOfMemory>
+        ensures { (q : Option QueryValue) × QueryOf self.old again q self.new
+            × MatchResult result (λ given. IsWritten (λ l. l.items) q given) (λ _. IsSome q) }
+    {
         let Some(query) = self.query(again) else {
             return Ok(None);
         };
         let message: Message<A> = Message::Query(query);
-        Ok(Some(write_line(self.alloc, &message)?))
+        let line = write_line(self.alloc, &message)?;
+        Ok(Some((query, line)))
     }
 
     // The query for the gap, if one is due. From then on the gap counts as asked for.

@@ -312,7 +312,7 @@ pub few_come : {A : Type 0} (old : InboundValue) (m : MessageValue) (a : Arrival
     → Arrives old m a new
     → length (verdicts_of a) ≤ MAX_VERDICTS
 few_come old m (Entries vs) new x = (entries_come old m vs new x).1.few
-few_come old m Beat new x = omega arith
+few_come old m (Beat b) new x = omega arith
 few_come old m (Query q) new x = omega arith
 few_come old m (Ask k) new x = omega arith
 few_come old m (Deny d) new x = omega arith
@@ -358,7 +358,7 @@ module _ {A : Type 0} where
       → BringsEntries old es a new
       → HasPut (put ++ ready_of a) new.buffer
   brought old put es (Entries vs) new h x = x.chain put h
-  brought old put es Beat new h x = absurd x
+  brought old put es (Beat b) new h x = absurd x
   brought old put es (Query q) new h x = absurd x
   brought old put es (Ask k) new h x = absurd x
   brought old put es (Deny d) new h x = absurd x
@@ -376,7 +376,7 @@ module _ {A : Type 0} where
   delivers old put (AnEntry e) a new h x = brought old put (e ∷ []) a new h x
   delivers old put (AnAnswer y) a new h x = brought old put y.entries a new h x
   delivers old put (ABeat b) a new h x =
-      no_more put a Beat new.buffer x.0 refl
+      no_more put a (Beat b) new.buffer x.0 refl
       (subst (λ (i : InboundValue). HasPut put i.buffer) (sym x.1) (heard put old.buffer b.number h))
   delivers old put (AQuery q) a new h x
       = no_more put a (Query q) new.buffer x.0 refl (subst (λ (i : InboundValue). HasPut put i.buffer) (sym x.1) h)

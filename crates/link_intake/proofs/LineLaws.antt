@@ -110,7 +110,7 @@ module _ {A : Type 0} where
   brought log old es (Entries vs) new x of_log reached put g =
       all_go log es old.buffer new.buffer [] vs x.arrive of_log reached put
       (subst (λ xs. Goes log reached xs old.buffer) (sym (append-nil put)) g)
-  brought log old es Beat new x of_log reached put g = absurd x
+  brought log old es (Beat b) new x of_log reached put g = absurd x
   brought log old es (Query q) new x of_log reached put g = absurd x
   brought log old es (Ask k) new x of_log reached put g = absurd x
   brought log old es (Deny d) new x of_log reached put g = absurd x
@@ -137,7 +137,7 @@ module _ {A : Type 0} where
   goes_on log old (AnEntry e) a new x of_log reached put g = brought log old (e ∷ []) a new x of_log reached put g
   goes_on log old (AnAnswer y) a new x of_log reached put g = brought log old y.entries a new x of_log reached put g
   goes_on log old (ABeat b) a new x of_log reached put g =
-      nothing_more log reached put a Beat new.buffer x.0 refl
+      nothing_more log reached put a (Beat b) new.buffer x.0 refl
       (subst (λ (i : InboundValue). Goes log reached put i.buffer) (sym x.1)
       (record { follows = follows_beat old.buffer b.number log reached put g.follows; longest = g.longest }))
   goes_on log old (AQuery q) a new x of_log reached put g =

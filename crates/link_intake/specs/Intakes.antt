@@ -15,9 +15,10 @@ use Rattle.inbound.specs.declared.inbound.Arrival.TheVariants.{Query as ComesQue
 use Rattle.inbound.specs.declared.inbound.Arrival.TheVariants.{Deny as ComesDeny, Hello as ComesHello}
 use Rattle.thread_parts.specs.declared.item.Item.{Item}
 use Rattle.thread_parts.specs.declared.item.Item.TheVariants.{End}
+use Rattle.link_intake.specs.declared.desk_message.DeskMessage.TheVariants.{Query, Ask, Deny}
 use Rattle.link_intake.specs.declared.intake.VerdictCounts.{VerdictCounts}
 use Rattle.link_intake.specs.declared.intake.Arrived.{Arrived}
-use Rattle.link_intake.specs.declared.intake.Arrived.TheVariants.{Entries, Beat, Query, Ask, Deny, Hello}
+use Rattle.link_intake.specs.declared.intake.Arrived.TheVariants.{Entries, Beat, Message, Hello}
 use Rattle.link_intake.specs.declared.intake.Came.{Came}
 use Rattle.link_intake.specs.declared.intake.Came.TheVariants.{Next, Other}
 use Rattle.link_intake.specs.declared.intake.IntakeError.{IntakeError}
@@ -77,10 +78,10 @@ arrival_of (Other arrival) = arrival
 -- what an intake returns for what arrived
 abbrev pub arrived_of : {A : Type 0} → Arrival A → Arrived
 arrived_of (ComesEntries vs) = Entries (counts_of vs)
-arrived_of ComesBeat = Beat
-arrived_of (ComesQuery q) = Query q
-arrived_of (ComesAsk a) = Ask a
-arrived_of (ComesDeny d) = Deny d
+arrived_of (ComesBeat b) = Beat b
+arrived_of (ComesQuery q) = Message (Query q)
+arrived_of (ComesAsk a) = Message (Ask a)
+arrived_of (ComesDeny d) = Message (Deny d)
 arrived_of ComesHello = Hello
 
 -- the verdicts on what arrived

@@ -14,7 +14,7 @@ ghost use Rattle.sub_buffer.specs.Follows.{HasPut, Follows};
 ghost use Rattle.sub_buffer.specs.declared.verdict.Verdict.TheVariants.{Ready as IsReady};
 ghost use Rattle.inbound.specs.declared.fault.InboundError.TheVariants.{OutOfMemory as NoMemory};
 ghost use Rattle.entry_codec.specs.Spelling.{LineOf};
-ghost use Rattle.inbound.specs.Inbounds.{QueryOf, ready_in, Arrives, InboundRefuses, message_fault};
+ghost use Rattle.inbound.specs.Inbounds.{QueryOf, IsWritten, ready_in, Arrives, InboundRefuses, message_fault};
 ghost use Rattle.thread_parts.specs.Items.{IsOpen, IsEnded};
 ghost use Rattle.link_intake.specs.Intakes.{counts_of, with_verdict, all_counts, verdicts_of, ready_of, arrived_of};
 ghost use Rattle.link_intake.specs.Intakes.{arrival_of};
@@ -23,8 +23,9 @@ ghost use Rattle.link_intake.specs.declared.intake.IntakeError.TheVariants.{Inbo
 ghost use Rattle.link_intake.specs.declared.intake.IntakeError.TheVariants.{LaneClosed as ClosedLane};
 ghost use Rattle.link_intake.specs.declared.intake.Arrived.TheVariants.{Entries as EntriesCame};
 
+use crate::desk_message::DeskMessage;
 use inbound::{Arrival, Inbound, InboundError};
-use rights_types::{Ask, Deny, Entry, Message, OutOfMemory, Query};
+use rights_types::{Beat, Entry, Message, OutOfMemory, Query};
 use std::alloc::{Allocator, Global};
 use std::marker::Model;
 use std::sync::Wait;
@@ -55,13 +56,9 @@ pub enum Arrived {
     /// Entries.
     Entries(VerdictCounts),
     /// A beat.
-    Beat,
-    /// The origin queries entries of the desk's log.
-    Query(Query),
-    /// The origin asks for rights.
-    Ask(Ask),
-    /// The origin denied an ask of the desk.
-    Deny(Deny),
+    Beat(Beat),
+    /// A message for the desk.
+    Message(DeskMessage),
     /// The first line of a connection.
     Hello,
 }
@@ -179,6 +176,19 @@ impl<A: Allocator + Copy> Intake<A> {
         ensures log { (es reached : List EntryValue) → Receives es reached self.old → Receives es reached self.new }
     {
         self.inbound.query_line(again)
+    }
+
+    /// The query for the gap with its line, where `query_line` returns the line alone.
+    pub fn query_with_line(
+        &mut self,
+        again: bool,
+    ) -> Result<Option<(Query, Vec<u8, A>)>, OutOfMemory>
+        ensures query { (q : Option QueryValue) × QueryOf self.old.inbound again q self.new.inbound
+            × MatchResult result (λ given. IsWritten (λ l. l.items) q given) (λ _. IsSome q) }
+        ensures rest { self.new ≡ record self.old { inbound = self.new.inbound } }
+        ensures log { (es reached : List EntryValue) → Receives es reached self.old → Receives es reached self.new }
+    {
+        self.inbound.query_with_line(again)
     }
 
     /// Puts End, unless it was put already. It blocks while the lane is full.
@@ -311,10 +321,10 @@ fn put_arrival<A: Allocator, R: Wait>(
 {
     match arrival {
         Arrival::Entries { verdicts } => put_entries(rt, inlet, ended, verdicts.into_vec()),
-        Arrival::Beat => Ok(Arrived::Beat),
-        Arrival::Query(query) => Ok(Arrived::Query(query)),
-        Arrival::Ask(ask) => Ok(Arrived::Ask(ask)),
-        Arrival::Deny(deny) => Ok(Arrived::Deny(deny)),
+        Arrival::Beat(beat) => Ok(Arrived::Beat(beat)),
+        Arrival::Query(query) => Ok(Arrived::Message(DeskMessage::Query(query))),
+        Arrival::Ask(ask) => Ok(Arrived::Message(DeskMessage::Ask(ask))),
+        Arrival::Deny(deny) => Ok(Arrived::Message(DeskMessage::Deny(deny))),
         Arrival::Hello => Ok(Arrived::Hello),
     }
 }

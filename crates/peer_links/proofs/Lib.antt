@@ -1,6 +1,6 @@
 mod HelloLaws
 mod LineLaws
-mod PairLaws
+pub mod PairLaws
 mod QueueLaws
 mod ReadLaws
 mod TakeLaws

@@ -1,5 +1,5 @@
 -- The origin and the site of an intake's lines do not change; and which messages result from these lines.
-use Rattle.std.proofs.Common.{◌≡◌, ℕ, eqb, ◌==◌, ◌||◌, not, Bool, true, false, cond, List, [], ◌∷◌, Option, Some, None}
+use Rattle.std.proofs.Common.{◌≡◌, ℕ, eqb, Bool, true, false, cond, List, [], ◌∷◌, Option, Some, None}
 use Rattle.std.proofs.Common.{Result, Ok, Err, IfSome, refl, sym, ap, subst, ◌∙◌}
 use Rattle.std.proofs.lemmas.Bool.{eqb-true}
 use Rattle.rights_types.specs.Entries.{EntryValue}
@@ -11,20 +11,20 @@ use Rattle.sub_buffer.specs.Arrivals.{ArriveAll}
 use Rattle.sub_buffer.specs.Table.{after_beat}
 use Rattle.sub_buffer.specs.Gaps.{asked_for}
 use Rattle.sub_buffer.specs.declared.verdict.Verdict.{Verdict}
-use Rattle.inbound.specs.Inbounds.{InboundValue, sender, addressee, is_for, has_foreign, entries_of, message_fault}
+use Rattle.inbound.specs.Inbounds.{InboundValue, sender, addressee, is_for, message_fault}
 use Rattle.inbound.specs.Inbounds.{line_fault, BringsEntries, Arrives, QueryOf}
 use Rattle.inbound.specs.declared.inbound.Arrival.{Arrival}
 use Rattle.inbound.specs.declared.inbound.Arrival.TheVariants.{Entries, Beat, Query as ComesQuery, Ask as ComesAsk}
 use Rattle.inbound.specs.declared.inbound.Arrival.TheVariants.{Deny as ComesDenial, Hello}
-use Rattle.link_intake.specs.Intakes.{IntakeValue, LineLeaves, TakesIn, Brings, IntakeRefuses, arrived_of}
+use Rattle.link_intake.specs.Intakes.{IntakeValue, LineLeaves, TakesIn, arrived_of}
 use Rattle.link_intake.specs.declared.intake.Arrived.{Arrived}
 use Rattle.link_intake.specs.declared.intake.IntakeError.{IntakeError}
 use Rattle.link_intake.specs.declared.intake.IntakeError.TheVariants.{Inbound, LaneClosed}
 use Rattle.rights_types.specs.declared.fault.OutOfMemory.{OutOfMemory as Want}
 use Rattle.peer_links.specs.Ports.{Heard, message_of, IsBetween, AcceptsPeer}
 use Rattle.peer_links.specs.Takes.{message_in, AsksGap}
-use Rattle.peer_links.specs.declared.link.DeskMessage.{DeskMessage}
-use Rattle.peer_links.specs.declared.link.DeskMessage.TheVariants.{Query, Ask, Deny}
+use Rattle.link_intake.specs.declared.desk_message.DeskMessage.{DeskMessage}
+use Rattle.link_intake.specs.declared.desk_message.DeskMessage.TheVariants.{Query, Ask, Deny}
 
 -- ---- the pair does not change
 
@@ -45,7 +45,7 @@ entries_bring : {A : Type 0} (old : InboundValue) (es : List EntryValue) (arriva
     → BringsEntries old es arrival new
     → SamePair old.buffer new.buffer
 entries_bring old es (Entries vs) new h = all_arrive old.buffer [] es new.buffer vs h.arrive
-entries_bring old es Beat new h = absurd h
+entries_bring old es (Beat b) new h = absurd h
 entries_bring old es (ComesQuery q) new h = absurd h
 entries_bring old es (ComesAsk a) new h = absurd h
 entries_bring old es (ComesDenial d) new h = absurd h
@@ -128,7 +128,7 @@ no_message : {A : Type 0} (P : DeskMessage → Type 0) (old : InboundValue) (es 
     (new : InboundValue) → BringsEntries old es arrival new
     → IfSome (message_in (arrived_of arrival)) P
 no_message P old es (Entries vs) new h = tt
-no_message P old es Beat new h = absurd h
+no_message P old es (Beat b) new h = absurd h
 no_message P old es (ComesQuery q) new h = absurd h
 no_message P old es (ComesAsk a) new h = absurd h
 no_message P old es (ComesDenial d) new h = absurd h

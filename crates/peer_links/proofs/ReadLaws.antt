@@ -1,17 +1,12 @@
 -- What was read from a connection, read by read, and the effect of its lines.
-use Rattle.std.proofs.Common.{◌≡◌, ℕ, ◌+◌, ◌<◌, ◌≤◌, List, [], ◌∷◌, ◌++◌, length, take, drop, Vec, Option, Some, None}
+use Rattle.std.proofs.Common.{◌≡◌, ℕ, ◌+◌, ◌<◌, ◌≤◌, List, [], ◌∷◌, ◌++◌, length, take, drop, Option, Some, None}
 use Rattle.std.proofs.Common.{Err, IfNone, refl, sym, ap, subst, ◌∙◌, arith, inl, inr, append-nil}
 use Rattle.std.proofs.Common.{append_assoc, length-append, length-drop}
-use Rattle.std.specs.Prelude.{option_map}
 use Rattle.std.specs.Io.KnownBytes.{Consumes, Keeps}
 use Rattle.std.proofs.KnownBytes.{Consumes-nil, Consumes-kept, Consumes-trans}
 use Rattle.std.proofs.lemmas.List.{take_all}
-use Rattle.rights_types.specs.Messages.{QueryValue}
-use Rattle.rights_types.specs.Messages.MessageValue.{AQuery}
 use Rattle.entry_codec.specs.Cutter.{CutterView}
-use Rattle.entry_codec.specs.Pieces.{pieces, IsLine}
-use Rattle.entry_codec.proofs.Lines.{is_line}
-use Rattle.entry_codec.specs.Spelling.{LineOf}
+use Rattle.entry_codec.specs.Pieces.{pieces}
 use Rattle.line_streams.specs.Counting.{counts_for, still}
 use Rattle.line_streams.proofs.CountLaws.{none_parted, parted_more, counted_more, lines_both}
 use Rattle.line_streams.proofs.WriteLaws.{take_both}
@@ -149,15 +144,3 @@ module _ (bytes rest : List ℕ) (at n : ℕ) (e : rest ≡ drop at bytes) where
             ap length (none_ended o ended.0 other ended.1),
             ap (λ (l : List ℕ). length (pieces l)) (all_taken o other all within),
           )
-
--- a line that queries the gap
-asks : {X : Type 0} (q : Option QueryValue) (line : Vec ℕ X)
-    → LineOf (λ (l : Vec ℕ X). l.items) (option_map (λ x. AQuery x) q) (Some line) → IsLine line.items
-asks (Some q) line h = is_line (AQuery q) line.items h
-asks None line h = absurd h
-
-pub asks_line : {X : Type 0} (q : Option QueryValue) (o : Option (Vec ℕ X)) (line : Vec ℕ X) → o ≡ Some line
-    → LineOf (λ (l : Vec ℕ X). l.items) (option_map (λ x. AQuery x) q) o → IsLine line.items
-asks_line {X} q o line is h
-    = asks q line (subst (λ (o : Option (Vec ℕ X)). LineOf (λ (l : Vec ℕ X). l.items) (option_map (λ x. AQuery x) q) o)
-    is h)

@@ -2,7 +2,7 @@
 use Rattle.std.proofs.Common.{◌≡◌, ◌≢◌, ℕ, ◌+◌, ◌≤◌, Bool, List, [], ◌∷◌, ◌++◌, length, take, drop, Vec, Option, Some}
 use Rattle.std.proofs.Common.{None, Result, Ok, Err, IfNone, refl, sym, ap, subst, ◌∙◌, arith, inl, inr}
 use Rattle.std.proofs.Common.{append-nil, append_assoc, length-append}
-use Rattle.std.specs.Prelude.{option_map, IsSome}
+use Rattle.std.specs.Prelude.{IsSome}
 use Rattle.std.proofs.lemmas.List.{append_cancel_left, take-append-drop}
 use Rattle.rights_types.specs.Messages.{QueryValue}
 use Rattle.rights_types.specs.Messages.MessageValue.{AQuery}
@@ -19,8 +19,9 @@ use Rattle.peer_links.specs.Turns.{InTurn}
 use Rattle.peer_links.proofs.LineLaws.{found_end}
 use Rattle.peer_links.proofs.ReadLaws.{next_taken, all_taken, none_ended}
 use Rattle.peer_links.proofs.TurnLaws.{turn_one, turns_both}
-use Rattle.peer_links.specs.declared.link.DeskMessage.{DeskMessage}
-use Rattle.entry_codec.specs.Spelling.{LineOf}
+use Rattle.link_intake.specs.declared.desk_message.DeskMessage.{DeskMessage}
+use Rattle.entry_codec.specs.Spelling.{Spells}
+use Rattle.inbound.specs.Inbounds.{IsWritten}
 use Rattle.std.specs.Borrow.{Bor}
 use Rattle.rights_types.specs.declared.limits.TheConstants.{MAX_LINE}
 use Rattle.sub_buffer.specs.Gaps.{GapOf, StateOf}
@@ -63,18 +64,19 @@ behind_count stream bytes =
 
 -- ---- what a port receives
 
--- the line of the query
-heard_line : {X : Type 0} (q : Option QueryValue) (line : Vec ℕ X)
-    → LineOf (λ (l : Vec ℕ X). l.items) (option_map (λ x. AQuery x) q) (Some line)
-    → HearsQuery q (Ok tt) (ALine line.items ∷ [])
-heard_line (Some q) line h = (line.items, h, refl)
-heard_line None line h = absurd h
+-- the query, and its line
+heard_line : {X : Type 0} (q : Option QueryValue) (query : QueryValue) (line : Vec ℕ X)
+    → IsWritten (λ (l : Vec ℕ X). l.items) q (Some (query, line))
+    → Spells (AQuery query) line.items × HearsQuery q (Ok tt) (ALine line.items ∷ [])
+heard_line (Some q) query line h
+    = (subst (λ (x : QueryValue). Spells (AQuery x) line.items) (sym h.0) h.1, (line.items, h.1, refl))
+heard_line None query line h = absurd h
 
-pub query_heard : {X : Type 0} (q : Option QueryValue) (o : Option (Vec ℕ X)) (line : Vec ℕ X) → o ≡ Some line
-    → LineOf (λ (l : Vec ℕ X). l.items) (option_map (λ x. AQuery x) q) o → HearsQuery q (Ok tt) (ALine line.items ∷ [])
-query_heard {X} q o line is h
-    = heard_line q line (subst
-    (λ (o : Option (Vec ℕ X)). LineOf (λ (l : Vec ℕ X). l.items) (option_map (λ x. AQuery x) q) o) is h)
+pub query_heard : {X : Type 0} (q : Option QueryValue) (o : Option (QueryValue × Vec ℕ X)) (query : QueryValue)
+    (line : Vec ℕ X) → o ≡ Some (query, line) → IsWritten (λ (l : Vec ℕ X). l.items) q o
+    → Spells (AQuery query) line.items × HearsQuery q (Ok tt) (ALine line.items ∷ [])
+query_heard {X} q o query line is h
+    = heard_line q query line (subst (IsWritten (λ (l : Vec ℕ X). l.items) q) is h)
 
 -- there is no memory for it
 pub query_lacks : (q : Option QueryValue) (asked : Result (Unit {0}) Want) (e : Want) → asked ≡ Err e → IsSome q

@@ -6,8 +6,8 @@ use Rattle.rights_types.specs.declared.fault.OutOfMemory.{OutOfMemory}
 use Rattle.sub_buffer.specs.Buffers.{BufferValue}
 use Rattle.sub_buffer.specs.declared.buffer.State.{State}
 use Rattle.inbound.specs.Inbounds.{sender, addressee}
-use Rattle.peer_links.specs.declared.link.DeskMessage.{DeskMessage}
-use Rattle.peer_links.specs.declared.link.DeskMessage.TheVariants.{Query, Ask, Deny}
+use Rattle.link_intake.specs.declared.desk_message.DeskMessage.{DeskMessage}
+use Rattle.link_intake.specs.declared.desk_message.DeskMessage.TheVariants.{Query, Ask, Deny}
 
 abbrev pub message_of : DeskMessage → MessageValue
 message_of (Query q) = AQuery q

@@ -1,7 +1,7 @@
 -- The effect of the lines of a connection on the intake and on the port.
-use Rattle.std.specs.Prelude.{◌≡◌, ◌≢◌, ℕ, ◌+◌, ◌<◌, ◌≤◌, ◌⊎◌, Bool, true, false, List, [], ◌∷◌, ◌++◌, length, Option}
-use Rattle.std.specs.Prelude.{Some, None, Result, Ok, Err, IsErr, IfErr}
-use Rattle.rights_types.specs.Messages.{MessageValue, QueryValue}
+use Rattle.std.specs.Prelude.{◌≡◌, ◌≢◌, ℕ, ◌+◌, ◌<◌, ◌≤◌, ◌⊎◌, Bool, true, List, [], ◌∷◌, ◌++◌, length, Option}
+use Rattle.std.specs.Prelude.{Some, None, is_some, Result, Ok, Err, IsErr, IfErr}
+use Rattle.rights_types.specs.Messages.{MessageValue, QueryValue, BeatValue}
 use Rattle.rights_types.specs.Messages.MessageValue.{AQuery}
 use Rattle.rights_types.specs.declared.limits.TheConstants.{MAX_LINE}
 use Rattle.rights_types.specs.declared.fault.OutOfMemory.{OutOfMemory}
@@ -16,16 +16,14 @@ use Rattle.inbound.specs.declared.fault.InboundError.TheVariants.{OutOfMemory as
 use Rattle.line_streams.specs.declared.limit.TheConstants.{LINE_LIMIT}
 use Rattle.link_intake.specs.Intakes.{IntakeValue, IntakeRefuses, LineLeaves}
 use Rattle.link_intake.specs.declared.intake.Arrived.{Arrived}
-use Rattle.link_intake.specs.declared.intake.Arrived.TheVariants.{Beat, Query as CameQuery, Ask as CameAsk}
-use Rattle.link_intake.specs.declared.intake.Arrived.TheVariants.{Deny as CameDenial}
+use Rattle.link_intake.specs.declared.intake.Arrived.TheVariants.{Beat, Message}
 use Rattle.link_intake.specs.declared.intake.IntakeError.{IntakeError}
 use Rattle.link_intake.specs.declared.intake.IntakeError.TheVariants.{Inbound, LaneClosed as FoundClosed}
 use Rattle.peer_links.specs.Links.{IsFedAll}
 use Rattle.peer_links.specs.Turns.{InTurn}
 use Rattle.peer_links.specs.Ports.{Heard}
 use Rattle.peer_links.specs.Ports.Heard.{AMessage, ALine, AState}
-use Rattle.peer_links.specs.declared.link.DeskMessage.{DeskMessage}
-use Rattle.peer_links.specs.declared.link.DeskMessage.TheVariants.{Query, Ask, Deny}
+use Rattle.link_intake.specs.declared.desk_message.DeskMessage.{DeskMessage}
 use Rattle.peer_links.specs.declared.link.LinkFault.{LinkFault}
 use Rattle.peer_links.specs.declared.link.LinkFault.TheVariants.{ReadFailed, TooManyLines, LaneClosed}
 use Rattle.peer_links.specs.declared.link.LinkFault.TheVariants.{OutOfMemory as NoMemory}
@@ -43,10 +41,13 @@ pub record EndsBegun (stream bytes : List ℕ) : Type 0 where
 
 -- the message of a line for the desk, if it has one
 abbrev pub message_in : Arrived → Option DeskMessage
-message_in (CameQuery q) = Some (Query q)
-message_in (CameAsk a) = Some (Ask a)
-message_in (CameDenial d) = Some (Deny d)
+message_in (Message m) = Some m
 message_in arrived = None
+
+-- the beat of a line, if it is one
+abbrev pub beat_in : Arrived → Option BeatValue
+beat_in (Beat b) = Some b
+beat_in arrived = None
 
 -- the line is a message with entries
 abbrev pub HasEntries : List ℕ → Type 0
@@ -60,8 +61,7 @@ after_refusal FoundClosed = Err LaneClosed
 
 -- after a beat the same gap is queried again
 abbrev pub asks_again : Arrived → Bool
-asks_again Beat = true
-asks_again arrived = false
+asks_again arrived = is_some (beat_in arrived)
 
 -- the port received the message, if there is one
 abbrev pub HearsMessage : {S : Type 0} → (S → Heard → S → Type 0) → S → Option DeskMessage

@@ -8,6 +8,7 @@ mod outbox;
 mod source;
 
 pub use lines::{Piece, next_piece};
-pub use link::{DeskMessage, LinkFault, Port, Skipped, read_hello, read_link, write_link};
+pub use link::{LinkFault, Port, Skipped, read_hello, read_link, write_link};
+pub use link_intake::DeskMessage;
 pub use outbox::{OUTBOX_LINES, Outbox, OutboxLines, PutError};
 pub use source::{Batch, LineSource};

@@ -1,9 +1,11 @@
 //! One connection with a peer: its first line, the incoming lines, and the outgoing lines.
 ghost use Rattle.std.specs.Prelude.{◌≡◌};
+ghost use Rattle.rights_types.specs.Messages.MessageValue.{AQuery};
 ghost use Rattle.entry_codec.specs.Pieces.{IsLine};
+ghost use Rattle.entry_codec.specs.Spelling.{Spells};
 ghost use Rattle.peer_links.specs.Ports.{Heard};
 ghost use Rattle.peer_links.specs.Ports.Heard.{AMessage, ALine, AState};
-ghost use Rattle.peer_links.specs.declared.link.DeskMessage.{DeskMessage};
+ghost use Rattle.link_intake.specs.declared.desk_message.DeskMessage.{DeskMessage};
 ghost use Rattle.peer_links.specs.declared.link.LinkFault.TheVariants.{ReadFailed, OutOfMemory as NoMemory};
 ghost use Rattle.peer_links.specs.declared.link.LinkFault.TheVariants.{TooManyLines as TooMany};
 
@@ -14,8 +16,9 @@ mod writing;
 pub use hello::read_hello;
 use inbound::InboundError;
 use line_streams::{InputError, TooManyLines};
+use link_intake::DeskMessage;
 pub use reading::read_link;
-use rights_types::{Ask, Deny, OutOfMemory, Query};
+use rights_types::{Beat, OutOfMemory, Query};
 use std::sync::Wait;
 use sub_buffer::State;
 pub use writing::write_link;
@@ -61,17 +64,6 @@ impl From<TooManyLines> for LinkFault {
     }
 }
 
-/// A message of a peer that is for the desk.
-#[derive(Clone, Copy, Debug, PartialEq, Eq)]
-pub enum DeskMessage {
-    /// The peer queries entries of the desk's log.
-    Query(Query),
-    /// The peer asks for rights.
-    Ask(Ask),
-    /// The peer denies an ask of the desk.
-    Deny(Deny),
-}
-
 /// Why a line is skipped.
 #[derive(Clone, Copy, Debug, PartialEq, Eq)]
 pub enum Skipped {
@@ -100,6 +92,15 @@ pub trait Port {
         requires { IsLine line.items }
         ensures { hears self.old (ALine line.items) self.new };
 
+    /// Sends the peer the line of this query. A port that records what is missing does so here.
+    fn query<R: Wait>(&mut self, rt: &R, query: Query, line: Vec<u8>)
+        requires { Spells (AQuery query) line.items }
+        ensures { hears self.old (ALine line.items) self.new }
+    {
+        let _ = query;
+        self.line(rt, line);
+    }
+
     /// Reports, after each line, whether entries are missing, and how many are held until those arrive.
     fn seen<R: Wait>(&mut self, rt: &R, state: State, held: usize)
         ensures { hears self.old (AState state held) self.new };
@@ -107,6 +108,6 @@ pub trait Port {
     /// Reports that a line was skipped. A port can record this only in memory that threads share.
     fn skipped<R: Wait>(&self, _rt: &R, _why: Skipped) {}
 
-    /// Reports a line that was taken in, and whether it is a beat. It can record this in the same way only.
-    fn taken<R: Wait>(&self, _rt: &R, _line: &[u8], _is_beat: bool) {}
+    /// Reports a line that was taken in, with the beat if it is one. It can record this in the same way only.
+    fn taken<R: Wait>(&self, _rt: &R, _beat: Option<Beat>) {}
 }

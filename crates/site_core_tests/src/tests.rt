@@ -17,3 +17,4 @@ mod sixteen;
 mod sizes;
 mod sweeps;
 mod taking_back;
+mod templates;

@@ -9,16 +9,16 @@ ghost use Rattle.sub_buffer.specs.Buffers.{SamePair};
 ghost use Rattle.peer_links.specs.Ports.{Heard, AcceptsPeer};
 ghost use Rattle.peer_links.specs.Turns.{InTurn};
 ghost use Rattle.peer_links.specs.Takes.{TakesInput, TakesLine, TakesPiece, AsksGap, HearsMessage, message_in};
-ghost use Rattle.peer_links.specs.Takes.{asks_again, after_refusal};
+ghost use Rattle.peer_links.specs.Takes.{beat_in, after_refusal};
 ghost use Rattle.peer_links.specs.declared.link.LinkFault.{LinkFault};
 
 use crate::lines::{Piece, next_piece};
-use crate::link::{DeskMessage, LinkFault, Port, Skipped};
+use crate::link::{LinkFault, Port, Skipped};
 use entry_codec::LineCutter;
 use inbound::InboundError;
 use line_streams::{LINE_LIMIT, count_line, read_some};
 use link_intake::{Arrived, Intake, IntakeError};
-use rights_types::OutOfMemory;
+use rights_types::{Beat, OutOfMemory};
 use std::alloc::Global;
 use std::io::Read;
 use std::sync::Wait;
@@ -150,10 +150,10 @@ fn take_line<R: Wait, P: Port>(
         Ok(arrived) => arrived,
         Err(fault) => return refused(rt, fault, port),
     };
-    let again = is_beat(&arrived);
-    port.taken(rt, line, again);
+    let beat = beat_in(&arrived);
+    port.taken(rt, beat);
     hand_over(rt, arrived, port)?;
-    ask_for_gap(rt, again, intake, port)?;
+    ask_for_gap(rt, beat.is_some(), intake, port)?;
     Ok(())
 }
 
@@ -172,11 +172,14 @@ fn refused<R: Wait, P: Port>(rt: &R, fault: IntakeError, port: &P) -> Result<(),
     }
 }
 
-/// Whether a beat arrived, after which the gap is queried again.
-fn is_beat(arrived: &Arrived) -> bool
-    ensures { result ≡ asks_again arrived.now }
+/// The beat that arrived, after which the gap is queried again.
+fn beat_in(arrived: &Arrived) -> Option<Beat>
+    ensures { result ≡ beat_in arrived.now }
 {
-    *arrived == Arrived::Beat
+    match arrived {
+        Arrived::Beat(beat) => Some(*beat),
+        _ => None,
+    }
 }
 
 /// Hands the line's message to the desk, if it has one.
@@ -185,10 +188,8 @@ fn hand_over<R: Wait, P: Port>(rt: &R, arrived: Arrived, port: &mut P) -> Result
     ensures { HearsMessage P.hears port.old (message_in arrived) result port.new }
 {
     match arrived {
-        Arrived::Query(query) => port.message(rt, DeskMessage::Query(query)),
-        Arrived::Ask(ask) => port.message(rt, DeskMessage::Ask(ask)),
-        Arrived::Deny(deny) => port.message(rt, DeskMessage::Deny(deny)),
-        Arrived::Entries(_) | Arrived::Beat | Arrived::Hello => Ok(()),
+        Arrived::Message(message) => port.message(rt, message),
+        Arrived::Entries(_) | Arrived::Beat(_) | Arrived::Hello => Ok(()),
     }
 }
 
@@ -203,8 +204,9 @@ fn ask_for_gap<R: Wait, P: Port>(
     ensures { (heard : List Heard)
         × AsksGap intake.old again result heard intake.new × InTurn P.hears port.old heard port.new }
 {
-    if let Some(query) = intake.query_line(again)? {
-        port.line(rt, query);
+    if let Some(given) = intake.query_with_line(again)? {
+        let (query, line) = given;
+        port.query(rt, query, line);
     }
     Ok(())
 }

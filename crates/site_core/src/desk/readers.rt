@@ -6,6 +6,7 @@ ghost use Rattle.rights_types.specs.Rights.{issued, spent, out, to, back, taken_
 ghost use Rattle.rights_types.specs.Rights.{IsNeverShort};
 ghost use Rattle.rights_types.specs.declared.limits.TheConstants.{MIN_SITES, MAX_SITES, MAX_NUMBER, MAX_AMOUNT};
 ghost use Rattle.rights_types.specs.declared.limits.TheConstants.{MAX_TOTAL, MAX_RECEIVED, MAX_HELD_RIGHTS};
+ghost use Rattle.transfer_manager.specs.Managers.{sites as asked_sites};
 ghost use Rattle.rights_book.specs.Books.{sites, peer, account, received_by, held_by, known_by};
 ghost use Rattle.rights_book.specs.Known.{logs_at, known};
 ghost use Rattle.rights_book.specs.StandsFor.{StandsForOwn, StandsForApplied};
@@ -36,6 +37,7 @@ impl<A: Allocator + Copy> Desk<A> {
     /// How many sites the system has, from 2 to 16.
     pub fn sites(&self) -> u64
         ensures value { result ≡ sites self.now.ledger.book }
+        ensures asked { result ≡ asked_sites self.now.manager }
         ensures range { (MIN_SITES ≤ result) × (result ≤ MAX_SITES) }
     {
         self.ledger.book().sites()

@@ -51,7 +51,7 @@ impl Totals {
     }
 
     /// Whether nothing was lost or created in transit.
-    pub(crate) fn are_even(&self) -> bool {
+    pub(crate) fn are_even(self) -> bool {
         self.held
             .saturating_add(self.spent)
             .saturating_add(self.way)

@@ -1,6 +1,5 @@
 //! The least and the greatest amounts.
 use crate::tests::sites::plays;
-use std::alloc::{AllocError, Global};
 
 #[test]
 fn amounts(rt: HostRuntime) {
@@ -49,18 +48,17 @@ site 3 > number 3 issued 2000000000 spent 0 given 0 back 0 received 0 held 20000
     let _ = plays(&rt, 3, script);
 }
 
-fn script_of_greatest_moves(alloc: Global) -> Result<String, AllocError> {
-    let issues = "I:1000000000 I:1000000000 I:1000000000 I:1000000000";
-    let gifts = "R:2:1000000000 R:2:1000000000 R:2:1000000000 R:2:1000000000";
-    format!(in alloc;
-        "\
-post 1 {issues} {issues} {issues} {issues} > number 16
+const GREATEST_MOVES: &str = "\
+post 1 I:1000000000 I:1000000000 I:1000000000 I:1000000000 I:1000000000 I:1000000000 I:1000000000 I:1000000000 \
+I:1000000000 I:1000000000 I:1000000000 I:1000000000 I:1000000000 I:1000000000 I:1000000000 I:1000000000 > number 16
 site 1 > number 16 issued 16000000000 spent 0 given 0 back 0 received 0 held 16000000000 queued 0 open
 hear 1 W 2 1 1000000000 1000000000 > granted 1000000000 number 17
 issue 1 1000000000 > number 18
-post 1 {gifts} {gifts} {gifts} {gifts} > number 34
+post 1 R:2:1000000000 R:2:1000000000 R:2:1000000000 R:2:1000000000 R:2:1000000000 R:2:1000000000 R:2:1000000000 R:2:1000000000 \
+R:2:1000000000 R:2:1000000000 R:2:1000000000 R:2:1000000000 R:2:1000000000 R:2:1000000000 R:2:1000000000 R:2:1000000000 > number 34
 post 1 R:2:1 > error Short
-hear 2 E 1 0 16 {issues} {issues} {issues} {issues} > taken 16
+hear 2 E 1 0 16 I:1000000000 I:1000000000 I:1000000000 I:1000000000 I:1000000000 I:1000000000 I:1000000000 I:1000000000 \
+I:1000000000 I:1000000000 I:1000000000 I:1000000000 I:1000000000 I:1000000000 I:1000000000 I:1000000000 > taken 16
 hear 2 E 1 16 17 G:2:1000000000:1000000000 > taken 17
 hear 2 E 1 17 18 I:1000000000 > taken 18
 site 2 > number 0 issued 0 spent 0 given 0 back 0 received 1000000000 held 1000000000 queued 0 open
@@ -68,13 +66,10 @@ peer 2 1 > applied 18 received 1000000000 given 0 published 0 known 16000000000 
 close 2 1 > number 2
 hear 1 E 2 0 2 R:1:1000000000 K:18:0 > taken 2 back 35
 site 1 > number 35 issued 17000000000 spent 0 given 17000000000 back 16000000000 received 1000000000 held 17000000000 queued 0 open
-"
-    )
-}
+";
 
 /// Sixteen greatest moves in one entry: issued, given, received, granted on and taken back in full.
 #[test]
 fn sixteen_greatest_moves(rt: HostRuntime) {
-    let script = script_of_greatest_moves(rt.alloc()).expect(&rt, "memory");
-    let _ = plays(&rt, 2, &script);
+    let _ = plays(&rt, 2, GREATEST_MOVES);
 }

@@ -6,7 +6,8 @@ use std::process::Abort;
 
 // Whether the last call of a script makes requests of its own.
 fn asks(rt: &(impl Abort + AllocGlobal), before: &str, call: &str) -> bool {
-    let whole = format!(in rt.alloc(); "{before}{call}\n").expect(rt, "memory");
+    let mut whole = String::from_str(rt.alloc(), before).expect(rt, "memory");
+    whole.push_str(call).expect(rt, "memory");
     plays(rt, 3, before) < plays(rt, 3, &whole)
 }
 
@@ -47,7 +48,8 @@ const WRITING: [(&str, &str); 16] = [
 #[test]
 fn calls_that_ask_for_memory(rt: HostRuntime) {
     for (before, call) in &WRITING {
-        assert!(rt; asks(&rt, before, call), "{call}");
+        let asks = asks(&rt, *before, *call);
+        assert!(rt; asks, "{call}");
     }
 }
 
@@ -81,10 +83,7 @@ const READING: [&str; 27] = [
     "hear 1 Q 3 1 2 1 > error BadRange",
 ];
 
-/// No call that writes neither requests memory.
-#[test]
-fn calls_that_ask_for_none(rt: HostRuntime) {
-    let before = "\
+const BEFORE_READING: &str = "\
 post 1 I:5 R:2:3 > number 2
 hear 2 E 1 0 2 I:5 R:2:3 > taken 2
 spend 2 9 5 > queued 1
@@ -93,8 +92,13 @@ hear 2 W 1 2 1 1 > denied D 2 1 1
 publish 1 2 > E 1 0 2 I:5 R:2:3
 hear 1 E 3 0 1 C > taken 1
 ";
-    for call in READING {
-        assert!(rt; !asks(&rt, before, call), "{call}");
+
+/// No call that writes neither requests memory.
+#[test]
+fn calls_that_ask_for_none(rt: HostRuntime) {
+    for call in &READING {
+        let asks = asks(&rt, BEFORE_READING, *call);
+        assert!(rt; !asks, "{call}");
     }
 }
 

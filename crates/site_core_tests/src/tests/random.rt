@@ -1,9 +1,9 @@
 //! Many calls, in a random order.
 use crate::tests::balance::Totals;
-use crate::tests::calls::Reply;
 use crate::tests::sites::Sites;
+use crate::tests::templates::filled;
 use refusing_allocator::Refusing;
-use std::alloc::{AllocError, AllocGlobal, Global};
+use std::alloc::AllocGlobal;
 use std::process::Abort;
 use test_kit::Dice;
 
@@ -18,63 +18,45 @@ pub(crate) fn pair(dice: &mut Dice, sites: u64) -> (u64, u64) {
     (site, next.checked_rem(sites).unwrap_or(0).saturating_add(1))
 }
 
+// Calls of a site (1) that involve no line, with a peer (2), an amount (3) and a time (4), and how many of 60 are up to
+// there.
+const COMMANDS: [(&str, u64); 9] = [
+    ("issue $1 $3", 10),
+    ("give $1 $2 $3", 20),
+    ("post $1 S:$3 I:2 R:$2:1", 25),
+    ("spend $1 $3 $4", 40),
+    ("serve $1", 45),
+    ("expire $1 $4", 48),
+    ("plan $1", 58),
+    ("close $1 $2", 59),
+    ("close $1", 60),
+];
+
+fn template(drawn: u64) -> &'static str {
+    for (command, end) in &COMMANDS {
+        if drawn < *end {
+            return *command;
+        }
+    }
+    ""
+}
+
 /// A call that involves no line.
-pub(crate) fn command(alloc: Global, dice: &mut Dice, sites: u64) -> Reply {
+pub(crate) fn command(rt: &(impl Abort + AllocGlobal), dice: &mut Dice, sites: u64) -> String {
     let (site, peer) = pair(dice, sites);
     let amount = dice.roll(9).saturating_add(1);
     let time = dice.roll(1_000);
-    match dice.roll(60) {
-        0..=9 => format!(in alloc; "issue {site} {amount}"),
-        10..=19 => format!(in alloc; "give {site} {peer} {amount}"),
-        20..=24 => format!(in alloc; "post {site} S:{amount} I:2 R:{peer}:1"),
-        25..=39 => format!(in alloc; "spend {site} {amount} {time}"),
-        40..=44 => format!(in alloc; "serve {site}"),
-        45..=47 => format!(in alloc; "expire {site} {time}"),
-        48..=57 => format!(in alloc; "plan {site}"),
-        58 => format!(in alloc; "close {site} {peer}"),
-        _ => format!(in alloc; "close {site}"),
-    }
+    filled(rt, template(dice.roll(60)), &[site, peer, amount, time])
 }
 
-// Makes such a call.
-fn draw(
-    rt: &(impl Abort + AllocGlobal),
-    sites: &mut Sites,
-    dice: &mut Dice,
-) -> Result<(), AllocError> {
-    let drawn = command(rt.alloc(), dice, 3)?;
-    let _ = sites.say(rt, &drawn)?;
-    Ok(())
-}
-
-// The site receives the line, or it is lost.
-fn pass(
-    rt: &(impl Abort + AllocGlobal),
-    sites: &mut Sites,
-    dice: &mut Dice,
-    site: u64,
-    line: &str,
-) -> Reply {
-    if dice.roll(4) == 0 {
-        return String::from_str(rt.alloc(), "lost");
-    }
-    let heard = format!(in rt.alloc(); "hear {site} {line}")?;
-    sites.say(rt, &heard)
-}
-
-// An entry, the entries of a gap, or an ask with its denial goes from one site to another.
-fn exchange(
-    rt: &(impl Abort + AllocGlobal),
-    sites: &mut Sites,
-    dice: &mut Dice,
-) -> Result<(), AllocError> {
+// An entry, the entries of a gap, or an ask with its denial goes from one site to another. What is sent may be lost.
+fn exchange(rt: &(impl Abort + AllocGlobal), sites: &mut Sites, dice: &mut Dice) {
     let (site, peer) = pair(dice, 3);
-    let _ = match dice.roll(4) {
-        0 => send(rt, sites, dice, "publish", (site, peer))?,
-        1 => sites.catch_up(rt, site, peer)?,
-        _ => ask(rt, sites, dice, (site, peer))?,
-    };
-    Ok(())
+    match dice.roll(4) {
+        0 => send(rt, sites, dice, "publish $1 $2", (site, peer)),
+        1 => sites.catch_up(rt, site, peer),
+        _ => ask(rt, sites, dice, (site, peer)),
+    }
 }
 
 // The peer receives the line that the site has for it, if it is not lost.
@@ -82,44 +64,42 @@ fn send(
     rt: &(impl Abort + AllocGlobal),
     sites: &mut Sites,
     dice: &mut Dice,
-    verb: &str,
+    template: &str,
     pair: (u64, u64),
-) -> Reply {
-    let (site, peer) = pair;
-    let line = sites.say(rt, &format!(in rt.alloc(); "{verb} {site} {peer}")?)?;
-    pass(rt, sites, dice, peer, &line)
+) {
+    sites.call(rt, template, &[pair.0, pair.1]);
+    if dice.roll(4) != 0 {
+        sites.pass(rt, pair.1);
+    }
 }
 
 // The same for an ask, whose denial the site receives.
-fn ask(
-    rt: &(impl Abort + AllocGlobal),
-    sites: &mut Sites,
-    dice: &mut Dice,
-    pair: (u64, u64),
-) -> Reply {
-    let reply = send(rt, sites, dice, "ask", pair)?;
-    match reply.strip_prefix("denied ") {
-        Some(denial) => pass(rt, sites, dice, pair.0, denial),
-        None => Ok(reply),
+fn ask(rt: &(impl Abort + AllocGlobal), sites: &mut Sites, dice: &mut Dice, pair: (u64, u64)) {
+    send(rt, sites, dice, "ask $1 $2", pair);
+    if sites.reply().starts_with("denied ") && dice.roll(4) != 0 {
+        sites.pass_denial(rt, pair.0);
     }
 }
 
 // Plays a game from this seed. After each call all rights are conserved.
-fn game(rt: &(impl Abort + AllocGlobal), seed: u64) -> Result<Totals, AllocError> {
+fn game(rt: &(impl Abort + AllocGlobal), seed: u64) -> Totals {
     let memory = Refusing::new(rt.alloc(), u64::MAX);
-    let mut sites = Sites::new(rt, &memory, 3)?;
+    let mut sites = Sites::new(rt, &memory, 3);
     let mut dice = Dice::new(seed);
-    let mut totals = sites.totals().expect(rt, "kept rights");
-    for call in 0..CALLS {
-        if dice.roll(2) == 0 {
-            draw(rt, &mut sites, &mut dice)?;
-        } else {
-            exchange(rt, &mut sites, &mut dice)?;
-        }
-        totals = sites.totals().expect(rt, "kept rights");
-        assert!(rt; totals.are_even(), "game {seed}, call {call}");
+    for _ in 0..CALLS {
+        turn(rt, &mut sites, &mut dice);
+        sites.check_rights(rt, seed);
     }
-    Ok(totals)
+    sites.totals().expect(rt, "kept rights")
+}
+
+fn turn(rt: &(impl Abort + AllocGlobal), sites: &mut Sites, dice: &mut Dice) {
+    if dice.roll(2) == 0 {
+        let drawn = command(rt, dice, 3);
+        sites.say(rt, &drawn);
+    } else {
+        exchange(rt, sites, dice);
+    }
 }
 
 /// At each moment of several games each site's rights are those of its log and of what it applied, and those of
@@ -129,7 +109,7 @@ fn rights_are_kept_in_random_games(rt: HostRuntime) {
     let mut received = 0u64;
     let mut back = 0u64;
     for seed in 0..GAMES {
-        let totals = game(&rt, seed).expect(&rt, "memory");
+        let totals = game(&rt, seed);
         received = received.saturating_add(totals.received);
         back = back.saturating_add(totals.back);
     }

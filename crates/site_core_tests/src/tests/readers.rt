@@ -1,7 +1,6 @@
 //! What the readers of a desk report. They take no memory of the desk's.
-use crate::tests::calls::{Counted, Reply};
+use crate::tests::calls::{Counted, Put};
 use rights_types::{MAX_SITES, SiteId};
-use std::alloc::{AllocError, Global};
 
 const OF_SITE: [&str; 8] = [
     "number", "issued", "spent", "given", "back", "received", "held", "queued",
@@ -41,7 +40,12 @@ pub(crate) fn closed(desk: &Counted, site: SiteId) -> bool {
     desk.closed(site)
 }
 
-fn put_numbers(text: &mut String, names: &[&str], numbers: &[u64]) -> Result<(), AllocError> {
+/// How many entries the log has.
+pub(crate) fn entries(desk: &Counted) -> usize {
+    desk.log().len()
+}
+
+fn put_numbers(text: &mut String, names: &[&str], numbers: &[u64]) -> Put {
     for (name, number) in names.iter().zip(numbers) {
         write!(text, "{name} {number} ")?;
     }
@@ -52,73 +56,55 @@ fn state(closed: bool) -> &'static str {
     if closed { "closed" } else { "open" }
 }
 
-/// The numbers of the site itself, as text.
-pub(crate) fn tell_site(alloc: Global, desk: &Counted) -> Reply {
-    let mut text = String::new(alloc);
-    put_numbers(&mut text, &OF_SITE, &site_numbers(desk))?;
-    text.push_str(state(closed(desk, desk.site())))?;
-    Ok(text)
+/// Adds the numbers of the site itself.
+pub(crate) fn put_site(text: &mut String, desk: &Counted) -> Put {
+    put_numbers(text, &OF_SITE, &site_numbers(desk))?;
+    text.push_str(state(closed(desk, desk.site())))
 }
 
-/// The numbers of another site, as text.
-pub(crate) fn tell_peer(alloc: Global, desk: &Counted, peer: SiteId) -> Reply {
-    let mut text = String::new(alloc);
-    put_numbers(&mut text, &OF_PEER, &peer_numbers(desk, peer))?;
+/// Adds the numbers of another site.
+pub(crate) fn put_peer(text: &mut String, desk: &Counted, peer: SiteId) -> Put {
+    put_numbers(text, &OF_PEER, &peer_numbers(desk, peer))?;
     let known = known(desk, peer);
     let state = state(closed(desk, peer));
-    write!(text, "known {known} {state}")?;
-    Ok(text)
+    write!(text, "known {known} {state}")
 }
 
-/// Everything that the readers of several desks report.
-#[derive(Drop)]
-pub(crate) struct Told {
-    numbers: Vec<u64>,
-    known: Vec<i128>,
-    closed: Vec<bool>,
-    lines: Vec<u8>,
+/// Adds the entry at this place of the log.
+pub(crate) fn put_entry(text: &mut String, desk: &Counted, index: usize) -> Put {
+    let line = desk.log().line(index).unwrap_or(b"");
+    text.push_str(std::str::from_utf8(line).unwrap_or(""))
 }
 
-impl Told {
-    /// What these desks report.
-    pub(crate) fn new(alloc: Global, desks: &[Counted]) -> Result<Told, AllocError> {
-        let mut told = Told {
-            numbers: Vec::new(alloc),
-            known: Vec::new(alloc),
-            closed: Vec::new(alloc),
-            lines: Vec::new(alloc),
-        };
-        for desk in desks {
-            told.numbers.extend_from_slice(&site_numbers(desk))?;
-            for index in 0..MAX_SITES {
-                told.put_peer(desk, SiteId::known(index + 1))?;
-            }
-            told.put_log(desk)?;
-        }
-        Ok(told)
+fn put_told(told: &mut Vec<i128>, numbers: &[u64]) -> Put {
+    for number in numbers {
+        told.push(i128::from(*number))?;
     }
+    Ok(())
+}
 
-    fn put_peer(&mut self, desk: &Counted, peer: SiteId) -> Result<(), AllocError> {
-        self.numbers.extend_from_slice(&peer_numbers(desk, peer))?;
-        self.known.push(known(desk, peer))?;
-        self.closed.push(closed(desk, peer))?;
-        Ok(())
-    }
+fn put_peer_told(told: &mut Vec<i128>, desk: &Counted, peer: SiteId) -> Put {
+    put_told(told, &peer_numbers(desk, peer))?;
+    told.push(known(desk, peer))?;
+    told.push(i128::from(closed(desk, peer)))?;
+    Ok(())
+}
 
-    fn put_log(&mut self, desk: &Counted) -> Result<(), AllocError> {
-        let log = desk.log();
-        for index in 0..log.len() {
-            self.lines
-                .extend_from_slice(log.line(index).unwrap_or(b""))?;
-        }
-        Ok(())
+fn put_entry_told(told: &mut Vec<i128>, line: &[u8]) -> Put {
+    for byte in line {
+        told.push(i128::from(*byte))?;
     }
+    Ok(())
+}
 
-    /// Whether both reports are the same.
-    pub(crate) fn is(&self, other: &Told) -> bool {
-        self.numbers == other.numbers
-            && self.known == other.known
-            && self.closed == other.closed
-            && self.lines == other.lines
+/// Adds everything that the readers of a desk report.
+pub(crate) fn put_desk_told(told: &mut Vec<i128>, desk: &Counted) -> Put {
+    put_told(told, &site_numbers(desk))?;
+    for index in 0..MAX_SITES {
+        put_peer_told(told, desk, SiteId::known(index + 1))?;
     }
+    for index in 0..entries(desk) {
+        put_entry_told(told, desk.log().line(index).unwrap_or(b""))?;
+    }
+    Ok(())
 }

@@ -1,117 +1,120 @@
 //! Random games, from whose journals every site is made again: after each record it reports what the site reported
 //! then, and once all sites are made again the game goes on with them.
-use crate::tests::calls::{Counted, Reply, ask_line};
+use crate::tests::calls::{Counted, Put, cut, put_ask};
 use crate::tests::random::{command, pair};
-use crate::tests::readers::{closed, peer_numbers, site_numbers};
-use crate::tests::sites::Sites;
+use crate::tests::readers::{closed, entries, peer_numbers, put_entry, site_numbers};
+use crate::tests::sites::{Sites, row};
+use crate::tests::templates::{fill, filled};
 use refusing_allocator::Refusing;
 use rights_types::SiteId;
-use std::alloc::{AllocError, AllocGlobal, Global};
+use std::alloc::{AllocGlobal, Global};
 use std::process::Abort;
 use test_kit::Dice;
 
 // How many games a test plays, and the calls of each, before the restart and after it.
-const GAMES: u64 = 280;
+const GAMES: u64 = 224;
 
 const CALLS: u64 = 120;
 
-// A record of a site's journal, and what the site reported after it.
-#[derive(Drop)]
-struct Step {
-    site: u64,
-    record: String,
-    told: String,
-}
-
-// The journals of all sites, in one order.
-type Journal = Vec<Step>;
-
 // What a restart keeps of a report: all but what was published and what waits.
-fn lasting(alloc: Global, desk: &Counted) -> Reply {
+fn put_lasting(text: &mut String, desk: &Counted) -> Put {
     let [number, issued, spent, given, back, received, held, _] = site_numbers(desk);
-    let mut text = format!(in alloc; "{number} {issued} {spent} {given} {back} {received} {held}")?;
+    write!(
+        text,
+        "{number} {issued} {spent} {given} {back} {received} {held}"
+    )?;
     let sites = desk.sites();
     for index in 0..sites {
-        put_peer(&mut text, desk, SiteId::known(index + 1))?;
+        put_lasting_of_peer(text, desk, SiteId::known(index + 1))?;
     }
-    text.push_str(&last_line(alloc, desk)?)?;
-    Ok(text)
+    put_last_entry(text, desk)
 }
 
-fn put_peer(text: &mut String, desk: &Counted, peer: SiteId) -> Result<(), AllocError> {
+fn put_lasting_of_peer(text: &mut String, desk: &Counted, peer: SiteId) -> Put {
     let [applied, received, given, _] = peer_numbers(desk, peer);
     let closed = closed(desk, peer);
     write!(text, " {applied} {received} {given} {closed}")
 }
 
-// The last entry of the log.
-fn last_line(alloc: Global, desk: &Counted) -> Reply {
-    let log = desk.log();
-    let line = log.line(log.len().saturating_sub(1)).unwrap_or(b"");
-    String::from_str(alloc, std::str::from_utf8(line).unwrap_or("").trim_end())
+// Adds the last entry of the log, with its line feed.
+fn put_last_entry(text: &mut String, desk: &Counted) -> Put {
+    put_entry(text, desk, entries(desk).saturating_sub(1))
 }
 
-// Adds a record of the site.
-fn note(
-    rt: &(impl Abort + AllocGlobal),
-    sites: &Sites,
-    journal: &mut Journal,
-    site: u64,
-    record: String,
-) -> Result<(), AllocError> {
-    let told = lasting(rt.alloc(), sites.desk(rt, site))?;
-    journal.push(Step { site, record, told })?;
+// The journals of all sites, as a script: each line replays a record, and has what its site reported after it.
+#[derive(Drop)]
+struct Journal {
+    script: String,
+    records: usize,
+}
+
+fn new_journal(alloc: Global) -> Journal {
+    Journal {
+        script: String::new(alloc),
+        records: 0,
+    }
+}
+
+fn put_record(script: &mut String, site: u64, record: &str, desk: &Counted) -> Put {
+    fill(script, "replay $1 ", &[site])?;
+    script.push_str(record)?;
+    script.push_str(" > ")?;
+    put_report(script, desk)
+}
+
+// Adds what a restart keeps of a report, on one line.
+fn put_report(text: &mut String, desk: &Counted) -> Put {
+    put_lasting(text, desk)?;
+    if entries(desk) == 0 {
+        text.push('\n')?;
+    }
     Ok(())
 }
 
-// The site of a command, and the words after it.
-fn site_of(command: &str) -> (u64, &str) {
-    let rest = command.split_once(' ').unwrap_or(("", "")).1;
-    let (site, words) = rest.split_once(' ').unwrap_or((rest, ""));
-    (site.parse().unwrap_or(1), words)
+// Adds a record of the site.
+fn note(rt: &impl Abort, sites: &Sites, journal: &mut Journal, site: u64, record: &str) {
+    let desk = sites.desk(rt, site);
+    put_record(&mut journal.script, site, record, desk).expect(rt, "memory");
+    journal.records = journal.records.saturating_add(1);
+}
+
+// Adds a record of the last entry of the site's log.
+fn note_entry(rt: &(impl Abort + AllocGlobal), sites: &Sites, journal: &mut Journal, site: u64) {
+    let mut line = String::new(rt.alloc());
+    put_last_entry(&mut line, sites.desk(rt, site)).expect(rt, "memory");
+    note(rt, sites, journal, site, line.trim_end());
+}
+
+fn put_asks(text: &mut String, desk: &Counted) -> Put {
+    let sites = desk.sites();
+    for index in 0..sites {
+        put_ask(text, desk, SiteId::known(index + 1))?;
+        text.push('\n')?;
+    }
+    Ok(())
 }
 
 // The asks that are outstanding at a site, a line for each peer.
-fn outstanding(
-    rt: &(impl Abort + AllocGlobal),
-    sites: &Sites,
-    site: u64,
-) -> Result<Vec<String>, AllocError> {
-    let desk = sites.desk(rt, site);
-    let mut lines = Vec::new(rt.alloc());
-    let count = desk.sites();
-    for index in 0..count {
-        lines.push(ask_line(rt.alloc(), desk, SiteId::known(index + 1))?)?;
-    }
-    Ok(lines)
+fn outstanding(rt: &(impl Abort + AllocGlobal), sites: &Sites, site: u64) -> String {
+    let mut lines = String::new(rt.alloc());
+    put_asks(&mut lines, sites.desk(rt, site)).expect(rt, "memory");
+    lines
 }
 
 // A command, and the record that it makes: the entry that was applied, or the entry that the log got.
-fn run(
-    rt: &(impl Abort + AllocGlobal),
-    sites: &mut Sites,
-    journal: &mut Journal,
-    command: &str,
-) -> Reply {
-    let (site, words) = site_of(command);
-    let before = sites.desk(rt, site).log().len();
-    let asked = outstanding(rt, sites, site)?;
-    let reply = sites.say(rt, command)?;
-    if reply.starts_with("taken ") {
-        note(
-            rt,
-            sites,
-            journal,
-            site,
-            String::from_str(rt.alloc(), words)?,
-        )?;
-    } else if sites.desk(rt, site).log().len() > before {
-        let line = last_line(rt.alloc(), sites.desk(rt, site))?;
-        note(rt, sites, journal, site, line)?;
-    } else if reply.starts_with("asks ") {
-        note_asks(rt, sites, journal, site, &asked)?;
+fn run(rt: &(impl Abort + AllocGlobal), sites: &mut Sites, journal: &mut Journal, command: &str) {
+    let (site, words) = cut(cut(command).1);
+    let site = site.parse::<u64>().unwrap_or(1);
+    let before = entries(sites.desk(rt, site));
+    let asked = outstanding(rt, sites, site);
+    sites.say(rt, command);
+    if sites.reply().starts_with("taken ") {
+        note(rt, sites, journal, site, words);
+    } else if entries(sites.desk(rt, site)) > before {
+        note_entry(rt, sites, journal, site);
+    } else if sites.reply().starts_with("asks ") {
+        note_asks(rt, sites, journal, site, &asked);
     }
-    Ok(reply)
 }
 
 // Adds a record of each ask that is outstanding now and was not before.
@@ -120,21 +123,34 @@ fn note_asks(
     sites: &Sites,
     journal: &mut Journal,
     site: u64,
-    before: &[String],
-) -> Result<(), AllocError> {
-    let now = outstanding(rt, sites, site)?;
-    for (line, old) in now.iter().zip(before) {
-        if line.starts_with("W ") && line.as_str() != old.as_str() {
-            note(
-                rt,
-                sites,
-                journal,
-                site,
-                String::from_str(rt.alloc(), line)?,
-            )?;
+    before: &str,
+) {
+    let now = outstanding(rt, sites, site);
+    for (line, old) in now.lines().zip(before.lines()) {
+        if line.starts_with("W ") && line != old {
+            note(rt, sites, journal, site, line);
         }
     }
-    Ok(())
+}
+
+// The peer hears the text, if there is one.
+fn hear(
+    rt: &(impl Abort + AllocGlobal),
+    sites: &mut Sites,
+    journal: &mut Journal,
+    peer: u64,
+    text: &str,
+) {
+    if !text.is_empty() {
+        let mut command = filled(rt, "hear $1 ", &[peer]);
+        command.push_str(text).expect(rt, "memory");
+        run(rt, sites, journal, &command);
+    }
+}
+
+// A copy of a text.
+fn copied(rt: &(impl Abort + AllocGlobal), text: &str) -> String {
+    String::from_str(rt.alloc(), text).expect(rt, "memory")
 }
 
 // The peer gets the next entry of the site's log, if there is one.
@@ -144,21 +160,11 @@ fn send_entry(
     journal: &mut Journal,
     site: u64,
     peer: u64,
-) -> Result<(), AllocError> {
+) {
     let next = sites.applied(rt, peer, site).saturating_add(1);
-    let answer = sites.say(
-        rt,
-        &format!(in rt.alloc(); "hear {site} Q {peer} {site} {next} {next}")?,
-    )?;
-    if let Some((_, entry)) = answer.split_once(';') {
-        let _ = run(
-            rt,
-            sites,
-            journal,
-            &format!(in rt.alloc(); "hear {peer} {entry}")?,
-        )?;
-    }
-    Ok(())
+    sites.call(rt, "hear $1 Q $2 $1 $3 $3", &[site, peer, next]);
+    let entry = copied(rt, sites.reply().split_once(';').unwrap_or(("", "")).1);
+    hear(rt, sites, journal, peer, &entry);
 }
 
 // The peer gets the site's ask, if one is outstanding, and the site the denial, unless it is lost.
@@ -166,26 +172,18 @@ fn send_ask(
     rt: &(impl Abort + AllocGlobal),
     sites: &mut Sites,
     journal: &mut Journal,
-    site: u64,
-    peer: u64,
+    pair: (u64, u64),
     lost: bool,
-) -> Result<(), AllocError> {
-    let ask = sites.say(rt, &format!(in rt.alloc(); "ask {site} {peer}")?)?;
-    if !ask.starts_with("W ") {
-        return Ok(());
+) {
+    let (site, peer) = pair;
+    sites.call(rt, "ask $1 $2", &[site, peer]);
+    if sites.reply().starts_with("W ") {
+        let ask = copied(rt, sites.reply());
+        hear(rt, sites, journal, peer, &ask);
+        if !lost && sites.reply().contains(" D ") {
+            sites.pass_denial(rt, site);
+        }
     }
-    let reply = run(
-        rt,
-        sites,
-        journal,
-        &format!(in rt.alloc(); "hear {peer} {ask}")?,
-    )?;
-    if let Some((_, denial)) = reply.split_once(" D ")
-        && !lost
-    {
-        let _ = sites.say(rt, &format!(in rt.alloc(); "hear {site} D {denial}")?)?;
-    }
-    Ok(())
 }
 
 // One random call, or one random message.
@@ -195,88 +193,91 @@ fn turn(
     journal: &mut Journal,
     dice: &mut Dice,
     count: u64,
-) -> Result<(), AllocError> {
+) {
     let (site, peer) = pair(dice, count);
     match dice.roll(8) {
         0..=2 => send_entry(rt, sites, journal, site, peer),
-        3 => send_ask(rt, sites, journal, site, peer, dice.roll(2) == 0),
-        _ => {
-            let drawn = command(rt.alloc(), dice, count)?;
-            let _ = run(rt, sites, journal, &drawn)?;
-            Ok(())
-        }
+        3 => send_ask(rt, sites, journal, (site, peer), dice.roll(2) == 0),
+        _ => run(rt, sites, journal, &command(rt, dice, count)),
+    }
+}
+
+fn turns(
+    rt: &(impl Abort + AllocGlobal),
+    sites: &mut Sites,
+    journal: &mut Journal,
+    dice: &mut Dice,
+    count: u64,
+) {
+    for _ in 0..CALLS {
+        turn(rt, sites, journal, dice, count);
     }
 }
 
 // Makes all sites again. After each record its site reports what it reported in the game.
-fn restart(
-    rt: &(impl Abort + AllocGlobal),
-    copies: &mut Sites,
-    journal: &Journal,
-) -> Result<(), AllocError> {
-    for step in journal {
-        let site = step.site;
-        let record = step.record.as_str();
-        let reply = copies.say(rt, &format!(in rt.alloc(); "replay {site} {record}")?)?;
-        assert!(rt; reply.as_str() == "replayed", "{site}: {record}: {reply}");
-        let told = lasting(rt.alloc(), copies.desk(rt, site))?;
-        assert!(rt;
-            told.as_str() == step.told.as_str(),
-            "{site}: {record}: {told}"
-        );
+fn restart(rt: &(impl Abort + AllocGlobal), copies: &mut Sites, journal: &Journal) {
+    for line in journal.script.lines() {
+        let (record, told) = row(line);
+        copies.say(rt, record);
+        assert!(rt; copies.reply() == "replayed", "{record}");
+        let site = cut(cut(record).1).0.parse::<u64>().unwrap_or(0);
+        assert!(rt; is_told(rt, copies, site, told), "{record}: {told}");
     }
-    Ok(())
+}
+
+// Whether a restart of the site keeps this report.
+fn is_told(rt: &(impl Abort + AllocGlobal), copies: &Sites, site: u64, told: &str) -> bool {
+    let mut report = String::new(rt.alloc());
+    put_report(&mut report, copies.desk(rt, site)).expect(rt, "memory");
+    report.trim_end() == told
 }
 
 // Each ask that is outstanding at a site is so at its copy.
-fn check_asks(
-    rt: &(impl Abort + AllocGlobal),
-    sites: &Sites,
-    copies: &Sites,
-    count: u64,
-) -> Result<(), AllocError> {
-    for index in 0..count {
-        let asked = outstanding(rt, sites, index + 1)?;
-        let again = outstanding(rt, copies, index + 1)?;
-        for (line, copy) in asked.iter().zip(&again) {
-            assert!(rt;
-                line.as_str() == "nothing" || line.as_str() == copy.as_str(),
-                "{copy}"
-            );
+fn check_asks(rt: &(impl Abort + AllocGlobal), sites: &Sites, copies: &Sites, count: u64) {
+    for site in 1..=count {
+        let asked = outstanding(rt, sites, site);
+        let again = outstanding(rt, copies, site);
+        assert!(rt; are_kept(&asked, &again), "{again}");
+    }
+}
+
+fn are_kept(asked: &str, again: &str) -> bool {
+    for (line, copy) in asked.lines().zip(again.lines()) {
+        if line != "nothing" && line != copy {
+            return false;
         }
     }
-    Ok(())
+    true
 }
 
 // Plays a game from this seed, and returns how many records it had.
-fn game(rt: &(impl Abort + AllocGlobal), seed: u64, count: u64) -> Result<usize, AllocError> {
+fn game(rt: &(impl Abort + AllocGlobal), seed: u64, count: u64) -> usize {
     let memory = Refusing::new(rt.alloc(), u64::MAX);
-    let mut sites = Sites::new(rt, &memory, count)?;
-    let mut journal: Journal = Vec::new(rt.alloc());
+    let mut sites = Sites::new(rt, &memory, count);
+    let mut copies = Sites::new(rt, &memory, count);
+    let mut journal = new_journal(rt.alloc());
     let mut dice = Dice::new(seed);
-    for _ in 0..CALLS {
-        turn(rt, &mut sites, &mut journal, &mut dice, count)?;
-    }
-    let mut copies = Sites::new(rt, &memory, count)?;
-    restart(rt, &mut copies, &journal)?;
-    check_asks(rt, &sites, &copies, count)?;
-    go_on(rt, &mut copies, &mut dice, count)?;
-    Ok(journal.len())
+    turns(rt, &mut sites, &mut journal, &mut dice, count);
+    let records = journal.records;
+    restart(rt, &mut copies, &journal);
+    check_asks(rt, &sites, &copies, count);
+    go_on(rt, &mut copies, &mut journal, &mut dice, (seed, count));
+    records
 }
 
 // The game goes on with the copies, and all rights are conserved.
 fn go_on(
     rt: &(impl Abort + AllocGlobal),
     copies: &mut Sites,
+    later: &mut Journal,
     dice: &mut Dice,
-    count: u64,
-) -> Result<(), AllocError> {
-    let mut later: Journal = Vec::new(rt.alloc());
+    game: (u64, u64),
+) {
+    let (seed, count) = game;
     for _ in 0..CALLS {
-        turn(rt, copies, &mut later, dice, count)?;
-        assert!(rt; copies.totals().expect(rt, "kept rights").are_even());
+        turn(rt, copies, later, dice, count);
+        copies.check_rights(rt, seed);
     }
-    Ok(())
 }
 
 // Systems of 2 to 16 sites start again from their journals, whatever happened before.
@@ -285,13 +286,13 @@ fn restart_all(rt: &(impl Abort + AllocGlobal), first: u64) {
     for step in 0..GAMES {
         let seed = first.saturating_add(step);
         let count = (seed % 15).saturating_add(2);
-        records = records.saturating_add(game(rt, seed, count).expect(rt, "memory"));
+        records = records.saturating_add(game(rt, seed, count));
     }
     // The games were not idle.
     assert!(rt; records > 1_000);
 }
 
-/// 2,495 sites start again, and with the three tests below 10,055.
+/// 2,009 sites start again, and with the four tests below 10,055.
 #[test]
 fn restarts_of_all_sites(rt: HostRuntime) {
     restart_all(&rt, 0);
@@ -312,64 +313,80 @@ fn restarts_of_a_fourth_draw(rt: HostRuntime) {
     restart_all(&rt, 3 * GAMES);
 }
 
-// Two gifts to each other site, all of the first of which were applied, then closings in this order.
-fn closings(rt: &(impl Abort + AllocGlobal), order: &[u64]) -> Result<(), AllocError> {
-    let memory = Refusing::new(rt.alloc(), u64::MAX);
-    let mut sites = Sites::new(rt, &memory, 3)?;
-    let mut journal: Journal = Vec::new(rt.alloc());
-    for command in [
-        "issue 1 100",
-        "give 1 2 10",
-        "give 1 3 20",
-        "issue 2 7",
-        "give 2 1 2",
-        "give 2 3 3",
-        "issue 3 5",
-        "give 3 1 4",
-    ] {
-        let _ = run(rt, &mut sites, &mut journal, command)?;
-    }
-    for (site, peer) in [(1u64, 2u64), (1, 2), (2, 1), (3, 1), (2, 3)] {
-        send_entry(rt, &mut sites, &mut journal, site, peer)?;
-    }
-    for site in order {
-        let _ = run(
-            rt,
-            &mut sites,
-            &mut journal,
-            &format!(in rt.alloc(); "close {site} 1")?,
-        )?;
-        send_all(rt, &mut sites, &mut journal)?;
-    }
-    let mut copies = Sites::new(rt, &memory, 3)?;
-    restart(rt, &mut copies, &journal)
+#[test]
+fn restarts_of_a_fifth_draw(rt: HostRuntime) {
+    restart_all(&rt, 4 * GAMES);
 }
 
-// Every site gets three more entries of each other.
-fn send_all(
+const GIFTS: [&str; 8] = [
+    "issue 1 100",
+    "give 1 2 10",
+    "give 1 3 20",
+    "issue 2 7",
+    "give 2 1 2",
+    "give 2 3 3",
+    "issue 3 5",
+    "give 3 1 4",
+];
+
+const FIRST_ONES: [(u64, u64); 5] = [(1, 2), (1, 2), (2, 1), (3, 1), (2, 3)];
+
+const ALL_PAIRS: [(u64, u64); 6] = [(1, 2), (1, 3), (2, 1), (2, 3), (3, 1), (3, 2)];
+
+// The next entry of each of these sites goes to its peer.
+fn send(
     rt: &(impl Abort + AllocGlobal),
     sites: &mut Sites,
     journal: &mut Journal,
-) -> Result<(), AllocError> {
-    for _ in 0..3u64 {
-        for (site, peer) in [(1u64, 2u64), (1, 3), (2, 1), (2, 3), (3, 1), (3, 2)] {
-            send_entry(rt, sites, journal, site, peer)?;
-        }
+    pairs: &[(u64, u64)],
+) {
+    for (site, peer) in pairs {
+        send_entry(rt, sites, journal, *site, *peer);
     }
-    Ok(())
 }
+
+// Two gifts to each other site, all of the first of which were applied, then closings in this order. After each, every
+// site gets three more entries of each other.
+fn close_in_turn(
+    rt: &(impl Abort + AllocGlobal),
+    sites: &mut Sites,
+    journal: &mut Journal,
+    order: &[u64],
+) {
+    for command in &GIFTS {
+        run(rt, sites, journal, *command);
+    }
+    send(rt, sites, journal, &FIRST_ONES);
+    for site in order {
+        run(rt, sites, journal, &filled(rt, "close $1 1", &[*site]));
+        send(rt, sites, journal, &ALL_PAIRS);
+        send(rt, sites, journal, &ALL_PAIRS);
+        send(rt, sites, journal, &ALL_PAIRS);
+    }
+}
+
+fn closings(rt: &(impl Abort + AllocGlobal), order: &[u64]) {
+    let memory = Refusing::new(rt.alloc(), u64::MAX);
+    let mut sites = Sites::new(rt, &memory, 3);
+    let mut copies = Sites::new(rt, &memory, 3);
+    let mut journal = new_journal(rt.alloc());
+    close_in_turn(rt, &mut sites, &mut journal, order);
+    restart(rt, &mut copies, &journal);
+}
+
+const ORDERS: [[u64; 3]; 6] = [
+    [1, 2, 3],
+    [1, 3, 2],
+    [2, 1, 3],
+    [2, 3, 1],
+    [3, 1, 2],
+    [3, 2, 1],
+];
 
 /// Three sites close in each order, towards each other or not, and start again.
 #[test]
 fn closings_in_every_order(rt: HostRuntime) {
-    for order in [
-        [1, 2, 3],
-        [1, 3, 2],
-        [2, 1, 3],
-        [2, 3, 1],
-        [3, 1, 2],
-        [3, 2, 1],
-    ] {
-        closings(&rt, &order).expect(&rt, "memory");
+    for order in &ORDERS {
+        closings(&rt, order);
     }
 }

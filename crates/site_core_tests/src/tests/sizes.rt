@@ -1,6 +1,8 @@
 //! Entries and answers of every size.
+use crate::tests::calls::Put;
 use crate::tests::sites::plays;
-use std::alloc::{AllocError, Global};
+use crate::tests::templates::fill;
+use std::alloc::AllocGlobal;
 
 // The number before the entry of this number of moves, if those of fewer come before it.
 fn prev(count: u64) -> u64 {
@@ -8,46 +10,40 @@ fn prev(count: u64) -> u64 {
 }
 
 // An entry of site 1 that issues, spends and gives in turn.
-fn put_entry(text: &mut String, count: u64) -> Result<(), AllocError> {
+fn put_entry(text: &mut String, count: u64) -> Put {
     let before = prev(count);
-    let own = before.saturating_add(count);
-    write!(text, "E 1 {before} {own}")?;
+    fill(text, "E 1 $1 $2", &[before, before.saturating_add(count)])?;
     put_moves(text, count)
 }
 
-fn put_moves(text: &mut String, count: u64) -> Result<(), AllocError> {
+const MOVES: [&str; 3] = [" I:1000000000", " S:9", " R:2:1"];
+
+fn put_moves(text: &mut String, count: u64) -> Put {
     for place in 0..count {
-        text.push_str(match place % 3 {
-            0 => " I:1000000000",
-            1 => " S:9",
-            _ => " R:2:1",
-        })?;
+        text.push_str(MOVES[(place % 3) as usize])?;
     }
     Ok(())
 }
 
-// Posts entries of 1 to 16 moves, each of which is published and applied.
-fn put_posts(script: &mut String) -> Result<(), AllocError> {
-    for count in 1..=16u64 {
-        let own = prev(count).saturating_add(count);
-        script.push_str("post 1")?;
-        put_moves(script, count)?;
-        write!(script, " > number {own}\npublish 1 2 > ")?;
-        put_entry(script, count)?;
-        script.push_str("\nhear 2 ")?;
-        put_entry(script, count)?;
-        write!(script, " > taken {own}\n")?;
-    }
-    Ok(())
+// Posts an entry of this number of moves, which is published and applied.
+fn put_post(script: &mut String, count: u64) -> Put {
+    let own = prev(count).saturating_add(count);
+    script.push_str("post 1")?;
+    put_moves(script, count)?;
+    fill(script, " > number $1\npublish 1 2 > ", &[own])?;
+    put_entry(script, count)?;
+    script.push_str("\nhear 2 ")?;
+    put_entry(script, count)?;
+    fill(script, " > taken $1\n", &[own])
 }
 
 // Queries the first entries, as many as this, or what comes after all.
-fn put_query(script: &mut String, count: u64) -> Result<(), AllocError> {
-    let last = prev(count).saturating_add(count);
+fn put_query(script: &mut String, count: u64) -> Put {
     if count == 0 {
         return script.push_str("hear 1 Q 2 1 137 999 > A 1 2\n");
     }
-    write!(script, "hear 1 Q 2 1 1 {last} > A 1 2")?;
+    let last = prev(count).saturating_add(count);
+    fill(script, "hear 1 Q 2 1 1 $1 > A 1 2", &[last])?;
     for entry in 1..=count {
         script.push(';')?;
         put_entry(script, entry)?;
@@ -55,19 +51,21 @@ fn put_query(script: &mut String, count: u64) -> Result<(), AllocError> {
     script.push('\n')
 }
 
-fn script(alloc: Global) -> Result<String, AllocError> {
-    let mut script = String::new(alloc);
-    put_posts(&mut script)?;
-    for count in 0..=16u64 {
-        put_query(&mut script, count)?;
+fn put_script(script: &mut String) -> Put {
+    for count in 1..=16u64 {
+        put_post(script, count)?;
     }
-    Ok(script)
+    for count in 0..=16u64 {
+        put_query(script, count)?;
+    }
+    Ok(())
 }
 
 /// Entries of 1 to 16 moves are posted, published and applied, and answers have 0 to 16 of them: with ample
 /// memory none runs out, and with each request refused in turn each succeeds when it is repeated.
 #[test]
 fn entries_and_answers_of_every_size(rt: HostRuntime) {
-    let script = script(rt.alloc()).expect(&rt, "memory");
+    let mut script = String::new(rt.alloc());
+    put_script(&mut script).expect(&rt, "memory");
     let _ = plays(&rt, 2, &script);
 }

@@ -1,61 +1,59 @@
 //! Many entries that arrive at one inbound.
+use crate::tests::calls::Put;
+use crate::tests::incoming::steps::{AT_SITE_2, plays_amply};
+use crate::tests::templates::fill;
 
-use crate::tests::incoming::steps::{Came, Said, at_site_2, comes, readers};
-use crate::tests::incoming::texts::{add_entry, entry_line};
-use site_core::Inbound;
-use std::alloc::{AllocError, Global};
-use sub_buffer::State;
-
-// The answer with entries of one move: after 0, and after 79 down to 65.
-fn answer_backwards(alloc: Global) -> Result<Vec<u8>, AllocError> {
-    let mut line = Vec::from_slice(alloc, b"A 1 2;")?;
-    add_entry(&mut line, 0, 1, "", " I:1")?;
-    for down in 0..15u16 {
-        line.push(b';')?;
-        add_entry(&mut line, 79 - down, 1, "", " I:1")?;
+// Sixty-four entries of one move are held, and one more is not.
+fn put_held(script: &mut String) -> Put {
+    for prev in 1..=64u64 {
+        fill(
+            script,
+            "E 1 $1 $2 I:1 > held\n",
+            &[prev, prev.saturating_add(1)],
+        )?;
     }
-    line.push(b'\n')?;
-    Ok(line)
+    script.push_str("E 1 65 66 I:1 > full\nstate > Buffering 0 64\n")
+}
+
+// An answer with entries of one move: after 0, and after 79 down to 65.
+fn put_answer_backwards(script: &mut String) -> Put {
+    script.push_str("A 1 2;E 1 0 1 I:1")?;
+    for down in 0..15u64 {
+        let own = 80u64.saturating_sub(down);
+        fill(script, ";E 1 $1 $2 I:1", &[own.saturating_sub(1), own])?;
+    }
+    Ok(())
+}
+
+// The numbers from the first to the last one are ready.
+fn put_ready(script: &mut String, first: u64, last: u64) -> Put {
+    for own in first..=last {
+        fill(script, " ready $1", &[own])?;
+    }
+    Ok(())
 }
 
 // 1 is ready and frees 2 to 65; fourteen are held, which the last one frees.
-fn most_verdicts() -> [Said; 94] {
-    let mut said = [Said::Held; 94];
-    for index in 0..65usize {
-        said[index] = Said::Ready(index as u64 + 1);
+fn put_most_verdicts(script: &mut String) -> Put {
+    script.push_str(" >")?;
+    put_ready(script, 1, 65)?;
+    for _ in 0..14u8 {
+        script.push_str(" held")?;
     }
-    for index in 79..94usize {
-        said[index] = Said::Ready(index as u64 - 13);
-    }
-    said
+    put_ready(script, 66, 80)?;
+    script.push_str("\nstate > Normal 80 0\n")
 }
 
-// Whether the entry of one move after this number has that result.
-fn entry_comes(alloc: Global, inbound: &mut Inbound<Global>, prev: u16, said: Said) -> bool {
-    match entry_line(alloc, prev, 1, "", " I:1") {
-        Ok(line) => comes(inbound, &line, Came::Entries(&[said])),
-        Err(_) => false,
-    }
-}
-
-// Whether the answer has the most verdicts.
-fn answer_comes(alloc: Global, inbound: &mut Inbound<Global>) -> bool {
-    match answer_backwards(alloc) {
-        Ok(line) => comes(inbound, &line, Came::Entries(&most_verdicts())),
-        Err(_) => false,
-    }
+fn put_all(script: &mut String) -> Put {
+    put_held(script)?;
+    put_answer_backwards(script)?;
+    put_most_verdicts(script)
 }
 
 /// Sixty-four entries are held and one more is not; then one line has 94 verdicts, the most possible.
 #[test]
 fn most_verdicts_on_a_line(rt: HostRuntime) {
-    let mut inbound = at_site_2(rt.alloc()).expect(&rt, "memory");
-    for prev in 1..=65u16 {
-        let said = if prev < 65 { Said::Held } else { Said::Full };
-        let came = entry_comes(rt.alloc(), &mut inbound, prev, said);
-        assert!(rt; came, "after {prev}");
-    }
-    assert_eq!(rt; inbound.held_count(), 64);
-    assert!(rt; answer_comes(rt.alloc(), &mut inbound));
-    assert!(rt; readers(&inbound) == (State::Normal, 80, 0));
+    let mut script = String::new(rt.alloc());
+    put_all(&mut script).expect(&rt, "memory");
+    plays_amply(&rt, AT_SITE_2, &script);
 }

@@ -1,4 +1,5 @@
-use Rattle.std.proofs.Common.{Ok, Err, [], refl}
+use Rattle.std.proofs.Common.{Ok, Err, [], refl, ap, ◌∙◌}
+use Rattle.std.specs.Prelude.{is_some}
 use Rattle.std.proofs.lemmas.Result.{err_from_is_err_and}
 use Rattle.entry_codec.specs.Reading.{reading}
 use Rattle.peer_links.specs.Takes.{message_in, asks_again}
@@ -32,7 +33,8 @@ returns-in_err-ask_for_gap-clause-takes g c =
     c.from_residual-in_err-ask_for_gap.ensures.1 in
     let line = c.in-Ok.ensures in
     let over = hands_on g.P.Port.hears _ c.on_line.new.self _ (message_in c.in-Ok.arrived)
-    (asks_again c.in-Ok.arrived) _ _ _ _ _ c.in_ok-hand_over.ensures c.is_beat-again.ensures
+    (asks_again c.in-Ok.arrived) _ _ _ _ _ c.in_ok-hand_over.ensures
+    (c.is_some.ensures ∙ ap is_some c.beat_in-beat.ensures)
     c.in_err-ask_for_gap.ensures in
     rw (p.1, p.2) (
       over.0,
@@ -52,7 +54,8 @@ pub returns-clause-takes : goal.returns-clause-takes
 returns-clause-takes g c =
     let line = c.in-Ok.ensures in
     let over = hands_on g.P.Port.hears _ c.on_line.new.self _ (message_in c.in-Ok.arrived)
-    (asks_again c.in-Ok.arrived) _ _ _ _ _ c.in_ok-hand_over.ensures c.is_beat-again.ensures
+    (asks_again c.in-Ok.arrived) _ _ _ _ _ c.in_ok-hand_over.ensures
+    (c.is_some.ensures ∙ ap is_some c.beat_in-beat.ensures)
     c.in_ok-ask_for_gap.ensures in (
       over.0,
       record {
