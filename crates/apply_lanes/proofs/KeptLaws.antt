@@ -452,7 +452,30 @@ nothing_tallied d is i s r =
       numbers = λ o. omega (arith, ap (λ (a : Account). a.end) (is.nothing_applied.sums o));
     }
 
-pub opens : (id : DeskId) (d : DeskValue) (i s n r : SplitCounterValue) (bs : List Bool) (rs : List Record)
+-- what a journal was handed does not matter to it
+pub any_handed : {id : DeskId} {k : KeptValue} (handed : List Record) → IsKept id k → IsKept id (record k { handed = handed })
+any_handed handed is = record {
+  site = is.site;
+  same_me = is.same_me;
+  same_sites = is.same_sites;
+  few = is.few;
+  matches_book = is.matches_book;
+  has_shards = record {
+    seats = is.has_shards.seats;
+    clock = is.has_shards.clock;
+    both = is.has_shards.both;
+    places = is.has_shards.places;
+    appliers = is.has_shards.appliers;
+    both_more = is.has_shards.both_more;
+    no_issued_back = is.has_shards.no_issued_back;
+    no_spent_back = is.has_shards.no_spent_back;
+    no_number_back = is.has_shards.no_number_back;
+    no_received_back = is.has_shards.no_received_back;
+  };
+  protocol = is.protocol;
+}
+
+pub opens : (id : DeskId) (d : DeskValue) (i s n r : SplitCounterValue) (bs : List Bool) (rs handed : List Record)
     → id.site ≡ d.ledger.log.site
     → id.sites ≡ sites d.ledger.book
     → d.ledger.book.me ≡ d.ledger.log.site → sites d.ledger.book ≤ 16 → MatchesBook d.ledger.book 0 0 0 0
@@ -469,8 +492,9 @@ pub opens : (id : DeskId) (d : DeskValue) (i s n r : SplitCounterValue) (bs : Li
       admitted = bs;
       clock_given = false;
       records = rs;
+      handed = handed;
     })
-opens id d i s n r bs rs site count me few matches_book hi hs hn hr places none unused empty = record {
+opens id d i s n r bs rs handed site count me few matches_book hi hs hn hr places none unused empty = record {
   site = sym site;
   same_me = me ∙ sym site;
   same_sites = sym count;

@@ -9,3 +9,5 @@ pub mod JournalLaws
 pub mod RecordLaws
 pub mod Walks
 pub mod CrashLaws
+pub mod AskLaws
+pub mod RecorderLaws

@@ -15,8 +15,8 @@ use Rattle.apply_lanes.specs.declared.names.TheConstants.{SEATS, APPLIERS}
 use Rattle.apply_lanes.specs.Names.{DeskId}
 use Rattle.thread_parts.specs.SplitCounters.{SplitCounterValue}
 
--- the desk, its four counters, which sites have an applier of their logs, whether the clock's seat was given out, and the
--- records of the desk's steps
+-- the desk, its four counters, which sites have an applier of their logs, whether the clock's seat was given out, the
+-- records of the desk's steps, and those of them that a journal has or was handed
 pub record KeptValue : Type 0 where
   pub desk : DeskValue
   pub issued : SplitCounterValue
@@ -26,6 +26,7 @@ pub record KeptValue : Type 0 where
   pub admitted : List Bool
   pub clock_given : Bool
   pub records : List Record
+  pub handed : List Record
 
 -- ---- the invariant of the lock
 

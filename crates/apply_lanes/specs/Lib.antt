@@ -1,5 +1,6 @@
 pub mod Names
 pub mod Recording
+pub mod Recorders
 pub mod Kepts
 pub mod Views
 pub mod Admissions

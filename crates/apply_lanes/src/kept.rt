@@ -1,6 +1,6 @@
 //! The value under the lock of a shared desk: a desk, with the four counters of what it did.
 ghost use Rattle.std.specs.Prelude.{◌≡◌, ◌≢◌, ◌+◌, ◌≤◌, ◌<◌, true, false, [], ◌∷◌, ◌++◌, Option, Some, None, IfOk, IfErr};
-ghost use Rattle.std.specs.Prelude.{IfSome, IsOk, OnOk, OnErr, MatchResult, length};
+ghost use Rattle.std.specs.Prelude.{IfSome, IsOk, Ok, OnOk, OnErr, MatchResult, length};
 ghost use Rattle.rights_types.specs.Places.{at_site, set_site};
 ghost use Rattle.rights_types.specs.Rights.{to};
 ghost use Rattle.rights_protocol.specs.Retiring.{numbers_in};
@@ -14,6 +14,8 @@ ghost use Rattle.rights_protocol.specs.Crashes.{lists_of};
 ghost use Rattle.rights_protocol.specs.Crashes.Record.{Applied as IsApplied};
 ghost use Rattle.rights_protocol.specs.Invariant.{SiteInvariant};
 ghost use Rattle.rights_protocol.specs.Schedules.LocalChange.{Apply as Applies};
+ghost use Rattle.site_journal.specs.Batch.{records_in};
+ghost use Rattle.apply_lanes.specs.Recorders.{IsWaiting};
 ghost use Rattle.apply_lanes.specs.Steps.{StepsBy, RecordsBy};
 ghost use Rattle.apply_lanes.specs.Names.{id_of, AreBlank, IsUnused};
 ghost use Rattle.apply_lanes.specs.Kepts.{one_less, seats_left, told_nothing};
@@ -24,11 +26,12 @@ ghost use Rattle.apply_lanes.specs.Admissions.{Admits, GivesSeat, GivesClockSeat
 use crate::applier::Applier;
 use crate::gate::Gate;
 use crate::names::{APPLIERS, Blanks, DeskNames, IssuedBy, NumberOf, ReceivedBy, SEATS, SpentBy};
-use crate::records::Records;
+use crate::recorder::{RecordLost, Recorder};
 use crate::seat::{Seat, SeatsFull};
 use request_queue::SLOTS;
 use rights_types::{Entry, OutOfMemory, SiteId};
 use site_core::Desk;
+use site_journal::Batch;
 use std::alloc::{Allocator, Global};
 use std::marker::Model;
 use thread_parts::{DeskView, Outlet, Shard, SplitCounter};
@@ -50,8 +53,8 @@ pub struct Kept<D: DeskNames, A: Allocator = Global> {
     pub(crate) admitted: [bool; 16],
     // Whether the clock's seat was given out. Until then one shard of `issued` and one of `spent` is reserved for it.
     pub(crate) clock_given: bool,
-    // Of all steps of the desk, for clauses alone.
-    pub(crate) records: Records,
+    // Of all steps of the desk.
+    pub(crate) records: Recorder,
 }
 
 impl<D: DeskNames, A: Allocator> Model for Kept<D, A> {
@@ -68,6 +71,7 @@ impl<D: DeskNames, A: Allocator> Model for Kept<D, A> {
       admitted = k.admitted;
       clock_given = k.clock_given;
       records = k.records.items;
+      handed = k.records.handed;
     } };
 
     ghost invariant = { λ k. IsKept D.id (record {
@@ -79,6 +83,7 @@ impl<D: DeskNames, A: Allocator> Model for Kept<D, A> {
       admitted = k.admitted;
       clock_given = k.clock_given;
       records = k.records.items;
+      handed = k.records.handed;
     }) };
 }
 
@@ -124,7 +129,7 @@ impl<D: DeskNames, A: Allocator + Copy> Kept<D, A> {
         ensures seats { seats_left result ≡ SEATS }
         ensures clock { result.clock_given ≡ false }
         ensures appliers { result.number.left ≡ APPLIERS }
-        ensures records { result.records ≡ [] }
+        ensures records { (result.records ≡ []) × (result.handed ≡ []) }
     {
         // For the proof: what a desk with an empty log issued, spent and received.
         let _ = (desk.site(), desk.sites());
@@ -143,7 +148,7 @@ impl<D: DeskNames, A: Allocator + Copy> Kept<D, A> {
             received: SplitCounter::open(received, APPLIERS),
             admitted: [false; 16],
             clock_given: false,
-            records: Records::new(),
+            records: Recorder::new(),
         }
     }
 
@@ -182,6 +187,39 @@ impl<D: DeskNames, A: Allocator + Copy> Kept<D, A> {
             held: desk.held(),
             queued: desk.queued(),
         }
+    }
+
+    /// Keeps a journal from now on, which has the records so far, and so many in all. The batch is where further ones
+    /// wait.
+    pub fn keep_journal(&mut self, alloc: Global, batch: Batch, made: u64)
+        requires { records_in batch ≡ [] }
+        ensures { self.new ≡ record self.old { handed = self.old.records } }
+    {
+        self.records.keep(alloc, batch, made);
+    }
+
+    /// Hands over the lines of the records that wait for the journal, for an empty batch. `None` without a journal.
+    /// `RecordLost` once a record is missing there.
+    pub fn hand_over(&mut self, empty: Batch) -> Result<Option<Batch>, RecordLost>
+        requires { records_in empty ≡ [] }
+        ensures some { IfOk result (λ found. IfSome found (λ batch.
+            IsWaiting self.old.handed self.old.records (records_in batch)
+            × (self.new ≡ record self.old { handed = self.old.records }))) }
+        ensures rest { self.new ≡ record self.old { handed = self.new.handed } }
+        ensures none { result ≡ Ok None → self.new ≡ self.old }
+        ensures err { OnErr result (self.new ≡ self.old) }
+    {
+        self.records.hand_over(empty)
+    }
+
+    /// How many records were made for the journal in all.
+    pub fn records_made(&self) -> u64 {
+        self.records.made()
+    }
+
+    /// How many bytes wait for the journal.
+    pub fn bytes_waiting(&self) -> usize {
+        self.records.waiting()
     }
 
     /// A new seat. `SeatsFull` if none is left besides the clock's.
@@ -333,7 +371,7 @@ impl<D: DeskNames, A: Allocator + Copy> Kept<D, A> {
         let gift = self.desk.received() - before;
         self.number.add(number, entry.own() - entry.prev());
         self.received.add(received, gift);
-        self.records = self.records.and(entry);
+        self.records.note(entry);
         Ok(())
     }
 }

@@ -7,6 +7,7 @@ ghost use Rattle.origin_log.specs.Answering.{answer_to_query};
 ghost use Rattle.origin_log.specs.Faults.{query_fault, ReadRefuses};
 ghost use Rattle.transfer_manager.specs.Managers.{outstanding_ask};
 ghost use Rattle.entry_codec.specs.Spelling.{LineOf};
+ghost use Rattle.request_queue.specs.Queues.{without_tickets};
 ghost use Rattle.site_core.specs.Calls.{next_push, after_publish, after_skip, beat_of};
 ghost use Rattle.rights_protocol.specs.Schedules.LocalChange.{Other};
 ghost use Rattle.apply_lanes.specs.Steps.{StepsBy};
@@ -45,6 +46,14 @@ impl<D: DeskNames, A: Allocator + Copy> Kept<D, A> {
         ensures step { StepsBy D.id self.old.desk Other self.new.desk }
     {
         self.desk.skip_unpublished(peer);
+    }
+
+    /// Gives out no ticket up to `last` from now on, as after a restart.
+    pub fn skip_tickets(&mut self, last: u64)
+        ensures skips { self.new ≡ record self.old { desk = record self.old.desk { queue = without_tickets self.old.desk.queue last } } }
+        ensures step { StepsBy D.id self.old.desk Other self.new.desk }
+    {
+        self.desk.skip_tickets(last);
     }
 
     /// The line of a beat: the log's end.

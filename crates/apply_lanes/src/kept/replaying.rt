@@ -46,7 +46,7 @@ impl<D: DeskNames, A: Allocator + Copy> Kept<D, A> {
         self.issued.add(&mut seat.issued, more);
         self.spent.add(&mut seat.used, used);
         seat.spent += used;
-        self.records = self.records.and(&Again { entry });
+        self.records.note(&Again { entry });
         Ok(())
     }
 
@@ -60,7 +60,7 @@ impl<D: DeskNames, A: Allocator + Copy> Kept<D, A> {
         ensures err { OnErr result (self.new ≡ self.old) }
     {
         self.desk.replay_ask(ask)?;
-        self.records = self.records.and(ask);
+        self.records.note(ask);
         Ok(())
     }
 }

@@ -24,7 +24,7 @@ ghost use Rattle.apply_lanes.specs.Recording.{with_written, with_spent, with_ser
 
 use crate::kept::Kept;
 use crate::names::DeskNames;
-use crate::records::{Answered, Plan, PlanBeside};
+use crate::records::{Answered, Planned, asked_sites};
 use crate::seat::Seat;
 use request_queue::{SLOTS, Status};
 use rights_types::{Ask, AskNumber, OutOfMemory, SiteId};
@@ -57,7 +57,7 @@ impl<D: DeskNames, A: Allocator + Copy> Kept<D, A> {
         // For the proof: the sum is in its range.
         let _ = self.desk.issued();
         self.issued.add(&mut seat.issued, amount);
-        self.records = self.records.and(&self.desk);
+        self.records.note(&self.desk);
         Ok(number)
     }
 
@@ -92,7 +92,7 @@ impl<D: DeskNames, A: Allocator + Copy> Kept<D, A> {
             let _ = self.desk.spent();
             self.spent.add(&mut seat.used, amount);
             seat.spent += amount;
-            self.records = self.records.and(&self.desk);
+            self.records.note(&self.desk);
         }
         Ok(spending)
     }
@@ -119,7 +119,7 @@ impl<D: DeskNames, A: Allocator + Copy> Kept<D, A> {
         let _ = self.desk.spent();
         self.spent.add(&mut seat.used, rights);
         seat.spent += rights;
-        self.records = self.records.and(&self.desk);
+        self.records.note(&self.desk);
         Ok(number)
     }
 
@@ -153,7 +153,7 @@ impl<D: DeskNames, A: Allocator + Copy> Kept<D, A> {
         let amount = self.desk.spent() - before;
         self.spent.add(&mut seat.used, amount);
         seat.served += amount;
-        self.records = self.records.and(&self.desk);
+        self.records.note(&self.desk);
         Ok(Some((ticket, number, amount)))
     }
 
@@ -170,7 +170,7 @@ impl<D: DeskNames, A: Allocator + Copy> Kept<D, A> {
             ≡ record self.old { desk = self.new.desk; records = with_written self.old.records self.new.desk }) }
     {
         let number = self.desk.give_back(peer, amount)?;
-        self.records = self.records.and(&self.desk);
+        self.records.note(&self.desk);
         Ok(number)
     }
 
@@ -216,8 +216,13 @@ impl<D: DeskNames, A: Allocator + Copy> Kept<D, A> {
           records = with_planned (λ j. false) self.old.records self.old.desk;
         } }
     {
-        self.records = self.records.and(&Plan { desk: &self.desk });
-        self.desk.plan()
+        let before = asked_sites(&self.desk);
+        let count = self.desk.plan();
+        self.records.note(&Planned {
+            desk: &self.desk,
+            before,
+        });
+        count
     }
 
     /// The same beside silent peers: none of them is asked anew, and what they were asked for is not expected of them.
@@ -229,11 +234,13 @@ impl<D: DeskNames, A: Allocator + Copy> Kept<D, A> {
           records = with_planned (has_site silent.now) self.old.records self.old.desk;
         } }
     {
-        self.records = self.records.and(&PlanBeside {
+        let before = asked_sites(&self.desk);
+        let count = self.desk.plan_beside(silent);
+        self.records.note(&Planned {
             desk: &self.desk,
-            silent,
+            before,
         });
-        self.desk.plan_beside(silent)
+        count
     }
 
     /// Answers the ask of a peer. A grant is written at once.
@@ -256,7 +263,7 @@ impl<D: DeskNames, A: Allocator + Copy> Kept<D, A> {
         ensures memory { is_ignored (answer_of self.old.desk ask.now) ≡ true → IsOk result }
     {
         let reply = self.desk.on_ask(ask)?;
-        self.records = self.records.and(&Answered {
+        self.records.note(&Answered {
             desk: &self.desk,
             answer: reply.answer,
         });
@@ -289,7 +296,7 @@ impl<D: DeskNames, A: Allocator + Copy> Kept<D, A> {
             ≡ record self.old { desk = self.new.desk; records = with_written self.old.records self.new.desk }) }
     {
         let number = self.desk.close(heir)?;
-        self.records = self.records.and(&self.desk);
+        self.records.note(&self.desk);
         Ok(number)
     }
 }

@@ -1,3 +1,4 @@
+use Rattle.apply_lanes.proofs.KeptLaws.{any_handed}
 use Rattle.rights_protocol.specs.Schedules.LocalChange.{Apply}
 use Rattle.std.proofs.Common.{◌≡◌, ◌-◌, arith, subst, length, rules}
 use Rattle.rights_types.specs.Rights.{to}
@@ -37,12 +38,12 @@ invariant_of-self-2 g c =
     let id = g.D.DeskNames.id in
     let steps = steps_apply id _ c.apply.new.self c.args.origin c.args.entry.now i applies keeps
     c.number.ensures.range.0 c.requires.site c.requires.other unclosed live next c.requires.own c.own.ensures.valid in
-    let has = keeps_lists id _ c.apply.new.self (Apply c.args.origin c.args.entry.now) c.and-self-inside.result.items i steps
-    c.and-self-inside.ensures in
-    kept_apply _ _ c.apply.new.self _ _ _ _ _ i applies keeps c.number.ensures.range.0 c.requires.site next
+    let has = keeps_lists id _ c.apply.new.self (Apply c.args.origin c.args.entry.now) c.note.new.self.items i steps
+    c.note.ensures.items in
+    any_handed c.note.new.self.handed (kept_apply _ _ c.apply.new.self _ _ _ _ _ i applies keeps c.number.ensures.range.0 c.requires.site next
     c.own.ensures.valid has
     (subst (λ n. c.add.new.self ≡ raised c.self.inside.number n) count c.add.ensures.sum)
-    (subst (λ n. c.add-2.new.self ≡ raised c.self.inside.received n) gift c.add-2.ensures.sum)
+    (subst (λ n. c.add-2.new.self ≡ raised c.self.inside.received n) gift c.add-2.ensures.sum))
 
 pub returns-clause-ok : goal.returns-clause-ok
 returns-clause-ok g c = search rules
@@ -78,4 +79,4 @@ returns-clause-step g c =
 
 pub returns-clause-records : goal.returns-clause-records
 returns-clause-records g c =
-    seen_adds g.D.DeskNames.id _ _ (Apply c.args.origin c.args.entry.now) c.and-self-inside.result.items c.self.view_is c.and-self-inside.ensures
+    seen_adds g.D.DeskNames.id _ _ (Apply c.args.origin c.args.entry.now) c.note.new.self.items c.self.view_is c.note.ensures.items

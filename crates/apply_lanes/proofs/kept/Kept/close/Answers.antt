@@ -1,3 +1,4 @@
+use Rattle.apply_lanes.proofs.KeptLaws.{any_handed}
 use Rattle.rights_protocol.specs.Schedules.LocalChange.{Retire}
 use Rattle.apply_lanes.proofs.RecordLaws.{kept_closed, seen_adds, adds_close}
 use Rattle.apply_lanes.proofs.StepLaws.{seen, steps_close}
@@ -5,8 +6,8 @@ use Rattle.apply_lanes.proofs.kept.Kept.close.Goals as goal
 
 pub invariant_of-self-2 : goal.invariant_of-self-2
 invariant_of-self-2 g c =
-    kept_closed _ _ c.close.new.self c.args.heir _ c.self.invariant c.in_ok-number.ensures.ok.entry
-    c.in_ok-number.ensures.keeps c.and-self-inside.ensures
+    any_handed c.note.new.self.handed (kept_closed _ _ c.close.new.self c.args.heir _ c.self.invariant c.in_ok-number.ensures.ok.entry
+    c.in_ok-number.ensures.keeps c.note.ensures.items)
 
 pub returns-clause-step : goal.returns-clause-step
 returns-clause-step g c =
@@ -18,6 +19,6 @@ returns-clause-step g c =
 pub returns-clause-records : goal.returns-clause-records
 returns-clause-records g c =
     let id = g.D.DeskNames.id in
-    seen_adds id _ _ (Retire c.args.heir) c.and-self-inside.result.items c.self.view_is
+    seen_adds id _ _ (Retire c.args.heir) c.note.new.self.items c.self.view_is
     (adds_close id _ c.close.new.self c.args.heir _ c.self.invariant c.in_ok-number.ensures.ok.entry
-    c.in_ok-number.ensures.keeps c.and-self-inside.ensures)
+    c.in_ok-number.ensures.keeps c.note.ensures.items)

@@ -1,3 +1,4 @@
+use Rattle.apply_lanes.proofs.KeptLaws.{any_handed}
 use Rattle.std.proofs.Common.{List, [], ◌∷◌}
 use Rattle.rights_types.specs.declared.moves.Move.{Move}
 use Rattle.rights_types.specs.declared.moves.Move.TheVariants.{Issue}
@@ -10,8 +11,8 @@ use Rattle.apply_lanes.proofs.kept.Kept.issue.Goals as goal
 
 pub invariant_of-self-2 : goal.invariant_of-self-2
 invariant_of-self-2 g c =
-    kept_written _ _ c.issue.new.self _ _ _ _ _ _ c.self.invariant c.in_ok-number.ensures.ok.entry
-    c.in_ok-number.ensures.keeps (issued-issue _) (spent-issue _) c.add.ensures.sum (raised_none _) c.and-self-inside.ensures
+    any_handed c.note.new.self.handed (kept_written _ _ c.issue.new.self _ _ _ _ _ _ c.self.invariant c.in_ok-number.ensures.ok.entry
+    c.in_ok-number.ensures.keeps (issued-issue _) (spent-issue _) c.add.ensures.sum (raised_none _) c.note.ensures.items)
 
 pub returns-clause-counters : goal.returns-clause-counters
 returns-clause-counters g c = search rules
@@ -31,5 +32,5 @@ pub returns-clause-records : goal.returns-clause-records
 returns-clause-records g c =
     let id = g.D.DeskNames.id in
     let moves : List Move = Issue c.args.amount ∷ [] in
-    seen_adds id _ _ (Write moves) c.and-self-inside.result.items c.self.view_is
-    (adds_write id _ c.issue.new.self moves _ c.self.invariant c.in_ok-number.ensures.ok.entry.log c.and-self-inside.ensures)
+    seen_adds id _ _ (Write moves) c.note.new.self.items c.self.view_is
+    (adds_write id _ c.issue.new.self moves _ c.self.invariant c.in_ok-number.ensures.ok.entry.log c.note.ensures.items)

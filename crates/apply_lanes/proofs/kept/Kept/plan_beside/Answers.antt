@@ -1,3 +1,5 @@
+use Rattle.apply_lanes.proofs.AskLaws.{plan_adds}
+use Rattle.apply_lanes.proofs.KeptLaws.{any_handed}
 use Rattle.rights_protocol.specs.Schedules.LocalChange.{Other}
 use Rattle.std.proofs.Common.{ap}
 use Rattle.transfer_manager.specs.SiteSets.{has_site}
@@ -8,16 +10,18 @@ use Rattle.apply_lanes.proofs.kept.Kept.plan_beside.Goals as goal
 
 pub returns-clause-step : goal.returns-clause-step
 returns-clause-step g c =
-    seen g.D.DeskNames.id _ _ Other c.plan_beside.new.self c.self.view_is
-    (steps_none g.D.DeskNames.id c.self.inside.desk c.plan_beside.new.self
-    (ap (λ (d : DeskValue). d.ledger) c.plan_beside.ensures.rest))
+    seen g.D.DeskNames.id _ _ Other c.plan_beside-count.new.self c.self.view_is
+    (steps_none g.D.DeskNames.id c.self.inside.desk c.plan_beside-count.new.self
+    (ap (λ (d : DeskValue). d.ledger) c.plan_beside-count.ensures.rest))
 
 pub invariant_of-self : goal.invariant_of-self
 invariant_of-self g c =
-    kept_plan _ _ c.plan_beside.new.self (has_site c.args.silent.now) _ c.self.invariant
-    (ap (λ (d : DeskValue). d.ledger) c.plan_beside.ensures.rest) c.and-self-inside.ensures
+    any_handed c.note.new.self.handed (kept_plan _ _ c.plan_beside-count.new.self (has_site c.args.silent.now) _ c.self.invariant
+    (ap (λ (d : DeskValue). d.ledger) c.plan_beside-count.ensures.rest) (plan_adds _ c.plan_beside-count.new.self (has_site c.args.silent.now) _ (has_site c.asked_sites-before.result) _ _ c.plan_beside-count.ensures c.asked_sites-before.ensures
+    c.note.ensures.items))
 
 pub returns-clause-rest : goal.returns-clause-rest
 returns-clause-rest g c =
-    planned_is _ c.args.self.now c.plan_beside.new.self (has_site c.args.silent.now) c.and-self-inside.result.items c.self.view_is
-    c.and-self-inside.ensures
+    planned_is _ c.args.self.now c.plan_beside-count.new.self (has_site c.args.silent.now) c.note.new.self.items c.note.new.self.handed c.self.view_is
+    (plan_adds _ c.plan_beside-count.new.self (has_site c.args.silent.now) _ (has_site c.asked_sites-before.result) _ _ c.plan_beside-count.ensures c.asked_sites-before.ensures
+    c.note.ensures.items) c.note.ensures.handed

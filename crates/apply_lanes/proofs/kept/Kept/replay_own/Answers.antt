@@ -1,3 +1,4 @@
+use Rattle.apply_lanes.proofs.KeptLaws.{any_handed}
 use Rattle.std.proofs.Common.{◌≡◌, ◌-◌, arith}
 use Rattle.rights_types.specs.Rights.{issued, spent}
 use Rattle.rights_protocol.specs.Crashes.Record.{Wrote}
@@ -13,10 +14,10 @@ invariant_of-self-2 g c =
     = omega (arith, c.issued.ensures.booked, c.issued-issued.ensures.booked, keeps.leaves.issues) in
     let used : spent c.args.entry.now.moves ≡ c.spent.result - c.spent-spent.result
     = omega (arith, c.spent.ensures.booked, c.spent-spent.ensures.booked, keeps.leaves.spends) in
-    let has = replayed_lists _ _ c.replay_own.new.self (Wrote c.args.entry.now) c.and-self-inside.result.items c.self.invariant
-    c.in_ok-replay_own.ensures.ok c.and-self-inside.ensures in
-    kept_write _ _ _ c.args.entry.now.moves _ _ _ _ _ c.self.invariant keeps.log keeps.leaves has more used
-    c.add.ensures.sum c.add-2.ensures.sum
+    let has = replayed_lists _ _ c.replay_own.new.self (Wrote c.args.entry.now) c.note.new.self.items c.self.invariant
+    c.in_ok-replay_own.ensures.ok c.note.ensures.items in
+    any_handed c.note.new.self.handed (kept_write _ _ _ c.args.entry.now.moves _ _ _ _ _ c.self.invariant keeps.log keeps.leaves has
+    more used c.add.ensures.sum c.add-2.ensures.sum)
 
 pub returns-clause-step : goal.returns-clause-step
 returns-clause-step g c =

@@ -1,3 +1,4 @@
+use Rattle.apply_lanes.proofs.KeptLaws.{any_handed}
 use Rattle.std.proofs.Common.{ℕ, ◌-◌, [], ◌∷◌, subst, ◌∙◌, rules}
 use Rattle.rights_types.specs.declared.moves.Move.TheVariants.{Spend}
 use Rattle.rights_protocol.specs.Schedules.LocalChange.{Write}
@@ -14,8 +15,8 @@ invariant_of-self-2 g c =
     let ticket = c.in_ok-ticket.ensures in
     let front = served c.self.inside.desk c.serve.new.self _ _ _ _ _ ticket.ok ticket.keeps c.in-Some.is
     c.spent-before.ensures.booked c.spent.ensures.booked in
-    kept_written _ _ c.serve.new.self _ _ _ _ _ _ c.self.invariant front.serves.entry front.keeps
-    (issued-spend _) (spent-spend _ ∙ front.amount) (raised_none _) c.add.ensures.sum c.and-self-inside.ensures
+    any_handed c.note.new.self.handed (kept_written _ _ c.serve.new.self _ _ _ _ _ _ c.self.invariant front.serves.entry front.keeps
+    (issued-spend _) (spent-spend _ ∙ front.amount) (raised_none _) c.add.ensures.sum c.note.ensures.items)
 
 pub returns-clause-front : goal.returns-clause-front
 returns-clause-front g c =
@@ -54,8 +55,8 @@ returns-clause-records g c =
     let ticket = c.in_ok-ticket.ensures in
     let front = served c.self.inside.desk c.serve.new.self _ _ _ _ _ ticket.ok ticket.keeps c.in-Some.is
     c.spent-before.ensures.booked c.spent.ensures.booked in
-    let added = seen_adds id _ c.args.self.now (Write (Spend front.serves.amount ∷ [])) c.and-self-inside.result.items
+    let added = seen_adds id _ c.args.self.now (Write (Spend front.serves.amount ∷ [])) c.note.new.self.items
     c.self.view_is (adds_write id _ c.serve.new.self (Spend front.serves.amount ∷ []) _ c.self.invariant
-    front.serves.entry.log c.and-self-inside.ensures) in
+    front.serves.entry.log c.note.ensures.items) in
     subst (λ n. Adds id c.args.self.now (serve_change (Some (c.in-Some.ticket, c.in-Some.number, n)))
-    c.and-self-inside.result.items) front.amount added
+    c.note.new.self.items) front.amount added

@@ -1,3 +1,4 @@
+use Rattle.apply_lanes.proofs.KeptLaws.{any_handed}
 use Rattle.apply_lanes.specs.Steps.{spend_change}
 use Rattle.std.proofs.Common.{subst, rules}
 use Rattle.site_core.specs.Calls.{DeskSpends, SpendKeeps}
@@ -12,8 +13,8 @@ invariant_of-self-in-Spent g c =
     c.in-Spent.is c.in_ok-spending.ensures.ok in
     let keeps = subst (λ s. SpendKeeps c.self.inside.desk c.args.amount s c.spend.new.self) c.in-Spent.is
     c.in_ok-spending.ensures.keeps in
-    kept_written _ _ c.spend.new.self _ _ _ _ _ _ c.self.invariant spends.1.entry keeps (issued-spend _)
-    (spent-spend _) (raised_none _) c.add.ensures.sum c.and-self-inside.ensures
+    any_handed c.note.new.self.handed (kept_written _ _ c.spend.new.self _ _ _ _ _ _ c.self.invariant spends.1.entry keeps (issued-spend _)
+    (spent-spend _) (raised_none _) c.add.ensures.sum c.note.ensures.items)
 
 pub invariant_of-seat : goal.invariant_of-seat
 invariant_of-seat g c = search rules
@@ -51,7 +52,7 @@ returns-in_default-clause-step g c =
 
 pub returns-in-Spent-clause-records : goal.returns-in-Spent-clause-records
 returns-in-Spent-clause-records g c =
-    seen_adds g.D.DeskNames.id _ _ (spend_change c.args.amount c.in_ok-spending.spending) c.and-self-inside.result.items
+    seen_adds g.D.DeskNames.id _ _ (spend_change c.args.amount c.in_ok-spending.spending) c.note.new.self.items
     c.self.view_is
     (adds_spend _ _ c.spend.new.self _ c.args.deadline c.in_ok-spending.spending _ c.self.invariant
     c.in_ok-spending.ensures.ok (search rules))

@@ -1,3 +1,4 @@
+use Rattle.apply_lanes.proofs.KeptLaws.{any_handed}
 use Rattle.std.proofs.Common.{List, [], ◌∷◌}
 use Rattle.rights_types.specs.declared.moves.Move.{Move}
 use Rattle.rights_types.specs.declared.moves.Move.TheVariants.{Spend}
@@ -10,8 +11,8 @@ use Rattle.apply_lanes.proofs.kept.Kept.take.Goals as goal
 
 pub invariant_of-self-2 : goal.invariant_of-self-2
 invariant_of-self-2 g c =
-    kept_written _ _ c.take.new.self _ _ _ _ _ _ c.self.invariant c.in_ok-number.ensures.ok.entry
-    c.in_ok-number.ensures.keeps (issued-spend _) (spent-spend _) (raised_none _) c.add.ensures.sum c.and-self-inside.ensures
+    any_handed c.note.new.self.handed (kept_written _ _ c.take.new.self _ _ _ _ _ _ c.self.invariant c.in_ok-number.ensures.ok.entry
+    c.in_ok-number.ensures.keeps (issued-spend _) (spent-spend _) (raised_none _) c.add.ensures.sum c.note.ensures.items)
 
 pub invariant_of-seat : goal.invariant_of-seat
 invariant_of-seat g c = search rules
@@ -34,5 +35,5 @@ pub returns-clause-records : goal.returns-clause-records
 returns-clause-records g c =
     let id = g.D.DeskNames.id in
     let moves : List Move = Spend c.args.rights ∷ [] in
-    seen_adds id _ _ (Write moves) c.and-self-inside.result.items c.self.view_is
-    (adds_write id _ c.take.new.self moves _ c.self.invariant c.in_ok-number.ensures.ok.entry.log c.and-self-inside.ensures)
+    seen_adds id _ _ (Write moves) c.note.new.self.items c.self.view_is
+    (adds_write id _ c.take.new.self moves _ c.self.invariant c.in_ok-number.ensures.ok.entry.log c.note.ensures.items)
