@@ -1,0 +1,302 @@
+//! What the threads of a site share of its journal.
+ghost use Rattle.std.specs.Prelude.{◌≡◌, [], true, Some};
+ghost use Rattle.durability.specs.Counts.{IsProgressNow, all_durable, raised, with_course, closed, is_open, next_of};
+ghost use Rattle.durability.specs.declared.counts.Course.TheVariants.{Failed};
+ghost use Rattle.durability.specs.Holds.{Waited, Begins, Raises, Fails, Closes, Told};
+
+use crate::counts::{Counts, Course, Next, Progress};
+use histories::History;
+use std::marker::Model;
+use std::sync::{Condvar, CondvarTimeouts, Mutex, MutexGuard, Wait};
+use std::time::{Clock, Duration};
+
+/// After how many milliseconds records are appended for which no exit waits.
+const PAUSE_MILLISECONDS: u64 = 20;
+
+/// After how many pauses without a record the thread that appends waits for the next one, for as long as that takes.
+const IDLE_PAUSES: u64 = 50;
+
+/// How many records of the journal were made and how many of them are durable, for the threads of a site.
+#[derive(Drop)]
+pub struct Durability {
+    counts: Mutex<Counts>,
+    /// Notified when an exit waits, and of the end.
+    asked: Condvar,
+    /// Notified when records became durable, and once no more will.
+    raised: Condvar,
+}
+
+/// The counts under their lock. No other lock is taken while it is held.
+#[derive(Drop)]
+pub struct Held<'a> {
+    counts: MutexGuard<'a, Counts>,
+}
+
+impl<'a> Model for Held<'a> {
+    ghost use Rattle.durability.specs.Counts.{CountsValue};
+
+    ghost Value = { CountsValue };
+
+    ghost view = { λ held. held.counts.value };
+}
+
+impl Durability {
+    /// Of an empty journal.
+    pub fn new() -> Durability {
+        Durability {
+            counts: Mutex::new(Counts::new(0, 0, 0)),
+            asked: Condvar::new(),
+            raised: Condvar::new(),
+        }
+    }
+
+    fn hold<'a, R: Wait>(&'a self, rt: &R) -> Held<'a> {
+        Held {
+            counts: self.counts.lock(rt),
+        }
+    }
+
+    /// So many records were made in all. For who has just made some, under the lock under which they are made. It wakes
+    /// no thread but one that found none to append for a second.
+    pub fn note_made<R: Wait>(&self, rt: &R, made: u64) {
+        let is_due = self.counts.lock(rt).note_made(made);
+        if is_due {
+            self.asked.notify_one();
+        }
+    }
+
+    /// Waits until all records are durable that were made by now. `false` if they will not be, since the journal has
+    /// ended, or if it has failed: then nothing may be told any more.
+    pub fn wait_for_all<R: Wait>(&self, rt: &R) -> bool {
+        self.pass(rt, &mut History::new())
+    }
+
+    /// The same. The list gets the counts when the wait began, and when it ended.
+    pub fn pass<'a, R: Wait>(&'a self, rt: &R, waits: &mut History<Held<'a>>) -> bool
+        ensures { Waited waits.old.items result waits.new.items }
+    {
+        let mut held = self.hold(rt);
+        let begun = waits.and(&held);
+        let mark = held.ask();
+        if held.is_awaited(mark) {
+            self.asked.notify_one();
+            held = self.await_mark(rt, held, mark);
+        }
+        *waits = begun.and(&held);
+        held.is_open(mark)
+    }
+
+    /// Waits until the records up to this mark are durable, or will not be.
+    fn await_mark<'a, R: Wait>(&'a self, rt: &R, held: Held<'a>, mark: u64) -> Held<'a> {
+        Held {
+            counts: self
+                .raised
+                .wait_while(rt, held.counts, |counts| counts.is_awaited(mark)),
+        }
+    }
+
+    /// Waits until the thread that appends has something to do, or a pause is over.
+    fn await_work<'a, R: Wait + Clock>(&'a self, rt: &R) -> Held<'a> {
+        let pause = Duration::from_millis(PAUSE_MILLISECONDS);
+        let counts = self.counts.lock(rt);
+        let (counts, _) = self
+            .asked
+            .wait_timeout_while(rt, counts, pause, |counts| counts.next(false).is_none());
+        Held { counts }
+    }
+
+    /// Waits until there is something to do, and says what.
+    fn await_next<'a, R: Wait + Clock>(&'a self, rt: &R) -> (Held<'a>, Next)
+        ensures { next_of true result.0 ≡ Some result.1 }
+    {
+        for _ in rt.forever() {
+            for _ in 0..IDLE_PAUSES {
+                let held = self.await_work(rt);
+                if let Some(next) = held.next() {
+                    return (held, next);
+                }
+            }
+            self.await_record(rt);
+        }
+        unreachable!()
+    }
+
+    /// Waits until a record is made, or the end, unless one is not durable yet.
+    fn await_record<R: Wait>(&self, rt: &R) {
+        let mut counts = self.counts.lock(rt);
+        counts.park();
+        let _ = self
+            .asked
+            .wait_while(rt, counts, |counts| counts.is_parked());
+    }
+
+    /// The journal has failed. No exit opens any more, for good.
+    pub fn fail<R: Wait>(&self, rt: &R) {
+        self.counts.lock(rt).fail();
+        self.wake_all();
+    }
+
+    /// The thread that appends is to append what is left, and to end.
+    pub fn end<R: Wait>(&self, rt: &R) {
+        self.counts.lock(rt).end();
+        self.wake_all();
+    }
+
+    fn wake_all(&self) {
+        self.asked.notify_all();
+        self.raised.notify_all();
+    }
+
+    /// Whether no exit opens any more, since the records that were made will not be durable.
+    pub fn is_shut<R: Wait>(&self, rt: &R) -> bool {
+        self.counts.lock(rt).is_shut()
+    }
+
+    pub fn has_failed<R: Wait>(&self, rt: &R) -> bool {
+        matches!(self.counts.lock(rt).course(), Course::Failed)
+    }
+
+    /// How far the journal is.
+    pub fn progress<R: Wait>(&self, rt: &R) -> Progress
+        ensures { IsProgressNow result }
+    {
+        self.counts.lock(rt).progress()
+    }
+
+    /// For the one thread that appends.
+    pub fn raiser<'a>(&'a self) -> Raiser<'a>
+        ensures { result ≡ [] }
+    {
+        Raiser {
+            durability: self,
+            holds: History::new(),
+        }
+    }
+}
+
+impl Held<'_> {
+    fn ask(&mut self) -> u64
+        ensures mark { result ≡ self.old.made }
+    {
+        self.counts.ask()
+    }
+
+    fn is_awaited(&self, mark: u64) -> bool {
+        self.counts.is_awaited(mark)
+    }
+
+    fn is_open(&self, mark: u64) -> bool
+        ensures { result ≡ is_open mark self.now }
+    {
+        self.counts.is_open(mark)
+    }
+
+    fn next(&self) -> Option<Next>
+        ensures { result ≡ next_of true self.now }
+    {
+        self.counts.next(true)
+    }
+
+    fn begin(&mut self, records: u64, bytes: u64, time: u64)
+        ensures { self.new ≡ all_durable records bytes time }
+    {
+        *self.counts = Counts::new(records, bytes, time);
+    }
+
+    fn raise(&mut self, durable: u64, bytes: u64, time: u64)
+        ensures { self.new ≡ raised durable bytes time self.old }
+    {
+        self.counts.raise(durable, bytes, time);
+    }
+
+    fn fail(&mut self)
+        ensures { self.new ≡ with_course Failed self.old }
+    {
+        self.counts.fail();
+    }
+
+    fn close(&mut self)
+        ensures { self.new ≡ with_course (closed self.old.course) self.old }
+    {
+        self.counts.close();
+    }
+}
+
+/// What the one thread that appends has of a durability: nothing else raises the count of durable records. Before that
+/// thread ends it calls `close` or `fail`, or exits may wait for good. A clause reads it as a list: the counts at the
+/// beginning and at the end of each time that it held the lock to change them, and at each time that it asked what to
+/// do.
+#[derive(Drop)]
+pub struct Raiser<'a> {
+    durability: &'a Durability,
+    holds: History<Held<'a>>,
+}
+
+impl<'a> Model for Raiser<'a> {
+    ghost use Rattle.std.specs.Prelude.{List};
+    ghost use Rattle.durability.specs.Counts.{CountsValue};
+
+    ghost Value = { List CountsValue };
+
+    ghost view = { λ raiser. raiser.holds.items };
+}
+
+impl<'a> Raiser<'a> {
+    /// Begins with a journal that has so many records in so many bytes, all of them durable since this time in
+    /// milliseconds.
+    pub fn begin<R: Wait>(&mut self, rt: &R, records: u64, bytes: u64, time: u64)
+        ensures { Begins records bytes time self.old self.new }
+    {
+        let mut held = self.durability.hold(rt);
+        let begun = self.holds.and(&held);
+        held.begin(records, bytes, time);
+        self.holds = begun.and(&held);
+    }
+
+    /// Waits until there is something to do: an exit waits for records that are not durable, or some were not durable
+    /// for a pause, or the end was asked for.
+    pub fn next<R: Wait + Clock>(&mut self, rt: &R) -> Next
+        ensures { Told self.old result self.new }
+    {
+        let (held, next) = self.durability.await_next(rt);
+        self.holds = self.holds.and(&held);
+        next
+    }
+
+    /// So many of the records that were made are durable, in so many bytes, since this time in milliseconds. Wakes the
+    /// exits that wait.
+    pub fn raise<R: Wait>(&mut self, rt: &R, durable: u64, bytes: u64, time: u64)
+        ensures { Raises durable bytes time self.old self.new }
+    {
+        let mut held = self.durability.hold(rt);
+        let begun = self.holds.and(&held);
+        held.raise(durable, bytes, time);
+        self.holds = begun.and(&held);
+        drop(held);
+        self.durability.raised.notify_all();
+    }
+
+    /// The journal has failed: as `Durability::fail`.
+    pub fn fail<R: Wait>(&mut self, rt: &R)
+        ensures { Fails self.old self.new }
+    {
+        let mut held = self.durability.hold(rt);
+        let begun = self.holds.and(&held);
+        held.fail();
+        self.holds = begun.and(&held);
+        drop(held);
+        self.durability.wake_all();
+    }
+
+    /// Nothing is appended any more. An exit that waits for more than is durable does not open.
+    pub fn close<R: Wait>(&mut self, rt: &R)
+        ensures { Closes self.old self.new }
+    {
+        let mut held = self.durability.hold(rt);
+        let begun = self.holds.and(&held);
+        held.close();
+        self.holds = begun.and(&held);
+        drop(held);
+        self.durability.wake_all();
+    }
+}

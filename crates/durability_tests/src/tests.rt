@@ -1,0 +1,3 @@
+//! A durability by its public calls alone.
+mod appending;
+mod exits;
