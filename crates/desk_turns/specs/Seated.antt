@@ -7,6 +7,9 @@ use Rattle.site_words.specs.declared.commands.DeskCommand.{DeskCommand}
 use Rattle.site_node.specs.Acting.{Acts}
 use Rattle.site_node.specs.declared.reply.Reply.{Reply}
 use Rattle.site_node.specs.declared.tick.Ticked.{Ticked}
+use Rattle.site_core.specs.declared.fault.ReplayError.{ReplayError}
+use Rattle.rights_types.specs.Entries.{EntryValue}
+use Rattle.desk_turns.specs.Journaling.{ReplaysOwn}
 use Rattle.desk_turns.specs.Turns.{ServesDue}
 
 -- what a seat counts, and the states of the desk before and after each turn that was taken for it
@@ -31,3 +34,12 @@ pub record TicksAtDesk (silent : ℕ → Bool) (id : DeskId) (was : SeatedValue)
   pub one : now.states ≡ was.states ++ old ∷ new ∷ []
   pub valid : IsKept id old
   pub does : ServesDue silent old was.told time ticked new now.told
+
+-- in one turn, the entry of the site was written again, or refused
+pub record ReplaysAtDesk (id : DeskId) (e : EntryValue) (was : SeatedValue) (told : Result (Unit {0}) ReplayError)
+    (now : SeatedValue) : Type 0 where
+  pub old : KeptValue
+  pub new : KeptValue
+  pub one : now.states ≡ was.states ++ old ∷ new ∷ []
+  pub valid : IsKept id old
+  pub replays : ReplaysOwn e was.told old told now.told new

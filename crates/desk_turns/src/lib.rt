@@ -9,4 +9,7 @@ mod work;
 
 pub use seats::{Seated, Seats};
 pub use turns::{Look, TurnDesk, Turns};
-pub use work::{Act, ApplyReady, Tick, TickBeside, Work};
+pub use work::{
+    Act, ApplyReady, HandOver, HandedOver, KeepJournal, ReplayAsk, ReplayOwn, SkipTickets,
+    SkipUnpublished, Tick, TickBeside, Work,
+};

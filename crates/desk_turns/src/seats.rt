@@ -2,13 +2,13 @@
 ghost use Rattle.std.specs.Prelude.{◌≡◌, ◌+◌, ◌≤◌, false, [], IfOk, IfSome};
 ghost use Rattle.apply_lanes.specs.declared.names.TheConstants.{SEATS};
 ghost use Rattle.transfer_manager.specs.SiteSets.{has_site};
-ghost use Rattle.desk_turns.specs.Seated.{ActsAtDesk, TicksAtDesk};
+ghost use Rattle.desk_turns.specs.Seated.{ActsAtDesk, ReplaysAtDesk, TicksAtDesk};
 
 use crate::turns::{Look, TurnDesk, Turns};
-use crate::work::{Act, Tick, TickBeside};
+use crate::work::{Act, ReplayOwn, Tick, TickBeside};
 use apply_lanes::{DeskNames, Seat};
-use rights_types::OutOfMemory;
-use site_core::DeskError;
+use rights_types::{Entry, OutOfMemory};
+use site_core::{DeskError, ReplayError};
 use site_node::{Reply, Ticked};
 use site_words::DeskCommand;
 use std::alloc::Global;
@@ -131,6 +131,13 @@ impl<D: DeskNames> Seated<'_, D> {
     {
         self.turns
             .take(rt, TickBeside { time, silent }, &mut *self.seat)
+    }
+
+    /// Writes an entry of the site again, in one turn.
+    pub fn replay_own<R: Wait>(&mut self, rt: &R, entry: &Entry) -> Result<(), ReplayError>
+        ensures { ReplaysAtDesk D.id entry.now self.old result self.new }
+    {
+        self.turns.take(rt, ReplayOwn(entry), &mut *self.seat)
     }
 
     /// Waits until no other thread holds the desk, and holds it for reading.

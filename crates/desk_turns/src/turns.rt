@@ -11,16 +11,22 @@ use apply_lanes::{
     AdmitError, Applier, Blanks, DeskNames, Free, Kept, Outlet, Seat, SeatsFull, SharedDesk,
     StepError, pause,
 };
+use durability::Durability;
 use histories::History;
 use rights_types::SiteId;
 use site_core::Desk;
 use std::marker::Model;
 use std::sync::{Arc, MutexGuard, Wait};
 
+/// While more bytes of records than this wait for the journal, no turn begins that may make others.
+const MUCH_WAITING: usize = 1 << 17;
+
 /// A desk that threads share. Turns and appliers change it, and nothing else does.
 #[derive(Drop)]
 pub struct TurnDesk<D: DeskNames> {
     desk: SharedDesk<D>,
+    /// `None` without a journal.
+    durability: Option<Arc<Durability>>,
 }
 
 /// A desk that is held for reading. No thread changes it as long as this is not dropped.
@@ -35,6 +41,8 @@ pub struct Look<'a, D: DeskNames> {
 pub struct Turns<D: DeskNames> {
     desk: Arc<TurnDesk<D>>,
     states: History<Kept<D>>,
+    /// Whether the turns make room for records, and so wait for nobody that does.
+    makes_room: bool,
 }
 
 impl<D: DeskNames> Model for Turns<D> {
@@ -47,14 +55,16 @@ impl<D: DeskNames> Model for Turns<D> {
 }
 
 impl<D: DeskNames> TurnDesk<D> {
-    /// Shares a desk whose log is empty and that applied nothing.
-    pub fn new(desk: Desk, blanks: Blanks) -> TurnDesk<D>
+    /// Shares a desk whose log is empty and that applied nothing. With a journal, each turn notes how many records were
+    /// made.
+    pub fn new(desk: Desk, blanks: Blanks, durability: Option<Arc<Durability>>) -> TurnDesk<D>
         requires id { D.id ≡ id_of desk blanks }
         requires blanks { AreBlank blanks }
         requires unused { IsUnused desk }
     {
         TurnDesk {
             desk: SharedDesk::new(desk, blanks),
+            durability,
         }
     }
 
@@ -92,9 +102,48 @@ impl<D: DeskNames> TurnDesk<D> {
         }
     }
 
+    /// Notes how many records the desk has made, before its lock is given up.
+    fn note_made<R: Wait>(&self, rt: &R, kept: &Kept<D>) {
+        if let Some(durability) = &self.durability {
+            durability.note_made(rt, kept.records_made());
+        }
+    }
+
+    /// Waits until no other thread holds the desk, and holds it, for turns that make room for records or for others.
+    fn hold<'a, R: Wait>(&'a self, rt: &R, makes_room: bool) -> MutexGuard<'a, Kept<D>> {
+        if makes_room {
+            self.desk.lock(rt)
+        } else {
+            self.hold_with_room(rt)
+        }
+    }
+
+    /// The same, once there is room for more records, with a journal.
+    fn hold_with_room<'a, R: Wait>(&'a self, rt: &R) -> MutexGuard<'a, Kept<D>> {
+        for _ in rt.forever() {
+            let kept = self.desk.lock(rt);
+            if kept.bytes_waiting() <= MUCH_WAITING {
+                return kept;
+            }
+            drop(kept);
+            if !self.has_journal(rt) {
+                return self.desk.lock(rt);
+            }
+        }
+        unreachable!()
+    }
+
+    /// Waits until the journal has the records that were made by now. `false` if there is none that appends.
+    fn has_journal<R: Wait>(&self, rt: &R) -> bool {
+        match &self.durability {
+            Some(durability) => durability.wait_for_all(rt),
+            None => false,
+        }
+    }
+
     /// The desk itself, which no thread shares any more.
     pub fn into_desk(self) -> SharedDesk<D> {
-        let TurnDesk { desk } = self;
+        let TurnDesk { desk, .. } = self;
         desk
     }
 }
@@ -113,6 +162,18 @@ impl<D: DeskNames> Turns<D> {
         Turns {
             desk,
             states: History::new(),
+            makes_room: false,
+        }
+    }
+
+    /// The same for the one thread that appends to the journal, on which the others wait.
+    pub fn of_journal(desk: Arc<TurnDesk<D>>) -> Turns<D>
+        ensures { result ≡ [] }
+    {
+        Turns {
+            desk,
+            states: History::new(),
+            makes_room: true,
         }
     }
 
@@ -121,7 +182,7 @@ impl<D: DeskNames> Turns<D> {
         requires { W.may work }
         ensures { TakesTurn D.id (λ old new. W.does work with.old old result with.new new) self.old self.new }
     {
-        let mut kept = self.desk.desk.lock(rt);
+        let mut kept = self.desk.hold(rt, self.makes_room);
         let kept = &mut *kept;
         // For the proof: what holds whenever the lock is free.
         let _ = kept.desk();
@@ -129,6 +190,7 @@ impl<D: DeskNames> Turns<D> {
         let told = work.work(kept, with);
         let _ = kept.desk();
         self.states = states.and(kept);
+        self.desk.note_made(rt, kept);
         told
     }
 
@@ -136,7 +198,7 @@ impl<D: DeskNames> Turns<D> {
     /// how many, and `false` if End was taken. Errors: `LaneClosed`, without a turn; `OutOfStep` and `OutOfMemory`,
     /// which concern the entry then in hand.
     #[tactic(auto, using(crate::proofs::ApplyLaws::takes_batch, crate::proofs::ApplyLaws::takes_none))]
-    fn apply_batch<R: Wait>(
+    pub fn apply_batch<R: Wait>(
         &mut self,
         rt: &R,
         applier: &mut Applier<D, Free>,

@@ -1,10 +1,13 @@
 //! What may be done in a turn at a desk.
 ghost use Rattle.std.specs.Prelude.{ℕ};
 
-use apply_lanes::{Applier, DeskNames, Free, Kept, Seat, StepError};
-use site_core::DeskError;
+use apply_lanes::{Applier, DeskNames, Free, Kept, RecordLost, Seat, StepError};
+use rights_types::{Ask, Entry, SiteId};
+use site_core::{DeskError, ReplayError};
+use site_journal::Batch;
 use site_node::{Reply, Ticked, act, serve_due, serve_due_beside};
 use site_words::DeskCommand;
+use std::alloc::Global;
 use transfer_manager::SiteSet;
 
 /// The work of one turn at a desk.
@@ -116,5 +119,148 @@ impl<D: DeskNames> Work<D> for ApplyReady {
         with: &mut Applier<D, Free>,
     ) -> Result<(u64, bool), StepError> {
         with.apply_ready(kept)
+    }
+}
+
+/// To keep a journal from now on, which has all records so far.
+#[derive(Drop)]
+pub struct KeepJournal {
+    pub alloc: Global,
+    /// Where further records wait.
+    pub batch: Batch,
+    /// How many records the journal has.
+    pub made: u64,
+}
+
+impl<D: DeskNames> Work<D> for KeepJournal {
+    ghost use Rattle.std.specs.Prelude.{◌≡◌, []};
+    ghost use Rattle.site_journal.specs.Batch.{records_in};
+
+    type With = ();
+
+    type Told = ();
+
+    ghost may = { λ work. records_in work.batch ≡ [] };
+
+    ghost does = { λ _ _ old _ _ new. new ≡ record old { handed = old.records } };
+
+    fn work(self, kept: &mut Kept<D>, _with: &mut ()) {
+        kept.keep_journal(self.alloc, self.batch, self.made);
+    }
+}
+
+/// The lines of records that a journal is handed, and how many records were made by then.
+#[derive(Drop)]
+pub struct HandedOver {
+    pub batch: Batch,
+    pub made: u64,
+}
+
+/// To hand over the lines of the records that wait for the journal, for an empty batch. `None` without a journal.
+#[derive(Drop)]
+pub struct HandOver(pub Batch);
+
+impl<D: DeskNames> Work<D> for HandOver {
+    ghost use Rattle.std.specs.Prelude.{◌≡◌, []};
+    ghost use Rattle.site_journal.specs.Batch.{records_in};
+    ghost use Rattle.desk_turns.specs.Journaling.{HandsOver};
+
+    type With = ();
+
+    type Told = Result<Option<HandedOver>, RecordLost>;
+
+    ghost may = { λ work. records_in work.0 ≡ [] };
+
+    ghost does = { λ _ _ old told _ new. HandsOver old told new };
+
+    fn work(self, kept: &mut Kept<D>, _with: &mut ()) -> Result<Option<HandedOver>, RecordLost> {
+        let made = kept.records_made();
+        let Some(batch) = kept.hand_over(self.0)? else {
+            return Ok(None);
+        };
+        Ok(Some(HandedOver { batch, made }))
+    }
+}
+
+/// To write an entry of the site again, for a seat.
+#[derive(Drop)]
+pub struct ReplayOwn<'a>(pub &'a Entry);
+
+impl<'a, D: DeskNames> Work<D> for ReplayOwn<'a> {
+    ghost use Rattle.desk_turns.specs.Journaling.{ReplaysOwn};
+
+    type With = Seat<D>;
+
+    type Told = Result<(), ReplayError>;
+
+    ghost may = { λ _. Unit {0} };
+
+    ghost does = { λ work was old told now new. ReplaysOwn work.0.now was old told now new };
+
+    fn work(self, kept: &mut Kept<D>, with: &mut Seat<D>) -> Result<(), ReplayError> {
+        kept.replay_own(with, self.0)
+    }
+}
+
+/// To make an ask of the site again.
+#[derive(Drop)]
+pub struct ReplayAsk(pub Ask);
+
+impl<D: DeskNames> Work<D> for ReplayAsk {
+    ghost use Rattle.desk_turns.specs.Journaling.{ReplaysAsk};
+
+    type With = ();
+
+    type Told = Result<(), ReplayError>;
+
+    ghost may = { λ _. Unit {0} };
+
+    ghost does = { λ work _ old told _ new. ReplaysAsk work.0 old told new };
+
+    fn work(self, kept: &mut Kept<D>, _with: &mut ()) -> Result<(), ReplayError> {
+        kept.replay_ask(&self.0)
+    }
+}
+
+/// To give out no ticket up to this one.
+#[derive(Drop)]
+pub struct SkipTickets(pub u64);
+
+impl<D: DeskNames> Work<D> for SkipTickets {
+    ghost use Rattle.std.specs.Prelude.{◌≡◌};
+    ghost use Rattle.request_queue.specs.Queues.{without_tickets};
+
+    type With = ();
+
+    type Told = ();
+
+    ghost may = { λ _. Unit {0} };
+
+    ghost does = { λ work _ old _ _ new.
+        new ≡ record old { desk = record old.desk { queue = without_tickets old.desk.queue work.0 } } };
+
+    fn work(self, kept: &mut Kept<D>, _with: &mut ()) {
+        kept.skip_tickets(self.0);
+    }
+}
+
+/// To count all entries as published to this peer.
+#[derive(Drop)]
+pub struct SkipUnpublished(pub SiteId);
+
+impl<D: DeskNames> Work<D> for SkipUnpublished {
+    ghost use Rattle.std.specs.Prelude.{◌≡◌};
+    ghost use Rattle.site_core.specs.Calls.{after_skip};
+
+    type With = ();
+
+    type Told = ();
+
+    ghost may = { λ _. Unit {0} };
+
+    ghost does = { λ work _ old _ _ new. new ≡ record old { desk = after_skip old.desk work.0 } };
+
+    fn work(self, kept: &mut Kept<D>, _with: &mut ()) {
+        kept.skip_unpublished(self.0);
     }
 }
