@@ -1,0 +1,4 @@
+mod CheckLaws
+mod FirstLaws
+mod ReadingLaws
+mod Rows
