@@ -28,12 +28,12 @@ use Rattle.clap.proofs.FaultLemmas.{fault_ends, stopped_fault}
 use Rattle.clap.proofs.LexerLemmas.{name_and_value-without}
 use Rattle.clap.proofs.OnLiterals.{clap_on_literals}
 use Rattle.clap.proofs.WalkLemmas.{bundle_ends, walk_stopped}
-use Rattle.site_words.specs.Asked.{Asked, asked_behind_dashes, asked_behind_sim, asked_of_clap, asked_of_site}
-use Rattle.site_words.specs.Asked.{asks_for_help, help, nothing, script, site, version}
+use Rattle.site_words.specs.Asked.{Asked, asked_behind_dashes, asked_behind_sim, asked_of_check, asked_of_clap}
+use Rattle.site_words.specs.Asked.{asked_of_site, asks_for_help, help, journal, nothing, script, site, version}
 use Rattle.site_words.specs.CommandLine.{app}
-use Rattle.site_words.specs.Words.{AnswersMet, MayAnswer, MayRefuse, RunsBy, WantsHelp, is_refusal}
+use Rattle.site_words.specs.Words.{AnswersMet, ChecksBy, MayAnswer, MayRefuse, RunsBy, WantsHelp, is_refusal}
 use Rattle.site_words.specs.declared.words.Command.{Command}
-use Rattle.site_words.specs.declared.words.Command.TheVariants.{Sim, Run, Help, Version}
+use Rattle.site_words.specs.declared.words.Command.TheVariants.{Sim, Run, CheckJournal, Help, Version}
 use Rattle.site_words.specs.declared.words.WordsFault.{WordsFault}
 use Rattle.site_words.specs.declared.words.WordsFault.TheVariants.{OutOfMemory, Refused}
 
@@ -46,6 +46,7 @@ AreRefusals (k ∷ ks) = list_all is_refusal (k ∷ ks) ≡ true
 abbrev pub FaultsAs : Asked → Kinds → Type 0
 FaultsAs script kinds = kinds ≡ []
 FaultsAs (site known rows) kinds = kinds ≡ known
+FaultsAs (journal known rows) kinds = kinds ≡ known
 FaultsAs help kinds = kinds ≡ kind.DisplayHelp ∷ []
 FaultsAs version kinds = ⊥
 FaultsAs nothing kinds = AreRefusals kinds
@@ -312,34 +313,43 @@ run_named : (rest : List Text) → FaultsAs (asked_of_site (codes "run" ∷ rest
 unfolding asked_of_site
 run_named rest = refl
 
+check_named : (rest : List Text)
+    → FaultsAs (asked_of_check (codes "check-journal" ∷ rest)) (fault_of app (codes "check-journal" ∷ rest))
+unfolding asked_of_check
+check_named rest = refl
+
 -- the kinds of error that clap gives are those of what the words ask for
 pub faults_as_asked : (words : List Text) → FaultsAs (asked_of_clap words) (fault_of app words)
 unfolding clap_on_literals
 faults_as_asked [] = refl
 faults_as_asked (word ∷ rest) =
-    go (bytes_eq (codes "sim") word) (bytes_eq (codes "run") word) (bytes_eq word (codes "--")) refl refl refl
+    go (bytes_eq (codes "sim") word) (bytes_eq (codes "run") word) (bytes_eq (codes "check-journal") word)
+    (bytes_eq word (codes "--")) refl refl refl refl
   where
-    go : (names_sim names_run ends : Bool) → bytes_eq (codes "sim") word ≡ names_sim
-        → bytes_eq (codes "run") word ≡ names_run
+    go : (names_sim names_run names_check ends : Bool) → bytes_eq (codes "sim") word ≡ names_sim
+        → bytes_eq (codes "run") word ≡ names_run → bytes_eq (codes "check-journal") word ≡ names_check
         → bytes_eq word (codes "--") ≡ ends → FaultsAs (asked_of_clap (word ∷ rest)) (fault_of app (word ∷ rest))
-    go true names_run ends e r f =
+    go true names_run names_check ends e r k f =
         let is : codes "sim" ≡ word = (bytes_eq-Decides (codes "sim") word).0 e in
         subst (λ w. FaultsAs (asked_of_clap (w ∷ rest)) (fault_of app (w ∷ rest))) is (sim_named rest)
-    go false true ends e r f =
+    go false true names_check ends e r k f =
         let is : codes "run" ≡ word = (bytes_eq-Decides (codes "run") word).0 r in
         subst (λ w. FaultsAs (asked_of_clap (w ∷ rest)) (fault_of app (w ∷ rest))) is (run_named rest)
-    go false false true e r f =
+    go false false true ends e r k f =
+        let is : codes "check-journal" ≡ word = (bytes_eq-Decides (codes "check-journal") word).0 k in
+        subst (λ w. FaultsAs (asked_of_clap (w ∷ rest)) (fault_of app (w ∷ rest))) is (check_named rest)
+    go false false false true e r k f =
         let is : word ≡ codes "--" = (bytes_eq-Decides word (codes "--")).0 f in
         subst (λ w. FaultsAs (asked_of_clap (w ∷ rest)) (fault_of app (w ∷ rest))) (sym is) (dashes_first rest)
-    go false false false e r f =
+    go false false false false e r k f =
         let a = built app in
         let stop = (walk rules (names_of a) nothing_held (word ∷ rest)).stopped in
         let asks = asks_for_help word in
-        let none_met : subcommand_met (names_of a) idle word ≡ None = rw (e, r) refl in
+        let none_met : subcommand_met (names_of a) idle word ≡ None = rw (e, r, k) refl in
         let first : FaultsAs (help_or_nothing asks) (turn_fault a.top (names_of a) (walk_from nothing_held) word) =
         subst (λ o. FaultsAs (help_or_nothing asks) (turn (codes "rights-site") false true word o)) (sym none_met)
         (word_asks (codes "rights-site") false true word f) in
-        let asked_is : asked_of_clap (word ∷ rest) ≡ help_or_nothing asks = rw (e, r) refl in
+        let asked_is : asked_of_clap (word ∷ rest) ≡ help_or_nothing asks = rw (e, r, k) refl in
         subst (λ x. FaultsAs x (fault_of app (word ∷ rest))) (sym asked_is)
         (level_asks (codes "rights-site") false true word (names_of a) rest (is_some (entered a stop))
         (entered_fault a stop) asks first)
@@ -349,10 +359,11 @@ faults_as_asked (word ∷ rest) =
 abbrev Met : Type 0
 Met = Option (Text × List Row)
 
--- a script is asked for by `sim`, and a site by `run`, with the values that clap finds
+-- a script is asked for by `sim`, a site by `run` and a check by `check-journal`, with the values that clap finds
 abbrev pub MetAs : Asked → Met → Type 0
 MetAs script met = option_map (λ m. m.0) met ≡ Some (codes "sim")
 MetAs (site kinds rows) met = met ≡ Some (codes "run", rows)
+MetAs (journal kinds rows) met = met ≡ Some (codes "check-journal", rows)
 MetAs asked met = ⊤
 
 behind_sim_met : (rest : List Text) (met : Met) → option_map (λ m. m.0) met ≡ Some (codes "sim")
@@ -387,9 +398,27 @@ run_met rest =
     let met = run_rows rest in
     met.1 ∙ ap (λ (m : Met). Some (codes "run", option_map_or (λ m. m.1) m [])) (sym met.1)
 
+check_rows : (rest : List Text)
+    → (rows : List Row) × (subcommand_of app (codes "check-journal" ∷ rest) ≡ Some (codes "check-journal", rows))
+unfolding clap_on_literals
+check_rows rest =
+    let at_check : Walk = record (walk_from nothing_held) { stopped = Some (codes "check-journal", rest) } in
+    let stopped : walk rules (names_of (built app)) nothing_held (codes "check-journal" ∷ rest) ≡ at_check =
+    sym (walk_stopped rules (names_of (built app)) (walk_from nothing_held) (codes "check-journal") [] rest) in
+    (_, ap (λ (w : Walk). entered (built app) w.stopped) stopped)
+
+check_met : (rest : List Text)
+    → MetAs (asked_of_check (codes "check-journal" ∷ rest)) (subcommand_of app (codes "check-journal" ∷ rest))
+unfolding asked_of_check
+check_met rest =
+    let met = check_rows rest in
+    met.1 ∙ ap (λ (m : Met). Some (codes "check-journal", option_map_or (λ m. m.1) m [])) (sym met.1)
+
 pub met_as_asked : (words : List Text) → MetAs (asked_of_clap words) (subcommand_of app words)
 met_as_asked [] = tt
-met_as_asked (word ∷ rest) = go (bytes_eq (codes "sim") word) (bytes_eq (codes "run") word) refl refl
+met_as_asked (word ∷ rest)
+    = go (bytes_eq (codes "sim") word) (bytes_eq (codes "run") word) (bytes_eq (codes "check-journal") word)
+    refl refl refl
   where
     met : Met
     met = subcommand_of app (word ∷ rest)
@@ -398,17 +427,21 @@ met_as_asked (word ∷ rest) = go (bytes_eq (codes "sim") word) (bytes_eq (codes
     unmet true = tt
     unmet false = tt
 
-    go : (names_sim names_run : Bool) → bytes_eq (codes "sim") word ≡ names_sim
-        → bytes_eq (codes "run") word ≡ names_run → MetAs (asked_of_clap (word ∷ rest)) met
-    go true names_run e r =
+    go : (names_sim names_run names_check : Bool) → bytes_eq (codes "sim") word ≡ names_sim
+        → bytes_eq (codes "run") word ≡ names_run → bytes_eq (codes "check-journal") word ≡ names_check
+        → MetAs (asked_of_clap (word ∷ rest)) met
+    go true names_run names_check e r k =
         let is : codes "sim" ≡ word = (bytes_eq-Decides (codes "sim") word).0 e in
         subst (λ w. MetAs (asked_of_clap (w ∷ rest)) (subcommand_of app (w ∷ rest))) is
         (behind_sim_met rest _ (sim_met rest))
-    go false true e r =
+    go false true names_check e r k =
         let is : codes "run" ≡ word = (bytes_eq-Decides (codes "run") word).0 r in
         subst (λ w. MetAs (asked_of_clap (w ∷ rest)) (subcommand_of app (w ∷ rest))) is (run_met rest)
-    go false false e r =
-        let asked_is : asked_of_clap (word ∷ rest) ≡ help_or_nothing (asks_for_help word) = rw (e, r) refl in
+    go false false true e r k =
+        let is : codes "check-journal" ≡ word = (bytes_eq-Decides (codes "check-journal") word).0 k in
+        subst (λ w. MetAs (asked_of_clap (w ∷ rest)) (subcommand_of app (w ∷ rest))) is (check_met rest)
+    go false false false e r k =
+        let asked_is : asked_of_clap (word ∷ rest) ≡ help_or_nothing (asks_for_help word) = rw (e, r, k) refl in
         subst (λ x. MetAs x met) (sym asked_is) (unmet (asks_for_help word))
 
 -- ---- what a parse tells of the words
@@ -423,6 +456,7 @@ no_help_among (k ∷ ks) h (inr among) = no_help_among ks (and_parts (is_refusal
 help_asked : (a : Asked) (kinds : Kinds) → FaultsAs a kinds → IsAmong kind.DisplayHelp kinds → WantsHelp a
 help_asked script kinds h among = absurd (subst (IsAmong kind.DisplayHelp) h among)
 help_asked (site known rows) kinds h among = subst (IsAmong kind.DisplayHelp) h among
+help_asked (journal known rows) kinds h among = subst (IsAmong kind.DisplayHelp) h among
 help_asked help kinds h among = tt
 help_asked version kinds h among = absurd h
 help_asked nothing [] h among = absurd h
@@ -439,6 +473,7 @@ refusal_asked : (a : Asked) (kinds : Kinds) (k : ErrorKind) → FaultsAs a kinds
     → (k ≡ kind.DisplayHelp → ⊥) → is_refusal k ≡ true → MayRefuse a
 refusal_asked script kinds k h among other refusal = absurd (subst (IsAmong k) h among)
 refusal_asked (site known rows) kinds k h among other refusal = inl (k, subst (IsAmong k) h among, refusal)
+refusal_asked (journal known rows) kinds k h among other refusal = inl (k, subst (IsAmong k) h among, refusal)
 refusal_asked help kinds k h among other refusal
     = absurd (⊎_elim other (λ none. absurd none) (subst (IsAmong k) h among))
 refusal_asked version kinds k h among other refusal = absurd h
@@ -455,11 +490,13 @@ is_simple_too = (and_parts (is_simple app) _ simple).0
 abbrev pub ParsedAs : Asked → Met → Type 0
 ParsedAs script met = option_map (λ m. m.0) met ≡ Some (codes "sim")
 ParsedAs (site kinds rows) met = (kinds ≡ []) × (met ≡ Some (codes "run", rows))
+ParsedAs (journal kinds rows) met = (kinds ≡ []) × (met ≡ Some (codes "check-journal", rows))
 ParsedAs asked met = ⊥
 
 parsed_as : (a : Asked) (met : Met) (kinds : Kinds) → FaultsAs a kinds → kinds ≡ [] → MetAs a met → ParsedAs a met
 parsed_as script met kinds h none m = m
 parsed_as (site known rows) met kinds h none m = (sym h ∙ none, m)
+parsed_as (journal known rows) met kinds h none m = (sym h ∙ none, m)
 parsed_as help met kinds h none m = cc
 parsed_as version met kinds h none m = absurd h
 parsed_as nothing met [] h none m = h
@@ -477,11 +514,22 @@ parsed_answers (site kinds rows) met r parsed h = go r (h.1 rows parsed.1)
   where
     go : (r : Result Command WordsFault) → RunsBy rows r → MayAnswer (site kinds rows) r
     go (Ok (Run s)) runs = (parsed.0, runs)
+    go (Ok (CheckJournal check)) runs = absurd runs
     go (Ok Sim) runs = absurd runs
     go (Ok (Help text)) runs = absurd runs
     go (Ok Version) runs = absurd runs
     go (Err Refused) runs = inr (parsed.0, runs)
     go (Err OutOfMemory) runs = λ same. cc
+parsed_answers (journal kinds rows) met r parsed h = go r (h.2 rows parsed.1)
+  where
+    go : (r : Result Command WordsFault) → ChecksBy rows r → MayAnswer (journal kinds rows) r
+    go (Ok (CheckJournal check)) checks = (parsed.0, checks)
+    go (Ok (Run s)) checks = absurd checks
+    go (Ok Sim) checks = absurd checks
+    go (Ok (Help text)) checks = absurd checks
+    go (Ok Version) checks = absurd checks
+    go (Err Refused) checks = inr (parsed.0, checks)
+    go (Err OutOfMemory) checks = λ same. cc
 parsed_answers help met r parsed h = absurd parsed
 parsed_answers version met r parsed h = absurd parsed
 parsed_answers nothing met r parsed h = absurd parsed

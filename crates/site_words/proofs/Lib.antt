@@ -1,4 +1,6 @@
+mod CheckLaws
 mod CommandWords
+mod Entrances
 mod Found
 mod Parsers
 mod Peers

@@ -1,6 +1,6 @@
 -- The other sites, and the words that name them.
 use Rattle.std.proofs.Common.{◌≡◌, ◌≢◌, ◌∙◌, ◌==◌, ◌<◌, ◌≤◌, ◌+◌, ◌++◌, ℕ, Bool, true, false, zero, suc, List, [], ◌∷◌}
-use Rattle.std.proofs.Common.{length, map, refl, sym, ap, ap₂, subst, arith, get_or, ◌^◌, Bor, Some, None, inl, inr}
+use Rattle.std.proofs.Common.{length, map, refl, sym, ap, ap₂, subst, arith, get_or, ◌^◌, Bor, Option, Some, None, inl, inr}
 use Rattle.std.proofs.Common.{true≢false}
 use Rattle.std.specs.Prelude.{◌⊎◌, decimal}
 use Rattle.std.proofs.lemmas.Str.Pattern.{IsSplitOnceResult, split_after}
@@ -13,7 +13,7 @@ use Rattle.clap.specs.Walk.{Text, texts}
 use Rattle.site_words.specs.Settings.{HasValues, IsNamed, IsSettings, Lacks, Options, Peer, Settings, others, peer_word}
 
 -- `=` is not a digit
-no_break : (n : ℕ) → n < 2 ^ 64 → (i : ℕ) → i < length (decimal n) → get_or (decimal n) i 0 ≢ 61
+pub no_break : (n : ℕ) → n < 2 ^ 64 → (i : ℕ) → i < length (decimal n) → get_or (decimal n) i 0 ≢ 61
 no_break n fits i lt e =
     let lacks = decimal_lacks 61 n (inr (omega arith, omega arith)) fits i 0 lt in
     let bad : true ≡ false = rw e at lacks in
@@ -84,7 +84,7 @@ peer_added words id n ps qs p grown other site named before =
     ) in
     subst (AreUpTo words id (n + 1)) (sym grown) both
 
-up_to : (i k : ℕ) → k < i + 1 → (k < i) ⊎ (k ≡ i)
+pub up_to : (i k : ℕ) → k < i + 1 → (k < i) ⊎ (k ≡ i)
 up_to i k lt = go (k == i) refl
   where
     go : (here : Bool) → (k == i) ≡ here → (k < i) ⊎ (k ≡ i)
@@ -105,13 +105,14 @@ one_more words i site d within before here p k same lt named = elim (up_to i k l
       ∙ ap (λ (n : ℕ). decimal n ++ 61 ∷ p.address) same)
 ]
 
-no_peer : Peer
+pub no_peer : Peer
 no_peer = record { site = 0; address = [] }
 
 -- if no word names one of the others, no settings have these values
-pub lacking : (id sites : ℕ) (listen : Text) (words : List Text) (options : Options) → Lacks id sites words
-    → (s : Settings) → IsSettings s → HasValues id sites listen words options s → ⊥
-lacking id sites listen words options lacks s valid has =
+pub lacking : (id sites : ℕ) (listen : Option Text) (words froms : List Text) (options : Options)
+    → Lacks id sites words
+    → (s : Settings) → IsSettings s → HasValues id sites listen words froms options s → ⊥
+lacking id sites listen words froms options lacks s valid has =
     let k = lacks.1.0 in
     let peer : Peer = slice_index_or s.peers k no_peer in
     let listed : map (λ p. p.site) s.peers ≡ others id sites = rw (← has.same_id, ← has.same_sites) valid.peers in

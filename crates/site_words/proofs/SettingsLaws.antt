@@ -1,6 +1,6 @@
 -- Settings that are asked for, or refused.
 use Rattle.std.proofs.Common.{◌≡◌, ◌∙◌, ◌<◌, ◌^◌, inl, inr, ℕ, Bool, true, false, List, Option, Some, None, Result, Ok, Err, refl}
-use Rattle.std.proofs.Common.{sym, ap, subst, arith, codes}
+use Rattle.std.proofs.Common.{sym, ap, subst, arith, codes, []}
 use Rattle.std.specs.Prelude.{IfSome, IsErrAnd, MatchResult, option_map, unwrap_or}
 use Rattle.std.proofs.lemmas.Result.{err_from_is_err_and}
 use Rattle.std.specs.Str.Parse.{digits_value, without_leading_plus}
@@ -73,9 +73,21 @@ log_once rows false false one two = refl
 log_once rows true false one two = absurd (texts_differ (some_same (sym one ∙ two)))
 log_once rows false true one two = absurd (texts_differ (some_same (sym two ∙ one)))
 
-abbrev options_with : Option Text → List Text → Option ℕ → Option ℕ → Option Text → Bool → Options
-options_with http hosts tick silent once log
-    = record { http = http; hosts = hosts; tick = tick; silent = silent; once = once; log = log }
+-- the options but those of a journal
+abbrev options_with : Options → Option Text → List Text → Option ℕ → Option ℕ → Option Text → Bool → Options
+options_with o http hosts tick silent once log = record {
+  http = http;
+  hosts = hosts;
+  tick = tick;
+  silent = silent;
+  once = once;
+  journal = o.journal;
+  system = o.system;
+  log = log;
+}
+
+abbrev journaled_by : Options → Option Text → Option Text → Options
+journaled_by o journal system = record o { journal = journal; system = system }
 
 -- clap found one value of each option
 options_once : (rows : List Row) (o p : Options) → AreFound rows o → AreFound rows p → o ≡ p
@@ -86,39 +98,48 @@ options_once rows o p one two =
     let silent : o.silent ≡ p.silent = optional_once rows (codes "silent") o.silent p.silent one.silent two.silent in
     let once : o.once ≡ p.once = sym one.once ∙ two.once in
     let log : o.log ≡ p.log = log_once rows o.log p.log one.log two.log in
-    ap (λ (h : Option Text). options_with h o.hosts o.tick o.silent o.once o.log) http
-    ∙ (ap (λ (hs : List Text). options_with p.http hs o.tick o.silent o.once o.log) hosts
-    ∙ (ap (λ (t : Option ℕ). options_with p.http p.hosts t o.silent o.once o.log) tick
-    ∙ (ap (λ (t : Option ℕ). options_with p.http p.hosts p.tick t o.once o.log) silent
-    ∙ (ap (λ (f : Option Text). options_with p.http p.hosts p.tick p.silent f o.log) once
-    ∙ ap (λ (l : Bool). options_with p.http p.hosts p.tick p.silent p.once l) log))))
+    let journal : o.journal ≡ p.journal = sym one.journal ∙ two.journal in
+    let system : o.system ≡ p.system = sym one.system ∙ two.system in
+    ap (λ (h : Option Text). options_with o h o.hosts o.tick o.silent o.once o.log) http
+    ∙ (ap (λ (hs : List Text). options_with o p.http hs o.tick o.silent o.once o.log) hosts
+    ∙ (ap (λ (t : Option ℕ). options_with o p.http p.hosts t o.silent o.once o.log) tick
+    ∙ (ap (λ (t : Option ℕ). options_with o p.http p.hosts p.tick t o.once o.log) silent
+    ∙ (ap (λ (f : Option Text). options_with o p.http p.hosts p.tick p.silent f o.log) once
+    ∙ (ap (λ (l : Bool). options_with o p.http p.hosts p.tick p.silent p.once l) log
+    ∙ (ap (λ (j : Option Text). journaled_by p j o.system) journal
+    ∙ ap (λ (n : Option Text). journaled_by p p.journal n) system))))))
 
 -- the settings of the values that clap found are those that it found
-pub values_found : (rows : List Row) (id sites : ℕ) (listen : Text) (words : List Text) (options : Options)
+pub values_found : (rows : List Row) (id sites : ℕ) (listen : Option Text) (words froms : List Text) (options : Options)
     → HasNumber rows (codes "id") id
-    → HasNumber rows (codes "sites") sites → first_of (codes "listen") rows ≡ Some listen
-    → all_of (codes "peer") rows ≡ Some words
-    → AreFound rows options → (r : Result Settings WordsFault) → IsSetBy (HasValues id sites listen words options) r
+    → HasNumber rows (codes "sites") sites → first_of (codes "listen") rows ≡ listen
+    → all_of (codes "peer") rows ≡ Some words → unwrap_or (all_of (codes "from") rows) [] ≡ froms
+    → AreFound rows options → (r : Result Settings WordsFault)
+    → IsSetBy (HasValues id sites listen words froms options) r
     → IsSetBy (IsFound rows) r
-values_found rows id sites listen words options has_id has_sites has_listen has_words has_options (Ok s) set = (
-  set.0,
-  record {
-    id = subst (HasNumber rows (codes "id")) (sym set.1.same_id) has_id;
-    sites = subst (HasNumber rows (codes "sites")) (sym set.1.same_sites) has_sites;
-    listen = has_listen ∙ ap Some (sym set.1.same_listen);
-    words = words;
-    given = has_words;
-    peers = set.1.names;
-    options = subst (AreFound rows) (sym set.1.same_options) has_options;
-  },
-)
-values_found rows id sites listen words options has_id has_sites has_listen has_words has_options (Err Refused) set
+values_found rows id sites listen words froms options has_id has_sites has_listen has_words has_froms has_options
+    (Ok s) set = (
+      set.0,
+      record {
+        id = subst (HasNumber rows (codes "id")) (sym set.1.same_id) has_id;
+        sites = subst (HasNumber rows (codes "sites")) (sym set.1.same_sites) has_sites;
+        listen = has_listen ∙ sym set.1.same_listen;
+        entrances = set.1.same_entrances ∙ sym has_froms;
+        words = words;
+        given = has_words;
+        peers = set.1.names;
+        options = subst (AreFound rows) (sym set.1.same_options) has_options;
+      },
+    )
+values_found rows id sites listen words froms options has_id has_sites has_listen has_words has_froms has_options
+    (Err Refused) set
     = λ s valid found. set s valid (record {
       same_id = number_once rows (codes "id") s.id id found.id has_id;
       same_sites = number_once rows (codes "sites") s.sites sites found.sites has_sites;
-      same_listen = some_same (sym found.listen ∙ has_listen);
+      same_listen = sym found.listen ∙ has_listen;
+      same_entrances = found.entrances ∙ has_froms;
       same_options = options_once rows s.options options found.options has_options;
       names = subst (λ ws. Names ws s) (some_same (sym found.given ∙ has_words)) found.peers;
     })
-values_found rows id sites listen words options has_id has_sites has_listen has_words has_options (Err OutOfMemory) set
-    = tt
+values_found rows id sites listen words froms options has_id has_sites has_listen has_words has_froms has_options
+    (Err OutOfMemory) set = tt

@@ -1,9 +1,10 @@
 -- The text of the status object, which has only whole numbers and truth values.
-use Rattle.std.proofs.Common.{◌≡◌, ◌∙◌, ℕ, List, [], ◌∷◌, map, false, refl, ap}
+use Rattle.std.proofs.Common.{◌≡◌, ◌∙◌, ℕ, List, [], ◌∷◌, Option, Some, None, map, false, refl, ap}
 use Rattle.serde_json.specs.Data.{Data}
 use Rattle.serde_json.specs.View.{items_of}
 use Rattle.serde_json.specs.Written.{has_float, items_have_float, compact_text}
 use Rattle.thread_parts.specs.declared.view.DeskView.{DeskView}
+use Rattle.site_words.specs.declared.status_object.JournalView.{JournalView}
 use Rattle.site_words.specs.declared.status_object.PeerView.{PeerView}
 use Rattle.site_words.specs.Status.{peer_data, status_data, status_text}
 
@@ -11,9 +12,12 @@ no_float_in_peers : (peers : List PeerView) → items_have_float (items_of (map 
 no_float_in_peers [] = refl
 no_float_in_peers (peer ∷ peers) = no_float_in_peers peers
 
-no_float : (desk : DeskView) (peers : List PeerView) → has_float (status_data desk peers) ≡ false
-no_float desk peers = rw (no_float_in_peers peers) refl
+no_float : (desk : DeskView) (peers : List PeerView) (journal : Option JournalView)
+    → has_float (status_data desk peers journal) ≡ false
+no_float desk peers None = rw (no_float_in_peers peers) refl
+no_float desk peers (Some journal) = rw (no_float_in_peers peers) refl
 
-pub text_of : (desk : DeskView) (peers : List PeerView) (d : Data) (text : List ℕ) → d ≡ status_data desk peers
-    → (has_float d ≡ false → text ≡ compact_text d) → text ≡ status_text desk peers
-text_of desk peers d text same h = h (ap has_float same ∙ no_float desk peers) ∙ ap compact_text same
+pub text_of : (desk : DeskView) (peers : List PeerView) (journal : Option JournalView) (d : Data) (text : List ℕ)
+    → d ≡ status_data desk peers journal → (has_float d ≡ false → text ≡ compact_text d)
+    → text ≡ status_text desk peers journal
+text_of desk peers journal d text same h = h (ap has_float same ∙ no_float desk peers journal) ∙ ap compact_text same

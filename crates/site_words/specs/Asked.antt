@@ -14,6 +14,8 @@ pub data Asked : Type 0 where
   -- the words begin with `run`: the kinds of error that clap reports for them; if there is none, the values that it
   -- finds
   site : Kinds → List Row → Asked
+  -- the same for words that begin with `check-journal`
+  journal : Kinds → List Row → Asked
   help : Asked
   version : Asked
   nothing : Asked
@@ -38,9 +40,17 @@ asked_behind_sim (word ∷ rest) =
     if bytes_eq word (codes "--") then asked_behind_dashes rest
     else (if asks_for_help word then help else nothing)
 
+-- the values that clap finds behind a command
+abbrev pub rows_behind : List Text → List Row
+rows_behind words = option_map_or (λ met. met.1) (subcommand_of app words) []
+
 -- what words that begin with `run` ask for
 unfoldable pub asked_of_site : List Text → Asked
-asked_of_site words = site (fault_of app words) (option_map_or (λ met. met.1) (subcommand_of app words) [])
+asked_of_site words = site (fault_of app words) (rows_behind words)
+
+-- .. and those that begin with `check-journal`
+unfoldable pub asked_of_check : List Text → Asked
+asked_of_check words = journal (fault_of app words) (rows_behind words)
 
 -- what the words ask for, as clap sees them
 abbrev pub asked_of_clap : List Text → Asked
@@ -48,7 +58,8 @@ asked_of_clap [] = nothing
 asked_of_clap (word ∷ rest) =
     if bytes_eq (codes "sim") word then asked_behind_sim rest
     else (if bytes_eq (codes "run") word then asked_of_site (word ∷ rest)
-    else (if asks_for_help word then help else nothing))
+    else (if bytes_eq (codes "check-journal") word then asked_of_check (word ∷ rest)
+    else (if asks_for_help word then help else nothing)))
 
 -- the first word is `--version`, or `-V`
 abbrev pub asks_for_version : List Text → Bool

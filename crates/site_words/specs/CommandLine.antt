@@ -32,6 +32,10 @@ silent_rule = record (value_rule (codes "silent")) { parser = Some (Unsigned 0 M
 abbrev pub host_rule : Rule
 host_rule = record (value_rule (codes "host")) { action = Some Append }
 
+-- the entrances of peers: an option that may occur several times
+abbrev pub from_rule : Rule
+from_rule = record (value_rule (codes "from")) { action = Some Append }
+
 -- an option that takes no value
 abbrev pub flag_rule : Text → Rule
 flag_rule name = record (new_rule name) { long = Some name; action = Some SetTrue }
@@ -50,20 +54,27 @@ run_numbers_shape = record (new_shape (codes "run")) {
   rules = number_rule (codes "id") 1 MAX_SITES ∷ number_rule (codes "sites") MIN_SITES MAX_SITES ∷ [];
 }
 
--- .. and with everything that it requires
-abbrev pub required_shape : Shape
-required_shape = record (new_shape (codes "run")) {
+-- .. and with the addresses of the site and of its peers
+abbrev pub addresses_shape : Shape
+addresses_shape = record (new_shape (codes "run")) {
   rules = number_rule (codes "id") 1 MAX_SITES ∷ number_rule (codes "sites") MIN_SITES MAX_SITES
-      ∷ option_rule (codes "listen") ∷ peer_rule ∷ [];
+      ∷ value_rule (codes "listen") ∷ from_rule ∷ peer_rule ∷ [];
 }
 
 abbrev pub run_shape : Shape
 run_shape = record (new_shape (codes "run")) {
   rules = number_rule (codes "id") 1 MAX_SITES ∷ number_rule (codes "sites") MIN_SITES MAX_SITES
-      ∷ option_rule (codes "listen") ∷ peer_rule
+      ∷ value_rule (codes "listen") ∷ from_rule ∷ peer_rule
       ∷ value_rule (codes "http") ∷ host_rule ∷ tick_rule ∷ silent_rule ∷ value_rule (codes "once")
-      ∷ flag_rule (codes "log") ∷ [];
+      ∷ value_rule (codes "journal") ∷ value_rule (codes "system") ∷ flag_rule (codes "log") ∷ [];
 }
+
+-- the path of a journal
+abbrev pub file_rule : Rule
+file_rule = record (new_rule (codes "file")) { value_names = 1; required = true }
+
+abbrev pub check_shape : Shape
+check_shape = record (new_shape (codes "check-journal")) { rules = file_rule ∷ flag_rule (codes "json") ∷ [] }
 
 -- the program's name is not among the words, one of its commands is required, and `help` is not a command
 abbrev pub app : App
@@ -74,5 +85,5 @@ app = record {
     disable_help_subcommand = true;
     subcommand_required = true;
   };
-  subs = new_shape (codes "sim") ∷ run_shape ∷ [];
+  subs = new_shape (codes "sim") ∷ run_shape ∷ check_shape ∷ [];
 }

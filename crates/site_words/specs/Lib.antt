@@ -1,7 +1,9 @@
 pub mod Asked
+pub mod Checks
 pub mod CommandLine
 pub mod Commands
 pub mod Faults
+pub mod Names
 pub mod Settings
 pub mod Status
 pub mod Words

@@ -7,10 +7,12 @@ ghost use Rattle.clap.specs.Walk.{texts, Text};
 ghost use Rattle.rights_types.specs.Ranges.{IsSite};
 ghost use Rattle.rights_types.specs.declared.limits.TheConstants.{MAX_SITES};
 ghost use Rattle.site_words.specs.Settings.{HasValues, IsNamed, IsSettings, IsSilence, IsTick, Lacks, others, peer_word};
+ghost use Rattle.site_words.specs.Settings.{AreEntrances, IsJournaling, IsOther, Peer, has_entrance, is_admitted};
 ghost use Rattle.site_words.specs.Settings.{silent_after};
 ghost use Rattle.site_words.specs.Words.{IsSetBy};
 ghost use Rattle.site_words.specs.declared.words.WordsFault.{WordsFault};
 
+use crate::name::is_system_name;
 use crate::words::WordsFault;
 use entry_codec::read_decimal;
 use rights_types::{MAX_SITES, MIN_SITES, SiteId};
@@ -35,7 +37,7 @@ pub const USUAL_SILENCE: u64 = 3_000;
 /// .. and of how many of the site's own ticks that time is at least.
 pub const TICKS_OF_SILENCE: u64 = 10;
 
-/// The address at which a peer listens.
+/// A peer, and an address: where it listens, or the one at which this site lets it in.
 #[derive(Drop)]
 pub struct PeerAddress {
     site: SiteId,
@@ -75,6 +77,8 @@ pub(crate) struct OptionValues<'a> {
     pub(crate) tick: Option<u64>,
     pub(crate) silent: Option<u64>,
     pub(crate) once: Option<&'a str>,
+    pub(crate) journal: Option<&'a str>,
+    pub(crate) system: Option<&'a str>,
     pub(crate) log: bool,
 }
 
@@ -91,6 +95,8 @@ impl<'a> Model for OptionValues<'a> {
       tick = values.tick;
       silent = values.silent;
       once = option_map (λ s. s.now) values.once;
+      journal = option_map (λ s. s.now) values.journal;
+      system = option_map (λ s. s.now) values.system;
       log = values.log;
     } };
 }
@@ -100,13 +106,16 @@ impl<'a> Model for OptionValues<'a> {
 pub struct Config {
     id: SiteId,
     sites: u64,
-    listen: String,
+    listen: Option<String>,
     peers: Vec<PeerAddress>,
+    entrances: Vec<PeerAddress>,
     http: Option<String>,
     hosts: Vec<String>,
     tick: Option<u64>,
     silent: Option<u64>,
     once: Option<String>,
+    journal: Option<String>,
+    system: Option<String>,
     log: bool,
 }
 
@@ -120,14 +129,17 @@ impl Model for Config {
     ghost view = { λ config. record {
       id = config.id;
       sites = config.sites;
-      listen = string_bytes config.listen;
+      listen = option_map string_bytes config.listen;
       peers = config.peers.items;
+      entrances = config.entrances.items;
       options = record {
         http = option_map string_bytes config.http;
         hosts = map string_bytes config.hosts.items;
         tick = config.tick;
         silent = config.silent;
         once = option_map string_bytes config.once;
+        journal = option_map string_bytes config.journal;
+        system = option_map string_bytes config.system;
         log = config.log;
       };
     } };
@@ -135,14 +147,17 @@ impl Model for Config {
     ghost invariant = { λ config. IsSettings (record {
       id = config.id;
       sites = config.sites;
-      listen = string_bytes config.listen;
+      listen = option_map string_bytes config.listen;
       peers = config.peers.items;
+      entrances = config.entrances.items;
       options = record {
         http = option_map string_bytes config.http;
         hosts = map string_bytes config.hosts.items;
         tick = config.tick;
         silent = config.silent;
         once = option_map string_bytes config.once;
+        journal = option_map string_bytes config.journal;
+        system = option_map string_bytes config.system;
         log = config.log;
       };
     }) };
@@ -165,12 +180,13 @@ impl Config {
         self.sites
     }
 
-    /// The address that it listens on, as the words have it.
-    pub fn listen(&self) -> &str
-        ensures value { result.now ≡ self.now.listen }
+    /// The address that it listens on for each peer that has no entrance of its own, as the words have it. None only if
+    /// every peer has one.
+    pub fn listen(&self) -> Option<&str>
+        ensures value { option_map (λ s. s.now) result ≡ self.now.listen }
         ensures valid { IsSettings self.now }
     {
-        self.listen.as_str()
+        self.listen.as_deref()
     }
 
     /// The other sites, by number, each once.
@@ -179,6 +195,26 @@ impl Config {
         ensures valid { IsSettings self.now }
     {
         self.peers.as_slice()
+    }
+
+    /// The entrances: the peers that may connect at one address only, each once, with that address of this site.
+    pub fn entrances(&self) -> &[PeerAddress]
+        ensures value { result.now ≡ self.now.entrances }
+        ensures valid { IsSettings self.now }
+    {
+        self.entrances.as_slice()
+    }
+
+    /// Whether a connection whose first line names this peer is taken: at the entrance of `owner`, or at the address
+    /// that the peers share if `owner` is None.
+    pub fn admits(&self, owner: Option<SiteId>, peer: SiteId) -> bool
+        ensures value { result ≡ is_admitted self.now.entrances owner peer }
+        ensures valid { IsSettings self.now }
+    {
+        match owner {
+            Some(owner) => owner == peer,
+            None => !has_entrance(self.entrances.as_slice(), peer.number()),
+        }
     }
 
     /// The address at which it also serves HTTP, as the words have it; None if it does not.
@@ -228,6 +264,23 @@ impl Config {
         self.once.as_deref()
     }
 
+    /// The path of its journal, as the words have it; None if it has none. A site with a journal has no file of `once`.
+    pub fn journal(&self) -> Option<&str>
+        ensures value { option_map (λ s. s.now) result ≡ self.now.options.journal }
+        ensures valid { IsSettings self.now }
+    {
+        self.journal.as_deref()
+    }
+
+    /// The name of the system, which a new journal gets: 1 to 32 letters, digits and hyphens. None if it has none, as
+    /// a site without a journal.
+    pub fn system(&self) -> Option<&str>
+        ensures value { option_map (λ s. s.now) result ≡ self.now.options.system }
+        ensures valid { IsSettings self.now }
+    {
+        self.system.as_deref()
+    }
+
     /// Whether it logs events on links and clients to standard error.
     pub fn log(&self) -> bool
         ensures value { result ≡ self.now.options.log }
@@ -236,17 +289,20 @@ impl Config {
         self.log
     }
 
-    /// The configuration with these values, where each of the `words` names a peer. `Refused` if a value is out of
-    /// range, or if the peers are not exactly the other sites.
+    /// The configuration with these values, where each of the `words` names a peer, and each of `froms` an entrance.
+    /// `Refused` if a value is out of range, if the peers are not exactly the other sites, if an entrance is of no other
+    /// site or a second one, or if a peer could not come in.
     pub(crate) fn of_words(
         alloc: Global,
         id: u64,
         sites: u64,
-        listen: &str,
+        listen: Option<&str>,
         words: &[&str],
+        froms: &[&str],
         options: OptionValues<'_>,
     ) -> Result<Config, WordsFault>
-        ensures { IsSetBy (HasValues id sites listen.now (texts words.now) options.entry) result }
+        ensures { IsSetBy (HasValues id sites (option_map (λ s. s.now) listen.entry) (texts words.now)
+            (texts froms.now) options.entry) result }
     {
         if id < 1 || id > sites || sites < MIN_SITES || sites > MAX_SITES {
             return Err(WordsFault::Refused);
@@ -254,19 +310,28 @@ impl Config {
         if words.len() as u64 != sites - 1 {
             return Err(WordsFault::Refused);
         }
+        if listen.is_none() && froms.len() as u64 != sites - 1 {
+            return Err(WordsFault::Refused);
+        }
         if !is_tick(options.tick) || !is_silence(options.silent) {
+            return Err(WordsFault::Refused);
+        }
+        if !is_journaling(options.once, options.journal, options.system) {
             return Err(WordsFault::Refused);
         }
         Ok(Config {
             id: SiteId::known(id),
             sites,
-            listen: String::from_str(alloc, listen)?,
+            listen: owned(alloc, listen)?,
             peers: other_peers(alloc, id, sites, words)?,
+            entrances: entrances_of(alloc, id, sites, froms)?,
             http: owned(alloc, options.http)?,
             hosts: owned_all(alloc, options.hosts)?,
             tick: options.tick,
             silent: options.silent,
             once: owned(alloc, options.once)?,
+            journal: owned(alloc, options.journal)?,
+            system: owned(alloc, options.system)?,
             log: options.log,
         })
     }
@@ -292,6 +357,23 @@ fn is_silence(time: Option<u64>) -> bool
         Some(milliseconds) => {
             milliseconds == 0 || milliseconds >= MIN_SILENCE && milliseconds <= MAX_SILENCE
         }
+        None => true,
+    }
+}
+
+/// Whether a site may have these: a file that it creates at its start or a journal, and a name of its system only
+/// beside a journal.
+fn is_journaling(once: Option<&str>, journal: Option<&str>, system: Option<&str>) -> bool
+    ensures yes { result ≡ true → IsJournaling (option_map (λ s. s.now) once.entry)
+        (option_map (λ s. s.now) journal.entry) (option_map (λ s. s.now) system.entry) }
+    ensures no { result ≡ false → IsJournaling (option_map (λ s. s.now) once.entry)
+        (option_map (λ s. s.now) journal.entry) (option_map (λ s. s.now) system.entry) → ⊥ }
+{
+    if once.is_some() && journal.is_some() {
+        return false;
+    }
+    match system {
+        Some(name) => journal.is_some() && is_system_name(name.as_bytes()),
         None => true,
     }
 }
@@ -342,6 +424,60 @@ fn other_peers(
         })?;
     }
     Ok(peers)
+}
+
+/// The entrances that these words name.
+fn entrances_of(
+    alloc: Global,
+    id: u64,
+    sites: u64,
+    words: &[&str],
+) -> Result<Vec<PeerAddress>, WordsFault>
+    requires { sites ≤ MAX_SITES }
+    ensures { MatchResult result
+        (λ ps. AreEntrances id sites ps.items × (map peer_word ps.items ≡ texts words.now))
+        (λ fault. fault ≡ WordsFault.Refused
+        → (ps : List Peer) → AreEntrances id sites ps → map peer_word ps ≡ texts words.now → ⊥) }
+{
+    let mut entrances = Vec::new(alloc);
+    for word in words {
+        let (site, address) = entrance_of(word, id, sites).ok_or(WordsFault::Refused)?;
+        if has_entrance(entrances.as_slice(), site) {
+            return Err(WordsFault::Refused);
+        }
+        let address = String::from_str(alloc, address)?;
+        entrances.push(PeerAddress {
+            site: SiteId::known(site),
+            address,
+        })?;
+    }
+    Ok(entrances)
+}
+
+/// The site and the address in a word `J=ADDRESS`, if J is another site.
+fn entrance_of(word: &str, id: u64, sites: u64) -> Option<(u64, &str)>
+    requires { sites ≤ MAX_SITES }
+    ensures { MatchOption result
+        ((p : Peer) → IsOther id sites p.site → word.now ≡ peer_word p → ⊥)
+        (λ found. IsOther id sites found.0
+        × (word.now ≡ peer_word (record { site = found.0; address = found.1.now }))) }
+{
+    let (number, address) = word.split_once('=')?;
+    let site = read_decimal(number.as_bytes(), 1, sites)?;
+    if site == id {
+        None
+    } else {
+        Some((site, address))
+    }
+}
+
+/// Whether one of these is of this site.
+fn has_entrance(entrances: &[PeerAddress], site: u64) -> bool
+    ensures { result ≡ has_entrance site entrances.now }
+{
+    entrances
+        .iter()
+        .any(|entrance| entrance.site.number() == site)
 }
 
 /// The address in the first word that names this site.

@@ -1,4 +1,4 @@
-//! Why a running site stops.
+//! Why a running site stops, and why a journal is not checked to its end.
 ghost use Rattle.std.specs.Prelude.{◌≡◌};
 
 use line_streams::{ConversationError, OutputError};
@@ -30,6 +30,40 @@ pub enum SiteFault {
     /// The commands have more lines than the limit.
     #[error("too many lines")]
     TooManyLines,
+    /// The cause is on standard error already: whoever ran the site wrote it there, as one line.
+    #[error("it was said why")]
+    Explained,
+}
+
+/// Why the check of a journal does not end well.
+#[derive(Clone, Copy, Debug, PartialEq, Eq)]
+pub enum CheckFault {
+    /// The cause is on standard error already: the file cannot be read, is damaged, or has a record that is refused.
+    Explained,
+    /// Writing the result failed.
+    WriteFailed,
+    /// A memory request was refused.
+    OutOfMemory,
+}
+
+impl From<OutputError> for CheckFault {
+    ghost use Rattle.site_words.specs.declared.fault.CheckFault.TheVariants.{WriteFailed};
+
+    ghost from_gives = { λ _ fault. fault ≡ WriteFailed };
+
+    fn from(_error: OutputError) -> CheckFault {
+        CheckFault::WriteFailed
+    }
+}
+
+impl From<NoMemory> for CheckFault {
+    ghost use Rattle.site_words.specs.declared.fault.CheckFault.TheVariants.{OutOfMemory};
+
+    ghost from_gives = { λ _ fault. fault ≡ OutOfMemory };
+
+    fn from(_error: NoMemory) -> CheckFault {
+        CheckFault::OutOfMemory
+    }
 }
 
 impl From<AllocError> for SiteFault {

@@ -2,14 +2,18 @@
 //! reasons for which it stops.
 #![tactic(auto)]
 
+mod check;
 mod commands;
 mod config;
 mod fault;
+mod name;
 mod status_object;
 mod words;
 
+pub use check::JournalCheck;
 pub use commands::{DeskCommand, SiteCommand, read_command};
 pub use config::{Config, MAX_TICK, MIN_TICK, PeerAddress};
-pub use fault::SiteFault;
-pub use status_object::{PeerView, status, status_text};
+pub use fault::{CheckFault, SiteFault};
+pub use name::{MAX_SYSTEM, is_system_name};
+pub use status_object::{JournalView, PeerView, status, status_text};
 pub use words::{Command, HelpText, WordsFault, read_words};

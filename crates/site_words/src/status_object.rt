@@ -1,8 +1,8 @@
 //! The status of a site as a JSON object.
-ghost use Rattle.std.specs.Prelude.{◌≡◌, IfOk, OnOk, map};
-ghost use Rattle.serde_json.specs.Data.{array, put as with_member};
+ghost use Rattle.std.specs.Prelude.{◌≡◌, IfOk, OnOk, None, map};
+ghost use Rattle.serde_json.specs.Data.{array, object, put as with_member};
 ghost use Rattle.serde_json.specs.View.{items_of, members_view, view};
-ghost use Rattle.site_words.specs.Status.{peer_data, rights_data, status_data, status_text, whole};
+ghost use Rattle.site_words.specs.Status.{journal_data, peer_data, rights_data, status_data, status_text, whole};
 ghost use Rattle.std.specs.String.{string_bytes};
 
 use rights_types::{OutOfMemory, SiteId};
@@ -20,6 +20,31 @@ pub struct PeerView {
     pub buffering: bool,
     /// How many entries of the peer are held until those arrive, at most 64.
     pub held: usize,
+}
+
+/// What a site reports about its journal.
+#[derive(Clone, Copy, Debug, PartialEq, Eq)]
+pub struct JournalView {
+    /// The bytes of the file up to the last sync.
+    pub bytes: u64,
+    /// The records that were made for it, those of earlier processes among them.
+    pub records: u64,
+    /// How many of them are durable.
+    pub durable: u64,
+    /// When the last sync was, in milliseconds since 1970.
+    pub synced: u64,
+}
+
+/// The status of a journal.
+fn journal_status(alloc: Global, journal: JournalView) -> Result<Value, OutOfMemory>
+    ensures { IfOk result (λ value. view value ≡ journal_data journal) }
+{
+    Ok(json!(in alloc; {
+        "bytes": journal.bytes,
+        "durable": journal.durable,
+        "records": journal.records,
+        "synced": journal.synced,
+    })?)
 }
 
 /// The status of one peer.
@@ -71,17 +96,41 @@ fn rights(alloc: Global, desk: &DeskView) -> Result<Map<String, Value>, OutOfMem
     Ok(members)
 }
 
-/// The status object of a site, with its peers in the given order. Its keys are in alphabetical order. `OutOfMemory`
-/// if memory for it is refused.
-pub fn status(alloc: Global, desk: &DeskView, peers: &[PeerView]) -> Result<Value, OutOfMemory>
-    ensures { IfOk result (λ value. view value ≡ status_data desk.now peers.now) }
+/// The members of the status object of a site that keeps no journal.
+fn members_of(
+    alloc: Global,
+    desk: &DeskView,
+    peers: &[PeerView],
+) -> Result<Map<String, Value>, OutOfMemory>
+    ensures { IfOk result (λ members. object (members_view members.entries) ≡ status_data desk.now peers.now None) }
 {
     let mut members = rights(alloc, desk)?;
     put_number(&mut members, alloc, "number", desk.number)?;
     put_number(&mut members, alloc, "site", desk.site.number())?;
     put(&mut members, alloc, "closed", Value::from(desk.closed))?;
     put(&mut members, alloc, "peers", peer_list(alloc, peers)?)?;
-    Ok(Value::Object(members))
+    Ok(members)
+}
+
+/// The status object of a site, with its peers in the given order, and with its journal if it keeps one. Its keys are
+/// in alphabetical order. `OutOfMemory` if memory for it is refused.
+pub fn status(
+    alloc: Global,
+    desk: &DeskView,
+    peers: &[PeerView],
+    journal: Option<JournalView>,
+) -> Result<Value, OutOfMemory>
+    ensures { IfOk result (λ value. view value ≡ status_data desk.now peers.now journal) }
+{
+    let mut members = members_of(alloc, desk, peers)?;
+    match journal {
+        Some(journal) => {
+            let journal = journal_status(alloc, journal)?;
+            put(&mut members, alloc, "journal", journal)?;
+            Ok(Value::Object(members))
+        }
+        None => Ok(Value::Object(members)),
+    }
 }
 
 /// The text of the status object: one line, with no space in it. `OutOfMemory` if memory for it is refused.
@@ -89,8 +138,9 @@ pub fn status_text(
     alloc: Global,
     desk: &DeskView,
     peers: &[PeerView],
+    journal: Option<JournalView>,
 ) -> Result<String, OutOfMemory>
-    ensures { IfOk result (λ text. string_bytes text ≡ status_text desk.now peers.now) }
+    ensures { IfOk result (λ text. string_bytes text ≡ status_text desk.now peers.now journal) }
 {
-    Ok(status(alloc, desk, peers)?.to_string(alloc)?)
+    Ok(status(alloc, desk, peers, journal)?.to_string(alloc)?)
 }

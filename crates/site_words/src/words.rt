@@ -7,12 +7,15 @@ ghost use Rattle.clap.specs.Walk.{rows_of, rule_of, texts};
 ghost use Rattle.clap.specs.declared.builder.command.Command.TheViews.{out-Command};
 ghost use Rattle.rights_types.specs.declared.limits.TheConstants.{MIN_SITES, MAX_SITES};
 ghost use Rattle.site_words.specs.Asked.{asked_by, asked_of_clap, asks_for_version, is_help_word};
-ghost use Rattle.site_words.specs.CommandLine.{app, flag_rule, host_rule, number_rule, option_rule, peer_rule, required_shape};
+ghost use Rattle.site_words.specs.Checks.{IsCheckBy};
+ghost use Rattle.site_words.specs.CommandLine.{addresses_shape, app, check_shape, file_rule, flag_rule, from_rule};
+ghost use Rattle.site_words.specs.CommandLine.{host_rule, number_rule, option_rule, peer_rule};
 ghost use Rattle.site_words.specs.CommandLine.{run_numbers_shape, run_shape, silent_rule, tick_rule, value_rule};
 ghost use Rattle.site_words.specs.Settings.{AreFound, AreInRange, HasFlag, HasNumber, IsFound, MayHaveNumber, Options};
 ghost use Rattle.site_words.specs.Words.{AnswersMet, IsSetBy, MayAnswer};
 ghost use Rattle.site_words.specs.declared.words.WordsFault.{WordsFault};
 
+use crate::check::JournalCheck;
 use crate::config::{Config, OptionValues};
 use clap::error::ErrorKind;
 use clap::{Arg, ArgAction, ArgMatches, Command as Parser, value_parser};
@@ -26,6 +29,8 @@ pub enum Command {
     Sim,
     /// Run one site with this configuration.
     Run(Config),
+    /// Print what this journal holds.
+    CheckJournal(JournalCheck),
     /// Print this help text.
     Help(HelpText),
     /// Print the version.
@@ -106,6 +111,11 @@ Commands, one a line on standard input, and their replies:
 Example, one site of two, which ticks by itself and also serves HTTP:
   rights-site run --id 1 --sites 2 --listen 127.0.0.1:7001 --http 127.0.0.1:8001 \\
       --tick 100 --once site-1.started 2=127.0.0.1:7002";
+
+/// The text below the options in the help text of `check-journal`.
+const CHECK_USE: &str = "\
+It starts no site and changes nothing. If the file is damaged, or a record is refused, it prints
+what stands before that, a line that says where and why on standard error, and ends with status 1.";
 
 /// An optional option with one value.
 fn optional<'a>(alloc: Global, name: &'a str, value: &'a str, help: &'a str) -> Arg<'a>
@@ -190,6 +200,21 @@ fn host_option<'a>(alloc: Global) -> Arg<'a>
     .action(ArgAction::Append)
 }
 
+/// The option with the entrance of a peer, which may occur several times.
+fn from_option<'a>(alloc: Global) -> Arg<'a>
+    ensures rule { rule_of result ≡ from_rule }
+    ensures local { result.global ≡ false }
+{
+    let each = ArgAction::Append;
+    optional(
+        alloc,
+        "from",
+        "J=ADDRESS",
+        "Lets site J in at this address only, and no other site there (for several sites, repeat it)",
+    )
+    .action(each)
+}
+
 /// The flag that turns on the log.
 fn log_flag<'a>(alloc: Global) -> Arg<'a>
     ensures rule { rule_of result ≡ flag_rule (codes "log") }
@@ -225,18 +250,19 @@ fn run_numbers_parser<'a>(alloc: Global) -> Result<Parser<'a>, AllocError>
         .arg(sites_option(alloc))
 }
 
-/// The command that runs one site: only its required options so far.
-fn required_parser<'a>(alloc: Global) -> Result<Parser<'a>, AllocError>
-    ensures { IfOk result (λ parser. (app_of parser ≡ record { top = required_shape; subs = [] })
+/// The command that runs one site: only its numbers and addresses so far.
+fn addresses_parser<'a>(alloc: Global) -> Result<Parser<'a>, AllocError>
+    ensures { IfOk result (λ parser. (app_of parser ≡ record { top = addresses_shape; subs = [] })
         × ((out-Command parser).has_globals ≡ false)) }
 {
     run_numbers_parser(alloc)?
-        .arg(option(
+        .arg(optional(
             alloc,
             "listen",
             "ADDRESS",
-            "Where this site listens for its peers",
+            "Where this site listens for its peers; not needed if each of them has its --from",
         ))?
+        .arg(from_option(alloc))?
         .arg(peers_argument(alloc))
 }
 
@@ -245,7 +271,7 @@ fn run_parser<'a>(alloc: Global) -> Result<Parser<'a>, AllocError>
     ensures { IfOk result (λ parser. (app_of parser ≡ record { top = run_shape; subs = [] })
         × ((out-Command parser).has_globals ≡ false)) }
 {
-    required_parser(alloc)?
+    addresses_parser(alloc)?
         .arg(optional(alloc, "http", "ADDRESS", "Also serves HTTP at this address"))?
         .arg(host_option(alloc))?
         .arg(tick_option(alloc))?
@@ -256,6 +282,18 @@ fn run_parser<'a>(alloc: Global) -> Result<Parser<'a>, AllocError>
             "FILE",
             "Creates FILE at the start, and does not start if it exists",
         ))?
+        .arg(optional(
+            alloc,
+            "journal",
+            "FILE",
+            "Keeps a journal in FILE, and starts again from it if it exists (not with --once)",
+        ))?
+        .arg(optional(
+            alloc,
+            "system",
+            "NAME",
+            "With --journal: the name of the system, 1 to 32 letters, digits and hyphens",
+        ))?
         .arg(log_flag(alloc))
 }
 
@@ -265,6 +303,40 @@ fn sim_parser<'a>(alloc: Global) -> Parser<'a>
     ensures local { (out-Command result).has_globals ≡ false }
 {
     Parser::new(alloc, "sim").about("Runs the script on standard input, over sites in memory")
+}
+
+/// The argument with the path of a journal.
+fn file_argument<'a>(alloc: Global) -> Arg<'a>
+    ensures rule { rule_of result ≡ file_rule }
+    ensures local { result.global ≡ false }
+{
+    Arg::new(alloc, "file")
+        .value_name("FILE")
+        .required(true)
+        .help("The journal, which is only read: it may be that of a running site")
+}
+
+/// The flag that asks for JSON.
+fn json_flag<'a>(alloc: Global) -> Arg<'a>
+    ensures rule { rule_of result ≡ flag_rule (codes "json") }
+    ensures local { result.global ≡ false }
+{
+    Arg::new(alloc, "json")
+        .long("json")
+        .action(ArgAction::SetTrue)
+        .help("Prints an object of JSON, on one line")
+}
+
+/// The command that prints what a journal holds.
+fn check_parser<'a>(alloc: Global) -> Result<Parser<'a>, AllocError>
+    ensures { IfOk result (λ parser. (app_of parser ≡ record { top = check_shape; subs = [] })
+        × ((out-Command parser).has_globals ≡ false)) }
+{
+    Parser::new(alloc, "check-journal")
+        .about("Prints what a site would hold that starts with this journal")
+        .after_help(CHECK_USE)
+        .arg(file_argument(alloc))?
+        .arg(json_flag(alloc))
 }
 
 /// The program without its commands.
@@ -289,12 +361,20 @@ fn script_parser<'a>(alloc: Global) -> Result<Parser<'a>, AllocError>
     bare_parser(alloc)?.subcommand(sim_parser(alloc))
 }
 
+/// The program with the commands for scripts and for a site.
+fn running_parser<'a>(alloc: Global) -> Result<Parser<'a>, AllocError>
+    ensures { IfOk result (λ parser. app_of parser ≡ record app { subs = new_shape (codes "sim") ∷ run_shape ∷ [] }) }
+{
+    let run = run_parser(alloc)?;
+    script_parser(alloc)?.subcommand(run)
+}
+
 /// The program with all its commands, as `clap` sees them.
 fn parser<'a>(alloc: Global) -> Result<Parser<'a>, AllocError>
     ensures { IfOk result (λ parser. app_of parser ≡ app) }
 {
-    let run = run_parser(alloc)?;
-    script_parser(alloc)?.subcommand(run)
+    let check = check_parser(alloc)?;
+    running_parser(alloc)?.subcommand(check)
 }
 
 /// The number that `clap` found for an option. No clause of `clap` says that it found one.
@@ -343,6 +423,8 @@ fn options_of<'a>(matches: &'a ArgMatches<'_>) -> Result<OptionValues<'a>, Words
         tick,
         silent,
         once: matches.get_str("once"),
+        journal: matches.get_str("journal"),
+        system: matches.get_str("system"),
         log,
     })
 }
@@ -353,18 +435,31 @@ fn config_of(alloc: Global, matches: &ArgMatches<'_>) -> Result<Config, WordsFau
 {
     let id = number_of(matches, "id")?;
     let sites = number_of(matches, "sites")?;
-    let listen = matches.get_str("listen").ok_or(WordsFault::Refused)?;
+    let listen = matches.get_str("listen");
     let peers = matches.get_strs("peer").ok_or(WordsFault::Refused)?;
+    let froms = matches.get_strs("from").unwrap_or(&[]);
     let options = options_of(matches)?;
-    Config::of_words(alloc, id, sites, listen, peers, options)
+    Config::of_words(alloc, id, sites, listen, peers, froms, options)
+}
+
+/// The check of a journal that the words of `check-journal` give.
+fn check_of(alloc: Global, matches: &ArgMatches<'_>) -> Result<JournalCheck, WordsFault>
+    ensures { IsCheckBy (rows_of (found_of matches.now)) result }
+{
+    let path = matches.get_str("file").ok_or(WordsFault::Refused)?;
+    let json = flag_of(matches, "json")?;
+    Ok(JournalCheck::new(alloc, path, json)?)
 }
 
 /// The command that `clap` found.
 fn command_of(alloc: Global, matches: &ArgMatches<'_>) -> Result<Command, WordsFault>
     ensures { AnswersMet (subcommand_rows_of matches.now) result }
 {
-    match matches.subcommand_matches("run") {
-        Some(values) => Ok(Command::Run(config_of(alloc, values)?)),
+    if let Some(values) = matches.subcommand_matches("run") {
+        return Ok(Command::Run(config_of(alloc, values)?));
+    }
+    match matches.subcommand_matches("check-journal") {
+        Some(values) => Ok(Command::CheckJournal(check_of(alloc, values)?)),
         None => Ok(Command::Sim),
     }
 }
@@ -410,10 +505,11 @@ fn is_help_word(words: &[&str]) -> bool
     }
 }
 
-/// Parses the program's words, without its name. `help` alone stands for `--help`. `sim` takes no further word, except that one `--` may end its flags,
-/// as everywhere in `clap`. `run` is refused if `clap` refuses its words, or if the values that it finds are not a
-/// configuration. The words determine the result, but `OutOfMemory` may come instead of any result except the version.
-/// The help text is made by `clap`, and no contract says what it is.
+/// Parses the program's words, without its name. `help` alone stands for `--help`. `sim` takes no further
+/// word, except that one `--` may end its flags, as everywhere in `clap`. `run` is refused if `clap` refuses its words,
+/// or if the values that it finds are not a configuration; `check-journal` only if `clap` refuses its words. The words
+/// determine the result, but `OutOfMemory` may come instead of any result except the version. The help text is made by
+/// `clap`, and no contract says what it is.
 pub fn read_words(alloc: Global, words: &[&str]) -> Result<Command, WordsFault>
     ensures { MayAnswer (asked_by (texts words.now)) result }
 {

@@ -5,6 +5,7 @@ use std::alloc::{AllocError, Global};
 pub const USAGE: &str = "\
 usage: rights-site run --id I --sites N --listen ADDRESS [OPTION..] J=ADDRESS..
        rights-site sim
+       rights-site check-journal FILE [--json]
        rights-site run --help
        rights-site --version
 ";
@@ -20,6 +21,10 @@ pub enum Explanation<'a> {
     HelpAlone,
     /// `sim` takes no further word.
     Further(&'a str),
+    /// `check-journal` takes one path, and no further word.
+    FurtherPath(&'a str),
+    /// `check-journal` lacks its path.
+    NoPath,
     /// An option is given twice.
     Twice(&'static str),
     /// An option has no value.
@@ -32,6 +37,12 @@ pub enum Explanation<'a> {
     OutOfRange(&'static str, &'a str, u64, u64),
     /// The value of `--silent` is neither 0 nor at least a second.
     ShortSilence(&'a str),
+    /// The value of `--system` is no name of a system.
+    NoName(&'a str),
+    /// `--once` and `--journal` are both given.
+    OnceAndJournal,
+    /// `--system` is given without `--journal`.
+    SystemAlone,
     /// A required option is missing.
     Missing(&'static str),
     /// The site's number is above the number of sites.
@@ -46,6 +57,16 @@ pub enum Explanation<'a> {
     PeerTwice(u64),
     /// A peer is missing.
     PeerMissing(u64),
+    /// The value of `--from` is not of the form `J=ADDRESS`.
+    NoEntrance(&'a str),
+    /// The number in the value of `--from` is not one from 1 to this.
+    NoSuchEntrance(&'a str, u64),
+    /// The value of `--from` has the number of the site itself.
+    OwnEntrance(u64),
+    /// `--from` is given twice for a peer.
+    EntranceTwice(u64),
+    /// Neither `--listen` nor a `--from` for this peer is given.
+    NoWayIn(u64),
     /// Something else.
     Other,
 }
@@ -66,6 +87,10 @@ impl Explanation<'_> {
                 String::from_str(alloc, "no such word help; it stands alone")
             }
             Explanation::Further(word) => format!(in alloc; "sim takes no further word, as {word}"),
+            Explanation::FurtherPath(word) => {
+                format!(in alloc; "check-journal takes one file, and no further word, as {word}")
+            }
+            Explanation::NoPath => String::from_str(alloc, "the path of the journal is missing"),
             Explanation::Missing(option) => format!(in alloc; "{option} is missing"),
             Explanation::AboveSites(id, sites) => {
                 format!(in alloc; "--id {id} is above --sites {sites}")
@@ -90,6 +115,13 @@ impl Explanation<'_> {
             Explanation::ShortSilence(value) => {
                 format!(in alloc; "--silent {value} is neither 0 nor 1000 to 3600000")
             }
+            Explanation::NoName(value) => {
+                format!(in alloc; "--system {value} is not 1 to 32 letters, digits and hyphens")
+            }
+            Explanation::OnceAndJournal => {
+                String::from_str(alloc, "--once and --journal exclude each other")
+            }
+            Explanation::SystemAlone => String::from_str(alloc, "--system needs --journal"),
             _ => self.text_of_peer(alloc),
         }
     }
@@ -106,6 +138,28 @@ impl Explanation<'_> {
             Explanation::OwnPeer(site) => format!(in alloc; "peer {site} is this site"),
             Explanation::PeerTwice(site) => format!(in alloc; "peer {site} is given twice"),
             Explanation::PeerMissing(site) => format!(in alloc; "peer {site} is missing"),
+            _ => self.text_of_entrance(alloc),
+        }
+    }
+
+    /// The same for those of an entrance.
+    fn text_of_entrance(&self, alloc: Global) -> Result<String, AllocError> {
+        match *self {
+            Explanation::NoEntrance(word) => {
+                format!(in alloc; "--from {word} names no peer, as 2=127.0.0.1:7102 does")
+            }
+            Explanation::NoSuchEntrance(number, sites) => {
+                format!(in alloc; "--from {number}=.. is not for a peer from 1 to {sites}")
+            }
+            Explanation::OwnEntrance(site) => {
+                format!(in alloc; "--from {site}=.. is for this site")
+            }
+            Explanation::EntranceTwice(site) => {
+                format!(in alloc; "--from {site}=.. is given twice")
+            }
+            Explanation::NoWayIn(site) => {
+                format!(in alloc; "--listen is missing, or --from {site}=..")
+            }
             _ => Ok(String::new(alloc)),
         }
     }

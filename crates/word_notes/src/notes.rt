@@ -43,7 +43,7 @@ fn is_other(word: &str) -> bool {
     };
     match name {
         "--" | "--help" | "-h" => false,
-        "--host" | "--silent" => true,
+        "--from" | "--host" | "--silent" | "--journal" | "--system" => true,
         _ => known(name).is_none(),
     }
 }
@@ -98,15 +98,39 @@ fn say_listening<R: Net<Listener = TcpListener, Stream = TcpStream> + AllocGloba
     config: &Config,
     errors: &mut W,
 ) {
-    // It is held while the next address is tried, which may be the same.
-    let _listener = match TcpListener::bind(rt, config.listen()) {
-        Ok(listener) => listener,
-        Err(error) => return say_address(rt.alloc(), config.listen(), error, errors),
-    };
-    if let Some(http) = config.http()
-        && let Err(error) = TcpListener::bind(rt, http)
+    let mut held = Vec::new(rt.alloc());
+    if let Some(address) = config.listen()
+        && !can_listen(rt, address, &mut held, errors)
     {
-        say_address(rt.alloc(), http, error, errors);
+        return;
+    }
+    for entrance in config.entrances() {
+        if !can_listen(rt, entrance.address(), &mut held, errors) {
+            return;
+        }
+    }
+    if let Some(address) = config.http() {
+        can_listen(rt, address, &mut held, errors);
+    }
+}
+
+/// Whether this address can be listened on; if not, says why. It is held while the next ones are tried, which may be the
+/// same.
+fn can_listen<R: Net<Listener = TcpListener, Stream = TcpStream> + AllocGlobal, W: Write>(
+    rt: &R,
+    address: &str,
+    held: &mut Vec<TcpListener>,
+    errors: &mut W,
+) -> bool {
+    match TcpListener::bind(rt, address) {
+        Ok(listener) => {
+            let _ = held.push(listener);
+            true
+        }
+        Err(error) => {
+            say_address(rt.alloc(), address, error, errors);
+            false
+        }
     }
 }
 
@@ -138,11 +162,11 @@ fn say<W: Write>(errors: &mut W, line: Result<String, AllocError>) {
 /// attempt to connect, and a name may be given its address later.
 pub fn note_peers<W: Write>(alloc: Global, config: &Config, errors: &mut W) {
     for peer in config.peers() {
-        note_peer(alloc, config.listen(), peer, errors);
+        note_peer(alloc, config, peer, errors);
     }
 }
 
-fn note_peer<W: Write>(alloc: Global, own: &str, peer: &PeerAddress, errors: &mut W) {
+fn note_peer<W: Write>(alloc: Global, config: &Config, peer: &PeerAddress, errors: &mut W) {
     let (site, address) = (peer.site().number(), peer.address());
     if address.is_empty() {
         say(
@@ -154,12 +178,25 @@ fn note_peer<W: Write>(alloc: Global, own: &str, peer: &PeerAddress, errors: &mu
             errors,
             format!(in alloc; "rights-site: peer {site} has no port: {address}\n"),
         );
-    } else if address == own {
+    } else if is_own(config, address) {
         let line = format!(in alloc;
             "rights-site: peer {site} has the address of this site: {address}\n"
         );
         say(errors, line);
     }
+}
+
+/// Whether a site lets its peers in at this address.
+fn is_own(config: &Config, address: &str) -> bool {
+    let is_shared = match config.listen() {
+        Some(listen) => listen == address,
+        None => false,
+    };
+    is_shared
+        || config
+            .entrances()
+            .iter()
+            .any(|entrance| entrance.address() == address)
 }
 
 /// Whether an address ends in `:` and a number.

@@ -1,8 +1,12 @@
 //! Reads refused words once more, for the first cause.
 use crate::explanation::Explanation;
-use crate::options::{Known, REQUIRED, Takes, known, meant_command, meant_option};
+use crate::options::{
+    CHECK_OPTIONS, Known, REPEATED, REQUIRED, Takes, known, meant_check_option, meant_command,
+    meant_option,
+};
 use entry_codec::read_decimal;
 use rights_types::MAX_SITES;
+use site_words::is_system_name;
 use std::alloc::{AllocError, Global};
 
 /// The shortest time of `--silent` besides 0, in milliseconds.
@@ -14,6 +18,7 @@ pub fn explain<'a>(alloc: Global, words: &[&'a str]) -> Result<Explanation<'a>, 
         [] => Ok(Explanation::NoWords),
         [first, others @ ..] if *first == "run" => explain_run(alloc, others),
         [first, others @ ..] if *first == "sim" => Ok(explain_sim(others)),
+        [first, others @ ..] if *first == "check-journal" => explain_check(alloc, others),
         [first, _, ..] if *first == "help" => Ok(Explanation::HelpAlone),
         [first, ..] => Ok(Explanation::NoSuchWord(first, meant_command(alloc, first)?)),
     }
@@ -28,6 +33,52 @@ fn explain_sim<'a>(words: &[&'a str]) -> Explanation<'a> {
     Explanation::Other
 }
 
+fn explain_check<'a>(alloc: Global, words: &[&'a str]) -> Result<Explanation<'a>, AllocError> {
+    let mut is_behind_options = false;
+    let mut has_path = false;
+    let mut has_json = false;
+    for word in words {
+        if is_behind_options || !word.starts_with('-') {
+            if has_path {
+                return Ok(Explanation::FurtherPath(word));
+            }
+            has_path = true;
+        } else if *word == "--" {
+            is_behind_options = true;
+        } else if let Some(cause) = wrong_check_option(alloc, word, has_json)? {
+            return Ok(cause);
+        } else {
+            has_json = true;
+        }
+    }
+    Ok(if has_path {
+        Explanation::Other
+    } else {
+        Explanation::NoPath
+    })
+}
+
+/// What is wrong with a word of `check-journal` that begins as an option; `--json` may have been given before.
+fn wrong_check_option<'a>(
+    alloc: Global,
+    word: &'a str,
+    has_json: bool,
+) -> Result<Option<Explanation<'a>>, AllocError> {
+    if word == "--json" {
+        return Ok(has_json.then_some(Explanation::Twice("--json")));
+    }
+    let name = match word.split_once('=') {
+        Some((name, _)) => name,
+        None => word,
+    };
+    for option in CHECK_OPTIONS {
+        if name == option {
+            return Ok(Some(Explanation::TakesNoValue(option)));
+        }
+    }
+    Ok(Some(Explanation::NoSuchWord(word, meant_check_option(alloc, name)?)))
+}
+
 fn explain_run<'a>(alloc: Global, words: &[&'a str]) -> Result<Explanation<'a>, AllocError> {
     let mut reading = Reading::new(alloc);
     for word in words {
@@ -35,10 +86,13 @@ fn explain_run<'a>(alloc: Global, words: &[&'a str]) -> Result<Explanation<'a>, 
             return Ok(cause);
         }
     }
-    let cause = match reading.missing() {
-        Some(cause) => Some(cause),
-        None => wrong_peer(alloc, reading.id, reading.sites, reading.peers.as_slice())?,
-    };
+    let mut cause = reading.missing();
+    if cause.is_none() {
+        cause = reading.wrong_peer()?;
+    }
+    if cause.is_none() {
+        cause = reading.wrong_entrance()?;
+    }
     Ok(cause.unwrap_or(Explanation::Other))
 }
 
@@ -54,6 +108,7 @@ struct Reading<'a> {
     id: u64,
     sites: u64,
     peers: Vec<&'a str>,
+    froms: Vec<&'a str>,
 }
 
 impl<'a> Reading<'a> {
@@ -66,6 +121,7 @@ impl<'a> Reading<'a> {
             id: 0,
             sites: 0,
             peers: Vec::new(alloc),
+            froms: Vec::new(alloc),
         }
     }
 
@@ -73,7 +129,7 @@ impl<'a> Reading<'a> {
     fn read(&mut self, word: &'a str) -> Result<Option<Explanation<'a>>, AllocError> {
         if let Some(option) = self.awaits {
             self.awaits = None;
-            return Ok(self.read_value(option, word, word.starts_with('-')));
+            return self.read_value(option, word, word.starts_with('-'));
         }
         if self.is_behind_options || !word.starts_with('-') {
             self.peers.push(word)?;
@@ -101,14 +157,14 @@ impl<'a> Reading<'a> {
             return Ok(Some(Explanation::NoSuchWord(word, meant)));
         };
         let (option, takes) = known;
-        if option != "--host" && self.given.as_slice().contains(&option) {
+        if !REPEATED.as_slice().contains(&option) && self.given.as_slice().contains(&option) {
             return Ok(Some(Explanation::Twice(option)));
         }
         self.given.push(option)?;
         match (takes, value) {
             (Takes::Nothing, None) => Ok(None),
             (Takes::Nothing, Some(_)) => Ok(Some(Explanation::TakesNoValue(option))),
-            (_, Some(value)) => Ok(self.read_value(known, value, false)),
+            (_, Some(value)) => self.read_value(known, value, false),
             (_, None) => {
                 self.awaits = Some(known);
                 Ok(None)
@@ -122,27 +178,53 @@ impl<'a> Reading<'a> {
         known: Known,
         value: &'a str,
         is_option: bool,
-    ) -> Option<Explanation<'a>> {
+    ) -> Result<Option<Explanation<'a>>, AllocError> {
         let (option, takes) = known;
         if is_option {
-            return Some(Explanation::NoValue(option));
+            return Ok(Some(Explanation::NoValue(option)));
         }
         let Takes::Number(least, most) = takes else {
-            return None;
+            return self.read_text(option, value);
         };
         let Ok(number) = value.parse::<u64>() else {
-            return Some(Explanation::NoNumber(option, value));
+            return Ok(Some(Explanation::NoNumber(option, value)));
         };
         if number < least || number > most {
-            return Some(Explanation::OutOfRange(option, value, least, most));
+            return Ok(Some(Explanation::OutOfRange(option, value, least, most)));
         }
         if option == "--silent" && number > 0 && number < SECOND {
-            return Some(Explanation::ShortSilence(value));
+            return Ok(Some(Explanation::ShortSilence(value)));
         }
         if option == "--id" {
             self.id = number;
         } else if option == "--sites" {
             self.sites = number;
+        }
+        Ok(None)
+    }
+
+    /// Reads the value of an option that is no number; the cause if it is wrong.
+    fn read_text(
+        &mut self,
+        option: &'static str,
+        value: &'a str,
+    ) -> Result<Option<Explanation<'a>>, AllocError> {
+        if option == "--from" {
+            self.froms.push(value)?;
+        }
+        let is_wrong = option == "--system" && !is_system_name(value.as_bytes());
+        Ok(is_wrong.then_some(Explanation::NoName(value)))
+    }
+
+    /// Which options exclude each other, or lack another one.
+    fn excluded(&self) -> Option<Explanation<'a>> {
+        let given = self.given.as_slice();
+        let has_journal = given.contains(&"--journal");
+        if has_journal && given.contains(&"--once") {
+            return Some(Explanation::OnceAndJournal);
+        }
+        if !has_journal && given.contains(&"--system") {
+            return Some(Explanation::SystemAlone);
         }
         None
     }
@@ -153,45 +235,96 @@ impl<'a> Reading<'a> {
             return Some(Explanation::NoValue(option));
         }
         for option in REQUIRED {
-            if !self.given.as_slice().contains(&option) {
+            let is_open = option == "--listen" && !self.froms.is_empty();
+            if !is_open && !self.given.as_slice().contains(&option) {
                 return Some(Explanation::Missing(option));
             }
         }
         if self.id > self.sites {
             return Some(Explanation::AboveSites(self.id, self.sites));
         }
+        self.excluded()
+    }
+
+    /// What is wrong with the peers.
+    fn wrong_peer(&self) -> Result<Option<Explanation<'a>>, AllocError> {
+        let mut named = Vec::new(self.alloc);
+        for word in &self.peers {
+            match self.site_in(word, named.as_slice()) {
+                Named::Site(site) => named.push(site)?,
+                Named::None => return Ok(Some(Explanation::NoPeer(word))),
+                Named::Unknown(number) => {
+                    return Ok(Some(Explanation::NoSuchPeer(number, self.sites)));
+                }
+                Named::Own(site) => return Ok(Some(Explanation::OwnPeer(site))),
+                Named::Twice(site) => return Ok(Some(Explanation::PeerTwice(site))),
+            }
+        }
+        match self.first_other(named.as_slice()) {
+            Some(site) => Ok(Some(Explanation::PeerMissing(site))),
+            None => Ok(None),
+        }
+    }
+
+    /// What is wrong with the entrances.
+    fn wrong_entrance(&self) -> Result<Option<Explanation<'a>>, AllocError> {
+        let mut named = Vec::new(self.alloc);
+        for word in &self.froms {
+            match self.site_in(word, named.as_slice()) {
+                Named::Site(site) => named.push(site)?,
+                Named::None => return Ok(Some(Explanation::NoEntrance(word))),
+                Named::Unknown(number) => {
+                    return Ok(Some(Explanation::NoSuchEntrance(number, self.sites)));
+                }
+                Named::Own(site) => return Ok(Some(Explanation::OwnEntrance(site))),
+                Named::Twice(site) => return Ok(Some(Explanation::EntranceTwice(site))),
+            }
+        }
+        if self.given.as_slice().contains(&"--listen") {
+            return Ok(None);
+        }
+        match self.first_other(named.as_slice()) {
+            Some(site) => Ok(Some(Explanation::NoWayIn(site))),
+            None => Ok(None),
+        }
+    }
+
+    /// The site that a word `J=ADDRESS` names, where these are named already.
+    fn site_in(&self, word: &'a str, named: &[u64]) -> Named<'a> {
+        let Some((number, _)) = word.split_once('=') else {
+            return Named::None;
+        };
+        match read_decimal(number.as_bytes(), 1, MAX_SITES) {
+            Some(site) if site > self.sites => Named::Unknown(number),
+            Some(site) if site == self.id => Named::Own(site),
+            Some(site) if named.contains(&site) => Named::Twice(site),
+            Some(site) => Named::Site(site),
+            None => Named::Unknown(number),
+        }
+    }
+
+    /// The first other site that is not named.
+    fn first_other(&self, named: &[u64]) -> Option<u64> {
+        for site in 1..=self.sites {
+            if site != self.id && !named.contains(&site) {
+                return Some(site);
+            }
+        }
         None
     }
 }
 
-/// What is wrong with the peers of a site.
-fn wrong_peer<'a>(
-    alloc: Global,
-    id: u64,
-    sites: u64,
-    words: &[&'a str],
-) -> Result<Option<Explanation<'a>>, AllocError> {
-    let mut named = Vec::new(alloc);
-    for word in words {
-        let Some((number, _)) = word.split_once('=') else {
-            return Ok(Some(Explanation::NoPeer(word)));
-        };
-        let site = match read_decimal(number.as_bytes(), 1, MAX_SITES) {
-            Some(site) if site <= sites => site,
-            _ => return Ok(Some(Explanation::NoSuchPeer(number, sites))),
-        };
-        if site == id {
-            return Ok(Some(Explanation::OwnPeer(site)));
-        }
-        if named.as_slice().contains(&site) {
-            return Ok(Some(Explanation::PeerTwice(site)));
-        }
-        named.push(site)?;
-    }
-    for site in 1..=sites {
-        if site != id && !named.as_slice().contains(&site) {
-            return Ok(Some(Explanation::PeerMissing(site)));
-        }
-    }
-    Ok(None)
+/// What a word `J=ADDRESS` names.
+#[derive(Clone, Copy)]
+enum Named<'a> {
+    /// A site that is not named before.
+    Site(u64),
+    /// Nothing: it is not of this form.
+    None,
+    /// No site, by this number.
+    Unknown(&'a str),
+    /// The site itself.
+    Own(u64),
+    /// A site that is named before.
+    Twice(u64),
 }

@@ -1,9 +1,10 @@
-use Rattle.std.proofs.Common.{◌≡◌, ◌∙◌, sym, ap, arith, codes, map, option_map, Some, None}
+use Rattle.std.proofs.Common.{◌≡◌, ◌∙◌, sym, ap, arith, codes, map, option_map, List, [], Option, Some, None}
+use Rattle.std.specs.Prelude.{unwrap_or}
 use Rattle.clap.specs.Matches.{found_of}
-use Rattle.clap.specs.Walk.{rows_of, texts}
+use Rattle.clap.specs.Walk.{Text, rows_of, texts}
 use Rattle.clap.proofs.WalkLemmas.{first_value-rows, raw_values-rows}
 use Rattle.site_words.specs.Settings.{IsFound}
-use Rattle.site_words.proofs.SettingsLaws.{refused_on, values_found}
+use Rattle.site_words.proofs.SettingsLaws.{refused_on, unwrap_mapped, values_found}
 use Rattle.site_words.proofs.words.config_of.Goals as goal
 
 pub returns-in_err-id : goal.returns-in_err-id
@@ -17,15 +18,6 @@ returns-in_err-sites c =
     refused_on (IsFound (rows_of (found_of c.args.matches.now))) c.from_residual-in_err-sites.result
     c.in_err-sites.field-0.0 c.from_residual-in_err-sites.ensures.1
     (λ refused s valid found. c.in_err-sites.ensures.1 s.sites (omega (arith, valid.most)) found.sites)
-
-pub returns-in_err-listen : goal.returns-in_err-listen
-returns-in_err-listen c =
-    let f = found_of c.args.matches.now in
-    refused_on (IsFound (rows_of f)) c.from_residual-in_err-listen.result c.in_err-listen.field-0.0
-    c.from_residual-in_err-listen.ensures.1 (λ refused s valid found.
-    let bad : None ≡ Some s.listen = sym (ap (option_map (λ s. s.now)) c.in_err-listen.ensures.ok_part)
-    ∙ c.get_str.ensures
-    ∙ first_value-rows f (codes "listen") ∙ found.listen in cc)
 
 pub returns-in_err-peers : goal.returns-in_err-peers
 returns-in_err-peers c =
@@ -45,10 +37,14 @@ returns-in_err-options c =
 pub returns : goal.returns
 returns c =
     let f = found_of c.args.matches.now in
-    let listen = sym (first_value-rows f (codes "listen"))
-    ∙ (sym c.get_str.ensures ∙ ap (option_map (λ s. s.now)) c.in_ok-listen.ensures.ok_part) in
+    let listen = sym (first_value-rows f (codes "listen")) ∙ sym c.get_str-listen.ensures in
     let peers = sym (raw_values-rows f (codes "peer"))
     ∙ (sym c.get_strs.ensures ∙ ap (option_map (λ s. map (λ v. v.now) s.now)) c.in_ok-peers.ensures.ok_part) in
-    values_found (rows_of f) c.in_ok-id.id c.in_ok-sites.sites c.in_ok-listen.listen.now
-    (texts c.in_ok-peers.peers.now) c.in_ok-options.options
-    c.in_ok-id.ensures c.in_ok-sites.ensures listen peers c.in_ok-options.ensures c.of_words.result c.of_words.ensures
+    let froms = ap (λ (o : Option (List Text)). unwrap_or o [])
+    (sym (raw_values-rows f (codes "from")) ∙ sym c.get_strs-2.ensures)
+    ∙ unwrap_mapped (λ s. map (λ v. v.now) s.now) c.get_strs-2.result _
+    ∙ ap (λ s. texts s.now) (sym c.unwrap_or-froms.ensures) in
+    values_found (rows_of f) c.in_ok-id.id c.in_ok-sites.sites _
+    (texts c.in_ok-peers.peers.now) (texts c.unwrap_or-froms.result.now) c.in_ok-options.options
+    c.in_ok-id.ensures c.in_ok-sites.ensures listen peers froms c.in_ok-options.ensures c.of_words.result
+    c.of_words.ensures

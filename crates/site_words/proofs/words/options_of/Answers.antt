@@ -40,5 +40,7 @@ returns c =
       tick = c.in_ok-tick.ensures;
       silent = c.in_ok-silent.ensures;
       once = sym (first_value-rows f (codes "once")) ∙ sym c.get_str-2.ensures;
+      journal = sym (first_value-rows f (codes "journal")) ∙ sym c.get_str-3.ensures;
+      system = sym (first_value-rows f (codes "system")) ∙ sym c.get_str-4.ensures;
       log = c.in_ok-log.ensures;
     }
