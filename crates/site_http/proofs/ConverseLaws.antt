@@ -12,7 +12,7 @@ use Rattle.http_server.specs.declared.response.Response.{Response}
 use Rattle.http_server.proofs.KnownLemmas.{Appends-then}
 use Rattle.site_http.specs.Replying.{Answering}
 use Rattle.site_http.specs.Responding.{Named, Responds, Serves}
-use Rattle.site_http.specs.Conversing.{Conversed, IsRefusal}
+use Rattle.site_http.specs.Conversing.{Conversed, AnswersFault}
 
 -- nothing was appended
 pub appends_none : (known : Option (List ℕ)) → Appends known known []
@@ -52,7 +52,7 @@ module _ {S : Type 0} (answers : Bool → Answering S) (status queue metrics : S
       → (more : List ℕ) × Consumes given left more × (after.received ≡ before.received ++ more)
       → (more : List ℕ) × Appends held mid more × (after.sent ≡ before.sent ++ more)
       → Calls (Serves answers status queue metrics closed) first final before.calls after.calls
-      → Appends mid holds last → (last ≡ []) ⊎ IsRefusal after last
+      → Appends mid holds last → (last ≡ []) ⊎ AnswersFault after last
       → Conversed (Responds answers status queue metrics closed names) given left held holds client result
   conversed config given left held mid holds client names first final result before after last begins same fresh served
       read written calls appended ends =

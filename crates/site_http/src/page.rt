@@ -301,6 +301,14 @@ function rateOf(now) {
   return `${rate < 10 ? rate.toFixed(1) : grouped.format(Math.round(rate))} a second`;
 }
 
+function journalFact(journal) {
+  if (!journal) return "no journal: a restart loses the rights";
+  const waiting = BigInt(journal.records) - BigInt(journal.durable);
+  const synced = `synced ${clock(Number(journal.synced))}`;
+  const size = `journal of ${compact.format(Number(journal.bytes))}B, ${many(journal.records, "record", "records")}`;
+  return waiting > 0n ? `${size}, ${number(waiting)} not durable yet, ${synced}` : `${size}, ${synced}`;
+}
+
 function showNumbers(status, metric, now) {
   for (const name of ["held", "spent", "queued", "issued", "received"]) {
     const text = number(status[name]);
@@ -315,6 +323,7 @@ function showNumbers(status, metric, now) {
   const facts = [`log at ${number(status.number)}`];
   if (metric.rights_clients !== undefined) facts.push(many(metric.rights_clients, "client", "clients"));
   if (metric.rights_commands_total !== undefined) facts.push(many(metric.rights_commands_total, "command", "commands"));
+  facts.push(journalFact(status.journal));
   setText("facts", facts.join(" \u00b7 "));
   byId("refused-card").hidden = refused.length == 0;
   byId("refused").replaceChildren(...refused.map(([name, count]) => make("li", {}, `${name} `, make("b", {}, number(count)))));

@@ -6,13 +6,13 @@ ghost use Rattle.http_server.specs.Connection.{history};
 ghost use Rattle.http_server.specs.Exchange.{Calls};
 ghost use Rattle.http_server.specs.History.{after_sent};
 ghost use Rattle.site_http.specs.Responding.{Responds};
-ghost use Rattle.site_http.specs.declared.refusal.TheConstants.{BAD_REQUEST};
-ghost use Rattle.site_http.specs.Refusing.{refusal_in, refusal_text, ComesFirst, IsCause};
-ghost use Rattle.site_http.specs.Conversing.{IsRefusal, Conversed};
+ghost use Rattle.site_http.specs.declared.request_fault.TheConstants.{BAD_REQUEST};
+ghost use Rattle.site_http.specs.Refusing.{fault_in, fault_text, ComesFirst, IsCause};
+ghost use Rattle.site_http.specs.Conversing.{AnswersFault, Conversed};
 
 use crate::backend::Backend;
 use crate::config::service_config;
-use crate::refusal::{BAD_REQUEST, Refusal};
+use crate::request_fault::{BAD_REQUEST, RequestFault};
 use crate::service::ClientService;
 use bytes::Buf;
 use http_server::{Connection, Reason, Service, State};
@@ -24,7 +24,7 @@ use std::hash::RandomState;
 use std::io::{ErrorKind, Read, Write};
 
 /// Answers the requests of a connection to a site whose host has these names, until its end. If a read fails, the
-/// request that is not whole is refused as `Refusal::of_error` says.
+/// request that is not whole is refused as `RequestFault::of_error` says.
 pub fn converse<C: Backend + Drop, I: Read, W: Write>(
     alloc: Global,
     keys: RandomState,
@@ -51,7 +51,7 @@ fn exchange<S: Service, I: Read, W: Write>(
     service: &mut S,
     reader: &mut I,
     writer: &mut W,
-) -> Option<Refusal>
+) -> Option<RequestFault>
     ensures cause { IfSome result (λ why. IsCause why (history connection.new)) }
     ensures read { (more : List ℕ)
         × Consumes (I.remaining reader.old) (I.remaining reader.new) more
@@ -94,49 +94,54 @@ fn write_part<W: Write>(connection: &mut Connection, writer: &mut W) -> usize
 }
 
 /// Why the next request is refused in another way than http_server does.
-fn refused(connection: &Connection) -> Option<Refusal>
+fn refused(connection: &Connection) -> Option<RequestFault>
     ensures { IfSome result (λ why. IsCause why (history connection.now)) }
 {
-    match refusal_in(connection.state()) {
-        Some(Refusal::Version) => Some(Refusal::Version),
-        Some(Refusal::TooLong) => Some(Refusal::TooLong),
+    match fault_in(connection.state()) {
+        Some(RequestFault::Version) => Some(RequestFault::Version),
+        Some(RequestFault::TooLong) => Some(RequestFault::TooLong),
         _ => None,
     }
 }
 
-fn refusal_in(state: State) -> Option<Refusal>
-    ensures { result ≡ refusal_in state }
+fn fault_in(state: State) -> Option<RequestFault>
+    ensures { result ≡ fault_in state }
 {
     match state {
         State::Closing(
             Reason::Refused(
                 http_server::Refusal::Unreadable(ReadError::Parse(httparse::Error::Version)),
             ),
-        ) => Some(Refusal::Version),
+        ) => Some(RequestFault::Version),
         State::Closing(
             Reason::Refused(
                 http_server::Refusal::Unreadable(ReadError::Chunk(ChunkError::SizeOverflow)),
             ),
-        ) => Some(Refusal::TooLong),
+        ) => Some(RequestFault::TooLong),
         _ => None,
     }
 }
 
 /// Why a request is refused that was cut off by an error of this kind.
-fn cut_off(connection: &Connection, kind: ErrorKind) -> Option<Refusal>
+fn cut_off(connection: &Connection, kind: ErrorKind) -> Option<RequestFault>
     ensures { IfSome result (λ why. IsCause why (history connection.now)) }
 {
     if connection.state() != State::Open || connection.wants_write() {
         return None;
     }
-    Refusal::of_error(kind)
+    RequestFault::of_error(kind)
 }
 
 /// Writes what still waits, and then a refusal, if there is a cause.
-fn refuse<W: Write>(alloc: Global, connection: Connection, why: Option<Refusal>, writer: &mut W)
+fn refuse<W: Write>(
+    alloc: Global,
+    connection: Connection,
+    why: Option<RequestFault>,
+    writer: &mut W,
+)
     requires { IfSome why (λ why. IsCause why (history connection)) }
     ensures { (last : List ℕ) × Appends (W.contents writer.old) (W.contents writer.new) last
-        × ((last ≡ []) ⊎ IsRefusal (history connection) last) }
+        × ((last ≡ []) ⊎ AnswersFault (history connection) last) }
 {
     let Some(why) = why else {
         return;
@@ -148,9 +153,9 @@ fn refuse<W: Write>(alloc: Global, connection: Connection, why: Option<Refusal>,
 }
 
 /// What still waits, and then the refusal. `None` if memory is refused.
-fn last_text(alloc: Global, connection: Connection, why: Refusal) -> Option<Vec<u8>>
+fn last_text(alloc: Global, connection: Connection, why: RequestFault) -> Option<Vec<u8>>
     ensures { IfSome result (λ text. (front : List ℕ) × ComesFirst why (history connection).pending front
-        × (text.items ≡ front ++ refusal_text why)) }
+        × (text.items ≡ front ++ fault_text why)) }
 {
     let waits = waiting(alloc, connection)?;
     let front = first_part(why, waits.as_slice())?;
@@ -178,15 +183,15 @@ fn joined(alloc: Global, first: &[u8], second: &[u8]) -> Option<Vec<u8>>
 }
 
 /// What comes before the refusal, of what waits. `None` if that does not end in the response of http_server's own.
-fn first_part(why: Refusal, pending: &[u8]) -> Option<&[u8]>
+fn first_part(why: RequestFault, pending: &[u8]) -> Option<&[u8]>
     ensures { IfSome result (λ front. ComesFirst why pending.now front.now) }
 {
     match why {
-        Refusal::Version => before_own(pending),
-        Refusal::TooLong => before_own(pending),
-        Refusal::TooSlow => Some(pending),
-        Refusal::GivesWay => Some(pending),
-        Refusal::NoRoom => Some(pending),
+        RequestFault::Version => before_own(pending),
+        RequestFault::TooLong => before_own(pending),
+        RequestFault::TooSlow => Some(pending),
+        RequestFault::GivesWay => Some(pending),
+        RequestFault::NoRoom => Some(pending),
     }
 }
 

@@ -1,6 +1,6 @@
 use Rattle.std.proofs.Common.{◌∙◌, Option, IfSome, inr, subst}
 use Rattle.http_server.specs.Connection.{history}
-use Rattle.site_http.specs.declared.refusal.Refusal.{Refusal}
+use Rattle.site_http.specs.declared.request_fault.RequestFault.{RequestFault}
 use Rattle.site_http.specs.Refusing.{IsCause}
 use Rattle.site_http.proofs.ConverseLaws.{written_part}
 use Rattle.site_http.proofs.serving.refuse.Goals as goal
@@ -13,7 +13,7 @@ returns g c =
       part.1,
       inr (record {
         why = c.in-Some.why;
-        cause = subst (λ (w : Option Refusal). IfSome w (λ why. IsCause why (history c.args.connection))) c.in-Some.is c.requires;
+        cause = subst (λ (w : Option RequestFault). IfSome w (λ why. IsCause why (history c.args.connection))) c.in-Some.is c.requires;
         front = all.0;
         first = all.1;
         rest = part.2;

@@ -5,7 +5,7 @@ use std::io::ErrorKind;
 
 /// Why a connection ends with another response than one of http_server.
 #[derive(Clone, Copy, Debug, PartialEq, Eq)]
-pub enum Refusal {
+pub enum RequestFault {
     /// The request is not one of HTTP/1.0 or HTTP/1.1.
     Version,
     /// A chunk of the body is longer than any number may say.
@@ -18,30 +18,30 @@ pub enum Refusal {
     NoRoom,
 }
 
-impl Refusal {
-    ghost use Rattle.site_http.specs.Refusing.{refusal_of, refusal_text};
+impl RequestFault {
+    ghost use Rattle.site_http.specs.Refusing.{fault_of, fault_text};
 
     /// What a failed read stands for. `None` if it is answered by nothing.
-    pub(crate) fn of_error(kind: ErrorKind) -> Option<Refusal>
-        ensures { result ≡ refusal_of kind }
+    pub(crate) fn of_error(kind: ErrorKind) -> Option<RequestFault>
+        ensures { result ≡ fault_of kind }
     {
         match kind {
-            ErrorKind::TimedOut => Some(Refusal::TooSlow),
-            ErrorKind::ConnectionAborted => Some(Refusal::GivesWay),
-            ErrorKind::OutOfMemory => Some(Refusal::NoRoom),
+            ErrorKind::TimedOut => Some(RequestFault::TooSlow),
+            ErrorKind::ConnectionAborted => Some(RequestFault::GivesWay),
+            ErrorKind::OutOfMemory => Some(RequestFault::NoRoom),
             _ => None,
         }
     }
 
     /// The response that says so.
     pub(crate) fn text(self) -> &'static [u8]
-        ensures { result.now ≡ refusal_text self }
+        ensures { result.now ≡ fault_text self }
     {
         match self {
-            Refusal::Version => VERSION,
-            Refusal::TooLong => TOO_LONG,
-            Refusal::TooSlow => TIMEOUT,
-            Refusal::GivesWay | Refusal::NoRoom => UNAVAILABLE,
+            RequestFault::Version => VERSION,
+            RequestFault::TooLong => TOO_LONG,
+            RequestFault::TooSlow => TIMEOUT,
+            RequestFault::GivesWay | RequestFault::NoRoom => UNAVAILABLE,
         }
     }
 }
