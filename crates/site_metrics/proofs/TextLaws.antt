@@ -9,7 +9,7 @@ use Rattle.site_metrics.specs.declared.metrics.PeerMetrics.{PeerMetrics}
 use Rattle.site_metrics.specs.Format.{Sample, Family, help_line, type_line, sample_line, lines_of, exposition}
 use Rattle.site_metrics.specs.Format.{led_lines}
 use Rattle.site_metrics.specs.Table.{alone, peer_sample, by_peer, name_sample, by_name, peer_metric, rights_metrics}
-use Rattle.site_metrics.specs.Table.{state_metrics, client_metrics, log_metrics, line_metrics, all_metrics}
+use Rattle.site_metrics.specs.Table.{state_metrics, client_metrics, log_metrics, line_metrics, journal_metrics, all_metrics}
 use Rattle.site_metrics.specs.Table.{metrics_text}
 use Rattle.site_metrics.specs.PeerValues.{peer_value}
 use Rattle.site_metrics.specs.declared.peer_value.PeerValue.{PeerValue}
@@ -109,30 +109,33 @@ module _ (text : List ℕ) where
       first_more _ a (b ∷ c ∷ d ∷ e ∷ f ∷ []) g (first_more _ a (b ∷ c ∷ d ∷ e ∷ []) f
       (first_more _ a (b ∷ c ∷ d ∷ []) e (first_more _ a (b ∷ c ∷ []) d (first_three a b c))))
 
-  parts : (family : Family) (a b c d e : List Family)
-      → ((((text ++ drop 1 (flat_map led_lines (family ∷ a))) ++ flat_map led_lines b) ++ flat_map led_lines c)
-      ++ flat_map led_lines d) ++ flat_map led_lines e
-      ≡ text ++ drop 1 (flat_map led_lines ((family ∷ a) ++ (b ++ (c ++ (d ++ e)))))
-  parts family a b c d e =
-      let split : flat_map led_lines (b ++ (c ++ (d ++ e)))
-      ≡ flat_map led_lines b ++ (flat_map led_lines c ++ (flat_map led_lines d ++ flat_map led_lines e)) =
-      flat_map-append led_lines b (c ++ (d ++ e)) ∙ ap (λ (t : List ℕ). flat_map led_lines b ++ t)
-      (flat_map-append led_lines c (d ++ e)
-      ∙ ap (λ (t : List ℕ). flat_map led_lines c ++ t) (flat_map-append led_lines d e)) in
+  parts : (family : Family) (a b c d e f : List Family)
+      → (((((text ++ drop 1 (flat_map led_lines (family ∷ a))) ++ flat_map led_lines b) ++ flat_map led_lines c)
+      ++ flat_map led_lines d) ++ flat_map led_lines e) ++ flat_map led_lines f
+      ≡ text ++ drop 1 (flat_map led_lines ((family ∷ a) ++ (b ++ (c ++ (d ++ (e ++ f))))))
+  parts family a b c d e f =
+      let split : flat_map led_lines (b ++ (c ++ (d ++ (e ++ f))))
+      ≡ flat_map led_lines b ++ (flat_map led_lines c ++ (flat_map led_lines d
+      ++ (flat_map led_lines e ++ flat_map led_lines f))) =
+      flat_map-append led_lines b (c ++ (d ++ (e ++ f))) ∙ ap (λ (t : List ℕ). flat_map led_lines b ++ t)
+      (flat_map-append led_lines c (d ++ (e ++ f))
+      ∙ ap (λ (t : List ℕ). flat_map led_lines c ++ t) (flat_map-append led_lines d (e ++ f)
+      ∙ ap (λ (t : List ℕ). flat_map led_lines d ++ t) (flat_map-append led_lines e f))) in
       together (drop 1 (flat_map led_lines (family ∷ a))) (flat_map led_lines b) (flat_map led_lines c)
-      (flat_map led_lines d) (flat_map led_lines e)
+      (flat_map led_lines d) (flat_map led_lines e) (flat_map led_lines f)
       ∙ ap (λ (t : List ℕ). text ++ (drop 1 (flat_map led_lines (family ∷ a)) ++ t)) (sym split)
-      ∙ ap (λ (t : List ℕ). text ++ t) (more_families family a (b ++ (c ++ (d ++ e)))) where
-        together : (a b c d e : List ℕ) → ((((text ++ a) ++ b) ++ c) ++ d) ++ e ≡ text ++ (a ++ (b ++ (c ++ (d ++ e))))
-        together a b c d e = simp append_assoc
+      ∙ ap (λ (t : List ℕ). text ++ t) (more_families family a (b ++ (c ++ (d ++ (e ++ f))))) where
+        together : (a b c d e f : List ℕ)
+            → (((((text ++ a) ++ b) ++ c) ++ d) ++ e) ++ f ≡ text ++ (a ++ (b ++ (c ++ (d ++ (e ++ f)))))
+        together a b c d e f = simp append_assoc
 
   pub all_parts : (m : Metrics) (peers : List PeerMetrics)
-      → ((((text ++ drop 1 (flat_map led_lines (rights_metrics m))) ++ flat_map led_lines (state_metrics m))
+      → (((((text ++ drop 1 (flat_map led_lines (rights_metrics m))) ++ flat_map led_lines (state_metrics m))
       ++ flat_map led_lines (client_metrics m)) ++ flat_map led_lines (log_metrics peers))
-      ++ flat_map led_lines (line_metrics peers)
+      ++ flat_map led_lines (line_metrics peers)) ++ flat_map led_lines (journal_metrics m.journal)
       ≡ text ++ drop 1 (flat_map led_lines (all_metrics m peers))
   all_parts m peers = parts _ (drop 1 (rights_metrics m)) (state_metrics m) (client_metrics m) (log_metrics peers)
-      (line_metrics peers)
+      (line_metrics peers) (journal_metrics m.journal)
 
   pub whole_text : (m : Metrics) (peers : List PeerMetrics)
       → text ++ (drop 1 (flat_map led_lines (all_metrics m peers)) ++ 10 ∷ []) ≡ text ++ metrics_text m peers

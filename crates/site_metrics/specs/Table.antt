@@ -1,9 +1,10 @@
 -- The metrics of a site, in their order.
-use Rattle.std.specs.Prelude.{ℕ, Bool, List, [], ◌∷◌, ◌++◌, codes, decimal, map, if◌then◌else◌}
+use Rattle.std.specs.Prelude.{ℕ, Bool, List, [], ◌∷◌, ◌++◌, Option, Some, None, codes, decimal, map, if◌then◌else◌}
 use Rattle.std.specs.List.{zip}
 use Rattle.site_metrics.specs.declared.kind.Kind.{Kind}
 use Rattle.site_metrics.specs.declared.kind.Kind.TheVariants.{Gauge, Counter}
 use Rattle.site_metrics.specs.declared.metrics.Metrics.{Metrics}
+use Rattle.site_metrics.specs.declared.metrics.JournalMetrics.{JournalMetrics}
 use Rattle.site_metrics.specs.declared.metrics.PeerMetrics.{PeerMetrics}
 use Rattle.site_metrics.specs.declared.peer_value.PeerValue.{PeerValue}
 use Rattle.site_metrics.specs.declared.peer_value.PeerValue.TheVariants.{Applied, Buffering, Held, Receiving, Sending, Silent}
@@ -124,9 +125,25 @@ log_metrics peers = map (λ v. peer_metric v peers) (Applied ∷ Buffering ∷ H
 abbrev pub line_metrics : List PeerMetrics → List Family
 line_metrics peers = map (λ v. peer_metric v peers) (Lines ∷ Refused ∷ Dropped ∷ Waiting ∷ WentBack ∷ [])
 
+abbrev pub values_metrics : JournalMetrics → List Family
+values_metrics j =
+    counter (codes "rights_journal_records_total")
+    (codes "Records made for the journal, those of earlier processes among them.") (alone j.records)
+    ∷ counter (codes "rights_journal_records_durable_total") (codes "Records of the journal that are on its disk.")
+    (alone j.durable)
+    ∷ gauge (codes "rights_journal_bytes") (codes "Bytes of the journal up to its last sync.") (alone j.bytes)
+    ∷ gauge (codes "rights_journal_synced_timestamp_seconds")
+    (codes "When the journal was last synced, in seconds since 1970.") (alone j.synced)
+    ∷ []
+
+-- none without a journal
+abbrev pub journal_metrics : Option JournalMetrics → List Family
+journal_metrics None = []
+journal_metrics (Some j) = values_metrics j
+
 abbrev pub all_metrics : Metrics → List PeerMetrics → List Family
 all_metrics m peers = rights_metrics m
-    ++ (state_metrics m ++ (client_metrics m ++ (log_metrics peers ++ line_metrics peers)))
+    ++ (state_metrics m ++ (client_metrics m ++ (log_metrics peers ++ (line_metrics peers ++ journal_metrics m.journal))))
 
 -- the whole text of a site's metrics
 abbrev pub metrics_text : Metrics → List PeerMetrics → List ℕ

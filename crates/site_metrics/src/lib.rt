@@ -15,6 +15,6 @@ mod text;
 mod unsent;
 
 pub use counters::{CLIENTS, Counters, PeerCounters, WRITERS};
-pub use metrics::{Metrics, PeerMetrics};
+pub use metrics::{JournalMetrics, Metrics, PeerMetrics};
 pub use text::{PEER_ROOM, SITE_ROOM, put_metrics};
 pub use unsent::unsent_numbers;

@@ -37,6 +37,21 @@ pub struct Metrics {
     pub refused: [u64; REFUSAL_COUNT],
     /// The log lines that were not written to standard error.
     pub log_lines_dropped: u64,
+    /// `None` without a journal.
+    pub journal: Option<JournalMetrics>,
+}
+
+/// The values of a journal at one moment.
+#[derive(Clone, Copy)]
+pub struct JournalMetrics {
+    /// The records that were made for it, those of earlier processes among them.
+    pub records: u64,
+    /// How many of them are durable.
+    pub durable: u64,
+    /// The bytes of the file up to the last sync.
+    pub bytes: u64,
+    /// When that sync was, in seconds since 1970.
+    pub synced: u64,
 }
 
 /// The values of one peer at one moment.

@@ -4,10 +4,10 @@ ghost use Rattle.std.specs.Prelude.{OnOk, OnErr};
 ghost use Rattle.rights_types.specs.declared.limits.TheConstants.{MAX_SITES};
 ghost use Rattle.site_metrics.specs.Format.{led_lines};
 ghost use Rattle.site_metrics.specs.Table.{rights_metrics, state_metrics, client_metrics, log_metrics, line_metrics};
-ghost use Rattle.site_metrics.specs.Table.{all_metrics, metrics_text, bit};
+ghost use Rattle.site_metrics.specs.Table.{values_metrics, journal_metrics, all_metrics, metrics_text, bit};
 
 use crate::kind::Kind;
-use crate::metrics::{Metrics, PeerMetrics};
+use crate::metrics::{JournalMetrics, Metrics, PeerMetrics};
 use crate::peer_value::PeerValue;
 use crate::samples::{
     HEAD_ROOM, SAMPLE_ROOM, put_alone, put_by_name, put_by_peer, put_head, put_value,
@@ -82,7 +82,8 @@ fn put_all<A: Allocator>(
     put_state(metrics, replies)?;
     put_clients(metrics, replies)?;
     put_logs(peers, replies)?;
-    put_lines(peers, replies)
+    put_lines(peers, replies)?;
+    put_journal(metrics.journal, replies)
 }
 
 /// The name of the first metric.
@@ -252,6 +253,60 @@ fn put_lines<A: Allocator>(
     put_by_peer(replies, peers, PeerValue::Dropped)?;
     put_by_peer(replies, peers, PeerValue::Waiting)?;
     put_by_peer(replies, peers, PeerValue::WentBack)
+}
+
+fn put_journal<A: Allocator>(
+    journal: Option<JournalMetrics>,
+    replies: &mut Replies<A>,
+) -> Result<(), OutOfMemory>
+    ensures ok { OnOk result (replies.new.part ≡ replies.old.part ++ flat_map led_lines (journal_metrics journal)) }
+    ensures kept { replies.new.whole ≡ replies.old.whole }
+    ensures room { 4 * (HEAD_ROOM + SAMPLE_ROOM) ≤ replies.old.room → IsOk result }
+    ensures left { replies.old.room ≤ replies.new.room + (4 * (HEAD_ROOM + SAMPLE_ROOM)) }
+{
+    match journal {
+        Some(journal) => put_values(&journal, replies),
+        None => Ok(()),
+    }
+}
+
+fn put_values<A: Allocator>(
+    journal: &JournalMetrics,
+    replies: &mut Replies<A>,
+) -> Result<(), OutOfMemory>
+    ensures ok { OnOk result (replies.new.part ≡ replies.old.part ++ flat_map led_lines (values_metrics journal.now)) }
+    ensures kept { replies.new.whole ≡ replies.old.whole }
+    ensures room { 4 * (HEAD_ROOM + SAMPLE_ROOM) ≤ replies.old.room → IsOk result }
+    ensures left { replies.old.room ≤ replies.new.room + (4 * (HEAD_ROOM + SAMPLE_ROOM)) }
+{
+    put_alone(
+        replies,
+        Kind::Counter,
+        b"rights_journal_records_total",
+        b"Records made for the journal, those of earlier processes among them.",
+        journal.records,
+    )?;
+    put_alone(
+        replies,
+        Kind::Counter,
+        b"rights_journal_records_durable_total",
+        b"Records of the journal that are on its disk.",
+        journal.durable,
+    )?;
+    put_alone(
+        replies,
+        Kind::Gauge,
+        b"rights_journal_bytes",
+        b"Bytes of the journal up to its last sync.",
+        journal.bytes,
+    )?;
+    put_alone(
+        replies,
+        Kind::Gauge,
+        b"rights_journal_synced_timestamp_seconds",
+        b"When the journal was last synced, in seconds since 1970.",
+        journal.synced,
+    )
 }
 
 /// 1 if the value is true, else 0.
