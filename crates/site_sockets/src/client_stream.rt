@@ -28,7 +28,8 @@ const RESPONSE_PIECE: usize = 1_048_576;
 const LAST_MILLISECONDS: u64 = 100;
 
 /// The reading end of a client's stream. Errors: `TimedOut` if a request took too long, `ConnectionAborted` if the
-/// connection was ended for another one, `OutOfMemory` if there is no memory for the rest of a request.
+/// connection was ended for another one, or a request is cut off while the site ends, `OutOfMemory` if there is no memory
+/// for the rest of a request.
 #[derive(Drop)]
 pub struct ClientReader<'a, R> {
     rt: &'a R,
@@ -114,7 +115,7 @@ impl<'a, R: Wait + Clock> ClientReader<'a, R> {
         }
     }
 
-    /// The connection was ended for another one.
+    /// The connection ends, for another one or with the site. Its client has little time for a last response.
     fn give_way(&mut self) -> io::Result<usize>
         ensures { IfOk result (λ count. count ≡ 0) }
     {
@@ -138,6 +139,10 @@ impl<R: Wait + Clock> Read for ClientReader<'_, R> {
             return self.give_way();
         }
         let count = received?;
+        if count == 0 && self.begun.is_some() && self.clients.is_ending() {
+            // The end of the site may have ended the input as the request began, and not its client.
+            return self.give_way();
+        }
         if count > 0 && !self.clients.receives(self.rt, self.place, count) {
             return Err(io::Error::from(ErrorKind::OutOfMemory));
         }

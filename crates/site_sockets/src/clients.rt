@@ -1,5 +1,5 @@
 //! Client connections: accepting them, and what ends them.
-ghost use Rattle.std.specs.Prelude.{◌≡◌, map, IfOk};
+ghost use Rattle.std.specs.Prelude.{◌≡◌, map, is_some, IfOk};
 ghost use Rattle.std.specs.String.{string_bytes};
 
 use crate::activity::{Activity, Phase};
@@ -7,8 +7,10 @@ use crate::budget::{Budget, Share};
 use crate::client_stream::{ClientReader, ClientWriter, IDLE_MILLISECONDS, RESPONSE_MILLISECONDS};
 use crate::connection_pool::{ConnectionPool, NoPlace};
 use crate::deadline_reader::DeadlineReader;
+use crate::exits::shared;
 use crate::listening::Listening;
 use crate::stopwatch::Stopwatch;
+use durability::{Durability, ExitWriter};
 use log_lines::LogQueue;
 use rights_types::OutOfMemory;
 use site_metrics::CLIENTS;
@@ -75,6 +77,8 @@ pub struct Clients {
     listening: Listening,
     /// Where it is logged that clients are turned away, if it is.
     log: Option<Arc<LogQueue>>,
+    /// `None` without a journal.
+    durability: Option<Arc<Durability>>,
     /// The names of the host to which the site answers, besides `localhost`.
     pub hosts: Vec<String>,
     stopwatch: Stopwatch,
@@ -94,6 +98,7 @@ impl Clients {
         stopwatch: Stopwatch,
         config: &Config,
         log: Option<Arc<LogQueue>>,
+        durability: Option<Arc<Durability>>,
     ) -> Result<Clients, OutOfMemory>
         ensures { IfOk result (λ clients. map string_bytes clients.hosts.items ≡ config.now.options.hosts) }
     {
@@ -107,6 +112,7 @@ impl Clients {
         Ok(Clients {
             listening,
             log,
+            durability,
             hosts: copies_of(alloc, config.hosts())?,
             stopwatch,
             pool: ConnectionPool::new(alloc, CLIENTS)?,
@@ -251,14 +257,17 @@ impl Clients {
         ClientReader::new(rt, self, stream, place.index)
     }
 
-    /// The writing end of the stream of the client at this place.
+    /// The writing end of the stream of the client at this place, an exit.
     pub fn writer<'a, R: Wait + Clock>(
         &'a self,
         rt: &'a R,
         stream: &'a TcpStream,
         place: &ClientPlace,
-    ) -> ClientWriter<'a, R> {
-        ClientWriter::new(rt, self, stream, place.index)
+    ) -> ExitWriter<'a, R, ClientWriter<'a, R>>
+        ensures { is_some result.durability ≡ is_some self.now.durability }
+    {
+        let writer = ClientWriter::new(rt, self, stream, place.index);
+        ExitWriter::new(rt, shared(&self.durability), writer)
     }
 
     /// No thread could be started for a connection.
@@ -325,6 +334,10 @@ impl Clients {
 
     pub(crate) fn is_idle(&self, place: usize) -> bool {
         self.pool.is_idle(place)
+    }
+
+    pub(crate) fn is_ending(&self) -> bool {
+        self.pool.is_ending()
     }
 
     pub(crate) fn is_done(&self, place: usize) -> bool {

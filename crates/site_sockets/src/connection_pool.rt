@@ -185,9 +185,14 @@ impl ConnectionPool {
         }
     }
 
+    /// Whether no further request may begin.
+    pub(crate) fn is_ending(&self) -> bool {
+        self.is_ending.load(Ordering::SeqCst)
+    }
+
     /// Whether the connection at this place has come to its end: it is idle, and no further request may begin.
     pub(crate) fn is_done(&self, place: usize) -> bool {
-        self.is_ending.load(Ordering::SeqCst) && self.is_idle(place)
+        self.is_ending() && self.is_idle(place)
     }
 
     /// Closes the pool to new connections. The input of each connection that is idle, or becomes idle later, has

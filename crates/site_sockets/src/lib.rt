@@ -10,7 +10,9 @@ mod clients;
 mod connection_pool;
 mod connection_slot;
 mod deadline_reader;
+mod entrance;
 mod events;
+mod exits;
 mod limits;
 mod listening;
 mod peer;
@@ -25,7 +27,7 @@ mod site_clock;
 mod stopwatch;
 mod tick_notifier;
 
-pub use acceptor::begin_acceptor;
+pub use acceptor::begin_acceptors;
 pub use client_stream::{ClientReader, ClientWriter};
 pub use clients::{Accepted, ClientPlace, Clients, ClosingPlace, bounded_reader};
 pub use connection_slot::{Connection, ConnectionSlot};

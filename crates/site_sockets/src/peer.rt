@@ -1,19 +1,22 @@
 //! What a site keeps for each other site.
-ghost use Rattle.std.specs.Prelude.{◌≡◌, ◌≤◌};
+ghost use Rattle.std.specs.Prelude.{◌≡◌, ◌≤◌, false, is_some, IsSome};
 ghost use Rattle.peer_links.specs.declared.outbox.TheConstants.{OUTBOX_LINES};
 ghost use Rattle.entry_codec.specs.Pieces.{IsLine};
 ghost use Rattle.peer_links.specs.Outboxes.{PutsIf};
 
 use crate::connection_slot::ConnectionSlot;
 use crate::events::LinkEvents;
+use crate::exits::{share_of, shared};
 use crate::peer_writer::PeerWriter;
 use crate::shutdown_handle::ShutdownHandle;
 use crate::stopwatch::Stopwatch;
+use durability::{Durability, ExitWriter};
 use log_lines::LogQueue;
 use peer_links::{OUTBOX_LINES, Outbox, OutboxLines};
 use rights_types::{MAX_HELD, OutOfMemory, SiteId};
 use site_words::Config;
 use std::alloc::Global;
+use std::io::Write;
 use std::marker::Model;
 use std::sync::atomic::{AtomicBool, AtomicU64, Ordering};
 use std::sync::{Arc, Wait};
@@ -33,6 +36,8 @@ pub struct PeerState {
     pub(crate) writer: PeerWriter,
     /// The same connection, for the thread that shuts it down.
     pub(crate) sending: ShutdownHandle,
+    /// `None` without a journal.
+    durability: Option<Arc<Durability>>,
     /// The connections that it opened.
     pub connection_slot: ConnectionSlot,
     /// What happened on the links with it.
@@ -54,6 +59,7 @@ impl PeerState {
         address: &str,
         stopwatch: Stopwatch,
         log: Option<Arc<LogQueue>>,
+        durability: Option<Arc<Durability>>,
     ) -> Result<PeerState, OutOfMemory> {
         Ok(PeerState {
             site,
@@ -61,6 +67,7 @@ impl PeerState {
             outbox: Outbox::new(alloc)?,
             writer: PeerWriter::new(alloc),
             sending: ShutdownHandle::new(),
+            durability,
             connection_slot: ConnectionSlot::new(),
             events: LinkEvents::new(site, log),
             buffer: AtomicU64::new(0),
@@ -79,9 +86,31 @@ impl PeerState {
     }
 
     /// Writes this line at once if no line waits to be sent. `false` if it was not written, and is to be put into the
-    /// outbox. The caller holds no lock, since a write may take 5 milliseconds.
-    pub fn write_now<R: Wait>(&self, rt: &R, line: &[u8]) -> bool {
-        self.writer.write_now(rt, &self.outbox, line)
+    /// outbox: always so with a journal, since only the sending thread waits until records are durable. The caller
+    /// holds no lock, since a write may take 5 milliseconds.
+    pub fn write_now<R: Wait>(&self, rt: &R, line: &[u8]) -> bool
+        ensures { IsSome self.now.durability → result ≡ false }
+    {
+        self.durability.is_none() && self.writer.write_now(rt, &self.outbox, line)
+    }
+
+    /// The exit to the peer, on a connection.
+    pub(crate) fn exit<'a, R: Wait, W: Write>(
+        &'a self,
+        rt: &'a R,
+        stream: W,
+    ) -> ExitWriter<'a, R, W>
+        ensures { is_some result.durability ≡ is_some self.now.durability }
+    {
+        ExitWriter::new(rt, shared(&self.durability), stream)
+    }
+
+    /// Whether nothing may be sent to it any more, since the records that the site made will not be durable.
+    pub(crate) fn is_shut<R: Wait>(&self, rt: &R) -> bool {
+        match &self.durability {
+            Some(durability) => durability.is_shut(rt),
+            None => false,
+        }
     }
 
     /// Makes room in the outbox for the lines that are due, if the peer takes those that wait there: blocks until these
@@ -182,12 +211,14 @@ pub(crate) fn peers_of(
     config: &Config,
     stopwatch: Stopwatch,
     log: &Arc<LogQueue>,
+    durability: &Option<Arc<Durability>>,
 ) -> Result<Vec<PeerState>, OutOfMemory> {
     let mut peers = Vec::new(alloc);
     for peer in config.peers() {
         let log = event_log(config, log)?;
         let (site, address) = (peer.site(), peer.address());
-        peers.push(PeerState::new(alloc, site, address, stopwatch, log)?)?;
+        let durability = share_of(durability)?;
+        peers.push(PeerState::new(alloc, site, address, stopwatch, log, durability)?)?;
     }
     Ok(peers)
 }

@@ -5,6 +5,7 @@ use crate::peer::PeerState;
 use crate::peer_writer::{PatientStream, Writing};
 use crate::polling::Polling;
 use crate::site::{CONNECT_SECONDS, SiteSockets};
+use durability::ExitWriter;
 use entry_codec::write_line;
 use line_streams::write_whole;
 use peer_links::{Batch, LineSource, Outbox, write_link};
@@ -131,7 +132,7 @@ impl LineSource for Noted<'_> {
 }
 
 /// Sends the lines that wait for this peer, until its outbox has ended and is empty. A line taken while there is no
-/// connection causes one attempt to connect, and is lost if that fails.
+/// connection causes one attempt to connect, and is lost if that fails. It ends too once nothing may be sent any more.
 fn send_to<R: Net<Stream = TcpStream> + Wait + Clock + AllocGlobal>(
     rt: &R,
     site: &SiteSockets,
@@ -142,6 +143,9 @@ fn send_to<R: Net<Stream = TcpStream> + Wait + Clock + AllocGlobal>(
         let Some(line) = peer.outbox.take(rt) else {
             break;
         };
+        if peer.is_shut(rt) {
+            break;
+        }
         let stream = match connect(rt, peer.address.as_str()) {
             Ok(stream) => stream,
             Err(error) => {
@@ -179,10 +183,16 @@ fn send_by<'x, R: Wait + Clock + AllocGlobal>(
     let since = peer.now(rt);
     peer.events.connects(rt);
     peer.events.writes();
-    let is_sent = send_hello(rt.alloc(), site.id, &mut stream, line.as_slice())
+    let is_begun = send_hello(
+        rt,
+        site.id,
+        &mut peer.exit(rt, &mut stream),
+        line.as_slice(),
+    );
+    let is_sent = is_begun
         && {
             peer.writer.open(rt, &stream);
-            let mut stream = ProvingStream {
+            let stream = ProvingStream {
                 stream: PatientStream {
                     rt,
                     stream: &stream,
@@ -190,7 +200,7 @@ fn send_by<'x, R: Wait + Clock + AllocGlobal>(
                 peer,
                 since,
             };
-            write_link(rt, &mut stream, &mut Noted::new(peer)).is_ok()
+            write_link(rt, &mut peer.exit(rt, stream), &mut Noted::new(peer)).is_ok()
         };
     peer.writer.close(rt);
     peer.sending.release(rt);
@@ -201,11 +211,16 @@ fn send_by<'x, R: Wait + Clock + AllocGlobal>(
 }
 
 /// Writes the first line of a connection, and the line for which it was made. `false` if that fails.
-fn send_hello(alloc: Global, site: SiteId, stream: &mut TcpStream, line: &[u8]) -> bool {
-    let Ok(mut text) = write_line(alloc, &Message::<Global>::Hello(site)) else {
+fn send_hello<R: Wait + AllocGlobal, W: Write>(
+    rt: &R,
+    site: SiteId,
+    exit: &mut ExitWriter<'_, R, W>,
+    line: &[u8],
+) -> bool {
+    let Ok(mut text) = write_line(rt.alloc(), &Message::<Global>::Hello(site)) else {
         return false;
     };
-    text.extend_from_slice(line).is_ok() && write_whole(stream, text.as_slice()).is_ok()
+    text.extend_from_slice(line).is_ok() && write_whole(exit, text.as_slice()).is_ok()
 }
 
 /// A connection to a peer which, while it is on trial, is looked at before each write.

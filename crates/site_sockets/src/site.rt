@@ -1,15 +1,16 @@
 //! What the threads of a site share, besides its desk.
-ghost use Rattle.std.specs.Prelude.{◌≡◌, IfSome};
+ghost use Rattle.std.specs.Prelude.{◌≡◌, is_some, IfSome};
 
-use crate::acceptor::WAITING;
 use crate::clients::Clients;
-use crate::connection_pool::{ConnectionPool, NoPlace};
+use crate::entrance::{Entrance, entrances_of};
+use crate::exits::{share_of, shared};
 use crate::listening::{Listening, listen};
 use crate::peer::{PeerState, event_log, peers_of};
 use crate::sending::Senders;
 use crate::site_clock::SiteClock;
 use crate::stopwatch::Stopwatch;
 use crate::tick_notifier::TickNotifier;
+use durability::Durability;
 use log_lines::LogQueue;
 use rights_types::{OutOfMemory, SiteId};
 use site_metrics::Counters;
@@ -33,11 +34,10 @@ const LAST_LINES_SECONDS: u64 = 1;
 #[derive(Drop)]
 pub struct SiteSockets {
     pub(crate) id: SiteId,
-    pub(crate) listening: Listening,
+    /// The addresses at which peers connect.
+    pub(crate) entrances: Vec<Entrance>,
     /// The peers, in the order of the sites.
     peers: Vec<PeerState>,
-    /// The connections that wait for their first line.
-    pub(crate) handshakes: ConnectionPool,
     pub(crate) senders: Senders,
     /// Accepts clients, if any may connect.
     pub clients: Option<Clients>,
@@ -54,40 +54,50 @@ pub struct SiteSockets {
     pub log: Arc<LogQueue>,
     /// Whether a memory request of an applier was refused.
     out_of_memory: AtomicBool,
+    /// `None` without a journal.
+    durability: Option<Arc<Durability>>,
     /// Whether all connections were shut down.
     is_over: AtomicBool,
 }
 
 impl SiteSockets {
-    /// A site that listens for peers, and for clients if the configuration says so. Errors, in this order:
-    /// `CannotListen`, `OutOfMemory`.
+    /// A site that listens for peers, and for clients if the configuration says so. With a journal nothing is written
+    /// to them before all records made by then are durable. Errors: `CannotListen`, `OutOfMemory`.
     pub fn open<R: Net<Listener = TcpListener, Stream = TcpStream> + Clock + AllocGlobal>(
         rt: &R,
         config: &Config,
+        durability: Option<Arc<Durability>>,
     ) -> Result<SiteSockets, SiteFault> {
         let Ok(stopwatch) = Stopwatch::start(rt) else {
             return Err(SiteFault::CannotListen);
         };
-        let listener = listen(rt, config.listen())?;
         let log = Arc::new(rt.alloc(), LogQueue::new(rt.alloc())?)?;
-        let listening = Listening::new(listener, stopwatch, event_log(config, &log)?);
-        let clients = clients_of(rt, config, stopwatch, &log)?;
-        Ok(SiteSockets::new(rt.alloc(), config, stopwatch, listening, clients, log)?)
+        let entrances = entrances_of(rt, config, stopwatch, &log)?;
+        let clients = clients_of(rt, config, stopwatch, &log, &durability)?;
+        Ok(SiteSockets::new(
+            rt.alloc(),
+            config,
+            stopwatch,
+            entrances,
+            clients,
+            log,
+            durability,
+        )?)
     }
 
     fn new(
         alloc: Global,
         config: &Config,
         stopwatch: Stopwatch,
-        listening: Listening,
+        entrances: Vec<Entrance>,
         clients: Option<Clients>,
         log: Arc<LogQueue>,
+        durability: Option<Arc<Durability>>,
     ) -> Result<SiteSockets, OutOfMemory> {
         Ok(SiteSockets {
             id: config.id(),
-            listening,
-            peers: peers_of(alloc, config, stopwatch, &log)?,
-            handshakes: ConnectionPool::new(alloc, WAITING)?,
+            entrances,
+            peers: peers_of(alloc, config, stopwatch, &log, &durability)?,
             senders: Senders::new(),
             clients,
             tick_notifier: TickNotifier::new(),
@@ -97,16 +107,18 @@ impl SiteSockets {
             commands: Counters::new(),
             log,
             out_of_memory: AtomicBool::new(false),
+            durability,
             is_over: AtomicBool::new(false),
         })
     }
 
-    /// Logs the address on which the site listens, if logging is on.
+    /// Logs the addresses on which the site listens, if logging is on.
     pub fn announce<R: Wait>(&self, rt: &R, config: &Config) {
         if !config.log() {
             return;
         }
-        let (id, sites, listen) = (config.id().number(), config.sites(), config.listen());
+        let (id, sites) = (config.id().number(), config.sites());
+        let listen = config.listen().unwrap_or("an address for each peer");
         match config.http() {
             Some(http) => self.log.put(
                 rt,
@@ -120,6 +132,20 @@ impl SiteSockets {
                 format_args!("site {} of {} listens on {}", id, sites, listen),
             ),
         }
+        for entrance in config.entrances() {
+            let (site, address) = (entrance.site().number(), entrance.address());
+            self.log.put(
+                rt,
+                format_args!("site {} is let in on {} only", site, address),
+            );
+        }
+    }
+
+    /// How far the site's records are durable. `None` without a journal.
+    pub fn durability(&self) -> Option<&Durability>
+        ensures { is_some result ≡ is_some self.now.durability }
+    {
+        shared(&self.durability)
     }
 
     /// The peers, in the order of the sites.
@@ -165,32 +191,6 @@ impl SiteSockets {
         self.is_over.load(Ordering::SeqCst)
     }
 
-    /// The next connection that gets a place to wait for its first line. `None` once the site ends.
-    pub(crate) fn accept<R: Wait + Clock>(&self, rt: &R) -> Option<(TcpStream, usize)> {
-        for _ in rt.forever() {
-            if self.handshakes.is_closed(rt) {
-                return None;
-            }
-            if let Some(accepted) = self.next(rt) {
-                return Some(accepted);
-            }
-        }
-        unreachable!()
-    }
-
-    /// A connection that comes soon, and its place.
-    fn next<R: Wait + Clock>(&self, rt: &R) -> Option<(TcpStream, usize)> {
-        let stream = self.listening.look(rt)?;
-        match self.handshakes.enter(rt, &stream) {
-            Ok(place) => Some((stream, place)),
-            Err(NoPlace::NoHandle) => {
-                self.listening.note_no_handle(rt);
-                None
-            }
-            Err(_) => None,
-        }
-    }
-
     /// Ends the waiting for ticks, and lets no further request begin. For a while requests that have begun are still
     /// answered.
     pub fn end_clients<R: Wait + Clock>(&self, rt: &R) {
@@ -216,7 +216,9 @@ impl SiteSockets {
         if let Some(clients) = &self.clients {
             clients.close(rt);
         }
-        self.handshakes.close(rt);
+        for entrance in &self.entrances {
+            entrance.handshakes.close(rt);
+        }
         for peer in &self.peers {
             peer.close(rt);
         }
@@ -229,6 +231,7 @@ fn clients_of<R: Net<Listener = TcpListener, Stream = TcpStream> + Clock + Alloc
     config: &Config,
     stopwatch: Stopwatch,
     log: &Arc<LogQueue>,
+    durability: &Option<Arc<Durability>>,
 ) -> Result<Option<Clients>, SiteFault> {
     let Some(address) = config.http() else {
         return Ok(None);
@@ -236,5 +239,6 @@ fn clients_of<R: Net<Listener = TcpListener, Stream = TcpStream> + Clock + Alloc
     let listener = listen(rt, address)?;
     let listening = Listening::new(listener, stopwatch, event_log(config, log)?);
     let events = event_log(config, log)?;
-    Ok(Some(Clients::new(rt.alloc(), listening, stopwatch, config, events)?))
+    let durability = share_of(durability)?;
+    Ok(Some(Clients::new(rt.alloc(), listening, stopwatch, config, events, durability)?))
 }
