@@ -3,3 +3,4 @@ mod SendLaws
 mod SettleLaws
 mod ConfirmedLaws
 mod EndingLaws
+mod StartLaws

@@ -1,5 +1,5 @@
 -- What was offered to the outbox of a peer, and the status of a site.
-use Rattle.std.proofs.Common.{◌≡◌, ◌∙◌, ℕ, ◌<◌, Some, ap, sym, List, [], ◌∷◌, ◌++◌, length, Result, Ok, Err, OnOk, OnErr, IfOk, refl}
+use Rattle.std.proofs.Common.{◌≡◌, ◌∙◌, ℕ, ◌<◌, Option, Some, ap, sym, List, [], ◌∷◌, ◌++◌, length, Result, Ok, Err, OnOk, OnErr, IfOk, refl}
 use Rattle.std.proofs.Math.ListN.{get_or}
 use Rattle.std.proofs.lemmas.Option.{slice_get-get_or}
 use Rattle.rights_types.specs.declared.fault.OutOfMemory.{OutOfMemory}
@@ -9,10 +9,12 @@ use Rattle.apply_lanes.specs.Names.{DeskId}
 use Rattle.apply_lanes.specs.Kepts.{KeptValue, IsKept}
 use Rattle.site_sockets.specs.declared.peer.PeerState.{PeerState}
 use Rattle.site_words.specs.Status.{status_text}
+use Rattle.site_words.specs.declared.status_object.JournalView.{JournalView}
 use Rattle.site_words.specs.declared.status_object.PeerView.{PeerView}
 use Rattle.site_metrics.specs.Table.{metrics_text}
 use Rattle.site_metrics.specs.declared.metrics.Metrics.{Metrics}
 use Rattle.site_metrics.specs.declared.metrics.PeerMetrics.{PeerMetrics}
+use Rattle.site_server.specs.Journals.{IsJournalView}
 use Rattle.site_server.specs.Measuring.{AreMetrics, TellsMetrics}
 use Rattle.site_server.specs.Outboxes.{SendingValue, SendsAll, SendsFront, SendsToPeer, StopsAtOutbox}
 use Rattle.site_core.specs.Desks.{DeskValue}
@@ -51,13 +53,24 @@ module _ (id : DeskId) (peers : List PeerState) (index : ℕ) (peer : PeerState)
         sends = sends;
       }
 
-pub tells_status : (id : DeskId) (view : DeskView) (peers slice : List PeerView) (old new : Waiting)
-    (result : Result (Unit {0}) OutOfMemory)
-    → AreViews id view peers → slice ≡ peers → OnOk result (AddsReply old new (status_text view slice))
+pub tells_status : (id : DeskId) (view : DeskView) (peers slice : List PeerView) (journal : Option JournalView)
+    (old new : Waiting) (result : Result (Unit {0}) OutOfMemory)
+    → AreViews id view peers → IsJournalView journal → slice ≡ peers
+    → OnOk result (AddsReply old new (status_text view slice journal))
     → OnOk result ((text : List ℕ) × TellsStatus id text × AddsReply old new text)
-tells_status id view peers slice old new (Ok done) views same adds =
-    (status_text view slice, record { view = view; peers = peers; views = views; says = rw same refl }, adds)
-tells_status id view peers slice old new (Err fault) views same adds = tt
+tells_status id view peers slice journal old new (Ok done) views counted same adds = (
+  status_text view slice journal,
+  record {
+    view = view;
+    peers = peers;
+    journal = journal;
+    views = views;
+    counted = counted;
+    says = rw same refl;
+  },
+  adds,
+)
+tells_status id view peers slice journal old new (Err fault) views counted same adds = tt
 
 pub tells_metrics : (id : DeskId) (metrics : Metrics) (peers slice : List PeerMetrics) (old new : Waiting)
     (result : Result (Unit {0}) OutOfMemory)

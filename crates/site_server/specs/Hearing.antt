@@ -7,8 +7,8 @@ use Rattle.sub_buffer.specs.Buffers.{BufferValue}
 use Rattle.site_node.specs.Hearing.{AnswersQuery, AnswersAsk, NotesDenial}
 use Rattle.peer_links.specs.Ports.{Heard}
 use Rattle.peer_links.specs.Ports.Heard.{AMessage, ALine, AState}
-use Rattle.peer_links.specs.declared.link.DeskMessage.{DeskMessage}
-use Rattle.peer_links.specs.declared.link.DeskMessage.TheVariants.{Query, Ask, Deny}
+use Rattle.link_intake.specs.declared.desk_message.DeskMessage.{DeskMessage}
+use Rattle.link_intake.specs.declared.desk_message.DeskMessage.TheVariants.{Query, Ask, Deny}
 
 -- the buffer is for another site of the desk's system, at the desk's site
 pub record IsBufferAt (id : DeskId) (buffer : BufferValue) : Type 0 where

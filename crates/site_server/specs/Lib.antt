@@ -2,9 +2,11 @@
 pub mod Replying
 pub mod Settling
 pub mod Measuring
+pub mod Journals
 pub mod Connections
 pub mod Outboxes
 pub mod Hearing
 pub mod Conversations
 pub mod Requests
 pub mod Ending
+pub mod Starting

@@ -10,6 +10,7 @@ use Rattle.apply_lanes.specs.Views.{IsViewOf}
 use Rattle.site_metrics.specs.Table.{metrics_text}
 use Rattle.site_metrics.specs.declared.metrics.Metrics.{Metrics}
 use Rattle.site_metrics.specs.declared.metrics.PeerMetrics.{PeerMetrics}
+use Rattle.site_server.specs.Journals.{AreJournalMetrics}
 use Rattle.site_server.specs.declared.site.measuring.DeskValues.{DeskValues}
 
 -- each value of the desk is in its field; the other fields are counters and values of threads
@@ -39,11 +40,12 @@ pub record AreValues (id : DeskId) (values : DeskValues) (peers : List PeerMetri
   pub unread : values.unread ≡ length kept.desk.queue.outcomes
   pub applied : All (HasApplied kept.desk) peers
 
--- the same, and the site's metrics have these values
+-- the same, and the site's metrics have these values, and the counts of the journal at one moment
 pub record AreMetrics (id : DeskId) (metrics : Metrics) (peers : List PeerMetrics) : Type 0 where
   pub values : DeskValues
   pub of_desk : AreValues id values peers
   pub has : HasValues values metrics
+  pub journal : AreJournalMetrics metrics.journal
 
 -- the text of such metrics
 pub record TellsMetrics (id : DeskId) (text : List ℕ) : Type 0 where

@@ -22,6 +22,7 @@ use Rattle.site_words.specs.Status.{status_text}
 use Rattle.site_words.specs.declared.commands.DeskCommand.{DeskCommand}
 use Rattle.site_words.specs.declared.commands.SiteCommand.{SiteCommand}
 use Rattle.site_words.specs.declared.commands.SiteCommand.TheVariants.{AtDesk, Tick, RefusedTick, Status, Queue, Quit}
+use Rattle.site_words.specs.declared.status_object.JournalView.{JournalView}
 use Rattle.site_words.specs.declared.status_object.PeerView.{PeerView}
 use Rattle.site_sockets.specs.declared.peer.PeerState.{PeerState}
 use Rattle.desk_turns.specs.Seated.{SeatedValue, ActsAtDesk, TicksAtDesk}
@@ -29,6 +30,7 @@ use Rattle.site_node.specs.Texts.{reply_text, reply_answered, tick_text, tick_an
 use Rattle.site_node.specs.ToPeers.{SendsToFirst, StopsAtPeer}
 use Rattle.site_node.specs.declared.reply.Reply.{Reply}
 use Rattle.site_node.specs.declared.tick.Ticked.{Ticked}
+use Rattle.site_server.specs.Journals.{IsJournalView}
 
 -- the command that a line, with its line feed, spells, if the site's own clock shows this time; `None` if it spells
 -- none, or has more bytes than a line may have
@@ -63,12 +65,14 @@ pub record AreViews (id : DeskId) (view : DeskView) (views : List PeerView) : Ty
   pub peers : List PeerState
   pub of_peers : AreOfPeers kept.desk peers views
 
--- the text of a status object with such views
+-- the text of a status object with such views, and with the counts of the journal at one moment
 pub record TellsStatus (id : DeskId) (text : List ℕ) : Type 0 where
   pub view : DeskView
   pub peers : List PeerView
+  pub journal : Option JournalView
   pub views : AreViews id view peers
-  pub says : text ≡ status_text view peers
+  pub counted : IsJournalView journal
+  pub says : text ≡ status_text view peers journal
 
 -- the spends that wait at the desk at one moment, and how many outcomes nobody has read
 pub record TellsQueue (id : DeskId) (text : List ℕ) : Type 0 where

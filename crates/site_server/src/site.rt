@@ -1,18 +1,23 @@
 //! One site of a system as a process. It reads its commands one after another from a reader. Everything that other
 //! sites send arrives over TCP, and is taken in by threads of its own. The command thread does not wait for any peer:
 //! what it sends goes into bounded outboxes.
-ghost use Rattle.std.specs.Prelude.{◌≡◌};
+ghost use Rattle.std.specs.Prelude.{◌≡◌, []};
 ghost use Rattle.apply_lanes.specs.Names.{id_of, AreBlank, IsUnused};
+ghost use Rattle.site_server.specs.Starting.{IsUntouched};
 
 mod client;
 mod command_reader;
 mod connection;
 mod ending;
+mod journaling;
+mod keeping;
 mod locked_outbox;
 mod logging;
 mod measuring;
 mod outboxes;
+mod progress_lines;
 mod receiving;
+mod replaying;
 mod runtime;
 mod serving;
 mod settling;
@@ -27,8 +32,11 @@ mod ticking;
 use crate::site::client::client_at;
 use crate::site::command_reader::CommandReader;
 use crate::site::ending::{say_no_report, say_report, say_unsent, stop_desk};
+use crate::site::journaling::open_journal;
+use crate::site::keeping::{Keeper, announce_journal, begin_counts, begin_keeper};
 use crate::site::logging::{begin_log, end_log};
 use crate::site::receiving::{PeerLink, links_of};
+use crate::site::replaying::{Replayed, replay};
 use crate::site::runtime::SiteRuntime;
 use crate::site::serving::begin_clients;
 use crate::site::shared::{COMMANDS, Shared};
@@ -36,12 +44,14 @@ use crate::site::starting::start_once;
 use crate::site::ticking::{begin_ticks, tick_last};
 use apply_lanes::{Blanks, DeskNames};
 use desk_turns::Seats;
+use durability::{Durability, ExitWriter};
+use journal_file::{FileDevice, Unknown};
 use line_streams::ConversationError;
 use log_lines::LogWriter;
 use site_core::Desk;
-use site_sockets::{PeerState, SiteSockets, begin_acceptor, begin_sender};
+use site_sockets::{PeerState, SiteSockets, begin_acceptors, begin_sender};
 use site_words::{Config, SiteFault};
-use std::fs::Files;
+use std::fs::{File, Files};
 use std::io::{Read, Write};
 use std::marker::Brand;
 use std::net::{Net, TcpListener, TcpStream};
@@ -60,12 +70,26 @@ struct Streams<I, W, E> {
     errors: E,
 }
 
+/// The journal of a site at its start.
+#[derive(Drop)]
+struct Journaled<'a> {
+    path: &'a str,
+    device: FileDevice<Unknown>,
+}
+
+/// What the threads of a site begin with.
+#[derive(Drop)]
+struct Begun<D: DeskNames> {
+    links: Vec<PeerLink<D>>,
+    keeper: Option<Keeper<D>>,
+}
+
 /// Runs one site until `quit` or the end of its commands. It listens before it reads the first one. Replies are
 /// written before each read, so they never wait for further commands. A read or a write of `errors` that fails with
 /// `WouldBlock` is tried again: no thread but that of the log waits for `errors`, and a silent input does not keep the
-/// site from ending for lack of memory. Errors before the first read, in this order: `CannotListen`; `StartedBefore` or
-/// `CannotCreateStartFile`; `OutOfMemory`, also if a thread cannot be started. So a site that cannot listen does not
-/// count as started.
+/// site from ending for lack of memory. Errors before the first read: `CannotListen`, and after that `StartedBefore` or
+/// `CannotCreateStartFile`; at any point `OutOfMemory`, also if a thread cannot be started; with a journal also
+/// `Explained`. So a site that cannot listen does not count as started.
 pub fn run_site<
     R: Net<Listener = TcpListener, Stream = TcpStream>
         + Threads
@@ -73,22 +97,100 @@ pub fn run_site<
         + Clock
         + RandomSource
         + AllocGlobal
-        + Files
+        + Files<File = File>
         + Sync,
     I: Read,
     W: Write,
     E: Write + Send + Drop,
 >(rt: &R, config: Config, reader: &mut I, writer: &mut W, errors: E) -> Result<(), SiteFault> {
-    let site = SiteSockets::open(rt, &config)?;
-    start_once(rt, config.once())?;
-    site.announce(rt, &config);
-    let desk = Desk::new(rt.alloc(), config.id(), config.sites())?;
     let streams = Streams {
         reader,
         writer,
         errors,
     };
-    serve::<Brand, R, &mut I, &mut W, E>(rt, &config, &site, desk, Blanks::new(), streams)
+    match config.journal() {
+        Some(path) => run_with_journal(rt, &config, path, streams),
+        None => run_in_memory(rt, &config, streams),
+    }
+}
+
+/// Runs a site without a journal.
+fn run_in_memory<R: SiteRuntime + Files, I: Read + Drop, W: Write + Drop, E: Write + Send + Drop>(
+    rt: &R,
+    config: &Config,
+    streams: Streams<I, W, E>,
+) -> Result<(), SiteFault> {
+    let site = SiteSockets::open(rt, config, None)?;
+    start_once(rt, config.once())?;
+    site.announce(rt, config);
+    let desk = Desk::new(rt.alloc(), config.id(), config.sites())?;
+    serve::<Brand, R, I, W, E>(rt, config, &site, desk, Blanks::new(), streams)
+}
+
+/// Runs a site with the journal at this path.
+fn run_with_journal<
+    R: SiteRuntime + Files<File = File>,
+    I: Read + Drop,
+    W: Write + Drop,
+    E: Write + Send + Drop,
+>(rt: &R, config: &Config, path: &str, mut streams: Streams<I, W, E>) -> Result<(), SiteFault> {
+    let device = open_journal(rt, path, Unknown, &mut streams.errors)?;
+    let desk = Desk::new(rt.alloc(), config.id(), config.sites())?;
+    let journaled = Journaled { path, device };
+    serve_again::<Brand, R, I, W, E>(rt, config, journaled, desk, Blanks::new(), streams)
+}
+
+/// Shares the desk of a site, replays the journal, and runs the site. No port is opened before that.
+fn serve_again<
+    D: DeskNames + Send + Sync,
+    R: SiteRuntime + Files<File = File>,
+    I: Read + Drop,
+    W: Write + Drop,
+    E: Write + Send + Drop,
+>(
+    rt: &R,
+    config: &Config,
+    journaled: Journaled<'_>,
+    desk: Desk,
+    blanks: Blanks,
+    mut streams: Streams<I, W, E>,
+) -> Result<(), SiteFault>
+    requires journal { IsUntouched [] journaled.device }
+    requires id { D.id ≡ id_of desk blanks }
+    requires blanks { AreBlank blanks }
+    requires unused { IsUnused desk }
+    requires configured { (D.id.site ≡ config.now.id) × (D.id.sites ≡ config.now.sites) }
+{
+    let alloc = rt.alloc();
+    let durability = Arc::new(alloc, Durability::new())?;
+    let shared = Shared::<D>::new(rt, alloc, desk, blanks, Some(durability.clone()?))?;
+    let mut links = links_of(rt, alloc, config, &shared)?;
+    let Journaled { path, device } = journaled;
+    let Replayed { journal, made } = replay(
+        rt,
+        config,
+        path,
+        &shared,
+        &mut links,
+        device,
+        &mut streams.errors,
+    )?;
+    begin_counts(rt, &durability, &journal, made);
+    let keeper = Keeper::new(alloc, path, shared.desk.clone()?, journal)?;
+    let site = SiteSockets::open(rt, config, Some(durability))?;
+    note_offers(rt, &site, &shared);
+    site.announce(rt, config);
+    announce_journal(rt, &site, path);
+    run_logged(rt, config, &site, shared, links, Some(keeper), streams)
+}
+
+/// Notes that no peer lacks an entry of the log, as far as is known: each asks for those that it lacks.
+fn note_offers<D: DeskNames, R: Wait>(rt: &R, site: &SiteSockets, shared: &Shared<D>) {
+    let look = shared.desk.look(rt);
+    let number = look.kept().desk().number();
+    for peer in site.peers() {
+        peer.events.offers(number);
+    }
 }
 
 /// Shares the desk of a site, and runs the site.
@@ -112,9 +214,9 @@ fn serve<
     requires configured { (D.id.site ≡ config.now.id) × (D.id.sites ≡ config.now.sites) }
 {
     // Each thread owns references to what it shares: the check lets none borrow a value whose type has a parameter.
-    let shared = Shared::<D>::new(rt, rt.alloc(), desk, blanks)?;
+    let shared = Shared::<D>::new(rt, rt.alloc(), desk, blanks, None)?;
     let links = links_of(rt, rt.alloc(), config, &shared)?;
-    run_logged(rt, config, site, shared, links, streams)
+    run_logged(rt, config, site, shared, links, None, streams)
 }
 
 /// Runs the site while a thread writes what it logs. That thread ends last.
@@ -130,6 +232,7 @@ fn run_logged<
     site: &SiteSockets,
     shared: Shared<D>,
     links: Vec<PeerLink<D>>,
+    keeper: Option<Keeper<D>>,
     streams: Streams<I, W, E>,
 ) -> Result<(), SiteFault> {
     let Streams {
@@ -140,7 +243,7 @@ fn run_logged<
     let log = LogWriter::new(rt, &site.log, errors)?;
     thread::scope(thread::scope_env(), rt, |scope| {
         let ended = if begin_log(scope, log) {
-            run_desk(rt, config, site, shared, links, reader, writer)
+            run_desk(rt, config, site, shared, links, keeper, reader, writer)
         } else {
             Err(SiteFault::OutOfMemory)
         };
@@ -156,20 +259,26 @@ fn run_desk<D: DeskNames + Send + Sync, R: SiteRuntime, I: Read + Drop, W: Write
     site: &SiteSockets,
     shared: Shared<D>,
     links: Vec<PeerLink<D>>,
+    keeper: Option<Keeper<D>>,
     reader: I,
     writer: W,
 ) -> Result<(), SiteFault> {
-    let ended = run_threads(
-        rt,
-        site,
-        config.tick(),
-        &shared.seats,
-        links,
-        reader,
-        writer,
-    );
+    let begun = Begun { links, keeper };
+    let ended = run_threads(rt, config, site, &shared.seats, begun, reader, writer);
+    if has_lost_journal(rt, site) {
+        // The desk may have done more than what is durable, so it does not report.
+        return Err(SiteFault::Explained);
+    }
     stop_site(rt, site, config.log(), shared);
     Ok(ended?)
+}
+
+/// Whether the site ended since its journal failed, which was logged.
+fn has_lost_journal<R: Wait>(rt: &R, site: &SiteSockets) -> bool {
+    match site.durability() {
+        Some(durability) => site.has_failed() && durability.has_failed(rt),
+        None => false,
+    }
 }
 
 /// Stops the desk of a site whose threads have ended, and reports what it did, if clients could connect. Before that it
@@ -196,15 +305,16 @@ fn stop_site<D: DeskNames, R: Wait + AllocGlobal>(
 /// Answers the commands while the threads of the site run.
 fn run_threads<D: DeskNames + Send + Sync, R: SiteRuntime, I: Read + Drop, W: Write + Drop>(
     rt: &R,
+    config: &Config,
     site: &SiteSockets,
-    every: Option<u64>,
     seats: &Arc<Seats<D>>,
-    links: Vec<PeerLink<D>>,
+    begun: Begun<D>,
     mut reader: I,
-    mut writer: W,
+    writer: W,
 ) -> Result<(), ConversationError> {
+    let mut writer = ExitWriter::new(rt, site.durability(), writer);
     thread::scope(thread::scope_env(), rt, |scope| {
-        let ended = if begin_all(scope, rt, site, every, seats, links) {
+        let ended = if begin_all(scope, rt, config, site, seats, begun) {
             answer_commands(rt, site, seats, &mut reader, &mut writer)
         } else {
             say_no_thread(rt, site);
@@ -215,6 +325,9 @@ fn run_threads<D: DeskNames + Send + Sync, R: SiteRuntime, I: Read + Drop, W: Wr
             tick_last(rt, site, seats);
         }
         site.shut_down(rt);
+        if let Some(durability) = site.durability() {
+            durability.end(rt);
+        }
         ended
     })
 }
@@ -251,14 +364,16 @@ fn answer_commands<D: DeskNames, R: Wait + Clock + AllocGlobal, I: Read, W: Writ
 fn begin_all<'s, E, D: DeskNames + Send + Sync + 's, R: SiteRuntime>(
     scope: &Scope<'s, E>,
     rt: &'s R,
+    config: &'s Config,
     site: &'s SiteSockets,
-    every: Option<u64>,
     seats: &Arc<Seats<D>>,
-    links: Vec<PeerLink<D>>,
+    begun: Begun<D>,
 ) -> bool {
-    let mut has_all = begin_acceptor(scope, rt, site);
+    let Begun { links, keeper } = begun;
+    let mut has_all = begin_keeper(scope, rt, site, keeper);
+    has_all &= begin_acceptors(scope, rt, config, site);
     has_all &= begin_clients(scope, rt, site, seats);
-    has_all &= begin_ticks(scope, rt, site, every, seats);
+    has_all &= begin_ticks(scope, rt, site, config.tick(), seats);
     for link in links {
         has_all &= begin_peer(scope, rt, site, link);
     }

@@ -1,6 +1,6 @@
 //! The replies to a client of a site. site_node decides what is done and replied; this module decides under which
 //! lock of the desk it is done.
-ghost use Rattle.std.specs.Prelude.{◌≡◌, ◌++◌, ◌+◌, ◌≤◌, ◌⊎◌, false, List, ℕ, [], length, IfOk, OnOk, OnErr, Option, Ok};
+ghost use Rattle.std.specs.Prelude.{◌≡◌, ◌++◌, ◌+◌, ◌≤◌, ◌⊎◌, false, List, ℕ, [], length, is_some, IfOk, OnOk, OnErr, Option, Ok};
 ghost use Rattle.std.specs.Io.KnownBytes.{IsAtEnd};
 ghost use Rattle.line_streams.specs.Handling.{IsGiven};
 ghost use Rattle.line_streams.specs.Talk.{Talk, EndsBy};
@@ -15,7 +15,9 @@ ghost use Rattle.site_server.specs.Replying.{TellsStatus, TellsQueue, ThenSends,
 ghost use Rattle.site_server.specs.Replying.{IsReportOf, goes_by};
 ghost use Rattle.site_server.specs.Connections.{Tells};
 ghost use Rattle.site_server.specs.Conversations.{CountsReplies};
+ghost use Rattle.site_server.specs.Journals.{IsJournalView};
 
+use crate::site::keeping::progress_of;
 use crate::site::outboxes::Outboxes;
 use crate::site::tick_signal::{SiteTickSignal, TickSignal};
 use apply_lanes::{DeskNames, DeskView};
@@ -29,7 +31,7 @@ use site_node::{
     Peers, Reply, TICK_ROOM, Ticked, answer_queue, answer_reply, answer_tick, send_to_all,
 };
 use site_sockets::{PeerState, SiteSockets};
-use site_words::{DeskCommand, PeerView, SiteCommand, read_command, status_text};
+use site_words::{DeskCommand, JournalView, PeerView, SiteCommand, read_command, status_text};
 use std::alloc::{Allocator, Global};
 use std::io::{Read, Write};
 use std::marker::Model;
@@ -141,15 +143,30 @@ pub(crate) fn add_status<A: Allocator>(
     alloc: Global,
     desk: &DeskView,
     peers: &[PeerView],
+    journal: Option<JournalView>,
     replies: &mut Replies<A>,
 ) -> Result<(), OutOfMemory>
     requires { replies.old.part ≡ [] }
-    ensures ok { OnOk result (AddsReply replies.old replies.new (status_text desk.now peers.now)) }
+    ensures ok { OnOk result (AddsReply replies.old replies.new (status_text desk.now peers.now journal)) }
     ensures err { OnErr result (replies.new.whole ≡ replies.old.whole) }
 {
-    let text = status_text(alloc, desk, peers)?;
+    let text = status_text(alloc, desk, peers, journal)?;
     replies.put(text.as_bytes())?;
     replies.finish()
+}
+
+/// How far the journal of the site is. `None` without a journal.
+fn journal_view<R: Wait>(rt: &R, site: &SiteSockets) -> Option<JournalView>
+    ensures there { is_some result ≡ is_some site.now.durability }
+    ensures values { IsJournalView result }
+{
+    let progress = progress_of(rt, site)?;
+    Some(JournalView {
+        bytes: progress.bytes,
+        records: progress.records,
+        durable: progress.durable,
+        synced: progress.synced,
+    })
 }
 
 /// For each of these peers, in order, how far the desk has applied its log, and what its reading thread recorded last.
@@ -317,7 +334,8 @@ impl<'a, D: DeskNames, R: Wait, P: Peers + Drop, B: TickSignal + Drop> SiteClien
         ensures err { OnErr result (replies.new.whole ≡ replies.old.whole) }
     {
         let (desk, peers) = self.views()?;
-        add_status(self.alloc, &desk, peers.as_slice(), replies)
+        let journal = journal_view(self.rt, self.site);
+        add_status(self.alloc, &desk, peers.as_slice(), journal, replies)
     }
 
     /// Adds the report of the spends that wait.

@@ -1,16 +1,18 @@
 //! The metrics of a site, and its health.
-ghost use Rattle.std.specs.Prelude.{◌≡◌, ◌++◌, [], List, ℕ, IfOk, OnOk};
+ghost use Rattle.std.specs.Prelude.{◌≡◌, ◌++◌, [], List, ℕ, is_some, IfOk, OnOk};
 ghost use Rattle.std.specs.List.{All};
 ghost use Rattle.rights_book.specs.Books.{peer as peer_in};
+ghost use Rattle.site_server.specs.Journals.{AreJournalMetrics};
 ghost use Rattle.site_server.specs.Measuring.{AreMetrics, AreValues, HasApplied, HasValues, TellsClosed, TellsMetrics};
 
 use crate::site::client::SiteClient;
+use crate::site::keeping::progress_of;
 use crate::site::tick_signal::TickSignal;
 use apply_lanes::{DeskNames, DeskView};
 use line_streams::Replies;
 use rights_types::OutOfMemory;
 use site_core::Desk;
-use site_metrics::{Metrics, PeerMetrics, put_metrics};
+use site_metrics::{JournalMetrics, Metrics, PeerMetrics, put_metrics};
 use site_node::Peers;
 use site_sockets::{PeerState, SiteSockets};
 use std::alloc::Allocator;
@@ -27,7 +29,8 @@ struct DeskValues {
 
 /// The metrics of a site with these values of its desk.
 fn metrics_of<R: Wait>(rt: &R, site: &SiteSockets, values: DeskValues) -> Metrics
-    ensures { HasValues values result }
+    ensures desk { HasValues values result }
+    ensures journal { (is_some result.journal ≡ is_some site.now.durability) × AreJournalMetrics result.journal }
 {
     let desk = values.view;
     Metrics {
@@ -47,7 +50,22 @@ fn metrics_of<R: Wait>(rt: &R, site: &SiteSockets, values: DeskValues) -> Metric
         commands: site.commands.commands(),
         refused: site.commands.refused(),
         log_lines_dropped: site.log.dropped(rt),
+        journal: journal_metrics_of(rt, site),
     }
+}
+
+/// How far the journal of the site is. `None` without a journal.
+fn journal_metrics_of<R: Wait>(rt: &R, site: &SiteSockets) -> Option<JournalMetrics>
+    ensures there { is_some result ≡ is_some site.now.durability }
+    ensures values { AreJournalMetrics result }
+{
+    let progress = progress_of(rt, site)?;
+    Some(JournalMetrics {
+        records: progress.records,
+        durable: progress.durable,
+        bytes: progress.bytes,
+        synced: progress.synced / 1000,
+    })
 }
 
 /// How many seconds the wall clock was behind the site's time at the last tick, rounded up.

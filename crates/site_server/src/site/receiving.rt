@@ -1,19 +1,22 @@
 //! Taking in the lines of the peers.
-ghost use Rattle.std.specs.Prelude.{◌≡◌, ◌≢◌, ◌≤◌, false, [], IfOk};
+ghost use Rattle.std.specs.Prelude.{◌≡◌, ◌≢◌, ◌≤◌, false, [], IfOk, OnOk};
 ghost use Rattle.site_server.specs.Hearing.{IsBufferAt, IsForDesk, HandlesAtDesk};
+ghost use Rattle.site_server.specs.Starting.{AppliesOne};
 
 use crate::site::outboxes::{PeerOutbox, QuerySink};
 use crate::site::shared::Shared;
 use crate::site::slots::Slots;
 use apply_lanes::{
-    Applied, Applier, DeskNames, Free, Intake, Kept, MAX_LANE, Outlet, StepError, lane,
+    Applied, Applier, Arrived, DeskNames, Free, Intake, IntakeError, Kept, MAX_LANE, Outlet,
+    StepError, lane,
 };
 use desk_turns::{TurnDesk, Turns, Work};
 use inbound::{Inbound, InboundError};
-use line_streams::{first_number, only_number, split_word};
 use peer_links::{DeskMessage, Port, Skipped, read_link};
-use rights_types::{OutOfMemory, SiteId};
+use rights_types::{Beat, OutOfMemory, Query, SiteId};
+use site_core::ReplayError;
 use site_node::{Sink, answer_ask, answer_query, note_denial};
+use site_records::RecordFault;
 use site_sockets::{Connection, PeerReader, PeerState, SiteSockets, SkipCause};
 use site_words::Config;
 use std::alloc::Global;
@@ -58,6 +61,26 @@ pub(crate) struct LaneEnd<D: DeskNames> {
     applier: Applier<D, Free>,
     /// Where what it applied is left at the end.
     applied: Arc<Slots<Applied<D>>>,
+}
+
+impl<D: DeskNames> PeerLink<D> {
+    /// Takes in the line of the next entry of the peer, and applies it in one turn.
+    pub(crate) fn replay<R: Wait>(
+        &mut self,
+        rt: &R,
+        turns: &mut Turns<D>,
+        line: &[u8],
+    ) -> Result<(), RecordFault>
+        ensures { OnOk result (AppliesOne D.id turns.old turns.new) }
+    {
+        self.receiver.take_next(rt, line)?;
+        match turns.apply_batch(rt, &mut self.applier.applier) {
+            Ok((1, _)) => Ok(()),
+            Ok(_) => Err(RecordFault::NotPermitted(ReplayError::OutOfOrder)),
+            Err(StepError::OutOfMemory) => Err(RecordFault::OutOfMemory),
+            Err(_) => Err(RecordFault::NotPermitted(ReplayError::OutOfOrder)),
+        }
+    }
 }
 
 /// A link for each peer.
@@ -161,6 +184,16 @@ impl<D: DeskNames> Receiver<D> {
         Receiver { desk, intake }
     }
 
+    /// Takes a line in that brings the next entry.
+    fn take_next<R: Wait>(&mut self, rt: &R, line: &[u8]) -> Result<(), RecordFault> {
+        match self.intake.on_line(rt, line) {
+            Ok(Arrived::Entries(counts)) if counts.ready == 1 => Ok(()),
+            Ok(_) => Err(RecordFault::NotPermitted(ReplayError::OutOfOrder)),
+            Err(IntakeError::Inbound(InboundError::OutOfMemory)) => Err(RecordFault::OutOfMemory),
+            Err(_) => Err(RecordFault::NotPermitted(ReplayError::NoRecord)),
+        }
+    }
+
     /// Reads the connections of this peer, one after another, until the connection slot is closed.
     pub(crate) fn receive_all<R: Wait + Clock>(mut self, rt: &R, peer: &PeerState) {
         for _ in rt.forever() {
@@ -252,13 +285,6 @@ impl<D: DeskNames, E: Wait, S: QuerySink + Drop> SitePort<'_, D, E, S> {
         self.turns.take(self.rt, work, &mut self.outbox)
     }
 
-    /// Records which entries a query requests.
-    fn note_query(&self, line: &[u8]) {
-        if let Some((first, last)) = gap_in(line) {
-            self.peer.events.lacks(self.rt, first, last);
-        }
-    }
-
     /// How far the desk has applied the peer's log.
     fn applied(&self) -> u64 {
         let look = self.turns.look(self.rt);
@@ -266,32 +292,12 @@ impl<D: DeskNames, E: Wait, S: QuerySink + Drop> SitePort<'_, D, E, S> {
     }
 
     /// Records a beat with a number below what was applied of the peer's log.
-    fn note_beat(&self, line: &[u8]) {
-        let Some(number) = end_in(line) else {
-            return;
-        };
+    fn note_beat(&self, number: u64) {
         let applied = self.applied();
         if number < applied {
             self.peer.events.goes_back(self.rt, number, applied);
         }
     }
-}
-
-/// The first and the last number that a query requests, from its line. `None` if the line is not a query.
-fn gap_in(line: &[u8]) -> Option<(u64, u64)> {
-    let (_, words) = split_word(line.strip_suffix(b"\n")?);
-    let (_, words) = first_number(words)?;
-    let (_, words) = first_number(words)?;
-    let (first, words) = first_number(words)?;
-    let last = only_number(words)?;
-    Some((first, last))
-}
-
-/// The end of the log in a beat, from its line. `None` if the line is not a beat.
-fn end_in(line: &[u8]) -> Option<u64> {
-    let (_, words) = split_word(line.strip_suffix(b"\n")?);
-    let (_, words) = first_number(words)?;
-    only_number(words)
 }
 
 /// Why the line is skipped.
@@ -317,8 +323,12 @@ impl<D: DeskNames, E: Wait, S: QuerySink + Drop> Port for SitePort<'_, D, E, S> 
     }
 
     fn line<R: Wait>(&mut self, _rt: &R, line: Vec<u8>) {
-        self.note_query(line.as_slice());
         self.outbox.send_query(line);
+    }
+
+    fn query<R: Wait>(&mut self, rt: &R, query: Query, line: Vec<u8>) {
+        self.peer.events.lacks(self.rt, query.first(), query.last());
+        self.line(rt, line);
     }
 
     fn seen<R: Wait>(&mut self, _rt: &R, state: State, held: usize) {
@@ -333,10 +343,10 @@ impl<D: DeskNames, E: Wait, S: QuerySink + Drop> Port for SitePort<'_, D, E, S> 
         self.peer.events.skips(self.rt, skip_cause(why));
     }
 
-    fn taken<R: Wait>(&self, _rt: &R, line: &[u8], is_beat: bool) {
+    fn taken<R: Wait>(&self, _rt: &R, beat: Option<Beat>) {
         self.peer.events.takes();
-        if is_beat {
-            self.note_beat(line);
+        if let Some(beat) = beat {
+            self.note_beat(beat.number());
         }
     }
 }

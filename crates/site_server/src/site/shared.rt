@@ -5,6 +5,7 @@ ghost use Rattle.apply_lanes.specs.Names.{id_of, AreBlank, IsUnused};
 use crate::site::slots::Slots;
 use apply_lanes::{Applied, Blanks, DeskNames};
 use desk_turns::{Seats, TurnDesk};
+use durability::Durability;
 use rights_types::{MAX_SITES, OutOfMemory};
 use site_core::Desk;
 use site_metrics::CLIENTS;
@@ -28,18 +29,19 @@ pub(crate) struct Shared<D: DeskNames> {
 }
 
 impl<D: DeskNames> Shared<D> {
-    /// Shares a desk that was not used yet.
+    /// Shares a desk that was not used yet, for a site with a journal or without one.
     pub(crate) fn new<R: Wait>(
         rt: &R,
         alloc: Global,
         desk: Desk,
         blanks: Blanks,
+        durability: Option<Arc<Durability>>,
     ) -> Result<Shared<D>, OutOfMemory>
         requires id { D.id ≡ id_of desk blanks }
         requires blanks { AreBlank blanks }
         requires unused { IsUnused desk }
     {
-        let desk = Arc::new(alloc, TurnDesk::new(desk, blanks))?;
+        let desk = Arc::new(alloc, TurnDesk::new(desk, blanks, durability))?;
         let seats = Seats::new(rt, alloc, &desk, TICKS)?;
         Ok(Shared {
             seats: Arc::new(alloc, seats)?,

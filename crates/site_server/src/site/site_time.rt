@@ -5,7 +5,7 @@ use site_sockets::SiteClock;
 use std::time::{Clock, SystemTime, UNIX_EPOCH};
 
 /// The milliseconds since 1970. `None` if the clock cannot be read.
-fn wall_clock<R: Clock>(rt: &R) -> Option<u64> {
+pub(crate) fn wall_clock<R: Clock>(rt: &R) -> Option<u64> {
     let now = SystemTime::now(rt).ok()?;
     let since = now.duration_since(UNIX_EPOCH).ok()?;
     u64::try_from(since.as_millis()).ok()
