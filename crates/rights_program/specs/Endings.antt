@@ -4,14 +4,16 @@ use Rattle.std.specs.Prelude.{OnErr}
 use Rattle.std.specs.Io.KnownBytes.{Appends}
 use Rattle.line_streams.specs.Fronts.{FallsShort}
 use Rattle.line_streams.specs.declared.write.OutputError.{OutputError}
-use Rattle.site_words.specs.Asked.{Asked, help, nothing, script, site, version}
+use Rattle.site_words.specs.Asked.{Asked, help, journal, nothing, script, site, version}
+use Rattle.site_words.specs.Checks.{Check}
 use Rattle.rights_program.specs.Faults.{line_of, status_of}
 use Rattle.site_words.specs.Settings.{Settings}
-use Rattle.site_words.specs.Words.{MayRefuse, RunsSite, WantsHelp}
+use Rattle.site_words.specs.Words.{AsksForCheck, MayRefuse, RunsSite, WantsHelp}
 use Rattle.rights_program.specs.declared.fault.ProgramError.{ProgramError}
 use Rattle.rights_program.specs.declared.run.Ended.{Ended}
 use Rattle.rights_program.specs.declared.fault.ProgramError.TheVariants.{BadCommandLine, CannotCreateStartFile}
-use Rattle.rights_program.specs.declared.fault.ProgramError.TheVariants.{CannotListen, OutOfMemory, StartedBefore}
+use Rattle.rights_program.specs.declared.fault.ProgramError.TheVariants.{CannotListen, Explained, OutOfMemory}
+use Rattle.rights_program.specs.declared.fault.ProgramError.TheVariants.{StartedBefore}
 use Rattle.rights_program.specs.declared.fault.ProgramError.TheVariants.{WriteFailed}
 
 -- done, or stopped by a fault
@@ -37,10 +39,15 @@ reads asked = false
 abbrev pub IsRun : Asked → Type 0
 IsRun asked = (s : Settings) × RunsSite asked s
 
--- the program may end without a fault: not for words that ask for nothing, nor for words of `run` that are refused
+-- clap accepts the words, and they name a journal to be checked
+abbrev pub IsCheck : Asked → Type 0
+IsCheck asked = (c : Check) × AsksForCheck asked c
+
+-- the program may end without a fault: not for words that ask for nothing, nor for words that are refused
 abbrev pub MayBeDone : Asked → Type 0
 MayBeDone nothing = ⊥
 MayBeDone (site kinds rows) = IsRun (site kinds rows) ⊎ WantsHelp (site kinds rows)
+MayBeDone (journal kinds rows) = IsCheck (journal kinds rows) ⊎ WantsHelp (journal kinds rows)
 MayBeDone asked = ⊤
 
 -- the faults that may stop the program, by what was asked for
@@ -49,11 +56,17 @@ MayStop script BadCommandLine = ⊥
 MayStop script StartedBefore = ⊥
 MayStop script CannotCreateStartFile = ⊥
 MayStop script CannotListen = ⊥
+MayStop script Explained = ⊥
 MayStop script fault = ⊤
 MayStop (site kinds rows) BadCommandLine = MayRefuse (site kinds rows)
 MayStop (site kinds rows) OutOfMemory = ⊤
 MayStop (site kinds rows) WriteFailed = MayBeDone (site kinds rows)
 MayStop (site kinds rows) fault = IsRun (site kinds rows)
+MayStop (journal kinds rows) BadCommandLine = MayRefuse (journal kinds rows)
+MayStop (journal kinds rows) OutOfMemory = ⊤
+MayStop (journal kinds rows) WriteFailed = MayBeDone (journal kinds rows)
+MayStop (journal kinds rows) Explained = IsCheck (journal kinds rows)
+MayStop (journal kinds rows) fault = ⊥
 MayStop help WriteFailed = ⊤
 MayStop help OutOfMemory = ⊤
 MayStop help fault = ⊥

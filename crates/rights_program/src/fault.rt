@@ -4,7 +4,7 @@ ghost use Rattle.rights_program.specs.Faults.{line_of, status_of};
 ghost use Rattle.rights_program.specs.declared.fault.ProgramError.TheVariants.{OutOfMemory, WriteFailed};
 
 use line_streams::OutputError;
-use site_words::{SiteFault, WordsFault};
+use site_words::{CheckFault, SiteFault, WordsFault};
 use std::alloc::AllocError;
 use transfer_world::ScriptFault;
 
@@ -27,6 +27,8 @@ pub enum ProgramError {
     OutOfMemory,
     /// The commands have more lines than the limit.
     TooManyLines,
+    /// The cause is on standard error already.
+    Explained,
 }
 
 impl ProgramError {
@@ -40,7 +42,7 @@ impl ProgramError {
         }
     }
 
-    /// The line on standard error for this cause, with its line feed.
+    /// The line on standard error for this cause, with its line feed; empty if the cause is there already.
     pub fn line(self) -> &'static [u8]
         ensures { result.now ≡ line_of self }
     {
@@ -53,6 +55,7 @@ impl ProgramError {
             ProgramError::WriteFailed => b"rights-site: write failed\n",
             ProgramError::OutOfMemory => b"rights-site: out of memory\n",
             ProgramError::TooManyLines => b"rights-site: too many lines\n",
+            ProgramError::Explained => b"",
         }
     }
 }
@@ -115,6 +118,21 @@ impl From<SiteFault> for ProgramError {
             SiteFault::WriteFailed => ProgramError::WriteFailed,
             SiteFault::OutOfMemory => ProgramError::OutOfMemory,
             SiteFault::TooManyLines => ProgramError::TooManyLines,
+            SiteFault::Explained => ProgramError::Explained,
+        }
+    }
+}
+
+impl From<CheckFault> for ProgramError {
+    ghost use Rattle.rights_program.specs.Faults.{fault_of_check};
+
+    ghost from_gives = { λ cause fault. fault ≡ fault_of_check cause };
+
+    fn from(cause: CheckFault) -> ProgramError {
+        match cause {
+            CheckFault::Explained => ProgramError::Explained,
+            CheckFault::WriteFailed => ProgramError::WriteFailed,
+            CheckFault::OutOfMemory => ProgramError::OutOfMemory,
         }
     }
 }

@@ -7,7 +7,7 @@ ghost use Rattle.clap.specs.Walk.{Text, texts};
 ghost use Rattle.site_words.specs.Asked.{asked_by, nothing};
 ghost use Rattle.site_words.specs.Words.{MayRefuse};
 ghost use Rattle.rights_program.specs.Arguments.{arguments};
-ghost use Rattle.rights_program.specs.Commands.{RunsOn};
+ghost use Rattle.rights_program.specs.Commands.{ChecksOn, RunsOn};
 ghost use Rattle.rights_program.specs.Endings.{EndsWith, MayStop, reads};
 ghost use Rattle.rights_program.specs.Faults.{fault_of_given};
 ghost use Rattle.rights_program.specs.Runs.{Ends};
@@ -15,7 +15,7 @@ ghost use Rattle.rights_program.specs.declared.fault.ProgramError.{ProgramError}
 
 use crate::fault::ProgramError;
 use crate::run::{Ended, report, run_words};
-use site_words::{Config, SiteFault};
+use site_words::{CheckFault, Config, JournalCheck, SiteFault};
 use std::alloc::{AllocError, Allocator, Global};
 use std::env::Env;
 use std::io::{ErrorKind, Read, Write};
@@ -65,6 +65,7 @@ fn behind_name<'a>(words: &'a [&'a str]) -> &'a [&'a str]
 /// others.
 pub fn run_arguments<
     F: FnOnce(Config, &mut R, &mut W) -> Result<(), SiteFault>,
+    G: FnOnce(JournalCheck, &mut W) -> Result<(), CheckFault>,
     A: Allocator,
     R: Read,
     W: Write,
@@ -72,13 +73,16 @@ pub fn run_arguments<
 >(
     alloc: Global,
     run: F,
+    check: G,
     words: &[String<A>],
     reader: &mut R,
     writer: &mut W,
     errors: &mut E,
 ) -> Ended
-    requires { F.IsAlwaysCallable run }
+    requires run { F.IsAlwaysCallable run }
+    requires check { G.IsAlwaysCallable check }
     ensures ends { Ends Global (RunsOn F.FnOnce run reader.old reader.new writer.old writer.new)
+        (ChecksOn G.FnOnce check writer.old writer.new)
         ((reader.new ≡ reader.old) × (writer.new ≡ writer.old)) (asked_by (arguments words.now))
         (R.remaining reader.old) (R.remaining reader.new) (W.contents writer.old) (W.contents writer.new)
         (E.contents errors.old) (E.contents errors.new) result
@@ -94,20 +98,24 @@ pub fn run_arguments<
         Ok(texts) => texts,
         Err(AllocError) => return report(errors, ProgramError::OutOfMemory),
     };
-    run_words(alloc, run, behind_name(&texts), reader, writer, errors)
+    let behind = behind_name(&texts);
+    run_words(alloc, run, check, behind, reader, writer, errors)
 }
 
 /// Runs the program on the arguments of its process: the same as `run_arguments` on some arguments, since no contract
 /// says what they are. If they cannot be read, the cause is printed to `errors`, and nothing is read or written.
 pub fn run_given<
     F: FnOnce(Config, &mut R, &mut W) -> Result<(), SiteFault>,
+    G: FnOnce(JournalCheck, &mut W) -> Result<(), CheckFault>,
     V: Env + Alloc,
     R: Read,
     W: Write,
     E: Write,
->(alloc: Global, run: F, env: &V, reader: &mut R, writer: &mut W, errors: &mut E) -> Ended
-    requires { F.IsAlwaysCallable run }
+>(alloc: Global, run: F, check: G, env: &V, reader: &mut R, writer: &mut W, errors: &mut E) -> Ended
+    requires run { F.IsAlwaysCallable run }
+    requires check { G.IsAlwaysCallable check }
     ensures { ((words : List Text) × Ends Global (RunsOn F.FnOnce run reader.old reader.new writer.old writer.new)
+        (ChecksOn G.FnOnce check writer.old writer.new)
         ((reader.new ≡ reader.old) × (writer.new ≡ writer.old)) (asked_by words)
         (R.remaining reader.old) (R.remaining reader.new) (W.contents writer.old) (W.contents writer.new)
         (E.contents errors.old) (E.contents errors.new) result)
@@ -116,7 +124,7 @@ pub fn run_given<
         × (reader.new ≡ reader.old) × (writer.new ≡ writer.old)) }
 {
     match given_words(env) {
-        Ok(words) => run_arguments(alloc, run, &words, reader, writer, errors),
+        Ok(words) => run_arguments(alloc, run, check, &words, reader, writer, errors),
         Err(fault) => report(errors, fault),
     }
 }

@@ -1,6 +1,8 @@
 //! The program `rights-site`, on the words and the streams of its process.
 #![tactic(auto)]
 
+use journal_check::check_file;
+use journal_file::Unknown;
 use rights_program::run_given;
 use site_server::run_site;
 use site_words::SiteFault;
@@ -39,6 +41,10 @@ fn main(rt: HostRuntime) -> ExitCode {
                 cannot_listen.store(true, Ordering::Relaxed);
             }
             ended
+        },
+        |check, writer| {
+            let mut errors = TimedStream::new(rt.stderr(), CAUSE_MILLISECONDS);
+            check_file(&rt, Unknown, &check, writer, &mut errors)
         },
         &rt,
         &mut rt.stdin(),

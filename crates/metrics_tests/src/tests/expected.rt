@@ -1,4 +1,4 @@
-//! The text of the metrics of `text`. tests/metrics.prom has the same text.
+//! The text of the metrics of `text`. tests/metrics.prom has the same text, with that of a journal.
 
 pub(crate) const EXPECTED: &[u8] = b"# HELP rights_held Rights that the site holds.\n\
 # TYPE rights_held gauge\n\
@@ -108,3 +108,18 @@ rights_peer_lines_waiting{peer=\"16\"} 256\n\
 # TYPE rights_peer_number_went_back_total counter\n\
 rights_peer_number_went_back_total{peer=\"2\"} 1\n\
 rights_peer_number_went_back_total{peer=\"16\"} 0\n";
+
+/// The text of a journal's metrics.
+pub(crate) const JOURNAL: &[u8] =
+    b"# HELP rights_journal_records_total Records made for the journal, those of earlier processes among them.\n\
+# TYPE rights_journal_records_total counter\n\
+rights_journal_records_total 31\n\
+# HELP rights_journal_records_durable_total Records of the journal that are on its disk.\n\
+# TYPE rights_journal_records_durable_total counter\n\
+rights_journal_records_durable_total 30\n\
+# HELP rights_journal_bytes Bytes of the journal up to its last sync.\n\
+# TYPE rights_journal_bytes gauge\n\
+rights_journal_bytes 2048\n\
+# HELP rights_journal_synced_timestamp_seconds When the journal was last synced, in seconds since 1970.\n\
+# TYPE rights_journal_synced_timestamp_seconds gauge\n\
+rights_journal_synced_timestamp_seconds 1764390000\n";

@@ -1,9 +1,9 @@
 //! The text of all metrics.
-use super::expected::EXPECTED;
+use super::expected::{EXPECTED, JOURNAL};
 use line_streams::Replies;
 use refusals::{REFUSAL_COUNT, Refusal};
 use rights_types::SiteId;
-use site_metrics::{Metrics, PeerMetrics, put_metrics};
+use site_metrics::{JournalMetrics, Metrics, PeerMetrics, put_metrics};
 use std::alloc::{Allocator, Global};
 
 fn site_metrics() -> Metrics {
@@ -30,6 +30,7 @@ fn site_metrics() -> Metrics {
         commands: 1000,
         refused,
         log_lines_dropped: 22,
+        journal: None,
     }
 }
 
@@ -66,8 +67,8 @@ fn peer_metrics() -> [PeerMetrics; 2] {
     [missing, other]
 }
 
-/// Whether this is the text of the metrics.
-fn is_text(alloc: Global, metrics: &Metrics, peers: &[PeerMetrics], wanted: &[u8]) -> bool {
+/// Whether the text of the metrics is the expected one, with this behind it.
+fn is_text(alloc: Global, metrics: &Metrics, peers: &[PeerMetrics], behind: &[u8]) -> bool {
     let mut replies = Replies::new(alloc);
     if put_metrics(metrics, peers, &mut replies).is_err() {
         return false;
@@ -76,11 +77,27 @@ fn is_text(alloc: Global, metrics: &Metrics, peers: &[PeerMetrics], wanted: &[u8
     if replies.write_to(&mut text).is_err() {
         return false;
     }
-    text.as_slice() == wanted
+    text.as_slice().strip_suffix(behind) == Some(EXPECTED)
 }
 
 /// Each value is shown with its name, and with its peer.
 #[test]
 fn each_value_is_at_its_name(rt: HostRuntime) {
-    assert!(rt; is_text(rt.alloc(), &site_metrics(), &peer_metrics(), EXPECTED));
+    assert!(rt; is_text(rt.alloc(), &site_metrics(), &peer_metrics(), b""));
+}
+
+/// Those of a journal come last.
+#[test]
+fn a_journal_has_metrics(rt: HostRuntime) {
+    let journal = JournalMetrics {
+        records: 31,
+        durable: 30,
+        bytes: 2048,
+        synced: 1_764_390_000,
+    };
+    let metrics = Metrics {
+        journal: Some(journal),
+        ..site_metrics()
+    };
+    assert!(rt; is_text(rt.alloc(), &metrics, &peer_metrics(), JOURNAL));
 }

@@ -1,6 +1,7 @@
 //! The command that a line of a running site's input spells.
 use rights_types::SiteId;
 use site_words::{DeskCommand, SiteCommand, read_command};
+use std::process::Abort;
 
 /// A command, with its name and its values; 0 for a value that is absent.
 type Shown = (&'static str, u64, u64);
@@ -153,26 +154,30 @@ fn is_refused(line: &str, time: Option<u64>) -> bool {
     read_command(line.as_bytes(), time).is_none()
 }
 
+fn check_read(rt: &impl Abort, rows: &[(&str, Shown)], time: Option<u64>) {
+    for (line, expected) in rows {
+        assert!(rt; is_read_as(*line, time, *expected), "at {line:?}");
+    }
+}
+
+fn check_refused(rt: &impl Abort, lines: &[&str], time: Option<u64>) {
+    for line in lines {
+        assert!(rt; is_refused(*line, time), "at {line:?}");
+    }
+}
+
 /// Each line spells its command, and no other line spells any.
 #[test]
 fn lines_ask_for_commands(rt: HostRuntime) {
-    for (line, expected) in COMMANDS {
-        assert!(rt; is_read_as(line, None, expected), "at {line:?}");
-    }
-    for line in OTHERS {
-        assert!(rt; is_refused(line, None), "at {line:?}");
-    }
+    check_read(&rt, &COMMANDS, None);
+    check_refused(&rt, &OTHERS, None);
 }
 
 /// The same at a site with a clock of its own.
 #[test]
 fn lines_ask_for_commands_by_the_clock(rt: HostRuntime) {
-    for (line, expected) in TIMED {
-        assert!(rt; is_read_as(line, Some(NOW), expected), "at {line:?}");
-    }
-    for line in OTHERS_TIMED {
-        assert!(rt; is_refused(line, Some(NOW)), "at {line:?}");
-    }
+    check_read(&rt, &TIMED, Some(NOW));
+    check_refused(&rt, &OTHERS_TIMED, Some(NOW));
 }
 
 /// A deadline too large for a number is the largest.

@@ -1,7 +1,7 @@
 //! How the program ends, depending on its site, and if there is no memory for its words; and the texts of faults.
 use refusing_allocator::Refusing;
 use rights_program::{VERSION, run_given, run_words};
-use site_words::{Command, Config, SiteFault, read_words};
+use site_words::{CheckFault, Command, Config, JournalCheck, SiteFault, read_words};
 use std::alloc::Global;
 use std::env::{Env, FillError};
 use std::io;
@@ -55,7 +55,7 @@ fn has_text(alloc: Global, fault: SiteFault, text: &str) -> bool {
     }
 }
 
-/// Each fault of a site, and its text.
+/// Each fault of a site, and its text, but the one that is said elsewhere.
 const FAULTS: [(SiteFault, &str); 7] = [
     (SiteFault::StartedBefore, "was started before"),
     (
@@ -72,8 +72,9 @@ const FAULTS: [(SiteFault, &str); 7] = [
 /// Each fault of a site has its text.
 #[test]
 fn faults_have_their_texts(rt: HostRuntime) {
-    for (fault, text) in FAULTS {
-        assert!(rt; has_text(rt.alloc(), fault, text), "for {text:?}");
+    for (fault, text) in &FAULTS {
+        let right = has_text(rt.alloc(), *fault, *text);
+        assert!(rt; right, "for {text:?}");
     }
 }
 
@@ -81,23 +82,25 @@ const REFUSED: &str = "rights-site: bad command line\n";
 
 const OUT_OF_MEMORY: &str = "rights-site: out of memory\n";
 
+const OF_SITE: [&str; 8] = [
+    "run",
+    "--id",
+    "1",
+    "--sites",
+    "2",
+    "--listen",
+    ":0",
+    "2=other:1",
+];
+
 /// Whether the program ends with this status and this line if its site ends in this way.
 fn ends_with(alloc: Global, of_site: Result<(), SiteFault>, status: u8, line: &str) -> bool {
-    let words = [
-        "run",
-        "--id",
-        "1",
-        "--sites",
-        "2",
-        "--listen",
-        ":0",
-        "2=other:1",
-    ];
     let mut errors = Vec::new(alloc);
     let answer = run_words(
         alloc,
         |_config, _reader, _writer| of_site,
-        &words,
+        no_check,
+        &OF_SITE,
         &mut b"".as_slice(),
         &mut Full,
         &mut errors,
@@ -117,14 +120,64 @@ fn ends_with_fault(alloc: Global, fault: SiteFault, text: &str) -> bool {
 #[test]
 fn the_program_ends_as_its_site(rt: HostRuntime) {
     assert!(rt; ends_with(rt.alloc(), Ok(()), 0, ""));
-    for (fault, text) in FAULTS {
-        assert!(rt; ends_with_fault(rt.alloc(), fault, text), "for {text:?}");
+    assert!(rt; ends_with(rt.alloc(), Err(SiteFault::Explained), 1, ""));
+    for (fault, text) in &FAULTS {
+        let right = ends_with_fault(rt.alloc(), *fault, *text);
+        assert!(rt; right, "for {text:?}");
+    }
+}
+
+/// Whether the program ends with this status and this line if its check ends in this way, and says what the check was
+/// asked for.
+fn ends_as_check(alloc: Global, of_check: Result<(), CheckFault>, status: u8, line: &str) -> bool {
+    let mut writer = Vec::new(alloc);
+    let mut errors = Vec::new(alloc);
+    let answer = run_words(
+        alloc,
+        no_site,
+        |check, writer| {
+            let _ = writer.write(check.path().as_bytes());
+            of_check
+        },
+        &["check-journal", "a/b"],
+        &mut b"".as_slice(),
+        &mut writer,
+        &mut errors,
+    );
+    answer.status == status
+        && writer.as_slice() == b"a/b".as_slice()
+        && errors.as_slice() == line.as_bytes()
+}
+
+/// How a check ends, and the program's status and line then.
+const ENDS_OF_CHECK: [(Result<(), CheckFault>, u8, &str); 4] = [
+    (Ok(()), 0, ""),
+    (Err(CheckFault::Explained), 1, ""),
+    (
+        Err(CheckFault::WriteFailed),
+        1,
+        "rights-site: write failed\n",
+    ),
+    (Err(CheckFault::OutOfMemory), 1, OUT_OF_MEMORY),
+];
+
+/// The program ends as its check does, and says nothing where the check said why.
+#[test]
+fn the_program_ends_as_its_check(rt: HostRuntime) {
+    for (of_check, status, line) in &ENDS_OF_CHECK {
+        let right = ends_as_check(rt.alloc(), *of_check, *status, *line);
+        assert!(rt; right, "with {status} and {line:?}");
     }
 }
 
 /// Stands for a site that the words do not ask for: with it, the program would end with its fault.
 fn no_site<R, W>(_config: Config, _reader: &mut R, _writer: &mut W) -> Result<(), SiteFault> {
     Err(SiteFault::ReadFailed)
+}
+
+/// Stands for a check that the words do not ask for.
+fn no_check<W>(_check: JournalCheck, _writer: &mut W) -> Result<(), CheckFault> {
+    Err(CheckFault::Explained)
 }
 
 /// The status with which the program ends on these words.
@@ -134,7 +187,15 @@ fn status_of(
     writer: &mut Slow<Global>,
     errors: &mut Slow<Global>,
 ) -> u8 {
-    let answer = run_words(alloc, no_site, words, &mut b"".as_slice(), writer, errors);
+    let answer = run_words(
+        alloc,
+        no_site,
+        no_check,
+        words,
+        &mut b"".as_slice(),
+        writer,
+        errors,
+    );
     answer.status
 }
 
@@ -164,13 +225,20 @@ fn writes_help(alloc: Global, words: &[&str]) -> bool {
     }
 }
 
+const HELPS: [&[&str]; 4] = [
+    &["--help"],
+    &["sim", "--help"],
+    &["run", "--id", "1", "-h"],
+    &["check-journal", "-h"],
+];
+
 /// The same holds for help texts and for the line of a fault.
 #[test]
 fn slow_writers_get_all(rt: HostRuntime) {
     let alloc = rt.alloc();
-    assert!(rt; writes_help(alloc, &["--help"]));
-    assert!(rt; writes_help(alloc, &["sim", "--help"]));
-    assert!(rt; writes_help(alloc, &["run", "--id", "1", "-h"]));
+    for words in &HELPS {
+        assert!(rt; writes_help(alloc, *words));
+    }
     assert!(rt; writes_slowly(alloc, &["--version"], 0, VERSION, ""));
     assert!(rt; writes_slowly(alloc, &["walk"], 2, b"", REFUSED));
 }
@@ -195,6 +263,7 @@ fn ending_with(alloc: Global, words: &[&[u8]], granted: u64, status: u8, line: &
     let answer = run_given(
         alloc,
         no_site,
+        no_check,
         &env,
         &mut b"".as_slice(),
         &mut Full,
@@ -233,15 +302,22 @@ fn may_stop(alloc: Global, words: &[&[u8]], status: u8, line: &str) -> bool {
     stops(alloc, words, status, line).is_some_and(|stopped| stopped > 2)
 }
 
+/// Words of a process, and the status and the line with which it ends.
+const GIVEN: [(&[&[u8]], u8, &str); 6] = [
+    (&[b"rights-site", b"sim"], 0, ""),
+    (&[b"rights-site"], 2, REFUSED),
+    (&[b"rights-site", b"sim", b"7"], 2, REFUSED),
+    (&[b"rights-site", b"\xff"], 2, REFUSED),
+    (&[b"rights-site", b"run", b"--id"], 2, REFUSED),
+    (&[b"rights-site", b"run", b"2=\xff"], 2, REFUSED),
+];
+
 /// Each memory request that the words make is refused in turn: if the program cannot continue without it, it ends for
 /// lack of memory, else as the words ask.
 #[test]
 fn each_growth_for_the_words_refused(rt: HostRuntime) {
-    let alloc = rt.alloc();
-    assert!(rt; may_stop(alloc, &[b"rights-site", b"sim"], 0, ""));
-    assert!(rt; may_stop(alloc, &[b"rights-site"], 2, REFUSED));
-    assert!(rt; may_stop(alloc, &[b"rights-site", b"sim", b"7"], 2, REFUSED));
-    assert!(rt; may_stop(alloc, &[b"rights-site", b"\xff"], 2, REFUSED));
-    assert!(rt; may_stop(alloc, &[b"rights-site", b"run", b"--id"], 2, REFUSED));
-    assert!(rt; may_stop(alloc, &[b"rights-site", b"run", b"2=\xff"], 2, REFUSED));
+    for (words, status, line) in &GIVEN {
+        let right = may_stop(rt.alloc(), *words, *status, *line);
+        assert!(rt; right, "{words:?}");
+    }
 }

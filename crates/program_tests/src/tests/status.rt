@@ -1,17 +1,28 @@
 //! The text of the status object.
 use apply_lanes::DeskView;
 use rights_types::{OutOfMemory, SiteId};
-use site_words::{PeerView, status};
+use site_words::{JournalView, PeerView, status};
 use std::alloc::{AllocError, Global};
 
 /// The text of the object.
-fn text(alloc: Global, desk: &DeskView, peers: &[PeerView]) -> Result<String, OutOfMemory> {
-    Ok(status(alloc, desk, peers)?.to_string(alloc)?)
+fn text(
+    alloc: Global,
+    desk: &DeskView,
+    peers: &[PeerView],
+    journal: Option<JournalView>,
+) -> Result<String, OutOfMemory> {
+    Ok(status(alloc, desk, peers, journal)?.to_string(alloc)?)
 }
 
 /// Whether this is the text of the object.
-fn is_text(alloc: Global, desk: &DeskView, peers: &[PeerView], wanted: &str) -> bool {
-    match text(alloc, desk, peers) {
+fn is_text(
+    alloc: Global,
+    desk: &DeskView,
+    peers: &[PeerView],
+    journal: Option<JournalView>,
+    wanted: &str,
+) -> bool {
+    match text(alloc, desk, peers, journal) {
         Ok(text) => text.as_str() == wanted,
         Err(_) => false,
     }
@@ -40,12 +51,12 @@ fn the_text_is_compact(rt: HostRuntime) {
     }];
     let wanted =
         r#"{"closed":false,"held":3,"issued":10,"number":3,"peers":[{"applied":0,"buffering":false,"held":0,"site":2}],"queued":0,"received":0,"site":1,"spent":4}"#;
-    assert!(rt; is_text(rt.alloc(), &desk, &peers, wanted));
+    assert!(rt; is_text(rt.alloc(), &desk, &peers, None, wanted));
 }
 
 /// Whether the list of no peers is empty.
 fn has_no_peers(alloc: Global, desk: &DeskView) -> bool {
-    match text(alloc, desk, &[]) {
+    match text(alloc, desk, &[], None) {
         Ok(text) => text.as_str().contains(r#""peers":[],"#),
         Err(_) => false,
     }
@@ -80,9 +91,15 @@ fn each_value_is_at_its_key(rt: HostRuntime) {
             held: 24,
         },
     ];
+    let journal = JournalView {
+        bytes: 26,
+        records: 28,
+        durable: 27,
+        synced: 29,
+    };
     let wanted =
-        r#"{"closed":true,"held":18446744073709551615,"issued":11,"number":1000000000,"peers":[{"applied":21,"buffering":true,"held":64,"site":16},{"applied":23,"buffering":false,"held":24,"site":1}],"queued":17,"received":15,"site":3,"spent":12}"#;
-    assert!(rt; is_text(rt.alloc(), &desk, &peers, wanted));
+        r#"{"closed":true,"held":18446744073709551615,"issued":11,"journal":{"bytes":26,"durable":27,"records":28,"synced":29},"number":1000000000,"peers":[{"applied":21,"buffering":true,"held":64,"site":16},{"applied":23,"buffering":false,"held":24,"site":1}],"queued":17,"received":15,"site":3,"spent":12}"#;
+    assert!(rt; is_text(rt.alloc(), &desk, &peers, Some(journal), wanted));
     assert!(rt; has_no_peers(rt.alloc(), &desk));
 }
 
@@ -123,7 +140,7 @@ fn lists_peers(alloc: Global, desk: &DeskView, count: u64) -> bool {
         first_peers(alloc, count),
         text_with_first_peers(alloc, count),
     ) {
-        (Ok(peers), Ok(wanted)) => is_text(alloc, desk, peers.as_slice(), wanted.as_str()),
+        (Ok(peers), Ok(wanted)) => { is_text(alloc, desk, peers.as_slice(), None, wanted.as_str()) }
         _ => false,
     }
 }

@@ -1,6 +1,9 @@
 //! How the words of a command line are read.
-use site_words::{Command, Config, PeerAddress, WordsFault, read_words};
-use std::alloc::{AllocError, Global};
+use rights_types::SiteId;
+use site_words::{Command, Config, JournalCheck, PeerAddress, WordsFault, read_words};
+use std::alloc::{AllocError, AllocGlobal, Global};
+use std::process::Abort;
+use std::str;
 
 const HELP: &str = "\
 Sites that share one stock of rights, and never oversell it
@@ -8,8 +11,9 @@ Sites that share one stock of rights, and never oversell it
 Usage: rights-site <COMMAND>
 
 Commands:
-  sim  Runs the script on standard input, over sites in memory
-  run  Runs one site, which talks with its peers over TCP
+  sim            Runs the script on standard input, over sites in memory
+  run            Runs one site, which talks with its peers over TCP
+  check-journal  Prints what a site would hold that starts with this journal
 
 Options:
   -h, --help  Print help
@@ -29,7 +33,7 @@ Options:
 const RUN_HELP: &str = "\
 Runs one site, which talks with its peers over TCP
 
-Usage: rights-site run [OPTIONS] --id <I> --sites <N> --listen <ADDRESS> <PEER>...
+Usage: rights-site run [OPTIONS] --id <I> --sites <N> <PEER>...
 
 Arguments:
   <PEER>...  Each other site, as J=ADDRESS: its number, and where it listens
@@ -37,12 +41,15 @@ Arguments:
 Options:
       --id <I>            The number of this site, 1 to N
       --sites <N>         How many sites the system has
-      --listen <ADDRESS>  Where this site listens for its peers
+      --listen <ADDRESS>  Where this site listens for its peers; not needed if each of them has its --from
+      --from <J=ADDRESS>  Lets site J in at this address only, and no other site there (for several sites, repeat it)
       --http <ADDRESS>    Also serves HTTP at this address
       --host <NAME>       Answers HTTP requests to this name of the host too, besides IP addresses and localhost
       --tick <MS>         Ticks by itself, every MS milliseconds (1 to 60,000)
       --silent <MS>       With --tick: a peer with no line for MS milliseconds is silent (1,000 to 3,600,000; 0: never)
       --once <FILE>       Creates FILE at the start, and does not start if it exists
+      --journal <FILE>    Keeps a journal in FILE, and starts again from it if it exists (not with --once)
+      --system <NAME>     With --journal: the name of the system, 1 to 32 letters, digits and hyphens
       --log               Reports links and clients on standard error
   -h, --help              Print help
 
@@ -65,8 +72,24 @@ Example, one site of two, which ticks by itself and also serves HTTP:
       --tick 100 --once site-1.started 2=127.0.0.1:7002
 ";
 
+const CHECK_HELP: &str = "\
+Prints what a site would hold that starts with this journal
+
+Usage: rights-site check-journal [OPTIONS] <FILE>
+
+Arguments:
+  <FILE>  The journal, which is only read: it may be that of a running site
+
+Options:
+      --json  Prints an object of JSON, on one line
+  -h, --help  Print help
+
+It starts no site and changes nothing. If the file is damaged, or a record is refused, it prints
+what stands before that, a line that says where and why on standard error, and ends with status 1.
+";
+
 /// Each line of words that asks for help, and the text.
-const HELPS: [(&str, &str); 10] = [
+const HELPS: [(&str, &str); 13] = [
     ("--help", HELP),
     ("help", HELP),
     ("-h x", HELP),
@@ -77,7 +100,13 @@ const HELPS: [(&str, &str); 10] = [
     ("run 2=x --help --sites", RUN_HELP),
     ("run --log --tick 5 --help", RUN_HELP),
     ("run -h --tick 0 --once", RUN_HELP),
+    ("check-journal --help", CHECK_HELP),
+    ("check-journal f -h", CHECK_HELP),
+    ("check-journal --json --help f g", CHECK_HELP),
 ];
+
+/// Whether the host had memory for a text.
+type Put = Result<(), AllocError>;
 
 /// How the words of a line are read; two spaces enclose an empty word.
 fn read(alloc: Global, line: &str) -> Result<Command, WordsFault> {
@@ -88,29 +117,126 @@ fn read(alloc: Global, line: &str) -> Result<Command, WordsFault> {
     }
 }
 
-/// Whether the words of a line are refused, and not for lack of memory.
-fn is_refused(alloc: Global, line: &str) -> bool {
-    matches!(read(alloc, line), Err(WordsFault::Refused))
+/// Adds how words are read.
+fn put_read(text: &mut String, read: &Result<Command, WordsFault>) -> Put {
+    match read {
+        Ok(Command::Sim) => text.push_str("sim"),
+        Ok(Command::Version) => text.push_str("version"),
+        Ok(Command::Help(help)) => put_bytes(text, help.as_bytes()),
+        Ok(Command::CheckJournal(check)) => put_check(text, check),
+        Ok(Command::Run(config)) => put_config(text, config),
+        Err(WordsFault::Refused) => text.push_str(REFUSED),
+        Err(WordsFault::OutOfMemory) => text.push_str("no memory"),
+    }
 }
 
-/// Whether the words of a line ask for a script to be run.
-fn asks_for_script(alloc: Global, line: &str) -> bool {
-    matches!(read(alloc, line), Ok(Command::Sim))
+const REFUSED: &str = "refused";
+
+fn put_bytes(text: &mut String, bytes: &[u8]) -> Put {
+    text.push_str(str::from_utf8(bytes).unwrap_or("no text"))
 }
 
-/// Whether the words of a line ask for help, and get this text.
-fn gets_help(alloc: Global, line: &str, text: &str) -> bool {
-    match read(alloc, line) {
-        Ok(Command::Help(help)) => help.as_bytes() == text.as_bytes(),
-        _ => false,
+fn put_check(text: &mut String, check: &JournalCheck) -> Put {
+    text.push_str(if check.json() {
+        "check in JSON "
+    } else {
+        "check "
+    })?;
+    text.push_str(check.path())
+}
+
+/// Adds the values of a site, and those of the options that may be omitted as far as there are any.
+fn put_config(text: &mut String, config: &Config) -> Put {
+    let (id, sites) = (config.id().number(), config.sites());
+    write!(text, "site {id} of {sites}")?;
+    put_word(text, "at", config.listen())?;
+    text.push_str(":")?;
+    for peer in config.peers() {
+        put_peer(text, peer)?;
+    }
+    for entrance in config.entrances() {
+        text.push_str(" from")?;
+        put_peer(text, entrance)?;
+    }
+    put_word(text, "http", config.http())?;
+    put_number(text, "tick", config.tick())?;
+    put_number(text, "silent", config.silent_after())?;
+    put_word(text, "once", config.once())?;
+    put_word(text, "journal", config.journal())?;
+    put_word(text, "system", config.system())?;
+    text.push_str(if config.log() { " log" } else { "" })
+}
+
+fn put_peer(text: &mut String, peer: &PeerAddress) -> Put {
+    let (site, address) = (peer.site().number(), peer.address());
+    write!(text, " {site}={address}")
+}
+
+fn put_word(text: &mut String, name: &str, value: Option<&str>) -> Put {
+    match value {
+        Some(value) => write!(text, " {name} {value}"),
+        None => Ok(()),
+    }
+}
+
+fn put_number(text: &mut String, name: &str, value: Option<u64>) -> Put {
+    match value {
+        Some(value) => write!(text, " {name} {value}"),
+        None => Ok(()),
+    }
+}
+
+/// The words of this line are read as that.
+fn check(rt: &(impl Abort + AllocGlobal), line: &str, wanted: &str) {
+    let mut told = String::new(rt.alloc());
+    put_read(&mut told, &read(rt.alloc(), line)).expect(rt, "memory");
+    assert!(rt; told.as_str() == wanted, "at {line:?}: {told}");
+}
+
+fn check_all(rt: &(impl Abort + AllocGlobal), rows: &[(&str, &str)]) {
+    for (line, wanted) in rows {
+        check(rt, *line, *wanted);
+    }
+}
+
+fn check_refused(rt: &(impl Abort + AllocGlobal), lines: &[&str]) {
+    for line in lines {
+        check(rt, *line, REFUSED);
+    }
+}
+
+/// A text in three parts.
+fn joined(rt: &(impl Abort + AllocGlobal), parts: [&str; 3]) -> String {
+    let mut text = String::new(rt.alloc());
+    for part in &parts {
+        text.push_str(*part).expect(rt, "memory");
+    }
+    text
+}
+
+/// The words of site 1 of 2, with these options behind all others and before them, are read as that.
+fn check_options(rt: &(impl Abort + AllocGlobal), words: &str, wanted: &str) {
+    let behind = joined(rt, ["run --id 1 --sites 2 --listen a 2=b", words, ""]);
+    check(rt, &behind, wanted);
+    let before = joined(rt, ["run", words, " 2=b --listen a --sites 2 --id 1"]);
+    check(rt, &before, wanted);
+}
+
+/// The same, with what is behind the values of that site; the options are refused if that is `refused`.
+fn check_all_options(rt: &(impl Abort + AllocGlobal), rows: &[(&str, &str)]) {
+    for (words, values) in rows {
+        if *values == REFUSED {
+            check_options(rt, *words, REFUSED);
+        } else {
+            let wanted = joined(rt, ["site 1 of 2 at a: 2=b", *values, ""]);
+            check_options(rt, *words, &wanted);
+        }
     }
 }
 
 #[test]
 fn sim_is_read(rt: HostRuntime) {
-    for line in ["sim", "sim --"] {
-        assert!(rt; asks_for_script(rt.alloc(), line), "at {line:?}");
-    }
+    check_all(&rt, &[("sim", "sim"), ("sim --", "sim")]);
 }
 
 #[test]
@@ -120,7 +246,7 @@ fn no_words_are_refused(rt: HostRuntime) {
 }
 
 /// Words that are no command.
-const OTHER_WORDS: [&str; 16] = [
+const OTHER_WORDS: [&str; 25] = [
     "",
     "sim x",
     "sim sim",
@@ -137,268 +263,314 @@ const OTHER_WORDS: [&str; 16] = [
     "-v",
     "sim --version",
     "run --version",
+    "check-journal",
+    "check-journal --json",
+    "check-journal f g",
+    "check-journal f -- g",
+    "check-journal -f",
+    "check-journal --json --json f",
+    "check-journal --json=1 f",
+    "check-journal sim --id 1",
+    "-- check-journal f",
 ];
 
 #[test]
 fn other_words_are_refused(rt: HostRuntime) {
-    for line in OTHER_WORDS {
-        assert!(rt; is_refused(rt.alloc(), line), "at {line:?}");
-    }
+    check_refused(&rt, &OTHER_WORDS);
 }
 
-/// Whether the words of a line ask for the version.
-fn asks_for_version(alloc: Global, line: &str) -> bool {
-    matches!(read(alloc, line), Ok(Command::Version))
+/// Lines of words that have a journal checked.
+const CHECKS: [(&str, &str); 7] = [
+    ("check-journal f", "check f"),
+    ("check-journal /a/b.c --json", "check in JSON /a/b.c"),
+    ("check-journal --json sim", "check in JSON sim"),
+    ("check-journal -- --json", "check --json"),
+    ("check-journal --json -- -f", "check in JSON -f"),
+    ("check-journal ", "check "),
+    ("check-journal \u{e9}=1", "check \u{e9}=1"),
+];
+
+#[test]
+fn journals_are_checked(rt: HostRuntime) {
+    check_all(&rt, &CHECKS);
 }
+
+const VERSIONS: [(&str, &str); 4] = [
+    ("--version", "version"),
+    ("-V", "version"),
+    ("--version sim", "version"),
+    ("-V x", "version"),
+];
 
 #[test]
 fn the_version_is_asked_for(rt: HostRuntime) {
-    for line in ["--version", "-V", "--version sim", "-V x"] {
-        assert!(rt; asks_for_version(rt.alloc(), line), "at {line:?}");
-    }
+    check_all(&rt, &VERSIONS);
 }
 
 #[test]
 fn help_is_the_text_of_clap(rt: HostRuntime) {
-    for (line, text) in HELPS {
-        assert!(rt; gets_help(rt.alloc(), line, text), "at {line:?}");
-    }
+    check_all(&rt, &HELPS);
 }
 
-/// Whether a peer has this number and this address.
-fn is_peer(peer: &PeerAddress, site: u64, address: &str) -> bool {
-    peer.site().number() == site && peer.address() == address
-}
-
-/// Whether a config has these peers, in this order.
-fn has_peers(config: &Config, wanted: &[(u64, &str)]) -> bool {
-    let peers = config.peers();
-    peers.len() == wanted.len()
-        && peers
-            .iter()
-            .zip(wanted)
-            .all(|(peer, (site, address))| is_peer(peer, *site, address))
-}
-
-/// Whether a config has these values: its own number, the number of sites, where it listens, and its peers.
-fn is_config(config: &Config, own: (u64, u64, &str), peers: &[(u64, &str)]) -> bool {
-    config.id().number() == own.0
-        && config.sites() == own.1
-        && config.listen() == own.2
-        && has_peers(config, peers)
-}
-
-/// Whether the words of a line are those of a site with these values.
-fn runs_site(alloc: Global, line: &str, own: (u64, u64, &str), peers: &[(u64, &str)]) -> bool {
-    match read(alloc, line) {
-        Ok(Command::Run(config)) => is_config(&config, own, peers),
-        _ => false,
-    }
-}
-
-/// The words of site 2 of 4: peers by number, and with options after them and among them.
-const ORDERS: [&str; 5] = [
-    "run --id 2 --sites 4 --listen b:2 1=a 3=c:3 4=",
-    "run 4= 1=a 3=c:3 --sites 4 --id 2 --listen b:2",
-    "run 3=c:3 --listen b:2 4= --sites=4 1=a --id=2",
-    "run --listen b:2 --sites 4 --id 2 -- 4= 3=c:3 1=a",
+/// Site 1 of 2; and site 2 of 4, with its peers by number, and with options after them and among them.
+const CONFIGS: [(&str, &str); 6] = [
+    (
+        "run --id 1 --sites 2 --listen 127.0.0.1:7001 2=127.0.0.1:7002",
+        "site 1 of 2 at 127.0.0.1:7001: 2=127.0.0.1:7002",
+    ),
+    (
+        "run --id 2 --sites 4 --listen b:2 1=a 3=c:3 4=",
+        SITE_2_OF_4,
+    ),
+    (
+        "run 4= 1=a 3=c:3 --sites 4 --id 2 --listen b:2",
+        SITE_2_OF_4,
+    ),
+    (
+        "run 3=c:3 --listen b:2 4= --sites=4 1=a --id=2",
+        SITE_2_OF_4,
+    ),
+    (
+        "run --listen b:2 --sites 4 --id 2 -- 4= 3=c:3 1=a",
+        SITE_2_OF_4,
+    ),
     // Numbers of options are as clap reads them.
-    "run --id 02 --sites +4 --listen b:2 1=a 3=c:3 4=",
+    (
+        "run --id 02 --sites +4 --listen b:2 1=a 3=c:3 4=",
+        SITE_2_OF_4,
+    ),
 ];
+
+const SITE_2_OF_4: &str = "site 2 of 4 at b:2: 1=a 3=c:3 4=";
 
 #[test]
 fn a_config_has_the_values_of_the_words(rt: HostRuntime) {
-    let line = "run --id 1 --sites 2 --listen 127.0.0.1:7001 2=127.0.0.1:7002";
-    let own = (1, 2, "127.0.0.1:7001");
-    assert!(rt; runs_site(rt.alloc(), line, own, &[(2, "127.0.0.1:7002")]));
-    let peers = [(1, "a"), (3, "c:3"), (4, "")];
-    for line in ORDERS {
-        assert!(rt;
-            runs_site(rt.alloc(), line, (2, 4, "b:2"), &peers),
-            "at {line:?}"
-        );
-    }
+    check_all(&rt, &CONFIGS);
 }
 
 /// An address is the text after the first `=`, whatever it is.
 #[test]
 fn addresses_are_kept(rt: HostRuntime) {
     let line = "run --id 3 --sites 3 --listen  1== 2=1=\u{e9}";
-    let peers = [(1, "="), (2, "1=\u{e9}")];
-    assert!(rt; runs_site(rt.alloc(), line, (3, 3, ""), &peers));
+    check(&rt, line, "site 3 of 3 at : 1== 2=1=\u{e9}");
 }
-
-/// The options that may be omitted, as the words of a site should set them.
-type Extras = (
-    Option<&'static str>,
-    Option<u64>,
-    Option<&'static str>,
-    bool,
-);
 
 /// Words for ticks and silence, and after how many milliseconds a peer is then silent.
-const SILENCES: [(&str, Option<u64>); 16] = [
-    ("", None),
-    (" --silent 5000", None),
-    (" --tick 100", Some(3_000)),
-    (" --tick 300", Some(3_000)),
-    (" --tick 301", Some(3_010)),
-    (" --tick 60000", Some(600_000)),
-    (" --tick 100 --silent 0", None),
-    (" --tick 100 --silent 1000", Some(1_000)),
-    (" --tick 100 --silent=1001", Some(1_001)),
-    (" --tick 60000 --silent 1000", Some(1_000)),
-    (" --tick 1 --silent 3600000", Some(3_600_000)),
-    (" --silent 3599999 --tick 1", Some(3_599_999)),
-    (" --silent +2000 --tick 9", Some(2_000)),
-    (" --silent 00 --tick 9", None),
-    (" --silent 0 --log --tick=1", None),
-    (" --silent 4000 --once f --tick 1000", Some(4_000)),
+const SILENCES: [(&str, &str); 16] = [
+    ("", ""),
+    (" --silent 5000", ""),
+    (" --tick 100", " tick 100 silent 3000"),
+    (" --tick 300", " tick 300 silent 3000"),
+    (" --tick 301", " tick 301 silent 3010"),
+    (" --tick 60000", " tick 60000 silent 600000"),
+    (" --tick 100 --silent 0", " tick 100"),
+    (" --tick 100 --silent 1000", " tick 100 silent 1000"),
+    (" --tick 100 --silent=1001", " tick 100 silent 1001"),
+    (" --tick 60000 --silent 1000", " tick 60000 silent 1000"),
+    (" --tick 1 --silent 3600000", " tick 1 silent 3600000"),
+    (" --silent 3599999 --tick 1", " tick 1 silent 3599999"),
+    (" --silent +2000 --tick 9", " tick 9 silent 2000"),
+    (" --silent 00 --tick 9", " tick 9"),
+    (" --silent 0 --log --tick=1", " tick 1 log"),
+    (
+        " --silent 4000 --once f --tick 1000",
+        " tick 1000 silent 4000 once f",
+    ),
 ];
-
-/// Whether the words of a line are those of a site for which a peer is silent after this time.
-fn is_silent_after(alloc: Global, line: &str, after: Option<u64>) -> bool {
-    match read(alloc, line) {
-        Ok(Command::Run(config)) => config.silent_after() == after,
-        _ => false,
-    }
-}
-
-/// Whether these words, after all others and before them, say after which time a peer is silent.
-fn tell_silence(alloc: Global, words: &str, after: Option<u64>) -> bool {
-    let behind = format!(in alloc; "run --id 1 --sites 2 --listen a 2=b{words}");
-    let before = format!(in alloc; "run{words} 2=b --listen a --sites 2 --id 1");
-    match (behind, before) {
-        (Ok(behind), Ok(before)) => {
-            is_silent_after(alloc, behind.as_str(), after)
-                && is_silent_after(alloc, before.as_str(), after)
-        }
-        _ => false,
-    }
-}
 
 #[test]
 fn a_peer_is_silent_after_a_time(rt: HostRuntime) {
-    for (words, after) in SILENCES {
-        assert!(rt; tell_silence(rt.alloc(), words, after), "at {words:?}");
-    }
+    check_all_options(&rt, &SILENCES);
 }
 
 /// Words for the options that may be omitted, and what they set.
-const EXTRAS: [(&str, Extras); 13] = [
-    ("", (None, None, None, false)),
-    (" --http [::1]:80", (Some("[::1]:80"), None, None, false)),
-    (" --http=a=b:1", (Some("a=b:1"), None, None, false)),
-    (" --http=", (Some(""), None, None, false)),
-    (" --tick 1", (None, Some(1), None, false)),
-    (" --tick=60000", (None, Some(60_000), None, false)),
-    (" --tick +007", (None, Some(7), None, false)),
-    (" --once /a/b.c", (None, None, Some("/a/b.c"), false)),
-    (" --once=-x", (None, None, Some("-x"), false)),
-    (" --log", (None, None, None, true)),
+const EXTRAS: [(&str, &str); 13] = [
+    ("", ""),
+    (" --http [::1]:80", " http [::1]:80"),
+    (" --http=a=b:1", " http a=b:1"),
+    (" --http=", " http "),
+    (" --tick 1", " tick 1 silent 3000"),
+    (" --tick=60000", " tick 60000 silent 600000"),
+    (" --tick +007", " tick 7 silent 3000"),
+    (" --once /a/b.c", " once /a/b.c"),
+    (" --once=-x", " once -x"),
+    (" --log", " log"),
     (
         " --http h:1 --tick 250 --once f --log",
-        (Some("h:1"), Some(250), Some("f"), true),
+        " http h:1 tick 250 silent 3000 once f log",
     ),
     (
         " --log --once=--log --tick 60000 --http=--tick",
-        (Some("--tick"), Some(60_000), Some("--log"), true),
+        " http --tick tick 60000 silent 600000 once --log log",
     ),
     (
         " --tick 2 --once 3 --http 4",
-        (Some("4"), Some(2), Some("3"), false),
+        " http 4 tick 2 silent 3000 once 3",
     ),
 ];
 
-/// Whether a config has these values for the options that may be omitted.
-fn has_extras(config: &Config, extras: Extras) -> bool {
-    let (http, tick, once, log) = extras;
-    config.http() == http && config.tick() == tick && config.once() == once && config.log() == log
-}
-
-/// Whether the words of a line are those of site 1 of 2, with these values for the options that may be omitted.
-fn runs_with(alloc: Global, line: &str, extras: Extras) -> bool {
-    match read(alloc, line) {
-        Ok(Command::Run(config)) => {
-            is_config(&config, (1, 2, "a"), &[(2, "b")]) && has_extras(&config, extras)
-        }
-        _ => false,
-    }
-}
-
-/// Whether these words, after all others and before them, set these values.
-fn are_read(alloc: Global, words: &str, extras: Extras) -> bool {
-    let behind = format!(in alloc; "run --id 1 --sites 2 --listen a 2=b{words}");
-    let before = format!(in alloc; "run{words} 2=b --listen a --sites 2 --id 1");
-    match (behind, before) {
-        (Ok(behind), Ok(before)) => {
-            runs_with(alloc, behind.as_str(), extras) && runs_with(alloc, before.as_str(), extras)
-        }
-        _ => false,
-    }
-}
-
 #[test]
 fn options_that_may_be_left_out_are_read(rt: HostRuntime) {
-    for (words, extras) in EXTRAS {
-        assert!(rt; are_read(rt.alloc(), words, extras), "at {words:?}");
-    }
+    check_all_options(&rt, &EXTRAS);
 }
 
-/// The options that may be omitted, with values.
-const OPTIONS: [&str; 4] = ["--http h:1", "--tick=5", "--once f", "--log"];
+/// Words for a journal, and what they set.
+const JOURNALS: [(&str, &str); 12] = [
+    ("", ""),
+    (" --journal /a/b.c", " journal /a/b.c"),
+    (" --journal= --log", " journal  log"),
+    (" --system Z-9 --journal f", " journal f system Z-9"),
+    (" --journal f --system -", " journal f system -"),
+    (" --journal f --system=-", " journal f system -"),
+    (" --journal f --system=", REFUSED),
+    (" --journal f --system a_b", REFUSED),
+    (" --journal f --system a.b", REFUSED),
+    (" --system a", REFUSED),
+    (" --journal f --once f", REFUSED),
+    (" --once f --system a", REFUSED),
+];
 
-/// Whether these are four words, and so all of `OPTIONS`.
-fn are_all(a: &str, b: &str, c: &str, d: &str) -> bool {
-    a != b && a != c && a != d && b != c && b != d && c != d
+#[test]
+fn a_site_may_have_a_journal(rt: HostRuntime) {
+    check_all_options(&rt, &JOURNALS);
 }
 
-/// Whether all options are read in this order, between the others and after them.
-fn are_read_in_order(alloc: Global, a: &str, b: &str, c: &str, d: &str) -> bool {
-    let extras = (Some("h:1"), Some(5), Some("f"), true);
+/// The options that may be omitted, with values, in each order.
+const ORDERS: [[&str; 4]; 24] = [
+    ["--http h:1", "--tick=5", "--once f", "--log"],
+    ["--http h:1", "--tick=5", "--log", "--once f"],
+    ["--http h:1", "--once f", "--tick=5", "--log"],
+    ["--http h:1", "--once f", "--log", "--tick=5"],
+    ["--http h:1", "--log", "--tick=5", "--once f"],
+    ["--http h:1", "--log", "--once f", "--tick=5"],
+    ["--tick=5", "--http h:1", "--once f", "--log"],
+    ["--tick=5", "--http h:1", "--log", "--once f"],
+    ["--tick=5", "--once f", "--http h:1", "--log"],
+    ["--tick=5", "--once f", "--log", "--http h:1"],
+    ["--tick=5", "--log", "--http h:1", "--once f"],
+    ["--tick=5", "--log", "--once f", "--http h:1"],
+    ["--once f", "--http h:1", "--tick=5", "--log"],
+    ["--once f", "--http h:1", "--log", "--tick=5"],
+    ["--once f", "--tick=5", "--http h:1", "--log"],
+    ["--once f", "--tick=5", "--log", "--http h:1"],
+    ["--once f", "--log", "--http h:1", "--tick=5"],
+    ["--once f", "--log", "--tick=5", "--http h:1"],
+    ["--log", "--http h:1", "--tick=5", "--once f"],
+    ["--log", "--http h:1", "--once f", "--tick=5"],
+    ["--log", "--tick=5", "--http h:1", "--once f"],
+    ["--log", "--tick=5", "--once f", "--http h:1"],
+    ["--log", "--once f", "--http h:1", "--tick=5"],
+    ["--log", "--once f", "--tick=5", "--http h:1"],
+];
+
+const ALL_OPTIONS: &str = "site 1 of 2 at a: 2=b http h:1 tick 5 silent 3000 once f log";
+
+/// All options are read in this order, between the others and after them.
+fn check_order(rt: &(impl Abort + AllocGlobal), order: &[&str; 4]) {
+    let alloc = rt.alloc();
+    let [a, b, c, d] = *order;
     let among = format!(in alloc; "run {a} --id 1 {b} --sites 2 {c} --listen a {d} 2=b");
+    check(rt, &among.expect(rt, "memory"), ALL_OPTIONS);
     let behind = format!(in alloc; "run --listen a 2=b {a} {b} --sites=2 {c} --id=1 {d}");
-    match (among, behind) {
-        (Ok(among), Ok(behind)) => {
-            runs_with(alloc, among.as_str(), extras) && runs_with(alloc, behind.as_str(), extras)
-        }
-        _ => false,
-    }
-}
-
-/// How many of the orders that begin with these two options are read, of two.
-fn orders_read(alloc: Global, a: &str, b: &str) -> u64 {
-    let mut read = 0u64;
-    for c in OPTIONS {
-        for d in OPTIONS {
-            if are_all(a, b, c, d) && are_read_in_order(alloc, a, b, c, d) {
-                read = read.saturating_add(1);
-            }
-        }
-    }
-    read
+    check(rt, &behind.expect(rt, "memory"), ALL_OPTIONS);
 }
 
 #[test]
 fn options_come_in_any_order(rt: HostRuntime) {
-    for a in OPTIONS {
-        for b in OPTIONS {
-            let wanted = if a == b { 0 } else { 2 };
-            assert!(rt; orders_read(rt.alloc(), a, b) == wanted, "at {a:?} {b:?}");
-        }
+    for order in &ORDERS {
+        check_order(&rt, order);
     }
 }
 
-/// Whether these words are refused after all others and before them.
-fn are_refused(alloc: Global, words: &str) -> bool {
-    let behind = format!(in alloc; "run --id 1 --sites 2 --listen a 2=b {words}");
-    let before = format!(in alloc; "run {words} --id 1 --sites 2 --listen a 2=b");
-    match (behind, before) {
-        (Ok(behind), Ok(before)) => {
-            is_refused(alloc, behind.as_str()) && is_refused(alloc, before.as_str())
-        }
-        _ => false,
+/// Words of a site that lets some peers in at addresses of their own, and how they are read.
+const ENTRANCES: [(&str, &str); 5] = [
+    (
+        "run --id 1 --sites 3 --listen a --from 3=c 2=x 3=y",
+        "site 1 of 3 at a: 2=x 3=y from 3=c",
+    ),
+    (
+        "run --from=3==c --id 1 --sites 3 --from 2= 2=x --listen a 3=y",
+        "site 1 of 3 at a: 2=x 3=y from 3==c from 2=",
+    ),
+    (
+        "run --id 1 --sites 3 --from 2=a --from 3=a 2=x 3=y",
+        "site 1 of 3: 2=x 3=y from 2=a from 3=a",
+    ),
+    (
+        "run --id 2 --sites 2 --from 1=a 1=x",
+        "site 2 of 2: 1=x from 1=a",
+    ),
+    (
+        "run --id 2 --sites 2 --from 1=a --listen a 1=x",
+        "site 2 of 2 at a: 1=x from 1=a",
+    ),
+];
+
+#[test]
+fn peers_may_have_entrances(rt: HostRuntime) {
+    check_all(&rt, &ENTRANCES);
+}
+
+/// Words that do not say where the peers 2 and 3 of site 1 of 3 are let in.
+const OTHER_ENTRANCES: [&str; 17] = [
+    "--listen a --from 1=b",
+    "--listen a --from 4=b",
+    "--listen a --from 0=b",
+    "--listen a --from 02=b",
+    "--listen a --from +2=b",
+    "--listen a --from =b",
+    "--listen a --from 2",
+    "--listen a --from 2:b",
+    "--listen a --from",
+    "--listen a --from=",
+    "--listen a --from 18446744073709551618=b",
+    "--listen a --from 2=b --from 2=b",
+    "--listen a --from 2=b --from 3=c --from 2=d",
+    "--from 2=b",
+    "--from 3=c",
+    "--from 2=b --from 2=c",
+    "--from 2=b --from 1=c",
+];
+
+#[test]
+fn entrances_are_of_other_sites(rt: HostRuntime) {
+    for words in &OTHER_ENTRANCES {
+        let line = joined(&rt, ["run 2=x 3=y --id 1 --sites 3 ", *words, ""]);
+        check(&rt, &line, REFUSED);
     }
+}
+
+/// Whether site 1 of 3 takes a connection of each peer at its shared address, at an entrance of site 2, and of site 3.
+fn admissions(rt: &(impl Abort + AllocGlobal), words: &str) -> [bool; 6] {
+    let line = joined(rt, ["run --id 1 --sites 3 2=x 3=y ", words, ""]);
+    let Ok(Command::Run(config)) = read(rt.alloc(), &line) else {
+        return [false; 6];
+    };
+    let (two, three) = (SiteId::new(2), SiteId::new(3));
+    let (Ok(two), Ok(three)) = (two, three) else {
+        return [false; 6];
+    };
+    [
+        config.admits(None, two),
+        config.admits(None, three),
+        config.admits(Some(two), two),
+        config.admits(Some(two), three),
+        config.admits(Some(three), two),
+        config.admits(Some(three), three),
+    ]
+}
+
+#[test]
+fn only_its_own_peer_is_let_in_at_an_entrance(rt: HostRuntime) {
+    let shared = admissions(&rt, "--listen a");
+    assert!(rt;
+        shared == [true, true, true, false, false, true],
+        "without entrances"
+    );
+    let one = admissions(&rt, "--listen a --from 2=b");
+    assert!(rt; one == [false, true, true, false, false, true], "with one");
+    let all = admissions(&rt, "--from 3=c --from 2=b");
+    assert!(rt; all == [false, false, true, false, false, true], "with all");
 }
 
 /// Words that are no options of a site.
@@ -443,18 +615,24 @@ const OTHER_OPTIONS: [&str; 35] = [
     "-l",
 ];
 
-#[test]
-fn other_forms_of_options_are_refused(rt: HostRuntime) {
-    for words in OTHER_OPTIONS {
-        assert!(rt; are_refused(rt.alloc(), words), "at {words:?}");
+/// These words are refused after all others and before them.
+fn check_options_refused(rt: &(impl Abort + AllocGlobal), options: &[&str]) {
+    for words in options {
+        let behind = joined(rt, ["run --id 1 --sites 2 --listen a 2=b ", *words, ""]);
+        check(rt, &behind, REFUSED);
+        let before = joined(rt, ["run ", *words, " --id 1 --sites 2 --listen a 2=b"]);
+        check(rt, &before, REFUSED);
     }
 }
 
 #[test]
+fn other_forms_of_options_are_refused(rt: HostRuntime) {
+    check_options_refused(&rt, &OTHER_OPTIONS);
+}
+
+#[test]
 fn options_with_no_value_are_refused(rt: HostRuntime) {
-    for option in ["--http", "--tick", "--silent", "--once"] {
-        assert!(rt; are_refused(rt.alloc(), option), "at {option:?}");
-    }
+    check_options_refused(&rt, &["--http", "--tick", "--silent", "--once"]);
 }
 
 /// Options that are not behind `run`.
@@ -470,36 +648,17 @@ const OPTIONS_ELSEWHERE: [&str; 6] = [
 /// They are options of `run` only.
 #[test]
 fn a_script_has_no_options(rt: HostRuntime) {
-    for line in OPTIONS_ELSEWHERE {
-        assert!(rt; is_refused(rt.alloc(), line), "at {line:?}");
-    }
+    check_refused(&rt, &OPTIONS_ELSEWHERE);
 }
-
-/// The peers of site 16 of 16.
-const FIFTEEN_PEERS: [(u64, &str); 15] = [
-    (1, "a"),
-    (2, "b"),
-    (3, "c"),
-    (4, "d"),
-    (5, "e"),
-    (6, "f"),
-    (7, "g"),
-    (8, "h"),
-    (9, "i"),
-    (10, "j"),
-    (11, "k"),
-    (12, "l"),
-    (13, "m"),
-    (14, "n"),
-    (15, "o"),
-];
 
 #[test]
 fn sixteen_sites_are_read(rt: HostRuntime) {
     let line =
         "run --id 16 --sites 16 --listen x 15=o 14=n 13=m 12=l 11=k 10=j 9=i 8=h 7=g 6=f 5=e \
         4=d 3=c 2=b 1=a";
-    assert!(rt; runs_site(rt.alloc(), line, (16, 16, "x"), &FIFTEEN_PEERS));
+    let wanted =
+        "site 16 of 16 at x: 1=a 2=b 3=c 4=d 5=e 6=f 7=g 8=h 9=i 10=j 11=k 12=l 13=m 14=n 15=o";
+    check(&rt, line, wanted);
 }
 
 /// The words of a site with other values, or with options twice or missing.
@@ -529,17 +688,7 @@ const OTHER_VALUES: [&str; 20] = [
 
 #[test]
 fn values_outside_their_range_are_refused(rt: HostRuntime) {
-    for line in OTHER_VALUES {
-        assert!(rt; is_refused(rt.alloc(), line), "at {line:?}");
-    }
-}
-
-/// Whether site 1 of 3 is refused with these words for its peers.
-fn is_refused_with(alloc: Global, peers: &str) -> bool {
-    match format!(in alloc; "run --id 1 --sites 3 --listen a {peers}") {
-        Ok(line) => is_refused(alloc, line.as_str()),
-        Err(_) => false,
-    }
+    check_refused(&rt, &OTHER_VALUES);
 }
 
 /// Words that are not the peers of site 1 of 3.
@@ -570,53 +719,44 @@ const OTHER_PEERS: [&str; 22] = [
 
 #[test]
 fn peers_are_exactly_the_other_sites(rt: HostRuntime) {
-    for peers in OTHER_PEERS {
-        assert!(rt; is_refused_with(rt.alloc(), peers), "at {peers:?}");
+    for peers in &OTHER_PEERS {
+        let line = joined(&rt, ["run --id 1 --sites 3 --listen a ", *peers, ""]);
+        check(&rt, &line, REFUSED);
     }
 }
 
-/// The words of a site in a system of this many, with its peers from the last to the first.
-fn words_of_site(alloc: Global, id: u64, sites: u64) -> Result<String, AllocError> {
-    let mut line = format!(in alloc; "run --id {id} --sites {sites} --listen h:{id}")?;
+/// Adds a peer, if it is another site than that.
+fn put_other(text: &mut String, id: u64, site: u64) -> Put {
+    if site == id {
+        return Ok(());
+    }
+    write!(text, " {site}=h:{site}")
+}
+
+/// Adds the words of a site in a system of this many, with its peers from the last to the first.
+fn put_words_of_site(line: &mut String, id: u64, sites: u64) -> Put {
+    write!(line, "run --id {id} --sites {sites} --listen h:{id}")?;
     for site in (1..=sites).rev() {
-        if site != id {
-            line.push_str(format!(in alloc; " {site}=h:{site}")?.as_str())?;
-        }
+        put_other(line, id, site)?;
     }
-    Ok(line)
+    Ok(())
 }
 
-/// Whether this is the address that a site has in those words.
-fn is_address_of(alloc: Global, address: &str, site: u64) -> bool {
-    match format!(in alloc; "h:{site}") {
-        Ok(wanted) => address == wanted.as_str(),
-        Err(_) => false,
+/// Adds how they are read.
+fn put_site(wanted: &mut String, id: u64, sites: u64) -> Put {
+    write!(wanted, "site {id} of {sites} at h:{id}:")?;
+    for site in 1..=sites {
+        put_other(wanted, id, site)?;
     }
+    Ok(())
 }
 
-/// Whether the peers are all other sites of this many, in order.
-fn are_others(alloc: Global, peers: &[PeerAddress], id: u64, sites: u64) -> bool {
-    let others = (1..=sites).filter(|site| *site != id);
-    sites.checked_sub(1) == Some(peers.len() as u64)
-        && peers.iter().zip(others).all(|(peer, site)| {
-            peer.site().number() == site && is_address_of(alloc, peer.address(), site)
-        })
-}
-
-/// Whether the words of a site in a system of this many are read as its config.
-fn is_read_back(alloc: Global, id: u64, sites: u64) -> bool {
-    let Ok(line) = words_of_site(alloc, id, sites) else {
-        return false;
-    };
-    match read(alloc, line.as_str()) {
-        Ok(Command::Run(config)) => {
-            config.id().number() == id
-                && config.sites() == sites
-                && is_address_of(alloc, config.listen(), id)
-                && are_others(alloc, config.peers(), id, sites)
-        }
-        _ => false,
-    }
+fn check_site(rt: &(impl Abort + AllocGlobal), id: u64, sites: u64) {
+    let mut line = String::new(rt.alloc());
+    put_words_of_site(&mut line, id, sites).expect(rt, "memory");
+    let mut wanted = String::new(rt.alloc());
+    put_site(&mut wanted, id, sites).expect(rt, "memory");
+    check(rt, &line, &wanted);
 }
 
 /// Each site of a system of each size, with its peers named from the last to the first.
@@ -624,7 +764,7 @@ fn is_read_back(alloc: Global, id: u64, sites: u64) -> bool {
 fn each_site_is_read(rt: HostRuntime) {
     for sites in 2..=16u64 {
         for id in 1..=sites {
-            assert!(rt; is_read_back(rt.alloc(), id, sites), "at {id} of {sites}");
+            check_site(&rt, id, sites);
         }
     }
 }

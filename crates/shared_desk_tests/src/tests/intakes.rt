@@ -6,7 +6,7 @@ use apply_lanes::{Arrived, Intake, IntakeError, Outlet, VerdictCounts};
 use entry_codec::LineError;
 use inbound::InboundError;
 use refusing_allocator::Refusing;
-use rights_types::OutOfMemory;
+use rights_types::{Beat, OutOfMemory, SiteId};
 use std::alloc::Global;
 use std::process::Abort;
 use std::sync::Wait;
@@ -75,7 +75,9 @@ fn hear_each_line<R: Wait + Abort>(rt: &R, intake: &mut Intake<Refused>)
 {
     assert!(rt; heard(rt, intake, "E 2 0 1 I:10\n") == counts(1, 0));
     assert!(rt; heard(rt, intake, "E 2 3 4 S:1\n") == counts(0, 1));
-    assert!(rt; heard(rt, intake, "B 2 5\n") == Some(Arrived::Beat));
+    assert!(rt;
+        heard(rt, intake, "B 2 5\n") == Some(Arrived::Beat(Beat::known(SiteId::known(2), 5)))
+    );
     assert!(rt; intake.state() == State::Buffering);
     assert!(rt; asks_once(intake));
     assert!(rt; asks_again(intake));

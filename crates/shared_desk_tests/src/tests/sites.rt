@@ -4,7 +4,8 @@ ghost use Rattle.apply_lanes.specs.Names.{id_of, AreBlank, IsUnused};
 
 use crate::tests::desks::{applier_at, seat_at};
 use apply_lanes::{
-    Applier, Arrived, Blanks, DeskNames, Free, Intake, Kept, Outlet, Seat, SharedDesk, lane,
+    Applier, Arrived, Blanks, DeskMessage, DeskNames, Free, Intake, Kept, Outlet, Seat, SharedDesk,
+    lane,
 };
 use inbound::Inbound;
 use request_queue::Status;
@@ -334,10 +335,22 @@ fn answered<D: DeskNames, R: Abort>(
             let (ready, held, repeat) = (counts.ready, counts.held, counts.repeat);
             format!(in alloc; "ready {ready} held {held} repeat {repeat}")
         }
-        Arrived::Beat => String::from_str(alloc, "beat"),
+        Arrived::Beat(_) => String::from_str(alloc, "beat"),
         Arrived::Hello => String::from_str(alloc, "hello"),
-        Arrived::Query(query) => on_query(alloc, kept, &query),
-        Arrived::Ask(ask) => on_ask(rt, alloc, kept, &ask),
-        Arrived::Deny(deny) => on_deny(rt, alloc, kept, deny),
+        Arrived::Message(message) => on_message(rt, alloc, kept, message),
+    }
+}
+
+// The desk's reply to a message.
+fn on_message<D: DeskNames, R: Abort>(
+    rt: &R,
+    alloc: Global,
+    kept: &mut Kept<D>,
+    message: DeskMessage,
+) -> Reply {
+    match message {
+        DeskMessage::Query(query) => on_query(alloc, kept, &query),
+        DeskMessage::Ask(ask) => on_ask(rt, alloc, kept, &ask),
+        DeskMessage::Deny(deny) => on_deny(rt, alloc, kept, deny),
     }
 }

@@ -68,9 +68,9 @@ const OTHER_FIRST_LINES: [(&str, usize); 8] = [
 
 #[test]
 fn other_first_lines(rt: HostRuntime) {
-    for (text, left) in OTHER_FIRST_LINES {
+    for (text, left) in &OTHER_FIRST_LINES {
         let found = left_without_hello(rt.alloc(), text.as_bytes(), 1);
-        assert_eq!(rt; found, Some(left), "at {text:?}");
+        assert!(rt; found == Some(*left), "at {text:?}");
     }
 }
 
@@ -119,6 +119,6 @@ fn hello_is_read(alloc: &Refusing<Global>) -> bool {
 
 #[test]
 fn each_growth_for_a_first_line_refused(rt: HostRuntime) {
-    let requests = requests_of(rt.alloc(), |alloc| hello_is_read(alloc));
+    let requests = requests_of(rt.alloc(), hello_is_read);
     assert_eq!(rt; requests, Some(2));
 }

@@ -85,7 +85,7 @@ fn line_is_given(alloc: &Refusing<Global>) -> bool {
 
 #[test]
 fn each_growth_for_a_piece_refused(rt: HostRuntime) {
-    let requests = requests_of(rt.alloc(), |alloc| line_is_given(alloc));
+    let requests = requests_of(rt.alloc(), line_is_given);
     assert_eq!(rt; requests, Some(2));
 }
 

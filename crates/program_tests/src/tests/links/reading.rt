@@ -1,7 +1,7 @@
 //! Incoming lines, over connections that are cut.
 ghost use Rattle.std.specs.Prelude.{◌≡◌, false, IfSome};
 ghost use Rattle.thread_parts.specs.Items.{IsOpen};
-ghost use Rattle.peer_links.specs.declared.link.DeskMessage.{DeskMessage};
+ghost use Rattle.link_intake.specs.declared.desk_message.DeskMessage.{DeskMessage};
 
 use crate::tests::links::hello::first_line;
 use crate::tests::links::ports::{Lacking, Noting, link_in};

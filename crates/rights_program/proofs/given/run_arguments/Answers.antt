@@ -9,6 +9,6 @@ returns-in-Err-clause-ends g c = inr ((c.report.ensures.status, c.report.ensures
 
 pub returns-clause-ends : goal.returns-clause-ends
 returns-clause-ends g c =
-    let same : texts c.behind_name.result.now ≡ arguments c.args.words.now =
-    c.behind_name.ensures ∙ ap (λ ws. drop 1 (texts ws)) c.deref.ensures.value ∙ ap (drop 1) c.in-Ok.ensures in
-    inl (ends_for _ _ _ _ _ _ _ _ _ _ _ _ same c.run_words.ensures.ends)
+    let same : texts c.behind_name-behind.result.now ≡ arguments c.args.words.now =
+    c.behind_name-behind.ensures ∙ ap (λ ws. drop 1 (texts ws)) c.deref.ensures.value ∙ ap (drop 1) c.in-Ok.ensures in
+    inl (ends_for _ _ _ _ _ _ _ _ _ _ _ _ _ same c.run_words.ensures.ends)
