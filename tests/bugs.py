@@ -5,8 +5,9 @@ tests/bugs.py [WORD].
 With a WORD, only the bugs whose names, or the names of whose files, contain it. The inputs of the checks are first given
 to the model with the bug in it, in this process: where what it says differs from what the model says, the check finds it.
 Bugs that no such check finds, as those of connections, are tried by ./conformance itself, on tests/model_site.py; those of
-a clock by its checks of clocks alone. A line for each bug names the check that finds it. Then comes a table by the files in
-which the bugs are. The last line is 'N passed, M failed': how many were found, and how many were not.
+a clock by its checks of clocks alone, and those of a journal by its checks of restarts. A line for each bug names the check
+that finds it. Then comes a table by the files in which the bugs are. The last line is 'N passed, M failed': how many were
+found, and how many were not.
 """
 
 import os
@@ -31,6 +32,13 @@ AT_ONCE = 6
 SECONDS = 30
 # What does not come at once does not come: a bug that makes a site silent is found sooner.
 PATIENCE = 10
+
+# The words of ./conformance for bugs of some files. Those of the others are tried by all that `run` has.
+USUAL_PART = ["run"]
+PARTS = {
+    "word_bugs": ["words"], "clock_bugs": ["run", "--only=clock_checks"],
+    "restart_bugs": ["run", "--journal", "--only=restart_checks"],
+}  # fmt: skip
 
 # How a bug is found.
 WAYS = IN_PROCESS, BY_CONFORMANCE, NOT_FOUND = "in process", "by ./conformance", "not found"
@@ -79,9 +87,8 @@ def said_by_check(bug=None):
 
 def by_conformance(name):
     """The check of ./conformance that finds the bug, or None."""
-    part = "words" if MODULE_OF[name] == "word_bugs" else "run"
-    words = [os.path.join(HERE, "..", "conformance"), part, "--ours=none", "--fail-fast", f"--seconds={SECONDS}"]
-    words += [f"--patience={PATIENCE}", *["--only=clock_checks"] * (MODULE_OF[name] == "clock_bugs")]
+    words = [os.path.join(HERE, "..", "conformance"), *PARTS.get(MODULE_OF[name], USUAL_PART)]
+    words += ["--ours=none", "--fail-fast", f"--seconds={SECONDS}", f"--patience={PATIENCE}"]
     ended = subprocess.run([*words, os.path.join(HERE, "model_site.py"), "--bug", name], capture_output=True, text=True)
     lines = [line for line in ended.stdout.splitlines() if ": FAILED: " in line]
     if not lines and ended.returncode != 0:
@@ -89,13 +96,18 @@ def by_conformance(name):
     return lines[0].split(": FAILED", 1)[0] if lines else None
 
 
-def found_by(name, right, fork):
-    """How the bug is found, and by which check."""
+def in_process(name, right, fork):
+    """The check whose inputs show the bug in this process, or None."""
     # A planted bug stays in its process.
     with fork.Pool(1) as pool:
         said = pool.apply(said_by_check, (name,))
-    check = next((check for check in right if said[check] != right[check]), None)
-    if check is not None:
+    return next((check for check in right if said[check] != right[check]), None)
+
+
+def found_by(name, right, fork):
+    """How the bug is found, and by which check."""
+    # A model in this process keeps no journal.
+    if MODULE_OF[name] != "restart_bugs" and (check := in_process(name, right, fork)) is not None:
         return IN_PROCESS, check
     check = by_conformance(name)
     return (NOT_FOUND, None) if check is None else (BY_CONFORMANCE, check)

@@ -1,6 +1,14 @@
 """Tests for `unittest` out of plain functions: each fails by what it raises."""
 
+import os
+import sys
 import unittest
+
+
+def choose_program():
+    """Says to all who start the program which one that is: what follows `--program`, if that is among the words."""
+    if "--program" in sys.argv[:-1]:
+        os.environ["RIGHTS_SITE"] = os.path.abspath(sys.argv[sys.argv.index("--program") + 1])
 
 
 class Skipped(unittest.SkipTest):

@@ -12,7 +12,7 @@ from contextlib import contextmanager, suppress
 
 import site_driver
 from cluster import Site, SiteEnded, at, expect, free_ports
-from site_driver import Difference
+from site_driver import Difference, with_journal
 
 # A peer that is to be heard says something as often, in seconds.
 BEAT_SECONDS = 0.1
@@ -93,9 +93,9 @@ class OwnTicks:
         """Starts the process. Another one may take its port first."""
         routes = {number: peer.address for number, peer in self.peers.items()}
         for _ in range(5):
-            self.port = free_ports(1)[0]
+            self.port, words = free_ports(1)[0], with_journal(command)
             try:
-                return Site(1, count, at(self.port), routes, command, tick=tick, silent=silent, timeout=site_driver.PATIENCE)
+                return Site(1, count, at(self.port), routes, words, tick=tick, silent=silent, timeout=site_driver.PATIENCE)
             except SiteEnded as error:
                 ended = error
         raise ended

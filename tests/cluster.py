@@ -72,9 +72,13 @@ class Cluster:
             if peer != number
         }
         program = self.programs.get(number, self.program)
-        site = self.kind(number, self.count, at(self.ports[number - 1]), peers, program, **self.options(number))
+        site = self.kind(number, self.count, self.listens_at(number), peers, program, **self.options(number))
         self.sites[number] = site
         return site
+
+    def listens_at(self, number):
+        """Where a site listens for all its peers. None if it does not."""
+        return at(self.ports[number - 1])
 
     def options(self, number):
         """The options of a site, but for those that all have."""

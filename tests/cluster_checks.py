@@ -5,6 +5,7 @@ import threading
 import time
 
 from cluster import Cluster, Proxy, at, expect, sees, wait_for
+from site_driver import comparable
 
 CHECK_SECONDS = 240
 
@@ -76,7 +77,7 @@ class Trio:
 def replies(command):
     with Trio(command) as sites:
         peers = '{"applied":0,"buffering":false,"held":0,"site":2},{"applied":0,"buffering":false,"held":0,"site":3}'
-        expect(sites[1].ask("status"), '{"closed":false,"held":0,"issued":0,"number":0,"peers":[' + peers
+        expect(comparable(sites[1].ask("status").encode()).decode(), '{"closed":false,"held":0,"issued":0,"number":0,"peers":[' + peers
                + '],"queued":0,"received":0,"site":1,"spent":0}', "status")
         for line, reply in [
             ("issue 10", "number 1"), ("spend 4 9", "spent 2"), ("give 2 1", "number 3"), ("spend 9 9", "queued 1"),

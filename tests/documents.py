@@ -250,10 +250,10 @@ def limits_are_those_of_the_code():
 
 
 def options_are_the_same_everywhere():
-    """Help text, man page, completion and docs/PROTOCOL.md have the same options of `run`."""
-    help_text = subprocess.run([PROGRAM, "run", "--help"], capture_output=True, text=True).stdout
-    options = set(re.findall(r"^ +(?:-h, )?(--[a-z]+)", help_text, re.MULTILINE))
-    expect({"--id", "--sites", "--listen", "--http", "--host", "--tick", "--silent", "--once", "--log", "--help"}, options, "the help text")
+    """Help text, man page, completion and docs/PROTOCOL.md have the same options."""
+    texts = [subprocess.run([PROGRAM, word, "--help"], capture_output=True, text=True).stdout for word in ("run", "check-journal")]
+    options = set(re.findall(r"^ +(?:-h, )?(--[a-z]+)", "".join(texts), re.MULTILINE))
+    expect({"--id", "--sites", "--listen", "--from", "--http", "--host", "--tick", "--silent", "--once", "--journal", "--system", "--log", "--json", "--help"}, options, "the help text")
     for path, pattern in [
         ("docs/rights-site.1", r"\\-\\-{}\b"), ("completion/rights-site.bash", r"--{}\b"), ("docs/PROTOCOL.md", r"--{}\b"),
     ]:  # fmt: skip

@@ -213,9 +213,13 @@ def a_terminal_that_is_closed():
     with tempfile.TemporaryDirectory() as room:
         stay = {**os.environ, "RIGHTS_SITE": Cluster.program, "RIGHTS_STATE": room, "RIGHTS_SITES": "2", "RIGHTS_LISTEN": at(own),
                 "RIGHTS_HTTP": at(web), "RIGHTS_TICK": "60000", "RIGHTS_PEERS": "2=127.0.0.1:1"}
-        process = subprocess.Popen([wrapper, "1"], env=stay, stderr=subprocess.PIPE, stdin=subprocess.DEVNULL, start_new_session=True)
+        # Whoever runs the tests may ignore the signal, as `nohup` does, and a shell cannot undo that.
+        process = subprocess.Popen(
+            [wrapper, "1"], env=stay, stderr=subprocess.PIPE, stdin=subprocess.DEVNULL, start_new_session=True,
+            preexec_fn=lambda: signal.signal(signal.SIGHUP, signal.SIG_DFL),
+        )
         try:
-            wait_for("the site listens", lambda: os.path.exists(os.path.join(room, "site-1.started")))
+            wait_for("the site listens", lambda: os.path.exists(os.path.join(room, "site-1.journal")))
             wait_for("its input is held open", lambda: b"tail" in names_of_group(process.pid))
             os.killpg(process.pid, signal.SIGHUP)
             said = process.communicate(timeout=PATIENCE)[1].decode()

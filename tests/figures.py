@@ -60,27 +60,43 @@ def count_matches(pattern, paths):
 
 
 def count_suite():
+    import behind_nginx
     import documents
     import ends
+    import journal_refusals
+    import journals
+    import kills
     import lane_orders
     import lockstep
     import loopback
+    import many_stocks
     import over_http
     import packages
+    import power_cuts
     import program
     import repository
+    import restarts
     import schedules
     import scripts
+    import shops
     import silence
+    import spares
     import timing
+    import told_checks
+    import tunnels
+    import upgrades
 
-    modules = (repository, documents, lane_orders, program, scripts, loopback, over_http, ends, silence, timing, schedules, lockstep, packages)
+    modules = (
+        repository, documents, lane_orders, program, journals, journal_refusals, told_checks, scripts, loopback,
+        over_http, restarts, power_cuts, kills, upgrades, spares, ends, silence, timing, schedules, lockstep, shops,
+        tunnels, behind_nginx, many_stocks, packages,
+    )  # fmt: skip
     return sum(len(each.order) for module in modules for each in module.CASES)
 
 
 def figures():
     from bug_kit import all_bugs
-    from site_checks import all_checks
+    from site_checks import all_checks, checks_of_restarts
 
     names = crate_names()
     product = [path for path in sources("src", ".rt") if is_product(path.relative_to(CRATES).parts[0])]
@@ -95,6 +111,7 @@ def figures():
         ("tests in the crates", count_matches(r"^\s*#\[test\]", sources("src", ".rt"))),
         ("tests of the program, in Python (`tests/suite.py`)", count_suite()),
         ("named checks of `./conformance run`", sum(1 for _ in all_checks())),
+        ("its checks of restarts, with `--journal`", sum(1 for _ in checks_of_restarts())),
         ("planted bugs that these checks must find", len(all_bugs())),
     ]
     return "| | |\n|---|---|\n" + "".join(f"| {what} | {value:,} |\n" for what, value in rows)

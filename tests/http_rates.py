@@ -21,7 +21,7 @@ sys.path.insert(0, os.path.dirname(os.path.abspath(__file__)))
 
 from cluster import PROGRAM, Cluster  # noqa: E402
 from redis_server import SCRIPT, STOCK, redis, redis_script, redis_words  # noqa: E402
-from web_driver import alone, post  # noqa: E402
+from web_driver import WebCluster, alone, post  # noqa: E402
 
 HERE = os.path.dirname(os.path.abspath(__file__))
 # How often the site ticks meanwhile, in milliseconds.
@@ -62,16 +62,16 @@ class Load:
 # ---- servers
 
 
-def site_rate(load, connections, at_once, commands):
-    with alone(tick=TICK) as sites:
+def site_rate(load, connections, at_once, commands, kind=WebCluster):
+    with kind(2, started=[1], tick=TICK) as sites:
         sites.command(f"issue {STOCK}")
         request = post(*["spend 1 0"] * commands)
         return load.rate(sites.web_ports[0], connections, at_once, commands, request, "spent ")
 
 
-def redis_rate(load, folder, connections, at_once, commands, is_script):
+def redis_rate(load, folder, connections, at_once, commands, is_script, options=()):
     """As many commands go out together as a body has, since Redis knows no bodies."""
-    with redis(folder) as port:
+    with redis(folder, *options) as port:
         request = redis_words(b"DECR", b"stock")
         if is_script:
             request = redis_words(b"EVALSHA", redis_script(port, SCRIPT), b"1", b"stock", b"1")

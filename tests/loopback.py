@@ -311,6 +311,56 @@ def the_newest_connection_is_heard():
                     pass
 
 
+def answer_at(port, text):
+    """Whether a connection on which this is sent is still open a moment later."""
+    with socket.create_connection(("127.0.0.1", port), PATIENCE) as stream:
+        stream.sendall(text)
+        stream.settimeout(0.3)
+        try:
+            return stream.recv(1) != b""
+        except TimeoutError:
+            return True
+        except ConnectionResetError:
+            return False
+
+
+def a_peer_has_an_entrance():
+    """Peer 2 is let in at its own address alone, and nobody else there; peer 3 at the shared one."""
+    shared, own, two, three = free_ports(4)
+    site = Site(1, 3, at(shared), {2: at(two), 3: at(three)}, PROGRAM, entrances={2: at(own)})
+    try:
+        for port, text, is_heard in (
+            (own, b"H 2\nE 2 0 1 I:1\n", True), (own, b"H 3\nE 3 0 1 I:1\n", False), (own, b"H 1\nE 1 0 1 I:1\n", False),
+            (own, b"E 2 0 1 I:1\n", False), (shared, b"H 2\nE 2 1 2 I:1\n", False), (shared, b"H 3\nE 3 0 1 I:1\n", True),
+            (shared, b"H 4\nE 4 0 1 I:1\n", False), (own, b"H 2\nE 2 1 2 I:1\n", True),
+        ):  # fmt: skip
+            expect(answer_at(port, text), is_heard, f"a connection that sends {text!r}, at its own address: {port == own}")
+        wait_for("what came the right way", sees(site, 2, applied=2))
+        expect([peer["applied"] for peer in site.status()["peers"]], [2, 1])
+        expect(site.end(), 0)
+    finally:
+        site.kill()
+
+
+def each_peer_has_an_entrance():
+    """Three sites that listen for each peer at an address of its own, and nowhere else."""
+    inner = {(site, peer): at(port) for (site, peer), port in zip([(s, p) for s in (1, 2, 3) for p in (1, 2, 3) if s != p], free_ports(6))}
+    sites = {}
+    try:
+        for number in (1, 2, 3):
+            others = [peer for peer in (1, 2, 3) if peer != number]
+            peers = {peer: inner[peer, number] for peer in others}
+            sites[number] = Site(number, 3, None, peers, PROGRAM, entrances={peer: inner[number, peer] for peer in others})
+        sites[1].ask_all(["issue 10", "give 2 4", "give 3 5", "tick 1"])
+        wait_for("a gift to site 2", sees(sites[2], None, held=4))
+        wait_for("a gift to site 3", sees(sites[3], None, held=5))
+        sites[2].ask_all(["give 3 1", "tick 1"])
+        wait_for("a gift of site 2", sees(sites[3], None, held=6))
+    finally:
+        for site in sites.values():
+            site.kill()
+
+
 def a_link_may_be_silent():
     """Six seconds, which is longer than a first line may take: lines come then as before, both ways."""
     with socket.create_server(("127.0.0.1", 0)) as ear:
@@ -632,6 +682,21 @@ def an_address_in_use_is_refused():
             expect((done.returncode, done.stdout, done.stderr), (1, b"", b"rights-site: cannot listen\n"), address)
 
 
+def an_entrance_in_use_is_refused():
+    """As --listen is; and so are two entrances at one address. No later command is read."""
+    own, other = map(at, free_ports(2))
+    with socket.create_server(("127.0.0.1", 0)) as taken:
+        held = at(taken.getsockname()[1])
+        for words in (["--listen", own, "--from", f"2={held}"], ["--from", f"2={own}", "--from", "3=nowhere"],
+                      ["--from", f"2={own}", "--from", f"3={own}"], ["--listen", own, "--from", f"3={own}"],
+                      ["--from", f"2={own}", "--from", "3="]):  # fmt: skip
+            words = [PROGRAM, "run", "--id", "1", "--sites", "3", *words, f"2={other}", f"3={other}"]
+            done = subprocess.run(words, input=b"issue 1\n", capture_output=True, timeout=PATIENCE)
+            explained = done.stderr.splitlines(keepends=True)
+            expect((done.returncode, done.stdout, explained[0]), (1, b"", b"rights-site: cannot listen\n"), str(words))
+            expect(len(explained), 2, f"the address is named: {done.stderr!r}")
+
+
 def other_addresses():
     """Names, and IPv6 where this machine has it."""
     port, other = free_ports(2)
@@ -765,6 +830,8 @@ CASES = [case("Loopback", [
     silence_is_cut_off,
     a_silent_peer_holds_up_nobody,
     the_newest_connection_is_heard,
+    a_peer_has_an_entrance,
+    each_peer_has_an_entrance,
     a_link_may_be_silent,
     connections_leave_nothing_behind,
     a_half_closed_connection_is_heard_to_its_end,
@@ -782,6 +849,7 @@ CASES = [case("Loopback", [
     an_applier_without_memory,
     the_end_of_input_ends_it,
     an_address_in_use_is_refused,
+    an_entrance_in_use_is_refused,
     other_addresses,
     a_start_that_fails_is_said,
     a_program_that_is_nowhere_is_said,

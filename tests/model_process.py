@@ -1,4 +1,4 @@
-"""The model of a running site as a process: its threads, its connections, its clock and its end."""
+"""The model of a running site as a process: its threads, its connections, its clock, its journal and its end."""
 
 import os
 import socket
@@ -9,6 +9,7 @@ from contextlib import suppress
 
 from desk_model import Refusal
 from line_model import COUNTS, MOST_BYTES, SITES, Hello, message_in, number_in
+from model_journal import Journal
 from site_model import RunningSite
 
 CONNECT_SECONDS = 1
@@ -37,12 +38,12 @@ def number_in_words(text, numbers):
 
 def options_in(words):
     """The number of the site, how many there are, where it listens, where each peer does, how often it ticks by itself
-    and after what time a peer is silent; None where the words are refused."""
+    after what time a peer is silent, and where its journal is; None where the words are refused."""
     options, peers = {}, []
     words = [part for word in words for part in (word.split("=", 1) if word.startswith("--") else [word])]
     while words:
         word = words.pop(0)
-        if word in ("--id", "--sites", "--listen", "--tick", "--silent"):
+        if word in ("--id", "--sites", "--listen", "--tick", "--silent", "--journal"):
             if word in options or not words:
                 return None
             options[word] = words.pop(0)
@@ -57,7 +58,8 @@ def options_in(words):
         return None
     if (clock := clock_in(options)) is None:
         return None
-    return number, count, options["--listen"], dict(zip(numbers, (address for _, address in peers))), *clock
+    addresses = dict(zip(numbers, (address for _, address in peers)))
+    return number, count, options["--listen"], addresses, *clock, options.get("--journal")
 
 
 def clock_in(options):
@@ -98,9 +100,12 @@ class SiteClock:
 class Process:
     """A model, with a thread for each connection, and one for its clock if it ticks by itself."""
 
-    def __init__(self, limits, number, count, listen, peers, tick=None, silence=0):
-        """`tick` and `silence` are in milliseconds."""
+    def __init__(self, limits, number, count, listen, peers, tick=None, silence=0, journal=None):
+        """`tick` and `silence` are in milliseconds, and `journal` is the path of its file, if it keeps one."""
         self.model = RunningSite(number, count, SiteClock() if tick else None)
+        self.journal = Journal(journal, number, count) if journal is not None else None
+        if self.journal:
+            self.journal.restore(self.model.desk)
         self.limits, self.every, self.silence = limits, tick, silence
         # When something was read of each peer; at first, when the site began.
         self.read_at = dict.fromkeys(peers, time.monotonic())
@@ -129,6 +134,12 @@ class Process:
         self.send_last()
         os._exit(status)
 
+    def tell(self):
+        """What was done may leave the process, once it is durable. Who calls holds the lock, so nobody told it before."""
+        if self.journal:
+            self.journal.keep(self.model.desk)
+        self.lock.notify_all()
+
     def send_last(self):
         """Waits until what waits in the outboxes was sent, for a while."""
         until = time.monotonic() + LAST_SECONDS
@@ -148,7 +159,7 @@ class Process:
     def tick(self):
         with suppress(Refusal):
             self.model.tick_itself(self.silent_peers())
-        self.lock.notify_all()
+        self.tell()
 
     def tick_last(self):
         """The tick at its end."""
@@ -176,7 +187,7 @@ class Process:
         for line in sys.stdin.buffer:
             with self.lock:
                 reply = self.model.reply(line.removesuffix(b"\n"))
-                self.lock.notify_all()
+                self.tell()
             if reply is None:
                 return
             self.write_reply(reply)
@@ -247,7 +258,7 @@ class Process:
                     return
                 for line in lines:
                     self.hear_line(peer, line, stream)
-                self.lock.notify_all()
+                self.tell()
             block = stream.recv(1 << 16)
             if not block:
                 return self.hear_end(peer, unread)

@@ -1,9 +1,9 @@
 #!/usr/bin/env python3
 """The model of a running site as a process: a second implementation of docs/PROTOCOL.md, slow and small.
 
-    tests/model_site.py [--bug NAME] [--tick MS] [--silent MS] --id I --sites N --listen ADDRESS J=ADDRESS...
+    tests/model_site.py [--bug NAME] [--tick MS] [--silent MS] [--journal FILE] --id I --sites N --listen ADDRESS J=ADDRESS...
 
-`./conformance run tests/model_site.py` passes. With `--bug` it has one of the bugs of bug_kit.py, and does not.
+`./conformance run --journal tests/model_site.py` passes. With `--bug` it has one of the bugs of bug_kit.py, and does not.
 """
 
 import os
@@ -13,6 +13,7 @@ sys.path.insert(0, os.path.dirname(os.path.abspath(__file__)))
 
 import model_process  # noqa: E402
 from bug_kit import all_bugs  # noqa: E402
+from model_journal import Refused  # noqa: E402
 
 
 def main(words):
@@ -26,6 +27,8 @@ def main(words):
         process = model_process.Process(limits, *options)
     except (OSError, ValueError):
         sys.exit(fails("cannot listen", 1))
+    except Refused as refused:
+        sys.exit(fails(f"journal: {refused}", 1))
     process.run()
 
 

@@ -66,6 +66,14 @@ WRONG = [
     ("sim twice", "sim takes no further word, as twice"),
     ("sim --version", "sim takes no further word, as --version"),
     ("sim -- x", "sim takes no further word, as x"),
+    ("check-jurnal f", "no such word check-jurnal; did you mean check-journal?"),
+    ("check-journal", "the path of the journal is missing"),
+    ("check-journal --json", "the path of the journal is missing"),
+    ("check-journal f g", "check-journal takes one file, and no further word, as g"),
+    ("check-journal f -- -g", "check-journal takes one file, and no further word, as -g"),
+    ("check-journal --jsn f", "no such word --jsn; did you mean --json?"),
+    ("check-journal --json f --json", "--json is given twice"),
+    ("check-journal --json=1 f", "--json takes no value"),
     ("run --lisen a", "no such word --lisen; did you mean --listen?"),
     ("run --sties 3", "no such word --sties; did you mean --sites?"),
     ("run --address a", "no such word --address"),
@@ -82,6 +90,12 @@ WRONG = [
     ("run --log --tick 60001", "--tick 60001 is not 1 to 60000"),
     ("run --silent 999", "--silent 999 is neither 0 nor 1000 to 3600000"),
     ("run --silent 3600001", "--silent 3600001 is not 0 to 3600000"),
+    ("run --system a_b", "--system a_b is not 1 to 32 letters, digits and hyphens"),
+    ("run --system=", "--system  is not 1 to 32 letters, digits and hyphens"),
+    (f"run --system {'x' * 33}", f"--system {'x' * 33} is not 1 to 32 letters, digits and hyphens"),
+    (f"{OF} --once f --journal g 2=b 3=c", "--once and --journal exclude each other"),
+    (f"{OF} --system a 2=b 3=c", "--system needs --journal"),
+    ("run --jornal f", "no such word --jornal; did you mean --journal?"),
     ("run --log --log", "--log is given twice"),
     ("run --id 1 --log --id 1", "--id is given twice"),
     ("run --log --log=1", "--log is given twice"),
@@ -99,6 +113,16 @@ WRONG = [
     (f"{OF} 2=b 3:c", "3:c names no peer, as 2=127.0.0.1:7002 does"),
     (f"{OF} 2=b 3=c more", "more names no peer, as 2=127.0.0.1:7002 does"),
     (f"{OF} --host h --host 2=b 3=c", "peer 2 is missing"),
+    ("run --from --log", "--from has no value"),
+    ("run --form 2=b", "no such word --form; did you mean --from?"),
+    (f"{OF} --from 2 2=b 3=c", "--from 2 names no peer, as 2=127.0.0.1:7102 does"),
+    (f"{OF} --from= 2=b 3=c", "--from  names no peer, as 2=127.0.0.1:7102 does"),
+    (f"{OF} --from 4=a 2=b 3=c", "--from 4=.. is not for a peer from 1 to 3"),
+    (f"{OF} --from 02=a 2=b 3=c", "--from 02=.. is not for a peer from 1 to 3"),
+    (f"{OF} --from 1=a 2=b 3=c", "--from 1=.. is for this site"),
+    (f"{OF} --from 2=a --from 3=a --from=2=d 2=b 3=c", "--from 2=.. is given twice"),
+    (f"{OF} --from 1=a 2=b", "peer 3 is missing"),
+    ("run --id 1 --sites 3 --from 2=a 2=b 3=c", "--listen is missing, or --from 3=.."),
 ]  # fmt: skip
 
 
@@ -188,7 +212,8 @@ def a_clone_answers_before_it_is_built():
         for name in needed:
             os.makedirs(os.path.dirname(os.path.join(clone, name)), exist_ok=True)
             shutil.copy(os.path.join(TOP, name), os.path.join(clone, name))
-        for words in (["--version"], ["-V", "x"], ["--help"], ["-h"], ["help"], ["sim", "--help"], ["run", "-h"], ["run", "--help"]):
+        for words in (["--version"], ["-V", "x"], ["--help"], ["-h"], ["help"], ["sim", "--help"], ["run", "-h"], ["run", "--help"],
+                      ["check-journal", "-h"]):  # fmt: skip
             done = subprocess.run([os.path.join(clone, "rights-site"), *words], capture_output=True)
             expect((done.returncode, done.stdout, done.stderr), ended(words), words)
 

@@ -40,17 +40,17 @@ def beside(measure, count, what):
     return f"; {what}: {best(measure, count):,.0f} commands/s" if HAS_REDIS else ""
 
 
-def local_spends():
+def local_spends(spends=SPENDS, options=()):
     """Spends a second through the standard streams of one process, whose peer is not there."""
-    commands = b"issue 1000000000\n" + b"spend 1 0\n" * SPENDS + b"quit\n"
+    commands = b"issue 1000000000\n" + b"spend 1 0\n" * spends + b"quit\n"
     own, other = free_ports(2)
-    words = [Cluster.program, "run", "--id", "1", "--sites", "2", "--listen", at(own), f"2={at(other)}"]
+    words = [Cluster.program, "run", "--id", "1", "--sites", "2", "--listen", at(own), *options, f"2={at(other)}"]
     site = subprocess.Popen(words, stdin=subprocess.PIPE, stdout=subprocess.PIPE)
     begun = time.perf_counter()
-    exchange_with(site, commands, SPENDS + 1)
+    exchange_with(site, commands, spends + 1)
     took = time.perf_counter() - begun
     site.wait()
-    return SPENDS / took
+    return spends / took
 
 
 def exchange_with(process, commands, replies):
@@ -58,19 +58,19 @@ def exchange_with(process, commands, replies):
     exchange(process.stdin.fileno(), process.stdout.fileno(), commands, replies)
 
 
-def carried_entries():
+def carried_entries(entries=ENTRIES, kind=Cluster):
     """Entries a second from one process's spends to the book of another one. The commands are written as fast as the
     site reads them."""
-    with Cluster(2) as sites:
-        sites[1].ask(f"issue {ENTRIES}")
+    with kind(2) as sites:
+        sites[1].ask(f"issue {entries}")
         sites[1].ask("tick 1")
         wait_for_applied(sites, 1)
         batch = b"spend 1 0\n" * TICK_AFTER + b"tick 1\n"
         begun = time.perf_counter()
-        count = ENTRIES // TICK_AFTER
+        count = entries // TICK_AFTER
         exchange_with(sites[1].process, batch * count, (TICK_AFTER + 1) * count)
-        wait_for_applied(sites, ENTRIES + 1)
-        return ENTRIES / (time.perf_counter() - begun)
+        wait_for_applied(sites, entries + 1)
+        return entries / (time.perf_counter() - begun)
 
 
 def applied(sites):
@@ -138,12 +138,12 @@ def caught_up():
         return MISSED / (time.perf_counter() - begun)
 
 
-def gives():
+def gives(count=GIVES, kind=Cluster):
     """The microseconds from each of many gives, with its tick, to its being held at the other site."""
-    with Cluster(2) as sites:
-        sites[1].ask(f"issue {GIVES}")
+    with kind(2) as sites:
+        sites[1].ask(f"issue {count}")
         times = []
-        for held in range(1, GIVES + 1):
+        for held in range(1, count + 1):
             begun = time.perf_counter()
             sites[1].ask_all(["give 2 1", "tick 1"])
             wait(sites, lambda: sites[2].status()["held"] >= held)
@@ -188,4 +188,5 @@ def main():
         print(f"run give behind {spends} spends without a tick: {late_gift(spends):.2f} s till it is held", flush=True)
 
 
-main()
+if __name__ == "__main__":
+    main()

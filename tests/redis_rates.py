@@ -30,9 +30,9 @@ def take_all(port, command, count):
         exchange(stream.fileno(), stream.fileno(), command * count, count)
 
 
-def local_takes(count):
+def local_takes(count, *options):
     """Commands a second through one connection."""
-    with tempfile.TemporaryDirectory() as folder, redis_process(folder) as (port, _):
+    with tempfile.TemporaryDirectory() as folder, redis_process(folder, *options) as (port, _):
         command = taking(port)
         begun = time.perf_counter()
         take_all(port, command, count)

@@ -14,8 +14,10 @@ import end_checks
 import link_checks
 import log_checks
 import reading_checks
+import restart_checks
 import word_checks
 from clock_trial import ClockTrial
+from restart_trial import RestartTrial
 from site_trial import Trial
 
 # What neither these checks nor the seeded runs test.
@@ -28,6 +30,8 @@ NOT_TRIED = [
     "that a first line and the one behind it, and lines which wait together, are written together, and that replies are written before the next read of a slow input",
     "the options `--http`, `--once` and `--log`, and a wall clock that goes back",
     "the command line, its refusals, and the exit statuses 1 and 2, which `./conformance words` tries",
+    "restarts, which `./conformance run --journal` tries; and of these: power cuts, disks that fail or are full, damaged "
+    "journals, `--system`, and restarts of a site with `--tick`",
 ]
 
 # How many sites a check's system has, where it is not three.
@@ -59,8 +63,8 @@ TRIES = 20
 
 # The modules whose checks need a process, and not its model alone.
 OF_CONNECTIONS = ("link_checks", "end_checks", "clock_checks", "word_checks")
-# Those whose sites tick by themselves.
-OF_CLOCKS = ("clock_checks",)
+# What makes the sites of a check, where it is not a `Trial`, by the check's module.
+OTHER_TRIALS = {"clock_checks": ClockTrial, "restart_checks": RestartTrial}
 
 
 def system_of(name):
@@ -72,6 +76,11 @@ def all_checks():
     """Each check of a running site with its name, file by file."""
     for module in (link_checks, end_checks, desk_checks, log_checks, reading_checks, clock_checks):
         yield from checks_of(module)
+
+
+def checks_of_restarts():
+    """Each check of a site with a journal that is started again, with its name."""
+    yield from checks_of(restart_checks)
 
 
 def checks_of_words():
@@ -103,7 +112,7 @@ def try_check(name, check, command):
 
 def trial_of(name, check, command):
     """What a check is given."""
-    if check.__module__ in OF_CLOCKS:
-        return ClockTrial(command)
+    if check.__module__ in OTHER_TRIALS:
+        return OTHER_TRIALS[check.__module__](command)
     count, number = system_of(name)
     return Trial(command, count, LATE.get(name, ()), number, "localhost" if name in NAMED else "127.0.0.1")

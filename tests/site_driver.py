@@ -5,8 +5,11 @@ The test is all peers of the site: it listens at their addresses, and speaks as 
 each input of a peer ends with a query, whose answer shows that all before it was taken in.
 """
 
+import os
+import re
 import select
 import socket
+import tempfile
 import threading
 import time
 from contextlib import suppress
@@ -23,6 +26,27 @@ PATIENCE = 40
 TRYING = " 02 "
 # After so many seconds a process is killed, whatever it does.
 LIFE = 300
+# The folder in which each site that is started keeps a new journal, if they keep any.
+JOURNALS = None
+# How far a journal is, in a status: a site that keeps one may tell that.
+FAR = re.compile(rb'"journal":\{[^{}]*\},')
+
+
+def words_of(command):
+    """The words that start a site, for which a path may stand."""
+    return list(command) if isinstance(command, (list, tuple)) else [command, "run"]
+
+
+def with_journal(command):
+    """The words that start a site, with a journal of its own if sites keep any."""
+    if JOURNALS is None:
+        return command
+    return [*words_of(command), "--journal", os.path.join(tempfile.mkdtemp(dir=JOURNALS), "journal")]
+
+
+def comparable(reply):
+    """A reply without how far the site's journal is."""
+    return reply if JOURNALS is None else FAR.sub(b"", reply, count=1)
 
 
 class Difference(Exception):
@@ -142,7 +166,7 @@ class Node:
         for _ in range(5):
             self.port = free_ports(1)[0]
             try:
-                return Site(self.number, self.count, at(self.port), routes, program)
+                return Site(self.number, self.count, at(self.port), routes, with_journal(program))
             except SiteEnded as error:
                 ended = error
         raise ended
@@ -177,7 +201,7 @@ class Node:
         """Reads as many replies as are expected to these lines, and compares them."""
         actual = []
         while len(actual) < len(expected) and (reply := self.next_reply()) is not None:
-            actual.append(reply)
+            actual.append(comparable(reply))
         compare(f"the replies to {text_of(b' / '.join(lines))}", expected, actual)
 
     def speak(self, peer, data):
@@ -266,7 +290,7 @@ class Node:
         """Asks for the status until it is the model's: entries are applied a little after they came."""
         expected = self.model.reply(b"status")
         until = time.monotonic() + PATIENCE
-        while (actual := self.site.ask("status").encode()) != expected:
+        while (actual := comparable(self.site.ask("status").encode())) != expected:
             # Another reply would be one too many to a command before.
             if time.monotonic() > until or not actual.startswith(b"{"):
                 raise Difference("the status", expected, actual)

@@ -102,22 +102,38 @@ if __name__ == "__main__":
         print(__doc__.strip())
         sys.exit(0)
     words = own_words(sys.argv[1:])
+    import behind_nginx
     import builds
     import documents
     import ends
+    import journal_refusals
+    import journals
+    import kills
     import lane_orders
     import lockstep
     import loopback
+    import many_stocks
     import over_http
     import packages
+    import power_cuts
     import program
     import repository
+    import restarts
     import schedules
     import scripts
+    import shops
     import silence
+    import spares
     import timing
+    import told_checks
+    import tunnels
+    import upgrades
 
-    modules = [repository, documents, builds, lane_orders, program, scripts, loopback, over_http, ends, silence, timing, schedules, lockstep, packages]
+    modules = [
+        repository, documents, builds, lane_orders, program, journals, journal_refusals, told_checks, scripts, loopback,
+        over_http, restarts, power_cuts, kills, upgrades, spares, ends, silence, timing, schedules, lockstep, shops,
+        tunnels, behind_nginx, many_stocks, packages,
+    ]  # fmt: skip
     CASES = [case for module in modules for case in module.CASES]
     for each in CASES:
         globals()[each.__name__] = each

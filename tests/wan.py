@@ -1,6 +1,6 @@
 #!/usr/bin/env python3
 """Measures one stock that is sold at three places far apart, for `./bench wan`: latencies and rates while rights last,
-while they run out, and with one place cut off.
+while they run out, with one place cut off, and with one that is killed and comes back.
 
     tests/wan.py [--program PATH] [--seconds N] [--clients N] [--pace MS] [--write]
 
@@ -14,7 +14,6 @@ import math
 import multiprocessing
 import os
 import random
-import re
 import shutil
 import signal
 import sys
@@ -27,18 +26,20 @@ HERE = os.path.dirname(os.path.abspath(__file__))
 sys.path.insert(0, HERE)
 
 from cluster import PROGRAM, Cluster  # noqa: E402
+from page_tables import DOCS, put, table  # noqa: E402
 from wan_loss import LOST_FROM, LOST_TO, caught_up  # noqa: E402
 from wan_picture import picture  # noqa: E402
 from wan_systems import PLACES, REFUSED, ROUND_TRIPS, SOLD, UNANSWERED, Sites, Strong, Weak  # noqa: E402
 
 SYSTEMS = (Sites, Strong, Weak)
-DOCS = os.path.join(HERE, "..", "docs")
 # This program writes what is between these in docs/PERFORMANCE.md.
 BEGIN, END = "<!-- made by ./bench wan --write -->\n", "<!-- end of what ./bench wan made -->\n"
 # The place that is cut off, and after which part of the phase.
 AWAY, CUT_AFTER = 3, 0.25
+# The place that is killed, and after which parts of the phase that is and it is started again.
+KILLED, DOWN = 1, (0.25, 0.5)
 STOCK_HEAD = (
-    "phase", "", "stock", "sold", "oversold", "sold after a wait", "refused", "no answer in time", "taken without an answer"
+    "phase", "", "stock", "sold", "oversold", "sold after a wait", "refused", "no answer", "taken without an answer"
 )
 # Seconds after which it ends in any case.
 LONGEST = 300
@@ -46,8 +47,9 @@ LONGEST = 300
 WAITED = min(ROUND_TRIPS.values()) / 2
 
 
-class Phase(namedtuple("Phase", "title shares away")):
-    """`shares` are the rights that each place has at first. `away` is a place that is cut off."""
+class Phase(namedtuple("Phase", "title shares away killed", defaults=(None, None))):
+    """`shares` are the rights that each place has at first. `away` is a place that is cut off, and `killed` one whose server
+    is killed, and started again."""
 
     def stock(self):
         return sum(self.shares.values())
@@ -55,8 +57,9 @@ class Phase(namedtuple("Phase", "title shares away")):
 
 # Seconds since the phase began, milliseconds until the answer came, and what it was.
 Spend = namedtuple("Spend", "at took result")
-# The spends of a system in a phase, by place; what the servers took from the stock; seconds until all servers knew that.
-Run = namedtuple("Run", "phase kind spends taken settled")
+# The spends of a system in a phase, by place; what the servers took from the stock; seconds until all servers knew that; and
+# until the server that was killed answered, since it was started again.
+Run = namedtuple("Run", "phase kind spends taken settled back")
 
 
 def demand(given):
@@ -69,7 +72,7 @@ def offered(given):
 
 
 def lasting(given):
-    return Phase("while rights last", dict.fromkeys(PLACES, round(10 * demand(given))), None)
+    return Phase("while rights last", dict.fromkeys(PLACES, round(10 * demand(given))))
 
 
 def phases(given):
@@ -78,8 +81,9 @@ def phases(given):
 
     return [
         lasting(given),
-        Phase("while they run out", shares(0.75, 0.3, 0.15), None),
-        Phase("Europe cut off", shares(0.75, 0.75, 0.75), AWAY),
+        Phase("while they run out", shares(0.75, 0.3, 0.15)),
+        Phase("Europe cut off", shares(0.75, 0.75, 0.75), away=AWAY),
+        Phase("East killed", shares(1, 1, 1), killed=KILLED),
     ]
 
 
@@ -119,13 +123,28 @@ def run(kind, phase, given):
         for buyer in buyers:
             buyer.start()
         if phase.away is not None:
-            time.sleep(max(0, begin + CUT_AFTER * given.seconds - time.monotonic()))
+            sleep_until(begin + CUT_AFTER * given.seconds)
             system.links.cut(phase.away)
+        back = None if phase.killed is None else killed_and_back(system, phase, begin, given)
         spends = gathered(buyers, results, given.seconds)
         healed = time.monotonic()
         system.links.heal()
         taken = system.settle()
-        return Run(phase, kind, spends, taken, time.monotonic() - healed)
+        return Run(phase, kind, spends, taken, time.monotonic() - healed, back)
+
+
+def sleep_until(moment):
+    time.sleep(max(0, moment - time.monotonic()))
+
+
+def killed_and_back(system, phase, begin, given):
+    """Kills a place's server, and starts it again: seconds until it answers."""
+    end, start = (begin + part * given.seconds for part in DOWN)
+    sleep_until(end)
+    system.kill(phase.killed)
+    sleep_until(start)
+    system.restart(phase.killed)
+    return time.monotonic() - start
 
 
 def gathered(buyers, results, seconds):
@@ -189,12 +208,6 @@ def stock_row(found):
     ]
 
 
-def table(head, rows):
-    """A table in Markdown."""
-    lines = ["| " + " | ".join(row) + " |\n" for row in [head, ["---"] * len(head), *rows]]
-    return "".join(lines)
-
-
 def report(found, lost, given):
     """The text for docs/PERFORMANCE.md."""
     places = [f"{place}: ms, ms; sold/s" for place in PLACES.values()]
@@ -210,7 +223,7 @@ def report(found, lost, given):
             "after each count comes the median time that it took:"
         ),
         table(STOCK_HEAD, [stock_row(each) for each in found]),
-        paragraph(after_the_cut(found) + " " + after_a_loss(lost, given)),
+        paragraph(after_the_cut(found) + " " + after_the_kill(found, given) + " " + after_a_loss(lost, given)),
     ]
     return "\n".join(parts)
 
@@ -222,6 +235,15 @@ def paragraph(words):
 def after_the_cut(found):
     (each,) = [each for each in found if each.kind is Sites and each.phase.away]
     return f"Once {PLACES[AWAY]} was back, all sites knew of all sales after {each.settled:.1f} seconds."
+
+
+def after_the_kill(found, given):
+    (each,) = [each for each in found if each.kind is Sites and each.phase.killed]
+    down = (DOWN[1] - DOWN[0]) * given.seconds
+    return (
+        f"The site in {PLACES[KILLED]} was killed, and started again after {down:g} seconds: "
+        f"it answered after {each.back * 1000:.0f} milliseconds more."
+    )
 
 
 def after_a_loss(lost, given):
@@ -257,14 +279,7 @@ def sold_by(run):
 
 
 def write(text, drawing):
-    path = os.path.join(DOCS, "PERFORMANCE.md")
-    with open(path) as file:
-        old = file.read()
-    parts = re.fullmatch(f"(.*{re.escape(BEGIN)}).*({re.escape(END)}.*)", old, re.DOTALL)
-    if parts is None:
-        sys.exit(f"wan: {path} has no place for the table")
-    with open(path, "w") as file:
-        file.write(f"{parts[1]}{text}{parts[2]}")
+    put(BEGIN, text, END)
     with open(os.path.join(DOCS, "wan.svg"), "w") as file:
         file.write(drawing)
 
@@ -294,7 +309,8 @@ def main():
     text = report(found, caught_up(lasting(given), offered(given)), given)
     print(f"\n{text}\n{lines_for_readme(found)}")
     if given.write:
-        write(text, picture(found, given.seconds, CUT_AFTER * given.seconds))
+        shares = {"away": (CUT_AFTER, 1), "killed": DOWN}
+        write(text, picture(found, given.seconds, {it: [part * given.seconds for part in parts] for it, parts in shares.items()}))
 
 
 if __name__ == "__main__":

@@ -150,7 +150,7 @@ def legend():
         yield f'<circle cx="{x + 5}" cy="50" r="4.5" fill="{COLOURS[place]}"/>' + text(x + 15, 54, f"buyers in {name}")
         x += 140
     yield f'<path d="M{x} 46l8 8m0-8l-8 8" stroke="#444" stroke-width="1.4"/>'
-    yield text(x + 15, 54, "refused, or no answer within a second")
+    yield text(x + 15, 54, "refused, or no answer")
     x = LEFT
     for kind, (colour, dashes) in LINES.items():
         yield f'<path d="M{x} {HEIGHT - 22}h30" stroke="{colour}" stroke-width="2.2"{dashes}/>'
@@ -164,14 +164,18 @@ def row_titles():
         yield f'<text transform="translate(20 {middle:.0f}) rotate(-90)" text-anchor="middle">{words}</text>'
 
 
-def cut(panel, since):
-    x = panel.x(since)
-    width = panel.left + panel.width - x
-    return f'<rect x="{x:.1f}" y="{panel.top}" width="{width:.1f}" height="{panel.bottom - panel.top}" fill="url(#cut)"/>'
+def shade(panel, since, until):
+    x, end = panel.x(since), panel.x(until)
+    return f'<rect x="{x:.1f}" y="{panel.top}" width="{end - x:.1f}" height="{panel.bottom - panel.top}" fill="url(#cut)"/>'
 
 
-def picture(runs, seconds, cut_since):
-    """The SVG of all runs. In a phase with a place that is cut off, that is so from `cut_since` on."""
+def shaded(phase, times):
+    """From when to when a place was cut off or down in this phase, or None."""
+    return next((times[what] for what in times if getattr(phase, what) is not None), None)
+
+
+def picture(runs, seconds, times):
+    """The SVG of all runs. `times` has from when to when a place is `away` or `killed` in a phase where one is."""
     phases = list(dict.fromkeys(run.phase.title for run in runs))
     most = max(len(spends) for run in runs for spends in run.spends.values()) * len(PLACES)
     parts = []
@@ -179,8 +183,9 @@ def picture(runs, seconds, cut_since):
         panels = [Panel(row, column, len(phases), seconds) for row in range(len(ROWS))]
         here = [run for run in runs if run.phase.title == title]
         parts.append(text(panels[0].left, 92, title, more=' font-weight="bold"'))
-        if here[0].phase.away is not None:
-            parts += [cut(panel, cut_since) for panel in panels]
+        while_away = shaded(here[0].phase, times)
+        if while_away is not None:
+            parts += [shade(panel, *while_away) for panel in panels]
         for run in here:
             if run.kind is not Weak:
                 parts += latencies(panels[0 if run.kind is Sites else 1], run)

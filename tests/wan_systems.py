@@ -1,9 +1,11 @@
 """Three ways to sell one stock at three places that are far apart, for tests/wan.py.
 
 Each is a context manager that is given a phase, starts its servers, and has a client for each place. A client's `spend`
-sells one, and says what came of it.
+sells one, and says what came of it. In a phase with a place that is killed all servers write to disk what they answer,
+before they do.
 """
 
+import os
 import socket
 import tempfile
 import threading
@@ -11,7 +13,8 @@ import time
 from contextlib import ExitStack
 
 from cluster import at, wait_for
-from redis_server import SCRIPT, redis, redis_says, redis_script, redis_words
+from journal_kit import Journaled
+from redis_server import ALWAYS, SCRIPT, Redis, redis_says, redis_script, redis_words
 from wan_links import Links
 from web_driver import Client, WebCluster, post
 from web_sale import status_of
@@ -36,7 +39,8 @@ class Sites:
 
     def __init__(self, phase):
         self.links = Links(ROUND_TRIPS)
-        self.sites = WebCluster(len(PLACES), started=[], tick=TICK)
+        kind = WebCluster if phase.killed is None else Journaled
+        self.sites = kind(len(PLACES), started=[], tick=TICK)
         for here in PLACES:
             for there in PLACES:
                 if here != there:
@@ -61,6 +65,13 @@ class Sites:
     def client(self, place):
         return AtSite(self.sites.address(place))
 
+    def kill(self, place):
+        self.sites[place].kill()
+
+    def restart(self, place):
+        """Returns once the site answers."""
+        self.sites.start(place)
+
     def statuses(self, holds):
         """What the sites say, where that holds of each of them."""
         found = {place: status_of(self.sites, place) for place in PLACES}
@@ -83,18 +94,65 @@ class Sites:
 
 
 class AtSite:
-    """A client of a site, over one connection."""
+    """A client of a site, over one connection. Where that ends it connects again."""
 
     def __init__(self, address):
+        self.address = address
         self.client = Client(address)
 
     def spend(self):
-        deadline = int((time.time() + PATIENCE) * 1000)
-        reply = self.client.ask(post(f"spend 1 {deadline}", target="/wait")).body
-        if reply.startswith(b"spent "):
+        answer = self.ask(post(f"spend 1 {int((time.time() + PATIENCE) * 1000)}", target="/wait"))
+        if answer is None:
+            return UNANSWERED
+        if answer.body.startswith(b"spent "):
             return SOLD
-        assert reply == b"expired\n", reply
+        assert answer.body == b"expired\n", answer
         return REFUSED
+
+    def ask(self, request):
+        """The answer, or None where none comes."""
+        try:
+            if self.client is None:
+                self.client = Client(self.address)
+            self.client.send(request)
+            answer = self.client.read(may_end=True)
+        except OSError:
+            answer = None
+        if answer is None and self.client is not None:
+            self.client.close()
+            self.client = None
+        return answer
+
+
+class Servers:
+    """Redis servers at places, each with a script. Where one of them is killed in the phase, all write what they do to disk."""
+
+    def __init__(self, phase, places, script):
+        self.stack = ExitStack()
+        folder = self.stack.enter_context(tempfile.TemporaryDirectory())
+        self.script, self.servers = script, {}
+        for place in places:
+            own = os.path.join(folder, str(place))
+            os.mkdir(own)
+            self.servers[place] = Redis(own, *(() if phase.killed is None else ALWAYS))
+            self.stack.callback(self.servers[place].kill)
+        self.ports = {place: server.port for place, server in self.servers.items()}
+        self.digests = {place: redis_script(port, script) for place, port in self.ports.items()}
+
+    def __enter__(self):
+        return self
+
+    def __exit__(self, *_):
+        self.stack.close()
+        return False
+
+    def kill(self, place):
+        self.servers[place].kill()
+
+    def restart(self, place):
+        """Returns once the server runs scripts again, which it does not write to disk."""
+        self.servers[place].start()
+        redis_script(self.ports[place], self.script)
 
 
 class Strong:
@@ -104,14 +162,14 @@ class Strong:
 
     def __init__(self, phase):
         self.links = Links(ROUND_TRIPS)
-        self.stock = phase.stock()
+        self.phase, self.stock = phase, phase.stock()
 
     def __enter__(self):
         self.stack = ExitStack()
-        folder = self.stack.enter_context(tempfile.TemporaryDirectory())
-        self.port = self.stack.enter_context(redis(folder))
+        servers = self.stack.enter_context(Servers(self.phase, [CENTRE], SCRIPT))
+        self.kill, self.restart, self.port = servers.kill, servers.restart, servers.ports[CENTRE]
         redis_says(self.port, redis_words(b"SET", b"stock", b"%d" % self.stock))
-        self.request = redis_words(b"EVALSHA", redis_script(self.port, SCRIPT), b"1", b"stock", b"1")
+        self.request = redis_words(b"EVALSHA", servers.digests[CENTRE], b"1", b"stock", b"1")
         self.ports = {place: self.links.to(self.port, place, CENTRE) for place in PLACES}
         self.stack.enter_context(self.links)
         return self
@@ -144,14 +202,13 @@ class Weak:
 
     def __init__(self, phase):
         self.links = Links(ROUND_TRIPS)
-        self.stock = phase.stock()
+        self.phase, self.stock = phase, phase.stock()
         self.is_over = threading.Event()
 
     def __enter__(self):
         self.stack = ExitStack()
-        folder = self.stack.enter_context(tempfile.TemporaryDirectory())
-        self.ports = {place: self.stack.enter_context(redis(folder)) for place in PLACES}
-        self.digests = {place: redis_script(port, ALONE) for place, port in self.ports.items()}
+        servers = self.stack.enter_context(Servers(self.phase, PLACES, ALONE))
+        self.kill, self.restart, self.ports, self.digests = servers.kill, servers.restart, servers.ports, servers.digests
         others = {
             here: [self.links.to(port, here, there) for there, port in self.ports.items() if there != here] for here in PLACES
         }
@@ -174,27 +231,51 @@ class Weak:
 
     def tell(self, place, others):
         """Tells the other places again and again how many were sold here, and waits for no answer."""
-        name = b"%d" % place
-        streams = [socket.create_connection(("127.0.0.1", port)) for port in others]
-        for stream in streams:
-            stream.setblocking(False)
+        tellers = [Teller(port) for port in others]
         while not self.is_over.wait(TICK / 1000):
-            sold = self.sold(place)
-            for stream in streams:
-                stream.send(redis_words(b"HSET", b"sold", name, b"%d" % sold))
-                try:
-                    stream.recv(1 << 16)
-                except BlockingIOError:
-                    pass
-        for stream in streams:
-            stream.close()
+            try:
+                sold = self.sold(place)
+            except OSError:
+                # It was killed.
+                continue
+            for teller in tellers:
+                teller.tell(redis_words(b"HSET", b"sold", b"%d" % place, b"%d" % sold))
+        for teller in tellers:
+            teller.close()
 
     def sold(self, place):
         reply = redis_says(self.ports[place], redis_words(b"HGET", b"sold", b"%d" % place))
+        if reply.startswith(b"-LOADING "):
+            raise ConnectionError("the server reads its file")
         return 0 if reply.startswith(b"$-1") else int(reply.split(b"\r\n")[1])
 
     def settle(self):
         return sum(map(self.sold, PLACES))
+
+
+class Teller:
+    """Sends to a port, and waits for no answer. Where the connection ends it connects again."""
+
+    def __init__(self, port):
+        self.port, self.stream = port, None
+
+    def tell(self, request):
+        try:
+            if self.stream is None:
+                self.stream = socket.create_connection(("127.0.0.1", self.port))
+                self.stream.setblocking(False)
+            self.stream.send(request)
+            if not self.stream.recv(1 << 16):
+                self.close()
+        except BlockingIOError:
+            pass
+        except OSError:
+            self.close()
+
+    def close(self):
+        if self.stream is not None:
+            self.stream.close()
+            self.stream = None
 
 
 class AtRedis:
@@ -209,12 +290,24 @@ class AtRedis:
         self.stream.setsockopt(socket.IPPROTO_TCP, socket.TCP_NODELAY, 1)
 
     def spend(self):
-        try:
-            self.stream.sendall(self.request)
-            reply = self.stream.recv(1 << 12)
-        except OSError:
-            self.stream.close()
-            self.connect()
+        reply = self.ask()
+        # A server that was just started reads its file, and then is told the script.
+        if reply.startswith((b"-LOADING ", b"-NOSCRIPT ")) or not reply:
             return UNANSWERED
         assert reply.startswith(b":") and reply.endswith(b"\r\n"), reply
         return REFUSED if reply == b":-1\r\n" else SOLD
+
+    def ask(self):
+        """The reply; no bytes where none comes."""
+        reply = b""
+        try:
+            if self.stream is None:
+                self.connect()
+            self.stream.sendall(self.request)
+            reply = self.stream.recv(1 << 12)
+        except OSError:
+            pass
+        if not reply and self.stream is not None:
+            self.stream.close()
+            self.stream = None
+        return reply

@@ -4,6 +4,7 @@ import json
 import os
 import re
 import resource
+import signal
 import socket
 import subprocess
 import tempfile
@@ -584,33 +585,46 @@ def the_report_adds_up():
 
 
 def a_service_that_is_stopped():
-    """The shell part of the unit: SIGTERM to the whole group ends the site by the end of its input."""
-    wrapper = os.path.join(TOP, "systemd", "rights-site-run")
+    """The shell part of the unit: SIGTERM to the whole group ends the site by the end of its input. The same command goes
+    on where its journal ends, also after SIGKILL."""
     with tempfile.TemporaryDirectory() as room:
         own, peer, web = free_ports(3)
         stay = {**os.environ, "RIGHTS_SITE": Cluster.program, "RIGHTS_STATE": room, "RIGHTS_SITES": "2", "RIGHTS_LISTEN": at(own),
-                "RIGHTS_HTTP": at(web), "RIGHTS_TICK": "60000", "RIGHTS_PEERS": f"2={at(peer)}"}
-        ear = socket.create_server(("127.0.0.1", peer))
-        process = subprocess.Popen([wrapper, "1"], env=stay, stderr=subprocess.PIPE, stdin=subprocess.DEVNULL, start_new_session=True)
-        try:
-            wait_for("the site answers", lambda: with_status(at(web)) == 200)
-            expect(command_at(at(web), "issue 5", "spend 1 0", "tick 99999999999999"), ["number 1", "spent 2"])
-            os.killpg(process.pid, 15)
-            said = process.communicate(timeout=PATIENCE)[1].decode()
-            expect(process.returncode, 0, said)
+                "RIGHTS_HTTP": at(web), "RIGHTS_TICK": "60000", "RIGHTS_PEERS": f"2={at(peer)}", "RIGHTS_SYSTEM": "shop-1"}
+        with socket.create_server(("127.0.0.1", peer)) as ear:
+            commands = ["issue 5", "spend 1 0", "tick 99999999999999"]
+            said = of_service(stay, at(web), commands, ["number 1", "spent 2"], signal.SIGTERM)
             stream = ear.accept()[0]
             stream.settimeout(PATIENCE)
             with stream, stream.makefile("rb") as lines:
                 sent = lines.read()
-            expect(sent.startswith(b"H 1\n") and b"E 1 0 1 I:5\nE 1 1 2 S:1\n" in sent, True, f"its outbox: {sent!r}")
-            expect("rights-site: ended: issued 5 spent 1 " in said, True, said)
-            # It does not start again.
-            again = subprocess.run([wrapper, "1"], env=stay, capture_output=True, stdin=subprocess.DEVNULL, timeout=PATIENCE)
-            expect((again.returncode, again.stderr.splitlines()[-1:]), (1, [b"rights-site: was started before"]))
-        finally:
-            ear.close()
-            with suppress(ProcessLookupError):
-                os.killpg(process.pid, 9)
+        expect(sent.startswith(b"H 1\n") and b"E 1 0 1 I:5\nE 1 1 2 S:1\n" in sent, True, f"its outbox: {sent!r}")
+        expect("rights-site: ended: issued 5 spent 1 " in said, True, said)
+        of_service(stay, at(web), ["take 1", "take 9"], ["spent 3", "error Short"], signal.SIGKILL)
+        of_service(stay, at(web), ["take 3", "issue 1"], ["spent 4", "number 5"], signal.SIGTERM)
+        # That of another system is not started.
+        stay["RIGHTS_SYSTEM"] = "shop-2"
+        other = subprocess.run([WRAPPER, "1"], env=stay, capture_output=True, stdin=subprocess.DEVNULL, timeout=PATIENCE)
+        expect((other.returncode, b"the journal of another system" in other.stderr), (1, True), other.stderr)
+
+
+WRAPPER = os.path.join(TOP, "systemd", "rights-site-run")
+
+
+def of_service(settings, address, commands, replies, ends_by):
+    """What a service says on standard error that is started, answers these commands, and is ended by this signal."""
+    silent = {"stderr": subprocess.PIPE, "stdin": subprocess.DEVNULL, "start_new_session": True}
+    process = subprocess.Popen([WRAPPER, "1"], env=settings, **silent)
+    try:
+        wait_for("the site answers", lambda: with_status(address) == 200)
+        expect(command_at(address, *commands), replies)
+        os.killpg(process.pid, ends_by)
+        said = process.communicate(timeout=PATIENCE)[1].decode()
+        expect(process.returncode, 0 if ends_by == signal.SIGTERM else -ends_by, said)
+        return said
+    finally:
+        with suppress(ProcessLookupError):
+            os.killpg(process.pid, signal.SIGKILL)
 
 
 def with_status(address):
