@@ -22,7 +22,9 @@ _rights_site() {
         value=${COMP_WORDS[index + 1]}
         [[ $value == '=' ]] && value=${COMP_WORDS[index + 2]}
         case $word in
-            sim | run) [[ -n $command ]] || command=$word ;;
+            sim | run | check-journal) [[ -n $command ]] || command=$word ;;
+            # What follows names a peer's address here, and not the peer's own.
+            --from) if [[ ${COMP_WORDS[index + 1]} == '=' ]]; then index=$((index + 2)); else index=$((index + 1)); fi ;;
             --id) id=$value ;;
             --sites) sites=$value ;;
             [1-9] | 1[0-6]) [[ ${COMP_WORDS[index + 1]} == '=' ]] && named+="$word " ;;
@@ -31,15 +33,26 @@ _rights_site() {
     done
 
     case $command in
-        '') mapfile -t COMPREPLY < <(compgen -W 'sim run --help --version' -- "$current") ;;
+        '') mapfile -t COMPREPLY < <(compgen -W 'sim run check-journal --help --version' -- "$current") ;;
         sim) mapfile -t COMPREPLY < <(compgen -W '--help' -- "$current") ;;
         run) _rights_site_run ;;
+        check-journal) _rights_site_check ;;
     esac
+}
+
+# What may follow 'check-journal': one file, and the flag.
+_rights_site_check() {
+    if [[ $current == -* ]]; then
+        mapfile -t COMPREPLY < <(compgen -W '--json --help' -- "$current")
+    else
+        compopt -o filenames 2>/dev/null
+        mapfile -t COMPREPLY < <(compgen -f -- "$current")
+    fi
 }
 
 # What may follow 'run'. It reads what _rights_site found in the words before.
 _rights_site_run() {
-    local options='' numbers='' number
+    local options=''
     case $option in
         --id)
             mapfile -t COMPREPLY < <(compgen -W "$(echo {1..16})" -- "$current")
@@ -49,31 +62,41 @@ _rights_site_run() {
             mapfile -t COMPREPLY < <(compgen -W "$(echo {2..16})" -- "$current")
             return
             ;;
-        --once)
+        --from)
+            _rights_site_peers ' '
+            return
+            ;;
+        --once | --journal)
             compopt -o filenames 2>/dev/null
             mapfile -t COMPREPLY < <(compgen -f -- "$current")
             return
             ;;
         # An address is the caller's to say: where this site listens, or after 'J='. So are a name and the times.
-        --listen | --http | --host | --tick | --silent | [1-9]*)
+        --listen | --http | --host | --tick | --silent | --system | [1-9]*)
             return
             ;;
     esac
     [[ $current == *=* ]] && return
 
-    for word in --id --sites --listen --http --host --tick --silent --once --log --help; do
-        # Only a name of the host may be given more than once.
-        [[ $word != --host && " ${COMP_WORDS[*]:1:COMP_CWORD-1} " == *" $word "* ]] || options+="$word "
-    done
-    [[ $sites =~ ^([2-9]|1[0-6])$ ]] || sites=16
-    for ((number = 1; number <= sites; number++)); do
-        [[ $number == "$id" || $named == *" $number "* ]] || numbers+="$number= "
+    for word in --id --sites --listen --from --http --host --tick --silent --once --journal --system --log --help; do
+        # Only an address for one peer and a name of the host may be given more than once.
+        [[ $word != --from && $word != --host && " ${COMP_WORDS[*]:1:COMP_CWORD-1} " == *" $word "* ]] || options+="$word "
     done
     if [[ $current == -* ]]; then
         mapfile -t COMPREPLY < <(compgen -W "$options" -- "$current")
     else
-        mapfile -t COMPREPLY < <(compgen -W "$options$numbers" -- "$current")
+        _rights_site_peers "$named" "$options"
     fi
+}
+
+# 'J=' for each other site but those in the first list, and the words of the second.
+_rights_site_peers() {
+    local words=${2-} number
+    [[ $sites =~ ^([2-9]|1[0-6])$ ]] || sites=16
+    for ((number = 1; number <= sites; number++)); do
+        [[ $number == "$id" || $1 == *" $number "* ]] || words+="$number= "
+    done
+    mapfile -t COMPREPLY < <(compgen -W "$words" -- "$current")
     # The address follows 'J=' with no space between.
     [[ ${#COMPREPLY[@]} -eq 1 && ${COMPREPLY[0]} == *= ]] && compopt -o nospace 2>/dev/null
 }

@@ -31,6 +31,7 @@ import os
 import re
 import select
 import socket
+import ssl
 import threading
 import time
 from collections.abc import Callable, Iterable
@@ -136,7 +137,8 @@ class SiteUnreachable(Exception):
 
 
 class SiteRefused(Exception):
-    """The site refused the whole request, such as one from a web page, or is not a site. It carried out nothing."""
+    """The site, or a server before it, refused the whole request, such as one from a web page or one without its token,
+    or is not a site. It carried out nothing."""
 
 
 class AnswerLost(Exception):
@@ -159,12 +161,18 @@ def in_seconds(seconds: float) -> int:
 class SiteClient:
     """A client of one site, for any number of threads."""
 
-    def __init__(self, address: str, *, connections: int = 8, timeout: float = 10.0, tries: int = 5) -> None:
+    def __init__(
+        self, address: str, *, connections: int = 8, timeout: float = 10.0, tries: int = 5,
+        tls: ssl.SSLContext | None = None, token: str | None = None,
+    ) -> None:
         """`address` is that of the site's `--http`, a host and a port. At most `connections` are open at a time; a site
         has 63 for all its clients. `timeout` is how many seconds an answer may take, and `tries` how often a request
-        is tried that was not carried out."""
+        is tried that was not carried out. `tls` and `token` are for a site behind a server that encrypts and asks who
+        comes: how to speak TLS, as by `ssl.create_default_context()`, and what to show as `authorization: Bearer`."""
+        self.address = address
         host, _, port = address.rpartition(":")
-        self._host, self._port = host.strip("[]"), int(port)
+        self._host, self._port, self._tls = host.strip("[]"), int(port), tls
+        self._fields = {} if token is None else {"authorization": f"Bearer {token}"}
         self._timeout, self._tries, self._connections = timeout, max(1, tries), connections
         self._renew()
 
@@ -320,7 +328,8 @@ class SiteClient:
         connection.sock.settimeout(timeout)
         try:
             # A body with a length is carried out only once its last byte has arrived, so half a request has no effect.
-            connection.request(method, target, body or None, {"content-type": "text/plain"} if body else {})
+            fields = {"content-type": "text/plain"} if body else {}
+            connection.request(method, target, body or None, self._fields | fields)
         except OSError as cause:
             raise NotSent(cause) from cause
         try:
@@ -334,7 +343,10 @@ class SiteClient:
             with self._lock:
                 self._idle.append((connection, time.monotonic()))
         if answer.status == 503 and answer.getheader("retry-after"):
-            raise NotSent("all client connections of the site are in use")
+            raise NotSent("the site turned the request away: all of its client connections are in use, or it is ending")
+        if answer.status >= 500 and not answer.getheader("content-type", "").startswith("text/plain"):
+            # It is of a server between here and the site, which got no answer, or did not pass it on.
+            raise ConnectionError(f"{answer.status} {answer.reason}")
         if answer.status not in (200, 400, 409, 503) or (body and not text.endswith("\n")):
             raise SiteRefused(f"{method} {target}: {answer.status} {answer.reason}")
         return text
@@ -353,7 +365,10 @@ class SiteClient:
             if is_silent(connection.sock):
                 return connection
             connection.close()
-        connection = http.client.HTTPConnection(self._host, self._port, timeout=self._timeout)
+        if self._tls is None:
+            connection = http.client.HTTPConnection(self._host, self._port, timeout=self._timeout)
+        else:
+            connection = http.client.HTTPSConnection(self._host, self._port, timeout=self._timeout, context=self._tls)
         try:
             connection.connect()
         except OSError as cause:
@@ -395,9 +410,9 @@ def number_of(reply: str, word: str = "number") -> int:
 
 def result_of(reply: str) -> Reply:
     """What a reply to a spend, or to a question for its outcome, says."""
-    for pattern, kind in ((r"spent ([0-9]+)", Spent), (r"queued ([0-9]+)", Queued)):
-        if found := re.fullmatch(pattern, reply):
-            return kind(int(found[1]))
+    numbered: dict[str, Callable[[int], Reply]] = {"spent": Spent, "queued": Queued}
+    if found := re.fullmatch(r"(spent|queued) ([0-9]+)", reply):
+        return numbered[found[1]](int(found[2]))
     plain: dict[str, Reply] = {"expired": Expired(), "waiting": Waiting(), "unknown": Unknown()}
     if reply in plain:
         return plain[reply]

@@ -6,9 +6,10 @@
         site.status()["held"]           # 97
         site.ask("tick 11")             # send what is due, serve what waits
 
-The log of a site is in memory, so each number is used only once in a system of sites: a site that has ended, or whose
-machine was restarted, must not be started again with its number, or it would sell its rights a second time. `once`
-names a file that prevents that.
+With `journal`, the path of a file, a site that has ended goes on where it was, if it is started again with the same
+values. Without it the log of a site is in memory, so each number is used only once in a system of sites: a site that
+has ended, or whose machine was restarted, must not be started again with its number, or it would sell its rights a
+second time. `once` names a file that prevents that.
 
 Threads may share a site, processes cannot: for them, start the site with `http` and use `rights_http.py`. Only Python's
 standard library is used, on systems that have `poll`.
@@ -26,6 +27,7 @@ import threading
 import time
 from collections.abc import Iterable, Mapping, Sequence
 from contextlib import suppress
+from types import MappingProxyType
 from typing import IO, Any
 
 # The program of the repository that this file is in, if it is in one.
@@ -67,29 +69,38 @@ class Site:
         self,
         number: int,
         sites: int,
-        listen: str,
+        listen: str | None,
         peers: Mapping[int, str],
         program: str | Sequence[str] | None = None,
         *,
+        entrances: Mapping[int, str] = MappingProxyType({}),
         http: str | None = None,
         hosts: Sequence[str] = (),
         tick: int | None = None,
         silent: int | None = None,
         once: str | None = None,
+        journal: str | None = None,
+        system: str | None = None,
         log: bool = False,
         errors: IO[Any] | int | None = None,
         timeout: float = 30.0,
     ) -> None:
         """Starts the site, and returns once it listens. If it cannot, raises SiteEnded with the reason.
 
-        `peers` has the address of each other site by its number. `program` is the path of the program, or a list of
-        words that replaces it and its word `run`. `http`, `tick` and `silent` (milliseconds), `once` and `log` are the
-        options of these names, and `hosts` the names of `--host`. The standard error of the site goes to `errors`, an
-        open file; without it, it is kept, and `said` reads it. `timeout` is how many seconds a reply may take: no command waits for another site, but a tick for
-        50 milliseconds at most, so a longer wait means that the process is stuck."""
+        `peers` has the address of each other site by its number, and `entrances` the address of this one at which alone a
+        peer is let in, by the peer's number (`--from`); `listen` may be None if each peer has one. `program` is the path of the program, or a list of
+        words that replaces it and its word `run`. `http`, `tick` and `silent` (milliseconds), `once`, `journal`, `system`
+        and `log` are the options of these names, and `hosts` the names of `--host`. The standard error of the site goes to
+        `errors`, an open file; without it, it is kept, and `said` reads it. `timeout` is how many seconds a reply may
+        take: no command waits for another site, but a tick for 50 milliseconds at most, and with a journal for the disk,
+        so a longer wait means that the process is stuck."""
         words = list(program) if isinstance(program, (list, tuple)) else [program or find_program(), "run"]
-        words += ["--id", str(number), "--sites", str(sites), "--listen", listen]
-        for option, value in (("--http", http), ("--tick", tick), ("--silent", silent), ("--once", once)):
+        words += ["--id", str(number), "--sites", str(sites)]
+        words += [] if listen is None else ["--listen", listen]
+        for peer, address in entrances.items():
+            words += ["--from", f"{peer}={address}"]
+        options = {"--http": http, "--tick": tick, "--silent": silent, "--once": once, "--journal": journal, "--system": system}
+        for option, value in options.items():
             words += [] if value is None else [option, str(value)]
         for name in hosts:
             words += ["--host", name]
@@ -144,8 +155,8 @@ class Site:
     # ---- the end
 
     def end(self, timeout: float = 30.0) -> int:
-        """Ends the site by `quit`, waits for it, and returns its exit status. What it holds is lost, so close it first,
-        and tick until its peers have applied that."""
+        """Ends the site by `quit`, waits for it, and returns its exit status. Without a journal what it holds is lost, so
+        close it first, and tick until its peers have applied that."""
         with self._lock:
             with suppress(BrokenPipeError, ValueError):
                 self._input.write(b"quit\n")
