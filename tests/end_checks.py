@@ -6,6 +6,7 @@ from contextlib import contextmanager
 
 import site_driver
 from cluster import expect
+from site_driver import Difference
 from site_trial import entries
 
 # A site ends within some 4 seconds, whatever its peers do. A busy machine may need longer, and has some tries.
@@ -61,28 +62,45 @@ def the_end_of_the_input_ends_a_site(trial):
 
 def end_of(trial, text):
     """Gives a site of its own this text, and the end of its input behind it. All that it says is what a model says to the
-    text's lines, up to a `quit`."""
-    with trial.again() as other:
-        node = other.node
-        lines = text.split(b"\n")
-        lines = lines if lines[-1] else lines[:-1]
-        expected = []
-        for line in lines:
-            if (reply := node.model.reply(line)) is None:
-                break
-            expected.append(reply + b"\n")
-        node.site.process.stdin.write(text)
-        node.site.process.stdin.close()
-        said = node.site._unread + node.site.process.stdout.read()
-        expect(said, b"".join(expected), f"the replies to {text[:100]!r} and the end")
-        node.settle_lines()
-        expect(node.site.process.wait(site_driver.PATIENCE), 0, "the exit status")
-        expect(node.site.said(), "", "standard error")
-        for number, peer in node.peers.items():
-            if peer.heard is not None:
-                expect(peer.unread or node.rest_of(peer), b"", f"more for peer {number}")
-            elif peer.hears:
-                expect(peer.accept(0), False, f"a connection to peer {number}, for which there is no line")
+    text's lines, up to a `quit`. At its end a site connects for a second at most, so a busy machine has some tries."""
+    for tries_left in reversed(range(TRIES)):
+        with trial.again() as other:
+            end_with(other.node, text)
+            try:
+                return compare_last_lines(other.node)
+            except Difference:
+                if tries_left == 0:
+                    raise
+
+
+def end_with(node, text):
+    """Gives a site this text as all that is left of its input, and waits for its end."""
+    lines = text.split(b"\n")
+    lines = lines if lines[-1] else lines[:-1]
+    expected = []
+    for line in lines:
+        if (reply := node.model.reply(line)) is None:
+            break
+        expected.append(reply + b"\n")
+    node.site.process.stdin.write(text)
+    node.site.process.stdin.close()
+    said = node.site._unread + node.site.process.stdout.read()
+    expect(said, b"".join(expected), f"the replies to {text[:100]!r} and the end")
+    expect(node.site.process.wait(site_driver.PATIENCE), 0, "the exit status")
+    expect(node.site.said(), "", "standard error")
+
+
+def compare_last_lines(node):
+    """Compares what a site that has ended sent to each peer."""
+    for peer in node.peers.values():
+        # All connections that it made wait here.
+        peer.patience = 0
+    node.settle_lines()
+    for number, peer in node.peers.items():
+        if peer.heard is not None:
+            expect(peer.unread or node.rest_of(peer), b"", f"more for peer {number}")
+        elif peer.hears:
+            expect(peer.accept(0), False, f"a connection to peer {number}, for which there is no line")
 
 
 def all_that_comes_before_the_end_is_answered(trial):

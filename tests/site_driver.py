@@ -94,6 +94,8 @@ class Peer:
         self.hears = not is_late
         # Of a peer that answers no attempt to connect: who takes its only place.
         self.filler = None
+        # For so many seconds a connection is waited for that has to come.
+        self.patience = PATIENCE
 
     def port(self):
         return self.listener.getsockname()[1]
@@ -264,7 +266,7 @@ class Node:
         expected = self.model.take(peer.number)
         if not expected:
             actual = []
-        elif peer.heard is None and not peer.accept(PATIENCE):
+        elif peer.heard is None and not peer.accept(peer.patience):
             raise Difference(f"the first line for peer {peer.number}", expected[0], None)
         else:
             actual = self.read_lines(peer, len(expected))
