@@ -27,8 +27,10 @@ import sys
 import tempfile
 import threading
 import time
+from collections import Counter
 from concurrent.futures import ThreadPoolExecutor
 from dataclasses import dataclass, field
+from functools import cache
 from importlib.machinery import SourceFileLoader
 from importlib.util import module_from_spec, spec_from_loader
 from pathlib import Path
@@ -81,6 +83,8 @@ class Function:
     modules: tuple
     owner: str
     name: str
+    # Whether no other function of the crate has this name.
+    is_alone: bool
 
     def is_named(self, path):
         """Whether a check means this function, or a closure in it, by this path. That of a method begins with the
@@ -99,7 +103,9 @@ class Function:
         return re.match(rf"{folder}/(?:fn/)?{self.name}/", path) is not None
 
     def query(self):
-        """What `--only` takes for it: the end of its name."""
+        """What `--only` takes for it: the end of its name. A check may number the owners that have the same name."""
+        if self.is_alone:
+            return self.name
         return "::".join([*([self.owner] if self.owner else self.modules[1:]), self.name])
 
 
@@ -143,18 +149,32 @@ def function_at(crate, file, lines, number):
     if next(opens, None) is None:
         return None
     block = next((it for it in around if it < at and BLOCK.match(lines[it])), None)
-    owner = owner_of(lines[block]) if block is not None else ""
+    owner = owner_of(header_at(lines, block)) if block is not None else ""
     if owner is None:
         return None
     ends = (it for it in range(number, len(lines)) if lines[it].strip() == "}" and indent_of(lines[it]) == indent_of(lines[at]))
     inside = Path(file).relative_to("src").with_suffix("").parts
     modules = (crate, *(() if inside == ("lib",) else inside))
-    return Function(file, range(at + 1, next(ends, number) + 2), modules, owner, FUNCTION.match(lines[at])[1])
+    name = FUNCTION.match(lines[at])[1]
+    return Function(file, range(at + 1, next(ends, number) + 2), modules, owner, name, functions_in(crate)[name] == 1)
 
 
-def owner_of(line):
+@cache
+def functions_in(crate):
+    """How often each name is that of a function of a crate."""
+    lines = (line for file in (build.CRATES / crate / "src").rglob("*.rt") for line in file.read_text().split("\n"))
+    return Counter(found[1] for line in lines if (found := FUNCTION.match(line)))
+
+
+def header_at(lines, block):
+    """The header of a block, in one line."""
+    end = next((it for it in range(block, len(lines)) if "{" in lines[it]), block)
+    return " ".join(it.strip() for it in lines[block : end + 1])
+
+
+def owner_of(header):
     """The name of what a block is about, as a check prints it: a type, or a type with the trait that it implements."""
-    header = re.sub(r"<[^<>]*>", "", line)
+    header = re.sub(r"<[^<>]*>", "", header)
     while "<" in header and header != (header := re.sub(r"<[^<>]*>", "", header)):
         pass
     found = re.match(r"\s*(?:unsafe )?impl\s*(?:([\w:]+) for )?&?(?:'\w+ )?(?:mut )?([\w:]+)", header)
