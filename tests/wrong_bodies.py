@@ -8,7 +8,8 @@ edits, each in a function of its own. That is sound, since the proof of a functi
 and cannot open their bodies: what is proved or refused of one function is the same whatever stands in the bodies of the
 others. An edit counts as refused only if a goal of the function that it changes is refused; that the function calls
 another one that is not proved says nothing. An edit of a definition, of a contract or of a cycle of calls is tried
-alone, and so is one of which the check of several says nothing.
+alone, and so is one of which the check of several says nothing. The file must-fail/refused.txt says of such an edit
+which functions to check first; if these are proved all the same, the whole crate is checked.
 
 FOLDER has the libraries below the crates, as `rt` (NAME/out/rlib/NAME.rlib) or `./build` (NAME.rlib) makes them, and each
 check begins with nothing else. Where it is not given, they are those that `rt` or else `./build` made here, and a check
@@ -60,7 +61,8 @@ build = load_build()
 
 @dataclass
 class Edit:
-    """One wrong body: the texts that it changes, and the function that has them, if it is one body alone."""
+    """One wrong body: the texts that it changes, the function that has them, if it is one body alone, and else the
+    functions that are known to be refused by it."""
 
     crate: str
     name: str
@@ -68,6 +70,7 @@ class Edit:
     pairs: list = field(default_factory=list)
     fault: str = ""
     function: "Function | None" = None
+    refused: list = field(default_factory=list)
 
     @property
     def label(self):
@@ -83,7 +86,7 @@ class Function:
     modules: tuple
     owner: str
     name: str
-    # Whether no other function of the crate has this name.
+    # Whether no other function of the crate has this name, and no module.
     is_alone: bool
 
     def is_named(self, path):
@@ -124,9 +127,9 @@ def lines_around(lines, number):
         line = lines[at]
         if line.strip() and indent_of(line) < depth:
             yield at
-            # A body after clauses begins with a brace alone, and a long list of parameters ends with one, both as far in
-            # as `fn`.
-            depth = indent_of(line) + bool(re.match(r"\s*(\{$|\)|where\b)", line))
+            # A body after clauses begins with a brace alone, and long lists of parameters end with a bracket, as far in as
+            # `fn`.
+            depth = indent_of(line) + bool(re.match(r"\s*(\{$|\)|>|where\b)", line))
 
 
 def is_in_cycle(lines, at):
@@ -156,14 +159,15 @@ def function_at(crate, file, lines, number):
     inside = Path(file).relative_to("src").with_suffix("").parts
     modules = (crate, *(() if inside == ("lib",) else inside))
     name = FUNCTION.match(lines[at])[1]
-    return Function(file, range(at + 1, next(ends, number) + 2), modules, owner, name, functions_in(crate)[name] == 1)
+    return Function(file, range(at + 1, next(ends, number) + 2), modules, owner, name, names_in(crate)[name] == 1)
 
 
 @cache
-def functions_in(crate):
-    """How often each name is that of a function of a crate."""
-    lines = (line for file in (build.CRATES / crate / "src").rglob("*.rt") for line in file.read_text().split("\n"))
-    return Counter(found[1] for line in lines if (found := FUNCTION.match(line)))
+def names_in(crate):
+    """How often each name is that of a function or a module of a crate."""
+    files = list((build.CRATES / crate / "src").rglob("*.rt"))
+    lines = (line for file in files for line in file.read_text().split("\n"))
+    return Counter([*(it.stem for it in files), *(found[1] for line in lines if (found := FUNCTION.match(line)))])
 
 
 def header_at(lines, block):
@@ -209,7 +213,9 @@ def read_edit(crate, path, folder):
     if not edit.pairs:
         edit.fault = "it has no 'old:' and 'new:' pair"
         return edit
-    edit.function = functions.pop() if len(functions) == 1 else None
+    edit.function = next(iter(functions)) if len(functions) == 1 else None
+    if all(functions):
+        edit.refused = sorted(it.query() for it in functions)
     return edit
 
 
@@ -295,7 +301,16 @@ class Crate:
 
     def edits(self):
         paths = sorted((self.folder / "must-fail").glob("*.edit"))
-        return [read_edit(self.name, it, self.folder) for it in paths]
+        edits, known = [read_edit(self.name, it, self.folder) for it in paths], self.known_refused()
+        for edit in edits:
+            edit.refused = known.get(edit.name, edit.refused)
+        return edits
+
+    def known_refused(self):
+        """What is known to be refused by edits that concern the whole crate: functions by the ends of their names."""
+        file = self.folder / "must-fail/refused.txt"
+        lines = file.read_text().splitlines() if file.is_file() else []
+        return {name: functions.split() for name, _, functions in (it.partition(":") for it in lines)}
 
 
 def verdict_on(edit, check):
@@ -384,8 +399,8 @@ class Trial:
         return group, others
 
     def check(self, texts, functions):
-        """Checks the crate with these texts: these functions alone, if there are any."""
-        only = [it for function in functions for it in ("--only", function.query())]
+        """Checks the crate with these texts: these functions alone, by the ends of their names, if there are any."""
+        only = [it for function in functions for it in ("--only", function)]
         words = ["--incremental", self.room, *only]
         check = self.crate.check(texts, words)
         # Most likely for want of memory.
@@ -395,13 +410,13 @@ class Trial:
         """Tries several edits in one check. Answers those of which it says nothing."""
         check, undecided = None, []
         while group:
-            check = self.check(changed(group, self.crate.folder), [it.function for it in group])
+            check = self.check(changed(group, self.crate.folder), [it.function.query() for it in group])
             unknown = re.findall(UNKNOWN, check.said) if check.status == 2 else []
             strange = [it for it in group if it.function.query() in unknown]
             if not strange:
                 break
             for edit in strange:
-                edit.function = None
+                edit.function, edit.refused = None, []
             group = [it for it in group if it.function]
             undecided += strange
         if len(group) > 1 and not re.search(r"^fn ", check.said, re.M):
@@ -418,8 +433,8 @@ class Trial:
 
     def alone(self, edit):
         """Tries one edit. What is no body may matter anywhere in the crate."""
-        check = self.check(edit.texts, [edit.function] if edit.function else [])
-        if edit.function and check.status != 1:
+        check = self.check(edit.texts, edit.refused)
+        if edit.refused and check.status != 1:
             check = self.check(edit.texts, [])
         self.settle(edit, *verdict_alone(check))
 
