@@ -1,5 +1,6 @@
 """What is between the sites: proxies that pass lines on or lose them, and a witness that reads them."""
 
+import random
 import socket
 import threading
 from contextlib import suppress
@@ -114,8 +115,11 @@ class Link(Proxy):
 
 
 def free_ports(count):
-    """Ports on which no process listened a moment ago."""
-    sockets = [socket.create_server(("127.0.0.1", 0)) for _ in range(count)]
+    """Ports on which no process listened a moment ago, of those that the system gives to no connection that goes out."""
+    sockets = []
+    while len(sockets) < count:
+        with suppress(OSError):
+            sockets.append(socket.create_server(("127.0.0.1", random.SystemRandom().randrange(10_000, 32_000))))
     ports = [each.getsockname()[1] for each in sockets]
     for each in sockets:
         each.close()
