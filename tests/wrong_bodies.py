@@ -1,7 +1,7 @@
 #!/usr/bin/env python3
 """Tries the wrong bodies, crates/NAME/must-fail/*.edit, several in one check:
 
-    tests/wrong_bodies.py [--libraries FOLDER] [NAME[/EDIT]]..
+    tests/wrong_bodies.py [--libraries FOLDER [--beside LOG END]] [NAME[/EDIT]]..
 
 `rt must-fail` tries one edit at a time, and each check loads all libraries below the crate. Here one check has several
 edits, each in a function of its own. That is sound, since the proof of a function cites the contracts of what it calls
@@ -13,9 +13,10 @@ which functions to check first; if these are proved all the same, the whole crat
 
 FOLDER has the libraries below the crates, as `rt` (NAME/out/rlib/NAME.rlib) or `./build` (NAME.rlib) makes them, and each
 check begins with nothing else. Where it is not given, they are those that `rt` or else `./build` made here, and a check
-begins with what `rt check` kept. A crate whose edits were all refused before is passed over if nothing that they stand on
-has changed. Prints a line for each edit, the processor time of each crate, and
-as the last line 'N passed, M failed'.
+begins with what `rt check` kept. `--beside` has `rt ci` make them meanwhile: a crate waits until all below it are proved,
+by what LOG, the output of `rt ci`, says, or until the file END is there, and half of the processors are used till then. A
+crate whose edits were all refused before is passed over if nothing that they stand on has changed. Prints a line for each
+edit, the processor time of each crate, and as the last line 'N passed, M failed'.
 """
 
 import hashlib
@@ -365,7 +366,15 @@ class Trial:
         self.reports.report(edit, kind, why)
 
     def run(self):
+        lacking = [it for it, library in self.crate.libraries.items() if not (library / "format").is_file()]
+        if lacking:
+            for edit in self.edits:
+                self.settle(edit, UNSURE, f"there is no library of {' '.join(lacking)}")
+            return
         begun_with = self.crate.digest()
+        if self.is_whole and self.crate.stamp().is_file() and self.crate.stamp().read_text() == begun_with:
+            self.reports.pass_over(self.crate, self.edits)
+            return
         with tempfile.TemporaryDirectory(prefix="wrong-bodies-") as room:
             self.room = f"{room}/kept"
             if self.crate.kept and (self.crate.folder / "out/incremental").is_dir():
@@ -483,18 +492,67 @@ class Reports:
             self.counts[kind] += 1
             print(f"{edit.label}: {self.TEXTS[kind]}{': ' if why else ''}{why}", flush=True)
 
+    def pass_over(self, crate, edits):
+        with self.lock:
+            self.counts[REFUSED] += len(edits)
+            said = f"its {len(edits)} wrong bodies were refused before, and nothing that they stand on has changed"
+            print(f"{crate.name}: {said}", flush=True)
+
     def failed(self):
         return sum(self.counts.values()) - self.counts[REFUSED]
 
 
-def try_all(trials):
-    """Tries the edits of several crates, as many crates at once as there are processors, and memory for."""
-    # The longest first: the others fill what it leaves.
-    trials = sorted(trials, key=lambda it: -len(it.edits))
-    lanes = max(1, min(build.processors(), build.memory_free() // MEMORY))
-    with ThreadPoolExecutor(lanes) as pool:
-        for done in [pool.submit(it.run) for it in trials]:
-            done.result()
+class Proofs:
+    """What a run of `rt ci` beside has proved so far."""
+
+    def __init__(self, log, end):
+        self.log, self.end = Path(log), Path(end)
+
+    def has_ended(self):
+        return self.end.exists()
+
+    def proved(self):
+        said = self.log.read_text(errors="replace") if self.log.exists() else ""
+        return set(re.findall(r"^rt: (\w+) proved$", said, re.M))
+
+
+class Lanes:
+    """Tries the edits of several crates, as many crates at once as there are processors, and memory for. Beside `rt ci` it
+    takes half as many, and only crates that have all libraries."""
+
+    def __init__(self, trials, proofs):
+        # The longest first: the others fill what it leaves.
+        self.left = sorted(trials, key=lambda it: -len(it.edits))
+        self.proofs, self.lock = proofs, threading.Lock()
+        self.count = max(1, min(build.processors(), build.memory_free() // MEMORY))
+
+    def run(self):
+        with ThreadPoolExecutor(self.count) as pool:
+            for done in [pool.submit(self.run_lane, it) for it in range(self.count)]:
+                done.result()
+
+    def run_lane(self, lane):
+        while self.left:
+            if (trial := self.next(lane)) is not None:
+                trial.run()
+            else:
+                time.sleep(1)
+
+    def next(self, lane):
+        """What a lane, counted from 0, can try now."""
+        with self.lock:
+            ready = self.left
+            if self.proofs and not self.proofs.has_ended():
+                proved = self.proofs.proved() if lane < max(1, self.count // 2) else None
+                ready = [it for it in self.left if proved is not None and proved.issuperset(it.crate.libraries)]
+            if not ready:
+                return None
+            self.left.remove(trial := ready[0])
+            return trial
+
+
+def try_all(trials, proofs):
+    Lanes(trials, proofs).run()
     print("Processor time in seconds, wrong bodies, crate:")
     for trial in sorted(trials, key=lambda it: -it.crate.seconds):
         print(f"{trial.crate.seconds:8.0f}  {len(trial.edits):4}  {trial.crate.name}")
@@ -505,9 +563,11 @@ def main(words):
     if words[:1] in (["--help"], ["-h"]):
         print(__doc__)
         return 0
-    folders, kept = [build.CRATES, build.PROVED], True
+    folders, kept, proofs = [build.CRATES, build.PROVED], True, None
     if words[:1] == ["--libraries"] and len(words) > 1:
         folders, kept, words = [Path(words[1]).resolve()], False, words[2:]
+        if words[:1] == ["--beside"] and len(words) > 2:
+            proofs, words = Proofs(*words[1:3]), words[3:]
     crates = {it.name: it for it in all_crates(folders, kept) if any((it.folder / "must-fail").glob("*.edit"))}
     unknown = [it for it in words if it.startswith("-") or it.split("/")[0] not in crates]
     if unknown:
@@ -515,18 +575,11 @@ def main(words):
         return 2
     reports, trials = Reports(), []
     for crate in crates.values():
-        lacking = [it for it, library in crate.libraries.items() if not (library / "format").is_file()]
         is_whole = not words or crate.name in words
         edits = [it for it in crate.edits() if is_whole or f"{crate.name}/{it.name}" in words]
-        if edits and lacking:
-            print(f"{crate.name}: its wrong bodies are not tried: there is no library of {' '.join(lacking)}")
-            reports.counts[UNSURE] += len(edits)
-        elif is_whole and edits and crate.stamp().is_file() and crate.stamp().read_text() == crate.digest():
-            print(f"{crate.name}: its {len(edits)} wrong bodies were refused before, and nothing that they stand on has changed")
-            reports.counts[REFUSED] += len(edits)
-        elif edits:
+        if edits:
             trials.append(Trial(crate, edits, is_whole, reports))
-    try_all(trials)
+    try_all(trials, proofs)
     print(f"{reports.counts[REFUSED]} passed, {reports.failed()} failed")
     return 1 if reports.failed() else 0
 
