@@ -13,7 +13,7 @@ import time
 import traceback
 from collections import Counter
 
-from cluster import Proxy, at, expect, wait_for
+from cluster import PATIENCE, Proxy, at, expect, wait_for
 from web_driver import Client, WebCluster, post, request
 
 SITES = (1, 2, 3)
@@ -71,8 +71,20 @@ class Buyer:
             case _:
                 raise AssertionError(f"{reply!r} to {command!r}")
 
+    def answer(self, data):
+        """The answer to a request. A site that has too many clients says so, and has carried nothing out: then the request
+        is made again, over a new connection."""
+        until = time.monotonic() + PATIENCE
+        while (answer := self.client.ask(data)).status == 503:
+            if time.monotonic() > until:
+                raise AssertionError("the site had no room for good")
+            self.client.close()
+            time.sleep(self.chance.uniform(0.01, 0.1))
+            self.client = Client(self.address)
+        return answer
+
     def ask(self, *commands, target="/"):
-        answer = self.client.ask(post(*commands, target=target))
+        answer = self.answer(post(*commands, target=target))
         replies = answer.body.decode().splitlines()
         expect(len(replies), len(commands), "the count of replies")
         for command, reply in zip(commands, replies):
@@ -107,13 +119,13 @@ class Buyer:
 
     def look(self):
         for target in ("/status", "/metrics", "/healthz"):
-            expect(self.client.ask(request("GET", target)).status, 200, target)
+            expect(self.answer(request("GET", target)).status, 200, target)
 
     def mistake(self):
         """A command that is refused, one that a web page sends, and another target."""
         self.ask("issue 0")
-        expect(self.client.ask(request("POST", "/", b"issue 9\n", "origin: http://elsewhere")).status, 403)
-        expect(self.client.ask(request("POST", "/issue", b"issue 9\n")).status, 404)
+        expect(self.answer(request("POST", "/", b"issue 9\n", "origin: http://elsewhere")).status, 403)
+        expect(self.answer(request("POST", "/issue", b"issue 9\n")).status, 404)
 
     def die(self):
         """Another client sends a part of a request, and goes."""
@@ -129,7 +141,7 @@ class Buyer:
 
     def settle(self):
         tickets = list(self.waiting)
-        answer = self.client.ask(post(*(f"outcome {ticket}" for ticket in tickets)))
+        answer = self.answer(post(*(f"outcome {ticket}" for ticket in tickets)))
         for ticket, reply in zip(tickets, answer.body.decode().splitlines(), strict=True):
             self.told["commands"] += 1
             if reply == "waiting":
