@@ -103,6 +103,7 @@ impl<D: DeskNames> TurnDesk<D> {
     }
 
     /// Notes how many records the desk has made, before its lock is given up.
+    #[inline(always)]
     fn note_made<R: Wait>(&self, rt: &R, kept: &Kept<D>) {
         if let Some(durability) = &self.durability {
             durability.note_made(rt, kept.records_made());
@@ -110,6 +111,7 @@ impl<D: DeskNames> TurnDesk<D> {
     }
 
     /// Waits until no other thread holds the desk, and holds it, for turns that make room for records or for others.
+    #[inline(always)]
     fn hold<'a, R: Wait>(&'a self, rt: &R, makes_room: bool) -> MutexGuard<'a, Kept<D>> {
         if makes_room {
             self.desk.lock(rt)
@@ -119,6 +121,7 @@ impl<D: DeskNames> TurnDesk<D> {
     }
 
     /// The same, once there is room for more records, with a journal.
+    #[inline(always)]
     fn hold_with_room<'a, R: Wait>(&'a self, rt: &R) -> MutexGuard<'a, Kept<D>> {
         for _ in rt.forever() {
             let kept = self.desk.lock(rt);
