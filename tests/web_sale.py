@@ -13,7 +13,7 @@ import time
 import traceback
 from collections import Counter
 
-from cluster import PATIENCE, Proxy, at, expect, wait_for
+from cluster import Proxy, at, expect, wait_for
 from web_driver import Client, WebCluster, post, request
 
 SITES = (1, 2, 3)
@@ -72,15 +72,16 @@ class Buyer:
                 raise AssertionError(f"{reply!r} to {command!r}")
 
     def answer(self, data):
-        """The answer to a request. A site that has too many clients says so, and has carried nothing out: then the request
-        is made again, over a new connection."""
-        until = time.monotonic() + PATIENCE
-        while (answer := self.client.ask(data)).status == 503:
-            if time.monotonic() > until:
-                raise AssertionError("the site had no room for good")
+        return wait_for("a place among the clients of a site", lambda: self.answer_once(data))
+
+    def answer_once(self, data):
+        """The answer to a request. None where the site says that it has too many clients: then it has carried nothing out, and
+        the next request goes over a new connection."""
+        answer = self.client.ask(data)
+        if answer.status == 503 and "retry-after" in answer.headers:
             self.client.close()
-            time.sleep(self.chance.uniform(0.01, 0.1))
             self.client = Client(self.address)
+            return None
         return answer
 
     def ask(self, *commands, target="/"):
