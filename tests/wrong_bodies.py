@@ -539,16 +539,21 @@ class Lanes:
                 time.sleep(1)
 
     def next(self, lane):
-        """What a lane, counted from 0, can try now."""
+        """Takes what a lane is to try now, or None."""
         with self.lock:
-            ready = self.left
-            if self.proofs and not self.proofs.has_ended():
-                proved = self.proofs.proved() if lane < max(1, self.count // 2) else None
-                ready = [it for it in self.left if proved is not None and proved.issuperset(it.crate.libraries)]
-            if not ready:
-                return None
-            self.left.remove(trial := ready[0])
+            trial = next(iter(self.ready(lane)), None)
+            if trial is not None:
+                self.left.remove(trial)
             return trial
+
+    def ready(self, lane):
+        """What a lane, counted from 0, may try now."""
+        if self.proofs is None or self.proofs.has_ended():
+            return self.left
+        if lane >= max(1, self.count // 2):
+            return []
+        proved = self.proofs.proved()
+        return [it for it in self.left if proved.issuperset(it.crate.libraries)]
 
 
 def try_all(trials, proofs):
