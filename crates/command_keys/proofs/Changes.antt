@@ -144,10 +144,9 @@ grown w v ws e f same_written more_written same_expired more_expired cap is = re
   cap = cap ∙ is.cap;
 }
 
--- the place that was found in an equal list
-pub place_in : (ticket : ℕ) (shown ws : List Waiting) (o : Option ℕ) → shown ≡ ws
-    → o ≡ position (λ (w : Waiting). w.ticket == ticket) shown → place_of ticket ws ≡ o
-place_in ticket shown ws o same found = ap (place_of ticket) (sym same) ∙ sym found
-
-pub place_within : (ticket : ℕ) (ws : List Waiting) (i : ℕ) (w : Waiting) → place_of ticket ws ≡ Some i → i < length ws
-place_within ticket ws i w found = (position-Some (λ (v : Waiting). v.ticket == ticket) ws i w found).0
+-- the place that was found in an equal list is in this one
+pub place_found : (ticket : ℕ) (shown ws : List Waiting) (i : ℕ) (w : Waiting) → shown ≡ ws
+    → Some i ≡ position (λ (w : Waiting). w.ticket == ticket) shown → (place_of ticket ws ≡ Some i) × (i < length ws)
+place_found ticket shown ws i w same found =
+    let here : place_of ticket ws ≡ Some i = ap (place_of ticket) (sym same) ∙ sym found in
+    (here, (position-Some (λ (v : Waiting). v.ticket == ticket) ws i w here).0)
