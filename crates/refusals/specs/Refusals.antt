@@ -4,7 +4,7 @@ use Rattle.refusals.specs.declared.refusal.Refusal.{Refusal}
 use Rattle.refusals.specs.declared.refusal.Refusal.TheVariants.{Closed, BadCount, BadMove, BadAmount, NoSuchSite}
 use Rattle.refusals.specs.declared.refusal.Refusal.TheVariants.{SameSite, PeerClosed, LogFull, Short, OutOfMemory}
 use Rattle.refusals.specs.declared.refusal.Refusal.TheVariants.{QueueFull, QueueBusy, HeldTooMuch, TimeWentBack}
-use Rattle.refusals.specs.declared.refusal.Refusal.TheVariants.{BadCommand, BadDeadline, OwnClock}
+use Rattle.refusals.specs.declared.refusal.Refusal.TheVariants.{BadCommand, BadDeadline, OwnClock, BadKey, KeyRefused, KeyReused}
 use Rattle.refusals.specs.declared.answered.Answered.{Answered}
 use Rattle.refusals.specs.declared.answered.Answered.TheVariants.{Done, Refused}
 
@@ -26,12 +26,15 @@ refusal_name TimeWentBack = codes "TimeWentBack"
 refusal_name BadCommand = codes "BadCommand"
 refusal_name BadDeadline = codes "BadDeadline"
 refusal_name OwnClock = codes "OwnClock"
+refusal_name BadKey = codes "BadKey"
+refusal_name KeyRefused = codes "KeyRefused"
+refusal_name KeyReused = codes "KeyReused"
 
 -- each refusal once, in the order in which they are counted
 abbrev pub all_refusals : List Refusal
 all_refusals =
     Closed ∷ BadCount ∷ BadMove ∷ BadAmount ∷ NoSuchSite ∷ SameSite ∷ PeerClosed ∷ LogFull ∷ Short ∷ OutOfMemory
-    ∷ QueueFull ∷ QueueBusy ∷ HeldTooMuch ∷ TimeWentBack ∷ BadCommand ∷ BadDeadline ∷ OwnClock ∷ []
+    ∷ QueueFull ∷ QueueBusy ∷ HeldTooMuch ∷ TimeWentBack ∷ BadCommand ∷ BadDeadline ∷ OwnClock ∷ BadKey ∷ KeyRefused ∷ KeyReused ∷ []
 
 -- .. and their names
 abbrev pub refusal_names : List (List ℕ)

@@ -3,7 +3,7 @@ ghost use Rattle.std.specs.Prelude.{◌≡◌, ◌<◌, ◌≤◌, length, get_o
 ghost use Rattle.refusals.specs.Refusals.{all_refusals, refusal_name};
 
 /// How many refusals there are.
-pub const REFUSAL_COUNT: usize = 17;
+pub const REFUSAL_COUNT: usize = 20;
 
 /// All refusals, in the order in which they are counted.
 pub const REFUSALS: [Refusal; REFUSAL_COUNT] = [
@@ -24,9 +24,12 @@ pub const REFUSALS: [Refusal; REFUSAL_COUNT] = [
     Refusal::BadCommand,
     Refusal::BadDeadline,
     Refusal::OwnClock,
+    Refusal::BadKey,
+    Refusal::KeyRefused,
+    Refusal::KeyReused,
 ];
 
-/// Why a line of a client is refused: by the desk, except for the last three.
+/// Why a line of a client is refused: by the desk, except for the last six.
 #[derive(Clone, Copy, Debug, PartialEq, Eq)]
 pub enum Refusal {
     Closed,
@@ -49,6 +52,12 @@ pub enum Refusal {
     BadDeadline,
     /// A client may not tick, since the site ticks by its own clock.
     OwnClock,
+    /// The key is no key, or the line may have none.
+    BadKey,
+    /// The site remembers no keys.
+    KeyRefused,
+    /// The key is that of another command.
+    KeyReused,
 }
 
 impl Refusal {
@@ -75,6 +84,9 @@ impl Refusal {
             Refusal::BadCommand => b"BadCommand",
             Refusal::BadDeadline => b"BadDeadline",
             Refusal::OwnClock => b"OwnClock",
+            Refusal::BadKey => b"BadKey",
+            Refusal::KeyRefused => b"KeyRefused",
+            Refusal::KeyReused => b"KeyReused",
         }
     }
 
@@ -101,6 +113,9 @@ impl Refusal {
             Refusal::BadCommand => 14,
             Refusal::BadDeadline => 15,
             Refusal::OwnClock => 16,
+            Refusal::BadKey => 17,
+            Refusal::KeyRefused => 18,
+            Refusal::KeyReused => 19,
         }
     }
 
