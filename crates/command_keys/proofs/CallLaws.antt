@@ -8,6 +8,7 @@ use Rattle.command_keys.specs.Keys.{KeysValue, no_keys, ServesAt, ExpiresAt, IsO
 use Rattle.command_keys.specs.Calls.{Remembers, Waits, Serves, Expires, Keeps, Calls, Runs, all_added, AreLast}
 use Rattle.command_keys.specs.Calls.{LastAreRemembered}
 use Rattle.command_keys.specs.declared.keys.TheConstants.{MAX_EXPIRED}
+use Rattle.command_keys.specs.declared.outcome.Written.{Written}
 use Rattle.command_keys.proofs.Changes.{once_remembered, once_waiting, once_served, once_expired}
 
 -- the newest of a list whose later part was cut to as many
@@ -17,7 +18,7 @@ newest_inner zero n (x ∷ xs) ys le = refl
 newest_inner (suc m) n (x ∷ xs) ys le = ap (λ l. x ∷ l) (newest_inner m n xs ys (omega (arith, le)))
 
 -- one call
-record One (old : KeysValue) (added : List (List ℕ × ℕ)) (new : KeysValue) : Type 0 where
+record One (old : KeysValue) (added : List (List ℕ × Written)) (new : KeysValue) : Type 0 where
   cap : new.cap ≡ old.cap
   written : new.written ≡ newest_of old.cap (added ++ old.written)
   once : IsOnce new
@@ -25,25 +26,25 @@ record One (old : KeysValue) (added : List (List ℕ × ℕ)) (new : KeysValue) 
 whole : (k : KeysValue) → length k.written ≤ k.cap → newest_of k.cap k.written ≡ k.written
 whole k few = take_all k.cap k.written few
 
-remembers : (old : KeysValue) (added : List (List ℕ × ℕ)) (new : KeysValue) → IsOnce old → Remembers old added new
+remembers : (old : KeysValue) (added : List (List ℕ × Written)) (new : KeysValue) → IsOnce old → Remembers old added new
     → One old added new
 remembers old added new once h = record {
   cap = ap (λ (k : KeysValue). k.cap) h.becomes;
   written = ap (λ (k : KeysValue). k.written) h.becomes
-      ∙ ap (λ (more : List (List ℕ × ℕ)). newest_of old.cap (more ++ old.written)) (sym h.adds);
-  once = subst IsOnce (sym h.becomes) (once_remembered old h.key h.number h.free once);
+      ∙ ap (λ (more : List (List ℕ × Written)). newest_of old.cap (more ++ old.written)) (sym h.adds);
+  once = subst IsOnce (sym h.becomes) (once_remembered old h.key h.entry h.free once);
 }
 
-waits : (old : KeysValue) (added : List (List ℕ × ℕ)) (new : KeysValue) → IsOnce old → length old.written ≤ old.cap
+waits : (old : KeysValue) (added : List (List ℕ × Written)) (new : KeysValue) → IsOnce old → length old.written ≤ old.cap
     → Waits old added new → One old added new
 waits old added new once few h = record {
   cap = ap (λ (k : KeysValue). k.cap) h.becomes;
   written = ap (λ (k : KeysValue). k.written) h.becomes ∙ sym (whole old few)
-      ∙ ap (λ (more : List (List ℕ × ℕ)). newest_of old.cap (more ++ old.written)) (sym h.adds);
+      ∙ ap (λ (more : List (List ℕ × Written)). newest_of old.cap (more ++ old.written)) (sym h.adds);
   once = subst IsOnce (sym h.becomes) (once_waiting old h.spend h.free once);
 }
 
-serves : (old : KeysValue) (added : List (List ℕ × ℕ)) (new : KeysValue) → IsOnce old → Serves old added new
+serves : (old : KeysValue) (added : List (List ℕ × Written)) (new : KeysValue) → IsOnce old → Serves old added new
     → One old added new
 serves old added new once h =
     let s : ServesAt old h.place h.number new = h.serves in
@@ -52,11 +53,11 @@ serves old added new once h =
     let then = once_served old.waiting h.place s.spend within at old.cap h.number old.written old.expired once in
     record {
       cap = s.cap;
-      written = s.wrote ∙ ap (λ (more : List (List ℕ × ℕ)). newest_of old.cap (more ++ old.written)) (sym h.adds);
+      written = s.wrote ∙ ap (λ (more : List (List ℕ × Written)). newest_of old.cap (more ++ old.written)) (sym h.adds);
       once = rw (s.wrote, s.others, s.expired) then;
     }
 
-expires : (old : KeysValue) (added : List (List ℕ × ℕ)) (new : KeysValue) → IsOnce old → length old.written ≤ old.cap
+expires : (old : KeysValue) (added : List (List ℕ × Written)) (new : KeysValue) → IsOnce old → length old.written ≤ old.cap
     → Expires old added new → One old added new
 expires old added new once few h =
     let e : ExpiresAt old h.place new = h.expires in
@@ -67,20 +68,20 @@ expires old added new once few h =
     record {
       cap = e.cap;
       written = e.written ∙ sym (whole old few)
-          ∙ ap (λ (more : List (List ℕ × ℕ)). newest_of old.cap (more ++ old.written)) (sym h.adds);
+          ∙ ap (λ (more : List (List ℕ × Written)). newest_of old.cap (more ++ old.written)) (sym h.adds);
       once = rw (e.written, e.others, e.ended) then;
     }
 
-keeps : (old : KeysValue) (added : List (List ℕ × ℕ)) (new : KeysValue) → IsOnce old → length old.written ≤ old.cap
+keeps : (old : KeysValue) (added : List (List ℕ × Written)) (new : KeysValue) → IsOnce old → length old.written ≤ old.cap
     → Keeps old added new → One old added new
 keeps old added new once few h = record {
   cap = ap (λ (k : KeysValue). k.cap) h.becomes;
   written = ap (λ (k : KeysValue). k.written) h.becomes ∙ sym (whole old few)
-      ∙ ap (λ (more : List (List ℕ × ℕ)). newest_of old.cap (more ++ old.written)) (sym h.adds);
+      ∙ ap (λ (more : List (List ℕ × Written)). newest_of old.cap (more ++ old.written)) (sym h.adds);
   once = subst IsOnce (sym h.becomes) once;
 }
 
-one : (old : KeysValue) (added : List (List ℕ × ℕ)) (new : KeysValue) → IsOnce old → length old.written ≤ old.cap
+one : (old : KeysValue) (added : List (List ℕ × Written)) (new : KeysValue) → IsOnce old → length old.written ≤ old.cap
     → Calls old added new → One old added new
 one old added new once few (inl h) = remembers old added new once h
 one old added new once few (inr (inl h)) = waits old added new once few h
@@ -88,10 +89,10 @@ one old added new once few (inr (inr (inl h))) = serves old added new once h
 one old added new once few (inr (inr (inr (inl h)))) = expires old added new once few h
 one old added new once few (inr (inr (inr (inr h)))) = keeps old added new once few h
 
-few_after : (cap : ℕ) (es : List (List ℕ × ℕ)) → length (newest_of cap es) ≤ cap
+few_after : (cap : ℕ) (es : List (List ℕ × Written)) → length (newest_of cap es) ≤ cap
 few_after cap es = omega (arith, length-take cap es)
 
-run : (old : KeysValue) (calls : List (List (List ℕ × ℕ))) (new : KeysValue) → IsOnce old → length old.written ≤ old.cap
+run : (old : KeysValue) (calls : List (List (List ℕ × Written))) (new : KeysValue) → IsOnce old → length old.written ≤ old.cap
     → Runs old calls new → AreLast old.cap (all_added calls ++ old.written) new
 run old [] new once few h = record {
   last = ap (λ (k : KeysValue). k.written) h ∙ sym (whole old few);
@@ -106,7 +107,7 @@ run old (added ∷ calls) new once few h =
     record {
       last = then.last
           ∙ ap (λ (cap : ℕ). newest_of cap (all_added calls ++ mid.written)) first.cap
-          ∙ ap (λ (es : List (List ℕ × ℕ)). newest_of old.cap (all_added calls ++ es)) first.written
+          ∙ ap (λ (es : List (List ℕ × Written)). newest_of old.cap (all_added calls ++ es)) first.written
           ∙ newest_inner old.cap old.cap (all_added calls) (added ++ old.written) (omega arith)
           ∙ ap (newest_of old.cap) (sym (append_assoc (all_added calls) added old.written));
       once = then.once;

@@ -3,3 +3,4 @@ pub mod Lookups
 pub mod Rings
 pub mod Changes
 pub mod CallLaws
+pub mod Gone

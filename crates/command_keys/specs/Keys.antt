@@ -1,19 +1,23 @@
 -- The keys of commands, with where each command ended.
-use Rattle.std.specs.Prelude.{◌≡◌, ℕ, ◌+◌, ◌≤◌, ◌==◌, List, [], ◌∷◌, length, Option, Some, None, position}
+use Rattle.std.specs.Prelude.{◌≡◌, ℕ, zero, suc, ◌+◌, ◌≤◌, ◌==◌, Bool, true, false, List, [], ◌∷◌, length, Option, Some, None, position}
 use Rattle.std.specs.Prelude.{MatchOption, slice_get, remove, find, count_by, option_map}
+use Rattle.std.specs.List.{All, list_any}
 use Rattle.std.specs.Map.{lookup}
 use Rattle.std.specs.Str.{bytes_eq}
+use Rattle.request_queue.specs.declared.request.Request.{Request}
 use Rattle.command_keys.specs.Last.{LastValue, newest_of}
 use Rattle.command_keys.specs.declared.keys.TheConstants.{MAX_EXPIRED}
 use Rattle.command_keys.specs.declared.outcome.Waiting.{Waiting}
+use Rattle.command_keys.specs.declared.outcome.Written.{Written}
+use Rattle.command_keys.specs.declared.outcome.Effect.TheVariants.{Spend}
 use Rattle.command_keys.specs.declared.outcome.Outcome.{Outcome}
 use Rattle.command_keys.specs.declared.outcome.Outcome.TheVariants.{Wrote, Waits, Expired}
 
--- The keys that wrote entries with the entries' numbers, the newest first, and how many are remembered at most; the
+-- The keys that wrote entries with these entries, the newest first, and how many are remembered at most; the
 -- spends that wait under keys, in order; the keys whose spend expired with its amount, the newest first; and how many
 -- more keys there is memory for.
 pub record KeysValue : Type 0 where
-  pub written : List (List ℕ × ℕ)
+  pub written : List (List ℕ × Written)
   pub cap : ℕ
   pub waiting : List Waiting
   pub expired : List (List ℕ × ℕ)
@@ -24,8 +28,8 @@ no_keys cap = record { written = []; cap = cap; waiting = []; expired = []; room
 
 -- ---- where the command of a key ended
 
-abbrev pub outcome_by : Option ℕ → Option Waiting → Option ℕ → Option Outcome
-outcome_by (Some number) waits amount = Some (Wrote number)
+abbrev pub outcome_by : Option Written → Option Waiting → Option ℕ → Option Outcome
+outcome_by (Some entry) waits amount = Some (Wrote entry)
 outcome_by None (Some w) amount = Some (Waits w.ticket w.amount)
 outcome_by None None (Some amount) = Some (Expired amount)
 outcome_by None None None = None
@@ -41,7 +45,7 @@ key_of ticket waiting = option_map (λ (w : Waiting). w.key) (find (λ (w : Wait
 -- ---- no key twice
 
 -- how often a key occurs
-abbrev pub times : List (List ℕ × ℕ) → List Waiting → List (List ℕ × ℕ) → List ℕ → ℕ
+abbrev pub times : List (List ℕ × Written) → List Waiting → List (List ℕ × ℕ) → List ℕ → ℕ
 times written waiting expired key =
     count_by (λ e. bytes_eq key e.0) written
     + (count_by (λ (w : Waiting). bytes_eq key w.key) waiting + count_by (λ e. bytes_eq key e.0) expired)
@@ -50,7 +54,7 @@ abbrev pub IsOnce : KeysValue → Type 0
 IsOnce k = (key : List ℕ) → times k.written k.waiting k.expired key ≤ 1
 
 -- no key occurs twice, and each key of a spend that waits has room among those that wrote, and among the expired
-pub record IsKeys (written : LastValue) (waiting : List Waiting) (expired : LastValue) : Type 0 where
+pub record IsKeys (written : LastValue Written) (waiting : List Waiting) (expired : LastValue ℕ) : Type 0 where
   pub once : (key : List ℕ) → times written.entries waiting expired.entries key ≤ 1
   pub may_write : length waiting ≤ written.spare
   pub may_expire : length waiting ≤ expired.spare
@@ -58,15 +62,19 @@ pub record IsKeys (written : LastValue) (waiting : List Waiting) (expired : Last
 
 -- ---- changes
 
--- a key wrote the entry of this number
-abbrev pub remembered : KeysValue → List ℕ → ℕ → KeysValue
-remembered k key number = record k { written = newest_of k.cap ((key, number) ∷ k.written) }
+-- a key wrote this entry
+abbrev pub remembered : KeysValue → List ℕ → Written → KeysValue
+remembered k key entry = record k { written = newest_of k.cap ((key, entry) ∷ k.written) }
+
+-- the entry of this number, which served a spend
+abbrev pub serving : Waiting → ℕ → Written
+serving spend number = record { number = number; effect = Spend spend.amount }
 
 -- the waiting spend with this place was served by the entry of this number
 pub record ServesAt (old : KeysValue) (place number : ℕ) (new : KeysValue) : Type 0 where
   pub spend : Waiting
   pub found : slice_get old.waiting place ≡ Some spend
-  pub wrote : new.written ≡ newest_of old.cap ((spend.key, number) ∷ old.written)
+  pub wrote : new.written ≡ newest_of old.cap ((spend.key, serving spend number) ∷ old.written)
   pub others : new.waiting ≡ remove old.waiting place
   pub cap : new.cap ≡ old.cap
   pub expired : new.expired ≡ old.expired
@@ -90,3 +98,26 @@ Serves old ticket number new =
 
 abbrev pub Expires : KeysValue → ℕ → KeysValue → Type 0
 Expires old ticket new = MatchOption (place_of ticket old.waiting) (new ≡ old) (λ place. ExpiresAt old place new)
+
+-- ---- spends that wait no longer
+
+-- one of these requests has this ticket
+abbrev pub has_ticket : ℕ → List Request → Bool
+has_ticket ticket requests = list_any (λ (r : Request). r.ticket == ticket) requests
+
+-- a spend that waited under a key, and is not among these requests, expired
+pub record ExpiresGone (requests : List Request) (old new : KeysValue) : Type 0 where
+  pub place : ℕ
+  pub expires : ExpiresAt old place new
+  pub gone : has_ticket expires.spend.ticket requests ≡ false
+
+-- so many did, one after another
+abbrev pub ExpireGone : List Request → ℕ → KeysValue → KeysValue → Type 0
+ExpireGone requests zero old new = new ≡ old
+ExpireGone requests (suc n) old new = (mid : KeysValue) × ExpireGone requests n old mid × ExpiresGone requests mid new
+
+-- the spends that still wait under keys are among these requests, and the others expired
+pub record Settles (requests : List Request) (old new : KeysValue) : Type 0 where
+  pub count : ℕ
+  pub expire : ExpireGone requests count old new
+  pub rest : All (λ (w : Waiting). has_ticket w.ticket requests ≡ true) new.waiting

@@ -1,8 +1,8 @@
--- The keys that were put last, the newest first, each with a number.
+-- The keys that were put last, the newest first, each with a value.
 use Rattle.std.specs.Prelude.{◌≡◌, ℕ, ◌<◌, ◌≤◌, ◌⊎◌, List, ◌++◌, length, take, drop, reverse}
 
-pub record LastValue : Type 0 where
-  pub entries : List (List ℕ × ℕ)
+pub record LastValue (V : Type 0) : Type 0 where
+  pub entries : List (List ℕ × V)
   pub cap : ℕ
   pub spare : ℕ
 

@@ -1,12 +1,14 @@
 //! The keys of commands, with where each command ended.
 ghost use Rattle.std.specs.Prelude.{◌≡◌, ◌+◌, ◌≤◌, ◌==◌, ◌++◌, [], ◌∷◌, length, None, OnOk, IsOk, position, find};
 ghost use Rattle.std.specs.Str.{bytes_eq};
-ghost use Rattle.command_keys.specs.Keys.{no_keys, outcome_of, key_of, remembered, Serves, Expires, IsOnce};
+ghost use Rattle.std.specs.Prelude.{◌<◌, not};
+ghost use Rattle.command_keys.specs.Keys.{no_keys, outcome_of, key_of, remembered, has_ticket, Serves, Expires, ExpiresAt, Settles, IsOnce};
 ghost use Rattle.command_keys.specs.declared.outcome.Waiting.{Waiting};
 
 use crate::key::Key;
 use crate::last::LastKeys;
-use crate::outcome::{Outcome, Waiting};
+use crate::outcome::{Effect, Outcome, Waiting, Written};
+use request_queue::Request;
 use rights_types::OutOfMemory;
 use std::alloc::{Allocator, Global};
 use std::hash::RandomState;
@@ -19,9 +21,9 @@ pub const MAX_EXPIRED: usize = 10_000;
 /// waits; and the last 10,000 whose spend expired. No key occurs twice. A key that was forgotten is free again.
 #[derive(Drop)]
 pub struct Keys<A: Allocator = Global> {
-    written: LastKeys<A>,
+    written: LastKeys<Written, A>,
     waiting: Vec<Waiting, A>,
-    expired: LastKeys<A>,
+    expired: LastKeys<u64, A>,
 }
 
 impl<A: Allocator> Model for Keys<A> {
@@ -86,8 +88,8 @@ impl<A: Allocator> Keys<A> {
     pub fn lookup(&self, key: &Key) -> Option<Outcome>
         ensures { result ≡ outcome_of self.now key.now }
     {
-        if let Some(number) = self.written.get(key) {
-            return Some(Outcome::Wrote(number));
+        if let Some(written) = self.written.get(key) {
+            return Some(Outcome::Wrote(written));
         }
         if let Some(spend) = spend_of_key(&self.waiting, key) {
             return Some(Outcome::Waits(spend.ticket, spend.amount));
@@ -116,14 +118,14 @@ impl<A: Allocator> Keys<A> {
         Ok(())
     }
 
-    /// Remembers that the command of this free key wrote the entry of this number. The oldest key that wrote one is
-    /// forgotten if there are more than the cap.
-    pub fn remember(&mut self, key: Key, number: u64)
+    /// Remembers that the command of this free key wrote this entry. The oldest key that wrote one is forgotten if there
+    /// are more than the cap.
+    pub fn remember(&mut self, key: Key, written: Written)
         requires room { 1 ≤ self.old.room }
         requires free { outcome_of self.old key ≡ None }
-        ensures { self.new ≡ record (remembered self.old key number) { room = self.new.room } }
+        ensures { self.new ≡ record (remembered self.old key written) { room = self.new.room } }
     {
-        self.written.put(key, number);
+        self.written.put(key, written);
     }
 
     /// Remembers that the spend of this free key waits, with its ticket and its amount.
@@ -153,7 +155,8 @@ impl<A: Allocator> Keys<A> {
             return;
         };
         let spend = self.waiting.remove(index);
-        self.written.put(spend.key, number);
+        let effect = Effect::Spend(spend.amount);
+        self.written.put(spend.key, Written { number, effect });
     }
 
     /// The waiting spend with this ticket expired, or was cancelled: its key, if it has one, is remembered so. It asks
@@ -161,12 +164,44 @@ impl<A: Allocator> Keys<A> {
     pub fn expire(&mut self, ticket: u64)
         ensures { Expires self.old ticket self.new }
     {
-        let Some(index) = index_of(&self.waiting, ticket) else {
-            return;
-        };
+        if let Some(index) = index_of(&self.waiting, ticket) {
+            self.expire_at(index);
+        }
+    }
+
+    // The waiting spend at this place expired.
+    fn expire_at(&mut self, index: usize)
+        requires { index < length self.old.waiting }
+        ensures { ExpiresAt self.old index self.new }
+    {
         let spend = self.waiting.remove(index);
         self.expired.put(spend.key, spend.amount);
     }
+
+    /// The spends that wait under keys but are not among these requests expired, or were cancelled: their keys are
+    /// remembered so. It asks for no memory.
+    pub fn settle(&mut self, requests: &[Request])
+        ensures { Settles requests.now self.old self.new }
+    {
+        'spends: while let Some(index) = index_of_gone(&self.waiting, requests) {
+            self.expire_at(index);
+        }
+    }
+}
+
+// The place of the first of these spends that is not among the requests.
+fn index_of_gone(waiting: &[Waiting], requests: &[Request]) -> Option<usize>
+    ensures { result ≡ position (λ (w : Waiting). not (has_ticket w.ticket requests.now)) waiting.now }
+{
+    waiting
+        .iter()
+        .position(|spend| !has_ticket(requests, spend.ticket))
+}
+
+fn has_ticket(requests: &[Request], ticket: u64) -> bool
+    ensures { result ≡ has_ticket ticket requests.now }
+{
+    requests.iter().any(|request| request.ticket == ticket)
 }
 
 fn spend_of_key(waiting: &[Waiting], key: &Key) -> Option<Waiting>

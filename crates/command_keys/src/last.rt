@@ -1,4 +1,4 @@
-//! The keys that were put last, each with a number.
+//! The keys that were put last, each with a value.
 ghost use Rattle.std.specs.Prelude.{◌≡◌, ◌+◌, ◌<◌, ◌≤◌, [], ◌∷◌, length, None, OnOk, OnErr, IsOk};
 ghost use Rattle.std.specs.Map.{lookup};
 ghost use Rattle.std.specs.Str.{bytes_eq};
@@ -11,21 +11,21 @@ use std::alloc::{Allocator, Global};
 use std::hash::RandomState;
 use std::marker::Model;
 
-/// The keys that were put last, each with a number, at most `cap` of them: the oldest is forgotten first. No key occurs
+/// The keys that were put last, each with a value, at most `cap` of them: the oldest is forgotten first. No key occurs
 /// twice.
 // A ring over a map's columns: when it is full, a new key takes the place of the oldest.
 #[derive(Drop)]
-pub struct LastKeys<A: Allocator = Global> {
-    map: IndexMap<Key, u64, RandomState, A>,
+pub struct LastKeys<V, A: Allocator = Global> {
+    map: IndexMap<Key, V, RandomState, A>,
     oldest: usize,
     cap: usize,
 }
 
-impl<A: Allocator> Model for LastKeys<A> {
+impl<V, A: Allocator> Model for LastKeys<V, A> {
     ghost use Rattle.indexmap.specs.IndexMap.{spare};
     ghost use Rattle.command_keys.specs.Last.{LastValue, IsRing, newest_first};
 
-    ghost Value = { LastValue };
+    ghost Value = { LastValue V };
 
     ghost view = { λ l. record {
       entries = newest_first l.map.entries l.oldest;
@@ -36,9 +36,9 @@ impl<A: Allocator> Model for LastKeys<A> {
     ghost invariant = { λ l. IsRing l.map.entries l.oldest l.cap };
 }
 
-impl<A: Allocator + Copy> LastKeys<A> {
+impl<V, A: Allocator + Copy> LastKeys<V, A> {
     /// No key yet. It asks for no memory.
-    pub fn new(alloc: A, hasher: RandomState, cap: usize) -> LastKeys<A>
+    pub fn new(alloc: A, hasher: RandomState, cap: usize) -> LastKeys<V, A>
         ensures entries { result.entries ≡ [] }
         ensures cap { result.cap ≡ cap }
     {
@@ -50,7 +50,7 @@ impl<A: Allocator + Copy> LastKeys<A> {
     }
 }
 
-impl<A: Allocator> LastKeys<A> {
+impl<V: Copy, A: Allocator> LastKeys<V, A> {
     /// How many keys there are, at most the cap.
     pub fn len(&self) -> usize
         ensures value { result ≡ length self.now.entries }
@@ -66,8 +66,8 @@ impl<A: Allocator> LastKeys<A> {
         self.cap
     }
 
-    /// The number of a key.
-    pub fn get(&self, key: &Key) -> Option<u64>
+    /// The value of a key.
+    pub fn get(&self, key: &Key) -> Option<V>
         ensures { result ≡ lookup (bytes_eq key.now) self.now.entries }
     {
         // The length is what says that no key occurs twice.
@@ -87,17 +87,17 @@ impl<A: Allocator> LastKeys<A> {
     }
 
     /// Puts a key that is not there. If there are more than the cap then, the oldest is forgotten.
-    pub fn put(&mut self, key: Key, number: u64)
+    pub fn put(&mut self, key: Key, value: V)
         requires room { 0 < self.old.spare }
         requires absent { lookup (bytes_eq key) self.old.entries ≡ None }
-        ensures entries { self.new.entries ≡ newest_of self.old.cap ((key, number) ∷ self.old.entries) }
+        ensures entries { self.new.entries ≡ newest_of self.old.cap ((key, value) ∷ self.old.entries) }
         ensures cap { self.new.cap ≡ self.old.cap }
         ensures spare { self.old.spare ≤ self.new.spare + 1 }
     {
         if self.cap == 0 {
             return;
         }
-        let _new = self.map.insert(key, number).unwrap();
+        let _new = self.map.insert(key, value).unwrap();
         if self.map.len() > self.cap {
             let oldest = self.oldest;
             let _forgotten = self.map.swap_remove_index(oldest);

@@ -15,4 +15,4 @@ mod outcome;
 pub use key::{Key, MAX_KEY};
 pub use keys::{Keys, MAX_EXPIRED};
 pub use last::LastKeys;
-pub use outcome::{Outcome, Waiting};
+pub use outcome::{Effect, Outcome, Waiting, Written};

@@ -1,12 +1,35 @@
 //! Where the command of a key ended.
 
 use crate::key::Key;
+use rights_types::SiteId;
+
+/// What a command does, by which a repeat is told from another command under the same key. The deadline of a spend does
+/// not count, nor whether it would have waited.
+#[derive(Clone, Copy, Debug, PartialEq, Eq)]
+pub enum Effect {
+    /// It creates so many rights.
+    Issue(u64),
+    /// It gives a peer so many rights.
+    Give(SiteId, u64),
+    /// It spends so many rights.
+    Spend(u64),
+    /// It closes the site. The heir does not count: the entry of a site that held nothing names none.
+    Close,
+}
+
+/// An entry that a command wrote.
+#[derive(Clone, Copy, Debug, PartialEq, Eq)]
+pub struct Written {
+    /// The number of the entry.
+    pub number: u64,
+    pub effect: Effect,
+}
 
 /// Where the command of a key ended.
 #[derive(Clone, Copy, Debug, PartialEq, Eq)]
 pub enum Outcome {
-    /// It wrote the entry of this number.
-    Wrote(u64),
+    /// It wrote this entry.
+    Wrote(Written),
     /// It is a spend that waits, with its ticket and the rights that it will spend.
     Waits(u64, u64),
     /// It was a spend of so many rights, whose deadline passed, or which was cancelled.

@@ -1,49 +1,21 @@
-use Rattle.std.proofs.Common.{ℕ, List, length, ◌∷◌, refl, ap, ◌∙◌, arith}
-use Rattle.std.proofs.lemmas.Option.{slice_get_read}
-use Rattle.std.proofs.lemmas.List.Edits.{length-remove}
-use Rattle.command_keys.specs.Last.{newest_of}
+use Rattle.std.proofs.Common.{◌≡◌, ◌∙◌, [], ap}
+use Rattle.command_keys.specs.Keys.{KeysValue}
 use Rattle.command_keys.specs.declared.outcome.Waiting.{Waiting}
-use Rattle.command_keys.proofs.Changes.{once_expired, expired_free, place_found}
+use Rattle.command_keys.proofs.Changes.{place_found}
 use Rattle.command_keys.proofs.keys.Keys.expire.Goals as goal
 
-pub put-requires-clause-absent : goal.put-requires-clause-absent
-put-requires-clause-absent g c =
-    let ws = c.self.inside.waiting.items in
-    let w : Waiting = c.remove-spend.result in
-    let place = place_found c.args.ticket c.deref.result.now ws c.in-Some.index w c.deref.ensures.value c.in-Some.ensures in
-    expired_free ws c.in-Some.index w place.1 c.remove-spend.ensures.value c.self.inside.written.entries
-    c.self.inside.expired.entries (c.self.invariant.once w.key)
+pub expire_at-requires : goal.expire_at-requires
+expire_at-requires g c =
+    let none : Waiting = record { key = []; ticket = 0; amount = 0 } in
+    let same : c.deref.result.now ≡ c.args.self.now.waiting
+    = c.deref.ensures.value ∙ ap (λ (k : KeysValue). k.waiting) c.self.view_is in
+    (place_found c.args.ticket c.deref.result.now c.args.self.now.waiting c.in-Some.index none same c.in-Some.ensures).1
 
-pub invariant_of-self : goal.invariant_of-self
-invariant_of-self g c =
-    let ws = c.self.inside.waiting.items in
-    let i = c.in-Some.index in
-    let w : Waiting = c.remove-spend.result in
-    let place = place_found c.args.ticket c.deref.result.now ws i w c.deref.ensures.value c.in-Some.ensures in
-    let fewer = length-remove ws i place.1 in
-    let long = ap (λ (vs : List Waiting). length vs) c.remove-spend.ensures.items in
-    record {
-      once = λ q. rw (c.put.ensures.entries, c.remove-spend.ensures.items)
-          (once_expired ws i w place.1 c.remove-spend.ensures.value c.self.inside.expired.cap w.amount
-          c.self.inside.written.entries c.self.inside.expired.entries c.self.invariant.once q);
-      may_write = omega (arith, c.self.invariant.may_write, fewer, long, c.put.ensures.spare);
-      may_expire = omega (arith, c.self.invariant.may_expire, fewer, long, c.put.ensures.spare);
-      cap = c.put.ensures.cap ∙ c.self.invariant.cap;
-    }
-
-pub returns : goal.returns
-returns g c =
-    let ws = c.self.inside.waiting.items in
-    let i = c.in-Some.index in
-    let w : Waiting = c.remove-spend.result in
-    let place = place_found c.args.ticket c.deref.result.now ws i w c.deref.ensures.value c.in-Some.ensures in
-    let there = slice_get_read ws (length ws) i w refl place.1 c.remove-spend.ensures.value in
-    rw (← c.self.view_is, place.0) (record {
-      spend = w;
-      found = there;
-      ended = c.put.ensures.entries
-          ∙ ap (λ (cap : ℕ). newest_of cap ((w.key, w.amount) ∷ c.self.inside.expired.entries)) c.self.invariant.cap;
-      others = c.remove-spend.ensures.items;
-      cap = refl;
-      written = refl;
-    })
+pub returns-in-Some : goal.returns-in-Some
+returns-in-Some g c =
+    let none : Waiting = record { key = []; ticket = 0; amount = 0 } in
+    let same : c.deref.result.now ≡ c.args.self.now.waiting
+    = c.deref.ensures.value ∙ ap (λ (k : KeysValue). k.waiting) c.self.view_is in
+    let place = place_found c.args.ticket c.deref.result.now c.args.self.now.waiting c.in-Some.index none same
+    c.in-Some.ensures in
+    rw place.0 c.expire_at.ensures

@@ -15,7 +15,7 @@ invariant_of-self g c =
     let free : outcome_of k c.args.key ≡ None = rw (← c.self.view_is) at c.requires.free in
     let room = rw (← c.self.view_is) at c.requires.room in
     record {
-      once = λ q. rw c.put.ensures.entries (once_remembered k c.args.key c.args.number free c.self.invariant.once q);
+      once = λ q. rw c.put.ensures.entries (once_remembered k c.args.key c.args.written free c.self.invariant.once q);
       may_write = omega (arith, room, c.put.ensures.spare);
       may_expire = c.self.invariant.may_expire;
       cap = c.self.invariant.cap;

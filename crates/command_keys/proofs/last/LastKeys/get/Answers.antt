@@ -10,5 +10,5 @@ returns g c =
     let es = c.self.inside.map.entries in
     let q = c.args.key.now in
     let same = lookup-turned (bytes_eq q) es c.self.inside.oldest (distinct_once q es c.len-len.ensures.unique) in
-    subst (λ (l : LastValue). c.copied.result ≡ lookup (bytes_eq q) l.entries) c.self.view_is
+    subst (λ (l : LastValue g.row.V.Denot). c.copied.result ≡ lookup (bytes_eq q) l.entries) c.self.view_is
     (c.copied.ensures ∙ c.get.ensures.value ∙ sym same)
