@@ -1,14 +1,16 @@
 -- The spends that wait under keys, but not in the queue.
-use Rattle.std.proofs.Common.{◌≡◌, ℕ, ◌<◌, Bool, true, false, cond, List, [], ◌∷◌, length, get_or, Option, Some, None, position}
+use Rattle.std.proofs.Common.{◌≡◌, ℕ, ◌+◌, ◌<◌, Bool, true, false, cond, List, [], ◌∷◌, length, get_or, Option, Some, None, position}
 use Rattle.std.proofs.Common.{refl, sym, ap, ◌∙◌, subst, arith}
-use Rattle.std.specs.Prelude.{not, nat_lt, slice_get}
+use Rattle.std.specs.Prelude.{◌==◌, not, nat_lt, slice_get, find, option_map, MatchOption}
 use Rattle.std.specs.List.{All, position_or_len}
-use Rattle.std.proofs.lemmas.Bool.{ltb-false}
-use Rattle.std.proofs.lemmas.Option.{get_or_from_slice_get}
+use Rattle.std.proofs.lemmas.Bool.{ltb-false, lt-ltb}
+use Rattle.std.proofs.lemmas.Option.{get_or_from_slice_get, slice_get_within}
+use Rattle.std.proofs.lemmas.List.Folds.{find_at}
+use Rattle.std.proofs.lemmas.List.Edits.{length-remove}
 use Rattle.std.proofs.lemmas.List.Quantifiers.{position-Some}
 use Rattle.std.proofs.lemmas.List.Sums.{fails_before_first}
 use Rattle.request_queue.specs.declared.request.Request.{Request}
-use Rattle.command_keys.specs.Keys.{KeysValue, has_ticket, ExpiresAt, ExpiresGone}
+use Rattle.command_keys.specs.Keys.{KeysValue, has_ticket, key_of, place_of, Serves, ServesAt, ExpiresAt, ExpiresGone}
 use Rattle.command_keys.specs.declared.outcome.Waiting.{Waiting}
 
 not_true : (b : Bool) → not b ≡ true → b ≡ false
@@ -49,3 +51,24 @@ none_gone requests shown k same none i d low =
     let off : nat_lt n (length k.waiting) ≡ false = by_less (nat_lt n (length k.waiting)) n here in
     let low : i < n = omega (arith, ltb-false n (length k.waiting) off, low) in
     not_false (has_ticket (get_or k.waiting i d).ticket requests) (fails_before_first p k.waiting i d low)
+
+-- ---- a spend that was served under its key
+
+is_found : (o : Option Waiting) (key : List ℕ) → option_map (λ (w : Waiting). w.key) o ≡ Some key
+    → (w : Waiting) × (o ≡ Some w)
+is_found (Some w) key h = (w, refl)
+is_found None key h = absurd cc
+
+pub served_fewer : (old new : KeysValue) (ticket number : ℕ) (key : List ℕ) → Some key ≡ key_of ticket old.waiting
+    → Serves old ticket number new → length new.waiting + 1 ≡ length old.waiting
+served_fewer old new ticket number key has serves =
+    let p : Waiting → Bool = λ w. w.ticket == ticket in
+    let i = position_or_len p old.waiting in
+    let found = is_found (find p old.waiting) key (sym has) in
+    let at : slice_get old.waiting i ≡ Some found.0 = sym (find_at p old.waiting) ∙ found.1 in
+    let within : i < length old.waiting = slice_get_within old.waiting i found.0 at in
+    let placed : place_of ticket old.waiting ≡ Some i
+    = ap (λ (b : Bool). cond b (Some i) None) (lt-ltb i (length old.waiting) within) in
+    let s : ServesAt old i number new
+    = subst (λ (o : Option ℕ). MatchOption o (new ≡ old) (λ place. ServesAt old place number new)) placed serves in
+    omega (arith, ap (λ (ws : List Waiting). length ws) s.others, length-remove old.waiting i within)

@@ -4,4 +4,5 @@ pub mod Places
 pub mod KeyInverse
 pub mod Last
 pub mod Keys
+pub mod Books
 pub mod Calls

@@ -181,7 +181,8 @@ impl<A: Allocator> Keys<A> {
     /// The spends that wait under keys but are not among these requests expired, or were cancelled: their keys are
     /// remembered so. It asks for no memory.
     pub fn settle(&mut self, requests: &[Request])
-        ensures { Settles requests.now self.old self.new }
+        ensures settles { Settles requests.now self.old self.new }
+        ensures fewer { length self.new.waiting ≤ length self.old.waiting }
     {
         'spends: while let Some(index) = index_of_gone(&self.waiting, requests) {
             self.expire_at(index);

@@ -6,12 +6,14 @@
 //! `wait` notes where it ended, or nothing does if it was refused. A tick calls `serve` and `expire`.
 #![tactic(auto)]
 
+mod book;
 mod key;
 mod keys;
 mod last;
 pub mod laws;
 mod outcome;
 
+pub use book::KeyBook;
 pub use key::{Key, MAX_KEY};
 pub use keys::{Keys, MAX_EXPIRED};
 pub use last::LastKeys;
