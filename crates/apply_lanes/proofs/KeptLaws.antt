@@ -33,6 +33,7 @@ use Rattle.site_core.specs.Ledgers.{TakingLeaves, AppliesEntry, ApplyKeeps, clos
 use Rattle.site_core.proofs.Protocol.{none_applied}
 use Rattle.site_core.specs.Desks.{DeskValue}
 use Rattle.thread_parts.specs.SplitCounters.{SplitCounterValue}
+use Rattle.command_keys.specs.Books.{KeyBookValue}
 use Rattle.apply_lanes.specs.Names.{DeskId, IsUnused}
 use Rattle.apply_lanes.specs.Kepts.{KeptValue, IsKept, MatchesBook, HasShards, admitted_count, raised}
 
@@ -476,6 +477,7 @@ any_handed handed is = record {
 }
 
 pub opens : (id : DeskId) (d : DeskValue) (i s n r : SplitCounterValue) (bs : List Bool) (rs handed : List Record)
+    (keys : KeyBookValue)
     → id.site ≡ d.ledger.log.site
     → id.sites ≡ sites d.ledger.book
     → d.ledger.book.me ≡ d.ledger.log.site → sites d.ledger.book ≤ 16 → MatchesBook d.ledger.book 0 0 0 0
@@ -493,8 +495,9 @@ pub opens : (id : DeskId) (d : DeskValue) (i s n r : SplitCounterValue) (bs : Li
       clock_given = false;
       records = rs;
       handed = handed;
+      keys = keys;
     })
-opens id d i s n r bs rs handed site count me few matches_book hi hs hn hr places none unused empty = record {
+opens id d i s n r bs rs handed keys site count me few matches_book hi hs hn hr places none unused empty = record {
   site = sym site;
   same_me = me ∙ sym site;
   same_sites = sym count;

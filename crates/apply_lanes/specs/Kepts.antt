@@ -1,5 +1,5 @@
 -- The value under the lock of a shared desk, and what the calls of its seats reported.
-use Rattle.std.specs.Prelude.{◌≡◌, ℕ, ◌+◌, ◌-◌, ◌≤◌, Bool, if◌then◌else◌, List, length, Option, Some, None, count_by}
+use Rattle.std.specs.Prelude.{◌≡◌, ℕ, ◌+◌, ◌-◌, ◌≤◌, Bool, false, if◌then◌else◌, List, [], length, Option, Some, None, count_by}
 use Rattle.rights_types.specs.Chains.{moves_of, IsChain}
 use Rattle.rights_types.specs.Rights.{issued, spent, out, taken_back, sum_sites}
 use Rattle.rights_types.specs.declared.limits.TheConstants.{MAX_NUMBER, MAX_SITES}
@@ -11,12 +11,14 @@ use Rattle.site_core.specs.Desks.{DeskValue}
 use Rattle.site_core.specs.Replaying.{HasLists}
 use Rattle.site_core.specs.declared.desk.requests.Spending.{Spending}
 use Rattle.site_core.specs.declared.desk.requests.Spending.TheVariants.{Spent, Queued}
+use Rattle.command_keys.specs.Keys.{no_keys}
+use Rattle.command_keys.specs.Books.{KeyBookValue}
 use Rattle.apply_lanes.specs.declared.names.TheConstants.{SEATS, APPLIERS}
 use Rattle.apply_lanes.specs.Names.{DeskId}
 use Rattle.thread_parts.specs.SplitCounters.{SplitCounterValue}
 
 -- the desk, its four counters, which sites have an applier of their logs, whether the clock's seat was given out, the
--- records of the desk's steps, and those of them that a journal has or was handed
+-- records of the desk's steps, those of them that a journal has or was handed, and the keys of commands
 pub record KeptValue : Type 0 where
   pub desk : DeskValue
   pub issued : SplitCounterValue
@@ -27,6 +29,15 @@ pub record KeptValue : Type 0 where
   pub clock_given : Bool
   pub records : List Record
   pub handed : List Record
+  pub keys : KeyBookValue
+
+-- the keys of a site that takes none
+abbrev pub no_book : KeyBookValue
+no_book = record { keys = no_keys 0; is_recorded = false; unrecorded = []; room = 0 }
+
+abbrev pub book_of : Option KeyBookValue → KeyBookValue
+book_of (Some book) = book
+book_of None = no_book
 
 -- ---- the invariant of the lock
 

@@ -2,6 +2,7 @@ pub mod Names
 pub mod Recording
 pub mod Recorders
 pub mod Kepts
+pub mod Keeping
 pub mod Views
 pub mod Admissions
 pub mod Appliers

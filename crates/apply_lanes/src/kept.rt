@@ -15,7 +15,8 @@ ghost use Rattle.rights_protocol.specs.Crashes.Record.{Applied as IsApplied};
 ghost use Rattle.rights_protocol.specs.Invariant.{SiteInvariant};
 ghost use Rattle.rights_protocol.specs.Schedules.LocalChange.{Apply as Applies};
 ghost use Rattle.site_journal.specs.Batch.{records_in};
-ghost use Rattle.apply_lanes.specs.Recorders.{IsWaiting};
+ghost use Rattle.apply_lanes.specs.Recorders.{IsHanded};
+ghost use Rattle.apply_lanes.specs.Keeping.{IsJournaled, all_recorded};
 ghost use Rattle.apply_lanes.specs.Steps.{StepsBy, RecordsBy};
 ghost use Rattle.apply_lanes.specs.Names.{id_of, AreBlank, IsUnused};
 ghost use Rattle.apply_lanes.specs.Kepts.{one_less, seats_left, told_nothing};
@@ -25,17 +26,21 @@ ghost use Rattle.apply_lanes.specs.Admissions.{Admits, GivesSeat, GivesClockSeat
 
 use crate::applier::Applier;
 use crate::gate::Gate;
+use crate::kept::keys::unrecorded;
 use crate::names::{APPLIERS, Blanks, DeskNames, IssuedBy, NumberOf, ReceivedBy, SEATS, SpentBy};
 use crate::recorder::{RecordLost, Recorder};
 use crate::seat::{Seat, SeatsFull};
+use command_keys::KeyBook;
 use request_queue::SLOTS;
 use rights_types::{Entry, OutOfMemory, SiteId};
 use site_core::Desk;
 use site_journal::Batch;
+use site_records::MAX_KEY_RECORD;
 use std::alloc::{Allocator, Global};
 use std::marker::Model;
 use thread_parts::{DeskView, Outlet, Shard, SplitCounter};
 
+mod keys;
 mod lines;
 mod replaying;
 mod requests;
@@ -55,10 +60,12 @@ pub struct Kept<D: DeskNames, A: Allocator = Global> {
     pub(crate) clock_given: bool,
     // Of all steps of the desk.
     pub(crate) records: Recorder,
+    // `None` at a site that takes no keys.
+    pub(crate) keys: Option<KeyBook<A>>,
 }
 
 impl<D: DeskNames, A: Allocator> Model for Kept<D, A> {
-    ghost use Rattle.apply_lanes.specs.Kepts.{KeptValue, IsKept};
+    ghost use Rattle.apply_lanes.specs.Kepts.{KeptValue, IsKept, book_of};
 
     ghost Value = { KeptValue };
 
@@ -72,6 +79,7 @@ impl<D: DeskNames, A: Allocator> Model for Kept<D, A> {
       clock_given = k.clock_given;
       records = k.records.items;
       handed = k.records.handed;
+      keys = book_of k.keys;
     } };
 
     ghost invariant = { λ k. IsKept D.id (record {
@@ -84,6 +92,7 @@ impl<D: DeskNames, A: Allocator> Model for Kept<D, A> {
       clock_given = k.clock_given;
       records = k.records.items;
       handed = k.records.handed;
+      keys = book_of k.keys;
     }) };
 }
 
@@ -117,11 +126,11 @@ pub(crate) enum Missing {
 pub(crate) type Admission<D> = (Shard<NumberOf<D>>, Shard<ReceivedBy<D>>);
 
 impl<D: DeskNames, A: Allocator + Copy> Kept<D, A> {
-    ghost use Rattle.apply_lanes.specs.Kepts.{KeptValue, IsKept, IsInBalance, raised};
+    ghost use Rattle.apply_lanes.specs.Kepts.{KeptValue, IsKept, IsInBalance, book_of, raised};
     ghost use Rattle.apply_lanes.specs.Stops.{missing_of};
 
-    /// A new desk, with no seat given out.
-    pub(crate) fn open(desk: Desk<A>, blanks: Blanks) -> Kept<D, A>
+    /// A new desk, with no seat given out. Without keys it takes none.
+    pub(crate) fn open(desk: Desk<A>, blanks: Blanks, keys: Option<KeyBook<A>>) -> Kept<D, A>
         requires id { D.id ≡ id_of desk blanks }
         requires blanks { AreBlank blanks }
         requires unused { IsUnused desk }
@@ -130,6 +139,7 @@ impl<D: DeskNames, A: Allocator + Copy> Kept<D, A> {
         ensures clock { result.clock_given ≡ false }
         ensures appliers { result.number.left ≡ APPLIERS }
         ensures records { (result.records ≡ []) × (result.handed ≡ []) }
+        ensures keys { result.keys ≡ book_of keys }
     {
         // For the proof: what a desk with an empty log issued, spent and received.
         let _ = (desk.site(), desk.sites());
@@ -149,6 +159,7 @@ impl<D: DeskNames, A: Allocator + Copy> Kept<D, A> {
             admitted: [false; 16],
             clock_given: false,
             records: Recorder::new(),
+            keys,
         }
     }
 
@@ -193,33 +204,46 @@ impl<D: DeskNames, A: Allocator + Copy> Kept<D, A> {
     /// wait.
     pub fn keep_journal(&mut self, alloc: Global, batch: Batch, made: u64)
         requires { records_in batch ≡ [] }
-        ensures { self.new ≡ record self.old { handed = self.old.records } }
+        ensures handed { self.new ≡ record self.old { handed = self.old.records; keys = self.new.keys } }
+        ensures keys { IsJournaled self.old.keys self.new.keys }
     {
         self.records.keep(alloc, batch, made);
+        if let Some(book) = &mut self.keys {
+            book.keep_journal();
+        }
     }
 
-    /// Hands over the lines of the records that wait for the journal, for an empty batch. `None` without a journal.
-    /// `RecordLost` once a record is missing there.
+    /// Hands over the lines of the records that wait for the journal, and behind them those of keys, for an empty batch.
+    /// `None` without a journal. `RecordLost` once a record is missing there.
     pub fn hand_over(&mut self, empty: Batch) -> Result<Option<Batch>, RecordLost>
         requires { records_in empty ≡ [] }
         ensures some { IfOk result (λ found. IfSome found (λ batch.
-            IsWaiting self.old.handed self.old.records (records_in batch)
-            × (self.new ≡ record self.old { handed = self.old.records }))) }
-        ensures rest { self.new ≡ record self.old { handed = self.new.handed } }
+            IsHanded self.old.handed self.old.records self.old.keys.unrecorded (records_in batch)
+            × (self.new ≡ record self.old { handed = self.old.records; keys = all_recorded self.old.keys self.new.keys.room }))) }
         ensures none { result ≡ Ok None → self.new ≡ self.old }
         ensures err { OnErr result (self.new ≡ self.old) }
     {
-        self.records.hand_over(empty)
+        let batch = self.records.hand_over(unrecorded(&self.keys), empty)?;
+        if let Some(book) = &mut self.keys
+            && batch.is_some()
+        {
+            book.clear_unrecorded();
+        }
+        Ok(batch)
     }
 
     /// How many records were made for the journal in all.
     pub fn records_made(&self) -> u64 {
-        self.records.made()
+        let keys = unrecorded(&self.keys).len();
+        self.records.made().saturating_add(keys as u64)
     }
 
-    /// How many bytes wait for the journal.
+    /// How many bytes wait for the journal, at most.
     pub fn bytes_waiting(&self) -> usize {
-        self.records.waiting()
+        let keys = unrecorded(&self.keys).len();
+        self.records
+            .waiting()
+            .saturating_add(keys.saturating_mul(MAX_KEY_RECORD))
     }
 
     /// A new seat. `SeatsFull` if none is left besides the clock's.

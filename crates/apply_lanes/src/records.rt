@@ -7,7 +7,7 @@ use std::marker::{Model, PhantomData};
 
 mod noted;
 
-pub(crate) use noted::{Again, Answered, Noted, Nothing, Planned, asked_sites};
+pub(crate) use noted::{Again, Answered, Noted, Nothing, Planned, asked_sites, put_line};
 
 /// A list for proofs only: it has no bytes, and its methods do nothing when they run.
 #[derive(Drop)]

@@ -10,6 +10,7 @@ use crate::gate::Gate;
 use crate::kept::{AdmitError, Kept};
 use crate::names::{Blanks, DeskNames};
 use crate::seat::{Seat, SeatsFull};
+use command_keys::KeyBook;
 use rights_types::SiteId;
 use site_core::Desk;
 use std::alloc::{Allocator, Global};
@@ -30,8 +31,17 @@ impl<D: DeskNames, A: Allocator + Copy> SharedDesk<D, A> {
         requires blanks { AreBlank blanks }
         requires unused { IsUnused desk }
     {
+        SharedDesk::with_keys(desk, blanks, None)
+    }
+
+    /// The same with keys of commands, of which none wrote an entry yet.
+    pub fn with_keys(desk: Desk<A>, blanks: Blanks, keys: Option<KeyBook<A>>) -> SharedDesk<D, A>
+        requires id { D.id ≡ id_of desk blanks }
+        requires blanks { AreBlank blanks }
+        requires unused { IsUnused desk }
+    {
         SharedDesk {
-            lock: Mutex::new(Kept::open(desk, blanks)),
+            lock: Mutex::new(Kept::open(desk, blanks, keys)),
         }
     }
 

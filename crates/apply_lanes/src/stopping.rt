@@ -151,6 +151,7 @@ fn reconcile<D: DeskNames, A: Allocator + Copy>(
         admitted: _,
         clock_given: _,
         records: _,
+        keys: _,
     } = kept;
     let (told_issued, told_spent, told_served) = reconcile_seats(issued, spent, seats);
     let applied = reconcile_applied(number, received, applied);

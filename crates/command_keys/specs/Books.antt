@@ -4,14 +4,14 @@ use Rattle.command_keys.specs.Keys.{KeysValue, Serves, key_of}
 
 -- The keys; whether a journal is kept; the keys that are not in it yet, in order, each with the number of its entry; and
 -- for how many more of these there is memory.
-pub record BookValue : Type 0 where
+pub record KeyBookValue : Type 0 where
   pub keys : KeysValue
   pub is_recorded : Bool
   pub unrecorded : List (List ℕ × ℕ)
   pub room : ℕ
 
 -- there is memory for one more key, and for its record
-pub record HasRoom (b : BookValue) : Type 0 where
+pub record HasRoom (b : KeyBookValue) : Type 0 where
   pub keys : 1 ≤ b.keys.room
   pub record_ : 1 ≤ b.room
 
@@ -20,16 +20,16 @@ abbrev pub record_if : Bool → List (List ℕ × ℕ) → List ℕ → ℕ → 
 record_if true unrecorded key number = unrecorded ++ (key, number) ∷ []
 record_if false unrecorded key number = unrecorded
 
-abbrev pub with_record : BookValue → List ℕ → ℕ → List (List ℕ × ℕ)
+abbrev pub with_record : KeyBookValue → List ℕ → ℕ → List (List ℕ × ℕ)
 with_record b key number = record_if b.is_recorded b.unrecorded key number
 
 -- the waiting spend of this key was served by the entry of this number
-pub record ServesOne (old : BookValue) (ticket number : ℕ) (key : List ℕ) (new : BookValue) : Type 0 where
+pub record ServesOne (old : KeyBookValue) (ticket number : ℕ) (key : List ℕ) (new : KeyBookValue) : Type 0 where
   pub keys : Serves old.keys ticket number new.keys
   pub unrecorded : new.unrecorded ≡ with_record old key number
   pub is_recorded : new.is_recorded ≡ old.is_recorded
 
 -- the waiting spend with this ticket was, if it has a key
-abbrev pub ServesKey : BookValue → ℕ → ℕ → BookValue → Type 0
+abbrev pub ServesKey : KeyBookValue → ℕ → ℕ → KeyBookValue → Type 0
 ServesKey old ticket number new =
     MatchOption (key_of ticket old.keys.waiting) (new ≡ old) (λ key. ServesOne old ticket number key new)

@@ -23,9 +23,9 @@ pub struct KeyBook<A: Allocator = Global> {
 impl<A: Allocator> Model for KeyBook<A> {
     ghost use Rattle.std.specs.Prelude.{◌-◌, ◌+◌, ◌≤◌, length};
     ghost use Rattle.std.specs.Vec.{vec_capacity};
-    ghost use Rattle.command_keys.specs.Books.{BookValue};
+    ghost use Rattle.command_keys.specs.Books.{KeyBookValue};
 
-    ghost Value = { BookValue };
+    ghost Value = { KeyBookValue };
 
     ghost view = { λ b. record {
       keys = b.keys;
