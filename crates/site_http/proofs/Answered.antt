@@ -3,7 +3,7 @@ use Rattle.std.proofs.Common.{◌≡◌, ◌≢◌, ℕ, ◌<◌, List, [], ◌�
 use Rattle.std.proofs.Common.{length-append, take_at}
 use Rattle.std.proofs.lemmas.Grind.{flat_map-append}
 use Rattle.refusals.specs.Refusals.{LineAnswer}
-use Rattle.site_http.specs.Replying.{Answering, AnswersEach, RepliesToOne, WithinLimit, bad_command, but_last, text_of}
+use Rattle.site_http.specs.Replying.{Answering, AnswersEach, RepliesToOne, WithinLimit, but_last, text_of}
 use Rattle.site_http.specs.Replying.{status_of_all}
 use Rattle.site_http.specs.declared.replying.TheConstants.{MAX_REPLIES}
 
@@ -43,9 +43,9 @@ module _ {S : Type 0} (answers : Answering S) where
   status_of_many old new (line ∷ []) given other p = absurd (other refl)
   status_of_many old new (line ∷ next ∷ lines) given other p = rw (p.5, p.4.5) refl
 
-  -- if the client waits, no line or several are refused
-  pub refused_many : (old : S) (lines : List (List ℕ)) → length lines ≢ 1
-      → RepliesToOne answers old lines 400 (bad_command ∷ []) old
-  refused_many old [] other = (refl, refl, refl)
-  refused_many old (line ∷ []) other = absurd (other refl)
-  refused_many old (line ∷ next ∷ lines) other = (refl, refl, refl)
+  -- if there must be one line, none or several are refused
+  pub refused_many : (refusal : LineAnswer) (old : S) (lines : List (List ℕ)) → length lines ≢ 1
+      → RepliesToOne answers refusal old lines 400 (refusal ∷ []) old
+  refused_many refusal old [] other = (refl, refl, refl)
+  refused_many refusal old (line ∷ []) other = absurd (other refl)
+  refused_many refusal old (line ∷ next ∷ lines) other = (refl, refl, refl)

@@ -31,7 +31,7 @@ written_part held new text (Ok done) whole front = (text, whole, [], append-nil 
 written_part held new text (Err error) whole front =
     (take front.0 text, front.2, drop front.0 text, take-append-drop front.0 text)
 
-module _ {S : Type 0} (answers : Bool → Answering S) (status queue metrics : S → List ℕ → Type 0)
+module _ {S : Type 0} (answers : Option (List ℕ) → Bool → Answering S) (status queue metrics : S → List ℕ → Type 0)
     (closed : S → Bool → Type 0) where
   -- the names stay the same
   calls_of_client : (old : Named S) (calls : List Call) (new : Named S)

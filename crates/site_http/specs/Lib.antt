@@ -1,3 +1,4 @@
+pub mod Keys
 pub mod Replying
 pub mod Hosts
 pub mod Routing

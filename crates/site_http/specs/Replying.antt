@@ -1,13 +1,15 @@
 -- The replies to the lines of a body.
 use Rattle.std.specs.Prelude.{◌≡◌, ℕ, ◌-◌, ◌<◌, ◌≤◌, ◌⊎◌, Bool, true, false, List, [], ◌∷◌, ◌++◌, length, take}
-use Rattle.std.specs.Prelude.{flat_map}
+use Rattle.std.specs.Prelude.{flat_map, Option, Some, None}
 use Rattle.bytes.specs.Filled.{Filled}
 use Rattle.refusals.specs.Refusals.{LineAnswer, refusal_text}
 use Rattle.refusals.specs.declared.refusal.Refusal.{Refusal}
-use Rattle.refusals.specs.declared.refusal.Refusal.TheVariants.{BadCommand, OutOfMemory}
+use Rattle.refusals.specs.declared.refusal.Refusal.TheVariants.{BadCommand, BadKey, OutOfMemory}
 use Rattle.refusals.specs.declared.answered.Answered.{Answered}
 use Rattle.refusals.specs.declared.answered.Answered.TheVariants.{Done, Refused}
 use Rattle.line_streams.specs.Waiting.{Waiting}
+use Rattle.site_http.specs.declared.request_key.RequestKey.{RequestKey}
+use Rattle.site_http.specs.declared.request_key.RequestKey.TheVariants.{Absent, Bad, Given}
 use Rattle.site_http.specs.declared.replying.TheConstants.{LAST_ROOM, MAX_REPLIES}
 
 -- in the first state, this line with its line feed gets this answer, and leads to the second state
@@ -22,6 +24,10 @@ refused why = record { text = refusal_text why; how = Refused why }
 abbrev pub bad_command : LineAnswer
 bad_command = refused BadCommand
 
+-- the answer to a bad key, and to a key whose body has other than one line
+abbrev pub bad_key : LineAnswer
+bad_key = refused BadKey
+
 -- the answer to a command that was not carried out for lack of memory
 abbrev pub no_memory : LineAnswer
 no_memory = refused OutOfMemory
@@ -30,6 +36,7 @@ no_memory = refused OutOfMemory
 abbrev pub status_of : Answered → ℕ
 status_of Done = 200
 status_of (Refused BadCommand) = 400
+status_of (Refused BadKey) = 400
 status_of (Refused OutOfMemory) = 503
 status_of (Refused why) = 409
 
@@ -49,6 +56,10 @@ but_last answers = take (length answers - 1) answers
 -- each line began below the limit: the replies before the last one have fewer bytes
 abbrev pub WithinLimit : List LineAnswer → Type 0
 WithinLimit answers = length (text_of (but_last answers)) < MAX_REPLIES
+
+-- nothing of a body is carried out, and this answer says why
+abbrev pub RefusesBody : {S : Type 0} → LineAnswer → S → ℕ → List LineAnswer → S → Type 0
+RefusesBody answer old code given new = (code ≡ 400) × (given ≡ answer ∷ []) × (new ≡ old)
 
 module _ {S : Type 0} (answers : Answering S) where
   -- each line got its answer, in order
@@ -85,16 +96,22 @@ module _ {S : Type 0} (answers : Answering S) where
   abbrev pub RepliesTo : S → List (List ℕ) → ℕ → List LineAnswer → S → Type 0
   RepliesTo old lines code given new = AnswersAll old lines code given new ⊎ StopsAt old lines code given new
 
-  -- the same for a body that must have exactly one line
-  abbrev pub RepliesToOne : S → List (List ℕ) → ℕ → List LineAnswer → S → Type 0
-  RepliesToOne old (line ∷ []) code given new = RepliesTo old (line ∷ []) code given new
-  RepliesToOne old lines code given new = (code ≡ 400) × (given ≡ bad_command ∷ []) × (new ≡ old)
+  -- the same for a body that must have exactly one line: any other is refused by this answer
+  abbrev pub RepliesToOne : LineAnswer → S → List (List ℕ) → ℕ → List LineAnswer → S → Type 0
+  RepliesToOne refusal old (line ∷ []) code given new = RepliesTo old (line ∷ []) code given new
+  RepliesToOne refusal old lines code given new = RefusesBody refusal old code given new
 
--- the response to the lines of a body, by whether its client waits for the outcome: if it does, there must be exactly one
-abbrev pub RepliesToBody : {S : Type 0} → (Bool → Answering S) → Bool → S → List (List ℕ) → ℕ
-    → List LineAnswer → S → Type 0
-RepliesToBody answers false = RepliesTo (answers false)
-RepliesToBody answers true = RepliesToOne (answers true)
+-- the response to the lines of a body, by what its request says of a key, and by whether its client waits for the
+-- outcome. A bad key is refused whatever the lines are; with a key, or if the client waits, there must be exactly one
+-- line, and a key is refused first
+abbrev pub RepliesToBody : {S : Type 0} → (Option (List ℕ) → Bool → Answering S) → RequestKey → Bool
+    → S → List (List ℕ) → ℕ → List LineAnswer → S → Type 0
+RepliesToBody answers Bad waits old lines code given new = RefusesBody bad_key old code given new
+RepliesToBody answers (Given key) waits old lines code given new =
+    RepliesToOne (answers (Some key) waits) bad_key old lines code given new
+RepliesToBody answers Absent true old lines code given new =
+    RepliesToOne (answers None true) bad_command old lines code given new
+RepliesToBody answers Absent false old lines code given new = RepliesTo (answers None false) old lines code given new
 
 -- the reply was appended, as the whole replies have it, and there is memory for one more
 pub record IsPut (reply : List ℕ) (replies : Waiting) (old new : Filled) : Type 0 where

@@ -1,5 +1,5 @@
 -- The responses to requests.
-use Rattle.std.specs.Prelude.{◌≡◌, ℕ, Bool, true, false, List, [], ◌∷◌, ◌++◌, codes}
+use Rattle.std.specs.Prelude.{◌≡◌, ℕ, Bool, true, false, List, [], ◌∷◌, ◌++◌, Option, codes}
 use Rattle.http.specs.declared.request.Request.{Request}
 use Rattle.http.specs.Request.{body_of}
 use Rattle.http1.specs.Fields.{Header}
@@ -13,6 +13,8 @@ use Rattle.site_http.specs.declared.route.Allowed.TheVariants as Only
 use Rattle.site_http.specs.declared.route.Route.{Route}
 use Rattle.site_http.specs.declared.route.Route.TheVariants.{Commands, Wait, Status, Queue, Metrics, Health, Page}
 use Rattle.site_http.specs.declared.route.Route.TheVariants.{Foreign, Misdirected, NotAllowed, NotFound}
+use Rattle.site_http.specs.declared.request_key.RequestKey.{RequestKey}
+use Rattle.site_http.specs.Keys.{key_of}
 use Rattle.site_http.specs.Replying.{Answering, RepliesToBody, text_of}
 use Rattle.site_http.specs.Routing.{Leads}
 
@@ -63,7 +65,7 @@ module _ {S : Type 0} where
   TellsLine says content_type old r = (text : List ℕ) × says old text
       × IsResponse 200 (headers_for content_type) (text ++ 10 ∷ []) r
 
-module _ {S : Type 0} (answers : Bool → Answering S) (status queue metrics : S → List ℕ → Type 0)
+module _ {S : Type 0} (answers : Option (List ℕ) → Bool → Answering S) (status queue metrics : S → List ℕ → Type 0)
     (closed : S → Bool → Type 0) where
   -- the response to a request that changes nothing
   abbrev pub Shows : S → Route → Response → Type 0
@@ -79,17 +81,18 @@ module _ {S : Type 0} (answers : Bool → Answering S) (status queue metrics : S
   Shows old NotFound r = IsResponse 404 plain (codes "error Target" ++ 10 ∷ []) r
   Shows old route r = ⊥
 
-  -- in the first state, a request with this route and body gets this response and leads to the second state
-  abbrev pub RespondsBy : S → Route → List ℕ → Response → S → Type 0
-  RespondsBy old Commands body r new = IsReplied (RepliesToBody answers false) old body r new
-  RespondsBy old Wait body r new = IsReplied (RepliesToBody answers true) old body r new
-  RespondsBy old route body r new = Shows old route r × (new ≡ old)
+  -- in the first state, a request with this route and body, which says this of a key, gets this response and leads to
+  -- the second state; only for commands the key counts
+  abbrev pub RespondsBy : S → Route → RequestKey → List ℕ → Response → S → Type 0
+  RespondsBy old Commands key body r new = IsReplied (RepliesToBody answers key false) old body r new
+  RespondsBy old Wait key body r new = IsReplied (RepliesToBody answers key true) old body r new
+  RespondsBy old route key body r new = Shows old route r × (new ≡ old)
 
   -- in the first state, the request gets this response and leads to the second state, at a site whose host has these
   -- names
   abbrev pub Responds : List (List ℕ) → S → Request (List ℕ) → Response → S → Type 0
   Responds names old request r new =
-      (route : Route) × Leads names request route × RespondsBy old route (body_of request) r new
+      (route : Route) × Leads names request route × RespondsBy old route (key_of request) (body_of request) r new
 
   -- the same for a service that has these names
   abbrev pub Serves : Named S → Request (List ℕ) → Response → Named S → Type 0

@@ -1,9 +1,10 @@
 //! The client of a connection's requests.
-ghost use Rattle.std.specs.Prelude.{◌≡◌, ℕ, ◌≤◌, ◌⊎◌, Bool, List, ◌++◌, length, IfOk, OnOk, OnErr};
+ghost use Rattle.std.specs.Prelude.{◌≡◌, ℕ, ◌≤◌, ◌⊎◌, Bool, List, Option, ◌++◌, length, IfOk, OnOk, OnErr};
 ghost use Rattle.line_streams.specs.Handling.{IsGiven};
 ghost use Rattle.line_streams.specs.Waiting.{IsEmpty, AddsReply};
 ghost use Rattle.refusals.specs.Refusals.{LineAnswer};
 
+use command_keys::Key;
 use line_streams::Replies;
 use refusals::Answered;
 use rights_types::OutOfMemory;
@@ -16,9 +17,9 @@ pub const LONGEST_REPLY: usize = 128;
 ///
 /// A call that returns `OutOfMemory` has changed nothing.
 pub trait Backend {
-    // By whether the client waits for the outcome of the command: in the first state, this line with its line feed
-    // gets this answer, and leads to the second state.
-    ghost answers: { Bool → Self → List ℕ → LineAnswer → Self → Type 0 };
+    // By the key of the command, if it has one, and by whether the client waits for its outcome: in the first state,
+    // this line with its line feed gets this answer, and leads to the second state.
+    ghost answers: { Option (List ℕ) → Bool → Self → List ℕ → LineAnswer → Self → Type 0 };
 
     // The text is the site's status object.
     ghost status: { Self → List ℕ → Type 0 };
@@ -33,18 +34,19 @@ pub trait Backend {
     ghost closed: { Self → Bool → Type 0 };
 
     /// Answers a line like one on standard input, except that no line ends a connection: `quit` is `error BadCommand`.
-    /// If the client waits, the reply to a spend is its outcome, for which this call waits, and not `queued T`. The
-    /// line is given without its line feed; `None` stands for a line of more than `MAX_LINE` bytes. The reply and a
-    /// line feed are appended to the whole replies.
+    /// With a key, the line is the command of this key. If the client waits, the reply to a spend is its outcome, for
+    /// which this call waits, and not `queued T`. The line is given without its line feed; `None` stands for a line of
+    /// more than `MAX_LINE` bytes. The reply and a line feed are appended to the whole replies.
     fn reply(
         &mut self,
+        key: Option<Key>,
         waits: bool,
         text: Option<&[u8]>,
         replies: &mut Replies<Global>,
     ) -> Result<Answered, OutOfMemory>
         requires { IsEmpty replies.old }
         ensures ok { IfOk result (λ how. (line : List ℕ) → IsGiven line text.entry
-            → (text : List ℕ) × answers waits self.old line (record { text = text; how = how }) self.new
+            → (text : List ℕ) × answers key waits self.old line (record { text = text; how = how }) self.new
             × AddsReply replies.old replies.new text) }
         // So memory for it can be reserved before a command is carried out.
         ensures short { OnOk result ((length replies.new.whole ≤ LONGEST_REPLY) ⊎ (self.new ≡ self.old)) }

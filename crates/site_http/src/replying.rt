@@ -1,14 +1,16 @@
 //! The replies to the lines of a body. No command is carried out whose reply finds no memory.
 ghost use Rattle.std.specs.Prelude.{◌≡◌, ◌≢◌, ℕ, ◌+◌, ◌<◌, ◌≤◌, false, List, [], ◌∷◌, ◌++◌, length, nat_le, IsOk, IfOk};
-ghost use Rattle.std.specs.Prelude.{OnOk, OnErr};
+ghost use Rattle.std.specs.Prelude.{Option, Some, None, OnOk, OnErr};
 ghost use Rattle.line_streams.specs.Talk.{lines_of};
 ghost use Rattle.refusals.specs.Refusals.{LineAnswer, refusal_text};
-ghost use Rattle.site_http.specs.Replying.{bad_command, no_memory, status_of, text_of, AnswersEach, AnswersSome};
-ghost use Rattle.site_http.specs.Replying.{RepliesTo, RepliesToBody, IsPut, KeepsRoom, WithinLimit};
+ghost use Rattle.site_http.specs.Replying.{bad_command, bad_key, no_memory, status_of, text_of, AnswersEach};
+ghost use Rattle.site_http.specs.Replying.{AnswersSome, RepliesTo, RepliesToBody, RepliesToOne, IsPut, KeepsRoom, WithinLimit};
 
 use crate::backend::{Backend, LONGEST_REPLY};
 use crate::lines::{only_line, split_line, within_limit};
+use crate::request_key::RequestKey;
 use bytes::BufMut;
+use command_keys::Key;
 use http::StatusCode;
 use http_server::Rope;
 use line_streams::Replies;
@@ -24,9 +26,31 @@ pub(crate) const LAST_ROOM: usize = 18;
 /// has fewer.
 pub const MAX_REPLIES: usize = 20_000_000;
 
-/// Answers the lines of a body, and returns the status of the response. If the client waits for the outcome, the body
-/// must have exactly one line.
+/// Answers the lines of a body, and returns the status of the response. With a key, or if the client waits for the
+/// outcome, the body must have exactly one line.
 pub(crate) fn answer_body<C: Backend>(
+    client: &mut C,
+    key: RequestKey,
+    waits: bool,
+    body: &[u8],
+    replies: &mut Replies<Global>,
+    out: &mut Rope,
+) -> StatusCode
+    requires fresh { out.old.items ≡ [] }
+    requires room { LAST_ROOM ≤ out.old.spare }
+    ensures { (told : List LineAnswer)
+        × RepliesToBody C.answers key waits client.old (lines_of body.now) result told client.new
+        × (out.new.items ≡ text_of told) }
+{
+    match key {
+        RequestKey::Absent => answer_unkeyed(client, waits, body, replies, out),
+        RequestKey::Bad => refuse(out, Refusal::BadKey),
+        RequestKey::Given(key) => answer_keyed(client, key, waits, body, replies, out),
+    }
+}
+
+/// Answers the lines of a body that has no key.
+fn answer_unkeyed<C: Backend>(
     client: &mut C,
     waits: bool,
     body: &[u8],
@@ -36,14 +60,14 @@ pub(crate) fn answer_body<C: Backend>(
     requires fresh { out.old.items ≡ [] }
     requires room { LAST_ROOM ≤ out.old.spare }
     ensures { (told : List LineAnswer)
-        × RepliesToBody C.answers waits client.old (lines_of body.now) result told client.new
+        × RepliesToBody C.answers RequestKey.Absent waits client.old (lines_of body.now) result told client.new
         × (out.new.items ≡ text_of told) }
 {
     match only_line(body) {
-        Some(text) => answer_one(client, waits, text, replies, out),
+        Some(text) => answer_one(client, None, waits, text, replies, out),
         None => {
             if waits {
-                refuse(out)
+                refuse(out, Refusal::BadCommand)
             } else {
                 answer_many(client, body, replies, out)
             }
@@ -51,9 +75,31 @@ pub(crate) fn answer_body<C: Backend>(
     }
 }
 
+/// Answers the line of a body under this key. A body of several lines, or of none, is refused.
+fn answer_keyed<C: Backend>(
+    client: &mut C,
+    key: Key,
+    waits: bool,
+    body: &[u8],
+    replies: &mut Replies<Global>,
+    out: &mut Rope,
+) -> StatusCode
+    requires fresh { out.old.items ≡ [] }
+    requires room { LAST_ROOM ≤ out.old.spare }
+    ensures { (told : List LineAnswer)
+        × RepliesToOne (C.answers (Some key) waits) bad_key client.old (lines_of body.now) result told client.new
+        × (out.new.items ≡ text_of told) }
+{
+    match only_line(body) {
+        Some(text) => answer_one(client, Some(key), waits, text, replies, out),
+        None => refuse(out, Refusal::BadKey),
+    }
+}
+
 /// Answers the line of a body that has only one.
 fn answer_one<C: Backend>(
     client: &mut C,
+    key: Option<Key>,
     waits: bool,
     text: &[u8],
     replies: &mut Replies<Global>,
@@ -62,10 +108,10 @@ fn answer_one<C: Backend>(
     requires fresh { out.old.items ≡ [] }
     requires room { LAST_ROOM ≤ out.old.spare }
     ensures { (told : List LineAnswer)
-        × RepliesTo (C.answers waits) client.old ((text.now ++ 10 ∷ []) ∷ []) result told client.new
+        × RepliesTo (C.answers key waits) client.old ((text.now ++ 10 ∷ []) ∷ []) result told client.new
         × (out.new.items ≡ text_of told) }
 {
-    match answer_line(client, waits, text, replies, out) {
+    match answer_line(client, key, waits, text, replies, out) {
         Ok(answered) => status_of(answered),
         Err(OutOfMemory) => stop(out),
     }
@@ -81,7 +127,7 @@ fn answer_many<C: Backend>(
     requires fresh { out.old.items ≡ [] }
     requires room { LAST_ROOM ≤ out.old.spare }
     requires other { length (lines_of body.now) ≢ 1 }
-    ensures { (told : List LineAnswer) × RepliesTo (C.answers false) client.old (lines_of body.now) result told client.new
+    ensures { (told : List LineAnswer) × RepliesTo (C.answers None false) client.old (lines_of body.now) result told client.new
         × (out.new.items ≡ text_of told) }
 {
     match answer_lines(client, body, replies, out) {
@@ -100,10 +146,10 @@ fn answer_lines<C: Backend>(
     requires fresh { out.old.items ≡ [] }
     requires room { LAST_ROOM ≤ out.old.spare }
     ensures ok { OnOk result ((given : List LineAnswer)
-        × AnswersEach (C.answers false) client.old (lines_of body.now) given client.new × WithinLimit given
+        × AnswersEach (C.answers None false) client.old (lines_of body.now) given client.new × WithinLimit given
         × (out.new.items ≡ text_of given)) }
     ensures err { OnErr result ((given : List LineAnswer)
-        × AnswersSome (C.answers false) client.old (lines_of body.now) given client.new
+        × AnswersSome (C.answers None false) client.old (lines_of body.now) given client.new
         × (out.new.items ≡ text_of given)) }
     ensures room { LAST_ROOM ≤ out.new.spare }
 {
@@ -112,7 +158,7 @@ fn answer_lines<C: Backend>(
         if is_full(out) {
             return Err(OutOfMemory);
         }
-        answer_line(client, false, text, replies, out)?;
+        answer_line(client, None, false, text, replies, out)?;
         lines = more;
     }
     Ok(())
@@ -128,13 +174,14 @@ fn is_full(out: &Rope) -> bool
 /// Answers a line, or does nothing. Afterwards there is memory for one more reply.
 fn answer_line<C: Backend>(
     client: &mut C,
+    key: Option<Key>,
     waits: bool,
     text: &[u8],
     replies: &mut Replies<Global>,
     out: &mut Rope,
 ) -> Result<Answered, OutOfMemory>
     ensures ok { IfOk result (λ how. (reply : List ℕ)
-        × C.answers waits client.old (text.now ++ 10 ∷ []) (record { text = reply; how = how }) client.new
+        × C.answers key waits client.old (text.now ++ 10 ∷ []) (record { text = reply; how = how }) client.new
         × IsPut reply replies.new out.old out.new) }
     ensures err { OnErr result ((client.new ≡ client.old) × KeepsRoom out.old out.new) }
 {
@@ -143,7 +190,7 @@ fn answer_line<C: Backend>(
     }
     replies.clear();
     out.reserve(LONGEST_REPLY + LAST_ROOM)?;
-    let answered = client.reply(waits, within_limit(text), replies)?;
+    let answered = client.reply(key, waits, within_limit(text), replies)?;
     put_reply(replies, out)?;
     Ok(answered)
 }
@@ -167,6 +214,7 @@ fn status_of(answered: Answered) -> StatusCode
     match answered {
         Answered::Done => StatusCode::OK,
         Answered::Refused(Refusal::BadCommand) => StatusCode::BAD_REQUEST,
+        Answered::Refused(Refusal::BadKey) => StatusCode::BAD_REQUEST,
         Answered::Refused(Refusal::OutOfMemory) => StatusCode::SERVICE_UNAVAILABLE,
         Answered::Refused(_) => StatusCode::CONFLICT,
     }
@@ -182,13 +230,13 @@ fn stop(out: &mut Rope) -> StatusCode
     StatusCode::SERVICE_UNAVAILABLE
 }
 
-/// Replies that a body is not a command.
-fn refuse(out: &mut Rope) -> StatusCode
-    requires { LAST_ROOM ≤ out.old.spare }
-    ensures text { out.new.items ≡ out.old.items ++ (bad_command.text ++ 10 ∷ []) }
+/// Replies that a body is not carried out.
+fn refuse(out: &mut Rope, why: Refusal) -> StatusCode
+    requires { length (refusal_text why) < out.old.spare }
+    ensures text { out.new.items ≡ out.old.items ++ (refusal_text why ++ 10 ∷ []) }
     ensures status { result ≡ 400 }
 {
-    put_refusal(out, Refusal::BadCommand);
+    put_refusal(out, why);
     StatusCode::BAD_REQUEST
 }
 

@@ -1,7 +1,9 @@
 //! The responses to requests.
 ghost use Rattle.std.specs.Prelude.{◌≡◌, ◌≤◌, ℕ, Bool, List, [], ◌∷◌, ◌++◌, codes, map, OnOk, OnErr};
 ghost use Rattle.std.specs.String.{string_bytes};
+ghost use Rattle.http.specs.Request.{body_of};
 ghost use Rattle.http_server.specs.Response.{IsBlank, IsResponse, fields_of};
+ghost use Rattle.site_http.specs.Keys.{key_of};
 ghost use Rattle.site_http.specs.Replying.{RepliesToBody};
 ghost use Rattle.site_http.specs.declared.page.TheConstants.{PAGE};
 ghost use Rattle.site_http.specs.Responding.{headers_for, plain, methods_of, IsHealth, IsReplied, Tells, TellsLine};
@@ -10,6 +12,7 @@ ghost use Rattle.site_http.specs.Responding.{Responds};
 use crate::backend::{Backend, LONGEST_REPLY};
 use crate::page::page;
 use crate::replying::{LAST_ROOM, answer_body};
+use crate::request_key::key_of;
 use crate::route::{Allowed, Route, route_of};
 use bytes::{BufMut, Bytes};
 use http::{HeaderValue, Request, StatusCode, header};
@@ -30,10 +33,9 @@ pub(crate) fn respond<C: Backend>(
         request.now response.new client.new) }
     ensures err { OnErr result (client.new ≡ client.old) }
 {
-    let body = request.body().as_slice();
     match route_of(names, request) {
-        Route::Commands => reply_to_lines(client, false, replies, body, response),
-        Route::Wait => reply_to_lines(client, true, replies, body, response),
+        Route::Commands => reply_to_lines(client, false, replies, request, response),
+        Route::Wait => reply_to_lines(client, true, replies, request, response),
         Route::Status => tell_status(client, replies, response),
         Route::Queue => tell_queue(client, replies, response),
         Route::Metrics => tell_metrics(client, replies, response),
@@ -46,19 +48,23 @@ pub(crate) fn respond<C: Backend>(
     }
 }
 
+/// Responds with the replies to the lines of the body.
 fn reply_to_lines<C: Backend>(
     client: &mut C,
     waits: bool,
     replies: &mut Replies<Global>,
-    body: &[u8],
+    request: &Request<Bytes>,
     response: &mut Response,
 ) -> Result<(), AllocError>
     requires { IsBlank response.old }
-    ensures ok { OnOk result (IsReplied (RepliesToBody C.answers waits) client.old body.now response.new client.new) }
+    ensures ok { OnOk result (IsReplied (RepliesToBody C.answers (key_of request.now) waits) client.old (body_of request.now)
+        response.new client.new) }
     ensures err { OnErr result (client.new ≡ client.old) }
 {
     begin_reply(response)?;
-    response.status = answer_body(client, waits, body, replies, &mut response.body);
+    let key = key_of(request);
+    let body = request.body().as_slice();
+    response.status = answer_body(client, key, waits, body, replies, &mut response.body);
     Ok(())
 }
 

@@ -2,6 +2,7 @@
 mod counter;
 mod exchanges;
 mod hosts;
+mod keys;
 mod limits;
 mod memory;
 mod talk;

@@ -3,14 +3,16 @@ ghost use Rattle.std.specs.Prelude.{◌≡◌, ◌+◌, ◌≤◌, ◌⊎◌, �
 ghost use Rattle.line_streams.specs.Waiting.{IsEmpty, AddsReply};
 ghost use Rattle.site_http.specs.declared.backend.TheConstants.{LONGEST_REPLY};
 
+use command_keys::Key;
 use line_streams::Replies;
 use refusals::{Answered, Refusal};
 use rights_types::OutOfMemory;
 use site_http::Backend;
 use std::alloc::Global;
 
-/// Carries out each line, and replies how many it had carried out before. It refuses a line that is too long, or that
-/// begins with `error`, tells a long text for the line `tell`, and for the line `lie` the text of a refusal.
+/// Carries out each line, and replies how many it had carried out before, and which key the line has. It refuses a line
+/// that is too long, or that begins with `error`, tells a long text for the line `tell`, and for the line `lie` the text
+/// of a refusal.
 #[derive(Drop)]
 pub struct Counter {
     pub count: u8,
@@ -33,6 +35,7 @@ impl Counter {
 
     fn answer(
         &mut self,
+        key: Option<Key>,
         text: Option<&[u8]>,
         word: &[u8],
         replies: &mut Replies<Global>,
@@ -62,7 +65,7 @@ impl Counter {
         if text == b"tell".as_slice() {
             return say(replies, LONG.as_bytes(), Answered::Done);
         }
-        put_counted(replies, word, self.count)?;
+        put_counted(replies, word, self.count, key)?;
         self.count += 1;
         Ok(Answered::Done)
     }
@@ -76,6 +79,8 @@ pub const LONG: &str =
 fn refusal_in(text: &[u8]) -> Refusal {
     if text == b"error BadCommand".as_slice() {
         Refusal::BadCommand
+    } else if text == b"error BadKey".as_slice() {
+        Refusal::BadKey
     } else if text == b"error OutOfMemory".as_slice() {
         Refusal::OutOfMemory
     } else {
@@ -103,18 +108,36 @@ fn put_line(replies: &mut Replies<Global>, text: &[u8]) -> Result<(), OutOfMemor
     replies.finish()
 }
 
-fn put_counted(replies: &mut Replies<Global>, word: &[u8], count: u8) -> Result<(), OutOfMemory>
+fn put_counted(
+    replies: &mut Replies<Global>,
+    word: &[u8],
+    count: u8,
+    key: Option<Key>,
+) -> Result<(), OutOfMemory>
     requires { IsEmpty replies.old }
     ensures ok { OnOk result ((reply : List ℕ) × AddsReply replies.old replies.new reply) }
-    ensures short { OnOk result (length replies.new.whole ≤ length word.now + 2) }
+    ensures short { OnOk result (length replies.new.whole ≤ length word.now + 73) }
 {
     replies.put(word)?;
     replies.put(&[b'0' + count % 10])?;
+    put_key(replies, key)?;
     replies.finish()
 }
 
+/// Adds the key to the current reply, if there is one.
+fn put_key(replies: &mut Replies<Global>, key: Option<Key>) -> Result<(), OutOfMemory>
+    ensures whole { OnOk result (replies.new.whole ≡ replies.old.whole) }
+    ensures short { OnOk result (length replies.new.part ≤ length replies.old.part + 71) }
+{
+    let Some(key) = key else {
+        return Ok(());
+    };
+    replies.put(b" under ")?;
+    replies.put(key.bytes())
+}
+
 impl Backend for Counter {
-    ghost answers = { λ waits old line answer new. ⊤ };
+    ghost answers = { λ key waits old line answer new. ⊤ };
 
     ghost status = { λ client text. ⊤ };
 
@@ -126,14 +149,15 @@ impl Backend for Counter {
 
     fn reply(
         &mut self,
+        key: Option<Key>,
         waits: bool,
         text: Option<&[u8]>,
         replies: &mut Replies<Global>,
     ) -> Result<Answered, OutOfMemory> {
         if waits {
-            self.answer(text, b"spent ", replies)
+            self.answer(key, text, b"spent ", replies)
         } else {
-            self.answer(text, b"number ", replies)
+            self.answer(key, text, b"number ", replies)
         }
     }
 

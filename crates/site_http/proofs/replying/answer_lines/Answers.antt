@@ -1,4 +1,4 @@
-use Rattle.std.proofs.Common.{ℕ, leb, leb-false, false, List, [], ◌∷◌, ◌++◌, length, ap, sym, ◌∙◌, append_assoc}
+use Rattle.std.proofs.Common.{ℕ, leb, leb-false, false, None, List, [], ◌∷◌, ◌++◌, length, ap, sym, ◌∙◌, append_assoc}
 use Rattle.line_streams.specs.Talk.{lines_of}
 use Rattle.refusals.specs.Refusals.{LineAnswer}
 use Rattle.site_http.specs.Replying.{text_of}
@@ -21,7 +21,7 @@ loop-text-preserved g c =
       answered = (
         done ++ line ∷ [],
         given ++ answer ∷ [],
-        answers_more (g.C.Backend.answers false) _ _ _ done given line answer inv.answered.2 put.1,
+        answers_more (g.C.Backend.answers None false) _ _ _ done given line answer inv.answered.2 put.1,
         within_more given answer below,
         inv.answered.4 ∙ ap (λ (l : List (List ℕ)). done ++ l) c.in-Some.ensures.first
             ∙ sym (append_assoc done (line ∷ []) (lines_of c.in-Some.more.now)),

@@ -1,4 +1,4 @@
-use Rattle.std.proofs.Common.{ℕ, false, List, [], ◌∷◌, ◌++◌, inl, inr, refl, ap, sym, ◌∙◌}
+use Rattle.std.proofs.Common.{ℕ, false, None, List, [], ◌∷◌, ◌++◌, inl, inr, refl, ap, sym, ◌∙◌}
 use Rattle.site_http.specs.Replying.{no_memory}
 use Rattle.site_http.proofs.Answered.{text_more, status_of_many}
 use Rattle.site_http.proofs.replying.answer_many.Goals as goal
@@ -10,7 +10,7 @@ returns-in-Ok g c =
       inl (record {
         each = ok.1;
         within = ok.2;
-        status = status_of_many (g.C.Backend.answers false) _ _ _ ok.0 c.requires.other ok.1;
+        status = status_of_many (g.C.Backend.answers None false) _ _ _ ok.0 c.requires.other ok.1;
       }),
       ok.3,
     )
