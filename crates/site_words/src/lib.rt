@@ -11,7 +11,7 @@ mod status_object;
 mod words;
 
 pub use check::JournalCheck;
-pub use commands::{DeskCommand, SiteCommand, read_command};
+pub use commands::{DeskCommand, SiteCommand, read_command, with_key};
 pub use config::{Config, MAX_TICK, MIN_TICK, PeerAddress};
 pub use fault::{CheckFault, SiteFault};
 pub use name::{MAX_SYSTEM, is_system_name};
