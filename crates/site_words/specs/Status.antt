@@ -1,5 +1,5 @@
 -- The status object.
-use Rattle.std.specs.Prelude.{ℕ, zero, suc, List, Bool, Option, Some, None, map, codes}
+use Rattle.std.specs.Prelude.{ℕ, zero, suc, List, Option, Some, None, map, codes}
 use Rattle.serde_json.specs.Data.{Data, Members, array, boolean, member, no_members, number, object, unsigned}
 use Rattle.serde_json.specs.View.{items_of}
 use Rattle.serde_json.specs.Written.{compact_text}
