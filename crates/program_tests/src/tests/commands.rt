@@ -273,13 +273,21 @@ const BAD_KEYS: [(&str, Shown); 21] = [
 
 const BAD_KEY: Shown = ("bad key", 0, 0);
 
-/// Whether this is the command under this key.
-fn is_keyed(command: Option<SiteCommand>, key: &str, expected: Shown) -> bool {
+/// Whether a command is this one under this key.
+fn is_under(command: SiteCommand, key: &str, expected: Shown) -> bool {
     match command {
-        Some(SiteCommand::Keyed(under, command)) => {
+        SiteCommand::Keyed(under, command) => {
             under.bytes() == key.as_bytes() && shown_at_desk(command) == expected
         }
         _ => false,
+    }
+}
+
+/// The same, if there is a command.
+fn is_keyed(command: Option<SiteCommand>, key: &str, expected: Shown) -> bool {
+    match command {
+        Some(command) => is_under(command, key, expected),
+        None => false,
     }
 }
 
