@@ -72,13 +72,13 @@ _rights_site_run() {
             return
             ;;
         # An address is the caller's to say: where this site listens, or after 'J='. So are a name and the times.
-        --listen | --http | --host | --tick | --silent | --system | [1-9]*)
+        --listen | --http | --host | --tick | --silent | --keys | --system | [1-9]*)
             return
             ;;
     esac
     [[ $current == *=* ]] && return
 
-    for word in --id --sites --listen --from --http --host --tick --silent --once --journal --system --log --help; do
+    for word in --id --sites --listen --from --http --host --tick --silent --keys --once --journal --system --log --help; do
         # Only an address for one peer and a name of the host may be given more than once.
         [[ $word != --from && $word != --host && " ${COMP_WORDS[*]:1:COMP_CWORD-1} " == *" $word "* ]] || options+="$word "
     done

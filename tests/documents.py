@@ -253,7 +253,7 @@ def options_are_the_same_everywhere():
     """Help text, man page, completion and docs/PROTOCOL.md have the same options."""
     texts = [subprocess.run([PROGRAM, word, "--help"], capture_output=True, text=True).stdout for word in ("run", "check-journal")]
     options = set(re.findall(r"^ +(?:-h, )?(--[a-z]+)", "".join(texts), re.MULTILINE))
-    expect({"--id", "--sites", "--listen", "--from", "--http", "--host", "--tick", "--silent", "--once", "--journal", "--system", "--log", "--json", "--help"}, options, "the help text")
+    expect({"--id", "--sites", "--listen", "--from", "--http", "--host", "--tick", "--silent", "--keys", "--once", "--journal", "--system", "--log", "--json", "--help"}, options, "the help text")
     for path, pattern in [
         ("docs/rights-site.1", r"\\-\\-{}\b"), ("completion/rights-site.bash", r"--{}\b"), ("docs/PROTOCOL.md", r"--{}\b"),
     ]:  # fmt: skip
@@ -267,7 +267,7 @@ def the_man_page_names_each_command_and_refusal():
     protocol = (TOP / "docs" / "PROTOCOL.md").read_text()
     names = re.findall(r"\b([A-Z][a-z]+[A-Z][A-Za-z]+|Closed|Short|Forged)\b", protocol[protocol.index("A refusal is `error NAME`") :].split("`report` prints")[0])
     expect([name for name in set(names) if name not in manual], [], "refusals that the man page lacks")
-    commands = ("issue", "give", "spend", "take", "outcome", "cancel", "tick", "status", "close", "quit")
+    commands = ("issue", "give", "spend", "take", "outcome", "cancel", "tick", "status", "close", "key", "quit")
     expect([name for name in commands if not re.search(rf"^\.B[IR]* {name}\b", manual, re.MULTILINE)], [], "commands")
 
 

@@ -90,6 +90,8 @@ WRONG = [
     ("run --log --tick 60001", "--tick 60001 is not 1 to 60000"),
     ("run --silent 999", "--silent 999 is neither 0 nor 1000 to 3600000"),
     ("run --silent 3600001", "--silent 3600001 is not 0 to 3600000"),
+    ("run --keys 10000001", "--keys 10000001 is not 0 to 10000000"),
+    ("run --keys x", "--keys x is not a number"),
     ("run --system a_b", "--system a_b is not 1 to 32 letters, digits and hyphens"),
     ("run --system=", "--system  is not 1 to 32 letters, digits and hyphens"),
     (f"run --system {'x' * 33}", f"--system {'x' * 33} is not 1 to 32 letters, digits and hyphens"),

@@ -5,8 +5,8 @@ use Rattle.std.specs.Prelude.{IfSome, IsErrAnd, MatchResult, option_map, unwrap_
 use Rattle.std.proofs.lemmas.Result.{err_from_is_err_and}
 use Rattle.std.specs.Str.Parse.{digits_value, without_leading_plus}
 use Rattle.clap.specs.Walk.{Row, Text, all_of, first_of}
-use Rattle.site_words.specs.Settings.{AreFound, AreInRange, HasFlag, HasNumber, HasValues, IsFound, IsSettings, IsSilence, IsTick}
-use Rattle.site_words.specs.Settings.{MayHaveNumber, Names, Options, Settings}
+use Rattle.site_words.specs.Settings.{AreFound, AreInRange, HasFlag, HasNumber, HasValues, IsFound, IsKeyCount, IsSettings}
+use Rattle.site_words.specs.Settings.{IsSilence, IsTick, MayHaveNumber, Names, Options, Settings}
 use Rattle.site_words.specs.Words.{IsSetBy}
 use Rattle.site_words.specs.declared.words.WordsFault.{WordsFault}
 use Rattle.site_words.specs.declared.words.WordsFault.TheVariants.{OutOfMemory, Refused}
@@ -50,6 +50,11 @@ silence_fits None valid = tt
 silence_fits (Some n) (inl zero) = omega (arith, zero)
 silence_fits (Some n) (inr valid) = omega (arith, valid.1)
 
+-- .. and a number of keys
+pub count_fits : (count : Option ℕ) → IfSome count IsKeyCount → IfSome count (λ m. m < 2 ^ 64)
+count_fits None valid = tt
+count_fits (Some n) valid = omega (arith, valid)
+
 -- the default of an option whose value is mapped
 pub unwrap_mapped : {X Y : Type 0} (f : X → Y) (o : Option X) (d : X)
     → unwrap_or (option_map f o) (f d) ≡ f (unwrap_or o d)
@@ -74,12 +79,13 @@ log_once rows true false one two = absurd (texts_differ (some_same (sym one ∙ 
 log_once rows false true one two = absurd (texts_differ (some_same (sym two ∙ one)))
 
 -- the options but those of a journal
-abbrev options_with : Options → Option Text → List Text → Option ℕ → Option ℕ → Option Text → Bool → Options
-options_with o http hosts tick silent once log = record {
+abbrev options_with : Options → Option Text → List Text → Option ℕ → Option ℕ → Option ℕ → Option Text → Bool → Options
+options_with o http hosts tick silent keys once log = record {
   http = http;
   hosts = hosts;
   tick = tick;
   silent = silent;
+  keys = keys;
   once = once;
   journal = o.journal;
   system = o.system;
@@ -96,18 +102,20 @@ options_once rows o p one two =
     let hosts : o.hosts ≡ p.hosts = sym one.hosts ∙ two.hosts in
     let tick : o.tick ≡ p.tick = optional_once rows (codes "tick") o.tick p.tick one.tick two.tick in
     let silent : o.silent ≡ p.silent = optional_once rows (codes "silent") o.silent p.silent one.silent two.silent in
+    let keys : o.keys ≡ p.keys = optional_once rows (codes "keys") o.keys p.keys one.keys two.keys in
     let once : o.once ≡ p.once = sym one.once ∙ two.once in
     let log : o.log ≡ p.log = log_once rows o.log p.log one.log two.log in
     let journal : o.journal ≡ p.journal = sym one.journal ∙ two.journal in
     let system : o.system ≡ p.system = sym one.system ∙ two.system in
-    ap (λ (h : Option Text). options_with o h o.hosts o.tick o.silent o.once o.log) http
-    ∙ (ap (λ (hs : List Text). options_with o p.http hs o.tick o.silent o.once o.log) hosts
-    ∙ (ap (λ (t : Option ℕ). options_with o p.http p.hosts t o.silent o.once o.log) tick
-    ∙ (ap (λ (t : Option ℕ). options_with o p.http p.hosts p.tick t o.once o.log) silent
-    ∙ (ap (λ (f : Option Text). options_with o p.http p.hosts p.tick p.silent f o.log) once
-    ∙ (ap (λ (l : Bool). options_with o p.http p.hosts p.tick p.silent p.once l) log
+    ap (λ (h : Option Text). options_with o h o.hosts o.tick o.silent o.keys o.once o.log) http
+    ∙ (ap (λ (hs : List Text). options_with o p.http hs o.tick o.silent o.keys o.once o.log) hosts
+    ∙ (ap (λ (t : Option ℕ). options_with o p.http p.hosts t o.silent o.keys o.once o.log) tick
+    ∙ (ap (λ (t : Option ℕ). options_with o p.http p.hosts p.tick t o.keys o.once o.log) silent
+    ∙ (ap (λ (k : Option ℕ). options_with o p.http p.hosts p.tick p.silent k o.once o.log) keys
+    ∙ (ap (λ (f : Option Text). options_with o p.http p.hosts p.tick p.silent p.keys f o.log) once
+    ∙ (ap (λ (l : Bool). options_with o p.http p.hosts p.tick p.silent p.keys p.once l) log
     ∙ (ap (λ (j : Option Text). journaled_by p j o.system) journal
-    ∙ ap (λ (n : Option Text). journaled_by p p.journal n) system))))))
+    ∙ ap (λ (n : Option Text). journaled_by p p.journal n) system)))))))
 
 -- the settings of the values that clap found are those that it found
 pub values_found : (rows : List Row) (id sites : ℕ) (listen : Option Text) (words froms : List Text) (options : Options)

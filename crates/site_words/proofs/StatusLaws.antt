@@ -1,5 +1,5 @@
 -- The text of the status object, which has only whole numbers and truth values.
-use Rattle.std.proofs.Common.{◌≡◌, ◌∙◌, ℕ, List, [], ◌∷◌, Option, Some, None, map, false, refl, ap}
+use Rattle.std.proofs.Common.{◌≡◌, ◌∙◌, ℕ, zero, suc, List, [], ◌∷◌, Option, Some, None, map, false, refl, ap}
 use Rattle.serde_json.specs.Data.{Data}
 use Rattle.serde_json.specs.View.{items_of}
 use Rattle.serde_json.specs.Written.{has_float, items_have_float, compact_text}
@@ -12,12 +12,15 @@ no_float_in_peers : (peers : List PeerView) → items_have_float (items_of (map 
 no_float_in_peers [] = refl
 no_float_in_peers (peer ∷ peers) = no_float_in_peers peers
 
-no_float : (desk : DeskView) (peers : List PeerView) (journal : Option JournalView)
-    → has_float (status_data desk peers journal) ≡ false
-no_float desk peers None = rw (no_float_in_peers peers) refl
-no_float desk peers (Some journal) = rw (no_float_in_peers peers) refl
+no_float : (desk : DeskView) (peers : List PeerView) (journal : Option JournalView) (keys : ℕ)
+    → has_float (status_data desk peers journal keys) ≡ false
+no_float desk peers None zero = rw (no_float_in_peers peers) refl
+no_float desk peers None (suc n) = rw (no_float_in_peers peers) refl
+no_float desk peers (Some journal) zero = rw (no_float_in_peers peers) refl
+no_float desk peers (Some journal) (suc n) = rw (no_float_in_peers peers) refl
 
-pub text_of : (desk : DeskView) (peers : List PeerView) (journal : Option JournalView) (d : Data) (text : List ℕ)
-    → d ≡ status_data desk peers journal → (has_float d ≡ false → text ≡ compact_text d)
-    → text ≡ status_text desk peers journal
-text_of desk peers journal d text same h = h (ap has_float same ∙ no_float desk peers journal) ∙ ap compact_text same
+pub text_of : (desk : DeskView) (peers : List PeerView) (journal : Option JournalView) (keys : ℕ) (d : Data)
+    (text : List ℕ) → d ≡ status_data desk peers journal keys → (has_float d ≡ false → text ≡ compact_text d)
+    → text ≡ status_text desk peers journal keys
+text_of desk peers journal keys d text same h =
+    h (ap has_float same ∙ no_float desk peers journal keys) ∙ ap compact_text same

@@ -6,7 +6,7 @@ use Rattle.clap.specs.Walk.{Rule, Text}
 use Rattle.clap.specs.declared.builder.action.ArgAction.TheVariants.{Append, SetTrue}
 use Rattle.clap.specs.declared.builder.value_parser.ValueParser.TheVariants.{Unsigned}
 use Rattle.rights_types.specs.declared.limits.TheConstants.{MAX_SITES, MIN_SITES}
-use Rattle.site_words.specs.declared.config.TheConstants.{MAX_SILENCE, MAX_TICK, MIN_TICK}
+use Rattle.site_words.specs.declared.config.TheConstants.{MAX_KEYS, MAX_SILENCE, MAX_TICK, MIN_TICK}
 
 -- an optional option with one value
 abbrev pub value_rule : Text → Rule
@@ -27,6 +27,10 @@ tick_rule = record (value_rule (codes "tick")) { parser = Some (Unsigned MIN_TIC
 -- the time with no line after which a peer counts as silent: a whole number of milliseconds
 abbrev pub silent_rule : Rule
 silent_rule = record (value_rule (codes "silent")) { parser = Some (Unsigned 0 MAX_SILENCE) }
+
+-- how many keys of commands the site remembers
+abbrev pub keys_rule : Rule
+keys_rule = record (value_rule (codes "keys")) { parser = Some (Unsigned 0 MAX_KEYS) }
 
 -- the names of the site's host: an option that may occur several times
 abbrev pub host_rule : Rule
@@ -65,7 +69,7 @@ abbrev pub run_shape : Shape
 run_shape = record (new_shape (codes "run")) {
   rules = number_rule (codes "id") 1 MAX_SITES ∷ number_rule (codes "sites") MIN_SITES MAX_SITES
       ∷ value_rule (codes "listen") ∷ from_rule ∷ peer_rule
-      ∷ value_rule (codes "http") ∷ host_rule ∷ tick_rule ∷ silent_rule ∷ value_rule (codes "once")
+      ∷ value_rule (codes "http") ∷ host_rule ∷ tick_rule ∷ silent_rule ∷ keys_rule ∷ value_rule (codes "once")
       ∷ value_rule (codes "journal") ∷ value_rule (codes "system") ∷ flag_rule (codes "log") ∷ [];
 }
 

@@ -1,7 +1,8 @@
 -- The command of a site that a line spells, by the words of the line. The time is what the site's own clock shows; a
 -- site has none that does not tick itself.
 use Rattle.std.specs.Prelude.{ℕ, ◌+◌, ◌-◌, ◌^◌, ◌==◌, min, List, [], ◌∷◌, Option, Some, None, codes, option_map}
-use Rattle.std.specs.Prelude.{if◌then◌else◌}
+use Rattle.std.specs.Prelude.{Bool, true, false, bytes_eq, if◌then◌else◌}
+use Rattle.command_keys.specs.Key.{key_in}
 use Rattle.entry_codec.specs.Moves.{◌>>=◌, number_of}
 use Rattle.line_streams.specs.Words.{words_of, named, alone, first_number, only_number, optional_site, site_and_number}
 use Rattle.site_words.specs.declared.commands.Name.{Name}
@@ -9,9 +10,11 @@ use Rattle.site_words.specs.declared.commands.Name.TheVariants.{Issue as AnIssue
 use Rattle.site_words.specs.declared.commands.Name.TheVariants.{Outcome as AnOutcome, Tick as ATick, Status as AStatus}
 use Rattle.site_words.specs.declared.commands.Name.TheVariants.{Close as AClose, Quit as AQuit, Take as ATake}
 use Rattle.site_words.specs.declared.commands.Name.TheVariants.{Cancel as ACancel, Queue as AQueue}
+use Rattle.site_words.specs.declared.commands.DeskCommand.{DeskCommand}
 use Rattle.site_words.specs.declared.commands.DeskCommand.TheVariants.{Issue, Give, Spend, Take, Outcome, Cancel, Close}
 use Rattle.site_words.specs.declared.commands.SiteCommand.{SiteCommand}
-use Rattle.site_words.specs.declared.commands.SiteCommand.TheVariants.{AtDesk, Tick, RefusedTick, Status, Queue, Quit}
+use Rattle.site_words.specs.declared.commands.SiteCommand.TheVariants.{AtDesk, Keyed, BadKey, Tick, RefusedTick, Status}
+use Rattle.site_words.specs.declared.commands.SiteCommand.TheVariants.{Queue, Quit}
 use Rattle.site_words.specs.declared.commands.TheConstants.{MAX_AHEAD}
 
 -- a command by the words after its name
@@ -103,10 +106,47 @@ name_of text =
     ∷ (codes "quit", AQuit) ∷ []
     ) text
 
+-- the command with no key that these words spell
 abbrev pub command_with : Option ℕ → List (List ℕ) → Option SiteCommand
 command_with time [] = None
 command_with time (first ∷ words) = name_of first >>= (λ name. command_by name time words)
 
+-- A command may have a key if it writes an entry.
+abbrev pub may_have_key : DeskCommand → Bool
+may_have_key (Issue amount) = true
+may_have_key (Give peer amount) = true
+may_have_key (Spend amount deadline latest) = true
+may_have_key (Take amount) = true
+may_have_key (Outcome ticket) = false
+may_have_key (Cancel ticket) = false
+may_have_key (Close heir) = true
+
+-- a command of the desk under a key; one that may have none is refused
+abbrev pub keyed_at_desk : DeskCommand → List ℕ → SiteCommand
+keyed_at_desk command key = if may_have_key command then Keyed key command else BadKey
+
+-- .. and any command: one that has a key already is refused too
+abbrev pub keyed : Option SiteCommand → List ℕ → Option SiteCommand
+keyed None key = None
+keyed (Some (AtDesk command)) key = Some (keyed_at_desk command key)
+keyed (Some command) key = Some BadKey
+
+-- .. where the key is spelled: a text that is none is refused, whatever follows
+abbrev pub keyed_by : Option (List ℕ) → Option SiteCommand → Option SiteCommand
+keyed_by None command = Some BadKey
+keyed_by (Some key) command = keyed command key
+
+-- the words after `key`: a key, and a command with none
+abbrev pub keyed_in : Option ℕ → List (List ℕ) → Option SiteCommand
+keyed_in time [] = None
+keyed_in time (key ∷ words) = keyed_by (key_in key) (command_with time words)
+
+-- the command that all the words of a line spell
+abbrev pub command_in : Option ℕ → List (List ℕ) → Option SiteCommand
+command_in time [] = None
+command_in time (first ∷ words) =
+    if bytes_eq first (codes "key") then keyed_in time words else command_with time (first ∷ words)
+
 -- the command of a line without its line feed
 abbrev pub command_of : Option ℕ → List ℕ → Option SiteCommand
-command_of time line = command_with time (words_of line)
+command_of time line = command_in time (words_of line)

@@ -9,8 +9,8 @@ use Rattle.clap.specs.Walk.{Row, Text, all_of, first_of, one_of}
 use Rattle.rights_types.specs.Ranges.{IsSite}
 use Rattle.rights_types.specs.declared.limits.TheConstants.{MAX_SITES, MIN_SITES}
 use Rattle.site_words.specs.Names.{is_system_name}
-use Rattle.site_words.specs.declared.config.TheConstants.{MAX_SILENCE, MAX_TICK, MIN_SILENCE, MIN_TICK}
-use Rattle.site_words.specs.declared.config.TheConstants.{TICKS_OF_SILENCE, USUAL_SILENCE}
+use Rattle.site_words.specs.declared.config.TheConstants.{MAX_KEYS, MAX_SILENCE, MAX_TICK, MIN_SILENCE, MIN_TICK}
+use Rattle.site_words.specs.declared.config.TheConstants.{TICKS_OF_SILENCE, USUAL_KEYS, USUAL_SILENCE}
 
 -- a peer, and an address: where it listens, or the one at which this site lets it in
 pub record Peer : Type 0 where
@@ -19,13 +19,14 @@ pub record Peer : Type 0 where
 
 -- the optional settings: the address for HTTP, the names of the host to which it answers there, the interval in
 -- milliseconds at which the site ticks itself, the time in milliseconds with no line after which a peer counts as
--- silent, the file that it creates at its start, its journal, the name of the system that is written into a new one,
--- and whether it logs events on links and clients
+-- silent, how many keys of commands it remembers, the file that it creates at its start, its journal, the name of the
+-- system that is written into a new one, and whether it logs events on links and clients
 pub record Options : Type 0 where
   pub http : Option Text
   pub hosts : List Text
   pub tick : Option ℕ
   pub silent : Option ℕ
+  pub keys : Option ℕ
   pub once : Option Text
   pub journal : Option Text
   pub system : Option Text
@@ -47,6 +48,10 @@ IsTick milliseconds = (MIN_TICK ≤ milliseconds) × (milliseconds ≤ MAX_TICK)
 abbrev pub IsSilence : ℕ → Type 0
 IsSilence milliseconds = (milliseconds ≡ 0) ⊎ ((MIN_SILENCE ≤ milliseconds) × (milliseconds ≤ MAX_SILENCE))
 
+-- the range of how many keys of commands a site remembers: 0 to ten million
+abbrev pub IsKeyCount : ℕ → Type 0
+IsKeyCount keys = keys ≤ MAX_KEYS
+
 -- A site has a journal or a file that it creates at its start, and not both. Only one with a journal has a name of its
 -- system.
 pub record IsJournaling (once journal system : Option Text) : Type 0 where
@@ -56,6 +61,7 @@ pub record IsJournaling (once journal system : Option Text) : Type 0 where
 pub record AreInRange (o : Options) : Type 0 where
   pub tick : IfSome o.tick IsTick
   pub silent : IfSome o.silent IsSilence
+  pub keys : IfSome o.keys IsKeyCount
   pub journal : IsJournaling o.once o.journal o.system
 
 -- a time that is given as 0 is none
@@ -72,6 +78,10 @@ silent_beside_ticks None tick = Some (max USUAL_SILENCE (TICKS_OF_SILENCE * tick
 -- .. and for a site with these settings: never, if it does not tick itself
 abbrev pub silent_after : Options → Option ℕ
 silent_after o = option_and_then (silent_beside_ticks o.silent) o.tick
+
+-- how many keys of commands a site with these settings remembers: as many as are given, or else a million
+abbrev pub keys_of : Options → ℕ
+keys_of o = unwrap_or o.keys USUAL_KEYS
 
 -- the sites from 1 to n except this one, in order
 abbrev pub others : ℕ → ℕ → List ℕ
@@ -168,6 +178,7 @@ pub record AreFound (rows : List Row) (o : Options) : Type 0 where
   pub hosts : unwrap_or (all_of (codes "host") rows) [] ≡ o.hosts
   pub tick : MayHaveNumber rows (codes "tick") o.tick
   pub silent : MayHaveNumber rows (codes "silent") o.silent
+  pub keys : MayHaveNumber rows (codes "keys") o.keys
   pub once : first_of (codes "once") rows ≡ o.once
   pub journal : first_of (codes "journal") rows ≡ o.journal
   pub system : first_of (codes "system") rows ≡ o.system

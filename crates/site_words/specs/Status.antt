@@ -1,5 +1,5 @@
 -- The status object.
-use Rattle.std.specs.Prelude.{ℕ, List, Bool, Option, Some, None, map, codes}
+use Rattle.std.specs.Prelude.{ℕ, zero, suc, List, Option, Some, None, map, codes}
 use Rattle.serde_json.specs.Data.{Data, Members, array, boolean, member, no_members, number, object, unsigned}
 use Rattle.serde_json.specs.View.{items_of}
 use Rattle.serde_json.specs.Written.{compact_text}
@@ -40,20 +40,26 @@ abbrev pub with_journal : Option JournalView → Members → Members
 with_journal None members = members
 with_journal (Some journal) members = member (codes "journal") (journal_data journal) members
 
-abbrev pub status_data : DeskView → List PeerView → Option JournalView → Data
-status_data desk peers journal = object
+-- .. nor while no key of a command is remembered
+abbrev pub with_keys : ℕ → Members → Members
+with_keys zero members = members
+with_keys (suc n) members = member (codes "keys") (whole (suc n)) members
+
+abbrev pub status_data : DeskView → List PeerView → Option JournalView → ℕ → Data
+status_data desk peers journal keys = object
     (member (codes "closed") (boolean desk.closed)
     (member (codes "held") (whole desk.held)
     (member (codes "issued") (whole desk.issued)
     (with_journal journal
+    (with_keys keys
     (member (codes "number") (whole desk.number)
     (member (codes "peers") (array (items_of (map peer_data peers)))
     (member (codes "queued") (whole desk.queued)
     (member (codes "received") (whole desk.received)
     (member (codes "site") (whole desk.site)
     (member (codes "spent") (whole desk.spent)
-    no_members))))))))))
+    no_members)))))))))))
 
 -- .. as a text with no space in it
-abbrev pub status_text : DeskView → List PeerView → Option JournalView → List ℕ
-status_text desk peers journal = compact_text (status_data desk peers journal)
+abbrev pub status_text : DeskView → List PeerView → Option JournalView → ℕ → List ℕ
+status_text desk peers journal keys = compact_text (status_data desk peers journal keys)

@@ -1,10 +1,11 @@
 //! The commands of a running site.
-ghost use Rattle.std.specs.Prelude.{◌≡◌};
+ghost use Rattle.std.specs.Prelude.{◌≡◌, ◌∷◌};
 ghost use Rattle.line_streams.specs.Words.{words_left};
 ghost use Rattle.site_words.specs.Commands.{issue_in, give_in, spend_in, take_in, ahead_of, deadline_of, deadline_in};
 ghost use Rattle.site_words.specs.Commands.{latest_at, outcome_in, cancel_in, tick_by, close_in, command_by, name_of};
-ghost use Rattle.site_words.specs.Commands.{command_of};
+ghost use Rattle.site_words.specs.Commands.{command_of, command_with, keyed, keyed_at_desk, keyed_in, may_have_key};
 
+use command_keys::Key;
 use entry_codec::read_decimal;
 use line_streams::{
     alone, first_number, named, only_number, optional_site, site_and_number, split_word,
@@ -39,6 +40,10 @@ pub enum DeskCommand {
 pub enum SiteCommand {
     /// A command that is one call of the desk.
     AtDesk(DeskCommand),
+    /// A command of the desk under a key: one that writes an entry.
+    Keyed(Key, DeskCommand),
+    /// A key that is none, or a line that may have none: it is refused.
+    BadKey,
     /// Do everything that is due at this time: expire, serve, plan, and send to the peers.
     Tick(u64),
     /// A tick at a site that has a clock of its own, which refuses it.
@@ -80,6 +85,9 @@ const NAMES: [(&[u8], Name); 11] = [
     (b"close", Name::Close),
     (b"quit", Name::Quit),
 ];
+
+/// The word before a key.
+const KEY: &[u8] = b"key";
 
 fn read_issue(words: Option<&[u8]>) -> Option<SiteCommand>
     ensures { result ≡ issue_in (words_left words.entry) }
@@ -208,12 +216,76 @@ fn name_of(text: &[u8]) -> Option<Name>
     named(&NAMES, text)
 }
 
+/// The command with no key that these words spell: the first one, and those after it.
+fn read_bare(first: &[u8], words: Option<&[u8]>, time: Option<u64>) -> Option<SiteCommand>
+    ensures { result ≡ command_with time (first.now ∷ words_left words.entry) }
+{
+    command_by(name_of(first)?, words, time)
+}
+
+/// Whether a command may have a key: whether it writes an entry.
+fn may_have_key(command: &DeskCommand) -> bool
+    ensures { result ≡ may_have_key command.now }
+{
+    match command {
+        DeskCommand::Issue(_) => true,
+        DeskCommand::Give(_, _) => true,
+        DeskCommand::Spend(_, _, _) => true,
+        DeskCommand::Take(_) => true,
+        DeskCommand::Outcome(_) => false,
+        DeskCommand::Cancel(_) => false,
+        DeskCommand::Close(_) => true,
+    }
+}
+
+/// A command of the desk under this key, if it may have one.
+fn keyed_at_desk(command: DeskCommand, key: Key) -> SiteCommand
+    ensures { result ≡ keyed_at_desk command key }
+{
+    if may_have_key(&command) {
+        SiteCommand::Keyed(key, command)
+    } else {
+        SiteCommand::BadKey
+    }
+}
+
+/// The command of a line under this key, which came with the line or beside it. `BadKey` if it is a command that may
+/// have none: one that writes no entry, or has a key already. None if the line spells no command.
+pub fn with_key(command: Option<SiteCommand>, key: Key) -> Option<SiteCommand>
+    ensures { result ≡ keyed command key }
+{
+    let under_key = match command? {
+        SiteCommand::AtDesk(command) => keyed_at_desk(command, key),
+        _ => SiteCommand::BadKey,
+    };
+    Some(under_key)
+}
+
+/// The command under a key that these words spell: the key, and a command with none.
+#[inline(never)]
+fn read_keyed(words: Option<&[u8]>, time: Option<u64>) -> Option<SiteCommand>
+    ensures { result ≡ keyed_in time (words_left words.entry) }
+{
+    let (word, words) = split_word(words?);
+    let Some(key) = Key::read(word) else {
+        return Some(SiteCommand::BadKey);
+    };
+    let (first, words) = split_word(words?);
+    with_key(read_bare(first, words, time), key)
+}
+
 /// The command that a line spells, given without its line feed; None if it spells none. Words are separated by single
 /// spaces, and numbers are decimals with no sign and no leading zero. `time` is what the site's own clock shows, in
-/// milliseconds; None for a site that has none, whose time comes with the ticks of its clients.
+/// milliseconds; None for a site that has none, whose time comes with the ticks of its clients. The words `key K` may
+/// stand before a command that writes an entry, where K is its key: 1 to 64 bytes of visible ASCII. `BadKey` if K is
+/// none, or if the command writes no entry.
 pub fn read_command(line: &[u8], time: Option<u64>) -> Option<SiteCommand>
     ensures { result ≡ command_of time line.now }
 {
     let (first, words) = split_word(line);
-    command_by(name_of(first)?, words, time)
+    if first == KEY {
+        read_keyed(words, time)
+    } else {
+        read_bare(first, words, time)
+    }
 }

@@ -6,9 +6,10 @@ ghost use Rattle.std.specs.String.{string_bytes};
 ghost use Rattle.clap.specs.Walk.{texts, Text};
 ghost use Rattle.rights_types.specs.Ranges.{IsSite};
 ghost use Rattle.rights_types.specs.declared.limits.TheConstants.{MAX_SITES};
-ghost use Rattle.site_words.specs.Settings.{HasValues, IsNamed, IsSettings, IsSilence, IsTick, Lacks, others, peer_word};
+ghost use Rattle.site_words.specs.declared.config.TheConstants.{MAX_KEYS};
+ghost use Rattle.site_words.specs.Settings.{HasValues, IsKeyCount, IsNamed, IsSettings, IsSilence, IsTick, Lacks};
 ghost use Rattle.site_words.specs.Settings.{AreEntrances, IsJournaling, IsOther, Peer, has_entrance, is_admitted};
-ghost use Rattle.site_words.specs.Settings.{silent_after};
+ghost use Rattle.site_words.specs.Settings.{keys_of, others, peer_word, silent_after};
 ghost use Rattle.site_words.specs.Words.{IsSetBy};
 ghost use Rattle.site_words.specs.declared.words.WordsFault.{WordsFault};
 
@@ -36,6 +37,12 @@ pub const USUAL_SILENCE: u64 = 3_000;
 
 /// .. and of how many of the site's own ticks that time is at least.
 pub const TICKS_OF_SILENCE: u64 = 10;
+
+/// How many keys of commands a site remembers at most.
+pub const MAX_KEYS: u64 = 10_000_000;
+
+/// How many keys it remembers if the words do not say.
+pub const USUAL_KEYS: u64 = 1_000_000;
 
 /// A peer, and an address: where it listens, or the one at which this site lets it in.
 #[derive(Drop)]
@@ -76,6 +83,7 @@ pub(crate) struct OptionValues<'a> {
     pub(crate) hosts: &'a [&'a str],
     pub(crate) tick: Option<u64>,
     pub(crate) silent: Option<u64>,
+    pub(crate) keys: Option<u64>,
     pub(crate) once: Option<&'a str>,
     pub(crate) journal: Option<&'a str>,
     pub(crate) system: Option<&'a str>,
@@ -94,6 +102,7 @@ impl<'a> Model for OptionValues<'a> {
       hosts = texts values.hosts.now;
       tick = values.tick;
       silent = values.silent;
+      keys = values.keys;
       once = option_map (λ s. s.now) values.once;
       journal = option_map (λ s. s.now) values.journal;
       system = option_map (λ s. s.now) values.system;
@@ -113,6 +122,7 @@ pub struct Config {
     hosts: Vec<String>,
     tick: Option<u64>,
     silent: Option<u64>,
+    keys: Option<u64>,
     once: Option<String>,
     journal: Option<String>,
     system: Option<String>,
@@ -137,6 +147,7 @@ impl Model for Config {
         hosts = map string_bytes config.hosts.items;
         tick = config.tick;
         silent = config.silent;
+        keys = config.keys;
         once = option_map string_bytes config.once;
         journal = option_map string_bytes config.journal;
         system = option_map string_bytes config.system;
@@ -155,6 +166,7 @@ impl Model for Config {
         hosts = map string_bytes config.hosts.items;
         tick = config.tick;
         silent = config.silent;
+        keys = config.keys;
         once = option_map string_bytes config.once;
         journal = option_map string_bytes config.journal;
         system = option_map string_bytes config.system;
@@ -255,6 +267,16 @@ impl Config {
         }
     }
 
+    /// How many keys of commands that wrote entries it remembers, at most `MAX_KEYS`: what the words say, or
+    /// `USUAL_KEYS`. With 0, commands with keys are refused.
+    pub fn keys(&self) -> u64
+        ensures value { result ≡ keys_of self.now.options }
+        ensures valid { IsSettings self.now }
+        ensures most { result ≤ MAX_KEYS }
+    {
+        self.keys.unwrap_or(USUAL_KEYS)
+    }
+
     /// The path of the file that it creates at its start, as the words have it. A site does not start if that file
     /// exists.
     pub fn once(&self) -> Option<&str>
@@ -313,7 +335,7 @@ impl Config {
         if listen.is_none() && froms.len() as u64 != sites - 1 {
             return Err(WordsFault::Refused);
         }
-        if !is_tick(options.tick) || !is_silence(options.silent) {
+        if !is_tick(options.tick) || !is_silence(options.silent) || !is_key_count(options.keys) {
             return Err(WordsFault::Refused);
         }
         if !is_journaling(options.once, options.journal, options.system) {
@@ -329,6 +351,7 @@ impl Config {
             hosts: owned_all(alloc, options.hosts)?,
             tick: options.tick,
             silent: options.silent,
+            keys: options.keys,
             once: owned(alloc, options.once)?,
             journal: owned(alloc, options.journal)?,
             system: owned(alloc, options.system)?,
@@ -357,6 +380,17 @@ fn is_silence(time: Option<u64>) -> bool
         Some(milliseconds) => {
             milliseconds == 0 || milliseconds >= MIN_SILENCE && milliseconds <= MAX_SILENCE
         }
+        None => true,
+    }
+}
+
+/// Whether a site may remember so many keys, or none are given.
+fn is_key_count(count: Option<u64>) -> bool
+    ensures yes { result ≡ true → IfSome count IsKeyCount }
+    ensures no { result ≡ false → IfSome count IsKeyCount → ⊥ }
+{
+    match count {
+        Some(keys) => keys <= MAX_KEYS,
         None => true,
     }
 }

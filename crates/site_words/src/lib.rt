@@ -11,8 +11,8 @@ mod status_object;
 mod words;
 
 pub use check::JournalCheck;
-pub use commands::{DeskCommand, SiteCommand, read_command};
-pub use config::{Config, MAX_TICK, MIN_TICK, PeerAddress};
+pub use commands::{DeskCommand, SiteCommand, read_command, with_key};
+pub use config::{Config, MAX_KEYS, MAX_TICK, MIN_TICK, PeerAddress, USUAL_KEYS};
 pub use fault::{CheckFault, SiteFault};
 pub use name::{MAX_SYSTEM, is_system_name};
 pub use status_object::{JournalView, PeerView, status, status_text};

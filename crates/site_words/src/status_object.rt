@@ -96,13 +96,13 @@ fn rights(alloc: Global, desk: &DeskView) -> Result<Map<String, Value>, OutOfMem
     Ok(members)
 }
 
-/// The members of the status object of a site that keeps no journal.
+/// The members of the status object of a site that keeps no journal and remembers no key.
 fn members_of(
     alloc: Global,
     desk: &DeskView,
     peers: &[PeerView],
 ) -> Result<Map<String, Value>, OutOfMemory>
-    ensures { IfOk result (λ members. object (members_view members.entries) ≡ status_data desk.now peers.now None) }
+    ensures { IfOk result (λ members. object (members_view members.entries) ≡ status_data desk.now peers.now None 0) }
 {
     let mut members = rights(alloc, desk)?;
     put_number(&mut members, alloc, "number", desk.number)?;
@@ -112,17 +112,22 @@ fn members_of(
     Ok(members)
 }
 
-/// The status object of a site, with its peers in the given order, and with its journal if it keeps one. Its keys are
-/// in alphabetical order. `OutOfMemory` if memory for it is refused.
+/// The status object of a site, with its peers in the given order, with its journal if it keeps one, and with the number
+/// of `keys` of commands that it remembers unless that is 0. Its members are in alphabetical order. `OutOfMemory` if
+/// memory for it is refused.
 pub fn status(
     alloc: Global,
     desk: &DeskView,
     peers: &[PeerView],
     journal: Option<JournalView>,
+    keys: u64,
 ) -> Result<Value, OutOfMemory>
-    ensures { IfOk result (λ value. view value ≡ status_data desk.now peers.now journal) }
+    ensures { IfOk result (λ value. view value ≡ status_data desk.now peers.now journal keys) }
 {
     let mut members = members_of(alloc, desk, peers)?;
+    if keys > 0 {
+        put_number(&mut members, alloc, "keys", keys)?;
+    }
     match journal {
         Some(journal) => {
             let journal = journal_status(alloc, journal)?;
@@ -139,8 +144,9 @@ pub fn status_text(
     desk: &DeskView,
     peers: &[PeerView],
     journal: Option<JournalView>,
+    keys: u64,
 ) -> Result<String, OutOfMemory>
-    ensures { IfOk result (λ text. string_bytes text ≡ status_text desk.now peers.now journal) }
+    ensures { IfOk result (λ text. string_bytes text ≡ status_text desk.now peers.now journal keys) }
 {
-    Ok(status(alloc, desk, peers, journal)?.to_string(alloc)?)
+    Ok(status(alloc, desk, peers, journal, keys)?.to_string(alloc)?)
 }

@@ -9,7 +9,7 @@ ghost use Rattle.rights_types.specs.declared.limits.TheConstants.{MIN_SITES, MAX
 ghost use Rattle.site_words.specs.Asked.{asked_by, asked_of_clap, asks_for_version, is_help_word};
 ghost use Rattle.site_words.specs.Checks.{IsCheckBy};
 ghost use Rattle.site_words.specs.CommandLine.{addresses_shape, app, check_shape, file_rule, flag_rule, from_rule};
-ghost use Rattle.site_words.specs.CommandLine.{host_rule, number_rule, option_rule, peer_rule};
+ghost use Rattle.site_words.specs.CommandLine.{host_rule, keys_rule, number_rule, option_rule, peer_rule};
 ghost use Rattle.site_words.specs.CommandLine.{run_numbers_shape, run_shape, silent_rule, tick_rule, value_rule};
 ghost use Rattle.site_words.specs.Settings.{AreFound, AreInRange, HasFlag, HasNumber, IsFound, MayHaveNumber, Options};
 ghost use Rattle.site_words.specs.Words.{AnswersMet, IsSetBy, MayAnswer};
@@ -106,6 +106,7 @@ Commands, one a line on standard input, and their replies:
   status       the state of the site, as an object of JSON
   queue        the spends that wait, as an object of JSON
   close [J]    closes the site; site J gets what it holds
+  key K C      one of issue, give, spend, take and close, done once for each key K
   quit         ends the program
 
 Example, one site of two, which ticks by itself and also serves HTTP:
@@ -184,6 +185,21 @@ fn silent_option<'a>(alloc: Global) -> Arg<'a>
         "With --tick: a peer with no line for MS milliseconds is silent (1,000 to 3,600,000; 0: never)",
     )
     .value_parser(milliseconds)
+}
+
+/// The option with the number of keys that are remembered.
+fn keys_option<'a>(alloc: Global) -> Arg<'a>
+    ensures rule { rule_of result ≡ keys_rule }
+    ensures local { result.global ≡ false }
+{
+    let count = value_parser!(u64).range(0..=10_000_000);
+    optional(
+        alloc,
+        "keys",
+        "N",
+        "Remembers the keys of the last N commands (0 to 10,000,000; 0: none are taken; 1,000,000 if not given)",
+    )
+    .value_parser(count)
 }
 
 /// The option with a name of the host, which may occur several times.
@@ -276,6 +292,7 @@ fn run_parser<'a>(alloc: Global) -> Result<Parser<'a>, AllocError>
         .arg(host_option(alloc))?
         .arg(tick_option(alloc))?
         .arg(silent_option(alloc))?
+        .arg(keys_option(alloc))?
         .arg(optional(
             alloc,
             "once",
@@ -416,12 +433,14 @@ fn options_of<'a>(matches: &'a ArgMatches<'_>) -> Result<OptionValues<'a>, Words
 {
     let tick = optional_number_of(matches, "tick")?;
     let silent = optional_number_of(matches, "silent")?;
+    let keys = optional_number_of(matches, "keys")?;
     let log = flag_of(matches, "log")?;
     Ok(OptionValues {
         http: matches.get_str("http"),
         hosts: matches.get_strs("host").unwrap_or(&[]),
         tick,
         silent,
+        keys,
         once: matches.get_str("once"),
         journal: matches.get_str("journal"),
         system: matches.get_str("system"),

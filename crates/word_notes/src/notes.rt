@@ -43,7 +43,7 @@ fn is_other(word: &str) -> bool {
     };
     match name {
         "--" | "--help" | "-h" => false,
-        "--from" | "--host" | "--silent" | "--journal" | "--system" => true,
+        "--from" | "--host" | "--silent" | "--keys" | "--journal" | "--system" => true,
         _ => known(name).is_none(),
     }
 }

@@ -14,7 +14,7 @@ pub(crate) enum Takes {
 /// An option of `run`, and what follows it.
 pub(crate) type Known = (&'static str, Takes);
 
-pub(crate) const OPTIONS: [Known; 13] = [
+pub(crate) const OPTIONS: [Known; 14] = [
     ("--id", Takes::Number(1, 16)),
     ("--sites", Takes::Number(2, 16)),
     ("--listen", Takes::Text),
@@ -23,6 +23,7 @@ pub(crate) const OPTIONS: [Known; 13] = [
     ("--host", Takes::Text),
     ("--tick", Takes::Number(1, 60_000)),
     ("--silent", Takes::Number(0, 3_600_000)),
+    ("--keys", Takes::Number(0, 10_000_000)),
     ("--once", Takes::Text),
     ("--journal", Takes::Text),
     ("--system", Takes::Text),

@@ -1,6 +1,7 @@
 //! The command that a line of a running site's input spells.
+use command_keys::Key;
 use rights_types::SiteId;
-use site_words::{DeskCommand, SiteCommand, read_command};
+use site_words::{DeskCommand, SiteCommand, read_command, with_key};
 use std::process::Abort;
 
 /// A command, with its name and its values; 0 for a value that is absent.
@@ -29,7 +30,7 @@ const COMMANDS: [(&str, Shown); 16] = [
 ];
 
 /// Lines that spell no command.
-const OTHERS: [&str; 39] = [
+const OTHERS: [&str; 58] = [
     "issue 18446744073709551616",
     "issue 05",
     "issue +5",
@@ -69,11 +70,32 @@ const OTHERS: [&str; 39] = [
     "close 0",
     "close ",
     "",
+    "key",
+    "key k",
+    "key k nonsense",
+    "key k ",
+    "key k  take 4",
+    "key k key l take 4",
+    "key k key",
+    "key k take",
+    "key k take 4 5",
+    "key k take 4 ",
+    "key k spend 3 +5",
+    "key k status 1",
+    "key k tick",
+    "key take 4",
+    "key k Take 4",
+    "Key k take 4",
+    "keys k take 4",
+    " key k take 4",
+    "key\tk take 4",
 ];
 
 fn shown(command: SiteCommand) -> Shown {
     match command {
         SiteCommand::AtDesk(command) => shown_at_desk(command),
+        SiteCommand::Keyed(_, _) => ("under a key", 0, 0),
+        SiteCommand::BadKey => BAD_KEY,
         SiteCommand::Tick(time) => ("tick", time, 0),
         SiteCommand::RefusedTick => ("refused tick", 0, 0),
         SiteCommand::Status => ("status", 0, 0),
@@ -186,4 +208,143 @@ fn deadlines_end_at_the_largest_number(rt: HostRuntime) {
     let late = MOST - 10;
     assert!(rt; is_read_as("spend 3 +5", Some(late), ("spend by", 3, 5)));
     assert!(rt; is_read_as("spend 3 +20", Some(late), ("spend by", 3, 0)));
+}
+
+/// Lines with a key, the key, and the command.
+const KEYED: [(&str, &str, Shown); 12] = [
+    ("key 7f3a issue 5", "7f3a", ("issue", 5, 0)),
+    ("key k give 16 7", "k", ("give", 16, 7)),
+    ("key ! spend 3 9", "!", ("spend", 3, 9)),
+    ("key ~ take 4", "~", ("take", 4, 0)),
+    ("key k close", "k", ("close", 0, 0)),
+    ("key k close 16", "k", ("close", 16, 0)),
+    ("key key take 4", "key", ("take", 4, 0)),
+    ("key take take 4", "take", ("take", 4, 0)),
+    ("key 5 take 4", "5", ("take", 4, 0)),
+    ("key \"\\\",;= take 4", "\"\\\",;=", ("take", 4, 0)),
+    (
+        "key 0123456789abcdef0123456789abcdef0123456789abcdef0123456789abcde take 4",
+        "0123456789abcdef0123456789abcdef0123456789abcdef0123456789abcde",
+        ("take", 4, 0),
+    ),
+    (
+        "key 0123456789abcdef0123456789abcdef0123456789abcdef0123456789abcdef take 4",
+        "0123456789abcdef0123456789abcdef0123456789abcdef0123456789abcdef",
+        ("take", 4, 0),
+    ),
+];
+
+/// The same at a site whose own clock shows `NOW`.
+const KEYED_TIMED: [(&str, &str, Shown); 2] = [
+    ("key k spend 3 +1", "k", ("spend by", 3, DAY - 1)),
+    ("key k take 4", "k", ("take", 4, 0)),
+];
+
+/// Lines with a key that is none, or that may have none.
+const BAD_KEYS: [(&str, Shown); 21] = [
+    ("key ", BAD_KEY),
+    ("key  ", BAD_KEY),
+    ("key  take 4", BAD_KEY),
+    ("key  nonsense", BAD_KEY),
+    (
+        "key 0123456789abcdef0123456789abcdef0123456789abcdef0123456789abcdef0 take 4",
+        BAD_KEY,
+    ),
+    (
+        "key 0123456789abcdef0123456789abcdef0123456789abcdef0123456789abcdef0",
+        BAD_KEY,
+    ),
+    ("key a\tb take 4", BAD_KEY),
+    ("key k\r", BAD_KEY),
+    ("key \u{1f} take 4", BAD_KEY),
+    ("key \u{7f} take 4", BAD_KEY),
+    ("key \u{e9} take 4", BAD_KEY),
+    ("key k\u{e9}", BAD_KEY),
+    ("key \u{e9} nonsense", BAD_KEY),
+    ("key \u{e9} key k take 4", BAD_KEY),
+    ("key k outcome 12", BAD_KEY),
+    ("key k cancel 12", BAD_KEY),
+    ("key k tick 5", BAD_KEY),
+    ("key k status", BAD_KEY),
+    ("key k queue", BAD_KEY),
+    ("key k quit", BAD_KEY),
+    ("key quit quit", BAD_KEY),
+];
+
+const BAD_KEY: Shown = ("bad key", 0, 0);
+
+/// Whether a command is this one under this key.
+fn is_under(command: SiteCommand, key: &str, expected: Shown) -> bool {
+    match command {
+        SiteCommand::Keyed(under, command) => {
+            under.bytes() == key.as_bytes() && shown_at_desk(command) == expected
+        }
+        _ => false,
+    }
+}
+
+/// The same, if there is a command.
+fn is_keyed(command: Option<SiteCommand>, key: &str, expected: Shown) -> bool {
+    match command {
+        Some(command) => is_under(command, key, expected),
+        None => false,
+    }
+}
+
+fn check_keyed(rt: &impl Abort, rows: &[(&str, &str, Shown)], time: Option<u64>) {
+    for (line, key, expected) in rows {
+        let command = read_command(line.as_bytes(), time);
+        assert!(rt; is_keyed(command, *key, *expected), "at {line:?}");
+    }
+}
+
+/// A command that writes an entry may have a key, and no other.
+#[test]
+fn commands_have_keys(rt: HostRuntime) {
+    check_keyed(&rt, &KEYED, None);
+    check_keyed(&rt, &KEYED_TIMED, Some(NOW));
+    check_read(&rt, &BAD_KEYS, None);
+    check_read(&rt, &[("key k tick 5", BAD_KEY)], Some(NOW));
+    check_refused(&rt, &["key k tick", "key k spend 3 +"], Some(NOW));
+}
+
+/// Lines that may not have the key that comes beside them.
+const UNKEYED: [&str; 10] = [
+    "key k take 4",
+    "key  take 4",
+    "key k status",
+    "outcome 12",
+    "cancel 12",
+    "tick 5",
+    "status",
+    "queue",
+    "quit",
+    "key \u{e9}",
+];
+
+/// What a line spells under a key that comes beside it.
+fn read_beside(line: &str, key: &str) -> Option<SiteCommand> {
+    with_key(
+        read_command(line.as_bytes(), None),
+        Key::read(key.as_bytes())?,
+    )
+}
+
+fn is_bad_key(command: Option<SiteCommand>) -> bool {
+    match command {
+        Some(command) => shown(command) == BAD_KEY,
+        None => false,
+    }
+}
+
+/// A key beside a line is that of a command that may have one, and has none in its line.
+#[test]
+fn a_key_may_come_beside_a_line(rt: HostRuntime) {
+    assert!(rt; is_keyed(read_beside("take 4", "k"), "k", ("take", 4, 0)));
+    assert!(rt; is_keyed(read_beside("close", "k"), "k", ("close", 0, 0)));
+    for line in &UNKEYED {
+        assert!(rt; is_bad_key(read_beside(*line, "k")), "at {line:?}");
+    }
+    assert!(rt; read_beside("take", "k").is_none());
+    assert!(rt; read_beside("key k take", "k").is_none());
 }

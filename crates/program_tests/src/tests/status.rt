@@ -10,8 +10,9 @@ fn text(
     desk: &DeskView,
     peers: &[PeerView],
     journal: Option<JournalView>,
+    keys: u64,
 ) -> Result<String, OutOfMemory> {
-    Ok(status(alloc, desk, peers, journal)?.to_string(alloc)?)
+    Ok(status(alloc, desk, peers, journal, keys)?.to_string(alloc)?)
 }
 
 /// Whether this is the text of the object.
@@ -20,9 +21,10 @@ fn is_text(
     desk: &DeskView,
     peers: &[PeerView],
     journal: Option<JournalView>,
+    keys: u64,
     wanted: &str,
 ) -> bool {
-    match text(alloc, desk, peers, journal) {
+    match text(alloc, desk, peers, journal, keys) {
         Ok(text) => text.as_str() == wanted,
         Err(_) => false,
     }
@@ -51,13 +53,21 @@ fn the_text_is_compact(rt: HostRuntime) {
     }];
     let wanted =
         r#"{"closed":false,"held":3,"issued":10,"number":3,"peers":[{"applied":0,"buffering":false,"held":0,"site":2}],"queued":0,"received":0,"site":1,"spent":4}"#;
-    assert!(rt; is_text(rt.alloc(), &desk, &peers, None, wanted));
+    assert!(rt; is_text(rt.alloc(), &desk, &peers, None, 0, wanted));
 }
 
 /// Whether the list of no peers is empty.
 fn has_no_peers(alloc: Global, desk: &DeskView) -> bool {
-    match text(alloc, desk, &[], None) {
+    match text(alloc, desk, &[], None, 0) {
         Ok(text) => text.as_str().contains(r#""peers":[],"#),
+        Err(_) => false,
+    }
+}
+
+/// Whether the number of keys is shown without a journal too.
+fn has_keys_without_journal(alloc: Global, desk: &DeskView) -> bool {
+    match text(alloc, desk, &[], None, 1) {
+        Ok(text) => text.as_str().contains(r#""issued":11,"keys":1,"number":"#),
         Err(_) => false,
     }
 }
@@ -98,8 +108,9 @@ fn each_value_is_at_its_key(rt: HostRuntime) {
         synced: 29,
     };
     let wanted =
-        r#"{"closed":true,"held":18446744073709551615,"issued":11,"journal":{"bytes":26,"durable":27,"records":28,"synced":29},"number":1000000000,"peers":[{"applied":21,"buffering":true,"held":64,"site":16},{"applied":23,"buffering":false,"held":24,"site":1}],"queued":17,"received":15,"site":3,"spent":12}"#;
-    assert!(rt; is_text(rt.alloc(), &desk, &peers, Some(journal), wanted));
+        r#"{"closed":true,"held":18446744073709551615,"issued":11,"journal":{"bytes":26,"durable":27,"records":28,"synced":29},"keys":25,"number":1000000000,"peers":[{"applied":21,"buffering":true,"held":64,"site":16},{"applied":23,"buffering":false,"held":24,"site":1}],"queued":17,"received":15,"site":3,"spent":12}"#;
+    assert!(rt; is_text(rt.alloc(), &desk, &peers, Some(journal), 25, wanted));
+    assert!(rt; has_keys_without_journal(rt.alloc(), &desk));
     assert!(rt; has_no_peers(rt.alloc(), &desk));
 }
 
@@ -140,7 +151,9 @@ fn lists_peers(alloc: Global, desk: &DeskView, count: u64) -> bool {
         first_peers(alloc, count),
         text_with_first_peers(alloc, count),
     ) {
-        (Ok(peers), Ok(wanted)) => { is_text(alloc, desk, peers.as_slice(), None, wanted.as_str()) }
+        (Ok(peers), Ok(wanted)) => {
+            is_text(alloc, desk, peers.as_slice(), None, 0, wanted.as_str())
+        }
         _ => false,
     }
 }

@@ -47,6 +47,7 @@ Options:
       --host <NAME>       Answers HTTP requests to this name of the host too, besides IP addresses and localhost
       --tick <MS>         Ticks by itself, every MS milliseconds (1 to 60,000)
       --silent <MS>       With --tick: a peer with no line for MS milliseconds is silent (1,000 to 3,600,000; 0: never)
+      --keys <N>          Remembers the keys of the last N commands (0 to 10,000,000; 0: none are taken; 1,000,000 if not given)
       --once <FILE>       Creates FILE at the start, and does not start if it exists
       --journal <FILE>    Keeps a journal in FILE, and starts again from it if it exists (not with --once)
       --system <NAME>     With --journal: the name of the system, 1 to 32 letters, digits and hyphens
@@ -65,6 +66,7 @@ Commands, one a line on standard input, and their replies:
   status       the state of the site, as an object of JSON
   queue        the spends that wait, as an object of JSON
   close [J]    closes the site; site J gets what it holds
+  key K C      one of issue, give, spend, take and close, done once for each key K
   quit         ends the program
 
 Example, one site of two, which ticks by itself and also serves HTTP:
@@ -161,10 +163,19 @@ fn put_config(text: &mut String, config: &Config) -> Put {
     put_word(text, "http", config.http())?;
     put_number(text, "tick", config.tick())?;
     put_number(text, "silent", config.silent_after())?;
+    put_number(text, "keys", unusual_keys(config))?;
     put_word(text, "once", config.once())?;
     put_word(text, "journal", config.journal())?;
     put_word(text, "system", config.system())?;
     text.push_str(if config.log() { " log" } else { "" })
+}
+
+/// How many keys a site remembers, if that is not what it is without words for it.
+fn unusual_keys(config: &Config) -> Option<u64> {
+    match config.keys() {
+        1_000_000 => None,
+        keys => Some(keys),
+    }
 }
 
 fn put_peer(text: &mut String, peer: &PeerAddress) -> Put {
@@ -383,6 +394,28 @@ fn a_peer_is_silent_after_a_time(rt: HostRuntime) {
     check_all_options(&rt, &SILENCES);
 }
 
+/// Words for keys of commands, and how many are remembered.
+const KEYS: [(&str, &str); 10] = [
+    (" --keys 0", " keys 0"),
+    (" --keys=1", " keys 1"),
+    (" --keys 999999", " keys 999999"),
+    (" --keys 1000000", ""),
+    (" --keys 1000001", " keys 1000001"),
+    (" --keys 10000000", " keys 10000000"),
+    (" --keys +0007", " keys 7"),
+    (" --keys 5 --log", " keys 5 log"),
+    (" --keys 10000001", REFUSED),
+    (
+        " --once f --keys=2 --silent 0 --tick 9",
+        " tick 9 keys 2 once f",
+    ),
+];
+
+#[test]
+fn a_site_remembers_so_many_keys(rt: HostRuntime) {
+    check_all_options(&rt, &KEYS);
+}
+
 /// Words for the options that may be omitted, and what they set.
 const EXTRAS: [(&str, &str); 13] = [
     ("", ""),
@@ -574,7 +607,7 @@ fn only_its_own_peer_is_let_in_at_an_entrance(rt: HostRuntime) {
 }
 
 /// Words that are no options of a site.
-const OTHER_OPTIONS: [&str; 35] = [
+const OTHER_OPTIONS: [&str; 44] = [
     "--tick 0",
     "--tick=0",
     "--tick 60001",
@@ -601,8 +634,16 @@ const OTHER_OPTIONS: [&str; 35] = [
     "--silent x",
     "--silent=",
     "--silent --log",
+    "--keys 10000001",
+    "--keys=18446744073709551616",
+    "--keys -1",
+    "--keys 1e3",
+    "--keys x",
+    "--keys=",
+    "--keys --log",
     // Each at most once.
     "--silent 0 --silent 0",
+    "--keys 5 --keys 5",
     "--tick 5 --tick 5",
     "--http h --http i",
     "--once f --once=f",
@@ -610,6 +651,7 @@ const OTHER_OPTIONS: [&str; 35] = [
     // No other name.
     "--ticks 5",
     "--silence 5000",
+    "--key 5",
     "--htt h",
     "--Log",
     "-l",
@@ -632,7 +674,7 @@ fn other_forms_of_options_are_refused(rt: HostRuntime) {
 
 #[test]
 fn options_with_no_value_are_refused(rt: HostRuntime) {
-    check_options_refused(&rt, &["--http", "--tick", "--silent", "--once"]);
+    check_options_refused(&rt, &["--http", "--tick", "--silent", "--keys", "--once"]);
 }
 
 /// Options that are not behind `run`.

@@ -4,7 +4,7 @@ use Rattle.std.proofs.lemmas.Result.{err_from_is_err_and}
 use Rattle.clap.specs.Matches.{found_of}
 use Rattle.clap.specs.Walk.{Text, rows_of, texts}
 use Rattle.clap.proofs.WalkLemmas.{first_value-rows, raw_values-rows}
-use Rattle.site_words.proofs.SettingsLaws.{MayBeOptions, silence_fits, tick_fits, unwrap_mapped}
+use Rattle.site_words.proofs.SettingsLaws.{MayBeOptions, count_fits, silence_fits, tick_fits, unwrap_mapped}
 use Rattle.site_words.proofs.words.options_of.Goals as goal
 
 pub returns-in_err-tick : goal.returns-in_err-tick
@@ -21,6 +21,12 @@ returns-in_err-silent c =
       λ o valid found.
           c.in_err-silent.ensures.1 o.silent (silence_fits o.silent valid.silent) found.silent,
     )
+
+pub returns-in_err-keys : goal.returns-in_err-keys
+returns-in_err-keys c =
+    let p = err_from_is_err_and c.from_residual-in_err-keys.result c.from_residual-in_err-keys.ensures.1 in
+    subst (MayBeOptions (rows_of (found_of c.args.matches.now))) (sym (p.1 ∙ ap Err p.2))
+    (c.in_err-keys.ensures.0, λ o valid found. c.in_err-keys.ensures.1 o.keys (count_fits o.keys valid.keys) found.keys)
 
 pub returns-in_err-log : goal.returns-in_err-log
 returns-in_err-log c =
@@ -39,6 +45,7 @@ returns c =
           ∙ ap (λ s. texts s.now) (sym c.unwrap_or.ensures);
       tick = c.in_ok-tick.ensures;
       silent = c.in_ok-silent.ensures;
+      keys = c.in_ok-keys.ensures;
       once = sym (first_value-rows f (codes "once")) ∙ sym c.get_str-2.ensures;
       journal = sym (first_value-rows f (codes "journal")) ∙ sym c.get_str-3.ensures;
       system = sym (first_value-rows f (codes "system")) ∙ sym c.get_str-4.ensures;
