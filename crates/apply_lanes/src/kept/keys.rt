@@ -1,13 +1,16 @@
 //! The keys of commands under the lock.
-ghost use Rattle.std.specs.Prelude.{◌≡◌, ◌≤◌, ◌++◌, ◌∷◌, [], length, nat_lt, Option, None, OnOk};
+ghost use Rattle.std.specs.Prelude.{◌≡◌, ◌≤◌, ◌++◌, ◌∷◌, [], length, nat_lt, Option, None, IfErr, OnOk, OnErr};
 ghost use Rattle.command_keys.specs.Keys.{outcome_of, remembered, Settles};
 ghost use Rattle.command_keys.specs.Books.{KeyBookValue, HasRoom, ServesKey, with_record};
+ghost use Rattle.site_records.specs.KeyRecords.{RefusesKey};
 ghost use Rattle.apply_lanes.specs.Kepts.{book_of};
+ghost use Rattle.apply_lanes.specs.Keeping.{ReplaysKey, with_room};
 
 use crate::kept::Kept;
 use crate::names::DeskNames;
 use command_keys::{Key, KeyBook, Outcome, Written};
 use rights_types::OutOfMemory;
+use site_records::{KeyFault, effect_at};
 use std::alloc::Allocator;
 
 /// The keys whose records are not in the journal yet.
@@ -62,12 +65,7 @@ impl<D: DeskNames, A: Allocator + Copy> Kept<D, A> {
 
     /// Makes room for one more key. `OutOfMemory` if it is refused, or no keys are taken.
     pub fn reserve_key(&mut self) -> Result<(), OutOfMemory>
-        ensures same { self.new ≡ record self.old {
-          keys = record self.old.keys {
-            keys = record self.old.keys.keys { room = self.new.keys.keys.room };
-            room = self.new.keys.room;
-          };
-        } }
+        ensures same { self.new ≡ with_room self.old self.new.keys }
         ensures ok { OnOk result (HasRoom self.new.keys) }
     {
         match &mut self.keys {
@@ -123,5 +121,28 @@ impl<D: DeskNames, A: Allocator + Copy> Kept<D, A> {
         if let Some(book) = &mut self.keys {
             book.serve(ticket, number);
         }
+    }
+
+    /// Remembers the key of a record of the journal again, with the number of its entry, and with what that entry of the
+    /// desk's log did. A site that takes no keys remembers none. Errors, in this order: `NoEntry`, `Repeated`,
+    /// `OutOfMemory`; but `OutOfMemory` comes first where memory to read the entry is refused.
+    pub fn replay_key(&mut self, key: Key, number: u64) -> Result<(), KeyFault>
+        ensures ok { OnOk result (ReplaysKey (nat_lt 0 self.old.keys.keys.cap) self.old key number self.new) }
+        ensures refused { IfErr result
+            (RefusesKey self.old.keys.keys self.old.desk.ledger.log.entries key number) }
+        ensures err { OnErr result (self.new ≡ with_room self.old self.new.keys) }
+    {
+        if !self.takes_keys() {
+            return Ok(());
+        }
+        let Some(effect) = effect_at(self.desk.log(), number)? else {
+            return Err(KeyFault::NoEntry);
+        };
+        if self.key_outcome(&key).is_some() {
+            return Err(KeyFault::Repeated);
+        }
+        self.reserve_key()?;
+        self.remember_key(key, Written { number, effect });
+        Ok(())
     }
 }
