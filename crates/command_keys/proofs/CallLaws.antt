@@ -63,7 +63,7 @@ expires old added new once few h =
     let e : ExpiresAt old h.place new = h.expires in
     let within : h.place < length old.waiting = slice_get_within old.waiting h.place e.spend e.found in
     let at = sym (get_or_from_slice_get old.waiting h.place e.spend e.spend e.found) in
-    let then = once_expired old.waiting h.place e.spend within at MAX_EXPIRED e.spend.amount old.written old.expired
+    let then = once_expired old.waiting h.place e.spend within at MAX_EXPIRED old.written old.expired
     once in
     record {
       cap = e.cap;

@@ -8,9 +8,10 @@ use Rattle.std.specs.Cmp.Lexicographic.{bytes_decides, nat_list_eq_equiv}
 use Rattle.std.proofs.lemmas.List.Sums.{sum_by-cons, sum_by_push, sum_by-take-le, sum_by-remove, get_or-le-sum_by}
 use Rattle.std.proofs.lemmas.List.Quantifiers.{position-Some}
 use Rattle.command_keys.specs.Last.{LastValue, newest_of}
-use Rattle.command_keys.specs.Keys.{KeysValue, outcome_by, outcome_of, times, serving, IsKeys, place_of}
+use Rattle.command_keys.specs.Keys.{KeysValue, outcome_by, outcome_of, times, serving, ending, IsKeys, place_of}
 use Rattle.command_keys.specs.declared.outcome.Waiting.{Waiting}
 use Rattle.command_keys.specs.declared.outcome.Written.{Written}
+use Rattle.command_keys.specs.declared.outcome.Ended.{Ended}
 use Rattle.command_keys.proofs.Lookups.{hits, hits-cons, none_hit, found_none}
 
 abbrev pub one_if : Bool → ℕ
@@ -32,15 +33,15 @@ hits-put {V} q cap e es =
 
 -- ---- a free key does not occur
 
-record IsFree (written : Option Written) (waits : Option Waiting) (expired : Option ℕ) : Type 0 where
+record IsFree (written : Option Written) (waits : Option Waiting) (expired : Option Ended) : Type 0 where
   unwritten : written ≡ None
   not_waiting : waits ≡ None
   unexpired : expired ≡ None
 
-free_by : (a : Option Written) (b : Option Waiting) (c : Option ℕ) → outcome_by a b c ≡ None → IsFree a b c
+free_by : (a : Option Written) (b : Option Waiting) (c : Option Ended) → outcome_by a b c ≡ None → IsFree a b c
 free_by (Some entry) b c h = absurd cc
 free_by None (Some w) c h = absurd cc
-free_by None None (Some amount) h = absurd cc
+free_by None None (Some ended) h = absurd cc
 free_by None None None h = record { unwritten = refl; not_waiting = refl; unexpired = refl }
 
 by_first : (b : Bool) (w : Waiting) (o : Option Waiting) (n : ℕ) → (o ≡ None → n ≡ 0) → cond b (Some w) o ≡ None
@@ -113,30 +114,30 @@ module _ (ws : List Waiting) (i : ℕ) (w : Waiting) (within : i < length ws) (a
       subst (λ (b : Bool). one_if b ≤ waits w.key ws) same here
 
   -- .. and nowhere else
-  pub written_free : (es : List (List ℕ × Written)) (fs : List (List ℕ × ℕ)) → times es ws fs w.key ≤ 1 → lookup (bytes_eq w.key) es ≡ None
+  pub written_free : (es : List (List ℕ × Written)) (fs : List (List ℕ × Ended)) → times es ws fs w.key ≤ 1 → lookup (bytes_eq w.key) es ≡ None
   written_free es fs once = found_none (bytes_eq w.key) es (omega (arith, waits_here, once))
 
-  pub expired_free : (es : List (List ℕ × Written)) (fs : List (List ℕ × ℕ)) → times es ws fs w.key ≤ 1 → lookup (bytes_eq w.key) fs ≡ None
+  pub expired_free : (es : List (List ℕ × Written)) (fs : List (List ℕ × Ended)) → times es ws fs w.key ≤ 1 → lookup (bytes_eq w.key) fs ≡ None
   expired_free es fs once = found_none (bytes_eq w.key) fs (omega (arith, waits_here, once))
 
   waits_left : (q : List ℕ) → waits q (remove ws i) + one_if (bytes_eq q w.key) ≡ waits q ws
   waits_left q = ap (λ (v : Waiting). waits q (remove ws i) + one_if (bytes_eq q v.key)) at
       ∙ sum_by-remove (λ (v : Waiting). one_if (bytes_eq q v.key)) ws i w within
 
-  pub once_served : (cap number : ℕ) (es : List (List ℕ × Written)) (fs : List (List ℕ × ℕ)) → ((r : List ℕ) → times es ws fs r ≤ 1)
+  pub once_served : (cap number : ℕ) (es : List (List ℕ × Written)) (fs : List (List ℕ × Ended)) → ((r : List ℕ) → times es ws fs r ≤ 1)
       → (q : List ℕ) → times (newest_of cap ((w.key, serving w number) ∷ es)) (remove ws i) fs q ≤ 1
   once_served cap number es fs once q =
       omega (arith, hits-put q cap (w.key, serving w number) es, waits_left q, once q)
 
-  pub once_expired : (cap amount : ℕ) (es : List (List ℕ × Written)) (fs : List (List ℕ × ℕ)) → ((r : List ℕ) → times es ws fs r ≤ 1)
-      → (q : List ℕ) → times es (remove ws i) (newest_of cap ((w.key, amount) ∷ fs)) q ≤ 1
-  once_expired cap amount es fs once q =
-      omega (arith, hits-put q cap (w.key, amount) fs, waits_left q, once q)
+  pub once_expired : (cap : ℕ) (es : List (List ℕ × Written)) (fs : List (List ℕ × Ended)) → ((r : List ℕ) → times es ws fs r ≤ 1)
+      → (q : List ℕ) → times es (remove ws i) (newest_of cap ((w.key, ending w) ∷ fs)) q ≤ 1
+  once_expired cap es fs once q =
+      omega (arith, hits-put q cap (w.key, ending w) fs, waits_left q, once q)
 
 -- ---- calls
 
 -- keys with more room
-pub grown : (w v : LastValue Written) (ws : List Waiting) (e f : LastValue ℕ) → v.entries ≡ w.entries → w.spare ≤ v.spare
+pub grown : (w v : LastValue Written) (ws : List Waiting) (e f : LastValue Ended) → v.entries ≡ w.entries → w.spare ≤ v.spare
     → f.entries ≡ e.entries → e.spare ≤ f.spare → f.cap ≡ e.cap → IsKeys w ws e → IsKeys v ws f
 grown w v ws e f same_written more_written same_expired more_expired cap is = record {
   once = rw (same_written, same_expired) is.once;

@@ -9,18 +9,19 @@ use Rattle.command_keys.specs.Last.{LastValue, newest_of}
 use Rattle.command_keys.specs.declared.keys.TheConstants.{MAX_EXPIRED}
 use Rattle.command_keys.specs.declared.outcome.Waiting.{Waiting}
 use Rattle.command_keys.specs.declared.outcome.Written.{Written}
+use Rattle.command_keys.specs.declared.outcome.Ended.{Ended}
 use Rattle.command_keys.specs.declared.outcome.Effect.TheVariants.{Spend}
 use Rattle.command_keys.specs.declared.outcome.Outcome.{Outcome}
 use Rattle.command_keys.specs.declared.outcome.Outcome.TheVariants.{Wrote, Waits, Expired}
 
 -- The keys that wrote entries with these entries, the newest first, and how many are remembered at most; the
--- spends that wait under keys, in order; the keys whose spend expired with its amount, the newest first; and how many
+-- spends that wait under keys, in order; the keys whose spend expired, the newest first; and how many
 -- more keys there is memory for.
 pub record KeysValue : Type 0 where
   pub written : List (List ℕ × Written)
   pub cap : ℕ
   pub waiting : List Waiting
-  pub expired : List (List ℕ × ℕ)
+  pub expired : List (List ℕ × Ended)
   pub room : ℕ
 
 abbrev pub no_keys : ℕ → KeysValue
@@ -28,10 +29,10 @@ no_keys cap = record { written = []; cap = cap; waiting = []; expired = []; room
 
 -- ---- where the command of a key ended
 
-abbrev pub outcome_by : Option Written → Option Waiting → Option ℕ → Option Outcome
-outcome_by (Some entry) waits amount = Some (Wrote entry)
-outcome_by None (Some w) amount = Some (Waits w.ticket w.amount)
-outcome_by None None (Some amount) = Some (Expired amount)
+abbrev pub outcome_by : Option Written → Option Waiting → Option Ended → Option Outcome
+outcome_by (Some entry) waits ended = Some (Wrote entry)
+outcome_by None (Some w) ended = Some (Waits w.ticket w.amount)
+outcome_by None None (Some ended) = Some (Expired ended)
 outcome_by None None None = None
 
 abbrev pub outcome_of : KeysValue → List ℕ → Option Outcome
@@ -45,7 +46,7 @@ key_of ticket waiting = option_map (λ (w : Waiting). w.key) (find (λ (w : Wait
 -- ---- no key twice
 
 -- how often a key occurs
-abbrev pub times : List (List ℕ × Written) → List Waiting → List (List ℕ × ℕ) → List ℕ → ℕ
+abbrev pub times : List (List ℕ × Written) → List Waiting → List (List ℕ × Ended) → List ℕ → ℕ
 times written waiting expired key =
     count_by (λ e. bytes_eq key e.0) written
     + (count_by (λ (w : Waiting). bytes_eq key w.key) waiting + count_by (λ e. bytes_eq key e.0) expired)
@@ -54,7 +55,7 @@ abbrev pub IsOnce : KeysValue → Type 0
 IsOnce k = (key : List ℕ) → times k.written k.waiting k.expired key ≤ 1
 
 -- no key occurs twice, and each key of a spend that waits has room among those that wrote, and among the expired
-pub record IsKeys (written : LastValue Written) (waiting : List Waiting) (expired : LastValue ℕ) : Type 0 where
+pub record IsKeys (written : LastValue Written) (waiting : List Waiting) (expired : LastValue Ended) : Type 0 where
   pub once : (key : List ℕ) → times written.entries waiting expired.entries key ≤ 1
   pub may_write : length waiting ≤ written.spare
   pub may_expire : length waiting ≤ expired.spare
@@ -68,7 +69,10 @@ remembered k key entry = record k { written = newest_of k.cap ((key, entry) ∷ 
 
 -- the entry of this number, which served a spend
 abbrev pub serving : Waiting → ℕ → Written
-serving spend number = record { number = number; effect = Spend spend.amount }
+serving spend number = record { number = number; effect = Spend spend.amount; ticket = spend.ticket }
+
+abbrev pub ending : Waiting → Ended
+ending spend = record { ticket = spend.ticket; amount = spend.amount }
 
 -- the waiting spend with this place was served by the entry of this number
 pub record ServesAt (old : KeysValue) (place number : ℕ) (new : KeysValue) : Type 0 where
@@ -83,7 +87,7 @@ pub record ServesAt (old : KeysValue) (place number : ℕ) (new : KeysValue) : T
 pub record ExpiresAt (old : KeysValue) (place : ℕ) (new : KeysValue) : Type 0 where
   pub spend : Waiting
   pub found : slice_get old.waiting place ≡ Some spend
-  pub ended : new.expired ≡ newest_of MAX_EXPIRED ((spend.key, spend.amount) ∷ old.expired)
+  pub ended : new.expired ≡ newest_of MAX_EXPIRED ((spend.key, ending spend) ∷ old.expired)
   pub others : new.waiting ≡ remove old.waiting place
   pub cap : new.cap ≡ old.cap
   pub written : new.written ≡ old.written

@@ -7,7 +7,7 @@ ghost use Rattle.command_keys.specs.declared.outcome.Waiting.{Waiting};
 
 use crate::key::Key;
 use crate::last::LastKeys;
-use crate::outcome::{Effect, Outcome, Waiting, Written};
+use crate::outcome::{Effect, Ended, Outcome, Waiting, Written};
 use request_queue::Request;
 use rights_types::OutOfMemory;
 use std::alloc::{Allocator, Global};
@@ -23,7 +23,7 @@ pub const MAX_EXPIRED: usize = 10_000;
 pub struct Keys<A: Allocator = Global> {
     written: LastKeys<Written, A>,
     waiting: Vec<Waiting, A>,
-    expired: LastKeys<u64, A>,
+    expired: LastKeys<Ended, A>,
 }
 
 impl<A: Allocator> Model for Keys<A> {
@@ -155,8 +155,12 @@ impl<A: Allocator> Keys<A> {
             return;
         };
         let spend = self.waiting.remove(index);
-        let effect = Effect::Spend(spend.amount);
-        self.written.put(spend.key, Written { number, effect });
+        let written = Written {
+            number,
+            effect: Effect::Spend(spend.amount),
+            ticket: spend.ticket,
+        };
+        self.written.put(spend.key, written);
     }
 
     /// The waiting spend with this ticket expired, or was cancelled: its key, if it has one, is remembered so. It asks
@@ -175,7 +179,11 @@ impl<A: Allocator> Keys<A> {
         ensures { ExpiresAt self.old index self.new }
     {
         let spend = self.waiting.remove(index);
-        self.expired.put(spend.key, spend.amount);
+        let ended = Ended {
+            ticket: spend.ticket,
+            amount: spend.amount,
+        };
+        self.expired.put(spend.key, ended);
     }
 
     /// The spends that wait under keys but are not among these requests expired, or were cancelled: their keys are

@@ -17,4 +17,4 @@ pub use book::KeyBook;
 pub use key::{Key, MAX_KEY};
 pub use keys::{Keys, MAX_EXPIRED};
 pub use last::LastKeys;
-pub use outcome::{Effect, Outcome, Waiting, Written};
+pub use outcome::{Effect, Ended, Outcome, Waiting, Written};

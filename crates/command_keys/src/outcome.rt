@@ -23,6 +23,16 @@ pub struct Written {
     /// The number of the entry.
     pub number: u64,
     pub effect: Effect,
+    /// The ticket of the spend if it waited, else 0.
+    pub ticket: u64,
+}
+
+/// A spend that waited and was not served.
+#[derive(Clone, Copy, Debug, PartialEq, Eq)]
+pub struct Ended {
+    pub ticket: u64,
+    /// The rights that it would have spent.
+    pub amount: u64,
 }
 
 /// Where the command of a key ended.
@@ -32,8 +42,8 @@ pub enum Outcome {
     Wrote(Written),
     /// It is a spend that waits, with its ticket and the rights that it will spend.
     Waits(u64, u64),
-    /// It was a spend of so many rights, whose deadline passed, or which was cancelled.
-    Expired(u64),
+    /// It is a spend whose deadline passed, or which was cancelled.
+    Expired(Ended),
 }
 
 /// A spend that waits under a key.

@@ -5,6 +5,7 @@ use Rattle.apply_lanes.specs.Names.{DeskId}
 use Rattle.apply_lanes.specs.Kepts.{KeptValue, SeatValue, IsKept}
 use Rattle.site_words.specs.declared.commands.DeskCommand.{DeskCommand}
 use Rattle.site_node.specs.Acting.{Acts}
+use Rattle.site_node.specs.Keyed.{ActsKeyed}
 use Rattle.site_node.specs.declared.reply.Reply.{Reply}
 use Rattle.site_node.specs.declared.tick.Ticked.{Ticked}
 use Rattle.site_core.specs.declared.fault.ReplayError.{ReplayError}
@@ -25,6 +26,15 @@ pub record ActsAtDesk (id : DeskId) (was : SeatedValue) (command : DeskCommand) 
   pub one : now.states ≡ was.states ++ old ∷ new ∷ []
   pub valid : IsKept id old
   pub acts : Acts old was.told command reply new now.told
+
+-- in one turn, the desk carried out the command under this key, or its repeat, and this is the reply
+pub record ActsKeyedAtDesk (id : DeskId) (was : SeatedValue) (key : List ℕ) (command : DeskCommand) (reply : Reply)
+    (now : SeatedValue) : Type 0 where
+  pub old : KeptValue
+  pub new : KeptValue
+  pub one : now.states ≡ was.states ++ old ∷ new ∷ []
+  pub valid : IsKept id old
+  pub acts : ActsKeyed old was.told key command reply new now.told
 
 -- in one turn, everything due at this time, beside these silent sites, was done at the desk
 pub record TicksAtDesk (silent : ℕ → Bool) (id : DeskId) (was : SeatedValue) (time : ℕ)

@@ -2,11 +2,12 @@
 ghost use Rattle.std.specs.Prelude.{◌≡◌, ◌+◌, ◌≤◌, false, [], IfOk, IfSome};
 ghost use Rattle.apply_lanes.specs.declared.names.TheConstants.{SEATS};
 ghost use Rattle.transfer_manager.specs.SiteSets.{has_site};
-ghost use Rattle.desk_turns.specs.Seated.{ActsAtDesk, ReplaysAtDesk, TicksAtDesk};
+ghost use Rattle.desk_turns.specs.Seated.{ActsAtDesk, ActsKeyedAtDesk, ReplaysAtDesk, TicksAtDesk};
 
 use crate::turns::{Look, TurnDesk, Turns};
-use crate::work::{Act, ReplayOwn, Tick, TickBeside};
+use crate::work::{Act, ActKeyed, ReplayOwn, Tick, TickBeside};
 use apply_lanes::{DeskNames, Seat};
+use command_keys::Key;
 use rights_types::{Entry, OutOfMemory};
 use site_core::{DeskError, ReplayError};
 use site_node::{Reply, Ticked};
@@ -111,6 +112,13 @@ impl<D: DeskNames> Seated<'_, D> {
         ensures { ActsAtDesk D.id self.old command result self.new }
     {
         self.turns.take(rt, Act(command), &mut *self.seat)
+    }
+
+    /// Carries out a command under a key at the desk, in one turn.
+    pub fn act_keyed<R: Wait>(&mut self, rt: &R, key: Key, command: DeskCommand) -> Reply
+        ensures { ActsKeyedAtDesk D.id self.old key command result self.new }
+    {
+        self.turns.take(rt, ActKeyed(key, command), &mut *self.seat)
     }
 
     /// Does what is due at this time, in milliseconds, at the desk, in one turn.

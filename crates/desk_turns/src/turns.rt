@@ -11,6 +11,7 @@ use apply_lanes::{
     AdmitError, Applier, Blanks, DeskNames, Free, Kept, Outlet, Seat, SeatsFull, SharedDesk,
     StepError, pause,
 };
+use command_keys::KeyBook;
 use durability::Durability;
 use histories::History;
 use rights_types::SiteId;
@@ -55,15 +56,20 @@ impl<D: DeskNames> Model for Turns<D> {
 }
 
 impl<D: DeskNames> TurnDesk<D> {
-    /// Shares a desk whose log is empty and that applied nothing. With a journal, each turn notes how many records were
-    /// made.
-    pub fn new(desk: Desk, blanks: Blanks, durability: Option<Arc<Durability>>) -> TurnDesk<D>
+    /// Shares a desk whose log is empty and that applied nothing. Without keys it takes none. With a journal, each turn
+    /// notes how many records were made.
+    pub fn new(
+        desk: Desk,
+        blanks: Blanks,
+        keys: Option<KeyBook>,
+        durability: Option<Arc<Durability>>,
+    ) -> TurnDesk<D>
         requires id { D.id ≡ id_of desk blanks }
         requires blanks { AreBlank blanks }
         requires unused { IsUnused desk }
     {
         TurnDesk {
-            desk: SharedDesk::new(desk, blanks),
+            desk: SharedDesk::with_keys(desk, blanks, keys),
             durability,
         }
     }

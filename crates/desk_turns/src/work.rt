@@ -2,10 +2,12 @@
 ghost use Rattle.std.specs.Prelude.{ℕ};
 
 use apply_lanes::{Applier, DeskNames, Free, Kept, RecordLost, Seat, StepError};
+use command_keys::Key;
 use rights_types::{Ask, Entry, SiteId};
 use site_core::{DeskError, ReplayError};
 use site_journal::Batch;
-use site_node::{Reply, Ticked, act, serve_due, serve_due_beside};
+use site_node::{Reply, Ticked, act, act_keyed, serve_due, serve_due_beside};
+use site_records::KeyFault;
 use site_words::DeskCommand;
 use std::alloc::Global;
 use transfer_manager::SiteSet;
@@ -50,6 +52,26 @@ impl<D: DeskNames> Work<D> for Act {
 
     fn work(self, kept: &mut Kept<D>, with: &mut Seat<D>) -> Reply {
         act(kept, with, self.0)
+    }
+}
+
+/// To carry out a command under a key for a seat.
+#[derive(Drop)]
+pub struct ActKeyed(pub Key, pub DeskCommand);
+
+impl<D: DeskNames> Work<D> for ActKeyed {
+    ghost use Rattle.site_node.specs.Keyed.{ActsKeyed};
+
+    type With = Seat<D>;
+
+    type Told = Reply;
+
+    ghost may = { λ _. Unit {0} };
+
+    ghost does = { λ act was old reply now new. ActsKeyed old was act.0 act.1 reply new now };
+
+    fn work(self, kept: &mut Kept<D>, with: &mut Seat<D>) -> Reply {
+        act_keyed(kept, with, self.0, self.1)
     }
 }
 
@@ -135,6 +157,7 @@ pub struct KeepJournal {
 impl<D: DeskNames> Work<D> for KeepJournal {
     ghost use Rattle.std.specs.Prelude.{◌≡◌, []};
     ghost use Rattle.site_journal.specs.Batch.{records_in};
+    ghost use Rattle.desk_turns.specs.Journaling.{KeepsJournal};
 
     type With = ();
 
@@ -142,7 +165,7 @@ impl<D: DeskNames> Work<D> for KeepJournal {
 
     ghost may = { λ work. records_in work.batch ≡ [] };
 
-    ghost does = { λ _ _ old _ _ new. new ≡ record old { handed = old.records } };
+    ghost does = { λ _ _ old _ _ new. KeepsJournal old new };
 
     fn work(self, kept: &mut Kept<D>, _with: &mut ()) {
         kept.keep_journal(self.alloc, self.batch, self.made);
@@ -219,6 +242,26 @@ impl<D: DeskNames> Work<D> for ReplayAsk {
 
     fn work(self, kept: &mut Kept<D>, _with: &mut ()) -> Result<(), ReplayError> {
         kept.replay_ask(&self.0)
+    }
+}
+
+/// To remember the key of a record of the journal again, with the number of its entry.
+#[derive(Drop)]
+pub struct ReplayKey(pub Key, pub u64);
+
+impl<D: DeskNames> Work<D> for ReplayKey {
+    ghost use Rattle.desk_turns.specs.Journaling.{ReplaysKeyRecord};
+
+    type With = ();
+
+    type Told = Result<(), KeyFault>;
+
+    ghost may = { λ _. Unit {0} };
+
+    ghost does = { λ work _ old told _ new. ReplaysKeyRecord work.0 work.1 old told new };
+
+    fn work(self, kept: &mut Kept<D>, _with: &mut ()) -> Result<(), KeyFault> {
+        kept.replay_key(self.0, self.1)
     }
 }
 

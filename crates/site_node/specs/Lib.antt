@@ -1,5 +1,6 @@
 pub mod Refusals
 pub mod Acting
+pub mod Keyed
 pub mod Silence
 pub mod Ticking
 pub mod Sending

@@ -3,6 +3,7 @@ use Rattle.std.specs.Prelude.{ℕ, List, [], ◌∷◌, ◌++◌, decimal, codes
 use Rattle.std.specs.List.{flat_map}
 use Rattle.request_queue.specs.declared.request.Request.{Request}
 use Rattle.site_core.specs.declared.fault.DeskError.{DeskError}
+use Rattle.refusals.specs.Refusals.{refusal_text}
 use Rattle.refusals.specs.declared.answered.Answered.{Answered}
 use Rattle.refusals.specs.declared.answered.Answered.TheVariants.{Done, Refused as IsRefused}
 use Rattle.refusals.specs.declared.refusal.Refusal.TheVariants as refusal
@@ -10,6 +11,7 @@ use Rattle.reply_texts.specs.Texts.{number_text, spending_text, status_text, err
 use Rattle.site_node.specs.declared.tick.Ticked.{Ticked}
 use Rattle.site_node.specs.declared.reply.Reply.{Reply}
 use Rattle.site_node.specs.declared.reply.Reply.TheVariants.{Number, Spending, Outcome, Refused, BadDeadline}
+use Rattle.site_node.specs.declared.reply.Reply.TheVariants.{KeyRefused, KeyReused}
 
 abbrev pub reply_text : Reply → List ℕ
 reply_text (Number number) = number_text number
@@ -17,11 +19,15 @@ reply_text (Spending spending) = spending_text spending
 reply_text (Outcome status) = status_text status
 reply_text (Refused cause) = error_text cause
 reply_text BadDeadline = bad_deadline
+reply_text KeyRefused = refusal_text refusal.KeyRefused
+reply_text KeyReused = refusal_text refusal.KeyReused
 
 -- how a command with this reply is answered
 abbrev pub reply_answered : Reply → Answered
 reply_answered (Refused cause) = IsRefused (refusal_of cause)
 reply_answered BadDeadline = IsRefused refusal.BadDeadline
+reply_answered KeyRefused = IsRefused refusal.KeyRefused
+reply_answered KeyReused = IsRefused refusal.KeyReused
 reply_answered reply = Done
 
 -- a request that waits, as an object of JSON

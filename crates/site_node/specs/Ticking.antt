@@ -5,6 +5,7 @@ use Rattle.request_queue.specs.Queues.{front_of}
 use Rattle.site_core.specs.declared.fault.DeskError.{DeskError}
 use Rattle.site_core.specs.Faults.{can_serve, serve_fault, expire_fault}
 use Rattle.site_core.specs.Calls.{ServesFront, ServeKeeps, DeskExpires, DeskPlansBeside, CannotServe}
+use Rattle.command_keys.specs.Books.{ServesKey}
 use Rattle.apply_lanes.specs.Kepts.{KeptValue, SeatValue, raised, told_served}
 use Rattle.apply_lanes.specs.Recording.{with_written, with_planned}
 use Rattle.site_node.specs.Refusals.{Refuses}
@@ -12,17 +13,20 @@ use Rattle.site_node.specs.declared.tick.Ticked.{Ticked}
 
 -- ---- serving
 
--- this request was at the front, was served, and is recorded; the counter and the seat count its amount
+-- this request was at the front, was served, and is recorded, as is its key, if it waited under one; the counter and the
+-- seat count its amount
 pub record ServesNext (old : KeptValue) (was : SeatValue) (request : Request) (new : KeptValue)
     (now : SeatValue) : Type 0 where
   pub first : old.desk.queue.waiting ≡ request ∷ new.desk.queue.waiting
   pub number : ℕ
   pub desk : ServesFront old.desk request.ticket number new.desk
   pub keeps : ServeKeeps old.desk (Some (request.ticket, number)) new.desk
+  pub key : ServesKey old.keys request.ticket number new.keys
   pub counter : new ≡ record old {
     desk = new.desk;
     spent = raised old.spent request.amount;
     records = with_written old.records new.desk;
+    keys = new.keys;
   }
   pub counted : now ≡ told_served was request.amount
 

@@ -10,6 +10,7 @@
 mod answer;
 mod clock;
 mod commands;
+mod keyed;
 pub mod laws;
 mod messages;
 mod peers;
@@ -23,6 +24,7 @@ mod tick;
 pub use answer::{answer_reply, answer_tick};
 pub use clock::{SiteTime, site_time};
 pub use commands::act;
+pub use keyed::act_keyed;
 pub use messages::{answer_ask, answer_query, note_denial};
 pub use peers::{Peers, send_to_all};
 pub use queue::answer_queue;

@@ -16,4 +16,8 @@ pub enum Reply {
     Refused(DeskError),
     /// The deadline of a spend is too far ahead of the site's clock. Nothing changed.
     BadDeadline,
+    /// The site takes no keys. Nothing changed.
+    KeyRefused,
+    /// The key is that of another command. Nothing changed.
+    KeyReused,
 }

@@ -7,8 +7,8 @@ use crate::tick::Ticked;
 use line_streams::{MAX_DIGITS, Replies};
 use refusals::{Answered, Refusal};
 use reply_texts::{
-    REPLY_ROOM, desk_error_name, put_bad_deadline, put_error, put_number, put_spending, put_status,
-    refusal_of,
+    REPLY_ROOM, desk_error_name, put_bad_deadline, put_error, put_number, put_refusal,
+    put_spending, put_status, refusal_of,
 };
 use request_queue::Status;
 use rights_types::OutOfMemory;
@@ -33,6 +33,8 @@ pub(crate) fn put_reply<A: Allocator>(
         Reply::Outcome(status) => put_status(replies, status),
         Reply::Refused(cause) => put_error(replies, cause),
         Reply::BadDeadline => put_bad_deadline(replies),
+        Reply::KeyRefused => put_refusal(replies, Refusal::KeyRefused),
+        Reply::KeyReused => put_refusal(replies, Refusal::KeyReused),
     }
 }
 
@@ -44,6 +46,8 @@ pub(crate) fn reply_answered(reply: Reply) -> Answered
         Reply::Number(_) | Reply::Spending(_) | Reply::Outcome(_) => Answered::Done,
         Reply::Refused(cause) => Answered::Refused(refusal_of(cause)),
         Reply::BadDeadline => Answered::Refused(Refusal::BadDeadline),
+        Reply::KeyRefused => Answered::Refused(Refusal::KeyRefused),
+        Reply::KeyReused => Answered::Refused(Refusal::KeyReused),
     }
 }
 
@@ -88,7 +92,7 @@ pub(crate) fn reply_fits(reply: Reply)
         Reply::Spending(Spending::Queued(ticket)) => digits_fit(ticket),
         Reply::Outcome(Status::Spent(number)) => digits_fit(number),
         Reply::Outcome(Status::Waiting | Status::Expired | Status::Unknown) => {}
-        Reply::BadDeadline => {}
+        Reply::BadDeadline | Reply::KeyRefused | Reply::KeyReused => {}
         Reply::Refused(cause) => {
             let _ = desk_error_name(cause);
         }

@@ -76,6 +76,9 @@ fn serve_next<D: DeskNames>(kept: &mut Kept<D>, seat: &mut Seat<D>) -> Result<bo
     ensures ok { IfOk result (λ served. ServesNextIf served kept.old seat.old kept.new seat.new) }
     ensures err { IfErr result (λ fault. ServingFails kept.old seat.old [] fault kept.new seat.new) }
 {
-    let served = kept.serve(seat)?;
-    Ok(served.is_some())
+    let Some((ticket, number, _)) = kept.serve(seat)? else {
+        return Ok(false);
+    };
+    kept.serve_key(ticket, number);
+    Ok(true)
 }

@@ -9,45 +9,53 @@ use Rattle.refusals.specs.Refusals.{LineAnswer}
 use Rattle.apply_lanes.specs.Names.{DeskId}
 use Rattle.apply_lanes.specs.Kepts.{SeatValue}
 use Rattle.site_words.specs.declared.commands.SiteCommand.{SiteCommand}
-use Rattle.site_words.specs.declared.commands.SiteCommand.TheVariants.{AtDesk, Tick, RefusedTick, Status, Queue, Quit}
+use Rattle.site_words.specs.declared.commands.SiteCommand.TheVariants.{AtDesk, Keyed, BadKey, Tick, RefusedTick}
+use Rattle.site_words.specs.declared.commands.SiteCommand.TheVariants.{Status, Queue, Quit}
 use Rattle.site_node.specs.Texts.{reply_text}
 use Rattle.site_node.specs.Confirmed.{Turn, ACommand, HasTurns}
 use Rattle.site_node.specs.declared.reply.Reply.{Reply}
 use Rattle.site_node.specs.declared.reply.Reply.TheVariants.{Number, Spending, Outcome, Refused, BadDeadline}
+use Rattle.site_node.specs.declared.reply.Reply.TheVariants.{KeyRefused, KeyReused}
 use Rattle.site_core.specs.declared.desk.requests.Spending.TheVariants.{Spent, Queued}
 use Rattle.site_node.proofs.ConfirmedLaws.{turns_count}
-use Rattle.site_http.specs.Replying.{Answering, AnswersEach, RepliesTo, RepliesToOne, text_of}
+use Rattle.site_http.specs.Keys.{key_of}
+use Rattle.site_http.specs.declared.request_key.RequestKey.{RequestKey}
+use Rattle.site_http.specs.declared.request_key.RequestKey.TheVariants.{Absent, Bad, Given}
+use Rattle.site_http.specs.Replying.{Answering, AnswersEach, RepliesTo, RepliesToBody, RepliesToOne, bad_command, bad_key}
+use Rattle.site_http.specs.Replying.{text_of}
 use Rattle.site_http.specs.Responding.{RespondsBy}
 use Rattle.site_http.specs.declared.route.Route.{Route}
 use Rattle.site_http.specs.declared.route.Route.TheVariants.{Commands, Wait, Status as Shows, Queue as ShowsQueue, Metrics}
 use Rattle.site_http.specs.declared.route.Route.TheVariants.{Health, Page, Foreign, Misdirected, NotAllowed, NotFound}
 use Rattle.desk_turns.specs.Seated.{SeatedValue}
-use Rattle.site_server.specs.Replying.{asked, TellsStatus, TellsQueue}
+use Rattle.site_server.specs.Replying.{asked_under, TellsStatus, TellsQueue}
 use Rattle.site_server.specs.Measuring.{TellsMetrics, TellsClosed}
 use Rattle.site_server.specs.Settling.{Settles}
 use Rattle.site_server.specs.Connections.{ClientValue, Tells, TellsSettled, TellsBy, Answers, Responded}
 use Rattle.site_server.specs.Conversations.{IsTurn}
-use Rattle.site_server.specs.Requests.{IsSettledTurn, IsQueued, AreTurnsOf, AreBodyTurns, AreRouteTurns, AreCallsTurns}
+use Rattle.site_server.specs.Requests.{turns_under, IsSettledTurn, IsQueued, AreTurnsOf, AreBodyTurns, AreRouteTurns, AreCallsTurns}
 use Rattle.site_server.specs.Requests.{CountsCalls}
-use Rattle.site_server.proofs.ConfirmedLaws.{turns_of_line, both}
+use Rattle.site_server.proofs.ConfirmedTurns.{both}
+use Rattle.site_server.proofs.KeyedLaws.{settled_counted}
+use Rattle.site_server.proofs.ConfirmedLaws.{turns_of_line}
 use Rattle.site_server.proofs.SettleLaws.{keeps_told, cancel_keeps_told, waited_told}
 
 -- a line has turns, which lead from one value of the seat to another
-module _ {S : Type 0} (seat : S → SeatValue)
+module _ {S : Type 0} (seat : S → SeatValue) (key : Option (List ℕ))
     (is_turn : Option SiteCommand → List ℕ → List Turn → Type 0) (answers : Answering S)
     (one : (old : S) (line : List ℕ) (answer : LineAnswer) (new : S) → answers old line answer new
-    → (turns : List Turn) × ((time : Option ℕ) × is_turn (asked time line) answer.text turns)
+    → (turns : List Turn) × ((time : Option ℕ) × is_turn (asked_under key time line) answer.text turns)
     × HasTurns (seat old) turns (seat new)) where
   pub turns_of_each : (old : S) (lines : List (List ℕ)) (given : List LineAnswer) (new : S)
       → AnswersEach answers old lines given new
-      → (turns : List Turn) × AreTurnsOf is_turn lines given turns × HasTurns (seat old) turns (seat new)
+      → (turns : List Turn) × AreTurnsOf key is_turn lines given turns × HasTurns (seat old) turns (seat new)
   turns_of_each old [] given new h
-      = subst (λ (r : List LineAnswer). (turns : List Turn) × AreTurnsOf is_turn [] r turns
+      = subst (λ (r : List LineAnswer). (turns : List Turn) × AreTurnsOf key is_turn [] r turns
       × HasTurns (seat old) turns (seat new)) (sym h.0) ([], refl, ap seat h.1)
   turns_of_each old (line ∷ lines) given new h =
       let first = one old line h.0 h.1 h.3 in
       let rest = turns_of_each h.1 lines h.2 new h.4 in
-      subst (λ (r : List LineAnswer). (turns : List Turn) × AreTurnsOf is_turn (line ∷ lines) r turns
+      subst (λ (r : List LineAnswer). (turns : List Turn) × AreTurnsOf key is_turn (line ∷ lines) r turns
       × HasTurns (seat old) turns (seat new)) (sym h.5) (
         first.0 ++ rest.0,
         (first.0, rest.0, first.1, rest.1, refl),
@@ -57,7 +65,7 @@ module _ {S : Type 0} (seat : S → SeatValue)
   -- the lines of a body, as far as they were carried out
   pub turns_of_body : (old : S) (lines : List (List ℕ)) (given : List LineAnswer) (code : ℕ) (r : Response) (new : S)
       → RepliesTo answers old lines code given new → r.body.items ≡ text_of given
-      → (turns : List Turn) × AreBodyTurns is_turn lines r turns × HasTurns (seat old) turns (seat new)
+      → (turns : List Turn) × AreBodyTurns key is_turn lines r turns × HasTurns (seat old) turns (seat new)
   turns_of_body old lines given code r new (inl all) body =
       let found = turns_of_each old lines given new all.each in (
         found.0,
@@ -87,13 +95,13 @@ module _ {S : Type 0} (seat : S → SeatValue)
       )
 
   -- the same if there must be one line
-  pub turns_of_one : (old : S) (lines : List (List ℕ)) (given : List LineAnswer) (code : ℕ) (r : Response) (new : S)
-      → RepliesToOne answers old lines code given new → r.body.items ≡ text_of given
-      → (turns : List Turn) × (AreBodyTurns is_turn lines r turns ⊎ (turns ≡ [])) × HasTurns (seat old) turns (seat new)
-  turns_of_one old [] given code r new h body = ([], inr refl, ap seat h.2)
-  turns_of_one old (line ∷ []) given code r new h body =
+  pub turns_of_one : (refusal : LineAnswer) (old : S) (lines : List (List ℕ)) (given : List LineAnswer) (code : ℕ) (r : Response) (new : S)
+      → RepliesToOne answers refusal old lines code given new → r.body.items ≡ text_of given
+      → (turns : List Turn) × (AreBodyTurns key is_turn lines r turns ⊎ (turns ≡ [])) × HasTurns (seat old) turns (seat new)
+  turns_of_one refusal old [] given code r new h body = ([], inr refl, ap seat h.2)
+  turns_of_one refusal old (line ∷ []) given code r new h body =
       let found = turns_of_body old (line ∷ []) given code r new h body in (found.0, inl found.1, found.2)
-  turns_of_one old (line ∷ next ∷ lines) given code r new h body = ([], inr refl, ap seat h.2)
+  turns_of_one refusal old (line ∷ next ∷ lines) given code r new h body = ([], inr refl, ap seat h.2)
 
 settled_text : (HasEnded HasLeft : Type 0) (id : DeskId) (seat : SeatedValue) (reply settled : Reply) (now : SeatedValue)
     (text : List ℕ)
@@ -104,6 +112,8 @@ settled_text HasEnded HasLeft id seat (Spending (Queued ticket)) settled now tex
 settled_text HasEnded HasLeft id seat (Outcome status) settled now text h says = inl (says ∙ ap reply_text h.0)
 settled_text HasEnded HasLeft id seat (Refused cause) settled now text h says = inl (says ∙ ap reply_text h.0)
 settled_text HasEnded HasLeft id seat BadDeadline settled now text h says = inl (says ∙ ap reply_text h.0)
+settled_text HasEnded HasLeft id seat KeyRefused settled now text h says = inl (says ∙ ap reply_text h.0)
+settled_text HasEnded HasLeft id seat KeyReused settled now text h says = inl (says ∙ ap reply_text h.0)
 
 -- however the client waits, its seat counts the same
 settled_told : (HasEnded HasLeft : Type 0) (id : DeskId) (was : SeatedValue) (reply settled : Reply) (now : SeatedValue)
@@ -119,6 +129,8 @@ settled_told HasEnded HasLeft id was (Spending (Queued ticket)) settled now (inr
 settled_told HasEnded HasLeft id was (Outcome status) settled now h = ap (λ (s : SeatedValue). s.told) h.1
 settled_told HasEnded HasLeft id was (Refused cause) settled now h = ap (λ (s : SeatedValue). s.told) h.1
 settled_told HasEnded HasLeft id was BadDeadline settled now h = ap (λ (s : SeatedValue). s.told) h.1
+settled_told HasEnded HasLeft id was KeyRefused settled now h = ap (λ (s : SeatedValue). s.told) h.1
+settled_told HasEnded HasLeft id was KeyReused settled now h = ap (λ (s : SeatedValue). s.told) h.1
 
 module _ {P : Type 0} (size : P → ℕ) (sends : P → ℕ → ℕ → P → Type 0)
     (stops : P → ℕ → P → Type 0) (id : DeskId) where
@@ -129,6 +141,10 @@ module _ {P : Type 0} (size : P → ℕ) (sends : P → ℕ → ℕ → P → Ty
   tells_turns None was before answer now after h = turns_of_line size sends stops id None was before answer now after h
   tells_turns (Some (AtDesk command)) was before answer now after h
       = turns_of_line size sends stops id (Some (AtDesk command)) was before answer now after h
+  tells_turns (Some (Keyed key command)) was before answer now after h
+      = turns_of_line size sends stops id (Some (Keyed key command)) was before answer now after h
+  tells_turns (Some BadKey) was before answer now after h
+      = turns_of_line size sends stops id (Some BadKey) was before answer now after h
   tells_turns (Some (Tick time)) was before answer now after h
       = turns_of_line size sends stops id (Some (Tick time)) was before answer now after h
   tells_turns (Some RefusedTick) was before answer now after h
@@ -150,6 +166,12 @@ module _ {P : Type 0} (size : P → ℕ) (sends : P → ℕ → ℕ → P → Ty
         (c.reply, refl, settled_text HasEnded HasLeft id c.half c.reply c.settled now answer.text c.settles c.says),
         (c.half.told, (c.at_desk.old, c.at_desk.new, c.at_desk.acts), settled_told HasEnded HasLeft id c.half c.reply c.settled now c.settles),
       )
+  settled_turns HasEnded HasLeft (Some (Keyed key command)) was before answer now after h =
+      let c = h.0 in
+      let found = settled_counted HasEnded HasLeft id was key command c.settled now c.settles in
+      (turns_under command found.0, (c.settled, found.0, refl, c.says), found.1)
+  settled_turns HasEnded HasLeft (Some BadKey) was before answer now after h
+      = tells_turns (Some BadKey) was before answer now after h
   settled_turns HasEnded HasLeft (Some (Tick time)) was before answer now after h
       = tells_turns (Some (Tick time)) was before answer now after h
   settled_turns HasEnded HasLeft (Some RefusedTick) was before answer now after h
@@ -162,12 +184,12 @@ module _ {P : Type 0} (size : P → ℕ) (sends : P → ℕ → ℕ → P → Ty
 
   module _ {B : Type 0} (has_ended has_left : B → Type 0) (shows : B → Option ℕ → Type 0) where
     -- the command of a line had this effect
-    pub answers_line : (waits : Bool) (command : Option SiteCommand) (line : List ℕ) (answer : LineAnswer) (old new : ClientValue P B)
-        → (time : Option ℕ) × shows old.signal time × (command ≡ asked time line)
+    pub answers_line : (key : Option (List ℕ)) (waits : Bool) (command : Option SiteCommand) (line : List ℕ) (answer : LineAnswer) (old new : ClientValue P B)
+        → (time : Option ℕ) × shows old.signal time × (command ≡ asked_under key time line)
         → TellsBy size sends stops waits (has_ended old.signal) (has_left old.signal) id command old.seat old.peers answer
         new.seat new.peers
-        → Answers size sends stops has_ended has_left shows id waits old line answer new
-    answers_line waits command line answer old new spelled h =
+        → Answers size sends stops has_ended has_left shows id key waits old line answer new
+    answers_line key waits command line answer old new spelled h =
         record {
           time = spelled.0;
           shown = spelled.1;
@@ -175,41 +197,73 @@ module _ {P : Type 0} (size : P → ℕ) (sends : P → ℕ → ℕ → P → Ty
               id c old.seat old.peers answer new.seat new.peers) spelled.2 h;
         }
 
-    one : (old : ClientValue P B) (line : List ℕ) (answer : LineAnswer) (new : ClientValue P B)
-        → Answers size sends stops has_ended has_left shows id false old line answer new
-        → (turns : List Turn) × ((time : Option ℕ) × IsTurn (asked time line) answer.text turns)
+    one : (key : Option (List ℕ)) (old : ClientValue P B) (line : List ℕ) (answer : LineAnswer) (new : ClientValue P B)
+        → Answers size sends stops has_ended has_left shows id key false old line answer new
+        → (turns : List Turn) × ((time : Option ℕ) × IsTurn (asked_under key time line) answer.text turns)
         × HasTurns old.seat.told turns new.seat.told
-    one old line answer new h =
-        let found = tells_turns (asked h.time line) old.seat old.peers answer new.seat new.peers h.tells in
+    one key old line answer new h =
+        let found = tells_turns (asked_under key h.time line) old.seat old.peers answer new.seat new.peers h.tells in
         (found.0, (h.time, found.1), found.2)
 
-    one_settled : (old : ClientValue P B) (line : List ℕ) (answer : LineAnswer) (new : ClientValue P B)
-        → Answers size sends stops has_ended has_left shows id true old line answer new
-        → (turns : List Turn) × ((time : Option ℕ) × IsSettledTurn (asked time line) answer.text turns)
+    one_settled : (key : Option (List ℕ)) (old : ClientValue P B) (line : List ℕ) (answer : LineAnswer) (new : ClientValue P B)
+        → Answers size sends stops has_ended has_left shows id key true old line answer new
+        → (turns : List Turn) × ((time : Option ℕ) × IsSettledTurn (asked_under key time line) answer.text turns)
         × HasTurns old.seat.told turns new.seat.told
-    one_settled old line answer new h =
-        let found = settled_turns (has_ended old.signal) (has_left old.signal) (asked h.time line) old.seat old.peers answer new.seat new.peers
+    one_settled key old line answer new h =
+        let found = settled_turns (has_ended old.signal) (has_left old.signal) (asked_under key h.time line) old.seat old.peers answer new.seat new.peers
         h.tells in (found.0, (h.time, found.1), found.2)
 
-    turns_of_route : (old : ClientValue P B) (route : Route) (body : List ℕ) (r : Response) (new : ClientValue P B)
+    turns_of_commands : (key : RequestKey) (old : ClientValue P B) (body : List ℕ) (code : ℕ) (given : List LineAnswer)
+        (r : Response) (new : ClientValue P B)
+        → RepliesToBody (Answers size sends stops has_ended has_left shows id) key false old (lines_of body) code given new
+        → r.body.items ≡ text_of given
+        → (turns : List Turn) × AreRouteTurns Commands key body r turns × HasTurns old.seat.told turns new.seat.told
+    turns_of_commands Bad old body code given r new h text =
+        ([], inr refl, ap (λ (c : ClientValue P B). c.seat.told) h.2)
+    turns_of_commands (Given key) old body code given r new h text =
+        turns_of_one (λ c. c.seat.told) (Some key) IsTurn
+        (Answers size sends stops has_ended has_left shows id (Some key) false) (one (Some key)) bad_key old (lines_of body)
+        given code r new h text
+    turns_of_commands Absent old body code given r new h text =
+        let found = turns_of_body (λ c. c.seat.told) None IsTurn
+        (Answers size sends stops has_ended has_left shows id None false) (one None) old (lines_of body) given code r new h
+        text in
+        (found.0, inl found.1, found.2)
+
+    turns_of_wait : (key : RequestKey) (old : ClientValue P B) (body : List ℕ) (code : ℕ) (given : List LineAnswer)
+        (r : Response) (new : ClientValue P B)
+        → RepliesToBody (Answers size sends stops has_ended has_left shows id) key true old (lines_of body) code given new
+        → r.body.items ≡ text_of given
+        → (turns : List Turn) × AreRouteTurns Wait key body r turns × HasTurns old.seat.told turns new.seat.told
+    turns_of_wait Bad old body code given r new h text =
+        ([], inr refl, ap (λ (c : ClientValue P B). c.seat.told) h.2)
+    turns_of_wait (Given key) old body code given r new h text =
+        turns_of_one (λ c. c.seat.told) (Some key) IsSettledTurn
+        (Answers size sends stops has_ended has_left shows id (Some key) true) (one_settled (Some key)) bad_key old
+        (lines_of body) given code r new h text
+    turns_of_wait Absent old body code given r new h text =
+        turns_of_one (λ c. c.seat.told) None IsSettledTurn
+        (Answers size sends stops has_ended has_left shows id None true) (one_settled None) bad_command old (lines_of body)
+        given code r new h text
+
+    turns_of_route : (old : ClientValue P B) (route : Route) (key : RequestKey) (body : List ℕ) (r : Response)
+        (new : ClientValue P B)
         → RespondsBy (Answers size sends stops has_ended has_left shows id) (λ client text. TellsStatus id text)
-        (λ client text. TellsQueue id text) (λ client text. TellsMetrics id text) (λ client is_closed. TellsClosed id is_closed) old route body r new
-        → (turns : List Turn) × AreRouteTurns route body r turns × HasTurns old.seat.told turns new.seat.told
-    turns_of_route old Commands body r new h =
-        turns_of_body (λ c. c.seat.told) IsTurn (Answers size sends stops has_ended has_left shows id false) one old
-        (lines_of body) h.given h.code r new h.replied h.response.body
-    turns_of_route old Wait body r new h =
-        turns_of_one (λ c. c.seat.told) IsSettledTurn (Answers size sends stops has_ended has_left shows id true) one_settled old
-        (lines_of body) h.given h.code r new h.replied h.response.body
-    turns_of_route old Shows body r new h = ([], refl, ap (λ (c : ClientValue P B). c.seat.told) h.1)
-    turns_of_route old ShowsQueue body r new h = ([], refl, ap (λ (c : ClientValue P B). c.seat.told) h.1)
-    turns_of_route old Metrics body r new h = ([], refl, ap (λ (c : ClientValue P B). c.seat.told) h.1)
-    turns_of_route old Health body r new h = ([], refl, ap (λ (c : ClientValue P B). c.seat.told) h.1)
-    turns_of_route old Page body r new h = ([], refl, ap (λ (c : ClientValue P B). c.seat.told) h.1)
-    turns_of_route old Foreign body r new h = ([], refl, ap (λ (c : ClientValue P B). c.seat.told) h.1)
-    turns_of_route old Misdirected body r new h = ([], refl, ap (λ (c : ClientValue P B). c.seat.told) h.1)
-    turns_of_route old (NotAllowed allowed) body r new h = ([], refl, ap (λ (c : ClientValue P B). c.seat.told) h.1)
-    turns_of_route old NotFound body r new h = ([], refl, ap (λ (c : ClientValue P B). c.seat.told) h.1)
+        (λ client text. TellsQueue id text) (λ client text. TellsMetrics id text) (λ client is_closed. TellsClosed id is_closed) old route key body r new
+        → (turns : List Turn) × AreRouteTurns route key body r turns × HasTurns old.seat.told turns new.seat.told
+    turns_of_route old Commands key body r new h =
+        turns_of_commands key old body h.code h.given r new h.replied h.response.body
+    turns_of_route old Wait key body r new h =
+        turns_of_wait key old body h.code h.given r new h.replied h.response.body
+    turns_of_route old Shows key body r new h = ([], refl, ap (λ (c : ClientValue P B). c.seat.told) h.1)
+    turns_of_route old ShowsQueue key body r new h = ([], refl, ap (λ (c : ClientValue P B). c.seat.told) h.1)
+    turns_of_route old Metrics key body r new h = ([], refl, ap (λ (c : ClientValue P B). c.seat.told) h.1)
+    turns_of_route old Health key body r new h = ([], refl, ap (λ (c : ClientValue P B). c.seat.told) h.1)
+    turns_of_route old Page key body r new h = ([], refl, ap (λ (c : ClientValue P B). c.seat.told) h.1)
+    turns_of_route old Foreign key body r new h = ([], refl, ap (λ (c : ClientValue P B). c.seat.told) h.1)
+    turns_of_route old Misdirected key body r new h = ([], refl, ap (λ (c : ClientValue P B). c.seat.told) h.1)
+    turns_of_route old (NotAllowed allowed) key body r new h = ([], refl, ap (λ (c : ClientValue P B). c.seat.told) h.1)
+    turns_of_route old NotFound key body r new h = ([], refl, ap (λ (c : ClientValue P B). c.seat.told) h.1)
 
     turns_of_calls : (names : List (List ℕ)) (old : ClientValue P B) (calls : List Call) (new : ClientValue P B)
         → Chain (Responded size sends stops has_ended has_left shows id names) old calls new
@@ -217,7 +271,7 @@ module _ {P : Type 0} (size : P → ℕ) (sends : P → ℕ → ℕ → P → Ty
     turns_of_calls names old [] new h = ([], refl, ap (λ (c : ClientValue P B). c.seat.told) h)
     turns_of_calls names old (call ∷ calls) new h =
         let next = h.0 in
-        let first = turns_of_route old h.1.0 (body_of call.0) call.1 next h.1.2 in
+        let first = turns_of_route old h.1.0 (key_of call.0) (body_of call.0) call.1 next h.1.2 in
         let rest = turns_of_calls names next calls new h.2 in (
           first.0 ++ rest.0,
           (first.0, rest.0, (h.1.0, h.1.1, first.1), rest.1, refl),

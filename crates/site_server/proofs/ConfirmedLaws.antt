@@ -16,7 +16,8 @@ use Rattle.refusals.specs.declared.answered.Answered.{Answered}
 use Rattle.apply_lanes.specs.Names.{DeskId}
 use Rattle.apply_lanes.specs.Kepts.{SeatValue}
 use Rattle.site_words.specs.declared.commands.SiteCommand.{SiteCommand}
-use Rattle.site_words.specs.declared.commands.SiteCommand.TheVariants.{AtDesk, Tick, RefusedTick, Status, Queue, Quit}
+use Rattle.site_words.specs.declared.commands.SiteCommand.TheVariants.{AtDesk, Keyed, BadKey, Tick, RefusedTick}
+use Rattle.site_words.specs.declared.commands.SiteCommand.TheVariants.{Status, Queue, Quit}
 use Rattle.site_node.specs.Confirmed.{Turn, ACommand, ATick, HasTurns}
 use Rattle.site_node.proofs.ConfirmedLaws.{turns_count}
 use Rattle.desk_turns.specs.Seated.{SeatedValue}
@@ -25,11 +26,8 @@ use Rattle.site_node.specs.Texts.{tick_text}
 use Rattle.site_node.specs.declared.tick.Ticked.{Ticked}
 use Rattle.site_server.specs.Replying.{asked, goes_by, ThenSends, Says, Gets, GetsBy, GetsLine}
 use Rattle.site_server.specs.Conversations.{TellsTick, IsTurn, AreTurns, CountsReplies}
-
-pub both : (was half now : SeatValue) (first rest : List Turn) → HasTurns was first half → HasTurns half rest now
-    → HasTurns was (first ++ rest) now
-both was half now [] rest h k = subst (λ (s : SeatValue). HasTurns s rest now) h k
-both was half now (turn ∷ first) rest h k = (h.0, h.1, both h.0 half now first rest h.2 k)
+use Rattle.site_server.proofs.ConfirmedTurns.{both}
+use Rattle.site_server.proofs.KeyedLaws.{keyed_turns}
 
 module _ {P : Type 0} (size : P → ℕ) (sends : P → ℕ → ℕ → P → Type 0)
     (stops : P → ℕ → P → Type 0) (id : DeskId) where
@@ -54,6 +52,11 @@ module _ {P : Type 0} (size : P → ℕ) (sends : P → ℕ → ℕ → P → Ty
         (c.reply, refl, c.says),
         (now.told, (c.at_desk.old, c.at_desk.new, c.at_desk.acts), refl),
       )
+  turns_of_line (Some (Keyed key command)) was before answer now after h =
+      let c = h.0 in
+      let found = keyed_turns id was key command c.reply now c.at_desk in
+      (found.0, (c.reply, found.1, c.says), found.2)
+  turns_of_line (Some BadKey) was before answer now after h = ([], refl, ap (λ (s : SeatedValue). s.told) h.1)
   turns_of_line (Some (Tick time)) was before answer now after h =
       let t = h.does.at_desk in (
         ATick time t.does.served h.does.ticked ∷ [],

@@ -1,3 +1,5 @@
+pub mod ConfirmedTurns
+pub mod KeyedLaws
 mod CallLaws
 mod SendLaws
 mod SettleLaws

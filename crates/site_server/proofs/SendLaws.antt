@@ -54,23 +54,24 @@ module _ (id : DeskId) (peers : List PeerState) (index : ℕ) (peer : PeerState)
       }
 
 pub tells_status : (id : DeskId) (view : DeskView) (peers slice : List PeerView) (journal : Option JournalView)
-    (old new : Waiting) (result : Result (Unit {0}) OutOfMemory)
-    → AreViews id view peers → IsJournalView journal → slice ≡ peers
-    → OnOk result (AddsReply old new (status_text view slice journal))
+    (keys : ℕ) (old new : Waiting) (result : Result (Unit {0}) OutOfMemory)
+    → AreViews id view peers keys → IsJournalView journal → slice ≡ peers
+    → OnOk result (AddsReply old new (status_text view slice journal keys))
     → OnOk result ((text : List ℕ) × TellsStatus id text × AddsReply old new text)
-tells_status id view peers slice journal old new (Ok done) views counted same adds = (
-  status_text view slice journal,
+tells_status id view peers slice journal keys old new (Ok done) views counted same adds = (
+  status_text view slice journal keys,
   record {
     view = view;
     peers = peers;
     journal = journal;
+    keys = keys;
     views = views;
     counted = counted;
     says = rw same refl;
   },
   adds,
 )
-tells_status id view peers slice journal old new (Err fault) views counted same adds = tt
+tells_status id view peers slice journal keys old new (Err fault) views counted same adds = tt
 
 pub tells_metrics : (id : DeskId) (metrics : Metrics) (peers slice : List PeerMetrics) (old new : Waiting)
     (result : Result (Unit {0}) OutOfMemory)

@@ -6,6 +6,7 @@ use Rattle.site_words.specs.declared.commands.DeskCommand.TheVariants.{Outcome a
 use Rattle.site_node.specs.Acting.{ActsOutcome, ActsCancel}
 use Rattle.site_node.specs.declared.reply.Reply.{Reply}
 use Rattle.site_node.specs.declared.reply.Reply.TheVariants.{Number, Spending, Outcome, Refused, BadDeadline}
+use Rattle.site_node.specs.declared.reply.Reply.TheVariants.{KeyRefused, KeyReused}
 use Rattle.desk_turns.specs.Seated.{SeatedValue, ActsAtDesk}
 use Rattle.site_core.specs.declared.desk.requests.Spending.TheVariants.{Queued}
 use Rattle.site_server.specs.Settling.{HasWaited, WaitsFor, Settles, still_waits}
@@ -17,6 +18,8 @@ same_seat old was ticket (Spending spending) new now h = absurd h
 same_seat old was ticket (Outcome status) new now h = h.same_seat
 same_seat old was ticket (Refused cause) new now h = absurd h
 same_seat old was ticket BadDeadline new now h = absurd h
+same_seat old was ticket KeyRefused new now h = absurd h
+same_seat old was ticket KeyReused new now h = absurd h
 
 -- asking for an outcome leaves what the seat counts unchanged
 pub keeps_told : (id : DeskId) (was : SeatedValue) (ticket : ℕ) (reply : Reply) (now : SeatedValue)
@@ -30,6 +33,8 @@ same_after old was ticket (Spending spending) new now h = absurd h
 same_after old was ticket (Outcome status) new now h = h.same_seat
 same_after old was ticket (Refused cause) new now h = absurd h
 same_after old was ticket BadDeadline new now h = absurd h
+same_after old was ticket KeyRefused new now h = absurd h
+same_after old was ticket KeyReused new now h = absurd h
 
 -- .. and so does cancelling
 pub cancel_keeps_told : (id : DeskId) (was : SeatedValue) (ticket : ℕ) (reply : Reply) (now : SeatedValue)

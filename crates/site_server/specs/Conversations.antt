@@ -5,7 +5,7 @@ use Rattle.site_core.specs.declared.fault.DeskError.{DeskError}
 use Rattle.site_core.specs.declared.fault.DeskError.TheVariants.{OutOfMemory}
 use Rattle.apply_lanes.specs.Kepts.{SeatValue}
 use Rattle.site_words.specs.declared.commands.SiteCommand.{SiteCommand}
-use Rattle.site_words.specs.declared.commands.SiteCommand.TheVariants.{AtDesk, Tick}
+use Rattle.site_words.specs.declared.commands.SiteCommand.TheVariants.{AtDesk, Keyed, Tick}
 use Rattle.site_node.specs.Texts.{reply_text, tick_text}
 use Rattle.site_node.specs.Confirmed.{Turn, HasTurns, CountsConfirmed}
 use Rattle.site_node.specs.Confirmed.{ACommand, ATick}
@@ -19,10 +19,13 @@ abbrev pub TellsTick : Result Ticked DeskError → List ℕ → Type 0
 TellsTick (Ok ticked) text = ((sent : ℕ) × (text ≡ tick_text (Ok (ticked, sent)))) ⊎ (text ≡ tick_text (Err OutOfMemory))
 TellsTick (Err fault) text = text ≡ tick_text (Err fault)
 
--- a line is one turn if the desk carries out its command or it is a tick; otherwise it is none
+-- A line is one turn if the desk carries out its command or it is a tick; otherwise it is none. A command under a key is
+-- one if it is carried out, and none if the reply is to its repeat, or it is refused for its key.
 abbrev pub IsTurn : Option SiteCommand → List ℕ → List Turn → Type 0
 IsTurn (Some (AtDesk command)) text turns = (reply : Reply) × (turns ≡ ACommand command reply ∷ [])
     × (text ≡ reply_text reply)
+IsTurn (Some (Keyed key command)) text turns =
+    (reply : Reply) × ((turns ≡ ACommand command reply ∷ []) ⊎ (turns ≡ [])) × (text ≡ reply_text reply)
 IsTurn (Some (Tick time)) text turns =
     (served : List Request) × (ticked : Result Ticked DeskError) × (turns ≡ ATick time served ticked ∷ [])
     × TellsTick ticked text

@@ -17,15 +17,17 @@ use Rattle.refusals.specs.Refusals.{LineAnswer, IsRefusedFor}
 use Rattle.refusals.specs.declared.answered.Answered.{Answered}
 use Rattle.refusals.specs.declared.answered.Answered.TheVariants.{Done}
 use Rattle.refusals.specs.declared.refusal.Refusal.TheVariants.{BadCommand, OwnClock}
-use Rattle.site_words.specs.Commands.{command_of}
+use Rattle.refusals.specs.declared.refusal.Refusal.TheVariants as refusal
+use Rattle.site_words.specs.Commands.{command_of, keyed}
 use Rattle.site_words.specs.Status.{status_text}
 use Rattle.site_words.specs.declared.commands.DeskCommand.{DeskCommand}
 use Rattle.site_words.specs.declared.commands.SiteCommand.{SiteCommand}
-use Rattle.site_words.specs.declared.commands.SiteCommand.TheVariants.{AtDesk, Tick, RefusedTick, Status, Queue, Quit}
+use Rattle.site_words.specs.declared.commands.SiteCommand.TheVariants.{AtDesk, Keyed, BadKey, Tick, RefusedTick}
+use Rattle.site_words.specs.declared.commands.SiteCommand.TheVariants.{Status, Queue, Quit}
 use Rattle.site_words.specs.declared.status_object.JournalView.{JournalView}
 use Rattle.site_words.specs.declared.status_object.PeerView.{PeerView}
 use Rattle.site_sockets.specs.declared.peer.PeerState.{PeerState}
-use Rattle.desk_turns.specs.Seated.{SeatedValue, ActsAtDesk, TicksAtDesk}
+use Rattle.desk_turns.specs.Seated.{SeatedValue, ActsAtDesk, ActsKeyedAtDesk, TicksAtDesk}
 use Rattle.site_node.specs.Texts.{reply_text, reply_answered, tick_text, tick_answered, queue_text}
 use Rattle.site_node.specs.ToPeers.{SendsToFirst, StopsAtPeer}
 use Rattle.site_node.specs.declared.reply.Reply.{Reply}
@@ -36,6 +38,14 @@ use Rattle.site_server.specs.Journals.{IsJournalView}
 -- none, or has more bytes than a line may have
 abbrev pub asked : Option ℕ → List ℕ → Option SiteCommand
 asked time line = if nat_le (length line) MAX_LINE then command_of time (take (length line - 1) line) else None
+
+-- .. under the key of its request, if that has one
+abbrev pub under : Option (List ℕ) → Option SiteCommand → Option SiteCommand
+under None command = command
+under (Some key) command = keyed command key
+
+abbrev pub asked_under : Option (List ℕ) → Option ℕ → List ℕ → Option SiteCommand
+asked_under key time line = under key (asked time line)
 
 -- ---- replies
 
@@ -51,15 +61,25 @@ pub record CarriesOut (id : DeskId) (was : SeatedValue) (command : DeskCommand) 
 abbrev pub IsApplied : DeskValue → PeerView → Type 0
 IsApplied d view = view.applied ≡ (peer d.ledger.book view.site).log.end
 
+-- the same for a command under a key, or its repeat
+pub record CarriesOutKeyed (id : DeskId) (was : SeatedValue) (key : List ℕ) (command : DeskCommand) (answer : LineAnswer)
+    (now : SeatedValue) : Type 0 where
+  pub reply : Reply
+  pub at_desk : ActsKeyedAtDesk id was key command reply now
+  pub says : answer.text ≡ reply_text reply
+  pub how : answer.how ≡ reply_answered reply
+
 -- one view for each of these peers, in their order
 abbrev pub AreOfPeers : DeskValue → List PeerState → List PeerView → Type 0
 AreOfPeers d [] [] = Unit {0}
 AreOfPeers d (p ∷ peers) (view ∷ views) = (view.site ≡ p.site) × IsApplied d view × AreOfPeers d peers views
 AreOfPeers d peers views = ⊥
 
--- the views are those of the desk and of some peers at one moment; the state of a peer's buffer is what was recorded last
-pub record AreViews (id : DeskId) (view : DeskView) (views : List PeerView) : Type 0 where
+-- the views are those of the desk and of some peers at one moment, when so many keys were remembered; the state of a
+-- peer's buffer is what was recorded last
+pub record AreViews (id : DeskId) (view : DeskView) (views : List PeerView) (keys : ℕ) : Type 0 where
   pub kept : KeptValue
+  pub remembered : keys ≡ length kept.keys.keys.written
   pub valid : IsKept id kept
   pub desk : IsViewOf kept.desk view
   pub peers : List PeerState
@@ -70,9 +90,10 @@ pub record TellsStatus (id : DeskId) (text : List ℕ) : Type 0 where
   pub view : DeskView
   pub peers : List PeerView
   pub journal : Option JournalView
-  pub views : AreViews id view peers
+  pub keys : ℕ
+  pub views : AreViews id view peers keys
   pub counted : IsJournalView journal
-  pub says : text ≡ status_text view peers journal
+  pub says : text ≡ status_text view peers journal keys
 
 -- the spends that wait at the desk at one moment, and how many outcomes nobody has read
 pub record TellsQueue (id : DeskId) (text : List ℕ) : Type 0 where
@@ -122,6 +143,9 @@ module _ {P : Type 0} (size : P → ℕ) (sends : P → ℕ → ℕ → P → Ty
   abbrev pub Says : DeskId → Option SiteCommand → SeatedValue → P → LineAnswer → SeatedValue → P → Type 0
   Says id None was before answer now after = IsRefusedFor BadCommand answer × (now ≡ was) × (after ≡ before)
   Says id (Some (AtDesk command)) was before answer now after = CarriesOut id was command answer now × (after ≡ before)
+  Says id (Some (Keyed key command)) was before answer now after =
+      CarriesOutKeyed id was key command answer now × (after ≡ before)
+  Says id (Some BadKey) was before answer now after = IsRefusedFor refusal.BadKey answer × (now ≡ was) × (after ≡ before)
   Says id (Some (Tick time)) was before answer now after = DoesDue id was before time answer now after
   Says id (Some RefusedTick) was before answer now after = IsRefusedFor OwnClock answer × (now ≡ was) × (after ≡ before)
   Says id (Some Queue) was before answer now after = IsReportOf (TellsQueue id) answer × (now ≡ was) × (after ≡ before)

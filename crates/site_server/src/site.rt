@@ -43,15 +43,18 @@ use crate::site::shared::{COMMANDS, Shared};
 use crate::site::starting::start_once;
 use crate::site::ticking::{begin_ticks, tick_last};
 use apply_lanes::{Blanks, DeskNames};
+use command_keys::{KeyBook, Keys};
 use desk_turns::Seats;
 use durability::{Durability, ExitWriter};
 use journal_file::{FileDevice, Unknown};
 use line_streams::ConversationError;
 use log_lines::LogWriter;
+use rights_types::OutOfMemory;
 use site_core::Desk;
 use site_sockets::{PeerState, SiteSockets, begin_acceptors, begin_sender};
 use site_words::{Config, SiteFault};
 use std::fs::{File, Files};
+use std::hash::RandomState;
 use std::io::{Read, Write};
 use std::marker::Brand;
 use std::net::{Net, TcpListener, TcpStream};
@@ -163,7 +166,8 @@ fn serve_again<
 {
     let alloc = rt.alloc();
     let durability = Arc::new(alloc, Durability::new())?;
-    let shared = Shared::<D>::new(rt, alloc, desk, blanks, Some(durability.clone()?))?;
+    let keys = new_keys(rt, config)?;
+    let shared = Shared::<D>::new(rt, alloc, desk, blanks, keys, Some(durability.clone()?))?;
     let mut links = links_of(rt, alloc, config, &shared)?;
     let Journaled { path, device } = journaled;
     let Replayed { journal, made } = replay(
@@ -182,6 +186,22 @@ fn serve_again<
     site.announce(rt, config);
     announce_journal(rt, &site, path);
     run_logged(rt, config, &site, shared, links, Some(keeper), streams)
+}
+
+/// The keys of a site that starts, none yet. `None` if it takes none.
+fn new_keys<R: RandomSource + AllocGlobal>(
+    rt: &R,
+    config: &Config,
+) -> Result<Option<KeyBook>, OutOfMemory> {
+    let count = config.keys();
+    if count == 0 {
+        return Ok(None);
+    }
+    let Ok(hasher) = RandomState::new(rt) else {
+        return Err(OutOfMemory);
+    };
+    let keys = Keys::new(rt.alloc(), hasher, count as usize);
+    Ok(Some(KeyBook::new(rt.alloc(), keys)))
 }
 
 /// Notes that no peer lacks an entry of the log, as far as is known: each asks for those that it lacks.
@@ -214,7 +234,8 @@ fn serve<
     requires configured { (D.id.site ≡ config.now.id) × (D.id.sites ≡ config.now.sites) }
 {
     // Each thread owns references to what it shares: the check lets none borrow a value whose type has a parameter.
-    let shared = Shared::<D>::new(rt, rt.alloc(), desk, blanks, None)?;
+    let keys = new_keys(rt, config)?;
+    let shared = Shared::<D>::new(rt, rt.alloc(), desk, blanks, keys, None)?;
     let links = links_of(rt, rt.alloc(), config, &shared)?;
     run_logged(rt, config, site, shared, links, None, streams)
 }

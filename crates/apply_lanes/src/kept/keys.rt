@@ -142,7 +142,14 @@ impl<D: DeskNames, A: Allocator + Copy> Kept<D, A> {
             return Err(KeyFault::Repeated);
         }
         self.reserve_key()?;
-        self.remember_key(key, Written { number, effect });
+        self.remember_key(
+            key,
+            Written {
+                number,
+                effect,
+                ticket: 0,
+            },
+        );
         Ok(())
     }
 }

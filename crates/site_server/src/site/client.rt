@@ -1,6 +1,6 @@
 //! The replies to a client of a site. site_node decides what is done and replied; this module decides under which
 //! lock of the desk it is done.
-ghost use Rattle.std.specs.Prelude.{◌≡◌, ◌++◌, ◌+◌, ◌≤◌, ◌⊎◌, false, List, ℕ, [], length, is_some, IfOk, OnOk, OnErr, Option, Ok};
+ghost use Rattle.std.specs.Prelude.{◌≡◌, ◌++◌, ◌+◌, ◌≤◌, ◌⊎◌, false, List, ℕ, [], length, is_some, IfOk, OnOk, OnErr, Option, Some, Ok};
 ghost use Rattle.std.specs.Io.KnownBytes.{IsAtEnd};
 ghost use Rattle.line_streams.specs.Handling.{IsGiven};
 ghost use Rattle.line_streams.specs.Talk.{Talk, EndsBy};
@@ -9,8 +9,8 @@ ghost use Rattle.refusals.specs.Refusals.{refusal_text};
 ghost use Rattle.refusals.specs.declared.answered.Answered.TheVariants.{Refused};
 ghost use Rattle.site_words.specs.Status.{status_text};
 ghost use Rattle.transfer_manager.specs.SiteSets.{has_site};
-ghost use Rattle.desk_turns.specs.Seated.{ActsAtDesk, TicksAtDesk};
-ghost use Rattle.site_server.specs.Replying.{asked, CarriesOut, AreOfPeers, AreViews};
+ghost use Rattle.desk_turns.specs.Seated.{ActsAtDesk, ActsKeyedAtDesk, TicksAtDesk};
+ghost use Rattle.site_server.specs.Replying.{asked, CarriesOut, CarriesOutKeyed, AreOfPeers, AreViews};
 ghost use Rattle.site_server.specs.Replying.{TellsStatus, TellsQueue, ThenSends, TicksAndSends, DoesDue, GetsBy, GetsLine};
 ghost use Rattle.site_server.specs.Replying.{IsReportOf, goes_by};
 ghost use Rattle.site_server.specs.Connections.{Tells};
@@ -21,6 +21,7 @@ use crate::site::keeping::progress_of;
 use crate::site::outboxes::Outboxes;
 use crate::site::tick_signal::{SiteTickSignal, TickSignal};
 use apply_lanes::{DeskNames, DeskView};
+use command_keys::Key;
 use desk_turns::{Seated, Seats};
 use line_streams::{ConversationError, EndedBy, Goes, LineHandler, Replies, answer_lines};
 use refusals::{Answered, Refusal};
@@ -138,19 +139,20 @@ pub(crate) fn refuse<A: Allocator>(
     Ok(Answered::Refused(why))
 }
 
-/// Adds the status object of these views.
+/// Adds the status object of these views, and of so many keys that are remembered.
 pub(crate) fn add_status<A: Allocator>(
     alloc: Global,
     desk: &DeskView,
     peers: &[PeerView],
     journal: Option<JournalView>,
+    keys: u64,
     replies: &mut Replies<A>,
 ) -> Result<(), OutOfMemory>
     requires { replies.old.part ≡ [] }
-    ensures ok { OnOk result (AddsReply replies.old replies.new (status_text desk.now peers.now journal)) }
+    ensures ok { OnOk result (AddsReply replies.old replies.new (status_text desk.now peers.now journal keys)) }
     ensures err { OnErr result (replies.new.whole ≡ replies.old.whole) }
 {
-    let text = status_text(alloc, desk, peers, journal)?;
+    let text = status_text(alloc, desk, peers, journal, keys)?;
     replies.put(text.as_bytes())?;
     replies.finish()
 }
@@ -248,6 +250,35 @@ impl<'a, D: DeskNames, R: Wait, P: Peers + Drop, B: TickSignal + Drop> SiteClien
         Ok(answer_reply(replies, reply))
     }
 
+    /// Carries out a command under a key, or replies to its repeat, and adds the reply.
+    fn carry_out_keyed<A: Allocator>(
+        &mut self,
+        key: Key,
+        command: DeskCommand,
+        replies: &mut Replies<A>,
+    ) -> Result<Answered, OutOfMemory>
+        requires { replies.old.part ≡ [] }
+        ensures ok { IfOk result (λ how. (text : List ℕ)
+            × CarriesOutKeyed D.id self.old.seat key command (record { text = text; how = how }) self.new.seat
+            × AddsReply replies.old replies.new text) }
+        ensures short { OnOk result (length replies.new.whole ≤ length replies.old.whole + REPLY_ROOM) }
+        ensures err { OnErr result ((self.new ≡ self.old) × (replies.new.whole ≡ replies.old.whole)) }
+        ensures rest { self.new ≡ record self.old { seat = self.new.seat } }
+    {
+        // Reserved first, so that a command is carried out only if its reply has room.
+        replies.reserve(REPLY_ROOM)?;
+        let reply = self.act_keyed(key, command);
+        Ok(answer_reply(replies, reply))
+    }
+
+    /// Carries out a command under a key at the desk, or replies to its repeat, in one turn.
+    pub(crate) fn act_keyed(&mut self, key: Key, command: DeskCommand) -> Reply
+        ensures acts { ActsKeyedAtDesk D.id self.old.seat key command result self.new.seat }
+        ensures rest { self.new ≡ record self.old { seat = self.new.seat } }
+    {
+        self.seat.act_keyed(self.rt, key, command)
+    }
+
     /// Carries out a command at the desk, in one turn.
     pub(crate) fn act(&mut self, command: DeskCommand) -> Reply
         ensures acts { ActsAtDesk D.id self.old.seat command result self.new.seat }
@@ -333,9 +364,9 @@ impl<'a, D: DeskNames, R: Wait, P: Peers + Drop, B: TickSignal + Drop> SiteClien
         ensures ok { OnOk result ((text : List ℕ) × TellsStatus D.id text × AddsReply replies.old replies.new text) }
         ensures err { OnErr result (replies.new.whole ≡ replies.old.whole) }
     {
-        let (desk, peers) = self.views()?;
+        let (desk, peers, keys) = self.views()?;
         let journal = journal_view(self.rt, self.site);
-        add_status(self.alloc, &desk, peers.as_slice(), journal, replies)
+        add_status(self.alloc, &desk, peers.as_slice(), journal, keys, replies)
     }
 
     /// Adds the report of the spends that wait.
@@ -361,14 +392,14 @@ impl<'a, D: DeskNames, R: Wait, P: Peers + Drop, B: TickSignal + Drop> SiteClien
         command_in(text, self.signal.time())
     }
 
-    /// The views of the desk and of its peers.
-    pub(crate) fn views(&self) -> Result<(DeskView, Vec<PeerView>), OutOfMemory>
-        ensures { IfOk result (λ views. AreViews D.id views.0 views.1.items) }
+    /// The views of the desk and of its peers, and how many keys are remembered.
+    pub(crate) fn views(&self) -> Result<(DeskView, Vec<PeerView>, u64), OutOfMemory>
+        ensures { IfOk result (λ views. AreViews D.id views.0 views.1.items views.2) }
     {
         let look = self.seat.look(self.rt);
         let kept = look.kept();
         let peers = peer_views(self.alloc, kept.desk(), self.site.peers())?;
-        Ok((kept.view(), peers))
+        Ok((kept.view(), peers, kept.keys_remembered() as u64))
     }
 
     /// Counts an answer.
@@ -426,12 +457,34 @@ impl<'a, D: DeskNames, R: Wait, P: Peers + Drop, B: TickSignal + Drop> SiteClien
         ensures err { OnErr result ((self.new ≡ self.old) × (replies.new.whole ≡ replies.old.whole)) }
     {
         match command {
-            None | Some(SiteCommand::Quit) => refuse(replies, Refusal::BadCommand),
-            Some(SiteCommand::AtDesk(command)) => self.carry_out(command, replies),
-            Some(SiteCommand::Tick(time)) => self.tick(time, replies),
-            Some(SiteCommand::RefusedTick) => refuse(replies, Refusal::OwnClock),
-            Some(SiteCommand::Status) => self.answer_status(replies),
-            Some(SiteCommand::Queue) => self.answer_queue(replies),
+            None => refuse(replies, Refusal::BadCommand),
+            Some(command) => self.answer_known(command, replies),
+        }
+    }
+
+    /// The same for a command.
+    fn answer_known<A: Allocator>(
+        &mut self,
+        command: SiteCommand,
+        replies: &mut Replies<A>,
+    ) -> Result<Answered, OutOfMemory>
+        requires { replies.old.part ≡ [] }
+        ensures ok { IfOk result (λ how. (text : List ℕ)
+            × Tells P.size P.sends P.stops D.id (Some command) self.old.seat self.old.peers
+            (record { text = text; how = how }) self.new.seat self.new.peers × AddsReply replies.old replies.new text) }
+        ensures short { OnOk result ((length replies.new.whole ≤ length replies.old.whole + TICK_ROOM)
+            ⊎ (self.new ≡ self.old)) }
+        ensures err { OnErr result ((self.new ≡ self.old) × (replies.new.whole ≡ replies.old.whole)) }
+    {
+        match command {
+            SiteCommand::Quit => refuse(replies, Refusal::BadCommand),
+            SiteCommand::AtDesk(command) => self.carry_out(command, replies),
+            SiteCommand::Keyed(key, command) => self.carry_out_keyed(key, command, replies),
+            SiteCommand::BadKey => refuse(replies, Refusal::BadKey),
+            SiteCommand::Tick(time) => self.tick(time, replies),
+            SiteCommand::RefusedTick => refuse(replies, Refusal::OwnClock),
+            SiteCommand::Status => self.answer_status(replies),
+            SiteCommand::Queue => self.answer_queue(replies),
         }
     }
 

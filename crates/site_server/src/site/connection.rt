@@ -1,17 +1,19 @@
 //! A client of a site over a connection.
-ghost use Rattle.std.specs.Prelude.{◌≡◌, ◌+◌, ◌≤◌, ◌⊎◌, [], List, ℕ, length, IfOk, OnOk, OnErr};
+ghost use Rattle.std.specs.Prelude.{◌≡◌, ◌+◌, ◌≤◌, ◌⊎◌, [], List, ℕ, length, Some, IfOk, OnOk, OnErr};
 ghost use Rattle.line_streams.specs.Waiting.{AddsReply};
 ghost use Rattle.site_server.specs.Connections.{Tells, TellsSettled, TellsBy};
+ghost use Rattle.site_server.specs.Replying.{under};
 
 use crate::site::client::SiteClient;
 use crate::site::tick_signal::TickSignal;
 use apply_lanes::DeskNames;
+use command_keys::Key;
 use line_streams::Replies;
 use refusals::Answered;
 use rights_types::OutOfMemory;
 use site_http::Backend;
 use site_node::{Peers, TICK_ROOM};
-use site_words::SiteCommand;
+use site_words::{SiteCommand, with_key};
 use std::alloc::Global;
 use std::sync::Wait;
 
@@ -53,8 +55,29 @@ impl<D: DeskNames, R: Wait, P: Peers + Drop, B: TickSignal + Drop> SiteClient<'_
         ensures err { OnErr result (self.new ≡ self.old) }
     {
         match command {
-            Some(SiteCommand::AtDesk(command)) => self.settle_command(command, replies),
-            _ => self.tell(command, replies),
+            Some(command) => self.settle_known(command, replies),
+            None => self.tell(None, replies),
+        }
+    }
+
+    /// The same for a command.
+    fn settle_known(
+        &mut self,
+        command: SiteCommand,
+        replies: &mut Replies<Global>,
+    ) -> Result<Answered, OutOfMemory>
+        requires { replies.old.part ≡ [] }
+        ensures ok { IfOk result (λ how. (text : List ℕ)
+            × TellsSettled P.size P.sends P.stops (B.has_ended self.old.signal) (B.has_left self.old.signal) D.id (Some command) self.old.seat self.old.peers
+            (record { text = text; how = how }) self.new.seat self.new.peers × AddsReply replies.old replies.new text) }
+        ensures short { OnOk result ((length replies.new.whole ≤ length replies.old.whole + TICK_ROOM)
+            ⊎ (self.new ≡ self.old)) }
+        ensures err { OnErr result (self.new ≡ self.old) }
+    {
+        match command {
+            SiteCommand::AtDesk(command) => self.settle_command(command, replies),
+            SiteCommand::Keyed(key, command) => self.settle_keyed(key, command, replies),
+            other => self.tell(Some(other), replies),
         }
     }
 
@@ -81,6 +104,16 @@ impl<D: DeskNames, R: Wait, P: Peers + Drop, B: TickSignal + Drop> SiteClient<'_
     }
 }
 
+/// The command under the key of its request, if that has one.
+fn under(key: Option<Key>, command: Option<SiteCommand>) -> Option<SiteCommand>
+    ensures { result ≡ under key command }
+{
+    match key {
+        Some(key) => with_key(command, key),
+        None => command,
+    }
+}
+
 impl<D: DeskNames, R: Wait, P: Peers + Drop, B: TickSignal + Drop> Backend
     for SiteClient<'_, D, R, P, B> {
     ghost use Rattle.site_server.specs.Replying.{TellsQueue, TellsStatus};
@@ -99,11 +132,12 @@ impl<D: DeskNames, R: Wait, P: Peers + Drop, B: TickSignal + Drop> Backend
 
     fn reply(
         &mut self,
+        key: Option<Key>,
         waits: bool,
         text: Option<&[u8]>,
         replies: &mut Replies<Global>,
     ) -> Result<Answered, OutOfMemory> {
-        let command = self.command_in(text);
+        let command = under(key, self.command_in(text));
         let answered = self.tell_by(waits, command, replies)?;
         self.count(answered);
         Ok(answered)

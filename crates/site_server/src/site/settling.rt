@@ -1,13 +1,15 @@
 //! The reply to a client that waits for the outcome of its spend.
-ghost use Rattle.std.specs.Prelude.{◌≡◌, ◌+◌, ◌≤◌, [], List, ℕ, length, IfOk, OnOk, OnErr};
+ghost use Rattle.std.specs.Prelude.{◌≡◌, ◌+◌, ◌≤◌, [], List, ℕ, length, is_some, IfOk, OnOk, OnErr};
 ghost use Rattle.line_streams.specs.Waiting.{AddsReply};
 ghost use Rattle.site_node.specs.declared.reply.Reply.TheVariants.{Spending as Spends};
 ghost use Rattle.site_core.specs.declared.desk.requests.Spending.TheVariants.{Queued as IsQueued};
 ghost use Rattle.site_server.specs.Settling.{Settles, SettlesCommand, still_waits};
+ghost use Rattle.site_server.specs.Settling.{SettlesUnder, SettlesKeyedCommand, is_queued};
 
 use crate::site::client::SiteClient;
 use crate::site::tick_signal::{TickSignal, Woken};
 use apply_lanes::DeskNames;
+use command_keys::Key;
 use line_streams::Replies;
 use refusals::Answered;
 use reply_texts::REPLY_ROOM;
@@ -75,6 +77,62 @@ impl<D: DeskNames, R: Wait, P: Peers + Drop, B: TickSignal + Drop> SiteClient<'_
             }
         }
         unreachable!()
+    }
+
+    /// Carries out a command under a key, waits for the outcome of a spend that is queued, and adds the reply.
+    pub(crate) fn settle_keyed<A: Allocator>(
+        &mut self,
+        key: Key,
+        command: DeskCommand,
+        replies: &mut Replies<A>,
+    ) -> Result<Answered, OutOfMemory>
+        requires { replies.old.part ≡ [] }
+        ensures ok { IfOk result (λ how. (text : List ℕ)
+            × SettlesKeyedCommand (B.has_ended self.old.signal) (B.has_left self.old.signal) D.id self.old.seat key command
+            (record { text = text; how = how }) self.new.seat
+            × AddsReply replies.old replies.new text) }
+        ensures short { OnOk result (length replies.new.whole ≤ length replies.old.whole + REPLY_ROOM) }
+        ensures err { OnErr result (self.new ≡ self.old) }
+        ensures rest { self.new ≡ record self.old { seat = self.new.seat } }
+    {
+        // Reserved first, so that a command is carried out only if its reply has room.
+        replies.reserve(REPLY_ROOM)?;
+        let settled = self.settled_under(key, command);
+        Ok(answer_reply(replies, settled))
+    }
+
+    /// The reply to a command under a key, which is repeated, tick by tick, while its spend is queued. If the client
+    /// leaves, the spend is cancelled. At the end of the site the reply is that it is queued.
+    #[tactic(auto, using(crate::proofs::KeyedLaws::none_under, crate::proofs::KeyedLaws::waits_under_again, crate::proofs::KeyedLaws::tells_under, crate::proofs::KeyedLaws::ends_under, crate::proofs::KeyedLaws::leaves_under))]
+    fn settled_under(&mut self, key: Key, command: DeskCommand) -> Reply
+        ensures settles { SettlesUnder (B.has_ended self.old.signal) (B.has_left self.old.signal) D.id self.old.seat key command result
+            self.new.seat }
+        ensures rest { self.new ≡ record self.old { seat = self.new.seat } }
+    {
+        // Read before the command, so that no tick after it is missed.
+        let mut seen = self.signal.count();
+        'ticks: for _ in self.rt.forever() {
+            let reply = self.act_keyed(key, command);
+            let Some(ticket) = queued_in(reply) else {
+                return reply;
+            };
+            match self.signal.next(seen) {
+                Woken::ByTick(count) => seen = count,
+                Woken::ByEnd => return reply,
+                Woken::ByClient => return self.act(DeskCommand::Cancel(ticket)),
+            }
+        }
+        unreachable!()
+    }
+}
+
+/// The ticket of a spend that is queued, according to this reply.
+fn queued_in(reply: Reply) -> Option<u64>
+    ensures { is_some result ≡ is_queued reply }
+{
+    match reply {
+        Reply::Spending(Spending::Queued(ticket)) => Some(ticket),
+        _ => None,
     }
 }
 

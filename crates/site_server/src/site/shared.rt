@@ -4,6 +4,7 @@ ghost use Rattle.apply_lanes.specs.Names.{id_of, AreBlank, IsUnused};
 
 use crate::site::slots::Slots;
 use apply_lanes::{Applied, Blanks, DeskNames};
+use command_keys::KeyBook;
 use desk_turns::{Seats, TurnDesk};
 use durability::Durability;
 use rights_types::{MAX_SITES, OutOfMemory};
@@ -29,19 +30,20 @@ pub(crate) struct Shared<D: DeskNames> {
 }
 
 impl<D: DeskNames> Shared<D> {
-    /// Shares a desk that was not used yet, for a site with a journal or without one.
+    /// Shares a desk that was not used yet, for a site with a journal or without one. Without keys it takes none.
     pub(crate) fn new<R: Wait>(
         rt: &R,
         alloc: Global,
         desk: Desk,
         blanks: Blanks,
+        keys: Option<KeyBook>,
         durability: Option<Arc<Durability>>,
     ) -> Result<Shared<D>, OutOfMemory>
         requires id { D.id ≡ id_of desk blanks }
         requires blanks { AreBlank blanks }
         requires unused { IsUnused desk }
     {
-        let desk = Arc::new(alloc, TurnDesk::new(desk, blanks, durability))?;
+        let desk = Arc::new(alloc, TurnDesk::new(desk, blanks, keys, durability))?;
         let seats = Seats::new(rt, alloc, &desk, TICKS)?;
         Ok(Shared {
             seats: Arc::new(alloc, seats)?,

@@ -2,6 +2,7 @@ use Rattle.std.proofs.Common.{ℕ, List, length, ◌∷◌, ◌<◌, refl, ap, �
 use Rattle.std.proofs.lemmas.Option.{slice_get_read}
 use Rattle.std.proofs.lemmas.List.Edits.{length-remove}
 use Rattle.command_keys.specs.Last.{newest_of}
+use Rattle.command_keys.specs.Keys.{ending}
 use Rattle.command_keys.specs.declared.outcome.Waiting.{Waiting}
 use Rattle.command_keys.proofs.Changes.{once_expired, expired_free}
 use Rattle.command_keys.proofs.keys.Keys.expire_at.Goals as goal
@@ -25,7 +26,7 @@ invariant_of-self g c =
     let long = ap (λ (vs : List Waiting). length vs) c.remove-spend.ensures.items in
     record {
       once = λ q. rw (c.put.ensures.entries, c.remove-spend.ensures.items)
-          (once_expired ws i w within c.remove-spend.ensures.value c.self.inside.expired.cap w.amount
+          (once_expired ws i w within c.remove-spend.ensures.value c.self.inside.expired.cap
           c.self.inside.written.entries c.self.inside.expired.entries c.self.invariant.once q);
       may_write = omega (arith, c.self.invariant.may_write, fewer, long, c.put.ensures.spare);
       may_expire = omega (arith, c.self.invariant.may_expire, fewer, long, c.put.ensures.spare);
@@ -43,7 +44,7 @@ returns g c =
       spend = w;
       found = there;
       ended = c.put.ensures.entries
-          ∙ ap (λ (cap : ℕ). newest_of cap ((w.key, w.amount) ∷ c.self.inside.expired.entries)) c.self.invariant.cap;
+          ∙ ap (λ (cap : ℕ). newest_of cap ((w.key, ending w) ∷ c.self.inside.expired.entries)) c.self.invariant.cap;
       others = c.remove-spend.ensures.items;
       cap = refl;
       written = refl;
