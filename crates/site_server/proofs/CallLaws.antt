@@ -33,10 +33,10 @@ use Rattle.site_server.specs.Measuring.{TellsMetrics, TellsClosed}
 use Rattle.site_server.specs.Settling.{Settles}
 use Rattle.site_server.specs.Connections.{ClientValue, Tells, TellsSettled, TellsBy, Answers, Responded}
 use Rattle.site_server.specs.Conversations.{IsTurn}
-use Rattle.site_server.specs.Requests.{turns_under, IsSettledTurn, IsQueued, AreTurnsOf, AreBodyTurns, AreRouteTurns, AreCallsTurns}
+use Rattle.site_server.specs.Requests.{IsSettledTurn, IsQueued, AreTurnsOf, AreBodyTurns, AreRouteTurns, AreCallsTurns}
 use Rattle.site_server.specs.Requests.{CountsCalls}
 use Rattle.site_server.proofs.ConfirmedTurns.{both}
-use Rattle.site_server.proofs.KeyedLaws.{settled_counted}
+use Rattle.site_server.proofs.KeyedLaws.{keyed_turns}
 use Rattle.site_server.proofs.ConfirmedLaws.{turns_of_line}
 use Rattle.site_server.proofs.SettleLaws.{keeps_told, cancel_keeps_told, waited_told}
 
@@ -168,8 +168,12 @@ module _ {P : Type 0} (size : P → ℕ) (sends : P → ℕ → ℕ → P → Ty
       )
   settled_turns HasEnded HasLeft (Some (Keyed key command)) was before answer now after h =
       let c = h.0 in
-      let found = settled_counted HasEnded HasLeft id was key command c.settled now c.settles in
-      (turns_under command found.0, (c.settled, found.0, refl, c.says), found.1)
+      let found = keyed_turns id was key command c.reply c.half c.at_desk in
+      let same = settled_told HasEnded HasLeft id c.half c.reply c.settled now c.settles in (
+        found.0,
+        (c.reply, found.1, settled_text HasEnded HasLeft id c.half c.reply c.settled now answer.text c.settles c.says),
+        subst (λ (s : SeatValue). HasTurns was.told found.0 s) (sym same) found.2,
+      )
   settled_turns HasEnded HasLeft (Some BadKey) was before answer now after h
       = tells_turns (Some BadKey) was before answer now after h
   settled_turns HasEnded HasLeft (Some (Tick time)) was before answer now after h

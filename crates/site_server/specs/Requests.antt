@@ -1,5 +1,5 @@
 -- The requests of a connection and their responses, as the turns that the client's seat counts.
-use Rattle.std.specs.Prelude.{◌≡◌, ◌⊎◌, ℕ, List, [], ◌∷◌, ◌++◌, Option, Some, None, map}
+use Rattle.std.specs.Prelude.{◌≡◌, ◌⊎◌, ℕ, List, [], ◌∷◌, ◌++◌, Option, Some, None}
 use Rattle.http.specs.declared.request.Request.{Request}
 use Rattle.http.specs.Request.{body_of}
 use Rattle.http_server.specs.Exchange.{Call}
@@ -10,7 +10,6 @@ use Rattle.site_core.specs.declared.desk.requests.Spending.TheVariants.{Queued}
 use Rattle.apply_lanes.specs.Kepts.{SeatValue}
 use Rattle.site_words.specs.declared.commands.SiteCommand.{SiteCommand}
 use Rattle.site_words.specs.declared.commands.SiteCommand.TheVariants.{AtDesk, Keyed}
-use Rattle.site_words.specs.declared.commands.DeskCommand.{DeskCommand}
 use Rattle.site_node.specs.Texts.{reply_text}
 use Rattle.site_node.specs.Confirmed.{Turn, ACommand, HasTurns, CountsConfirmed}
 use Rattle.site_node.specs.declared.reply.Reply.{Reply}
@@ -29,17 +28,13 @@ use Rattle.site_server.specs.Conversations.{IsTurn}
 abbrev pub IsQueued : Reply → Type 0
 IsQueued reply = (ticket : ℕ) × (reply ≡ Spending (Queued ticket))
 
--- turns that carried out this command, with these replies
-abbrev pub turns_under : DeskCommand → List Reply → List Turn
-turns_under command replies = map (λ reply. ACommand command reply) replies
-
--- The turn of a line whose client waits: it gets the reply, or for a queued spend the outcome. A command under a key is
--- repeated while its spend waits; the turns are those in which it was carried out.
+-- the turn of a line whose client waits, if it is one: it gets the reply, or for a queued spend the outcome
 abbrev pub IsSettledTurn : Option SiteCommand → List ℕ → List Turn → Type 0
 IsSettledTurn (Some (AtDesk command)) text turns =
     (reply : Reply) × (turns ≡ ACommand command reply ∷ []) × ((text ≡ reply_text reply) ⊎ IsQueued reply)
 IsSettledTurn (Some (Keyed key command)) text turns =
-    (settled : Reply) × (replies : List Reply) × (turns ≡ turns_under command replies) × (text ≡ reply_text settled)
+    (reply : Reply) × ((turns ≡ ACommand command reply ∷ []) ⊎ (turns ≡ []))
+    × ((text ≡ reply_text reply) ⊎ IsQueued reply)
 IsSettledTurn command text turns = IsTurn command text turns
 
 module _ (key : Option (List ℕ)) (is_turn : Option SiteCommand → List ℕ → List Turn → Type 0) where

@@ -73,65 +73,13 @@ pub record SettlesCommand (HasEnded HasLeft : Type 0) (id : DeskId) (was : Seate
   pub says : answer.text ≡ reply_text settled
   pub how : answer.how ≡ reply_answered settled
 
--- ---- under a key
-
--- the reply says that a spend is queued
-abbrev pub is_queued : Reply → Bool
-is_queued (Spending (Queued ticket)) = true
-is_queued reply = false
-
--- in one turn, the reply to the command under this key was that it is queued
-pub record ToldQueued (id : DeskId) (was : SeatedValue) (key : List ℕ) (command : DeskCommand)
-    (now : SeatedValue) : Type 0 where
-  pub reply : Reply
-  pub at_desk : ActsKeyedAtDesk id was key command reply now
-  pub waits : is_queued reply ≡ true
-
--- the same in this many turns, one after another
-abbrev pub WaitsUnder : DeskId → ℕ → SeatedValue → List ℕ → DeskCommand → SeatedValue → Type 0
-WaitsUnder id zero was key command now = now ≡ was
-WaitsUnder id (suc n) was key command now =
-    (mid : SeatedValue) × WaitsUnder id n was key command mid × ToldQueued id mid key command now
-
-pub record HasWaitedUnder (id : DeskId) (was : SeatedValue) (key : List ℕ) (command : DeskCommand)
-    (now : SeatedValue) : Type 0 where
-  pub times : ℕ
-  pub waits : WaitsUnder id times was key command now
-
--- after such turns, in one more, the reply to the command under this key was another
-pub record TellsUnder (id : DeskId) (was : SeatedValue) (key : List ℕ) (command : DeskCommand) (settled : Reply)
-    (now : SeatedValue) : Type 0 where
-  pub mid : SeatedValue
-  pub waited : HasWaitedUnder id was key command mid
-  pub at_desk : ActsKeyedAtDesk id mid key command settled now
-  pub decided : is_queued settled ≡ false
-
--- after such turns, the site has ended, and the client gets that its spend is queued
-pub record EndsUnder (HasEnded : Type 0) (id : DeskId) (was : SeatedValue) (key : List ℕ) (command : DeskCommand)
-    (settled : Reply) (now : SeatedValue) : Type 0 where
-  pub waited : HasWaitedUnder id was key command now
-  pub ended : HasEnded
-  pub queued : is_queued settled ≡ true
-
--- after such turns, the client has left, and in one more the desk ended the wait of its spend
-pub record LeavesUnder (HasLeft : Type 0) (id : DeskId) (was : SeatedValue) (key : List ℕ) (command : DeskCommand)
-    (settled : Reply) (now : SeatedValue) : Type 0 where
-  pub mid : SeatedValue
-  pub waited : HasWaitedUnder id was key command mid
-  pub left : HasLeft
-  pub ticket : ℕ
-  pub at_desk : ActsAtDesk id mid (Cancels ticket) settled now
-
--- what a client that waits gets for its command under a key
-abbrev pub SettlesUnder : Type 0 → Type 0 → DeskId → SeatedValue → List ℕ → DeskCommand → Reply → SeatedValue → Type 0
-SettlesUnder HasEnded HasLeft id was key command settled now =
-    TellsUnder id was key command settled now ⊎ EndsUnder HasEnded id was key command settled now
-    ⊎ LeavesUnder HasLeft id was key command settled now
-
--- .. and this answer tells it
+-- the same for a command under a key
 pub record SettlesKeyedCommand (HasEnded HasLeft : Type 0) (id : DeskId) (was : SeatedValue) (key : List ℕ)
     (command : DeskCommand) (answer : LineAnswer) (now : SeatedValue) : Type 0 where
+  pub reply : Reply
   pub settled : Reply
-  pub settles : SettlesUnder HasEnded HasLeft id was key command settled now
+  pub half : SeatedValue
+  pub at_desk : ActsKeyedAtDesk id was key command reply half
+  pub settles : Settles HasEnded HasLeft id half reply settled now
   pub says : answer.text ≡ reply_text settled
   pub how : answer.how ≡ reply_answered settled

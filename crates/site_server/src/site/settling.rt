@@ -1,10 +1,9 @@
 //! The reply to a client that waits for the outcome of its spend.
-ghost use Rattle.std.specs.Prelude.{◌≡◌, ◌+◌, ◌≤◌, [], List, ℕ, length, is_some, IfOk, OnOk, OnErr};
+ghost use Rattle.std.specs.Prelude.{◌≡◌, ◌+◌, ◌≤◌, [], List, ℕ, length, IfOk, OnOk, OnErr};
 ghost use Rattle.line_streams.specs.Waiting.{AddsReply};
 ghost use Rattle.site_node.specs.declared.reply.Reply.TheVariants.{Spending as Spends};
 ghost use Rattle.site_core.specs.declared.desk.requests.Spending.TheVariants.{Queued as IsQueued};
-ghost use Rattle.site_server.specs.Settling.{Settles, SettlesCommand, still_waits};
-ghost use Rattle.site_server.specs.Settling.{SettlesUnder, SettlesKeyedCommand, is_queued};
+ghost use Rattle.site_server.specs.Settling.{Settles, SettlesCommand, SettlesKeyedCommand, still_waits};
 
 use crate::site::client::SiteClient;
 use crate::site::tick_signal::{TickSignal, Woken};
@@ -97,42 +96,11 @@ impl<D: DeskNames, R: Wait, P: Peers + Drop, B: TickSignal + Drop> SiteClient<'_
     {
         // Reserved first, so that a command is carried out only if its reply has room.
         replies.reserve(REPLY_ROOM)?;
-        let settled = self.settled_under(key, command);
-        Ok(answer_reply(replies, settled))
-    }
-
-    /// The reply to a command under a key, which is repeated, tick by tick, while its spend is queued. If the client
-    /// leaves, the spend is cancelled. At the end of the site the reply is that it is queued.
-    #[tactic(auto, using(crate::proofs::KeyedLaws::none_under, crate::proofs::KeyedLaws::waits_under_again, crate::proofs::KeyedLaws::tells_under, crate::proofs::KeyedLaws::ends_under, crate::proofs::KeyedLaws::leaves_under))]
-    fn settled_under(&mut self, key: Key, command: DeskCommand) -> Reply
-        ensures settles { SettlesUnder (B.has_ended self.old.signal) (B.has_left self.old.signal) D.id self.old.seat key command result
-            self.new.seat }
-        ensures rest { self.new ≡ record self.old { seat = self.new.seat } }
-    {
         // Read before the command, so that no tick after it is missed.
-        let mut seen = self.signal.count();
-        'ticks: for _ in self.rt.forever() {
-            let reply = self.act_keyed(key, command);
-            let Some(queued) = queued_in(reply) else {
-                return reply;
-            };
-            match self.signal.next(seen) {
-                Woken::ByTick(count) => seen = count,
-                Woken::ByEnd => return reply,
-                Woken::ByClient => return self.act(DeskCommand::Cancel(queued)),
-            }
-        }
-        unreachable!()
-    }
-}
-
-/// The ticket of a spend that is queued, according to this reply.
-fn queued_in(reply: Reply) -> Option<u64>
-    ensures { is_some result ≡ is_queued reply }
-{
-    match reply {
-        Reply::Spending(Spending::Queued(ticket)) => Some(ticket),
-        _ => None,
+        let before = self.signal.count();
+        let answer = self.act_keyed(key, command);
+        let settled = self.settled(answer, before);
+        Ok(answer_reply(replies, settled))
     }
 }
 
