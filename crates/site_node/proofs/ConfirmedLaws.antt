@@ -11,6 +11,7 @@ use Rattle.site_words.specs.declared.commands.DeskCommand.TheVariants.{Issue, Gi
 use Rattle.site_words.specs.declared.commands.DeskCommand.TheVariants.{Outcome, Cancel, Close}
 use Rattle.site_node.specs.declared.reply.Reply.{Reply}
 use Rattle.site_node.specs.declared.reply.Reply.TheVariants.{Number, Spending, Outcome as Tells, Refused, BadDeadline}
+use Rattle.site_node.specs.declared.reply.Reply.TheVariants.{KeyRefused, KeyReused}
 use Rattle.site_node.specs.declared.tick.Ticked.{Ticked}
 use Rattle.site_node.specs.Acting.{Acts}
 use Rattle.site_node.specs.Ticking.{ServesEach, Ticks}
@@ -45,11 +46,15 @@ acts old was (Issue amount) (Spending spending) new now h = absurd h
 acts old was (Issue amount) (Tells status) new now h = absurd h
 acts old was (Issue amount) (Refused cause) new now h = same was now h.same_seat
 acts old was (Issue amount) BadDeadline new now h = absurd h
+acts old was (Issue amount) KeyRefused new now h = absurd h
+acts old was (Issue amount) KeyReused new now h = absurd h
 acts old was (Give peer amount) (Number n) new now h = same was now h.1.same_seat
 acts old was (Give peer amount) (Spending spending) new now h = absurd h
 acts old was (Give peer amount) (Tells status) new now h = absurd h
 acts old was (Give peer amount) (Refused cause) new now h = same was now h.same_seat
 acts old was (Give peer amount) BadDeadline new now h = absurd h
+acts old was (Give peer amount) KeyRefused new now h = absurd h
+acts old was (Give peer amount) KeyReused new now h = absurd h
 acts old was (Spend amount deadline latest) (Number n) new now h = absurd h
 acts old was (Spend amount deadline latest) (Spending (Spent n)) new now h =
     let e = h.2.counted in
@@ -66,6 +71,8 @@ acts old was (Spend amount deadline latest) (Spending (Queued ticket)) new now h
 acts old was (Spend amount deadline latest) (Tells status) new now h = absurd h
 acts old was (Spend amount deadline latest) (Refused cause) new now h = same was now h.same_seat
 acts old was (Spend amount deadline latest) BadDeadline new now h = same was now h.same_seat
+acts old was (Spend amount deadline latest) KeyRefused new now h = absurd h
+acts old was (Spend amount deadline latest) KeyReused new now h = absurd h
 acts old was (Take amount) (Number n) new now h = absurd h
 acts old was (Take amount) (Spending (Spent n)) new now h =
     let e = h.1.counted in
@@ -77,21 +84,29 @@ acts old was (Take amount) (Spending (Queued ticket)) new now h = absurd h
 acts old was (Take amount) (Tells status) new now h = absurd h
 acts old was (Take amount) (Refused cause) new now h = same was now h.same_seat
 acts old was (Take amount) BadDeadline new now h = absurd h
+acts old was (Take amount) KeyRefused new now h = absurd h
+acts old was (Take amount) KeyReused new now h = absurd h
 acts old was (Cancel ticket) (Number n) new now h = absurd h
 acts old was (Cancel ticket) (Spending spending) new now h = absurd h
 acts old was (Cancel ticket) (Tells status) new now h = same was now h.same_seat
 acts old was (Cancel ticket) (Refused cause) new now h = absurd h
 acts old was (Cancel ticket) BadDeadline new now h = absurd h
+acts old was (Cancel ticket) KeyRefused new now h = absurd h
+acts old was (Cancel ticket) KeyReused new now h = absurd h
 acts old was (Outcome ticket) (Number n) new now h = absurd h
 acts old was (Outcome ticket) (Spending spending) new now h = absurd h
 acts old was (Outcome ticket) (Tells status) new now h = same was now h.same_seat
 acts old was (Outcome ticket) (Refused cause) new now h = absurd h
 acts old was (Outcome ticket) BadDeadline new now h = absurd h
+acts old was (Outcome ticket) KeyRefused new now h = absurd h
+acts old was (Outcome ticket) KeyReused new now h = absurd h
 acts old was (Close heir) (Number n) new now h = same was now h.1.same_seat
 acts old was (Close heir) (Spending spending) new now h = absurd h
 acts old was (Close heir) (Tells status) new now h = absurd h
 acts old was (Close heir) (Refused cause) new now h = same was now h.same_seat
 acts old was (Close heir) BadDeadline new now h = absurd h
+acts old was (Close heir) KeyRefused new now h = absurd h
+acts old was (Close heir) KeyReused new now h = absurd h
 
 -- ---- ticks
 

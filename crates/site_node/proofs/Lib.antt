@@ -4,3 +4,4 @@ pub mod Publishing
 pub mod ConfirmedLaws
 pub mod Beside
 pub mod TellingLaws
+pub mod KeyedLaws

@@ -42,6 +42,7 @@ use Rattle.site_words.specs.declared.commands.DeskCommand.TheVariants.{Issue, Gi
 use Rattle.site_words.specs.declared.commands.DeskCommand.TheVariants.{Outcome as AsksOutcome, Cancel, Close}
 use Rattle.site_node.specs.declared.reply.Reply.{Reply}
 use Rattle.site_node.specs.declared.reply.Reply.TheVariants.{Number, Spending, Outcome as Tells, Refused, BadDeadline}
+use Rattle.site_node.specs.declared.reply.Reply.TheVariants.{KeyRefused, KeyReused}
 use Rattle.site_node.specs.declared.tick.Ticked.{Ticked}
 use Rattle.site_node.specs.Acting.{Acts}
 use Rattle.site_node.specs.Ticking.{ServesEach, ExpiresAll, TicksBeside}
@@ -288,6 +289,8 @@ acts old was (Issue amount) (Tells status) new now valid h = absurd h
 acts old was (Issue amount) (Refused cause) new now valid h =
     same old.desk new.desk (ap (λ (k : KeptValue). k.desk) h.same_desk)
 acts old was (Issue amount) BadDeadline new now valid h = absurd h
+acts old was (Issue amount) KeyRefused new now valid h = absurd h
+acts old was (Issue amount) KeyReused new now valid h = absurd h
 acts old was (Give peer amount) (Number n) new now valid h =
     let e = h.1.entry in
     writes_other old.desk new.desk (Gives peer amount ∷ []) e.entry.log refl (ap (λ (d : DeskValue). d.queue) e.rest)
@@ -296,6 +299,8 @@ acts old was (Give peer amount) (Tells status) new now valid h = absurd h
 acts old was (Give peer amount) (Refused cause) new now valid h =
     same old.desk new.desk (ap (λ (k : KeptValue). k.desk) h.same_desk)
 acts old was (Give peer amount) BadDeadline new now valid h = absurd h
+acts old was (Give peer amount) KeyRefused new now valid h = absurd h
+acts old was (Give peer amount) KeyReused new now valid h = absurd h
 acts old was (Spend amount deadline latest) (Number n) new now valid h = absurd h
 acts old was (Spend amount deadline latest) (Spending (Spent n)) new now valid h =
     let d = h.2.desk in
@@ -312,6 +317,8 @@ acts old was (Spend amount deadline latest) (Refused cause) new now valid h =
     same old.desk new.desk (ap (λ (k : KeptValue). k.desk) h.same_desk)
 acts old was (Spend amount deadline latest) BadDeadline new now valid h =
     same old.desk new.desk (ap (λ (k : KeptValue). k.desk) h.same_desk)
+acts old was (Spend amount deadline latest) KeyRefused new now valid h = absurd h
+acts old was (Spend amount deadline latest) KeyReused new now valid h = absurd h
 acts old was (Take amount) (Number n) new now valid h = absurd h
 acts old was (Take amount) (Spending (Spent n)) new now valid h =
     let t = h.1 in
@@ -321,6 +328,8 @@ acts old was (Take amount) (Tells status) new now valid h = absurd h
 acts old was (Take amount) (Refused cause) new now valid h =
     same old.desk new.desk (ap (λ (k : KeptValue). k.desk) h.same_desk)
 acts old was (Take amount) BadDeadline new now valid h = absurd h
+acts old was (Take amount) KeyRefused new now valid h = absurd h
+acts old was (Take amount) KeyReused new now valid h = absurd h
 acts old was (Cancel ticket) (Number n) new now valid h = absurd h
 acts old was (Cancel ticket) (Spending spending) new now valid h = absurd h
 acts old was (Cancel ticket) (Tells status) new now valid h =
@@ -331,6 +340,8 @@ acts old was (Cancel ticket) (Tells status) new now valid h =
     omega (arith, untold, tells c.between ticket status new.desk.queue c.tells ended.once n))
 acts old was (Cancel ticket) (Refused cause) new now valid h = absurd h
 acts old was (Cancel ticket) BadDeadline new now valid h = absurd h
+acts old was (Cancel ticket) KeyRefused new now valid h = absurd h
+acts old was (Cancel ticket) KeyReused new now valid h = absurd h
 acts old was (AsksOutcome ticket) (Number n) new now valid h = absurd h
 acts old was (AsksOutcome ticket) (Spending spending) new now valid h = absurd h
 acts old was (AsksOutcome ticket) (Tells status) new now valid h =
@@ -339,6 +350,8 @@ acts old was (AsksOutcome ticket) (Tells status) new now valid h =
     tells old.desk.queue ticket status new.desk.queue h.outcome (omega (arith, whole)) n)
 acts old was (AsksOutcome ticket) (Refused cause) new now valid h = absurd h
 acts old was (AsksOutcome ticket) BadDeadline new now valid h = absurd h
+acts old was (AsksOutcome ticket) KeyRefused new now valid h = absurd h
+acts old was (AsksOutcome ticket) KeyReused new now valid h = absurd h
 acts old was (Close heir) (Number n) new now valid h =
     let e = h.1.entry in
     writes_other old.desk new.desk (closing_by old.desk.ledger.book heir) e.entry.log
@@ -348,6 +361,8 @@ acts old was (Close heir) (Tells status) new now valid h = absurd h
 acts old was (Close heir) (Refused cause) new now valid h =
     same old.desk new.desk (ap (λ (k : KeptValue). k.desk) h.same_desk)
 acts old was (Close heir) BadDeadline new now valid h = absurd h
+acts old was (Close heir) KeyRefused new now valid h = absurd h
+acts old was (Close heir) KeyReused new now valid h = absurd h
 
 -- ---- ticks
 
@@ -448,7 +463,10 @@ peers_spend_nothing old new = record {
 
 turn_balances : (old : KeptValue) (turn : DeskTurn) (new : KeptValue) → HasDeskTurn old turn new
     → Balances (told_in_turn turn) old.desk new.desk
-turn_balances old (ByClient command reply) new h = acts old h.was command reply new h.now h.queue h.acts
+turn_balances old (ByClient command reply) new h =
+    subst (λ (d : DeskValue). Balances (told_by reply) d new.desk) h.at_start
+    (subst (λ (d : DeskValue). Balances (told_by reply) h.begun.desk d) (sym h.at_end)
+    (acts h.begun h.was command reply h.done h.now h.queue h.acts))
 turn_balances old ByTick new h = ticks h.silent old h.was h.time h.served h.ticked new h.now h.ticks
 turn_balances old ByPeer new h = nothing old.desk new.desk h
 

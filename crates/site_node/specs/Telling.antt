@@ -79,12 +79,17 @@ pub record PeersSpendNothing (old new : DeskValue) : Type 0 where
       → SpendsNothing old new
   pub entries : (o : ℕ) (e : EntryValue) → DeskApplies old o e new → SpendsNothing old new
 
--- a command, for any seat
+-- A command, for any seat, under a key or not: the keys may change besides. The repeat of a command is no such turn,
+-- since it tells again what was told; or it is that of `outcome`, since it frees the slot of what it tells.
 pub record ActsFor (old : KeptValue) (command : DeskCommand) (reply : Reply) (new : KeptValue) : Type 0 where
   pub was : SeatValue
   pub now : SeatValue
-  pub queue : IsQueue old.desk.queue
-  pub acts : Acts old was command reply new now
+  pub begun : KeptValue
+  pub done : KeptValue
+  pub at_start : begun.desk ≡ old.desk
+  pub queue : IsQueue begun.desk.queue
+  pub acts : Acts begun was command reply done now
+  pub at_end : new.desk ≡ done.desk
 
 -- a tick, for any seat, beside any silent sites
 pub record TicksFor (old new : KeptValue) : Type 0 where

@@ -3,7 +3,7 @@ use entry_codec::LineError;
 use rights_types::SiteId;
 use site_core::{DeskError, ReplayError};
 use site_journal::TakeRecords;
-use site_records::{RecordFault, Restoring, read_opening, read_tickets};
+use site_records::{RecordFault, Restoring, read_key, read_opening, read_tickets};
 use std::alloc::Global;
 use std::test::Fail;
 
@@ -92,6 +92,53 @@ fn tickets(rt: HostRuntime) {
     }
 }
 
+/// The line of a key's record, and the key and the number that it says.
+const KEYS: [(&str, &str, u64); 4] = [
+    ("X k 1", "k", 1),
+    ("X !~ 1000000000", "!~", 1_000_000_000),
+    ("X X 7", "X", 7),
+    (
+        "X 0123456789abcdef0123456789abcdef0123456789abcdef0123456789abcdef 12",
+        "0123456789abcdef0123456789abcdef0123456789abcdef0123456789abcdef",
+        12,
+    ),
+];
+
+const NO_KEYS: [&str; 15] = [
+    "",
+    "X",
+    "X ",
+    "X k",
+    "X k ",
+    "X  1",
+    "X k 0",
+    "X k 01",
+    "X k -1",
+    "X k 1000000001",
+    "X k 1 ",
+    "X k 1 2",
+    "x k 1",
+    "X \u{7f} 1",
+    "X 0123456789abcdef0123456789abcdef0123456789abcdef0123456789abcdef0 12",
+];
+
+fn says_key(line: &str, text: &str, of: u64) -> bool {
+    match read_key(line.as_bytes()) {
+        Some((key, number)) => key.bytes() == text.as_bytes() && number == of,
+        None => false,
+    }
+}
+
+#[test]
+fn keys(rt: HostRuntime) {
+    for (line, key, number) in KEYS {
+        assert!(rt; says_key(line, key, number), "{line}");
+    }
+    for line in NO_KEYS {
+        assert!(rt; read_key(line.as_bytes()).is_none(), "{line}");
+    }
+}
+
 /// A journal of site 1 of 2 without a name: how many of its records are taken, why the next one is refused, and what the
 /// desk then holds.
 type Journal = (&'static [&'static str], u64, Option<RecordFault>, u64);
@@ -112,12 +159,83 @@ const CLOSED: [&str; 3] = ["J 1 1 2", "E 1 0 1 I:7", "E 1 1 3 R:2:7 K:0:0"];
 
 const TAKES_BACK: [&str; 4] = ["J 1 1 2", "E 1 0 1 I:50", "E 1 1 2 R:2:20", "E 2 0 1 K:1:0"];
 
-const JOURNALS: [Journal; 16] = [
+// Each key stands somewhere behind its entry. Who makes the desk again keeps none, so one may come twice.
+const KEYED: [&str; 8] = [
+    "J 1 1 2",
+    "E 1 0 1 I:100",
+    "E 1 1 2 S:30",
+    "X second 2",
+    "X first 1",
+    "E 1 2 3 R:2:20",
+    "X third 3",
+    "X first 1",
+];
+
+const CLOSED_BY_KEY: [&str; 5] = [
+    "J 1 1 2",
+    "E 1 0 1 I:7",
+    "E 1 1 3 R:2:7 K:0:0",
+    "X first 1",
+    "X last 3",
+];
+
+const JOURNALS: [Journal; 27] = [
     (&[], 0, None, 0),
     (&["J 1 1 2"], 1, None, 0),
     (&EACH_STEP, 9, None, 45),
     (&CLOSED, 3, None, 0),
     (&TAKES_BACK, 4, None, 50),
+    (&KEYED, 8, None, 50),
+    (&CLOSED_BY_KEY, 5, None, 0),
+    (&["X k 1"], 0, Some(RecordFault::NoOpening), 0),
+    (
+        &["J 1 1 2", "X k 1", "E 1 0 1 I:5"],
+        1,
+        Some(RecordFault::NoKeyEntry),
+        0,
+    ),
+    (
+        &["J 1 1 2", "E 1 0 1 I:5", "X k 2"],
+        2,
+        Some(RecordFault::NoKeyEntry),
+        5,
+    ),
+    (
+        &["J 1 1 2", "E 1 0 1 I:7", "E 1 1 3 R:2:7 K:0:0", "X k 2"],
+        3,
+        Some(RecordFault::NoKeyEntry),
+        0,
+    ),
+    (
+        &["J 1 1 2", "E 1 0 1 I:100", "E 1 1 2 G:2:10:1", "X k 2"],
+        3,
+        Some(RecordFault::NoKeyEntry),
+        90,
+    ),
+    (
+        &["J 1 1 2", "E 1 0 2 I:5 I:6", "X k 2"],
+        2,
+        Some(RecordFault::NoKeyEntry),
+        11,
+    ),
+    (
+        &["J 1 1 2", "E 2 0 1 I:40", "X k 1"],
+        2,
+        Some(RecordFault::NoKeyEntry),
+        0,
+    ),
+    (
+        &["J 1 1 2", "E 1 0 1 I:5", "X k 01"],
+        2,
+        Some(RecordFault::Unreadable(LineError::BadKind)),
+        5,
+    ),
+    (
+        &["J 1 1 2", "E 1 0 1 I:5", "X k"],
+        2,
+        Some(RecordFault::Unreadable(LineError::BadKind)),
+        5,
+    ),
     (&["E 1 0 1 I:1"], 0, Some(RecordFault::NoOpening), 0),
     (&["J 1 2 2"], 0, Some(RecordFault::OtherSite), 0),
     (&["J 1 1 3"], 0, Some(RecordFault::OtherSize), 0),

@@ -267,8 +267,8 @@ impl<'a, D: DeskNames, R: Wait, P: Peers + Drop, B: TickSignal + Drop> SiteClien
     {
         // Reserved first, so that a command is carried out only if its reply has room.
         replies.reserve(REPLY_ROOM)?;
-        let reply = self.act_keyed(key, command);
-        Ok(answer_reply(replies, reply))
+        let answer = self.act_keyed(key, command);
+        Ok(answer_reply(replies, answer))
     }
 
     /// Carries out a command under a key at the desk, or replies to its repeat, in one turn.

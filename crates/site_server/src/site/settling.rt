@@ -113,13 +113,13 @@ impl<D: DeskNames, R: Wait, P: Peers + Drop, B: TickSignal + Drop> SiteClient<'_
         let mut seen = self.signal.count();
         'ticks: for _ in self.rt.forever() {
             let reply = self.act_keyed(key, command);
-            let Some(ticket) = queued_in(reply) else {
+            let Some(queued) = queued_in(reply) else {
                 return reply;
             };
             match self.signal.next(seen) {
                 Woken::ByTick(count) => seen = count,
                 Woken::ByEnd => return reply,
-                Woken::ByClient => return self.act(DeskCommand::Cancel(ticket)),
+                Woken::ByClient => return self.act(DeskCommand::Cancel(queued)),
             }
         }
         unreachable!()
