@@ -229,7 +229,7 @@ class SiteClient:
         meanwhile. The seconds are at most a day, and those of the site's clock: that of this machine does not matter.
 
         A site ends the spend of a client whose connection breaks while it waits. So Expired may come before its time.
-        Nothing was spent then, and nothing will be under the same key: ask again under another one."""
+        Nothing was spent then: ask again, under another key."""
         command = f"spend {amount} +{round(max(within, 0) * 1000)}"
         found = result_of(refusal_raised(self.wait(command, within + self._timeout, key=key), command))
         if isinstance(found, (Spent, Expired, Queued)):
