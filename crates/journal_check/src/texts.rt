@@ -23,6 +23,12 @@ fn put_fault(out: &mut Replies<Global>, fault: RecordFault) -> Result<(), OutOfM
         RecordFault::OtherSize => out.put(b"it is the journal of a system of another size"),
         RecordFault::OtherSystem => out.put(b"it is the journal of another system"),
         RecordFault::Unreadable(_) => out.put(b"it spells no record"),
+        RecordFault::NoKeyEntry => out.put(
+            b"the log has no entry of a client's command with this number",
+        ),
+        RecordFault::KeyRepeated => out.put(
+            b"its key is remembered already: the site remembered fewer keys, so give a smaller --keys",
+        ),
         RecordFault::NotPermitted(error) => put_replay_error(out, error),
         RecordFault::OutOfMemory => out.put(b"there is no memory for it"),
     }

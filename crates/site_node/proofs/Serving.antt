@@ -1,10 +1,15 @@
 -- Requests that are served, one after another.
-use Rattle.std.proofs.Common.{List, [], ◌∷◌, ◌++◌, sym, subst, append_assoc}
+use Rattle.std.proofs.Common.{◌≡◌, ◌∙◌, ℕ, List, [], ◌∷◌, ◌++◌, Option, Some, None, ap, refl, sym, subst, append_assoc}
 use Rattle.std.specs.Prelude.{false}
 use Rattle.std.proofs.lemmas.List.{append-nil}
 use Rattle.request_queue.specs.declared.request.Request.{Request}
 use Rattle.site_core.specs.declared.fault.DeskError.{DeskError}
-use Rattle.apply_lanes.specs.Kepts.{KeptValue, SeatValue}
+use Rattle.request_queue.specs.Queues.{QueueValue, front_of}
+use Rattle.site_core.specs.Desks.{DeskValue}
+use Rattle.site_core.specs.Calls.{ServesFront, ServeKeeps}
+use Rattle.command_keys.specs.Books.{KeyBookValue, ServesKey}
+use Rattle.apply_lanes.specs.Kepts.{KeptValue, SeatValue, IsFront, raised, told_served}
+use Rattle.apply_lanes.specs.Recording.{with_written}
 use Rattle.site_node.specs.Ticking.{ServesNext, ServesEach, HasServedAll, ServesNextIf, ServesAll, ServingFails}
 
 -- what is served from here on was served from the start on, after the requests so far
@@ -50,3 +55,48 @@ fails start was so_far k half fault new now from h = record {
   each = ends start was so_far k half new now from h.each;
   refuses = h.refuses;
 }
+
+-- ---- one request
+
+in_front : Option (ℕ × ℕ × ℕ) → ℕ × ℕ × ℕ
+in_front (Some front) = front
+in_front None = (0, 0, 0)
+
+-- the request at the front was served, and then its key
+pub serves_next : (old mid new : KeptValue) (was now : SeatValue) (ticket number amount : ℕ)
+    → ServesFront old.desk ticket number mid.desk → ServeKeeps old.desk (Some (ticket, number)) mid.desk
+    → IsFront old.desk.queue.waiting (ticket, number, amount)
+    → mid ≡ record old {
+      desk = mid.desk;
+      spent = raised old.spent amount;
+      records = with_written old.records mid.desk;
+    } → now ≡ told_served was amount
+    → ServesKey mid.keys ticket number new.keys → new ≡ record mid { keys = new.keys }
+    → (request : Request) × ServesNext old was request new now
+unfolding in_front
+serves_next old mid new was now ticket number amount serves keeps front counter counted key rest =
+    let (r, others, waiting, settles) = serves.queue in
+    let same : (r.ticket, r.amount, r.deadline) ≡ (ticket, amount, front.0)
+    = ap in_front (sym (ap front_of waiting) ∙ front.1) in
+    let t : ticket ≡ r.ticket = ap (λ (f : ℕ × ℕ × ℕ). f.0) (sym same) in
+    let a : amount ≡ r.amount = ap (λ (f : ℕ × ℕ × ℕ). f.1) (sym same) in
+    let left : mid.desk.queue.waiting ≡ others = ap (λ (q : QueueValue). q.waiting) settles in
+    let keys : mid.keys ≡ old.keys = ap (λ (k : KeptValue). k.keys) counter in (
+      r,
+      subst (λ (k : KeptValue). ServesNext old was r k now) (sym rest) (record {
+        first = waiting ∙ ap (λ (rs : List Request). r ∷ rs) (sym left);
+        number = number;
+        desk = subst (λ (n : ℕ). ServesFront old.desk n number mid.desk) t serves;
+        keeps = subst (λ (n : ℕ). ServeKeeps old.desk (Some (n, number)) mid.desk) t keeps;
+        key = subst (λ (n : ℕ). ServesKey old.keys n number new.keys) t
+            (subst (λ (b : KeyBookValue). ServesKey b ticket number new.keys) keys key);
+        counter = ap (λ (k : KeptValue). record k { keys = new.keys }) counter
+            ∙ ap (λ (n : ℕ). record old {
+              desk = mid.desk;
+              spent = raised old.spent n;
+              records = with_written old.records mid.desk;
+              keys = new.keys;
+            }) a;
+        counted = counted ∙ ap (told_served was) a;
+      }),
+    )

@@ -97,18 +97,27 @@ FreesIf false outcome old was new now = (new ≡ old) × (now ≡ was)
 
 -- ---- the first time
 
-abbrev pub wrote : ℕ → Effect → Option Outcome
-wrote number effect = Some (Wrote (record { number = number; effect = effect; ticket = 0 }))
+abbrev pub wrote : ℕ → Effect → Outcome
+wrote number effect = Wrote (record { number = number; effect = effect; ticket = 0 })
 
--- what is remembered of a command with this reply: which entry it wrote, or that it waits; nothing if it was refused
+abbrev pub spend_in : Effect → Option ℕ
+spend_in (effect.Spend amount) = Some amount
+spend_in other = None
+
+abbrev pub waiting_by : ℕ → Option ℕ → Option Outcome
+waiting_by ticket (Some amount) = Some (Waits ticket amount)
+waiting_by ticket None = None
+
+-- what is remembered of a command with this effect and this reply: which entry it wrote, or that it waits; nothing if it
+-- was refused
+abbrev pub noted_by : Option Effect → Reply → Option Outcome
+noted_by (Some one) (Number number) = Some (wrote number one)
+noted_by (Some one) (Spending (Spent number)) = Some (wrote number one)
+noted_by (Some one) (Spending (Queued ticket)) = waiting_by ticket (spend_in one)
+noted_by one reply = None
+
 abbrev pub noted : DeskCommand → Reply → Option Outcome
-noted (Issue amount) (Number number) = wrote number (effect.Issue amount)
-noted (Give peer amount) (Number number) = wrote number (effect.Give peer amount)
-noted (Close heir) (Number number) = wrote number effect.Close
-noted (Take amount) (Spending (Spent number)) = wrote number (effect.Spend amount)
-noted (Spend amount deadline latest) (Spending (Spent number)) = wrote number (effect.Spend amount)
-noted (Spend amount deadline latest) (Spending (Queued ticket)) = Some (Waits ticket amount)
-noted command reply = None
+noted command reply = noted_by (effect_of command) reply
 
 -- this is remembered of the key, and recorded if the command wrote an entry; nothing else changes
 abbrev pub Notes : Option Outcome → KeptValue → List ℕ → KeptValue → Type 0

@@ -1,14 +1,17 @@
 //! Commands under keys: each is carried out once, however often its client repeats it.
 ghost use Rattle.std.specs.Prelude.{◌≡◌, Some, None};
-ghost use Rattle.site_node.specs.Keyed.{ActsKeyed, ActsFirst, FreesIf, effect_of, effect_in, same_effect};
-ghost use Rattle.site_node.specs.Keyed.{is_of, is_repeat, noted, reply_as, reply_of, repeat_of, ticket_of, wrote};
+ghost use Rattle.site_node.specs.Keyed.{ActsKeyed, ActsFirst, FreesIf, Notes, effect_of, effect_in, same_effect};
+ghost use Rattle.site_node.specs.Keyed.{is_repeat, noted_by, reply_as, reply_of, repeat_of, spend_in, ticket_of};
+ghost use Rattle.command_keys.specs.Books.{HasRoom};
 ghost use Rattle.command_keys.specs.Keys.{outcome_of};
+ghost use Rattle.command_keys.specs.declared.outcome.Effect.TheVariants as kind;
 
 use crate::commands::act;
 use crate::reply::Reply;
 use apply_lanes::{DeskNames, Kept, Seat};
 use command_keys::{Effect, Key, Outcome, Written};
 use request_queue::Status;
+use rights_types::SiteId;
 use site_core::{DeskError, Spending};
 use site_words::DeskCommand;
 
@@ -44,14 +47,14 @@ fn act_again<D: DeskNames>(
     ensures reply { result ≡ repeat_of outcome command }
     ensures frees { FreesIf (is_repeat outcome command) outcome kept.old seat.old kept.new seat.new }
 {
-    if !is_repeat(outcome, command) {
+    if !is_repeat(&outcome, &command) {
         return Reply::KeyReused;
     }
-    let ticket = ticket_of(outcome);
+    let ticket = ticket_of(&outcome);
     if ticket > 0 {
         let _told = kept.status(ticket);
     }
-    reply_of(outcome, command)
+    reply_of(&outcome, &command)
 }
 
 /// Carries out a command under a free key, and remembers what became of it.
@@ -68,42 +71,45 @@ fn act_first<D: DeskNames>(
     if kept.reserve_key().is_err() {
         return Reply::Refused(DeskError::OutOfMemory);
     }
+    let effect = effect_of(&command);
     let reply = act(kept, seat, command);
-    match noted(command, reply) {
-        Some(Outcome::Wrote(written)) => kept.remember_key(key, written),
-        Some(Outcome::Waits(ticket, amount)) => kept.wait_key(key, ticket, amount),
-        _ => {}
+    if let Some(outcome) = noted_by(effect, &reply) {
+        note(kept, key, outcome);
     }
     reply
 }
 
-/// What is remembered of a command with this reply: which entry it wrote, or that it waits; nothing if it was refused.
-fn noted(command: DeskCommand, reply: Reply) -> Option<Outcome>
-    ensures { result ≡ noted command reply }
+/// Remembers how the command of a free key ended.
+fn note<D: DeskNames>(kept: &mut Kept<D>, key: Key, outcome: Outcome)
+    requires room { HasRoom kept.old.keys }
+    requires free { outcome_of kept.old.keys.keys key ≡ None }
+    ensures { Notes (Some outcome) kept.old key kept.new }
 {
-    match (command, reply) {
-        (DeskCommand::Issue(amount), Reply::Number(number)) => {
-            Some(wrote(number, Effect::Issue(amount)))
-        }
-        (DeskCommand::Give(peer, amount), Reply::Number(number)) => {
-            Some(wrote(number, Effect::Give(peer, amount)))
-        }
-        (DeskCommand::Close(_), Reply::Number(number)) => Some(wrote(number, Effect::Close)),
-        (DeskCommand::Take(amount), Reply::Spending(Spending::Spent(number))) => {
-            Some(wrote(number, Effect::Spend(amount)))
-        }
-        (DeskCommand::Spend(amount, _, _), Reply::Spending(Spending::Spent(number))) => {
-            Some(wrote(number, Effect::Spend(amount)))
-        }
-        (DeskCommand::Spend(amount, _, _), Reply::Spending(Spending::Queued(ticket))) => {
-            Some(Outcome::Waits(ticket, amount))
+    match outcome {
+        Outcome::Wrote(written) => kept.remember_key(key, written),
+        Outcome::Waits(ticket, amount) => kept.wait_key(key, ticket, amount),
+        Outcome::Expired(_) => {}
+    }
+}
+
+/// What is remembered of a command with this effect and this reply: which entry it wrote, or that it waits; nothing if it
+/// was refused.
+fn noted_by(effect: Option<Effect>, reply: &Reply) -> Option<Outcome>
+    ensures { result ≡ noted_by effect reply.now }
+{
+    let effect = effect?;
+    match reply {
+        Reply::Number(number) => Some(wrote(*number, effect)),
+        Reply::Spending(Spending::Spent(number)) => Some(wrote(*number, effect)),
+        Reply::Spending(Spending::Queued(ticket)) => {
+            Some(Outcome::Waits(*ticket, spend_in(&effect)?))
         }
         _ => None,
     }
 }
 
 fn wrote(number: u64, effect: Effect) -> Outcome
-    ensures { Some result ≡ wrote number effect }
+    ensures { result ≡ Outcome.Wrote (record { number = number; effect = effect; ticket = 0 }) }
 {
     Outcome::Wrote(Written {
         number,
@@ -112,85 +118,124 @@ fn wrote(number: u64, effect: Effect) -> Outcome
     })
 }
 
+/// How many rights it spends. `None` if it does something else.
+fn spend_in(effect: &Effect) -> Option<u64>
+    ensures { result ≡ spend_in effect.now }
+{
+    match effect {
+        Effect::Spend(amount) => Some(*amount),
+        _ => None,
+    }
+}
+
 /// What the command does if it is carried out. `None` if it writes no entry.
-fn effect_of(command: DeskCommand) -> Option<Effect>
-    ensures { result ≡ effect_of command }
+fn effect_of(command: &DeskCommand) -> Option<Effect>
+    ensures { result ≡ effect_of command.now }
 {
     match command {
-        DeskCommand::Issue(amount) => Some(Effect::Issue(amount)),
-        DeskCommand::Give(peer, amount) => Some(Effect::Give(peer, amount)),
-        DeskCommand::Spend(amount, _, _) | DeskCommand::Take(amount) => Some(Effect::Spend(amount)),
+        DeskCommand::Issue(amount) => Some(Effect::Issue(*amount)),
+        DeskCommand::Give(peer, amount) => Some(Effect::Give(*peer, *amount)),
+        DeskCommand::Spend(amount, _, _) => Some(Effect::Spend(*amount)),
+        DeskCommand::Take(amount) => Some(Effect::Spend(*amount)),
         DeskCommand::Close(_) => Some(Effect::Close),
-        DeskCommand::Outcome(_) | DeskCommand::Cancel(_) => None,
+        DeskCommand::Outcome(_) => None,
+        DeskCommand::Cancel(_) => None,
     }
 }
 
 /// What the command did, or would have done, that ended so.
-fn effect_in(outcome: Outcome) -> Effect
-    ensures { result ≡ effect_in outcome }
+fn effect_in(outcome: &Outcome) -> Effect
+    ensures { result ≡ effect_in outcome.now }
 {
     match outcome {
         Outcome::Wrote(written) => written.effect,
-        Outcome::Waits(_, amount) => Effect::Spend(amount),
+        Outcome::Waits(_, amount) => Effect::Spend(*amount),
         Outcome::Expired(ended) => Effect::Spend(ended.amount),
     }
 }
 
-fn same_effect(one: Effect, other: Effect) -> bool
-    ensures { result ≡ same_effect one other }
+fn same_effect(one: &Effect, other: &Effect) -> bool
+    ensures { result ≡ same_effect one.now other.now }
 {
-    match (one, other) {
-        (Effect::Issue(m), Effect::Issue(n)) => m == n,
-        (Effect::Give(j, m), Effect::Give(k, n)) => j == k && m == n,
-        (Effect::Spend(m), Effect::Spend(n)) => m == n,
-        (Effect::Close, Effect::Close) => true,
+    match one {
+        Effect::Issue(amount) => issues(other, *amount),
+        Effect::Give(peer, amount) => gives(other, *peer, *amount),
+        Effect::Spend(amount) => spends(other, *amount),
+        Effect::Close => closes(other),
+    }
+}
+
+fn issues(effect: &Effect, amount: u64) -> bool
+    ensures { result ≡ same_effect (kind.Issue amount) effect.now }
+{
+    match effect {
+        Effect::Issue(other) => amount == *other,
         _ => false,
     }
 }
 
-/// Whether a command with this effect, if it has one, is the one that ended so.
-fn is_of(effect: Option<Effect>, outcome: Outcome) -> bool
-    ensures { result ≡ is_of effect outcome }
+fn gives(effect: &Effect, peer: SiteId, amount: u64) -> bool
+    ensures { result ≡ same_effect (kind.Give peer amount) effect.now }
 {
     match effect {
-        Some(effect) => same_effect(effect, effect_in(outcome)),
+        Effect::Give(site, other) => peer == *site && amount == *other,
+        _ => false,
+    }
+}
+
+fn spends(effect: &Effect, amount: u64) -> bool
+    ensures { result ≡ same_effect (kind.Spend amount) effect.now }
+{
+    match effect {
+        Effect::Spend(other) => amount == *other,
+        _ => false,
+    }
+}
+
+fn closes(effect: &Effect) -> bool
+    ensures { result ≡ same_effect kind.Close effect.now }
+{
+    match effect {
+        Effect::Close => true,
+        _ => false,
+    }
+}
+
+/// Whether the command is a repeat of the one that ended so.
+fn is_repeat(outcome: &Outcome, command: &DeskCommand) -> bool
+    ensures { result ≡ is_repeat outcome.now command.now }
+{
+    match effect_of(command) {
+        Some(effect) => same_effect(&effect, &effect_in(outcome)),
         None => false,
     }
 }
 
 /// The reply to a command that wrote the entry of this number.
-fn reply_as(command: DeskCommand, number: u64) -> Reply
-    ensures { result ≡ reply_as command number }
+fn reply_as(command: &DeskCommand, number: u64) -> Reply
+    ensures { result ≡ reply_as command.now number }
 {
     match command {
-        DeskCommand::Spend(_, _, _) | DeskCommand::Take(_) => {
-            Reply::Spending(Spending::Spent(number))
-        }
+        DeskCommand::Spend(_, _, _) => Reply::Spending(Spending::Spent(number)),
+        DeskCommand::Take(_) => Reply::Spending(Spending::Spent(number)),
         _ => Reply::Number(number),
     }
 }
 
 /// The reply to a repeat of the command that ended so.
-fn reply_of(outcome: Outcome, command: DeskCommand) -> Reply
-    ensures { result ≡ reply_of outcome command }
+fn reply_of(outcome: &Outcome, command: &DeskCommand) -> Reply
+    ensures { result ≡ reply_of outcome.now command.now }
 {
     match outcome {
         Outcome::Wrote(written) => reply_as(command, written.number),
-        Outcome::Waits(ticket, _) => Reply::Spending(Spending::Queued(ticket)),
+        Outcome::Waits(ticket, _) => Reply::Spending(Spending::Queued(*ticket)),
         Outcome::Expired(_) => Reply::Outcome(Status::Expired),
     }
 }
 
-/// Whether the command is a repeat of the one that ended so.
-fn is_repeat(outcome: Outcome, command: DeskCommand) -> bool
-    ensures { result ≡ is_repeat outcome command }
-{
-    is_of(effect_of(command), outcome)
-}
-
 /// The ticket of a spend that waited, and waits no longer; 0 if there is none.
-fn ticket_of(outcome: Outcome) -> u64
-    ensures { result ≡ ticket_of outcome }
+fn ticket_of(outcome: &Outcome) -> u64
+    ensures { result ≡ ticket_of outcome.now }
 {
     match outcome {
         Outcome::Wrote(written) => written.ticket,
