@@ -12,6 +12,7 @@ import clock_checks
 import desk_checks
 import end_checks
 import key_checks
+import key_restart_checks
 import link_checks
 import log_checks
 import reading_checks
@@ -76,7 +77,7 @@ TRIES = 20
 # The modules whose checks need a process, and not its model alone.
 OF_CONNECTIONS = ("link_checks", "end_checks", "clock_checks", "word_checks")
 # What makes the sites of a check, where it is not a `Trial`, by the check's module.
-OTHER_TRIALS = {"clock_checks": ClockTrial, "restart_checks": RestartTrial}
+OTHER_TRIALS = {"clock_checks": ClockTrial, "restart_checks": RestartTrial, "key_restart_checks": RestartTrial}
 
 
 def system_of(name):
@@ -92,7 +93,8 @@ def all_checks():
 
 def checks_of_restarts():
     """Each check of a site with a journal that is started again, with its name."""
-    yield from checks_of(restart_checks)
+    for module in (restart_checks, key_restart_checks):
+        yield from checks_of(module)
 
 
 def checks_of_words():
