@@ -9,7 +9,7 @@ BUGS = {}
 # Who has bugs to plant.
 MODULES = [
     "site_bugs", "text_bugs", "rule_bugs", "edge_bugs", "traffic_bugs", "link_bugs", "stream_bugs", "end_bugs", "clock_bugs", "word_bugs",
-    "restart_bugs",
+    "restart_bugs", "key_bugs",
 ]  # fmt: skip
 
 # The module that has a bug, by the bug's name.

@@ -24,6 +24,7 @@ sys.path.insert(0, HERE)
 
 import site_checks  # noqa: E402
 from bug_kit import MODULE_OF, all_bugs  # noqa: E402
+from key_model import USUAL_KEYS  # noqa: E402
 from model_process import Limits  # noqa: E402
 from site_model import RunningSite  # noqa: E402
 from site_trial import Trial  # noqa: E402
@@ -47,8 +48,8 @@ WAYS = IN_PROCESS, BY_CONFORMANCE, NOT_FOUND = "in process", "by ./conformance",
 class Recorder:
     """A model alone, in the place of a process beside its model: it notes all that it says."""
 
-    def __init__(self, count, number):
-        self.model, self.said = RunningSite(number, count), []
+    def __init__(self, count, number, keys):
+        self.model, self.said = RunningSite(number, count, keys=keys), []
 
     def give_commands(self, lines, cuts=(), pause=0):
         self.said += map(self.model.reply, lines)
@@ -66,8 +67,8 @@ class Recorder:
 
 
 class Recording(Trial):
-    def __init__(self, count, number):
-        self.node, self.time = Recorder(count, number), 0
+    def __init__(self, count, number, keys):
+        self.node, self.time = Recorder(count, number, keys), 0
 
 
 def said_by_check(bug=None):
@@ -77,7 +78,7 @@ def said_by_check(bug=None):
     said = {}
     for name, check in site_checks.all_checks():
         if check.__module__ not in site_checks.OF_CONNECTIONS:
-            trial = Recording(*site_checks.system_of(name))
+            trial = Recording(*site_checks.system_of(name), site_checks.KEYS.get(name, USUAL_KEYS))
             # With a bug the model may fail, and says no more then.
             with suppress(*([Exception] if bug else [])):
                 check(trial)

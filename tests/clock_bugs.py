@@ -230,6 +230,47 @@ commands_read_as("spends_may_have_a_plus", lambda line: line.replace(b"spend +",
 commands_read_as("gifts_may_have_a_plus", lambda line: line.replace(b"+", b"") if line.startswith(b"give") else line)
 
 
+@replaces(RunningSite, "answer_under")
+def a_repeat_is_judged_by_its_deadline(right, site, key, name, values):
+    if name == "spend" and site.clock and site.desk.keys.find(key) and site.is_too_far(values[1]):
+        raise Refusal("BadDeadline")
+    return right(key, name, values)
+
+
+@replaces(RunningSite, "answer_under")
+def a_refused_deadline_uses_its_key(right, site, key, name, values):
+    used = vars(site).setdefault("used", set())
+    if site.clock and name == "issue" and key in used:
+        raise Refusal("KeyReused")
+    try:
+        return right(key, name, values)
+    except Refusal as refusal:
+        if str(refusal) == "BadDeadline":
+            used.add(key)
+        raise
+
+
+@replaces(RunningSite, "answer_under")
+def a_tick_under_a_key_is_refused_for_the_clock(right, site, key, name, values):
+    if name == "tick" and site.clock:
+        raise Refusal("OwnClock")
+    return right(key, name, values)
+
+
+@replaces(RunningSite, "answer_under")
+def a_tick_under_a_key_is_done_beside_the_clock(right, site, key, name, values):
+    if name == "tick" and site.clock:
+        site.tick(site.clock())
+    return right(key, name, values)
+
+
+@replaces(RunningSite, "answer_under")
+def later_deadlines_under_keys_are_counted_from_0(right, site, key, name, values):
+    if name == "spend" and site.clock and values[1] > site.clock():
+        values = (values[0], values[1] - site.clock())
+    return right(key, name, values)
+
+
 @replaces(RunningSite, "is_too_far")
 def a_deadline_may_be_as_far_as_it_likes(right, site, deadline):
     return False

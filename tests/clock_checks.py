@@ -174,6 +174,46 @@ def a_spend_expires_after_its_time(trial):
         site.expect("queue", '{"requests":[],"unread":0}')
 
 
+def a_key_answers_whatever_the_deadline_is_later(trial):
+    """Also to one that no first spend may have."""
+    with trial.site(SOON) as site:
+        begun = wall_clock()
+        far = begun + 2 * MOST_AHEAD
+        site.expect_all("queued 1", "key a spend 5 +400", "key a spend 5 +400", f"key a spend 5 +{LONG}", "key a take 5", f"key a spend 5 {far}")
+        site.expect_all("error KeyReused", "key a spend 6 +400", f"key a spend 6 {far}", "key a issue 5")
+        site.wait_for("that the spend expires", lambda: site.say(f"key a spend 5 +{LONG}") == ["expired"])
+        passed = wall_clock() - begun
+        expect(passed > 400 - SLACK, True, f"it expired after {passed} ms, not 400")
+        site.expect_all("expired", "key a take 5", f"key a spend 5 {far}", "key a spend 5 +0")
+        site.expect("outcome 1", "unknown")
+        site.expect(f"key b spend 5 +{LONG}", "queued 2")
+        site.expect("issue 5", "number 1")
+        site.wait_for_line(2, "B 1 2")
+        site.expect_all("spent 2", "key b spend 5 +0", f"key b spend 5 {far}", "key b take 5")
+        site.expect("outcome 2", "unknown")
+
+
+def a_key_of_a_refused_deadline_stays_free(trial):
+    with trial.site(RARELY) as site:
+        far = wall_clock() + 2 * MOST_AHEAD
+        site.expect_all("error BadDeadline", f"key a spend 5 {far}", f"key a spend 5 {far}", f"key a spend 6 {2**64 - 1}")
+        site.expect_all("error BadCommand", "key a spend 5 +", f"key a spend 5 +{MOST_AHEAD + 1}", "key a spend +5 5", "key a take +5", "key a issue +5")
+        site.expect("key a issue 5", "number 1")
+        site.expect("key b spend 2 +0", "spent 2")
+        site.expect_all("spent 2", f"key b spend 2 {far}", "key b spend 2 +7")
+
+
+def a_tick_has_no_key(trial):
+    """At a site that ticks by itself too, and nothing is done."""
+    with trial.site(RARELY) as site:
+        site.expect(f"spend 5 +{LONG}", "queued 1")
+        site.expect("issue 9", "number 1")
+        site.expect_all("error BadKey", "key a tick 0", f"key a tick {2**64 - 1}", f"key a tick {wall_clock()}", "key  tick 5")
+        site.expect_all("error BadCommand", "key a tick", "key a tick +5", "key a tick 5 5")
+        site.expect_all("waiting", "outcome 1")
+        site.expect("key a issue 1", "number 2")
+
+
 def what_is_held_is_spent_whatever_the_deadline(trial):
     with trial.site(RARELY) as site:
         site.expect("issue 99", "number 1")

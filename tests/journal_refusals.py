@@ -13,6 +13,7 @@ from preloaded import built
 HELD = "; nothing was changed, and check-journal prints what stands before it"
 OPENING = batch("J 1 1 3 shop-1", "T 1000")
 WHOLE = OPENING + batch("E 1 0 1 I:100", "W 1 2 1 5") + batch("E 2 0 2 I:30 R:1:7", "T 2000", "E 1 1 3 S:20 R:3:4")
+NO_ENTRY = "the log has no entry of a client's command with this number"
 # The next entry of the site's log.
 NEXT = batch("E 1 3 4 S:1")
 
@@ -194,6 +195,13 @@ def records_that_are_not_permitted():
         ("T", "it spells no record"),
         ("T -1", "it spells no record"),
         ("W 1 1 1 5", "it spells no record"),
+        ("X a", "it spells no record"),
+        ("X a 0", "it spells no record"),
+        ("X  1", "it spells no record"),
+        (f"X {'x' * 65} 1", "it spells no record"),
+        ("X a 4", NO_ENTRY),
+        ("X a 2", NO_ENTRY),
+        ("X a 3", NO_ENTRY),
         ("", "it spells no record"),
         ("J 1 1 3 shop-1", "it spells no record"),
         ("D 2 1 1", "it is a message that no journal has"),
@@ -223,6 +231,10 @@ def steps_that_are_not_permitted():
         (["W 2 1 1 5"], "it is not the next one"),
         (["W 1 3 2 5"], "it is not the next one"),
         (["W 1 4 1 5"], "it is not the next one"),
+        (["E 1 3 4 G:3:5:7", "X a 4"], NO_ENTRY),
+        (["E 3 0 1 K:1:0:0", "X a 4"], NO_ENTRY),
+        (["E 2 2 5 I:1 I:1 I:1", "X a 5"], NO_ENTRY),
+        (["X a 1", "X a 1"], "its key is remembered already: the site remembered fewer keys, so give a smaller --keys"),
     ]:
         refused(WHOLE + batch(*records), f"record {7 + len(records)} refused: {why}")
 

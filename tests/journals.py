@@ -94,6 +94,45 @@ def a_record_that_is_refused_has_its_number():
     expect(checked(batch("T 5")), (1, b"records 0\n", f"rights-site: journal: {first}\n".encode()))
 
 
+def keys_are_records():
+    """Each is of an entry of the site's own log that a client's command writes. One that was forgotten may come again."""
+    keyed = batch("E 1 3 4 I:5", "X order-1 4") + batch("E 1 4 5 R:3:1", "T 2000", "E 1 5 6 S:2", "X ~ 5", f"X {'x' * 64} 6")
+    sums = {"given": 5, "held": 85, "issued": 105, "number": 6, "spent": 22}
+    holds(WHOLE + keyed, records=13, **sums)
+    holds(WHOLE + keyed + batch("X order-2 1", "X order-1 6", "X X 4"), records=16, **sums)
+    closed = batch("E 1 3 5 R:2:83 K:0:2:0", "X close 5")
+    holds(WHOLE + closed, closed=True, given=87, held=0, number=5, records=8)
+    expect(checked(WHOLE + batch("X order-1 1")), (0, TABLE.replace("records 6", "records 7").encode(), b""))
+
+
+NO_ENTRY = "the log has no entry of a client's command with this number"
+
+
+def a_key_of_no_entry_of_a_client_is_refused():
+    """Of none, of a peer's, of one that grants or takes back, of several moves, and of a number within one."""
+    for before, key in [
+        ([], "X a 4"), ([], "X a 2"), ([], "X a 3"), ([], "X a 1000000000"), (["E 1 3 4 G:3:5:7"], "X a 4"),
+        (["E 2 2 5 I:1 I:1 I:1"], "X a 5"), (["E 3 0 1 K:1:0:0"], "X a 4"), (["E 1 3 5 S:1 S:1"], "X a 5"), (["E 1 3 5 R:2:83 K:0:2:0"], "X a 4"),
+    ]:  # fmt: skip
+        number = 7 + len(before)
+        content = WHOLE + batch(*before, key, "E 1 9 10 S:1")
+        status, said, errors = checked(content, "--json")
+        found = json.loads(said)
+        why = f"record {number} refused: {NO_ENTRY}"
+        expect((status, errors), (1, f"rights-site: journal: {why}\n".encode()), f"{before} {key}")
+        expect((found["records"], found["refused"], found["why"]), (number - 1, number, why), f"{before} {key}")
+    first = "record 1 refused: it does not say whose journal this is"
+    holds(batch("X a 1"), base=NONE, refused=1, why=first)
+
+
+def what_spells_no_key_is_no_record():
+    for record in (
+        "X", "X ", "X a", "X a ", "X  1", "X a 0", "X a 01", "X a -1", "X a +1", "X a x", "X a 1 ", "X a 1 1", "X a b 1", "x a 1",
+        "X\ta 1", "X \x7f 1", "X a\t 1", "X \xe9 1", f"X {'x' * 65} 1", "X a 1000000001", "XX a 1", " X a 1",
+    ):  # fmt: skip
+        holds(WHOLE + batch(record), refused=7, why="record 7 refused: it spells no record")
+
+
 def no_records_are_no_error():
     holds(b"", base=NONE)
     holds(bytes(5000), base=NONE)
@@ -113,6 +152,7 @@ def a_file_that_cannot_be_read_has_one_line():
 CASES = [
     case("Journals", [
         a_journal_is_printed, the_rest_of_an_append_is_noted, damage_has_its_byte,
-        a_record_that_is_refused_has_its_number, no_records_are_no_error, a_file_that_cannot_be_read_has_one_line,
+        a_record_that_is_refused_has_its_number, keys_are_records, a_key_of_no_entry_of_a_client_is_refused,
+        what_spells_no_key_is_no_record, no_records_are_no_error, a_file_that_cannot_be_read_has_one_line,
     ]),
 ]  # fmt: skip

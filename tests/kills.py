@@ -25,12 +25,12 @@ if __name__ == "__main__":
     choose_program()
 
 from cluster import HERE, PATIENCE, PROGRAM, at, expect
-from journal_kit import at_rest
+from journal_kit import at_rest, fault_of_keys, read_batches
 from power_cuts import Recorded
 from preloaded import ROOM, built
 from proxies import Proxy
-from told import fault_of_asks, fault_of_calls, fault_of_entries, fault_of_replies, fault_of_totals
-from web_driver import Client
+from told import REPLY, fault_of_asks, fault_of_calls, fault_of_entries, fault_of_replies, fault_of_totals, parted
+from web_driver import Client, post
 
 from rights_site import SiteEnded, SiteSilent
 
@@ -72,6 +72,8 @@ class Run:
         self.lock, self.stop, self.is_rough = threading.Lock(), threading.Event(), True
         self.lines, self.faults = set(), []
         self.replies = {number: [] for number in range(1, self.count + 1)}
+        # The amounts of commands under keys, which have no other ones.
+        self.amounts = itertools.count(1000)
         self.kills = 0
 
     def see(self, line):
@@ -146,6 +148,38 @@ class Run:
             tickets += [reply[7:] for reply in replies if reply.startswith("queued ")]
             time.sleep(chance.random() * 0.03)
 
+    def command_under_key(self, chance, number):
+        """With a key and an amount of its own, so that each entry of its move is one of it."""
+        peer, amount = number % self.count + 1, next(self.amounts)
+        forms = [
+            f"issue {amount}", f"issue {amount}", f"give {peer} {amount}", f"take {amount}", f"spend {amount} +{chance.randint(0, 400)}",
+        ]  # fmt: skip
+        return f"key {number}/{amount} {chance.choice(forms)}"
+
+    def keyed_client(self, number, chance):
+        """Over HTTP. It repeats each command until it is answered, and some of them later, when it may be another process
+        that answers."""
+        commands = []
+        while not self.stop.is_set():
+            if not commands or chance.random() < 0.6:
+                commands.append(self.command_under_key(chance, number))
+            command, replies = chance.choice(commands[-chance.choice([1, 5, 50]) :]), []
+            while not replies and not self.stop.is_set():
+                with suppress(ConnectionError, AssertionError, TimeoutError), Client(self.sites.address(number)) as client:
+                    replies = self.exchange_under_key(client, command, chance)
+                self.note(number, [command], replies)
+                time.sleep(chance.random() * 0.01)
+
+    def exchange_under_key(self, client, command, chance):
+        """The reply, unless the client leaves before it."""
+        target = "/wait" if chance.random() < 0.3 else "/"
+        if chance.random() < 0.8:
+            return client.command(command, target=target)[1]
+        client.send(post(command, target=target))
+        time.sleep(chance.random() * 0.005)
+        client.reset()
+        return []
+
     def closing_client(self, number, chance):
         """Waits for a while, and then closes the site, which it may only do while no spend waits."""
         self.stop.wait(chance.random() * self.seconds)
@@ -187,7 +221,7 @@ class Run:
                 sites.routes[number, peer] = links[number, peer].address
             for number in range(1, self.count + 1):
                 self.sites.start(number)
-            kinds = (self.web_client, self.web_client, self.stream_client)
+            kinds = (self.web_client, self.web_client, self.stream_client, self.keyed_client, self.keyed_client)
             threads = [self.client(kind, number) for number in sites.sites for kind in kinds]
             if self.count > 2 and self.chance.random() < 0.5:
                 threads.append(self.client(self.closing_client, self.chance.randint(1, self.count)))
@@ -219,6 +253,7 @@ class Run:
         logs = {number: [entry.text for entry in of.log] for number, of in holdings.items()}
         for number, of in holdings.items():
             expect(fault_of_replies(self.replies[number], of.log), None, f"site {number}")
+            expect(fault_of_keys(read_batches(sites.content(number))[0]), None, f"site {number}")
             for origin, log in of.applied.items():
                 # A site that has closed applies nothing more.
                 whole = logs[origin][: len(log)] if found[number]["closed"] else logs[origin]
@@ -233,9 +268,20 @@ class Run:
         expect(sorted(sent - asks), [], "asks that are in no journal")
         expect(fault_of_asks(self.lines | asks | entries), None)
         expect(fault_of_totals(found.values()), None)
+        self.check_repeats(sites)
         self.check_again(sites, found)
+        self.check_repeats(sites)
         for number, before, calls in sites.calls():
             expect(fault_of_calls(calls, before), None, f"site {number}")
+
+    def check_repeats(self, sites):
+        """What was told of commands under keys is in the journal, and is told once more."""
+        for number, replies in self.replies.items():
+            keys, site = sites.holdings(number).keys, sites[number]
+            told = {parted(command)[0]: (command, reply) for command, reply in replies if command.startswith("key ") and REPLY.fullmatch(reply or "")}
+            expect({key: int(reply.split(" ")[1]) for key, (_, reply) in told.items()}.items() <= keys.items(), True, f"site {number}: keys that are told")
+            again = site.ask_all([command for command, _ in told.values()])
+            expect(again, [reply for _, reply in told.values()], f"site {number}: repeats")
 
     def check_again(self, sites, before):
         """All are killed once more. What was denied may be granted then, so rights may move, and no others be there."""
@@ -305,6 +351,7 @@ WRONG = {
     "all that it did": ("del batches[1:]", LOST),
     "its tickets": (WITHOUT % "T", "ticket [0-9]+ is given out twice"),
     "its asks": (WITHOUT % "W", "in no journal|is for|granted twice|grants more"),
+    "its keys": (WITHOUT % "X", "and number [0-9]+ before|more entries than commands"),
 }
 
 

@@ -55,6 +55,10 @@ class Run:
         few = self.rng.random() < 0.8
         return self.options.sites or self.rng.randint(2, min(4, most) if few else most)
 
+    def keys(self):
+        """How many keys a site is told to remember, if it is."""
+        return self.rng.choice([None, None, None, 0, 1, 3, 10])
+
 
 # ---- one process
 
@@ -115,7 +119,7 @@ def run_alone(run):
     count = run.sites(16)
     me = run.rng.randint(1, count)
     late = [other for other in range(1, count + 1) if other != me and run.rng.random() < 0.1]
-    node = Node(me, count, run.program, late)
+    node = Node(me, count, run.program, late, keys=run.keys())
     try:
         go_on(run, node)
     finally:
@@ -223,7 +227,7 @@ def run_cluster(run):
     nodes = {}
     try:
         for number in range(1, count + 1):
-            nodes[number] = Node(number, count, run.program)
+            nodes[number] = Node(number, count, run.program, keys=run.keys())
         carry(run, nodes)
     finally:
         for node in nodes.values():

@@ -218,6 +218,14 @@ def an_unfinished_last_line_is_a_command():
     expect((done.returncode, done.stdout, done.stderr), (0, b"number 1\nspent 2\n", b""))
 
 
+def commands_under_keys_are_carried_out_once():
+    """The last one has no line feed."""
+    text = b"key a issue 3\nkey b spend 1 1\nkey a issue 3\nkey a issue 4\nkey  issue 3\nkey b\nkey c quit\nkey b take 1"
+    said = b"number 1\nspent 2\nnumber 1\nerror KeyReused\nerror BadKey\nerror BadCommand\nerror BadKey\nspent 2\n"
+    done = subprocess.run(site_words(), input=text, capture_output=True, timeout=PATIENCE)
+    expect((done.returncode, done.stdout, done.stderr), (0, said, b""))
+
+
 def site_words():
     own, other = free_ports(2)
     return [PROGRAM, "run", "--id", "1", "--sites", "2", "--listen", at(own), f"2={at(other)}"]
@@ -824,6 +832,7 @@ CASES = [case("Loopback", [
     a_site_ends_and_others_go_on,
     replies_come_at_once,
     an_unfinished_last_line_is_a_command,
+    commands_under_keys_are_carried_out_once,
     replies_before_a_read_that_fails,
     dead_peers_hold_nothing_up,
     strangers_are_turned_away,

@@ -8,6 +8,7 @@ import time
 from contextlib import suppress
 
 from desk_model import Refusal
+from key_model import COUNTS_OF_KEYS, USUAL_KEYS
 from line_model import COUNTS, MOST_BYTES, SITES, Hello, message_in, number_in
 from model_journal import Journal
 from site_model import RunningSite
@@ -38,12 +39,13 @@ def number_in_words(text, numbers):
 
 def options_in(words):
     """The number of the site, how many there are, where it listens, where each peer does, how often it ticks by itself
-    after what time a peer is silent, and where its journal is; None where the words are refused."""
+    after what time a peer is silent, where its journal is, and how many keys it remembers; None where the words are
+    refused."""
     options, peers = {}, []
     words = [part for word in words for part in (word.split("=", 1) if word.startswith("--") else [word])]
     while words:
         word = words.pop(0)
-        if word in ("--id", "--sites", "--listen", "--tick", "--silent", "--journal"):
+        if word in ("--id", "--sites", "--listen", "--tick", "--silent", "--journal", "--keys"):
             if word in options or not words:
                 return None
             options[word] = words.pop(0)
@@ -56,10 +58,15 @@ def options_in(words):
     numbers = [number_in_words(text, SITES) for text, _ in peers]
     if number is None or "--listen" not in options or None in numbers or not are_peers(number, count, numbers):
         return None
-    if (clock := clock_in(options)) is None:
+    if (clock := clock_in(options)) is None or (keys := keys_in(options)) is None:
         return None
     addresses = dict(zip(numbers, (address for _, address in peers)))
-    return number, count, options["--listen"], addresses, *clock, options.get("--journal")
+    return number, count, options["--listen"], addresses, *clock, options.get("--journal"), keys
+
+
+def keys_in(options):
+    """How many keys of commands the site remembers; None where this option is refused."""
+    return number_in_words(options["--keys"], COUNTS_OF_KEYS) if "--keys" in options else USUAL_KEYS
 
 
 def clock_in(options):
@@ -100,9 +107,10 @@ class SiteClock:
 class Process:
     """A model, with a thread for each connection, and one for its clock if it ticks by itself."""
 
-    def __init__(self, limits, number, count, listen, peers, tick=None, silence=0, journal=None):
-        """`tick` and `silence` are in milliseconds, and `journal` is the path of its file, if it keeps one."""
-        self.model = RunningSite(number, count, SiteClock() if tick else None)
+    def __init__(self, limits, number, count, listen, peers, tick=None, silence=0, journal=None, keys=USUAL_KEYS):
+        """`tick` and `silence` are in milliseconds, `journal` is the path of its file, if it keeps one, and `keys` is how
+        many keys it remembers."""
+        self.model = RunningSite(number, count, SiteClock() if tick else None, keys)
         self.journal = Journal(journal, number, count) if journal is not None else None
         if self.journal:
             self.journal.restore(self.model.desk)

@@ -1,7 +1,7 @@
 #!/usr/bin/env python3
 """The model of a running site as a process: a second implementation of docs/PROTOCOL.md, slow and small.
 
-    tests/model_site.py [--bug NAME] [--tick MS] [--silent MS] [--journal FILE] --id I --sites N --listen ADDRESS J=ADDRESS...
+    tests/model_site.py [--bug NAME] [--tick MS] [--silent MS] [--keys N] [--journal FILE] --id I --sites N --listen ADDRESS J=ADDRESS...
 
 `./conformance run --journal tests/model_site.py` passes. With `--bug` it has one of the bugs of bug_kit.py, and does not.
 """

@@ -20,6 +20,7 @@ import urllib.request
 from contextlib import ExitStack, suppress
 
 import web_faults
+import web_keys
 import web_limits
 import web_oddities
 import web_requests
@@ -416,6 +417,7 @@ CASES = [
     case("WebFaults", web_faults.TESTS),
     case("WebOddities", web_oddities.TESTS),
     case("WebSites", web_sites.TESTS),
+    case("WebKeys", web_keys.TESTS),
     case("WebClients", [
         pythons_clients, curl, wrk, the_client_class, results_of_the_client_class, replies_as_results, calls_as_commands,
         commands_under_keys, names_and_ipv6, a_lost_answer_is_asked_for_again, a_lost_answer_without_a_key_is_not_asked_for_again,

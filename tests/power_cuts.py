@@ -27,9 +27,9 @@ if __name__ == "__main__":
     choose_program()
 
 from cluster import PATIENCE, PROGRAM, expect, sees, wait_for
-from journal_kit import Holdings, Journaled, batch, read_batches, records_of
+from journal_kit import Holdings, Journaled, batch, fault_of_keys, read_batches, records_of
 from preloaded import ROOM, built, with_library
-from told import Disk, facts_of, facts_told, fault_of_calls, fault_of_entries, has, image, lines_out, read_calls
+from told import Disk, facts_of, facts_told, fault_of_calls, fault_of_entries, has, image, lines_out, parted, read_calls
 
 from rights_site import SiteEnded, SiteSilent
 
@@ -79,7 +79,23 @@ FORMS = ["issue 9", "spend 2 0", "spend 40 +80", "take 1", "give 2 1", "status",
 
 
 def some_commands(chance, count):
-    return [chance.choice(FORMS) for _ in range(count)]
+    """Some of those that write entries have keys."""
+    commands = [chance.choice(FORMS) for _ in range(count)]
+    return [
+        f"key {chance.randrange(10**9)} {command}" if command[:2] in ("is", "sp", "ta", "gi") and chance.random() < 0.5 else command
+        for command in commands
+    ]  # fmt: skip
+
+
+def told_under_keys(replies):
+    """The commands under keys that were told numbers, with their replies."""
+    return [(command, reply) for command, reply in replies if command.startswith("key ") and (reply or "").startswith(("number", "spent"))]
+
+
+def expect_repeats(site, replies, what):
+    """What was told under keys is told once more."""
+    told = told_under_keys(replies)
+    expect(site.ask_all([command for command, _ in told]), [reply for _, reply in told], f"{what}: repeats")
 
 
 # ---- what is told
@@ -102,7 +118,7 @@ def nothing_is_told_before_its_sync():
             thread.start()
         for n in range(20):
             for site in sites.sites.values():
-                site.ask_all(["issue 2", "spend 50 +30", "status", "take 1"])
+                site.ask_all(["issue 2", "spend 50 +30", "status", "take 1", f"key {n} take 1", f"key {n}-2 spend 3 +30"])
             sites.metrics(1 + n % 3)
         for thread in threads:
             thread.join(PATIENCE)
@@ -224,8 +240,9 @@ class Cut:
         expect([fact for fact in self.told if not has(holdings, fact)], [], f"{what}: what was told")
 
 
-def starts_on(sites, content, cut, what):
-    """Starts site 1 on this file: it has all that was told, and goes on with the next number and a new ticket."""
+def starts_on(sites, content, cut, what, commands):
+    """Starts site 1 on this file: it has all that was told, and goes on with the next number and a new ticket. `commands`
+    are those that it may have carried out under keys."""
     with open(sites.path(1), "wb") as file:
         file.write(content)
     site = sites.start(1)
@@ -235,7 +252,11 @@ def starts_on(sites, content, cut, what):
     first = batches.pop()
     expect([record[:2] for record in first], ["T "] if batches else ["J ", "T "], what)
     cut.check(b"".join(batch(*records) for records in batches), what)
-    status = sites.agrees(1)
+    expect(fault_of_keys(read_batches(now)[0]), None, what)
+    status, keys = sites.agrees(1), sites.holdings(1).keys
+    again = site.ask_all([command for command in commands if parted(command)[0] in keys])
+    numbers = [number for _, number in (reply.split(" ") for reply in again)]
+    expect(sorted(map(int, numbers)), sorted(keys.values()), f"{what}: repeats, {again}")
     replies = site.ask_all(["issue 5", "spend 1000000 9"])
     expect(replies[0] in (f"number {status['number'] + 1}", "error Closed"), True, f"{what}: {replies}")
     tickets = [fact[1] for fact in cut.told if fact[0] == "ticket"]
@@ -256,8 +277,9 @@ def cut_history(seed, count=25):
     with Recorded(2, tick=10) as sites:
         sites[2].ask_all(["issue 100", "give 1 20"])
         wait_for("site 1 got 20", sees(sites[1], None, held=20))
+        commands = some_commands(chance, 30)
         for turn in range(6):
-            sites[1].ask_all(some_commands(chance, 4))
+            sites[1].ask_all(commands[5 * turn : 5 * turn + 5])
             sites[2].ask_all(["give 1 1"])
             sites.command("take 1", "issue 2")
             time.sleep(0.02)
@@ -274,7 +296,7 @@ def cut_history(seed, count=25):
             if turn % 3 == 0:
                 content = cut_while_it_starts(sites, content, cut, chance, what)
             sites.recorded = ()
-            starts_on(sites, content, cut, what)
+            starts_on(sites, content, cut, what, commands)
 
 
 def cut_while_it_starts(sites, content, cut, chance, what):
@@ -308,7 +330,7 @@ def power_cuts_under_way(seed, rounds=15):
             sites[2].ask_all([f"give 1 {chance.randint(1, 3)}", "spend 2000 +30"])
             killer = threading.Timer(chance.random() * 0.1, sites[1].process.kill)
             killer.start()
-            drive(sites[1], some_commands(chance, 1000))
+            replies = drive(sites[1], some_commands(chance, 1000))
             killer.join()
             sites[1].kill()
             number, before, calls = sites.last_calls()
@@ -320,6 +342,7 @@ def power_cuts_under_way(seed, rounds=15):
             sites.start(1)
             own, other = sites.holdings(1), sites.holdings(2)
             expect([fact for fact in cut.told if not has(own, fact)], [], what)
+            expect_repeats(sites[1], replies, what)
             heard = other.applied[1]
             expect([entry.text for entry in own.log][: len(heard)], [entry.text for entry in heard], what)
             for each in (own, other):
@@ -363,6 +386,7 @@ def ends_and_goes_on(fault, commands, status, why=None, **options):
         site = sites.start(1)
         holdings = sites.holdings(1)
         expect([fact for fact in cut.told if not has(holdings, fact)], [], fault)
+        expect_repeats(site, replies, fault)
         expect(site.ask("issue 1"), f"number {holdings.number + 1}", fault)
         expect(sites[1].end(), 0)
         return True
@@ -375,7 +399,7 @@ def says_why(errors, path, why, what):
     expect((len(lines), len(said)), (1, 1), f"{what}: {errors!r}")
 
 
-COMMANDS = ["issue 10", "take 1", "spend 30 9", "give 2 3", "take 1", "issue 5", "take 2"]
+COMMANDS = ["issue 10", "key a take 1", "spend 30 9", "key b give 2 3", "key a take 1", "key c issue 5", "take 2", "take 1"]
 
 
 def kills_at_each_call():

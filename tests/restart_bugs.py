@@ -8,6 +8,7 @@ import time
 
 from bug_kit import BUGS, replaces
 from desk_model import Buffer, Request, Site, end
+from key_model import USUAL_KEYS, Known
 from line_model import Ask, Entry, Move
 from model_journal import POINT, Journal, Refused
 from model_process import Process
@@ -55,6 +56,10 @@ def is_ticket(journal, record):
     return str(record).startswith("T ")
 
 
+def is_key(journal, record):
+    return str(record).startswith("X ")
+
+
 written_later("all_is_told_before_it_is_written", lambda journal, record: True)
 written_later("entries_are_told_before_they_are_written", is_own)
 written_later("grants_are_told_before_they_are_written", lambda journal, record: is_own(journal, record, "G"))
@@ -62,6 +67,27 @@ written_later("what_was_applied_is_told_before_it_is_written", is_applied)
 written_later("asks_are_sent_before_they_are_written", lambda journal, record: isinstance(record, Ask))
 written_later("tickets_are_told_before_they_are_written", is_ticket)
 written_later("closing_is_told_before_it_is_written", lambda journal, record: is_own(journal, record, "K"))
+written_later("keys_are_told_before_they_are_written", is_key)
+
+
+@replaces(Journal, "append")
+def a_key_is_written_behind_the_batch_of_its_entry(right, journal, records):
+    """As a batch of its own."""
+    keys = [record for record in records if is_key(journal, record)]
+    right([record for record in records if record not in keys])
+    if keys:
+        time.sleep(0.01)
+        right(keys)
+
+
+@replaces(Journal, "append")
+def a_key_is_written_before_the_batch_of_its_entry(right, journal, records):
+    """So that a site which was killed in between refuses its journal."""
+    keys = [record for record in records if is_key(journal, record)]
+    if keys:
+        right(keys)
+        time.sleep(0.01)
+    right([record for record in records if record not in keys])
 
 
 @replaces(Process, "tell")
@@ -117,6 +143,9 @@ never_written("gifts_are_not_kept", lambda journal, record: is_own(journal, reco
 never_written("closing_entries_are_not_kept", lambda journal, record: is_own(journal, record, "K"))
 never_written("closing_entries_of_others_are_not_kept", lambda journal, record: is_applied(journal, record, "K"))
 never_written("what_is_taken_back_is_not_kept", lambda journal, record: is_own(journal, record, "V"))
+never_written("keys_are_not_kept", is_key)
+never_written("long_keys_are_not_kept", lambda journal, record: is_key(journal, record) and len(str(record).split(" ")[1]) > 40)
+never_written("keys_with_an_equals_sign_are_not_kept", lambda journal, record: str(record).startswith("X ="))
 
 
 # ---- what is read
@@ -161,6 +190,13 @@ reads("only_16_own_entries_are_read", lambda journal, records: [
     record for place, record in enumerate(records)
     if not is_of(journal, record, True) or sum(is_of(journal, it, True) for it in records[:place]) < 16])  # fmt: skip
 reads("own_entries_come_in_another_order", lambda journal, records: sorted(records, key=lambda it: (it[:1], it)))
+reads("the_last_key_is_skipped", lambda journal, records: without_last(records, lambda it: it.startswith("X ")))
+reads("keys_are_read_from_the_last_one", lambda journal, records: (
+    [it for it in records if not is_key(journal, it)] + [it for it in records[::-1] if is_key(journal, it)]))
+reads("only_100_keys_are_read", lambda journal, records: (
+    [it for it in records if not is_key(journal, it)] + [it for it in records if is_key(journal, it)][-100:]))
+reads("a_key_is_read_without_its_capitals", lambda journal, records: [it.lower().replace("x ", "X ", 1) if is_key(journal, it) else it for it in records])
+reads("a_key_is_of_the_first_entry", lambda journal, records: [f"{it.rpartition(' ')[0]} 1" if is_key(journal, it) else it for it in records])
 
 
 # ---- what is made of it
@@ -188,6 +224,61 @@ def of_peers(change):
             change(desk, other, peer)
 
     return all_peers
+
+
+class Anything:
+    """What is equal to each command."""
+
+    def __ne__(self, other):
+        return False
+
+
+@replaces(Journal, "restore")
+def all_keys_of_before_are_remembered(right, journal, desk):
+    most, desk.keys.most = desk.keys.most, USUAL_KEYS
+    right(desk)
+    desk.keys.most = most
+
+
+@replaces(Journal, "restore")
+def no_limit_of_before_is_kept(right, journal, desk):
+    """A site with a journal remembers as many keys as any."""
+    desk.keys.most = USUAL_KEYS
+    right(desk)
+
+
+@replaces(Journal, "new_records")
+def keys_of_what_ticks_serve_are_not_kept(right, journal, desk):
+    served = {key.decode() for key, known in desk.keys.written.items() if known.ticket is not None}
+    return [record for record in right(desk) if not is_key(journal, record) or str(record).split(" ")[1] not in served]
+
+
+def waits_are_kept(name, part, reply):
+    """A bug that keeps keys of spends that wait, and remembers them after a restart."""
+    new_records, restore = Journal.new_records, Journal.restore
+
+    def with_waits(journal, desk):
+        kept = vars(journal).setdefault("waits", set())
+        new = [f"Y {key.decode()} {known.deed[1]}" for key, known in desk.keys.waiting.items() if key not in kept]
+        kept.update(desk.keys.waiting)
+        return new_records(journal, desk) + new
+
+    def restore_waits(journal, desk):
+        records = journal.records
+        journal.records = [record for record in records if not record.startswith("Y ")]
+        restore(journal, desk)
+        for _, key, amount in (record.split(" ") for record in records if record.startswith("Y ")):
+            if desk.keys.find(key.encode()) is None:
+                getattr(desk.keys, part)[key.encode()] = Known(("spend", int(amount)), reply)
+
+    def plant(limits):
+        Journal.new_records, Journal.restore = with_waits, restore_waits
+
+    BUGS[name] = plant
+
+
+waits_are_kept("the_key_of_a_spend_that_waited_says_queued", "waiting", "queued 1")
+waits_are_kept("the_key_of_a_spend_that_waited_says_expired", "expired", "expired")
 
 
 def asks_again(peer, number, amount=0):
@@ -223,6 +314,14 @@ restores("an_old_ticket_has_expired", lambda desk: desk.outcomes.update({desk.ti
 restores("an_old_ticket_was_spent", lambda desk: desk.outcomes.update({desk.tickets: 1} if desk.tickets else {}))
 restores("an_old_spend_waits", lambda desk: (
     desk.waiting.extend([Request(desk.tickets, 5, 2**64 - 1)] if desk.tickets else [])))
+restores("a_close_is_forgotten_with_its_key", lambda desk: [
+    desk.keys.written.pop(key) for key, known in list(desk.keys.written.items()) if known.deed == ("close",)])
+restores("what_was_spent_is_told_as_a_number", lambda desk: [
+    vars(known).update(reply=f"number {known.number}") for known in desk.keys.written.values()])
+restores("gifts_of_before_are_told_from_no_issue", lambda desk: [
+    vars(known).update(deed=("issue", known.deed[2])) for known in desk.keys.written.values() if known.deed[0] == "give"])
+restores("keys_of_before_answer_any_command", lambda desk: [vars(known).update(deed=Anything()) for known in desk.keys.written.values()])
+restores("keys_of_before_answer_no_command", lambda desk: [vars(known).update(deed=("none",)) for known in desk.keys.written.values()])
 restores("a_peers_log_is_asked_for_from_its_beginning", of_peers(lambda desk, other, peer: (
     vars(peer).update(buffer=Buffer()))))
 restores("what_was_applied_is_forgotten", of_peers(lambda desk, other, peer: (

@@ -590,6 +590,8 @@ def some_commands(chance, most):
         return chance.choice([
             f"issue {amount}", f"take {amount}", f"spend {amount} 0", f"spend {amount * 3} 9999",
             f"give {chance.choice([2, 3])} {amount}", "tick 0", "tick 0", "queue",
+            # Many of these are repeats.
+            f"key i{amount} issue {amount}", f"key s{amount} take {amount}", f"key s{amount} spend {amount} 9999",
         ])  # fmt: skip
 
     return [command() for _ in range(chance.randint(1, most))]

@@ -19,7 +19,7 @@ from clock_trial import Ear
 from cluster import Site, SiteEnded, at, expect, free_ports
 from journal_kit import Entry, number_of
 from line_model import MOST_ANSWERED
-from site_driver import Difference, words_of
+from site_driver import Difference, with_keys, words_of
 from told import fault_of_asks, fault_of_entries, fault_of_replies
 
 # A start takes so many seconds at most: on a busy machine an interpreter has much to load.
@@ -84,8 +84,10 @@ def wait_for(what, condition):
 class Survivor:
     """A site with a journal, which may be killed, in a system whose other sites are the test."""
 
-    def __init__(self, command, count=3, number=1):
+    def __init__(self, command, count=3, number=1, keys=None):
         self.command, self.count, self.number = words_of(command), count, number
+        # How many keys it is told to remember, if it is: a check may change that before a start.
+        self.keys = keys
         self.room = tempfile.TemporaryDirectory(prefix="survivor-")
         self.path = os.path.join(self.room.name, "journal")
         self.peers = {other: Listener(other) for other in range(1, count + 1) if other != number}
@@ -104,22 +106,25 @@ class Survivor:
     def words(self, port=None, number=None, count=None):
         """The words that start the site, or another one on the same file."""
         number, count = number or self.number, count or self.count
-        words = [*self.command, "--journal", self.path, "--id", str(number), "--sites", str(count)]
+        words = [*self.begin(), "--id", str(number), "--sites", str(count)]
         words += ["--listen", at(port or self.port)]
         known = {other: peer.address for other, peer in self.peers.items()}
         others = [other for other in range(1, count + 1) if other != number]
         return words + [f"{other}={known.get(other, at(self.port))}" for other in others]
+
+    def begin(self):
+        """The first of these words."""
+        return [*with_keys(self.command, self.keys), "--journal", self.path]
 
     def start(self):
         """By the same command each time. Another process may have the port for a moment."""
         self.hold(False)
         until = time.monotonic() + site_driver.PATIENCE
         routes = {number: peer.address for number, peer in self.peers.items()}
-        command = [*self.command, "--journal", self.path]
         while True:
             begun = time.monotonic()
             try:
-                self.site = Site(self.number, self.count, at(self.port), routes, command, timeout=START_SECONDS)
+                self.site = Site(self.number, self.count, at(self.port), routes, self.begin(), timeout=START_SECONDS)
                 self.site.timeout, self.seconds = site_driver.PATIENCE, time.monotonic() - begun
                 return
             except SiteEnded as ended:
@@ -372,9 +377,9 @@ class RestartTrial:
         """Each site has ended."""
 
     @contextmanager
-    def site(self, count=3, number=1, is_started=True):
+    def site(self, count=3, number=1, is_started=True, keys=None):
         """A site that is killed once more when the check is done with it."""
-        site = Survivor(self.command, count, number)
+        site = Survivor(self.command, count, number, keys)
         try:
             if is_started:
                 site.start()

@@ -7,7 +7,7 @@ import time
 
 from cases import case
 from cluster import PATIENCE, Proxy, at, expect, reset_at_its_end, sees, wait_for
-from journal_kit import ENDS, Journaled, at_rest, batch, records_of, shown
+from journal_kit import ENDS, Journaled, at_rest, batch, fault_of_keys, read_batches, records_of, shown
 from web_driver import WebCluster, request
 
 import rights_site
@@ -191,6 +191,130 @@ def a_site_that_does_nothing_writes_nothing():
                 sites[1].ask_all(["spend 1 +1", "status", "take 1", "queue", "x", "cancel 9"])
                 time.sleep(0.02)
             expect(sites.content(1), before)
+
+
+# ---- keys
+
+
+def keyed(sites, number=1):
+    """The numbers of the entries of keys, by the journal of a site: each stands at the end of the batch of its entry."""
+    expect(fault_of_keys(read_batches(sites.content(number))[0]), None)
+    return sites.holdings(number).keys
+
+
+@in_each_way
+def keys_outlive_a_site(end):
+    with Journaled(2, started=[1]) as sites:
+        commands = ["key a issue 100", "key b take 2", "key c give 2 10", "key d spend 3 0", "issue 1", "key e spend 500 9"]
+        replies = sites[1].ask_all(commands)
+        expect(replies[:5], ["number 1", "spent 2", "number 3", "spent 4", "number 5"])
+        for _ in range(2):
+            sites.again(1, end)
+            expect(sites[1].ask_all(commands[:4]), replies[:4], f"after {end}")
+            expect(sites[1].ask_all(["key a issue 99", "key d take 3", "key b spend 2 9"]), ["error KeyReused", "spent 4", "spent 2"])
+            expect(sites.agrees(1)["number"], 5)
+        expect(sites[1].ask_all(["key e issue 7", "key f close", "key f close 2"]), ["number 6", "number 7", "number 7"])
+        expect(keyed(sites), {"a": 1, "b": 2, "c": 3, "d": 4, "e": 6, "f": 7})
+        sites.again(1, end)
+        expect(sites[1].ask_all(["key f close", "key e issue 7", "close"]), ["number 7", "number 6", "error Closed"])
+
+
+def keys_have_the_batches_of_their_entries():
+    """However many come together, and whatever stands between them."""
+    with Journaled(2, started=[1]) as sites:
+        commands = [f"key {number} issue {number}" if number % 3 else f"issue {number}" for number in range(1, 1501)]
+        for last in (1500, 2000):
+            expect(sites[1].ask_all(commands)[-2:], ["number 1499", f"number {last}"])
+        found = {int(key): number for key, number in keyed(sites).items()}
+        expect(found, {number: number for number in range(1, 1501) if number % 3})
+        sites.again(1)
+        expect(sites[1].ask_all(commands[:2]), ["number 1", "number 2"])
+        sites.agrees(1)
+
+
+def keys_of_what_its_own_ticks_serve():
+    """They are recorded with the entries, and no sooner."""
+    with Journaled(2, started=[1], tick=5) as sites:
+        for number in range(1, 21):
+            expect(sites[1].ask(f"key k{number} spend {number} +60000")[:7], "queued ")
+            expect(f"k{number}" in sites.holdings(1).keys, False)
+            sites[1].ask(f"issue {number}")
+            wait_for("it is served", sees(sites[1], None, queued=0))
+            if number % 4 == 0:
+                sites.again(1)
+            expect(sites[1].ask(f"key k{number} take {number}"), f"spent {2 * number}")
+        expect(keyed(sites), {f"k{number}": 2 * number for number in range(1, 21)})
+        sites.agrees(1)
+
+
+def keys_that_wait_or_expired_have_no_record():
+    with Journaled(2, started=[1]) as sites:
+        before = sites.content(1)
+        sites[1].ask_all(["key a spend 5 9", "key a spend 5 9", "key b spend 6 3", "tick 4", "key b take 6", "key c take 1", "key d issue 0"])
+        expect(sites.content(1), before)
+        sites.again(1)
+        expect(sites[1].ask_all(["key a issue 5", "key b take 2", "key c take 3", "key d issue 4"]), ["number 1", "spent 2", "spent 3", "number 4"])
+        expect(keyed(sites), {"a": 1, "b": 2, "c": 3, "d": 4})
+
+
+def a_site_is_told_to_remember_more_keys():
+    """All that the journal has are remembered then. If one was used twice, the start is refused."""
+    with Journaled(2, started=[1], keys=2) as sites:
+        sites[1].ask_all(["issue 100", "key a take 1", "key b take 2", "key c take 3"])
+        sites.agrees(1)
+        for keys, known in ((3, 3), (2, 2), (1, 1), (0, 0), (100, 3), (None, 3)):
+            sites.keys = keys
+            sites.again(1)
+            expect(sites[1].status().get("keys", 0), known)
+            sites.agrees(1)
+        expect(sites[1].ask_all(["key a take 1", "key c take 3"]), ["spent 2", "spent 4"])
+        sites.keys = 2
+        sites.again(1)
+        expect(sites[1].ask_all(["key a take 9", "key c take 3"]), ["spent 5", "spent 4"])
+        # Its record stands twice from now on, and the two keys that are remembered are c and a.
+        sites.again(1)
+        expect(sites[1].ask_all(["key a take 9", "key c take 3"]), ["spent 5", "spent 4"])
+        sites[1].kill()
+        before = sites.content(1)
+        for sites.keys in (3, 4, None):
+            try:
+                sites.start(1).kill()
+                raise AssertionError("a key that stands twice is taken")
+            except rights_site.SiteEnded as ended:
+                expect("so give a smaller --keys" in str(ended), True, ended)
+            expect(sites.content(1), before)
+        sites.keys = 2
+        expect(sites.start(1).ask_all(["key a take 9", "key c take 3"]), ["spent 5", "spent 4"])
+
+
+def keys_may_stand_anywhere_behind_their_entries():
+    """In a journal that was made by other means."""
+    with Journaled(2, started=[]) as sites:
+        with open(sites.path(1), "wb") as file:
+            file.write(batch("J 1 1 2", "E 1 0 1 I:100") + batch("E 1 1 2 S:4", "E 2 0 2 I:9 R:1:7", "X b 2", "E 1 2 3 R:2:5"))
+            file.write(batch("X c 3") + batch("X a 1", "T 7"))
+        site = sites.start(1)
+        expect(site.ask_all(["key a issue 100", "key b take 4", "key c give 2 5", "key d take 98"]), ["number 1", "spent 2", "number 3", "spent 4"])
+        expect(site.status()["keys"], 4)
+
+
+def many_keys_are_read_again():
+    with Journaled(2, started=[]) as sites:
+        count, each = 200_000, 5_000
+        with open(sites.path(1), "wb") as file:
+            file.write(batch("J 1 1 2"))
+            for first in range(0, count, each):
+                numbers = range(first, first + each)
+                entries = [f"E 1 {number} {number + 1} I:3" for number in numbers]
+                file.write(batch(*entries, *(f"X order-{number + 1:08} {number + 1}" for number in numbers)))
+        for keys in (None, 1000, 1):
+            sites.keys = keys
+            site = sites.start(1)
+            known = count if keys is None else keys
+            expect(site.status()["keys"], known)
+            some = [count, count - known + 1]
+            expect(site.ask_all([f"key order-{number:08} issue 3" for number in some]), [f"number {number}" for number in some])
+            site.kill()
 
 
 # ---- two sites and more
@@ -491,7 +615,9 @@ CASES = [
         what_was_served_by_a_tick_stays, a_closed_site_stays_closed, metrics_are_those_of_the_journal,
         a_site_tells_how_far_its_journal_is,
         commands_at_the_end_are_kept, many_entries_are_read_again,
-        a_site_that_does_nothing_writes_nothing, rights_that_were_given_are_received_once,
+        a_site_that_does_nothing_writes_nothing, keys_outlive_a_site, keys_have_the_batches_of_their_entries,
+        keys_of_what_its_own_ticks_serve, keys_that_wait_or_expired_have_no_record, a_site_is_told_to_remember_more_keys,
+        keys_may_stand_anywhere_behind_their_entries, many_keys_are_read_again, rights_that_were_given_are_received_once,
         a_peer_that_was_down_catches_up, an_entry_that_was_told_before_its_gift_was_lost, an_ask_outlives_its_site,
         an_ask_is_granted_once, a_denial_is_repeated, what_is_taken_back_is_taken_once,
         a_site_that_is_killed_as_it_takes_back, a_connection_that_breaks_in_a_line, five_sites_end_and_start_in_turn,

@@ -11,6 +11,8 @@ from types import FunctionType
 import clock_checks
 import desk_checks
 import end_checks
+import key_checks
+import key_restart_checks
 import link_checks
 import log_checks
 import reading_checks
@@ -43,11 +45,22 @@ SITES = {
     "equal_peers_are_asked_by_their_numbers": 4,
     "equal_peers_of_two_digits_are_asked_by_their_numbers": 16,
     "many_peers_are_asked_together": 6,
+    "peers_of_gifts_are_told_apart": 16,
     "site_16_is_a_site_as_any": 16,
 }
 
 # The number of the site that is tried, where it is not 1.
 NUMBERS = {"a_site_in_the_middle_is_a_site_as_any": 2, "site_16_is_a_site_as_any": 16, "a_site_of_a_system_of_two": 2}
+
+# How many keys the site is told to remember, if it is told.
+KEYS = {
+    "a_key_is_as_old_as_its_entry": 3,
+    "a_repeat_makes_no_key_newer": 3,
+    "a_site_may_remember_no_keys": 0,
+    "one_key_is_remembered": 1,
+    "spends_that_wait_or_expired_make_no_key_older": 1,
+    "the_oldest_key_is_forgotten_first": 3,
+}
 
 # The checks whose site is given a name for the host of its peers.
 NAMED = ("an_address_may_be_a_name",)
@@ -64,7 +77,7 @@ TRIES = 20
 # The modules whose checks need a process, and not its model alone.
 OF_CONNECTIONS = ("link_checks", "end_checks", "clock_checks", "word_checks")
 # What makes the sites of a check, where it is not a `Trial`, by the check's module.
-OTHER_TRIALS = {"clock_checks": ClockTrial, "restart_checks": RestartTrial}
+OTHER_TRIALS = {"clock_checks": ClockTrial, "restart_checks": RestartTrial, "key_restart_checks": RestartTrial}
 
 
 def system_of(name):
@@ -74,13 +87,14 @@ def system_of(name):
 
 def all_checks():
     """Each check of a running site with its name, file by file."""
-    for module in (link_checks, end_checks, desk_checks, log_checks, reading_checks, clock_checks):
+    for module in (link_checks, end_checks, desk_checks, key_checks, log_checks, reading_checks, clock_checks):
         yield from checks_of(module)
 
 
 def checks_of_restarts():
     """Each check of a site with a journal that is started again, with its name."""
-    yield from checks_of(restart_checks)
+    for module in (restart_checks, key_restart_checks):
+        yield from checks_of(module)
 
 
 def checks_of_words():
@@ -115,4 +129,5 @@ def trial_of(name, check, command):
     if check.__module__ in OTHER_TRIALS:
         return OTHER_TRIALS[check.__module__](command)
     count, number = system_of(name)
-    return Trial(command, count, LATE.get(name, ()), number, "localhost" if name in NAMED else "127.0.0.1")
+    host = "localhost" if name in NAMED else "127.0.0.1"
+    return Trial(command, count, LATE.get(name, ()), number, host, KEYS.get(name))

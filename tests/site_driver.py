@@ -15,6 +15,7 @@ import time
 from contextlib import suppress
 
 from cluster import Site, SiteEnded, at, free_ports
+from key_model import USUAL_KEYS
 from outputs import shown
 from site_model import RunningSite
 
@@ -42,6 +43,11 @@ def with_journal(command):
     if JOURNALS is None:
         return command
     return [*words_of(command), "--journal", os.path.join(tempfile.mkdtemp(dir=JOURNALS), "journal")]
+
+
+def with_keys(command, keys):
+    """The same with how many keys the site remembers, if that is said."""
+    return command if keys is None else [*words_of(command), "--keys", str(keys)]
 
 
 def comparable(reply):
@@ -152,12 +158,13 @@ def pieces(data, cuts):
 class Node:
     """A process and its model."""
 
-    def __init__(self, number, count, program, late=(), host="127.0.0.1"):
-        """The site is told that its peers are at this host, and those of the greatest numbers first."""
+    def __init__(self, number, count, program, late=(), host="127.0.0.1", keys=None):
+        """The site is told that its peers are at this host, those of the greatest numbers first, and how many keys it
+        remembers, if that is said."""
         self.number, self.count = number, count
-        self.model = RunningSite(number, count)
+        self.model = RunningSite(number, count, keys=USUAL_KEYS if keys is None else keys)
         self.peers = {other: Peer(other, other in late, host) for other in self.model.peers}
-        self.site = self.start(program)
+        self.site = self.start(with_keys(program, keys))
         self.watch = threading.Timer(LIFE, self.site.process.kill)
         self.watch.daemon = True
         self.watch.start()

@@ -1,5 +1,6 @@
 """Inputs for one running site, made from a seed: commands, and lines of peers whose logs are made up as they go."""
 
+import string
 from dataclasses import dataclass, field
 
 from desk_model import MOST_HELD, end, ends_closed
@@ -26,9 +27,11 @@ NO_COMMANDS = [
     b"issue 18446744073709551617", b"give 18 1", b"give +2 1", b"give 02 1", b"spend 1  2", b"tick ", b"close ", b"close 01",
     b"take", b"take 1 2", b"take -1", b"cancel", b"cancel 1 1", b"spend +1 5",
     b"spend 1 +5", b"spend 1 +0", b"queue 1", b"queue ", b"queue +1",
-    b"report", b"\xff\xfe", b"\x00", b"H 2", b"x" * (MOST_BYTES - 1), b"x" * MOST_BYTES,
+    b"report", b"key", b"key a", b"key a nonsense", b"\xff\xfe", b"\x00", b"H 2", b"x" * (MOST_BYTES - 1), b"x" * MOST_BYTES,
     b"issue ".ljust(MOST_BYTES + 7, b"1"),
 ]  # fmt: skip
+
+BAD_KEYS = [b"", b"x" * 65, b"\x7f", b"\x80", b"\t", b"a\xff", b"a\r"]
 
 # Weights of the moves of a made up entry, but for those that need something.
 LETTERS = {"I": 3, "S": 2, "R": 4, "G": 4, "V": 1}
@@ -67,6 +70,9 @@ class Inputs:
         self.closes = rng.choice([0, 0, 0.002, 0.01])
         self.others_close = rng.choice([0, 0.02, 0.1])
         self.most_together = rng.choice([1, 4, 8])
+        # How many of the commands have keys, and the key and the command of each that got a new one.
+        self.keyed = rng.choice([0, 0, 0.2, 0.6])
+        self.under_keys = []
 
     @property
     def desk(self):
@@ -104,6 +110,9 @@ class Inputs:
         return b"tick %d" % self.time()
 
     def command(self):
+        return self.maybe_under_key(self.plain_command())
+
+    def plain_command(self):
         rng = self.rng
         if rng.random() < 0.04:
             return rng.choice(NO_COMMANDS)
@@ -131,14 +140,48 @@ class Inputs:
         rng = self.rng
         if rng.random() < 0.02:
             # The queue becomes full.
-            return [b"spend %d %d" % (self.desk.held + rng.randint(1, 9), self.time() + 5) for _ in range(36)]
+            spends = [b"spend %d %d" % (self.desk.held + rng.randint(1, 9), self.time() + 5) for _ in range(36)]
+            return [self.maybe_under_key(spend) for spend in spends]
         if rng.random() < 0.02:
             return [b"outcome %d" % ticket for ticket in range(max(0, self.desk.tickets - 40), self.desk.tickets + 1)]
+        if rng.random() < 0.02:
+            return [b"key %s %s" % each for each in self.under_keys[-40:]]
         lines = [self.command() for _ in range(rng.randint(1, self.most_together))]
         # An outbox has room for what three ticks send.
         while sum(line.startswith(b"tick") for line in lines) > 3:
             lines.remove(next(line for line in lines if line.startswith(b"tick")))
         return lines
+
+    # ---- commands under keys
+
+    def maybe_under_key(self, command):
+        may_have_one = command.startswith((b"issue", b"give", b"spend", b"take", b"close"))
+        chance = self.keyed if may_have_one else self.keyed / 5
+        return b"key %s %s" % self.under_key(command) if self.rng.random() < chance else command
+
+    def under_key(self, command):
+        """A key and a command: this one, or that of before, or one that repeats it in other words."""
+        rng = self.rng
+        if rng.random() < 0.05:
+            return rng.choice(BAD_KEYS), command
+        if not self.under_keys or rng.random() < 0.4:
+            # Of few letters, so that some come twice.
+            key = rng.choice(string.ascii_letters) * rng.choice([1, 1, 1, 2, 63, 64])
+            self.under_keys.append((key.encode(), command))
+            return self.under_keys[-1]
+        key, first = rng.choice(self.under_keys[-rng.choice([1, 5, 30, 1000]) :])
+        return key, rng.choice([first, first, self.alike(first), command])
+
+    def alike(self, command):
+        """A command that does the same, if there is one."""
+        name, *words = command.split(b" ")
+        match name, words:
+            case b"spend" | b"take", [amount, *_]:
+                return self.rng.choice([b"take %s" % amount, b"spend %s %d" % (amount, self.time())])
+            case b"close", _:
+                return self.rng.choice([b"close", b"close %d" % self.site()])
+            case _:
+                return command
 
     def commands_of_cluster(self):
         """The same, and ticks more often: without them nobody hears of anything."""

@@ -4,13 +4,18 @@ says."""
 from site_driver import Node
 
 
+def in_bytes(line):
+    return line if isinstance(line, bytes) else line.encode()
+
+
 class Trial:
     """A site of a system whose other sites are the test."""
 
-    def __init__(self, command, count=3, late=(), number=1, host="127.0.0.1"):
-        """`late` are the peers that do not listen yet; `host` is where the site is told that they are."""
-        self.given = command, count, late, number, host
-        self.node = Node(number, count, command, late, host)
+    def __init__(self, command, count=3, late=(), number=1, host="127.0.0.1", keys=None):
+        """`late` are the peers that do not listen yet; `host` is where the site is told that they are; `keys` is how many
+        keys it is told to remember."""
+        self.given = command, count, late, number, host, keys
+        self.node = Node(number, count, command, late, host, keys)
         self.time = 0
 
     def again(self):
@@ -26,9 +31,14 @@ class Trial:
 
     def say(self, *lines):
         """Commands, each after the reply to the one before."""
-        for line in lines:
-            self.node.give_commands([line.encode()])
+        for line in map(in_bytes, lines):
+            self.node.give_commands([line])
         self.node.settle()
+
+    def say_twice(self, *lines):
+        """Each command two times."""
+        for line in lines:
+            self.say(line, line)
 
     def say_together(self, *lines):
         self.node.give_commands([line.encode() for line in lines])
@@ -36,7 +46,7 @@ class Trial:
 
     def hear(self, peer, *lines):
         """Lines of a peer."""
-        self.node.give_lines(peer, [line if isinstance(line, bytes) else line.encode() for line in lines])
+        self.node.give_lines(peer, [in_bytes(line) for line in lines])
         self.node.settle()
 
     def tick(self, times=1):

@@ -251,16 +251,33 @@ def move_of(command):
     return ("S", numbers[0]) if word in ("spend", "take") else None
 
 
+def parted(command):
+    """The key of a command, None if it has none, and the command behind it."""
+    if not command.startswith("key "):
+        return None, command
+    key, _, command = command.removeprefix("key ").partition(" ")
+    return key, command
+
+
+def first_places(commands):
+    """The place of each command, and of one that does the same under the same key as one before: that of the first. No
+    test has a command carried out again whose key was forgotten."""
+    firsts, places = {}, []
+    for place, (key, command) in enumerate(map(parted, commands)):
+        places.append(place if key is None else firsts.setdefault((key, move_of(command)), place))
+    return places
+
+
 def fault_of_replies(replies, log):
     """A reply of a site that its log does not have. `replies` are pairs of a command and its reply, None where none
     came; of all processes of the site, in any order."""
-    entries = {entry.own: entry for entry in log}
-    told, tickets = {}, {}
-    for place, (command, reply) in enumerate(replies):
+    entries, places = {entry.own: entry for entry in log}, first_places(command for command, _ in replies)
+    told, numbers, tickets = {}, {}, {}
+    for place, (_, reply) in zip(places, replies):
         if reply is not None and (found := TICKET.fullmatch(reply)):
             if tickets.setdefault(found[1], place) != place:
                 return f"ticket {found[1]} is given out twice"
-    for place, (command, reply) in enumerate(replies):
+    for place, (command, reply) in zip(places, replies):
         if reply is None or (found := REPLY.fullmatch(reply)) is None:
             continue
         number, (word, _, ticket) = int(found[1]), command.partition(" ")
@@ -268,12 +285,15 @@ def fault_of_replies(replies, log):
         asked = tickets.get(ticket, place) if word in ("outcome", "cancel") else place
         if told.setdefault(number, asked) != asked:
             return f"number {number} is told twice: {replies[told[number]][0]!r} and {command!r}"
+        if numbers.setdefault(asked, number) != number:
+            return f"{command!r} was answered {reply!r}, and number {numbers[asked]} before"
         if number not in entries:
             return f"{command!r} was answered {reply!r}, and the log has no such number"
-        wanted = move_of(replies[asked][0])
+        wanted = move_of(parted(replies[asked][0])[1])
         if wanted is not None and wanted != entries[number].moves[0]:
             return f"{replies[asked][0]!r} was answered {reply!r}, which is {entries[number].text!r}"
-    return fault_of_moves([command for command, _ in replies], log)
+    # A command and its repeats ask for one entry.
+    return fault_of_moves([parted(replies[place][0])[1] for place in set(places)], log)
 
 
 def fault_of_moves(commands, log):

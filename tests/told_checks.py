@@ -163,6 +163,30 @@ def replies_that_the_log_has_not_are_found():
     finds(fault_of_replies([*right[:1], *twice], log), "told twice")
 
 
+def repeats_under_keys_ask_for_one_entry():
+    log = [Entry(text) for text in ("E 1 0 1 I:10", "E 1 1 2 S:3", "E 1 2 3 S:3", "E 1 3 4 R:2:1", "E 1 4 5 K:0:0")]
+    right = [
+        ("key a issue 10", None), ("key a issue 10", "number 1"), ("key a issue 10", "number 1"), ("key b spend 3 0", "spent 3"),
+        ("key b take 3", "spent 3"), ("key c spend 3 9", "queued 5"), ("key c take 3", "queued 5"), ("outcome 5", "spent 2"),
+        ("key c spend 3 1", "spent 2"), ("key d give 2 1", None), ("key d give 2 1", "number 4"), ("key a issue 9", "error KeyReused"),
+        ("key e spend 4 9", "queued 6"), ("key e take 4", "expired"), ("key f close", "number 5"), ("key f close 2", "number 5"),
+    ]  # fmt: skip
+    expect(fault_of_replies(right, log), None)
+    # A site that started again has forgotten what waited.
+    expect(fault_of_replies([*right, ("key e take 4", "queued 7")], log), None)
+    for wrong, words in (
+        (("key b take 3", "spent 2"), "told twice"), (("key a issue 10", "number 2"), "told twice"),
+        (("key d give 2 1", "number 6"), "number 4 before"), (("key e take 4", "spent 6"), "no such number"),
+        (("key z take 3", "spent 3"), "told twice"), (("take 3", "spent 3"), "told twice"),
+        (("key z spend 4 9", "queued 5"), "ticket 5"), (("key z give 2 2", "number 4"), "told twice"),
+    ):  # fmt: skip
+        finds(fault_of_replies([*right, wrong], log), words)
+    # A repeat that was carried out, and one more under another key.
+    finds(fault_of_replies(right[:-2], [*log[:4], Entry("E 1 4 5 I:10")]), "more entries than commands")
+    finds(fault_of_replies(right[:2], [Entry("E 1 0 1 I:10"), Entry("E 1 1 2 I:10")]), "more entries than commands")
+    expect(fault_of_replies([*right[:2], ("key z issue 10", None)], [Entry("E 1 0 1 I:10"), Entry("E 1 1 2 I:10")]), None)
+
+
 def rights_that_are_missing_are_found():
     statuses = [{"issued": 10, "held": 4, "spent": 3}, {"issued": 0, "held": 3, "spent": 0}]
     expect(fault_of_totals(statuses), None)
@@ -175,6 +199,6 @@ CASES = [
         what_leaves_before_the_sync_is_found, what_was_applied_is_told_after_the_sync, a_journal_of_before_counts,
         what_a_send_left_out_is_not_told, writes_that_are_no_appends_are_found, records_are_read,
         images_are_of_all_kinds, a_number_with_two_entries_is_found, an_ask_number_that_is_used_twice_is_found,
-        replies_that_the_log_has_not_are_found, rights_that_are_missing_are_found,
+        replies_that_the_log_has_not_are_found, repeats_under_keys_ask_for_one_entry, rights_that_are_missing_are_found,
     ]),
 ]  # fmt: skip

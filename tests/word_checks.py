@@ -69,6 +69,26 @@ def words_of_a_clock_that_are_out_of_range_are_refused(trial):
     expect_failure(trial, 2, "without a value of --silent", "--id", "1", "--sites", "2", "--listen", own, f"2={other}", "--tick=20", "--silent")
 
 
+def a_number_of_keys_that_is_out_of_range_is_refused(trial):
+    own, other = map(at, free_ports(2))
+    words = ["--id", "1", "--sites", "2", "--listen", own, f"2={other}"]
+    for keys in ("10000001", "4294967296", f"{2**64}", f"{2**64 + 5}", "x", "", "1.5", "-1", "5k"):
+        expect_failure(trial, 2, f"with '--keys={keys}'", *words, f"--keys={keys}")
+    for twice in (["--keys=5", "--keys=5"], ["--keys=5", "--keys=0"]):
+        expect_failure(trial, 2, f"with {twice}", *words, *twice)
+    expect_failure(trial, 2, "without a value of --keys", *words, "--keys")
+
+
+def the_least_and_the_greatest_number_of_keys_are_taken(trial):
+    command = trial.given[0]
+    for keys, replies in (("0", b"error KeyRefused\n"), ("1", b"number 1\n"), ("9999999", b"number 1\n"), ("10000000", b"number 1\n")):
+        own, other = map(at, free_ports(2))
+        words = ["--keys", keys, "--id", "1", "--sites", "2", "--listen", own, f"2={other}"]
+        done = subprocess.run([*([command] if isinstance(command, str) else command), *words], input=b"key a issue 5\n", capture_output=True,
+                              timeout=site_driver.PATIENCE)  # fmt: skip
+        expect((done.returncode, done.stdout), (0, replies), f"the exit status and standard output with {keys} keys")
+
+
 def an_address_that_cannot_be_listened_on_ends_a_site(trial):
     for listen in (at(trial.node.port), "nowhere", ""):
         expect_failure(trial, 1, f"where it is to listen on {listen!r}", "--id", "1", "--sites", "2", "--listen", listen, f"2={at(trial.node.port)}")

@@ -61,6 +61,9 @@ rights_commands_refused_total{name=\"TimeWentBack\"} 0\n\
 rights_commands_refused_total{name=\"BadCommand\"} 9\n\
 rights_commands_refused_total{name=\"BadDeadline\"} 6\n\
 rights_commands_refused_total{name=\"OwnClock\"} 0\n\
+rights_commands_refused_total{name=\"BadKey\"} 0\n\
+rights_commands_refused_total{name=\"KeyRefused\"} 0\n\
+rights_commands_refused_total{name=\"KeyReused\"} 0\n\
 # HELP rights_log_lines_dropped_total Log lines that were not written, since the log was not read.\n\
 # TYPE rights_log_lines_dropped_total counter\n\
 rights_log_lines_dropped_total 22\n\
