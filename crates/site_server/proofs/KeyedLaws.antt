@@ -1,5 +1,5 @@
 -- The turns of commands under keys, as a seat counts them.
-use Rattle.std.proofs.Common.{◌≡◌, ◌⊎◌, ℕ, suc, zero, Bool, true, false, List, [], ◌∷◌, Option, Some, None, inl, inr, refl}
+use Rattle.std.proofs.Common.{◌≡◌, ◌⊎◌, ℕ, suc, zero, Bool, true, false, List, [], ◌∷◌, Option, Some, None, inl, inr, refl, ap}
 use Rattle.std.specs.Prelude.{nat_lt}
 use Rattle.command_keys.specs.Keys.{outcome_of}
 use Rattle.command_keys.specs.declared.outcome.Outcome.{Outcome}
@@ -11,6 +11,7 @@ use Rattle.site_node.specs.Confirmed.{Turn, ACommand, HasTurns}
 use Rattle.site_node.specs.Keyed.{ActsBy, ActsIf, FreesBy, FreesIf, is_repeat, ticket_of}
 use Rattle.site_node.specs.declared.reply.Reply.{Reply}
 use Rattle.desk_turns.specs.Seated.{SeatedValue, ActsKeyedAtDesk}
+use Rattle.site_server.specs.Settling.{AsksAgain}
 
 -- ---- one command under a key
 
@@ -60,3 +61,10 @@ pub keyed_turns : (id : DeskId) (was : SeatedValue) (key : List ℕ) (command : 
 keyed_turns id was key command reply now h =
     let c = counted_if (nat_lt 0 h.old.keys.keys.cap) h.old was.told key command reply h.new now.told h.acts in
     (c.turns, c.are, c.has)
+
+-- .. and of its repeat, where it is asked again
+pub again_turns : (b : Bool) (id : DeskId) (was : SeatedValue) (key : List ℕ) (command : DeskCommand) (waited told : Reply)
+    (now : SeatedValue) → AsksAgain b id was key command waited told now
+    → (turns : List Turn) × ((turns ≡ ACommand command told ∷ []) ⊎ (turns ≡ [])) × HasTurns was.told turns now.told
+again_turns true id was key command waited told now h = keyed_turns id was key command told now h
+again_turns false id was key command waited told now h = ([], inr refl, ap (λ (s : SeatedValue). s.told) h.1)

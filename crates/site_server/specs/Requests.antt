@@ -8,6 +8,7 @@ use Rattle.line_streams.specs.Talk.{lines_of}
 use Rattle.refusals.specs.Refusals.{LineAnswer}
 use Rattle.site_core.specs.declared.desk.requests.Spending.TheVariants.{Queued}
 use Rattle.apply_lanes.specs.Kepts.{SeatValue}
+use Rattle.site_words.specs.declared.commands.DeskCommand.{DeskCommand}
 use Rattle.site_words.specs.declared.commands.SiteCommand.{SiteCommand}
 use Rattle.site_words.specs.declared.commands.SiteCommand.TheVariants.{AtDesk, Keyed}
 use Rattle.site_node.specs.Texts.{reply_text}
@@ -28,13 +29,17 @@ use Rattle.site_server.specs.Conversations.{IsTurn}
 abbrev pub IsQueued : Reply → Type 0
 IsQueued reply = (ticket : ℕ) × (reply ≡ Spending (Queued ticket))
 
--- the turn of a line whose client waits, if it is one: it gets the reply, or for a queued spend the outcome
+-- one turn that carried out the command, or none
+abbrev pub MayCarryOut : DeskCommand → List Turn → Type 0
+MayCarryOut command turns = (reply : Reply) × ((turns ≡ ACommand command reply ∷ []) ⊎ (turns ≡ []))
+
+-- the turns of a line whose client waits: it gets the reply, or for a queued spend the outcome; under a key it may ask twice
 abbrev pub IsSettledTurn : Option SiteCommand → List ℕ → List Turn → Type 0
 IsSettledTurn (Some (AtDesk command)) text turns =
     (reply : Reply) × (turns ≡ ACommand command reply ∷ []) × ((text ≡ reply_text reply) ⊎ IsQueued reply)
 IsSettledTurn (Some (Keyed key command)) text turns =
-    (reply : Reply) × ((turns ≡ ACommand command reply ∷ []) ⊎ (turns ≡ []))
-    × ((text ≡ reply_text reply) ⊎ IsQueued reply)
+    (told : Reply) × (first : List Turn) × (last : List Turn) × MayCarryOut command first × MayCarryOut command last
+    × (turns ≡ first ++ last) × (text ≡ reply_text told)
 IsSettledTurn command text turns = IsTurn command text turns
 
 module _ (key : Option (List ℕ)) (is_turn : Option SiteCommand → List ℕ → List Turn → Type 0) where

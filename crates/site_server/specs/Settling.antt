@@ -1,6 +1,6 @@
 -- What a client gets that waits for the outcome of its spend.
 use Rattle.std.specs.Prelude.{◌≡◌, ◌⊎◌, ℕ, suc, zero, Bool, true, false, List}
-use Rattle.request_queue.specs.declared.request.Status.TheVariants.{Waiting}
+use Rattle.request_queue.specs.declared.request.Status.TheVariants.{Waiting, Unknown}
 use Rattle.site_core.specs.declared.desk.requests.Spending.TheVariants.{Queued}
 use Rattle.apply_lanes.specs.Names.{DeskId}
 use Rattle.refusals.specs.Refusals.{LineAnswer}
@@ -73,13 +73,26 @@ pub record SettlesCommand (HasEnded HasLeft : Type 0) (id : DeskId) (was : Seate
   pub says : answer.text ≡ reply_text settled
   pub how : answer.how ≡ reply_answered settled
 
+-- the reply says that there is no outcome, as where somebody else was told it
+abbrev pub is_unknown : Reply → Bool
+is_unknown (Outcome Unknown) = true
+is_unknown reply = false
+
+-- then the command under its key is asked again, in one turn; any other reply is the client's
+abbrev pub AsksAgain : Bool → DeskId → SeatedValue → List ℕ → DeskCommand → Reply → Reply → SeatedValue → Type 0
+AsksAgain true id was key command waited told now = ActsKeyedAtDesk id was key command told now
+AsksAgain false id was key command waited told now = (told ≡ waited) × (now ≡ was)
+
 -- the same for a command under a key
 pub record SettlesKeyedCommand (HasEnded HasLeft : Type 0) (id : DeskId) (was : SeatedValue) (key : List ℕ)
     (command : DeskCommand) (answer : LineAnswer) (now : SeatedValue) : Type 0 where
   pub reply : Reply
-  pub settled : Reply
+  pub waited : Reply
+  pub told : Reply
   pub half : SeatedValue
+  pub last : SeatedValue
   pub at_desk : ActsKeyedAtDesk id was key command reply half
-  pub settles : Settles HasEnded HasLeft id half reply settled now
-  pub says : answer.text ≡ reply_text settled
-  pub how : answer.how ≡ reply_answered settled
+  pub settles : Settles HasEnded HasLeft id half reply waited last
+  pub again : AsksAgain (is_unknown waited) id last key command waited told now
+  pub says : answer.text ≡ reply_text told
+  pub how : answer.how ≡ reply_answered told

@@ -3,7 +3,8 @@ ghost use Rattle.std.specs.Prelude.{◌≡◌, ◌+◌, ◌≤◌, [], List, ℕ
 ghost use Rattle.line_streams.specs.Waiting.{AddsReply};
 ghost use Rattle.site_node.specs.declared.reply.Reply.TheVariants.{Spending as Spends};
 ghost use Rattle.site_core.specs.declared.desk.requests.Spending.TheVariants.{Queued as IsQueued};
-ghost use Rattle.site_server.specs.Settling.{Settles, SettlesCommand, SettlesKeyedCommand, still_waits};
+ghost use Rattle.site_server.specs.Settling.{Settles, SettlesCommand, SettlesKeyedCommand, AsksAgain, still_waits};
+ghost use Rattle.site_server.specs.Settling.{is_unknown};
 
 use crate::site::client::SiteClient;
 use crate::site::tick_signal::{TickSignal, Woken};
@@ -98,9 +99,34 @@ impl<D: DeskNames, R: Wait, P: Peers + Drop, B: TickSignal + Drop> SiteClient<'_
         replies.reserve(REPLY_ROOM)?;
         // Read before the command, so that no tick after it is missed.
         let before = self.signal.count();
+        let same_key = key;
+        let same_command = command;
         let answer = self.act_keyed(key, command);
-        let settled = self.settled(answer, before);
-        Ok(answer_reply(replies, settled))
+        let waited = self.settled(answer, before);
+        let told = self.asked_again(same_key, same_command, waited);
+        Ok(answer_reply(replies, told))
+    }
+
+    /// What a command under a key is told after this reply: where somebody else was told the outcome, that of its repeat.
+    fn asked_again(&mut self, key: Key, command: DeskCommand, waited: Reply) -> Reply
+        ensures again { AsksAgain (is_unknown waited) D.id self.old.seat key command waited result self.new.seat }
+        ensures rest { self.new ≡ record self.old { seat = self.new.seat } }
+    {
+        if is_unknown(&waited) {
+            self.act_keyed(key, command)
+        } else {
+            waited
+        }
+    }
+}
+
+/// Whether there is no outcome, according to this reply.
+fn is_unknown(reply: &Reply) -> bool
+    ensures { result ≡ is_unknown reply.now }
+{
+    match reply {
+        Reply::Outcome(Status::Unknown) => true,
+        _ => false,
     }
 }
 
