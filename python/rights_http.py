@@ -7,6 +7,7 @@
     site.give(2, 10)                            # 4, or raises CommandRefused as well
     site.status()["held"]                       # 84
     site.queue()["requests"]                    # the spends that wait, in their order
+    site.take(1, key="order-4711")              # Spent(number=5), and the same each time that it is asked under this key
     site.close()
 
 The site must have been started with `--http` and `--tick`. `ask`, `ask_all` and `wait` take commands as text and return
@@ -14,26 +15,38 @@ replies as text; the first two are also those of the class in `rights_site.py`, 
 streams. Threads may share a client, which keeps some connections open; a forked process makes connections of its own.
 Only Python's standard library is used.
 
-**What is retried, and what is not.** Requests for the status or the metrics are retried, since they change nothing.
-Commands are sent again only if it is certain that the site did not carry them out: no connection was made, the request
-was not sent whole, or the site answered 503 because all its client connections were taken. If the whole request was
-sent and no answer comes, nobody on this side can tell whether the rights were spent and the answer got lost, or whether
-the request never arrived. Sending it again would sell twice in the first case. So `AnswerLost` is raised, and the
-application decides: usually it counts the rights as spent, since then nothing is sold twice, and at worst some rights
-are not sold. `spent` in the status is the total that the site spent.
+**What is asked again, and what is not.** Each command that may have a key (`issue`, `give`, `take`, `spend`, `close`)
+gets a new one, unless the caller gives one. If its answer is lost, because the connection broke, no answer came in time
+or a server before the site answered 502 or 504, it is asked again under the same key, for `retry_for` seconds: as long as
+the site remembers the key, it carries the command out once, and repeats its reply. If no answer comes in that time
+either, `AnswerLost` is raised, which has the key. Then the application may ask the same site again under that key, or
+count the rights as spent. It must not ask another site: that one does not know the key, and would sell a second time. So
+would a new site at the same address that has not the journal of the one before.
+
+A refusal is not remembered. If a command is refused as it is asked again, nothing was done by then; but its first request
+may still be under way, and be carried out later.
+
+Several commands in one request (`ask_all`), and commands of a client with `retry_for=0`, have no keys. They are sent
+again only if it is certain that the site did not carry them out: no connection was made, the request was not sent whole,
+or the site answered 503 because all its client connections were taken. If the whole request was sent and no answer
+comes, `AnswerLost` is raised at once: nobody on this side can tell whether the rights were spent. `spent` in the status is
+the total that the site spent. Requests for the status or the metrics are retried, since they change nothing.
 """
 
 from __future__ import annotations
 
 import http.client
+import itertools
 import json
 import os
+import random
 import re
 import select
 import socket
 import ssl
 import threading
 import time
+import uuid
 from collections.abc import Callable, Iterable
 from contextlib import suppress
 from dataclasses import dataclass
@@ -44,6 +57,13 @@ LONGEST_BODY = 1_048_576
 # The site closes a connection on which nothing was sent for 60 seconds. Shortly before that, it is no longer used.
 IDLE = 50.0
 SAMPLE = re.compile(r'^([a-z_]+)(?:\{[a-z]+="([^"]*)"\})? (\d+)$', re.MULTILINE)
+# What a key is, the commands that may have one, and the refusals that are for the key and not for the command.
+KEY = re.compile(r"[!-~]{1,64}")
+WITH_KEYS = ("issue", "give", "spend", "take", "close")
+OF_KEYS = ("BadKey", "KeyRefused", "KeyReused")
+# Between two tries: 0.1 seconds, and each time twice as long up to 2 seconds, less up to half of that by chance.
+FIRST_PAUSE, LONGEST_PAUSE = 0.1, 2.0
+CHANCE = random.SystemRandom()
 
 
 
@@ -91,8 +111,8 @@ class PeerStatus(TypedDict):
     site: int
 
 
-class Status(TypedDict):
-    """The status object of a site: rights, the amount that waits, the number of its last entry, and its peers."""
+class StatusAlways(TypedDict):
+    """What each status object has."""
 
     closed: bool
     held: int
@@ -103,6 +123,13 @@ class Status(TypedDict):
     received: int
     site: int
     spent: int
+
+
+class Status(StatusAlways, total=False):
+    """The status object of a site: rights, the amount that waits, the number of its last entry, and its peers. Of keys, how
+    many it remembers, if any."""
+
+    keys: int
 
 
 class WaitingSpend(TypedDict):
@@ -132,6 +159,11 @@ class CommandRefused(Exception):
         self.command = command
 
 
+class KeyRefused(CommandRefused):
+    """The site refused the command because of its key, and nothing was changed: another command had the key before
+    (`KeyReused`), the site takes no keys (`KeyRefused`), or this command may have none (`BadKey`)."""
+
+
 class SiteUnreachable(Exception):
     """The site was not reached, or has no free client connection. It carried out nothing."""
 
@@ -142,11 +174,14 @@ class SiteRefused(Exception):
 
 
 class AnswerLost(Exception):
-    """The request was sent and no reply arrived. It is unknown whether its `commands` were carried out."""
+    """The request was sent and no reply arrived. It is unknown whether its `commands` were carried out. With a `key`, the
+    same site may be asked again under it."""
 
-    def __init__(self, cause: object, commands: list[str]) -> None:
-        super().__init__(f"no reply to {', '.join(map(repr, commands[:3]))}{' ..' * (len(commands) > 3)}: {cause}")
+    def __init__(self, cause: object, commands: list[str], key: str | None = None) -> None:
+        under = "" if key is None else f" under the key {key}"
+        super().__init__(f"no reply to {', '.join(map(repr, commands[:3]))}{' ..' * (len(commands) > 3)}{under}: {cause}")
         self.commands = commands
+        self.key = key
 
 
 class NotSent(Exception):
@@ -162,45 +197,50 @@ class SiteClient:
     """A client of one site, for any number of threads."""
 
     def __init__(
-        self, address: str, *, connections: int = 8, timeout: float = 10.0, tries: int = 5,
+        self, address: str, *, connections: int = 8, timeout: float = 10.0, tries: int = 5, retry_for: float = 30.0,
         tls: ssl.SSLContext | None = None, token: str | None = None,
     ) -> None:
         """`address` is that of the site's `--http`, a host and a port. At most `connections` are open at a time; a site
         has 63 for all its clients. `timeout` is how many seconds an answer may take, and `tries` how often a request
-        is tried that was not carried out. `tls` and `token` are for a site behind a server that encrypts and asks who
-        comes: how to speak TLS, as by `ssl.create_default_context()`, and what to show as `authorization: Bearer`."""
+        is tried that was not carried out. `retry_for` is for how many seconds after an answer was lost a command is asked
+        again under its key. With 0, commands get no keys and are not asked again: so for a site that takes none
+        (`--keys 0`). `tls` and `token` are for a site behind a server that encrypts and asks who comes: how to speak TLS,
+        as by `ssl.create_default_context()`, and what to show as `authorization: Bearer`."""
         self.address = address
         host, _, port = address.rpartition(":")
         self._host, self._port, self._tls = host.strip("[]"), int(port), tls
         self._fields = {} if token is None else {"authorization": f"Bearer {token}"}
-        self._timeout, self._tries, self._connections = timeout, max(1, tries), connections
+        self._timeout, self._tries, self._retry_for, self._connections = timeout, max(1, tries), retry_for, connections
         self._renew()
 
     # ---- commands
 
-    def issue(self, amount: int) -> int:
+    def issue(self, amount: int, *, key: str | None = None) -> int:
         """Creates rights, and returns the number of the entry."""
-        return number_of(self._reply(f"issue {amount}"))
+        return number_of(self._reply(f"issue {amount}", key))
 
-    def give(self, peer: int, amount: int) -> int:
+    def give(self, peer: int, amount: int, *, key: str | None = None) -> int:
         """Gives rights that the site holds to another site, and returns the number of the entry."""
-        return number_of(self._reply(f"give {peer} {amount}"))
+        return number_of(self._reply(f"give {peer} {amount}", key))
 
-    def spend(self, amount: int, *, within: float = 0.0) -> Spent | Expired | Queued:
+    def spend(self, amount: int, *, within: float = 0.0, key: str | None = None) -> Spent | Expired | Queued:
         """Spends rights, if the site holds enough, or gets them from other sites, within so many seconds. Returns once
         that is decided, which is after one of its ticks if it does not hold enough. Queued only if the site ends
-        meanwhile. The seconds are at most a day, and those of the site's clock: that of this machine does not matter."""
+        meanwhile. The seconds are at most a day, and those of the site's clock: that of this machine does not matter.
+
+        A site ends the spend of a client whose connection breaks while it waits. So Expired may come before its time.
+        Nothing was spent then: ask again, under another key."""
         command = f"spend {amount} +{round(max(within, 0) * 1000)}"
-        found = result_of(refusal_raised(self.wait(command, within + self._timeout), command))
+        found = result_of(refusal_raised(self.wait(command, within + self._timeout, key=key), command))
         if isinstance(found, (Spent, Expired, Queued)):
             return found
-        # Another client asked for this ticket, and got the outcome.
+        # It had no key, and another client asked for this ticket, and got the outcome.
         raise AnswerLost("its outcome was read by another client", [command])
 
-    def take(self, amount: int) -> Spent:
+    def take(self, amount: int, *, key: str | None = None) -> Spent:
         """Spends rights at once, or not at all: raises CommandRefused with the name `Short` if the site holds too few
         besides those that others wait for."""
-        return Spent(number_of(self._reply(f"take {amount}"), "spent"))
+        return Spent(number_of(self._reply(f"take {amount}", key), "spent"))
 
     def cancel(self, ticket: int) -> Spent | Expired | Unknown:
         """Ends a spend that waits, which then counts as expired. Returns what became of it."""
@@ -214,31 +254,38 @@ class SiteClient:
         assert not isinstance(found, Queued)
         return found
 
-    def close_site(self, heir: int | None = None) -> int:
+    def close_site(self, heir: int | None = None, *, key: str | None = None) -> int:
         """Closes the site for good, which gives what it holds to the heir. Returns the number of its last entry."""
-        return number_of(self._reply("close" if heir is None else f"close {heir}"))
+        return number_of(self._reply("close" if heir is None else f"close {heir}", key))
 
-    def _reply(self, command: str) -> str:
-        return refusal_raised(self.ask(command), command)
+    def fresh_key(self) -> str | None:
+        """A key that no command had, for a caller that wants to know it before the command is sent. None if this client
+        sends commands without keys."""
+        return uuid.uuid4().hex if self._retry_for > 0 else None
+
+    def _reply(self, command: str, key: str | None = None) -> str:
+        return refusal_raised(self.ask(command, key=key), command)
 
     # ---- commands as text
 
-    def ask(self, command: str) -> str:
-        """Sends one command, and returns its reply without the line feed: `error NAME` if it is refused."""
-        return self.ask_all([command])[0]
+    def ask(self, command: str, *, key: str | None = None) -> str:
+        """Sends one command, under this key or else, if it may have one, under a new one. Returns its reply without the
+        line feed: `error NAME` if it is refused."""
+        return self._send("/", command, self._timeout, key)
 
     def ask_all(self, commands: Iterable[str]) -> list[str]:
         """Sends commands in one request, of at most 1,048,576 bytes, and returns their replies in order. Other clients'
         commands may come between. If a request ends early, as for replies of more than 20 MB, its last reply is `error
-        OutOfMemory`, and neither that command nor one after it was carried out."""
+        OutOfMemory`, and neither that command nor one after it was carried out. They get no keys, and are not asked again
+        if the answer is lost; a command may bring its own, as `key order-4711 take 2`."""
         return self._post("/", list(commands), self._timeout).splitlines()
 
-    def wait(self, command: str, timeout: float = 60.0) -> str:
-        """Sends one command. If its reply would be `queued T`, waits for the outcome of the spend: `spent N`, or
-        `expired` after its deadline. `timeout` is how many seconds that may take; it should exceed the time to the
+    def wait(self, command: str, timeout: float = 60.0, *, key: str | None = None) -> str:
+        """Sends one command as `ask` does. If its reply would be `queued T`, waits for the outcome of the spend: `spent N`,
+        or `expired` after its deadline. `timeout` is how many seconds that may take; it should exceed the time to the
         deadline: after it the connection is closed, and the site cancels the spend. If the site ends meanwhile, the reply is
         `queued T` after all."""
-        return self._post("/wait", [command], timeout).rstrip("\n")
+        return self._send("/wait", command, timeout, key)
 
     # ---- status and metrics
 
@@ -287,31 +334,51 @@ class SiteClient:
 
         return self._repeat(once)
 
-    def _post(self, target: str, commands: list[str], timeout: float) -> str:
+    def _send(self, target: str, command: str, timeout: float, key: str | None) -> str:
+        if key is None and command.split(" ")[0] in WITH_KEYS:
+            key = self.fresh_key()
+        return self._post(target, [command], timeout, key).rstrip("\n")
+
+    def _post(self, target: str, commands: list[str], timeout: float, key: str | None = None) -> str:
         body = b"".join(map(line_of, commands))
         if len(body) > LONGEST_BODY:
             raise ValueError(f"the commands have {len(body):,} bytes, but a request has at most {LONGEST_BODY:,}")
+        if key is not None and not KEY.fullmatch(key):
+            raise ValueError(f"a key is 1 to 64 bytes of visible ASCII: {key!r}")
 
         def once() -> str:
             try:
-                return self._exchange("POST", target, body, timeout)
+                return self._exchange("POST", target, body, timeout, key)
             except OSError as cause:
-                raise AnswerLost(cause, commands) from cause
+                raise AnswerLost(cause, commands, key) from cause
 
-        return self._repeat(once)
+        return self._repeat(once, 0.0 if key is None else self._retry_for)
 
-    def _repeat(self, once: Callable[[], str]) -> str:
-        """Tries again if the request was certainly not carried out."""
-        for attempt in range(1, self._tries + 1):
+    def _repeat(self, once: Callable[[], str], retry_for: float = 0.0) -> str:
+        """Tries again while the request was certainly not carried out, at most so often as the client says. Once an answer
+        was lost, tries again for so many seconds, whatever happens: from then on only an answer says what was done."""
+        lost: AnswerLost | None = None
+        until, pause = 0.0, FIRST_PAUSE
+        for attempt in itertools.count(1):
             try:
                 return once()
             except NotSent as cause:
-                if attempt == self._tries:
+                if lost is None and attempt >= self._tries:
                     raise SiteUnreachable(f"{self._host}:{self._port}: {cause}") from cause
-                time.sleep(0.05 * 2**attempt)
+            except AnswerLost as cause:
+                until = until if lost is not None else time.monotonic() + retry_for
+                lost = cause
+            except SiteRefused:
+                if lost is None:
+                    raise
+            rest = pause * CHANCE.uniform(0.5, 1.0)
+            if lost is not None and time.monotonic() + rest > until:
+                raise lost
+            time.sleep(rest)
+            pause = min(LONGEST_PAUSE, 2 * pause)
         raise AssertionError
 
-    def _exchange(self, method: str, target: str, body: bytes, timeout: float) -> str:
+    def _exchange(self, method: str, target: str, body: bytes, timeout: float, key: str | None = None) -> str:
         """One request and its response. NotSent if it was not sent whole, or was turned away."""
         if self._process != os.getpid():
             # The connections of the process that this one was forked from are not ours.
@@ -319,17 +386,23 @@ class SiteClient:
         with self._places:
             connection = self._connect()
             try:
-                return self._talk(connection, method, target, body, timeout)
+                return self._talk(connection, method, target, body, timeout, key)
             except BaseException:
                 connection.close()
                 raise
 
-    def _talk(self, connection: http.client.HTTPConnection, method: str, target: str, body: bytes, timeout: float) -> str:
+    def _talk(
+        self, connection: http.client.HTTPConnection, method: str, target: str, body: bytes, timeout: float, key: str | None
+    ) -> str:
         connection.sock.settimeout(timeout)
+        fields = dict(self._fields)
+        if body:
+            fields["content-type"] = "text/plain"
+        if key is not None:
+            fields["idempotency-key"] = key
         try:
             # A body with a length is carried out only once its last byte has arrived, so half a request has no effect.
-            fields = {"content-type": "text/plain"} if body else {}
-            connection.request(method, target, body or None, self._fields | fields)
+            connection.request(method, target, body or None, fields)
         except OSError as cause:
             raise NotSent(cause) from cause
         try:
@@ -397,7 +470,7 @@ def refusal_raised(reply: str, command: str) -> str:
     """The reply. Raises CommandRefused if it is a refusal."""
     word, _, name = reply.partition(" ")
     if word == "error":
-        raise CommandRefused(name, command)
+        raise (KeyRefused if name in OF_KEYS else CommandRefused)(name, command)
     return reply
 
 
@@ -435,12 +508,7 @@ def main() -> None:
 
     def sell(address: str, sold: Any) -> None:
         with SiteClient(address) as site:
-            while True:
-                try:
-                    if not isinstance(site.spend(1), Spent):
-                        return
-                except AnswerLost:
-                    pass  # it may have been sold, so it counts as sold
+            while isinstance(site.spend(1), Spent):
                 with sold.get_lock():
                     sold.value += 1
 

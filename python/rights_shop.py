@@ -5,17 +5,20 @@
     shop.refund(sale, "sent back")          # 8, the number of the entry that issues the two rights again
     shop.records.totals()                   # Totals(sold=2, perhaps_sold=0, refunded=2, perhaps_refunded=0)
 
-**Another site sells only what the one before certainly did not.** A sale is tried at one site after another: first at
-all that hold enough, by `take`, and then, if there is time, at one that waits for rights of the others, by `spend`. The
-next site is tried if one was not reached, has closed, or refused. If a request got no answer, nobody can tell whether it
-was carried out, so it is tried nowhere else: `AnswerLost` is raised, and the records say `perhaps sold`.
+**Another site sells only what the one before did not.** A sale is tried at one site after another: first at all that hold
+enough, by `take`, and then, if there is time, at one that waits for rights of the others, by `spend`. The next site is
+tried if one was not reached, has closed, or refused. If a request got no answer, its client asks the same site again under
+the same key, and then what the site answers counts, a refusal too (rights_http.py says what that leaves open). No other
+site is tried, since it would not know the key. If no answer comes at last, `AnswerLost` is raised, and the records say
+`perhaps sold`, with the site, the key and the command. Once that site is back, `SiteClient(site).ask(command, key=key)`
+tells what became of it, or sells it then.
 
 A seller that crashes after a site has sold, and before the record is written, knows nothing of that sale. `spent` of the
 sites' statuses has the sum of all.
 
 **A refund issues rights again.** A log has no entry for that, so the reason stands in the seller's records, on the disk
-before the rights are issued. A refund whose answer got lost is not sent again, since rights that are issued twice are
-sold twice: the records say `perhaps refunded`, and `issued` of the site's status tells, once somebody looks.
+before the rights are issued. A refund is asked again under its key too, at the same site alone, since rights that are
+issued twice are sold twice. If no answer comes at last, the records say `perhaps refunded`, with site, key and command.
 """
 
 from __future__ import annotations
@@ -123,19 +126,12 @@ class Shop:
     def sell(self, amount: int, *, within: float = 0.0) -> Sale | None:
         """Sells, at a site that holds enough, or else gets it from the others within so many seconds. None if there is
         not enough. Raises SiteUnreachable if no site was reached, and AnswerLost if it may have been sold."""
-        sale = self._at_one(lambda site: taken(site, amount), amount)
+        sale = self._try_each(lambda site, key: taken(site, amount, key), "perhaps sold", None, amount)
         if sale is None and within > 0:
-            sale = self._at_one(lambda site: spent(site, amount, within), amount)
+            sale = self._try_each(lambda site, key: spent(site, amount, within, key), "perhaps sold", None, amount)
         if sale is not None:
             self.records.add("sold", sale, sale.amount)
         return sale
-
-    def _at_one(self, sell: Callable[[SiteClient], Sale | None], amount: int) -> Sale | None:
-        try:
-            return self._try_each(sell)
-        except AnswerLost:
-            self.records.add("perhaps sold", None, amount)
-            raise
 
     def refund(self, sale: Sale, reason: str, amount: int | None = None) -> int:
         """Issues again what is left of a sale, or this much of it. Returns the number of the entry that issues it. Raises
@@ -147,7 +143,7 @@ class Shop:
                 raise ValueError(f"{count} of {sale} cannot be refunded: {left} are left of it")
             self.records.add("refund begun", sale, count, reason=reason)
         try:
-            number = self._try_each(lambda site: (site.address, site.issue(count)))
+            number = self._try_each(lambda site, key: issued(site, count, key), "perhaps refunded", sale, count)
         except (SiteUnreachable, CommandRefused):
             self.records.add("refund refused", sale, count)
             raise
@@ -157,13 +153,20 @@ class Shop:
         self.records.add("refunded", sale, count, site=number[0], number=number[1])
         return number[1]
 
-    def _try_each(self, act: Callable[[SiteClient], Result | None]) -> Result | None:
-        """The result of the first site that has one. A site that was not reached, or refused, did nothing."""
+    def _try_each(
+        self, act: Callable[[SiteClient, str | None], Result | None], perhaps: str, sale: Sale | None, amount: int
+    ) -> Result | None:
+        """The result of the first site that has one, each under a key of its own. A site that was not reached, or refused,
+        did nothing. Of one that did not answer, the records say `perhaps` what it did."""
         unreached: SiteUnreachable | None = None
         reached = False
         for site in self._in_order():
+            key = site.fresh_key()
             try:
-                result = act(site)
+                result = act(site, key)
+            except AnswerLost as lost:
+                self.records.add(perhaps, sale, amount, site=site.address, key=key, command=lost.commands[0])
+                raise
             except SiteUnreachable as cause:
                 self._missed[site], unreached = time.monotonic(), cause
                 continue
@@ -184,13 +187,17 @@ class Shop:
         return sorted(self.sites, key=lambda site: self._missed.get(site, since) > since)
 
 
-def taken(site: SiteClient, amount: int) -> Sale:
-    return Sale(site.address, site.take(amount).number, amount)
+def issued(site: SiteClient, amount: int, key: str | None) -> tuple[str, int]:
+    return site.address, site.issue(amount, key=key)
 
 
-def spent(site: SiteClient, amount: int, within: float) -> Sale | None:
-    result = site.spend(amount, within=within)
+def taken(site: SiteClient, amount: int, key: str | None) -> Sale:
+    return Sale(site.address, site.take(amount, key=key).number, amount)
+
+
+def spent(site: SiteClient, amount: int, within: float, key: str | None) -> Sale | None:
+    result = site.spend(amount, within=within, key=key)
     if isinstance(result, Queued):
         # The site has ended. Its last tick may have served it.
-        raise AnswerLost("the site ended while the spend waited", [f"spend {amount}"])
+        raise AnswerLost("the site ended while the spend waited", [f"spend {amount} +0"], key)
     return Sale(site.address, result.number, amount) if isinstance(result, Spent) else None

@@ -5,11 +5,13 @@
         site.ask("spend 3 10")          # 'spent 2', or 'queued 1' if too little is held
         site.status()["held"]           # 97
         site.ask("tick 11")             # send what is due, serve what waits
+        site.ask("take 1", key="k-1")   # 'spent 3', and the same again if it is asked again
 
 With `journal`, the path of a file, a site that has ended goes on where it was, if it is started again with the same
-values. Without it the log of a site is in memory, so each number is used only once in a system of sites: a site that
-has ended, or whose machine was restarted, must not be started again with its number, or it would sell its rights a
-second time. `once` names a file that prevents that.
+values. A command under a key whose reply did not come may then be asked again: if it wrote an entry before, it gets the
+reply of that time, and is not carried out again. Without a journal the log of a site is in memory, so each number is used
+only once in a system of sites: a site that has ended, or whose machine was restarted, must not be started again with its
+number, or it would sell its rights a second time. `once` names a file that prevents that.
 
 Threads may share a site, processes cannot: for them, start the site with `http` and use `rights_http.py`. Only Python's
 standard library is used, on systems that have `poll`.
@@ -19,6 +21,7 @@ from __future__ import annotations
 
 import json
 import os
+import re
 import select
 import shutil
 import subprocess
@@ -39,6 +42,7 @@ PROGRAM = BESIDE if os.path.isfile(BESIDE) else shutil.which(NAME) or NAME
 AT_ONCE = 500
 # Bytes that a pipe takes without blocking, if it takes any.
 PIECE = select.PIPE_BUF
+KEY = re.compile(r"[!-~]{1,64}")
 
 
 class SiteEnded(Exception):
@@ -78,6 +82,7 @@ class Site:
         hosts: Sequence[str] = (),
         tick: int | None = None,
         silent: int | None = None,
+        keys: int | None = None,
         once: str | None = None,
         journal: str | None = None,
         system: str | None = None,
@@ -88,18 +93,21 @@ class Site:
         """Starts the site, and returns once it listens. If it cannot, raises SiteEnded with the reason.
 
         `peers` has the address of each other site by its number, and `entrances` the address of this one at which alone a
-        peer is let in, by the peer's number (`--from`); `listen` may be None if each peer has one. `program` is the path of the program, or a list of
-        words that replaces it and its word `run`. `http`, `tick` and `silent` (milliseconds), `once`, `journal`, `system`
-        and `log` are the options of these names, and `hosts` the names of `--host`. The standard error of the site goes to
-        `errors`, an open file; without it, it is kept, and `said` reads it. `timeout` is how many seconds a reply may
-        take: no command waits for another site, but a tick for 50 milliseconds at most, and with a journal for the disk,
-        so a longer wait means that the process is stuck."""
+        peer is let in, by the peer's number (`--from`); `listen` may be None if each peer has one. `program` is the path of
+        the program, or a list of words that replaces it and its word `run`. `http`, `tick` and `silent` (milliseconds),
+        `keys`, `once`, `journal`, `system` and `log` are the options of these names, and `hosts` the names of `--host`. The
+        standard error of the site goes to `errors`, an open file; without it, it is kept, and `said` reads it. `timeout` is
+        how many seconds a reply may take: no command waits for another site, but a tick for 50 milliseconds at most, and
+        with a journal for the disk, so a longer wait means that the process is stuck."""
         words = list(program) if isinstance(program, (list, tuple)) else [program or find_program(), "run"]
         words += ["--id", str(number), "--sites", str(sites)]
         words += [] if listen is None else ["--listen", listen]
         for peer, address in entrances.items():
             words += ["--from", f"{peer}={address}"]
-        options = {"--http": http, "--tick": tick, "--silent": silent, "--once": once, "--journal": journal, "--system": system}
+        options = {
+            "--http": http, "--tick": tick, "--silent": silent, "--keys": keys, "--once": once, "--journal": journal,
+            "--system": system,
+        }  # fmt: skip
         for option, value in options.items():
             words += [] if value is None else [option, str(value)]
         for name in hosts:
@@ -128,9 +136,11 @@ class Site:
 
     # ---- commands
 
-    def ask(self, command: str) -> str:
-        """Sends one command, and returns its reply without the line feed: `error NAME` if it is refused."""
-        return self.ask_all([command])[0]
+    def ask(self, command: str, *, key: str | None = None) -> str:
+        """Sends one command, and returns its reply without the line feed: `error NAME` if it is refused. With a key, of 1
+        to 64 bytes of visible ASCII, a command that was carried out under it before is not carried out again, and gets the
+        same reply; such are `issue`, `give`, `spend`, `take` and `close`."""
+        return self.ask_all([command if key is None else under_key(key, command)])[0]
 
     def ask_all(self, commands: Iterable[str]) -> list[str]:
         """Sends commands together, and returns their replies in order. No other thread's command comes between."""
@@ -242,6 +252,13 @@ class Site:
         with suppress(subprocess.TimeoutExpired):
             self.process.wait(1)
         return SiteEnded(f"site {self.number}: the process ended{self._last_words()}")
+
+
+def under_key(key: str, command: str) -> str:
+    """The command under this key."""
+    if not KEY.fullmatch(key):
+        raise ValueError(f"a key is 1 to 64 bytes of visible ASCII: {key!r}")
+    return f"key {key} {command}"
 
 
 def line_of(command: str) -> bytes:

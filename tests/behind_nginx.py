@@ -97,7 +97,7 @@ class Nginx:
 
     def client(self, token):
         """The Python client. It is told an address, and the name by which the certificate is looked at."""
-        return rights_http.SiteClient(f"127.0.0.1:{self.port}", tls=Named(self.context()), token=token, tries=2)
+        return rights_http.SiteClient(f"127.0.0.1:{self.port}", tls=Named(self.context()), token=token, tries=2, retry_for=0.5)
 
     def __enter__(self):
         return self
@@ -217,8 +217,9 @@ def a_client_that_goes_takes_its_spend_along():
         wait_for("it waits no more", lambda: sites[1].status()["queued"] == 0)
 
 
-def a_command_without_an_answer_is_not_sent_again():
-    """What is behind nginx takes each request and closes its connection. The client does not know what became of it."""
+def a_command_without_an_answer_is_asked_for_by_its_key_alone():
+    """What is behind nginx takes each request and closes its connection. nginx does not send it again. The client does under
+    the same key, which nginx passes on, and without one does not."""
     requests = []
     with socket.create_server(("127.0.0.1", 0)) as server:
 
@@ -232,13 +233,16 @@ def a_command_without_an_answer_is_not_sent_again():
 
         threading.Thread(target=take_and_close, daemon=True).start()
         with Nginx(f"127.0.0.1:{server.getsockname()[1]}") as nginx, nginx.client(TOKEN) as client:
-            refused(lambda: client.take(1), rights_http.AnswerLost)
+            refused(lambda: client.ask_all(["take 1", "take 1"]), rights_http.AnswerLost)
             time.sleep(0.2)
             expect(len(requests), 1, "requests")
-            expect(TOKEN.encode() in requests[0], False, "the site sees the token")
+            expect((TOKEN.encode() in requests[0], b"idempotency-key" in requests[0].lower()), (False, False), "what the site sees")
             # A question may be asked again.
             refused(client.status, rights_http.SiteUnreachable)
             expect(len(requests), 3, "requests")
+            refused(lambda: client.take(1, key="order-1"), rights_http.AnswerLost)
+            asked = [b"\r\nidempotency-key: order-1\r\n" in request.lower() for request in requests[3:]]
+            expect((len(asked) > 1, all(asked)), (True, True), "the key each time")
             server.shutdown(socket.SHUT_RDWR)
 
 
@@ -251,7 +255,7 @@ def a_site_that_is_down_is_told_from_one_that_refuses():
 CASES = [
     case("BehindNginx", [
         whoever_shows_nothing_is_refused, a_password_reads_and_a_token_sells, a_key_goes_through_it, the_python_client_sells_through_it,
-        a_client_that_goes_takes_its_spend_along, a_command_without_an_answer_is_not_sent_again,
+        a_client_that_goes_takes_its_spend_along, a_command_without_an_answer_is_asked_for_by_its_key_alone,
         a_site_that_is_down_is_told_from_one_that_refuses,
     ]),
 ]  # fmt: skip

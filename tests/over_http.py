@@ -32,7 +32,7 @@ from web_driver import alone, in_threads, seats
 from web_requests import MOST_CLIENTS
 
 from rights_http import (
-    AnswerLost, CommandRefused, Expired, Queued, SiteClient, SiteRefused, SiteUnreachable, Spent, Unknown, Waiting,
+    AnswerLost, CommandRefused, Expired, KeyRefused, Queued, SiteClient, SiteRefused, SiteUnreachable, Spent, Unknown, Waiting,
     in_seconds, number_of, result_of,
 )  # fmt: skip
 from rights_site import Site
@@ -172,13 +172,13 @@ def replies_as_results():
 
 
 class Answers(http.server.BaseHTTPRequestHandler):
-    """A stand-in for a site: `server.replies` has the reply to each command, and `server.asked` what came."""
+    """A stand-in for a site: `server.replies` has the reply to each command, and `server.asked` what came, with its key."""
 
     protocol_version = "HTTP/1.1"
 
     def do_POST(self):
         command = self.rfile.read(int(self.headers["content-length"])).decode().rstrip("\n")
-        self.server.asked.append((self.path, command))
+        self.server.asked.append((self.path, command, self.headers["idempotency-key"]))
         reply = self.server.replies[command.split()[0]].encode() + b"\n"
         self.send_response(409 if reply.startswith(b"error ") else 200)
         self.send_header("content-length", str(len(reply)))
@@ -209,9 +209,51 @@ def calls_as_commands():
                 expect(call(*words), result, command)
                 asked = server.asked[-1]
                 expect((asked[0], asked[1][: len(command)]), (target, command))
+                expect(asked[2] is None, command.startswith(("cancel", "outcome")), f"{command}: a key")
             server.replies = {"take": "error Short", "cancel": "error BadCommand"}
             expect((refusal_of(client.take, 3), refusal_of(client.cancel, 1)), ("Short", "BadCommand"))
+            keys = [key for _, _, key in server.asked if key is not None]
+            expect((len(keys), len(set(keys))), (5, 5), "each command has a key of its own")
+            # A key that is given, and lines that bring their own or have none.
+            server.replies = {word: "number 1" for word in ("issue", "give", "close", "key")} | {"take": "spent 1", "spend": "spent 1"}
+            client.issue(1, key="a"), client.give(2, 1, key="b"), client.take(1, key="c"), client.spend(1, key="d")
+            client.close_site(key="e"), client.ask("take 1", key="f"), client.wait("spend 1 0", key="g")
+            expect([key for _, _, key in server.asked[-7:]], list("abcdefg"))
+            client.ask_all(["take 1", "take 2"]), client.ask_all(["take 1"]), client.ask("key h take 1")
+            expect([key for _, _, key in server.asked[-3:]], [None] * 3)
+        with SiteClient(at(server.server_address[1]), retry_for=0) as client:
+            client.take(1), client.take(1, key="a")
+            expect([key for _, _, key in server.asked[-2:]], [None, "a"])
         server.shutdown()
+
+
+def commands_under_keys():
+    """The client at a real site: what was carried out under a key is told again."""
+    with alone(tick=20) as sites, SiteClient(sites.address()) as client:
+        expect((client.issue(10, key="i"), client.issue(10, key="i"), client.take(3, key="t"), client.take(3, key="t")), (1, 1, Spent(2), Spent(2)))
+        expect((client.spend(3, within=5.0, key="t"), client.ask("key t take 3"), client.ask_all(["key t take 3", "take 1"])), (Spent(2), "spent 2", ["spent 2", "spent 3"]))
+        expect((client.spend(20, within=0.1, key="s"), client.spend(20, within=9.0, key="s")), (Expired(), Expired()))
+        expect((client.status()["held"], client.status()["keys"]), (6, 2))
+        for call, words, name in [
+            (client.take, (4,), "KeyReused"), (client.issue, (3,), "KeyReused"), (client.spend, (0,), "KeyReused"), (client.close_site, (), "KeyReused"),
+        ]:  # fmt: skip
+            try:
+                raise AssertionError(f"not refused: {call(*words, key='t')}")
+            except KeyRefused as refusal:
+                expect(refusal.name, name)
+        expect((client.ask("outcome 1", key="o"), sites[1].ask("take 3", key="t"), sites[1].ask("take 2", key="u")), ("error BadKey", "spent 2", "spent 4"))
+        for bad in ("", "a b", "x" * 65, "é", "a\n"):
+            for ask in (client.ask, sites[1].ask):
+                try:
+                    raise AssertionError(f"{bad!r} is taken for a key: {ask('take 1', key=bad)}")
+                except ValueError:
+                    pass
+    with alone(tick=20, keys=0) as sites, SiteClient(sites.address()) as client, SiteClient(sites.address(), retry_for=0) as other:
+        try:
+            raise AssertionError(f"not refused: {client.issue(1)}")
+        except KeyRefused as refusal:
+            expect(refusal.name, "KeyRefused")
+        expect((other.issue(1), "keys" in other.status()), (1, False))
 
 
 def names_and_ipv6():
@@ -226,38 +268,97 @@ def names_and_ipv6():
             expect(client.ask("issue 1"), "number 1", host)
 
 
-def a_lost_answer_is_not_asked_for_again():
-    """The server reads the request and ends the connection: a command is not sent again, a question is."""
-    came = []
-    with socket.create_server(("127.0.0.1", 0)) as server:
+class Forgetful:
+    """A server that reads requests, and answers some: `replies` has what it says to each in turn, None to end its connection.
+    `came` has their commands and keys."""
 
-        def serve():
+    def __init__(self, *replies, then=None):
+        self.replies, self.then, self.came = list(replies), then, []
+        self.server = socket.create_server(("127.0.0.1", 0))
+        self.address = at(self.server.getsockname()[1])
+        threading.Thread(target=self.serve, daemon=True).start()
+
+    def serve(self):
+        with suppress(OSError):
             while True:
-                with suppress(OSError):
-                    stream, _ = server.accept()
-                    with stream:
-                        came.append(stream.recv(1 << 16))
-                    continue
-                return
+                stream, _ = self.server.accept()
+                with stream:
+                    stream.settimeout(PATIENCE)
+                    self.answer(stream)
 
-        threading.Thread(target=serve, daemon=True).start()
-        client = SiteClient(at(server.getsockname()[1]), tries=3)
+    def answer(self, stream):
+        head, body = b"", b""
+        while b"\r\n\r\n" not in head:
+            head += stream.recv(1 << 16)
+        head, _, body = head.partition(b"\r\n\r\n")
+        fields = dict(line.lower().split(": ", 1) for line in head.decode().split("\r\n")[1:])
+        while len(body) < int(fields.get("content-length", 0)):
+            body += stream.recv(1 << 16)
+        self.came.append((body.decode().rstrip("\n"), fields.get("idempotency-key")))
+        reply = self.replies.pop(0) if self.replies else self.then
+        if reply is not None:
+            status, _, text = reply.partition(" ")
+            stream.sendall(f"HTTP/1.1 {status} x\r\ncontent-type: text/plain\r\nconnection: close\r\n{text}".encode())
+
+    def __enter__(self):
+        return self
+
+    def __exit__(self, *_):
+        self.server.shutdown(socket.SHUT_RDWR)
+        self.server.close()
+
+
+def said(reply, status=200, *fields):
+    """What `Forgetful` says."""
+    return f"{status} " + "".join(f"{field}\r\n" for field in fields) + f"content-length: {len(reply) + 1}\r\n\r\n{reply}\n"
+
+
+def a_lost_answer_is_asked_for_again():
+    """Under the same key each time, whatever happens in between, until it comes."""
+    turned_away = said("error Busy", 503, "retry-after: 1")
+    for call, words, command, reply, result in [
+        (SiteClient.take, (2,), "take 2", "spent 7", Spent(7)), (SiteClient.issue, (2,), "issue 2", "number 8", 8),
+        (SiteClient.spend, (2,), "spend 2 +0", "expired", Expired()), (SiteClient.ask, ("close",), "close", "number 9", "number 9"),
+    ]:  # fmt: skip
+        with Forgetful(None, turned_away, said("error Foreign", 403), said(reply)) as server, SiteClient(server.address, tries=1) as client:
+            expect(call(client, *words), result)
+            expect([came for came, _ in server.came], [command] * 4)
+            keys = {key for _, key in server.came}
+            expect((len(keys), all(re.fullmatch("[!-~]{1,64}", key) for key in keys)), (1, True))
+    # A refusal that comes at last is one.
+    with Forgetful(None, said("error Short", 409)) as server, SiteClient(server.address) as client:
+        expect((refusal_of(client.take, 2, key="k"), server.came), ("Short", [("take 2", "k")] * 2))
+    # For a while only. What was turned away each time was certainly not carried out.
+    with Forgetful() as server, SiteClient(server.address, retry_for=0.5) as client:
+        begun = time.monotonic()
         try:
-            client.ask("spend 1 0")
-            raise AssertionError("no answer is none")
+            raise AssertionError(f"no answer is none: {client.take(2, key='k')}")
         except AnswerLost as lost:
-            expect((lost.commands, len(came)), (["spend 1 0"], 1))
+            expect((lost.commands, lost.key, set(server.came)), (["take 2"], "k", {("take 2", "k")}))
+        expect((len(server.came) > 2, time.monotonic() - begun < PATIENCE), (True, True))
+    with Forgetful(then=turned_away) as server, SiteClient(server.address, tries=3) as client:
         try:
-            client.spend(1, within=1.0)
-            raise AssertionError("no answer is none")
-        except AnswerLost as lost:
-            expect((lost.commands[0].split()[:2], len(came)), (["spend", "1"], 2))
+            raise AssertionError(f"it was turned away: {client.take(2)}")
+        except SiteUnreachable:
+            expect(len(server.came), 3)
+
+
+def a_lost_answer_without_a_key_is_not_asked_for_again():
+    """The server reads the request and ends the connection: a command is not sent again, a question is."""
+    with Forgetful() as server, SiteClient(server.address, tries=3, retry_for=0) as client, SiteClient(server.address, tries=3) as other:
+        for ask, count in ((lambda: client.ask("spend 1 0"), 1), (lambda: client.spend(1, within=1.0), 1), (lambda: other.ask_all(["take 1", "take 2"]), 2),
+                           (lambda: other.outcome(1), 1), (lambda: other.cancel(1), 1)):  # fmt: skip
+            server.came.clear()
+            try:
+                raise AssertionError(f"no answer is none: {ask()}")
+            except AnswerLost as lost:
+                expect((len(lost.commands), lost.key, len(server.came), server.came[0][1]), (count, None, 1, None))
+        server.came.clear()
         try:
             client.status()
             raise AssertionError("no answer is none")
         except SiteUnreachable:
-            expect(len(came), 5)
-        server.close()
+            expect(len(server.came), 3)
 
 
 def examples_to_copy():
@@ -322,6 +423,7 @@ CASES = [
     case("WebKeys", web_keys.TESTS),
     case("WebClients", [
         pythons_clients, curl, wrk, the_client_class, results_of_the_client_class, replies_as_results, calls_as_commands,
-        names_and_ipv6, a_lost_answer_is_not_asked_for_again, examples_to_copy, many_clients_of_three_sites, idle_connections,
+        commands_under_keys, names_and_ipv6, a_lost_answer_is_asked_for_again, a_lost_answer_without_a_key_is_not_asked_for_again,
+        examples_to_copy, many_clients_of_three_sites, idle_connections,
     ]),
 ]  # fmt: skip

@@ -1,7 +1,9 @@
 """The Python client that sells at several sites, and its records; and the clients as a package for pip."""
 
+import json
 import os
 import re
+import select
 import shutil
 import socket
 import subprocess
@@ -23,7 +25,7 @@ def shop_of(*addresses):
     """A shop at these sites, with records in a folder of its own."""
     with tempfile.TemporaryDirectory(prefix="shop-") as room:
         records = Records(os.path.join(room, "records"))
-        clients = [SiteClient(address, tries=1) for address in addresses]
+        clients = [SiteClient(address, tries=1, retry_for=0.5) for address in addresses]
         yield Shop(clients, records)
         for client in clients:
             client.close()
@@ -47,6 +49,40 @@ def silent_site():
         threading.Thread(target=take_and_close, daemon=True).start()
         yield f"127.0.0.1:{server.getsockname()[1]}", requests
         server.shutdown(socket.SHUT_RDWR)
+
+
+@contextmanager
+def answers_lost(target):
+    """An address that leads to this one. What comes back is an end of the connection."""
+    host, port = target.rsplit(":", 1)
+    with socket.create_server(("127.0.0.1", 0)) as server:
+
+        def pass_on(stream, out):
+            while out not in select.select([stream, out], [], [], PATIENCE)[0] and (block := stream.recv(1 << 16)):
+                out.sendall(block)
+
+        def accept_all():
+            with suppress(OSError):
+                while True:
+                    stream, _ = server.accept()
+                    with stream, suppress(OSError), socket.create_connection((host, int(port)), PATIENCE) as out:
+                        pass_on(stream, out)
+
+        threading.Thread(target=accept_all, daemon=True).start()
+        yield f"127.0.0.1:{server.getsockname()[1]}"
+        server.shutdown(socket.SHUT_RDWR)
+
+
+def keys_in(requests):
+    """The keys of requests, as many as there are of each."""
+    keys = [re.search(rb"\r\nidempotency-key: (\S+)\r\n", request)[1].decode() for request in requests]
+    return {key: keys.count(key) for key in keys}
+
+
+def recorded(shop, event):
+    """The records of an event."""
+    with open(shop.records._file.name) as file:
+        return [record for record in map(json.loads, file) if record["event"] == event]
 
 
 def raises(kind, call, *words, **others):
@@ -98,8 +134,27 @@ def what_was_perhaps_sold_is_sold_nowhere_else():
         with shop_of(address, sites.address(1)) as shop:
             raises(AnswerLost, shop.sell, 2)
             raises(AnswerLost, shop.sell, 3, within=1.0)
-            expect((len(requests), sites[1].status()["held"]), (2, 10))
+            # Each is asked again there, under its key.
+            keys = keys_in(requests)
+            expect((len(keys), min(keys.values()) > 1, sites[1].status()["held"]), (2, True, 10))
             expect(shop.records.totals(), Totals(0, 5, 0, 0))
+            records = [(record["site"], record["key"], record["command"]) for record in recorded(shop, "perhaps sold")]
+            expect(records, [(address, key, command) for key, command in zip(keys, ("take 2", "take 3"))])
+
+
+def what_was_perhaps_sold_is_asked_for_by_its_key():
+    """Its answers are lost, it ends, and starts again: the records say how to ask it what became of the sale."""
+    with Journaled(2, started=[1], tick=20) as sites:
+        sites[1].ask("issue 10")
+        with answers_lost(sites.address(1)) as address, shop_of(address) as shop:
+            raises(AnswerLost, shop.sell, 2)
+            expect((sites[1].status()["held"], shop.records.totals()), (8, Totals(0, 2, 0, 0)))
+            sites[1].end()
+            sites.start(1)
+            (record,) = recorded(shop, "perhaps sold")
+            with SiteClient(sites.address(1)) as client:
+                expect([client.ask(record["command"], key=record["key"]) for _ in range(2)], ["spent 2", "spent 2"])
+            expect(sites[1].status()["held"], 8)
 
 
 def a_spend_whose_site_ends_is_perhaps_sold():
@@ -141,11 +196,14 @@ def a_refund_issues_once_and_says_why():
             expect(re.findall(r'"reason": "([^"]*)"', file.read()), ["two were sent back", "all", "nobody is there"])
 
 
-def a_refund_without_an_answer_is_not_sent_again():
-    with silent_site() as (address, requests), shop_of(address, address) as shop:
+def a_refund_without_an_answer_is_made_nowhere_else():
+    with silent_site() as (address, requests), silent_site() as (other, nothing), shop_of(address, other) as shop:
         sale = Sale(address, 7, 4)
         raises(AnswerLost, shop.refund, sale, "sent back", 3)
-        expect((len(requests), shop.records.refundable(sale), shop.records.totals()), (1, 1, Totals(0, 0, 0, 3)))
+        ((key, count),) = keys_in(requests).items()
+        expect((count > 1, nothing, shop.records.refundable(sale), shop.records.totals()), (True, [], 1, Totals(0, 0, 0, 3)))
+        (record,) = recorded(shop, "perhaps refunded")
+        expect((record["site"], record["key"], record["command"]), (address, key, "issue 3"))
         raises(ValueError, shop.refund, sale, "sent back", 3)
 
 
@@ -192,7 +250,8 @@ def pip_installs_the_clients():
 CASES = [
     case("Shops", [
         another_site_sells_while_one_is_down, a_sale_goes_where_rights_are, what_was_perhaps_sold_is_sold_nowhere_else,
-        a_spend_whose_site_ends_is_perhaps_sold, a_refund_issues_once_and_says_why,
-        a_refund_without_an_answer_is_not_sent_again, the_example_sells_at_both_sites, pip_installs_the_clients,
+        what_was_perhaps_sold_is_asked_for_by_its_key, a_spend_whose_site_ends_is_perhaps_sold,
+        a_refund_issues_once_and_says_why, a_refund_without_an_answer_is_made_nowhere_else, the_example_sells_at_both_sites,
+        pip_installs_the_clients,
     ]),
 ]  # fmt: skip

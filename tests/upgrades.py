@@ -1,5 +1,5 @@
 """Upgrades in the middle of a sale: three sites as the unit runs them, ended and started by the same command, one after
-another. Buyers go on at whatever sites run."""
+another. Buyers go on at whatever sites run, and ask for answers that were lost, each by its key, once their site is back."""
 
 import os
 import shutil
@@ -15,7 +15,7 @@ from cluster import PATIENCE, PROGRAM, TOP, at, expect, free_ports, wait_for
 from journal_kit import Holdings, at_rest, records_of
 from preloaded import built
 
-from rights_http import AnswerLost, CommandRefused, SiteClient, SiteUnreachable, Spent
+from rights_http import CommandRefused, SiteClient, SiteUnreachable, Spent
 
 SITES = (1, 2, 3)
 STOCK = 1_000_000
@@ -75,8 +75,8 @@ class Sale:
         self.install()
         ports, web = (dict(zip(SITES, free_ports(3))) for _ in range(2))
         self.sites = {number: Service(number, ports, web, self.room.name) for number in SITES}
-        # What buyers were told that it was sold, and how many of them got no answer, by site.
-        self.told, self.lost = dict.fromkeys(SITES, 0), dict.fromkeys(SITES, 0)
+        # What buyers were told that it was sold, by site.
+        self.told = dict.fromkeys(SITES, 0)
         self.failed, self.is_over, self.lock = [], threading.Event(), threading.Lock()
         self.buyers = [threading.Thread(target=self.buy, args=(number, turn)) for number in SITES for turn in range(2)]
 
@@ -88,7 +88,7 @@ class Sale:
 
     def buy(self, number, turn):
         """Buys at one site, and goes on when it is back."""
-        with SiteClient(self.sites[number].web, tries=1) as client:
+        with SiteClient(self.sites[number].web, tries=1, retry_for=PATIENCE) as client:
             try:
                 while not self.is_over.is_set():
                     self.buy_once(client, number, turn)
@@ -98,18 +98,16 @@ class Sale:
     def buy_once(self, client, number, turn):
         try:
             sold = client.take(1) if turn else client.spend(1, within=0.5)
-            self.count(self.told, number, isinstance(sold, Spent))
+            self.count(number, isinstance(sold, Spent))
         except SiteUnreachable:
             time.sleep(0.02)
-        except AnswerLost:
-            self.count(self.lost, number, 1)
         except CommandRefused as refusal:
             expect(refusal.name, "Short")
             time.sleep(0.02)
 
-    def count(self, counts, number, amount):
+    def count(self, number, amount):
         with self.lock:
-            counts[number] += amount
+            self.told[number] += amount
 
     def goes_on_without(self, number):
         """Buyers buy at each of the other sites."""
@@ -139,8 +137,7 @@ class Sale:
         """Nothing is lost, and nothing is sold twice: by the statuses, by what buyers were told, and by the journals."""
         expect(sum(status["held"] + status["spent"] for status in found.values()), STOCK)
         for number, status in found.items():
-            least, most = self.told[number], self.told[number] + self.lost[number]
-            expect(least <= status["spent"] <= most, True, f"site {number} spent {status['spent']}, and told {least} to {most}")
+            expect(status["spent"], self.told[number], f"what site {number} sold, and what buyers were told")
             with open(self.sites[number].journal, "rb") as journal:
                 values = Holdings(records_of(journal.read())).values()
             expect({key: status[key] for key in values}, values, f"site {number} and its journal")

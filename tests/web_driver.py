@@ -111,13 +111,13 @@ class Client:
 class WebCluster(Cluster):
     """Sites that serve HTTP too."""
 
-    def __init__(self, count, *rest, tick=None, silent=None, log=False, hosts=(), errors=None, **others):
-        self.tick, self.silent, self.log, self.hosts, self.errors = tick, silent, log, hosts, errors
+    def __init__(self, count, *rest, tick=None, silent=None, keys=None, log=False, hosts=(), errors=None, **others):
+        self.tick, self.silent, self.keys, self.log, self.hosts, self.errors = tick, silent, keys, log, hosts, errors
         self.web_ports = free_ports(count)
         super().__init__(count, *rest, **others)
 
     def options(self, number):
-        names = ("hosts", "tick", "silent", "log", "errors")
+        names = ("hosts", "tick", "silent", "keys", "log", "errors")
         return {"http": self.address(number), **{name: getattr(self, name) for name in names}}
 
     def address(self, number=1):

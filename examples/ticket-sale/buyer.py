@@ -4,8 +4,11 @@
     examples/ticket-sale/buyer.py ADDRESS --seed N --pace N
 
 It prints that it is ready, and reads a line with a number T. Then it buys about N times a second, more often in the
-middle of the sale than at its ends, until T, in seconds since 1970. Each line that it prints is a word (`sold`,
-`refused`, or `unknown` if the reply was lost) and the number of tickets.
+middle of the sale than at its ends, until T, in seconds since 1970. Each line that it prints is a word (`sold` or
+`refused`) and the number of tickets.
+
+Its connections break now and then. Each purchase has a key, and is asked again under it, so the buyer knows what became of
+it. Only if no answer comes for half a minute does it not know, and ends with an error.
 """
 
 import argparse
@@ -17,16 +20,14 @@ import time
 HERE = os.path.dirname(os.path.abspath(__file__))
 sys.path.insert(0, os.path.join(HERE, "..", "..", "python"))
 
-from rights_http import AnswerLost, CommandRefused, Queued, SiteClient, SiteUnreachable, Spent  # noqa: E402
+from rights_http import CommandRefused, Queued, SiteClient, SiteUnreachable, Spent  # noqa: E402
 
 
 def buy(site, amount, patience):
-    """Buys this many tickets. If the site has too few, waits up to `patience` seconds for them. Returns the result."""
+    """Buys this many tickets. If the site has too few, waits up to `patience` seconds for them, or until the connection
+    breaks. Returns the result."""
     try:
         result = site.spend(amount, within=patience)
-    except AnswerLost:
-        # They may have been sold, so the command is not sent again.
-        return "unknown"
     except SiteUnreachable:
         return "refused"
     except CommandRefused as refusal:

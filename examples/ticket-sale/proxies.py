@@ -1,4 +1,5 @@
-"""What is between the sites: proxies that pass lines on or lose them, and a witness that reads them."""
+"""What is between the sites: proxies that pass lines on or lose them, and a witness that reads them. And what is between
+buyers and a site: a proxy that breaks their connections now and then."""
 
 import random
 import socket
@@ -112,6 +113,42 @@ class Link(Proxy):
         is_lost = self.is_cut and not line.startswith(b"H")
         self.lost += is_lost
         return not is_lost
+
+
+class Front(Proxy):
+    """Where the buyers of a site come: passes their requests and its answers on, and breaks a connection now and then. The
+    request may have reached the site by then, or not; and the answer may have been on its way."""
+
+    def __init__(self, target, chance, odds):
+        """A connection breaks at one of so many blocks of bytes."""
+        self.chance = chance
+        self.odds = odds
+        self.broken = 0
+        super().__init__(target)
+
+    def carry(self, stream):
+        host, port = self.target.split(":")
+        with stream, suppress(OSError), socket.create_connection((host, int(port))) as out:
+            out.setsockopt(socket.IPPROTO_TCP, socket.TCP_NODELAY, 1)
+            answers = threading.Thread(target=self.pass_on, args=(out, stream), daemon=True)
+            answers.start()
+            self.pass_on(stream, out)
+            answers.join()
+
+    def pass_on(self, source, target):
+        """Passes on what comes, until one of the two ends, or the connection breaks. Then both end."""
+        with suppress(OSError):
+            while block := source.recv(1 << 16):
+                # It breaks before this block is passed on, or behind it, or not.
+                lot = self.chance.randrange(2 * self.odds)
+                self.broken += lot < 2
+                if lot > 0:
+                    target.sendall(block)
+                if lot < 2:
+                    break
+        for end in (source, target):
+            with suppress(OSError):
+                end.shutdown(socket.SHUT_RDWR)
 
 
 def free_ports(count):

@@ -3,9 +3,10 @@
 
     examples/ticket-sale/sell.py [--seed N] [--seconds N] [--program PATH] [--picture FILE]
 
-The buyers are processes of their own, which buy over HTTP. It prints a line each second and a table at the end. If
-more was ever sold than issued, or any other sum is wrong, it prints an error and exits with status 1. The seed
-determines the buyers and the plan, not how processes and the threads of the sites are scheduled.
+The buyers are processes of their own, which buy over HTTP, and whose connections break now and then. It prints a line each
+second and a table at the end. If more was ever sold than issued, if buyers were told more or less than was sold, or if any
+other sum is wrong, it prints an error and exits with status 1. The seed determines the buyers and the plan, not how
+processes and the threads of the sites are scheduled.
 """
 
 import argparse
@@ -22,7 +23,7 @@ HERE = os.path.dirname(os.path.abspath(__file__))
 sys.path.insert(0, os.path.join(HERE, "..", "..", "python"))
 
 from picture import draw  # noqa: E402
-from proxies import Link, Witness, free_ports  # noqa: E402
+from proxies import Front, Link, Witness, free_ports  # noqa: E402
 from rights_http import AnswerLost, SiteClient, SiteUnreachable  # noqa: E402
 from rights_site import PROGRAM, Site, SiteEnded  # noqa: E402
 
@@ -32,6 +33,8 @@ SITES = (1, 2, 3)
 BUYERS = {1: 2, 2: 3, 3: 7}
 # How often each of them buys per second, on average.
 PACE = 3
+# The connection of a buyer breaks at one of so many blocks of bytes. A purchase takes three: head, body and answer.
+ODDS = 30
 # The milliseconds between two ticks of a site.
 TICK = 40
 # The seconds between two checks of all sites.
@@ -49,7 +52,7 @@ class Office:
 
     def __init__(self, site):
         self.site = site
-        self.sums = {"sold": 0, "refused": 0, "unknown": 0}
+        self.sums = {"sold": 0, "refused": 0}
         self.ready = threading.Semaphore(0)
         self.buyers = []
         self.readers = []
@@ -149,9 +152,10 @@ class Sale:
             )
         self.clients = {site: SiteClient(self.addresses[site]) for site in SITES}
         self.offices = {site: Office(site) for site in SITES}
+        self.fronts = {site: Front(self.addresses[site], random.Random(seed * 10 + site), ODDS) for site in SITES}
         self.issued = 0
         for site, office in self.offices.items():
-            office.open(self.addresses[site], seed)
+            office.open(self.fronts[site].address, seed)
         self.start = time.monotonic()
         self.moments = []
         self.notes = []
@@ -348,7 +352,7 @@ def last_look(sale):
         raise WrongSum("the sites did not come to rest")
     for site, office in sale.offices.items():
         spent, sums = last.statuses[site]["spent"], office.sums
-        if not sums["sold"] <= spent <= sums["sold"] + sums["unknown"]:
+        if sums["sold"] != spent:
             raise WrongSum(f"site {site} reported {sums} to its buyers, but spent {spent}")
     if sum(last.held.values()) + last.spent + sum(last.way_to.values()) != last.issued:
         raise WrongSum("held + sold + in transit is not what was issued")
@@ -403,6 +407,8 @@ def main():
     back = sum(sale.witness.taken_back().values())
     print(f"\nlines lost in cuts: {sum(proxy.lost for proxy in sale.proxies.values()):,}; "
           f"reclaimed from site 3, which closed: {back}")
+    print(f"connections of buyers that broke: {sum(front.broken for front in sale.fronts.values()):,}; "
+          "each buyer was told what it has")
     print(f"held + sold + in transit = issued: seen at {len(sale.moments):,} moments, "
           f"and from the lines too at {sale.known:,} of them")
     print("all sums are right")

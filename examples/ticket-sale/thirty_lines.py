@@ -8,7 +8,7 @@ import tempfile
 import time
 
 sys.path.insert(0, os.path.join(os.path.dirname(os.path.abspath(__file__)), "..", "..", "python"))
-from rights_http import AnswerLost, SiteClient, Spent  # noqa: E402
+from rights_http import SiteClient, Spent  # noqa: E402
 from rights_site import Site  # noqa: E402
 
 HTTP = {1: "127.0.0.1:8001", 2: "127.0.0.1:8002"}
@@ -18,13 +18,10 @@ def seller(number):
     """Sells one by one at a site, until no right arrives there within two seconds. Returns how many it sold."""
     sold = 0
     with SiteClient(HTTP[number]) as site:
-        while True:
-            try:
-                if not isinstance(site.spend(1, within=2.0), Spent):
-                    return sold
-            except AnswerLost:
-                pass  # it may have been sold, so it counts as sold, and is not sent again
+        # A lost answer is asked for again, by the key that each spend gets.
+        while isinstance(site.spend(1, within=2.0), Spent):
             sold += 1
+    return sold
 
 
 if __name__ == "__main__":

@@ -30,13 +30,13 @@ use Rattle.site_http.specs.declared.route.Route.TheVariants.{Health, Page, Forei
 use Rattle.desk_turns.specs.Seated.{SeatedValue}
 use Rattle.site_server.specs.Replying.{asked_under, TellsStatus, TellsQueue}
 use Rattle.site_server.specs.Measuring.{TellsMetrics, TellsClosed}
-use Rattle.site_server.specs.Settling.{Settles}
+use Rattle.site_server.specs.Settling.{Settles, is_unknown}
 use Rattle.site_server.specs.Connections.{ClientValue, Tells, TellsSettled, TellsBy, Answers, Responded}
 use Rattle.site_server.specs.Conversations.{IsTurn}
-use Rattle.site_server.specs.Requests.{turns_under, IsSettledTurn, IsQueued, AreTurnsOf, AreBodyTurns, AreRouteTurns, AreCallsTurns}
+use Rattle.site_server.specs.Requests.{IsSettledTurn, IsQueued, AreTurnsOf, AreBodyTurns, AreRouteTurns, AreCallsTurns}
 use Rattle.site_server.specs.Requests.{CountsCalls}
 use Rattle.site_server.proofs.ConfirmedTurns.{both}
-use Rattle.site_server.proofs.KeyedLaws.{settled_counted}
+use Rattle.site_server.proofs.KeyedLaws.{again_turns, keyed_turns}
 use Rattle.site_server.proofs.ConfirmedLaws.{turns_of_line}
 use Rattle.site_server.proofs.SettleLaws.{keeps_told, cancel_keeps_told, waited_told}
 
@@ -168,8 +168,14 @@ module _ {P : Type 0} (size : P → ℕ) (sends : P → ℕ → ℕ → P → Ty
       )
   settled_turns HasEnded HasLeft (Some (Keyed key command)) was before answer now after h =
       let c = h.0 in
-      let found = settled_counted HasEnded HasLeft id was key command c.settled now c.settles in
-      (turns_under command found.0, (c.settled, found.0, refl, c.says), found.1)
+      let first = keyed_turns id was key command c.reply c.half c.at_desk in
+      let same = settled_told HasEnded HasLeft id c.half c.reply c.waited c.last c.settles in
+      let half = subst (λ (s : SeatValue). HasTurns was.told first.0 s) (sym same) first.2 in
+      let last = again_turns (is_unknown c.waited) id c.last key command c.waited c.told now c.again in (
+        first.0 ++ last.0,
+        (c.told, first.0, last.0, (c.reply, first.1), (c.told, last.1), refl, c.says),
+        both was.told c.last.told now.told first.0 last.0 half last.2,
+      )
   settled_turns HasEnded HasLeft (Some BadKey) was before answer now after h
       = tells_turns (Some BadKey) was before answer now after h
   settled_turns HasEnded HasLeft (Some (Tick time)) was before answer now after h

@@ -1,5 +1,5 @@
 -- The requests of a connection and their responses, as the turns that the client's seat counts.
-use Rattle.std.specs.Prelude.{◌≡◌, ◌⊎◌, ℕ, List, [], ◌∷◌, ◌++◌, Option, Some, None, map}
+use Rattle.std.specs.Prelude.{◌≡◌, ◌⊎◌, ℕ, List, [], ◌∷◌, ◌++◌, Option, Some, None}
 use Rattle.http.specs.declared.request.Request.{Request}
 use Rattle.http.specs.Request.{body_of}
 use Rattle.http_server.specs.Exchange.{Call}
@@ -8,9 +8,9 @@ use Rattle.line_streams.specs.Talk.{lines_of}
 use Rattle.refusals.specs.Refusals.{LineAnswer}
 use Rattle.site_core.specs.declared.desk.requests.Spending.TheVariants.{Queued}
 use Rattle.apply_lanes.specs.Kepts.{SeatValue}
+use Rattle.site_words.specs.declared.commands.DeskCommand.{DeskCommand}
 use Rattle.site_words.specs.declared.commands.SiteCommand.{SiteCommand}
 use Rattle.site_words.specs.declared.commands.SiteCommand.TheVariants.{AtDesk, Keyed}
-use Rattle.site_words.specs.declared.commands.DeskCommand.{DeskCommand}
 use Rattle.site_node.specs.Texts.{reply_text}
 use Rattle.site_node.specs.Confirmed.{Turn, ACommand, HasTurns, CountsConfirmed}
 use Rattle.site_node.specs.declared.reply.Reply.{Reply}
@@ -29,17 +29,17 @@ use Rattle.site_server.specs.Conversations.{IsTurn}
 abbrev pub IsQueued : Reply → Type 0
 IsQueued reply = (ticket : ℕ) × (reply ≡ Spending (Queued ticket))
 
--- turns that carried out this command, with these replies
-abbrev pub turns_under : DeskCommand → List Reply → List Turn
-turns_under command replies = map (λ reply. ACommand command reply) replies
+-- one turn that carried out the command, or none
+abbrev pub MayCarryOut : DeskCommand → List Turn → Type 0
+MayCarryOut command turns = (reply : Reply) × ((turns ≡ ACommand command reply ∷ []) ⊎ (turns ≡ []))
 
--- The turn of a line whose client waits: it gets the reply, or for a queued spend the outcome. A command under a key is
--- repeated while its spend waits; the turns are those in which it was carried out.
+-- the turns of a line whose client waits: it gets the reply, or for a queued spend the outcome; under a key it may ask twice
 abbrev pub IsSettledTurn : Option SiteCommand → List ℕ → List Turn → Type 0
 IsSettledTurn (Some (AtDesk command)) text turns =
     (reply : Reply) × (turns ≡ ACommand command reply ∷ []) × ((text ≡ reply_text reply) ⊎ IsQueued reply)
 IsSettledTurn (Some (Keyed key command)) text turns =
-    (settled : Reply) × (replies : List Reply) × (turns ≡ turns_under command replies) × (text ≡ reply_text settled)
+    (told : Reply) × (first : List Turn) × (last : List Turn) × MayCarryOut command first × MayCarryOut command last
+    × (turns ≡ first ++ last) × (text ≡ reply_text told)
 IsSettledTurn command text turns = IsTurn command text turns
 
 module _ (key : Option (List ℕ)) (is_turn : Option SiteCommand → List ℕ → List Turn → Type 0) where

@@ -1,6 +1,6 @@
 -- What a client gets that waits for the outcome of its spend.
 use Rattle.std.specs.Prelude.{◌≡◌, ◌⊎◌, ℕ, suc, zero, Bool, true, false, List}
-use Rattle.request_queue.specs.declared.request.Status.TheVariants.{Waiting}
+use Rattle.request_queue.specs.declared.request.Status.TheVariants.{Waiting, Unknown}
 use Rattle.site_core.specs.declared.desk.requests.Spending.TheVariants.{Queued}
 use Rattle.apply_lanes.specs.Names.{DeskId}
 use Rattle.refusals.specs.Refusals.{LineAnswer}
@@ -73,65 +73,26 @@ pub record SettlesCommand (HasEnded HasLeft : Type 0) (id : DeskId) (was : Seate
   pub says : answer.text ≡ reply_text settled
   pub how : answer.how ≡ reply_answered settled
 
--- ---- under a key
+-- the reply says that there is no outcome, as where somebody else was told it
+abbrev pub is_unknown : Reply → Bool
+is_unknown (Outcome Unknown) = true
+is_unknown reply = false
 
--- the reply says that a spend is queued
-abbrev pub is_queued : Reply → Bool
-is_queued (Spending (Queued ticket)) = true
-is_queued reply = false
+-- then the command under its key is asked again, in one turn; any other reply is the client's
+abbrev pub AsksAgain : Bool → DeskId → SeatedValue → List ℕ → DeskCommand → Reply → Reply → SeatedValue → Type 0
+AsksAgain true id was key command waited told now = ActsKeyedAtDesk id was key command told now
+AsksAgain false id was key command waited told now = (told ≡ waited) × (now ≡ was)
 
--- in one turn, the reply to the command under this key was that it is queued
-pub record ToldQueued (id : DeskId) (was : SeatedValue) (key : List ℕ) (command : DeskCommand)
-    (now : SeatedValue) : Type 0 where
-  pub reply : Reply
-  pub at_desk : ActsKeyedAtDesk id was key command reply now
-  pub waits : is_queued reply ≡ true
-
--- the same in this many turns, one after another
-abbrev pub WaitsUnder : DeskId → ℕ → SeatedValue → List ℕ → DeskCommand → SeatedValue → Type 0
-WaitsUnder id zero was key command now = now ≡ was
-WaitsUnder id (suc n) was key command now =
-    (mid : SeatedValue) × WaitsUnder id n was key command mid × ToldQueued id mid key command now
-
-pub record HasWaitedUnder (id : DeskId) (was : SeatedValue) (key : List ℕ) (command : DeskCommand)
-    (now : SeatedValue) : Type 0 where
-  pub times : ℕ
-  pub waits : WaitsUnder id times was key command now
-
--- after such turns, in one more, the reply to the command under this key was another
-pub record TellsUnder (id : DeskId) (was : SeatedValue) (key : List ℕ) (command : DeskCommand) (settled : Reply)
-    (now : SeatedValue) : Type 0 where
-  pub mid : SeatedValue
-  pub waited : HasWaitedUnder id was key command mid
-  pub at_desk : ActsKeyedAtDesk id mid key command settled now
-  pub decided : is_queued settled ≡ false
-
--- after such turns, the site has ended, and the client gets that its spend is queued
-pub record EndsUnder (HasEnded : Type 0) (id : DeskId) (was : SeatedValue) (key : List ℕ) (command : DeskCommand)
-    (settled : Reply) (now : SeatedValue) : Type 0 where
-  pub waited : HasWaitedUnder id was key command now
-  pub ended : HasEnded
-  pub queued : is_queued settled ≡ true
-
--- after such turns, the client has left, and in one more the desk ended the wait of its spend
-pub record LeavesUnder (HasLeft : Type 0) (id : DeskId) (was : SeatedValue) (key : List ℕ) (command : DeskCommand)
-    (settled : Reply) (now : SeatedValue) : Type 0 where
-  pub mid : SeatedValue
-  pub waited : HasWaitedUnder id was key command mid
-  pub left : HasLeft
-  pub ticket : ℕ
-  pub at_desk : ActsAtDesk id mid (Cancels ticket) settled now
-
--- what a client that waits gets for its command under a key
-abbrev pub SettlesUnder : Type 0 → Type 0 → DeskId → SeatedValue → List ℕ → DeskCommand → Reply → SeatedValue → Type 0
-SettlesUnder HasEnded HasLeft id was key command settled now =
-    TellsUnder id was key command settled now ⊎ EndsUnder HasEnded id was key command settled now
-    ⊎ LeavesUnder HasLeft id was key command settled now
-
--- .. and this answer tells it
+-- the same for a command under a key
 pub record SettlesKeyedCommand (HasEnded HasLeft : Type 0) (id : DeskId) (was : SeatedValue) (key : List ℕ)
     (command : DeskCommand) (answer : LineAnswer) (now : SeatedValue) : Type 0 where
-  pub settled : Reply
-  pub settles : SettlesUnder HasEnded HasLeft id was key command settled now
-  pub says : answer.text ≡ reply_text settled
-  pub how : answer.how ≡ reply_answered settled
+  pub reply : Reply
+  pub waited : Reply
+  pub told : Reply
+  pub half : SeatedValue
+  pub last : SeatedValue
+  pub at_desk : ActsKeyedAtDesk id was key command reply half
+  pub settles : Settles HasEnded HasLeft id half reply waited last
+  pub again : AsksAgain (is_unknown waited) id last key command waited told now
+  pub says : answer.text ≡ reply_text told
+  pub how : answer.how ≡ reply_answered told

@@ -1,10 +1,10 @@
 //! The reply to a client that waits for the outcome of its spend.
-ghost use Rattle.std.specs.Prelude.{◌≡◌, ◌+◌, ◌≤◌, [], List, ℕ, length, is_some, IfOk, OnOk, OnErr};
+ghost use Rattle.std.specs.Prelude.{◌≡◌, ◌+◌, ◌≤◌, [], List, ℕ, length, IfOk, OnOk, OnErr};
 ghost use Rattle.line_streams.specs.Waiting.{AddsReply};
 ghost use Rattle.site_node.specs.declared.reply.Reply.TheVariants.{Spending as Spends};
 ghost use Rattle.site_core.specs.declared.desk.requests.Spending.TheVariants.{Queued as IsQueued};
-ghost use Rattle.site_server.specs.Settling.{Settles, SettlesCommand, still_waits};
-ghost use Rattle.site_server.specs.Settling.{SettlesUnder, SettlesKeyedCommand, is_queued};
+ghost use Rattle.site_server.specs.Settling.{Settles, SettlesCommand, SettlesKeyedCommand, AsksAgain, still_waits};
+ghost use Rattle.site_server.specs.Settling.{is_unknown};
 
 use crate::site::client::SiteClient;
 use crate::site::tick_signal::{TickSignal, Woken};
@@ -97,42 +97,36 @@ impl<D: DeskNames, R: Wait, P: Peers + Drop, B: TickSignal + Drop> SiteClient<'_
     {
         // Reserved first, so that a command is carried out only if its reply has room.
         replies.reserve(REPLY_ROOM)?;
-        let settled = self.settled_under(key, command);
-        Ok(answer_reply(replies, settled))
+        // Read before the command, so that no tick after it is missed.
+        let before = self.signal.count();
+        let same_key = key;
+        let same_command = command;
+        let answer = self.act_keyed(key, command);
+        let waited = self.settled(answer, before);
+        let told = self.asked_again(same_key, same_command, waited);
+        Ok(answer_reply(replies, told))
     }
 
-    /// The reply to a command under a key, which is repeated, tick by tick, while its spend is queued. If the client
-    /// leaves, the spend is cancelled. At the end of the site the reply is that it is queued.
-    #[tactic(auto, using(crate::proofs::KeyedLaws::none_under, crate::proofs::KeyedLaws::waits_under_again, crate::proofs::KeyedLaws::tells_under, crate::proofs::KeyedLaws::ends_under, crate::proofs::KeyedLaws::leaves_under))]
-    fn settled_under(&mut self, key: Key, command: DeskCommand) -> Reply
-        ensures settles { SettlesUnder (B.has_ended self.old.signal) (B.has_left self.old.signal) D.id self.old.seat key command result
-            self.new.seat }
+    /// What a command under a key is told after this reply: where somebody else was told the outcome, that of its repeat.
+    fn asked_again(&mut self, key: Key, command: DeskCommand, waited: Reply) -> Reply
+        ensures again { AsksAgain (is_unknown waited) D.id self.old.seat key command waited result self.new.seat }
         ensures rest { self.new ≡ record self.old { seat = self.new.seat } }
     {
-        // Read before the command, so that no tick after it is missed.
-        let mut seen = self.signal.count();
-        'ticks: for _ in self.rt.forever() {
-            let reply = self.act_keyed(key, command);
-            let Some(queued) = queued_in(reply) else {
-                return reply;
-            };
-            match self.signal.next(seen) {
-                Woken::ByTick(count) => seen = count,
-                Woken::ByEnd => return reply,
-                Woken::ByClient => return self.act(DeskCommand::Cancel(queued)),
-            }
+        if is_unknown(&waited) {
+            self.act_keyed(key, command)
+        } else {
+            waited
         }
-        unreachable!()
     }
 }
 
-/// The ticket of a spend that is queued, according to this reply.
-fn queued_in(reply: Reply) -> Option<u64>
-    ensures { is_some result ≡ is_queued reply }
+/// Whether there is no outcome, according to this reply.
+fn is_unknown(reply: &Reply) -> bool
+    ensures { result ≡ is_unknown reply.now }
 {
     match reply {
-        Reply::Spending(Spending::Queued(ticket)) => Some(ticket),
-        _ => None,
+        Reply::Outcome(Status::Unknown) => true,
+        _ => false,
     }
 }
 
