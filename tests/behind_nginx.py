@@ -168,6 +168,16 @@ def a_password_reads_and_a_token_sells():
         expect(sites[1].status()["held"], 8)
 
 
+def a_key_goes_through_it():
+    with alone(tick=50) as sites, Nginx(sites.address()) as nginx:
+        sites[1].ask("issue 10")
+        keyed = {"Idempotency-Key": "order-1", **bearer(TOKEN)}
+        for target in ("/", "/wait", "/"):
+            expect(nginx.request("POST", target, "take 2\n", **keyed), (200, "spent 2\n"))
+        expect(nginx.request("POST", "/", "take 3\n", **keyed), (409, "error KeyReused\n"))
+        expect(sites[1].status()["held"], 8)
+
+
 def the_python_client_sells_through_it():
     """By TLS and with its token, from some threads. Without it, or with no trust in the authority, it sells nothing."""
     with alone(tick=20) as sites, Nginx(sites.address()) as nginx:
@@ -244,7 +254,7 @@ def a_site_that_is_down_is_told_from_one_that_refuses():
 
 CASES = [
     case("BehindNginx", [
-        whoever_shows_nothing_is_refused, a_password_reads_and_a_token_sells, the_python_client_sells_through_it,
+        whoever_shows_nothing_is_refused, a_password_reads_and_a_token_sells, a_key_goes_through_it, the_python_client_sells_through_it,
         a_client_that_goes_takes_its_spend_along, a_command_without_an_answer_is_asked_for_by_its_key_alone,
         a_site_that_is_down_is_told_from_one_that_refuses,
     ]),

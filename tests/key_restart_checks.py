@@ -145,14 +145,15 @@ def a_site_that_is_told_to_remember_fewer_keys_forgets_the_oldest(trial):
         expect(site.status()["keys"], 3, "how many keys are remembered")
         expect(site.say("key k8 take 8", "key k6 take 6", "key k6 take 1", "key k5 issue 1"), ["spent 9", "spent 7", "error KeyReused", "number 10"])
         site.kill()
+        site.keys = 1
+        site.start()
+        expect(site.status()["keys"], 1, "how many keys are remembered")
+        expect(site.say("key k5 issue 1", "key k8 issue 4", "key k8 issue 4"), ["number 10", "number 11", "number 11"])
+        site.kill()
         site.keys = 0
         site.start()
         expect("keys" in site.status(), False, "whether any key is remembered")
-        expect(site.say("key k8 take 8", "key k5 issue 1", "key new issue 1", "issue 2"), ["error KeyRefused"] * 3 + ["number 11"])
-        site.kill()
-        site.keys = 1
-        site.start()
-        expect(site.say("key new issue 3", "key new issue 3", "key k8 issue 4"), ["number 12", "number 12", "number 13"])
+        expect(site.say("key k8 issue 4", "key k5 issue 1", "key new issue 1", "issue 2"), ["error KeyRefused"] * 3 + ["number 12"])
 
 
 def many_keys_stand(trial):

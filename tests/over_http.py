@@ -81,6 +81,9 @@ def curl():
         expect(curls("-w", "%{http_code}", "-H", "Origin: x", "-d", "spend 1 0", "-o", "/dev/null", url), "403")
         expect(curls(f"{url}/healthz").strip(), "ok")
         expect("rights_held 10\n" in curls(f"{url}/metrics"), True)
+        for _ in range(2):
+            expect(curls("-H", "Idempotency-Key: order-1", "-d", "give 2 1", url), "number 4\n")
+        expect(curls("-w", "%{http_code}", "-H", "Idempotency-Key: order-1", "-d", "give 2 2", url), "error KeyReused\n409")
         expect(curls("-I", url).splitlines()[0], "HTTP/1.1 200 OK")
         expect(curls(url, url).lower().count("<!doctype html>"), 2)
 
