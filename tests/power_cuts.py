@@ -240,6 +240,12 @@ class Cut:
         expect([fact for fact in self.told if not has(holdings, fact)], [], f"{what}: what was told")
 
 
+def without_clock(command):
+    """The same command for a site that has no clock of its own: the deadline of a spend does not count."""
+    begin, ahead, _ = command.partition(" +")
+    return f"{begin} 0" if ahead else begin
+
+
 def starts_on(sites, content, cut, what, commands):
     """Starts site 1 on this file: it has all that was told, and goes on with the next number and a new ticket. `commands`
     are those that it may have carried out under keys."""
@@ -254,7 +260,7 @@ def starts_on(sites, content, cut, what, commands):
     cut.check(b"".join(batch(*records) for records in batches), what)
     expect(fault_of_keys(read_batches(now)[0]), None, what)
     status, keys = sites.agrees(1), sites.holdings(1).keys
-    again = site.ask_all([command for command in commands if parted(command)[0] in keys])
+    again = site.ask_all([without_clock(command) for command in commands if parted(command)[0] in keys])
     numbers = [number for _, number in (reply.split(" ") for reply in again)]
     expect(sorted(map(int, numbers)), sorted(keys.values()), f"{what}: repeats, {again}")
     replies = site.ask_all(["issue 5", "spend 1000000 9"])
