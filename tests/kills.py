@@ -344,7 +344,7 @@ os.execv({program!r}, [{program!r}, *sys.argv[1:]])
 WITHOUT = 'batches = [[it for it in records if it[0] != "%s"] for records in batches]'
 LOST = (
     "given out twice|no such number|told twice|two entries|which is|went_back|not within|in no journal|"
-    "started once more"
+    "started once more|what site [0-9]+ applied of site"
 )
 WRONG = {
     "its last batch": ("del batches[-1:]", LOST),
