@@ -21,7 +21,7 @@ fn answers_add_up(rt: HostRuntime) {
     counters.note_answer(WRITERS, Answered::Done);
     counters.note_refused(Refusal::OwnClock);
     assert!(rt; counters.commands() == 8);
-    assert!(rt; counters.refused() == [1, 0, 0, 0, 0, 0, 0, 0, 2, 0, 0, 0, 0, 0, 1, 0, 1]);
+    assert!(rt; counters.refused() == [1, 0, 0, 0, 0, 0, 0, 0, 2, 0, 0, 0, 0, 0, 1, 0, 1, 0, 0, 0]);
 }
 
 fn note_all(counters: &Counters) {
