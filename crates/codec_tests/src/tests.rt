@@ -1,12 +1,12 @@
 //! What is read is written again unchanged, faults are reported in their order, and no call requests more
 //! memory than it needs.
 
-mod cutting;
+mod cutters;
 mod decimals;
 mod faults;
 mod lengths;
+mod memory;
 mod messages;
 mod pieces;
-mod reading;
 mod texts;
-mod writing;
+mod values;

@@ -1,8 +1,9 @@
 //! The log by its public calls alone.
 mod blocks;
+mod calls;
 mod examples;
-mod helpers;
-mod longest;
 mod memory;
 mod room;
+mod scripts;
 mod sizes;
+mod texts;

@@ -1,11 +1,13 @@
-//! What the test crates share: moves and entries from bare numbers, calls with each memory request refused in turn,
-//! streams that read or write few bytes at a time, and pseudo-random numbers. No part of the product uses it.
+//! What the test crates share: moves and entries from bare numbers, text with holes for numbers, calls with each memory
+//! request refused in turn, streams that read or write few bytes at a time, and pseudo-random numbers. No part of the
+//! product uses it.
 #![tactic(auto)]
 
 mod dice;
 mod memory;
 mod moves;
 mod streams;
+mod templates;
 
 pub use dice::Dice;
 pub use memory::requests_of;
@@ -14,3 +16,4 @@ pub use moves::{
     move_of_kind, site, spend, take_back,
 };
 pub use streams::{FewAtATime, Slow};
+pub use templates::fill;

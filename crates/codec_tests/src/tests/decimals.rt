@@ -2,54 +2,56 @@
 
 use entry_codec::{LineError, Place, read_decimal};
 
-const DECIMALS: [(&str, Option<u64>); 22] = [
-    ("0", Some(0)),
-    ("9", Some(9)),
-    ("1000000000", Some(1_000_000_000)),
-    ("9999999999999999999", Some(9_999_999_999_999_999_999)),
-    ("10000000000000000000", Some(10_000_000_000_000_000_000)),
-    ("18446744073709551615", Some(u64::MAX)),
-    ("18446744073709551616", None),
-    ("20000000000000000000", None),
-    ("99999999999999999999", None),
-    ("100000000000000000000", None),
-    ("00000000000000000000005", None),
-    ("", None),
-    ("00", None),
-    ("05", None),
-    ("+5", None),
-    ("-0", None),
-    ("5 ", None),
-    (" 5", None),
-    ("5x", None),
-    ("1000000000000000000x", None),
-    ("1844674407370955161x", None),
-    ("18446744073709551615x", None),
+/// Texts, the least and the greatest number that are permitted, and the number that is read. Among them are the
+/// greatest numbers of one digit, of ten, of as many as are always safe, and of all.
+const DECIMALS: [(&str, u64, u64, Option<u64>); 27] = [
+    ("0", 0, u64::MAX, Some(0)),
+    ("9", 0, u64::MAX, Some(9)),
+    ("1000000000", 0, u64::MAX, Some(1_000_000_000)),
+    (
+        "9999999999999999999",
+        0,
+        u64::MAX,
+        Some(9_999_999_999_999_999_999),
+    ),
+    (
+        "10000000000000000000",
+        0,
+        u64::MAX,
+        Some(10_000_000_000_000_000_000),
+    ),
+    ("18446744073709551615", 0, u64::MAX, Some(u64::MAX)),
+    ("18446744073709551616", 0, u64::MAX, None),
+    ("20000000000000000000", 0, u64::MAX, None),
+    ("99999999999999999999", 0, u64::MAX, None),
+    ("100000000000000000000", 0, u64::MAX, None),
+    ("00000000000000000000005", 0, u64::MAX, None),
+    ("", 0, u64::MAX, None),
+    ("00", 0, u64::MAX, None),
+    ("05", 0, u64::MAX, None),
+    ("+5", 0, u64::MAX, None),
+    ("-0", 0, u64::MAX, None),
+    ("5 ", 0, u64::MAX, None),
+    (" 5", 0, u64::MAX, None),
+    ("5x", 0, u64::MAX, None),
+    ("1000000000000000000x", 0, u64::MAX, None),
+    ("1844674407370955161x", 0, u64::MAX, None),
+    ("18446744073709551615x", 0, u64::MAX, None),
+    ("0", 1, 16, None),
+    ("1", 1, 16, Some(1)),
+    ("16", 1, 16, Some(16)),
+    ("17", 1, 16, None),
+    ("18446744073709551615", 0, u64::MAX - 1, None),
 ];
 
-/// The greatest numbers of one digit, of ten, of as many as are always safe, and of all.
 #[test]
 fn decimals(rt: HostRuntime) {
-    for (text, expected) in &DECIMALS {
+    for (text, least, most, wanted) in &DECIMALS {
         assert!(rt;
-            read_decimal(text.as_bytes(), 0, u64::MAX) == *expected,
+            read_decimal(text.as_bytes(), *least, *most) == *wanted,
             "{text}"
         );
     }
-}
-
-// Whether the text is read as this if numbers from 1 to 16 are permitted.
-fn is_site(text: &[u8], wanted: Option<u64>) -> bool {
-    read_decimal(text, 1, 16) == wanted
-}
-
-#[test]
-fn ranges(rt: HostRuntime) {
-    assert!(rt; is_site(b"0", None));
-    assert!(rt; is_site(b"1", Some(1)));
-    assert!(rt; is_site(b"16", Some(16)));
-    assert!(rt; is_site(b"17", None));
-    assert!(rt; read_decimal(b"18446744073709551615", 0, u64::MAX - 1).is_none());
 }
 
 const PLACE: Place = Place { part: 1, field: 2 };

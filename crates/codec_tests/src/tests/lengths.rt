@@ -1,12 +1,11 @@
 //! Lines of every length, with ample memory: what is read or cut is what was written. A body that gives up at some
 //! length can be proved, since it may always run out of memory; it is found here.
 
-use super::pieces::{gives_line, take};
-use super::texts::{is_again, is_entry_line, repeated};
-use entry_codec::{LineCutter, read_line, write_into, write_line};
+use super::texts::{Put, is_again, repeated};
+use entry_codec::{read_line, write_entry, write_into, write_line};
 use linked_list_allocator::LocalHeap;
 use rights_types::{MAX_LINE, Message};
-use std::alloc::{AllocError, Allocator};
+use std::alloc::{AllocError, Global};
 
 // The text of a move of each kind, those that close after the others.
 const MOVES: [&str; 7] = [
@@ -14,11 +13,7 @@ const MOVES: [&str; 7] = [
 ];
 
 // Adds an entry with this number of moves, of the kinds in turn; the last is of this kind.
-fn add_entry<A: Allocator>(
-    line: &mut Vec<u8, A>,
-    count: usize,
-    last: usize,
-) -> Result<(), AllocError> {
+fn add_entry(line: &mut Vec<u8>, count: usize, last: usize) -> Put {
     line.extend_from_slice(b"E 1 0 ")?;
     if count >= 10 {
         line.push(b'1')?;
@@ -30,15 +25,28 @@ fn add_entry<A: Allocator>(
     line.extend_from_slice(MOVES[last % 7].as_bytes())
 }
 
-fn entry_line<A: Allocator>(alloc: A, count: usize, last: usize) -> Result<Vec<u8, A>, AllocError> {
+fn entry_line(alloc: Global, count: usize, last: usize) -> Result<Vec<u8>, AllocError> {
     let mut line = Vec::new(alloc);
     add_entry(&mut line, count, last)?;
     line.push(b'\n')?;
     Ok(line)
 }
 
+// Whether the message is an entry that is written as this.
+fn is_entry_line(alloc: Global, message: &Message, line: &[u8]) -> bool {
+    match message {
+        Message::Push(entry) => {
+            match write_entry(alloc, entry) {
+                Ok(text) => text.as_slice() == line,
+                Err(_) => false,
+            }
+        }
+        _ => false,
+    }
+}
+
 // Whether an entry with this number of moves is read, and written again unchanged.
-fn is_entry_again<A: Allocator + Copy>(alloc: A, count: usize, last: usize) -> bool {
+fn is_entry_again(alloc: Global, count: usize, last: usize) -> bool {
     let Ok(line) = entry_line(alloc, count, last) else {
         return false;
     };
@@ -62,7 +70,7 @@ fn entries_of_every_count(rt: HostRuntime) {
 }
 
 // An answer with entries of 1, 2 and more moves.
-fn answer_line<A: Allocator>(alloc: A, entries: usize) -> Result<Vec<u8, A>, AllocError> {
+fn answer_line(alloc: Global, entries: usize) -> Result<Vec<u8>, AllocError> {
     let mut line = Vec::from_slice(alloc, b"A 1 2")?;
     for count in 1..=entries {
         line.push(b';')?;
@@ -82,7 +90,7 @@ fn answers_of_every_count(rt: HostRuntime) {
 }
 
 // Removes one zero from the last number that has more than one digit and ends in zero, if there is one.
-fn shorten<A: Allocator>(line: &mut Vec<u8, A>) -> bool {
+fn shorten(line: &mut Vec<u8>) -> bool {
     let mut found = 0;
     for at in 1..line.len() {
         if line[at] == b'0' && line[at - 1].is_ascii_digit() {
@@ -97,7 +105,7 @@ fn shorten<A: Allocator>(line: &mut Vec<u8, A>) -> bool {
 }
 
 // Whether the message is written as this line, in no more memory than its length, to the heap's next 16 bytes.
-fn is_written_within<A: Allocator>(heap: &LocalHeap, message: &Message<A>, line: &[u8]) -> bool {
+fn is_written_within(heap: &LocalHeap, message: &Message, line: &[u8]) -> bool {
     match write_line(heap, message) {
         Ok(text) => heap.used() <= line.len() + 16 && text.as_slice() == line,
         Err(_) => false,
@@ -105,7 +113,7 @@ fn is_written_within<A: Allocator>(heap: &LocalHeap, message: &Message<A>, line:
 }
 
 // Whether it is written in this way after another line.
-fn is_written_behind<A: Allocator + Copy>(alloc: A, message: &Message<A>, line: &[u8]) -> bool {
+fn is_written_behind(alloc: Global, message: &Message, line: &[u8]) -> bool {
     let Ok(mut buffer) = Vec::from_slice(alloc, b"H 1\n") else {
         return false;
     };
@@ -115,7 +123,7 @@ fn is_written_behind<A: Allocator + Copy>(alloc: A, message: &Message<A>, line: 
 }
 
 // Whether the line is read, and written again unchanged.
-fn is_kept<A: Allocator + Copy>(alloc: A, heap: &LocalHeap, line: &[u8]) -> bool {
+fn is_kept(alloc: Global, heap: &LocalHeap, line: &[u8]) -> bool {
     match read_line(alloc, line) {
         Ok(message) => {
             is_written_within(heap, &message, line) && is_written_behind(alloc, &message, line)
@@ -126,11 +134,7 @@ fn is_kept<A: Allocator + Copy>(alloc: A, heap: &LocalHeap, line: &[u8]) -> bool
 
 // Checks the line and all that result from removing zeros, and returns the length of the first that is not kept, or
 // else that of the last one.
-fn first_lost<A: Allocator + Copy>(
-    alloc: A,
-    heap: &LocalHeap,
-    line: &mut Vec<u8, A>,
-) -> Result<usize, usize> {
+fn first_lost(alloc: Global, heap: &LocalHeap, line: &mut Vec<u8>) -> Result<usize, usize> {
     for _ in 0..MAX_LINE {
         if !is_kept(alloc, heap, line) {
             return Err(line.len());
@@ -146,77 +150,36 @@ fn first_lost<A: Allocator + Copy>(
 const WIDE_ENTRY: &str =
     ";E 16 0 16 G:15:1000000000:1000000000 G:15:1000000000:1000000000 G:15:1000000000:1000000000 G:15:1000000000:1000000000 G:15:1000000000:1000000000 G:15:1000000000:1000000000 G:15:1000000000:1000000000 G:15:1000000000:1000000000 G:15:1000000000:1000000000 G:15:1000000000:1000000000 G:15:1000000000:1000000000 G:15:1000000000:1000000000 G:15:1000000000:1000000000 G:15:1000000000:1000000000 G:15:1000000000:1000000000 K:1000000000:1000000000:1000000000:1000000000:1000000000:1000000000:1000000000:1000000000:1000000000:1000000000:1000000000:1000000000:1000000000:1000000000:1000000000:0";
 
-// The length of this line, and that of the last line that results from removing zeros, if all are
-// kept.
-fn kept_lengths<A: Allocator + Copy>(
-    alloc: A,
-    heap: &LocalHeap,
-    front: &[u8],
-    text: &[u8],
-    times: usize,
-) -> Option<(usize, usize)> {
-    let Ok(mut line) = repeated(alloc, front, text, times, b"\n") else {
-        return None;
+// Whether a text with another one repeated has that length, and is kept together with all that result from removing
+// zeros, the last of which has that length.
+fn are_kept(alloc: Global, heap: &LocalHeap, span: &Span) -> bool {
+    let (front, text, times, longest, shortest) = *span;
+    let Ok(mut line) = repeated(alloc, front.as_bytes(), text.as_bytes(), times, b"\n") else {
+        return false;
     };
-    let longest = line.len();
-    match first_lost(alloc, heap, &mut line) {
-        Ok(shortest) => Some((longest, shortest)),
-        Err(_) => None,
-    }
+    line.len() == longest && first_lost(alloc, heap, &mut line) == Ok(shortest)
 }
 
-/// Answers of every length from 187 to 9,352 bytes.
+/// A text, another one that is repeated behind it, how often, and the lengths of the longest and of the shortest line.
+type Span = (&'static str, &'static str, usize, usize, usize);
+
+/// Answers of every length from 187 to 9,352 bytes, and entries of every length from 13 to 218 bytes.
+const SPANS: [Span; 9] = [
+    ("A 16 15", WIDE_ENTRY, 1, 592, 187),
+    ("A 16 15", WIDE_ENTRY, 2, 1176, 366),
+    ("A 16 15", WIDE_ENTRY, 4, 2344, 724),
+    ("A 16 15", WIDE_ENTRY, 8, 4680, 1440),
+    ("A 16 15", WIDE_ENTRY, 16, 9352, 2872),
+    ("E 16 0 1", " I:1000000000", 1, 22, 13),
+    ("E 16 0 4", " I:1000000000", 4, 61, 25),
+    ("E 16 0 8", " I:1000000000", 8, 113, 41),
+    ("E 16 0 16", " I:1000000000", 16, 218, 74),
+];
+
 #[test]
-fn answers_of_every_length(rt: HostRuntime) {
+fn lines_of_every_length(rt: HostRuntime) {
     let heap = LocalHeap::new(rt.alloc(), MAX_LINE).expect(&rt, "a heap");
-    let spans = [
-        (1, 592, 187),
-        (2, 1176, 366),
-        (4, 2344, 724),
-        (8, 4680, 1440),
-        (16, 9352, 2872),
-    ];
-    for (entries, longest, shortest) in spans {
-        let kept = kept_lengths(
-            rt.alloc(),
-            &heap,
-            b"A 16 15",
-            WIDE_ENTRY.as_bytes(),
-            entries,
-        );
-        assert_eq!(rt; kept, Some((longest, shortest)));
-    }
-}
-
-/// Entries of every length from 13 to 218 bytes.
-#[test]
-fn entries_of_every_length(rt: HostRuntime) {
-    let heap = LocalHeap::new(rt.alloc(), MAX_LINE).expect(&rt, "a heap");
-    let spans = [
-        (1, "E 16 0 1", 22, 13),
-        (4, "E 16 0 4", 61, 25),
-        (8, "E 16 0 8", 113, 41),
-        (16, "E 16 0 16", 218, 74),
-    ];
-    for (count, front, longest, shortest) in spans {
-        let kept = kept_lengths(rt.alloc(), &heap, front.as_bytes(), b" I:1000000000", count);
-        assert_eq!(rt; kept, Some((longest, shortest)));
-    }
-}
-
-// Whether the cutter takes this line whole, and returns it.
-fn is_given<A: Allocator + Copy>(cutter: &mut LineCutter<A>, line: &[u8]) -> bool {
-    take(cutter, line) == line.len() && gives_line(cutter, line)
-}
-
-/// A cutter returns lines of every length.
-#[test]
-fn pieces_of_every_length(rt: HostRuntime) {
-    let longest = repeated(rt.alloc(), b"", b"x", MAX_LINE - 1, b"\n").expect(&rt, "memory");
-    let mut cutter = LineCutter::new(rt.alloc()).expect(&rt, "a cutter");
-    assert_eq!(rt; longest.len(), MAX_LINE);
-    for length in 1..=longest.len() {
-        let line = &longest[longest.len() - length..];
-        assert!(rt; is_given(&mut cutter, line), "{length} bytes");
+    for span in &SPANS {
+        assert!(rt; are_kept(rt.alloc(), &heap, span), "{} bytes", span.3);
     }
 }

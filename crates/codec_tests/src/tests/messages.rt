@@ -1,18 +1,16 @@
 //! Messages that are read from their lines, and written again.
 
-use super::texts::{answer_of, is_again, is_entry_line, is_written, longest_entry, repeated};
-use entry_codec::{read_line, read_move, write_into};
-use rights_types::{Amount, AskNumber, Entry, Message, Move, SiteId, Total};
-use std::alloc::Allocator;
+use super::texts::{answer_of, is_again, is_written, longest_entry, repeated};
+use super::values::{put_field, put_read};
+use entry_codec::{read_line, write_into};
+use rights_types::Message;
+use std::alloc::Global;
 
-#[test]
-fn line_of_an_entry(rt: HostRuntime) {
-    let text = b"E 1 0 3 I:10 S:4 R:2:3\n".as_slice();
-    assert_eq!(rt; text.len(), 23);
-    assert!(rt; is_again(rt.alloc(), text));
-}
-
-const LEAST: [&str; 9] = [
+const AGAIN: [&str; 20] = [
+    "E 1 0 3 I:10 S:4 R:2:3\n",
+    // A take-back may come before other moves.
+    "E 1 0 2 V:2:5 I:1\n",
+    // The least values.
     "E 1 0 1 C\n",
     "E 1 0 7 I:1 S:1 G:2:1:1 R:2:1 V:2:1 V:3:1 K:0:0\n",
     "Q 1 2 0 0\n",
@@ -22,16 +20,7 @@ const LEAST: [&str; 9] = [
     "W 1 2 1 1\n",
     "D 1 2 1\n",
     "H 1\n",
-];
-
-#[test]
-fn lines_of_least_values(rt: HostRuntime) {
-    for line in &LEAST {
-        assert!(rt; is_again(rt.alloc(), line.as_bytes()), "{line}");
-    }
-}
-
-const GREATEST: [&str; 7] = [
+    // The greatest values.
     "E 16 999999999 1000000000 I:1000000000\n",
     "E 16 999999994 1000000000 I:1000000000 S:1000000000 G:15:1000000000:1000000000 R:15:1000000000 V:15:1000000000000000000 K:1000000000:1000000000:1000000000:1000000000:1000000000:1000000000:1000000000:1000000000:1000000000:1000000000:1000000000:1000000000:1000000000:1000000000:1000000000:0\n",
     "Q 16 15 1000000000 1000000000\n",
@@ -39,33 +28,91 @@ const GREATEST: [&str; 7] = [
     "W 16 15 1000000000 1000000000\n",
     "D 16 15 1000000000\n",
     "H 16\n",
+    // Sixteen moves, and sixteen entries.
+    "E 1 0 16 I:1 I:1 I:1 I:1 I:1 I:1 I:1 I:1 I:1 I:1 I:1 I:1 I:1 I:1 I:1 I:1\n",
+    "A 1 2;E 1 0 1 I:1;E 1 0 1 I:1;E 1 0 1 I:1;E 1 0 1 I:1;E 1 0 1 I:1;E 1 0 1 I:1;E 1 0 1 I:1;E 1 0 1 I:1;E 1 0 1 I:1;E 1 0 1 I:1;E 1 0 1 I:1;E 1 0 1 I:1;E 1 0 1 I:1;E 1 0 1 I:1;E 1 0 1 I:1;E 1 0 1 I:1\n",
 ];
 
 #[test]
-fn lines_of_greatest_values(rt: HostRuntime) {
-    for line in &GREATEST {
+fn lines_again(rt: HostRuntime) {
+    for line in &AGAIN {
         assert!(rt; is_again(rt.alloc(), line.as_bytes()), "{line}");
     }
 }
 
-/// The longest line has far fewer bytes than a line may have.
+/// Lines, and the values of their messages.
+const VALUES: [(&str, &str); 7] = [
+    ("Q 2 1 3 4\n", "query 2 1 3 4"),
+    ("B 2 3\n", "beat 2 3"),
+    ("W 2 1 3 4\n", "ask 2 1 3 4"),
+    ("D 2 1 3\n", "denial 2 1 3"),
+    ("H 2\n", "hello 2"),
+    ("E 2 3 5 I:7 S:8\n", "entry 2 3 5, issue 7, spend 8"),
+    (
+        "A 2 1;E 2 3 5 I:7 S:8\n",
+        "answer 2 1; entry 2 3 5, issue 7, spend 8",
+    ),
+];
+
 #[test]
-fn longest_line(rt: HostRuntime) {
-    let line = answer_of(rt.alloc(), 16).expect(&rt, "memory");
-    assert_eq!(rt; line.len(), 9608);
-    assert!(rt; is_again(rt.alloc(), &line));
+fn values(rt: HostRuntime) {
+    let mut text = String::new(rt.alloc());
+    for (line, wanted) in &VALUES {
+        text.clear();
+        put_read(rt.alloc(), &mut text, line.as_bytes()).expect(&rt, "memory");
+        assert!(rt; text.as_str() == *wanted, "{line}: {text}");
+    }
 }
 
-/// No proper prefix of a long line is a line.
+/// Fields, and the moves that they spell.
+const FIELDS: [(&str, &str); 20] = [
+    ("I:4", "issue 4"),
+    ("S:4", "spend 4"),
+    ("G:2:4:5", "grant 2 4 5"),
+    ("R:2:4", "give 2 4"),
+    ("C", "close"),
+    ("V:2:4", "take back 2 4"),
+    ("K:1:0", "close at 2"),
+    ("V:2:1000000000000000000", "take back 2 1000000000000000000"),
+    ("K:0:0:0:0:0:0:0:0:0:0:0:0:0:0:0:0", "close at 16"),
+    ("V:2:1000000000000000001", "no move"),
+    ("R:2:1000000001", "no move"),
+    ("G:17:4:5", "no move"),
+    ("G:2:4", "no move"),
+    ("R:2:4:5", "no move"),
+    ("K:0", "no move"),
+    ("K:0:0:0:0:0:0:0:0:0:0:0:0:0:0:0:0:0", "no move"),
+    ("C:", "no move"),
+    ("I", "no move"),
+    ("i:4", "no move"),
+    ("", "no move"),
+];
+
 #[test]
-fn fronts_of_the_longest_line(rt: HostRuntime) {
-    let line = answer_of(rt.alloc(), 16).expect(&rt, "memory");
-    for count in 0..line.len() {
-        assert!(rt;
-            read_line(rt.alloc(), &line[..count]).is_err(),
-            "the first {count} bytes"
-        );
+fn fields(rt: HostRuntime) {
+    let mut text = String::new(rt.alloc());
+    for (field, wanted) in &FIELDS {
+        text.clear();
+        put_field(&mut text, field).expect(&rt, "memory");
+        assert!(rt; text.as_str() == *wanted, "{field}: {text}");
     }
+}
+
+// Whether the line is that of an entry with sixteen moves.
+fn has_moves(alloc: Global, line: &[u8]) -> bool {
+    match read_line(alloc, line) {
+        Ok(message) => matches!(&message, Message::Push(entry) if entry.moves().len() == 16),
+        Err(_) => false,
+    }
+}
+
+/// The longest entry has sixteen moves, and the longest line far fewer bytes than a line may have.
+#[test]
+fn longest_lines(rt: HostRuntime) {
+    let entry = longest_entry(rt.alloc()).expect(&rt, "memory");
+    assert!(rt; has_moves(rt.alloc(), &entry) && is_again(rt.alloc(), &entry));
+    let line = answer_of(rt.alloc(), 16).expect(&rt, "memory");
+    assert!(rt; line.len() == 9608 && is_again(rt.alloc(), &line));
 }
 
 /// The lengths of the prefixes of the longest line that are lines once a line feed is added: `A 16 1`, `A 16 15`, and
@@ -76,7 +123,7 @@ const ENDED: [usize; 18] = [
 ];
 
 /// Whether the prefix with a line feed is a line, or not one, as expected. If it is, it is written again unchanged.
-fn is_line_if<A: Allocator + Copy>(alloc: A, is_line: bool, front: &[u8]) -> bool {
+fn is_line_if(alloc: Global, is_line: bool, front: &[u8]) -> bool {
     let Ok(text) = repeated(alloc, front, b"", 0, b"\n") else {
         return false;
     };
@@ -86,191 +133,46 @@ fn is_line_if<A: Allocator + Copy>(alloc: A, is_line: bool, front: &[u8]) -> boo
     }
 }
 
-#[test]
-fn ended_fronts_of_the_longest_line(rt: HostRuntime) {
-    let line = answer_of(rt.alloc(), 16).expect(&rt, "memory");
+// The length of the first proper prefix that is a line, or with a line feed is one or not as it should not.
+fn wrong_front(alloc: Global, line: &[u8]) -> Option<usize> {
     for count in 0..line.len() {
+        let front = &line[..count];
         let is_line = ENDED.contains(&(count + 1));
-        assert!(rt;
-            is_line_if(rt.alloc(), is_line, &line[..count]),
-            "the first {count} bytes"
-        );
+        if read_line(alloc, front).is_ok() || !is_line_if(alloc, is_line, front) {
+            return Some(count);
+        }
     }
+    None
 }
 
-/// The numbers of a message without entries, in the order of its line.
-fn numbers<A: Allocator>(message: &Message<A>) -> Option<[u64; 4]> {
-    match message {
-        Message::Query(query) => Some([
-            query.asker().number(),
-            query.origin().number(),
-            query.first(),
-            query.last(),
-        ]),
-        Message::Beat(beat) => Some([beat.origin().number(), beat.number(), 0, 0]),
-        Message::Ask(ask) => Some([
-            ask.asker().number(),
-            ask.asked().number(),
-            ask.ask().value(),
-            ask.amount().value(),
-        ]),
-        Message::Deny(denial) => Some([
-            denial.denier().number(),
-            denial.asker().number(),
-            denial.ask().value(),
-            0,
-        ]),
-        Message::Hello(site) => Some([site.number(), 0, 0, 0]),
-        _ => None,
-    }
-}
-
-/// Whether the line has these numbers.
-fn has_numbers<A: Allocator + Copy>(alloc: A, line: &[u8], expected: [u64; 4]) -> bool {
-    match read_line(alloc, line) {
-        Ok(message) => numbers(&message) == Some(expected),
-        Err(_) => false,
-    }
-}
-
+/// No proper prefix of a long line is a line, unless a line feed is added.
 #[test]
-fn values_of_short_kinds(rt: HostRuntime) {
-    assert!(rt; has_numbers(rt.alloc(), b"Q 2 1 3 4\n", [2, 1, 3, 4]));
-    assert!(rt; has_numbers(rt.alloc(), b"B 2 3\n", [2, 3, 0, 0]));
-    assert!(rt; has_numbers(rt.alloc(), b"W 2 1 3 4\n", [2, 1, 3, 4]));
-    assert!(rt; has_numbers(rt.alloc(), b"D 2 1 3\n", [2, 1, 3, 0]));
-    assert!(rt; has_numbers(rt.alloc(), b"H 2\n", [2, 0, 0, 0]));
-}
-
-/// Whether these are the values of `E 2 3 5 I:7 S:8`.
-fn has_values<A: Allocator>(entry: &Entry<A>) -> bool {
-    let moves = [Move::Issue(Amount::known(7)), Move::Spend(Amount::known(8))];
-    entry.origin().number() == 2
-        && entry.prev() == 3
-        && entry.own() == 5
-        && entry.moves() == moves.as_slice()
-}
-
-#[test]
-fn values_of_entries(rt: HostRuntime) {
-    let line = b"E 2 3 5 I:7 S:8\n";
-    let message = read_line(rt.alloc(), line).expect(&rt, "an entry");
-    assert!(rt; matches!(&message, Message::Push(entry) if has_values(entry)));
-    assert!(rt; is_entry_line(rt.alloc(), &message, line));
-}
-
-/// Whether the message is an entry with this number of moves.
-fn has_moves<A: Allocator>(message: &Message<A>, count: usize) -> bool {
-    match message {
-        Message::Push(entry) => entry.moves().len() == count,
-        _ => false,
-    }
-}
-
-#[test]
-fn entry_of_the_longest_moves(rt: HostRuntime) {
-    let line = longest_entry(rt.alloc()).expect(&rt, "memory");
-    let message = read_line(rt.alloc(), &line).expect(&rt, "an entry");
-    assert!(rt; has_moves(&message, 16));
-    assert!(rt; is_entry_line(rt.alloc(), &message, &line));
-}
-
-/// Whether this is the answer of site 2 to site 1 of the entry `E 2 3 5 I:7 S:8`.
-fn is_answer<A: Allocator>(message: &Message<A>) -> bool {
-    let Message::Answer(answer) = message else {
-        return false;
-    };
-    let [entry] = answer.entries() else {
-        return false;
-    };
-    answer.origin().number() == 2 && answer.asker().number() == 1 && has_values(entry)
-}
-
-#[test]
-fn values_of_answers(rt: HostRuntime) {
-    let answer = read_line(rt.alloc(), b"A 2 1;E 2 3 5 I:7 S:8\n").expect(&rt, "an answer");
-    assert!(rt; is_answer(&answer));
-}
-
-/// A take-back may come before other moves.
-#[test]
-fn take_back_first(rt: HostRuntime) {
-    assert!(rt; is_again(rt.alloc(), b"E 1 0 2 V:2:5 I:1\n"));
-}
-
-// Whether the field is that move.
-fn is_move(field: &[u8], m: Move) -> bool {
-    read_move(field) == Some(m)
-}
-
-#[test]
-fn moves_alone(rt: HostRuntime) {
-    let (peer, amount, ask) = (SiteId::known(2), Amount::known(4), AskNumber::known(5));
-    assert!(rt; is_move(b"I:4", Move::Issue(amount)));
-    assert!(rt; is_move(b"S:4", Move::Spend(amount)));
-    assert!(rt; is_move(b"G:2:4:5", Move::Grant { peer, amount, ask }));
-    assert!(rt; is_move(b"R:2:4", Move::Give { peer, amount }));
-    assert!(rt; is_move(b"C", Move::Close));
-    let amount = Total::known(4);
-    assert!(rt; is_move(b"V:2:4", Move::TakeBack { peer, amount }));
-}
-
-#[test]
-fn fields_that_are_moves(rt: HostRuntime) {
-    for field in [
-        "K:1:0",
-        "V:2:1000000000000000000",
-        "K:0:0:0:0:0:0:0:0:0:0:0:0:0:0:0:0",
-    ] {
-        assert!(rt; read_move(field.as_bytes()).is_some(), "{field}");
-    }
-}
-
-const NO_MOVES: [&str; 11] = [
-    "V:2:1000000000000000001",
-    "R:2:1000000001",
-    "G:17:4:5",
-    "G:2:4",
-    "R:2:4:5",
-    "K:0",
-    "K:0:0:0:0:0:0:0:0:0:0:0:0:0:0:0:0:0",
-    "C:",
-    "I",
-    "i:4",
-    "",
-];
-
-#[test]
-fn fields_that_are_no_moves(rt: HostRuntime) {
-    for field in NO_MOVES {
-        assert!(rt; read_move(field.as_bytes()).is_none(), "{field}");
-    }
+fn fronts_of_the_longest_line(rt: HostRuntime) {
+    let line = answer_of(rt.alloc(), 16).expect(&rt, "memory");
+    let wrong = wrong_front(rt.alloc(), &line);
+    assert!(rt; wrong.is_none(), "{wrong:?}");
 }
 
 /// Writes the message of the line after what is there, and returns whether it could.
-fn adds<A: Allocator + Copy>(alloc: A, buffer: &mut Vec<u8, A>, line: &[u8]) -> bool {
+fn adds(alloc: Global, buffer: &mut Vec<u8>, line: &[u8]) -> bool {
     match read_line(alloc, line) {
         Ok(message) => write_into(buffer, &message).is_ok(),
         Err(_) => false,
     }
 }
 
-/// Whether the text is this prefix followed by this rest.
-fn is_joined(text: &[u8], front: &[u8], rest: &[u8]) -> bool {
-    if text.len() < front.len() {
-        return false;
-    }
-    let (start, end) = text.split_at(front.len());
-    start == front && end == rest
+fn are_added(alloc: Global, buffer: &mut Vec<u8>, long: &[u8]) -> bool {
+    let short = b"H 1\nB 1 5\n".as_slice();
+    adds(alloc, buffer, b"H 1\n")
+        && adds(alloc, buffer, b"B 1 5\n")
+        && buffer.as_slice() == short
+        && adds(alloc, buffer, long)
+        && buffer.as_slice().strip_prefix(short) == Some(long)
 }
 
 #[test]
 fn lines_behind_each_other(rt: HostRuntime) {
     let long = answer_of(rt.alloc(), 16).expect(&rt, "memory");
     let mut buffer = Vec::new(rt.alloc());
-    assert!(rt; adds(rt.alloc(), &mut buffer, b"H 1\n"));
-    assert!(rt; adds(rt.alloc(), &mut buffer, b"B 1 5\n"));
-    assert_eq!(rt; buffer.as_slice(), b"H 1\nB 1 5\n".as_slice());
-    assert!(rt; adds(rt.alloc(), &mut buffer, &long));
-    assert!(rt; is_joined(&buffer, b"H 1\nB 1 5\n", &long));
+    assert!(rt; are_added(rt.alloc(), &mut buffer, &long));
 }

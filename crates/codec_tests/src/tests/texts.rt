@@ -1,11 +1,14 @@
 //! Lines with many parts or fields, and lines that are read and written again.
 
-use entry_codec::{read_line, write_entry, write_line};
-use rights_types::{Message, OutOfMemory};
-use std::alloc::{AllocError, Allocator};
+use entry_codec::{read_line, write_line};
+use rights_types::Message;
+use std::alloc::{AllocError, Allocator, Global};
+
+/// Whether the host had memory for a text.
+pub(super) type Put = Result<(), AllocError>;
 
 /// Adds the text of the longest entry: 15 of the longest grants, and the longest close.
-fn add_longest_entry<A: Allocator>(text: &mut Vec<u8, A>) -> Result<(), AllocError> {
+fn add_longest_entry(text: &mut Vec<u8>) -> Put {
     text.extend_from_slice(b"E 16 999999984 1000000000")?;
     for _ in 0..15usize {
         text.extend_from_slice(b" G:15:1000000000:1000000000")?;
@@ -18,7 +21,7 @@ fn add_longest_entry<A: Allocator>(text: &mut Vec<u8, A>) -> Result<(), AllocErr
 }
 
 /// The longest line of an entry.
-pub(super) fn longest_entry<A: Allocator>(alloc: A) -> Result<Vec<u8, A>, AllocError> {
+pub(super) fn longest_entry(alloc: Global) -> Result<Vec<u8>, AllocError> {
     let mut line = Vec::new(alloc);
     add_longest_entry(&mut line)?;
     line.push(b'\n')?;
@@ -26,9 +29,8 @@ pub(super) fn longest_entry<A: Allocator>(alloc: A) -> Result<Vec<u8, A>, AllocE
 }
 
 /// The line of an answer with this number of the longest entries.
-pub(super) fn answer_of<A: Allocator>(alloc: A, entries: u64) -> Result<Vec<u8, A>, AllocError> {
-    let mut line = Vec::new(alloc);
-    line.extend_from_slice(b"A 16 15")?;
+pub(super) fn answer_of(alloc: Global, entries: u64) -> Result<Vec<u8>, AllocError> {
+    let mut line = Vec::from_slice(alloc, b"A 16 15")?;
     for _ in 0..entries {
         line.push(b';')?;
         add_longest_entry(&mut line)?;
@@ -38,15 +40,14 @@ pub(super) fn answer_of<A: Allocator>(alloc: A, entries: u64) -> Result<Vec<u8, 
 }
 
 /// A text, another one repeated, and an end.
-pub(super) fn repeated<A: Allocator>(
-    alloc: A,
+pub(super) fn repeated(
+    alloc: Global,
     front: &[u8],
     text: &[u8],
     times: usize,
     end: &[u8],
-) -> Result<Vec<u8, A>, AllocError> {
-    let mut line = Vec::new(alloc);
-    line.extend_from_slice(front)?;
+) -> Result<Vec<u8>, AllocError> {
+    let mut line = Vec::from_slice(alloc, front)?;
     for _ in 0..times {
         line.extend_from_slice(text)?;
     }
@@ -55,11 +56,7 @@ pub(super) fn repeated<A: Allocator>(
 }
 
 /// Whether this is the line of the message.
-pub(super) fn is_written<A: Allocator + Copy, B: Allocator>(
-    alloc: A,
-    message: &Message<B>,
-    line: &[u8],
-) -> bool {
+pub(super) fn is_written<A: Allocator>(alloc: Global, message: &Message<A>, line: &[u8]) -> bool {
     match write_line(alloc, message) {
         Ok(text) => text.as_slice() == line,
         Err(_) => false,
@@ -67,26 +64,9 @@ pub(super) fn is_written<A: Allocator + Copy, B: Allocator>(
 }
 
 /// Whether the line is read, and written again unchanged.
-pub(super) fn is_again<A: Allocator + Copy>(alloc: A, line: &[u8]) -> bool {
+pub(super) fn is_again(alloc: Global, line: &[u8]) -> bool {
     match read_line(alloc, line) {
         Ok(message) => is_written(alloc, &message, line),
         Err(_) => false,
-    }
-}
-
-/// Whether the message is an entry that is written as this.
-pub(super) fn is_entry_line<A: Allocator + Copy, B: Allocator>(
-    alloc: A,
-    message: &Message<B>,
-    line: &[u8],
-) -> bool {
-    match message {
-        Message::Push(entry) => {
-            match write_entry(alloc, entry) {
-                Ok(text) => text.as_slice() == line,
-                Err(OutOfMemory) => false,
-            }
-        }
-        _ => false,
     }
 }

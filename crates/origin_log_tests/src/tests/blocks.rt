@@ -1,53 +1,72 @@
 //! Logs of many lines.
-ghost use Rattle.std.specs.Prelude.{◌<◌};
-
-use crate::tests::helpers::{append, gives, is_answered_by};
+use crate::tests::calls::{Put, lend};
+use crate::tests::scripts::tell;
 use linked_list_allocator::LocalHeap;
 use origin_log::OriginLog;
-use rights_types::{Amount, AskNumber, Move};
-use std::alloc::{AllocGlobal, Allocator, Global};
+use rights_types::Move;
+use std::alloc::{AllocError, AllocGlobal, Allocator, Global};
 use std::process::Abort;
-use std::test::Fail;
-use test_kit::{issue, site};
+use test_kit::{fill, is_entry, issue, site};
 
-const ENTRIES: usize = 3_000;
+const ENTRIES: u64 = 3_000;
 
-/// The grants of the entry at an index, each with an ask number of its own.
-fn grants(index: usize) -> [Move; 16]
-    requires { index < 3000 }
-{
-    let mut moves = [issue(1); 16];
-    for (place, m) in moves.iter_mut().enumerate() {
-        *m = Move::Grant {
-            peer: site(2),
-            amount: Amount::known(1_000_000_000),
-            ask: AskNumber::known(index as u64 * 16 + place as u64 + 1),
-        };
+// The grants of the entry at an index, each with an ask number of its own.
+fn put_grants(text: &mut String, index: u64) -> Put {
+    let before = index.saturating_mul(16);
+    for place in 1..=16u64 {
+        let ask = before.saturating_add(place);
+        fill(text, " G:2:1000000000:$1", &[ask])?;
     }
-    moves
+    Ok(())
 }
 
-// The log of 3,000 entries of 16 grants.
-fn long_log(rt: &(impl Abort + AllocGlobal)) -> OriginLog<Global> {
-    let mut log: OriginLog<Global> = OriginLog::new(rt.alloc(), site(1));
-    for index in 0..ENTRIES {
-        let end = append(rt, &mut log, &grants(index));
-        assert!(rt; end == Ok(index as u64 * 16 + 16));
-    }
-    log
+// A command of an index, a number before an entry and its own, and the entry's moves.
+fn put_row(script: &mut String, template: &str, index: u64) -> Put {
+    let prev = index.saturating_mul(16);
+    fill(script, template, &[index, prev, prev.saturating_add(16)])?;
+    put_grants(script, index)
+}
+
+fn check_row(
+    rt: &(impl Abort + AllocGlobal),
+    log: &mut OriginLog,
+    template: &str,
+    index: u64,
+    end: &str,
+) {
+    let mut script = String::new(rt.alloc());
+    put_row(&mut script, template, index).expect(rt, "memory");
+    fill(
+        &mut script,
+        end,
+        &[index.saturating_add(1).saturating_mul(16)],
+    )
+    .expect(rt, "memory");
+    tell(rt, log, &script);
 }
 
 /// Each of 3,000 entries of 16 grants is returned by its index and by its number.
 #[test]
 fn a_long_log_gives_each_entry_back(rt: HostRuntime) {
-    let log = long_log(&rt);
-    assert!(rt; log.len() == ENTRIES);
+    let mut log: OriginLog = OriginLog::new(rt.alloc(), site(1));
     for index in 0..ENTRIES {
-        let prev = index as u64 * 16;
-        let own = prev + 16;
-        assert!(rt; gives(&log, index, prev, &grants(index)));
-        assert!(rt; is_answered_by(&log, own, own, prev, &grants(index)));
+        check_row(&rt, &mut log, "append", index, " > $1");
     }
+    for index in 0..ENTRIES {
+        check_row(&rt, &mut log, "entry $1 > E 1 $2 $3", index, "");
+        check_row(
+            &rt,
+            &mut log,
+            "find Q 2 1 $3 $3 > found;E 1 $2 $3",
+            index,
+            "",
+        );
+    }
+    tell(
+        &rt,
+        &mut log,
+        "end > 3000 entries, the last 48000, a beat 48000",
+    );
 }
 
 /// `I:n` with this number of digits.
@@ -68,14 +87,15 @@ fn last_len<A: Allocator + Copy>(log: &OriginLog<A>) -> usize {
     }
 }
 
+fn append(rt: &impl Abort, log: &mut OriginLog<&LocalHeap>, moves: &[Move]) {
+    assert!(rt; matches!(lend(log, moves), Some(Ok(_))));
+}
+
 /// Appends short entries until less than 80 bytes of the first block are left, and returns how many.
-fn nearly_fill<A: Allocator + Copy>(
-    rt: &(impl Abort + AllocGlobal),
-    log: &mut OriginLog<A>,
-) -> usize {
+fn nearly_fill(rt: &impl Abort, log: &mut OriginLog<&LocalHeap>) -> usize {
     let mut room = 65_536usize.saturating_sub(last_len(log));
     for _ in 0..10_000 {
-        append(rt, log, &[issue(1)]).expect(rt, "memory");
+        append(rt, log, &[issue(1)]);
         room = room.saturating_sub(last_len(log));
         if room < 80 {
             break;
@@ -85,7 +105,7 @@ fn nearly_fill<A: Allocator + Copy>(
 }
 
 /// Moves whose line has this number of bytes more than that of one move.
-fn longer_by(alloc: Global, more: usize) -> Result<Vec<Move>, Fail> {
+fn longer_by(alloc: Global, more: usize) -> Result<Vec<Move>, AllocError> {
     let mut moves = Vec::new(alloc);
     // Each further move adds four bytes, and each further digit one.
     for _ in 0..more / 4 {
@@ -97,14 +117,22 @@ fn longer_by(alloc: Global, more: usize) -> Result<Vec<Move>, Fail> {
 
 // Appends these moves, and returns how many bytes the heap gave for that.
 fn bytes_of(
-    rt: &(impl Abort + AllocGlobal),
+    rt: &impl Abort,
     heap: &LocalHeap,
     log: &mut OriginLog<&LocalHeap>,
     moves: &[Move],
 ) -> usize {
     let used = heap.used();
-    append(rt, log, moves).expect(rt, "memory");
+    append(rt, log, moves);
     heap.used().saturating_sub(used)
+}
+
+/// Whether the entry at an index is read again whole.
+fn gives(log: &OriginLog<&LocalHeap>, index: usize, prev: u64, moves: &[Move]) -> bool {
+    match log.get(index) {
+        Ok(Some(entry)) => is_entry(&entry, 1, prev, moves),
+        _ => false,
+    }
 }
 
 // Whether the log ends with an entry of these moves, and one that issues 7.
@@ -115,19 +143,39 @@ fn ends_with(log: &OriginLog<&LocalHeap>, moves: &[Move]) -> bool {
     gives(log, last.saturating_sub(1), before, moves) && gives(log, last, filled, &[issue(7)])
 }
 
-/// A line ends at the last byte of a block, and the next one begins a block of 65,536 bytes.
-#[test]
-fn a_block_is_filled_to_its_last_byte(rt: HostRuntime) -> Result<(), Fail> {
-    let heap = LocalHeap::new(rt.alloc(), 1 << 20)?;
-    let mut log = OriginLog::new(&heap, site(1));
+// Whether the moves fill the rest of a block, of this many bytes, and the next line begins a block of 65,536 bytes.
+fn fill_block(
+    rt: &impl Abort,
+    heap: &LocalHeap,
+    log: &mut OriginLog<&LocalHeap>,
+    moves: &[Move],
+    room: usize,
+) -> bool {
+    bytes_of(rt, heap, log, moves) == 0
+        && last_len(log) == room
+        && bytes_of(rt, heap, log, &[issue(7)]) == 65_536
+        && ends_with(log, moves)
+        && bytes_of(rt, heap, log, &[issue(8)]) == 0
+}
+
+fn is_filled(
+    rt: &(impl Abort + AllocGlobal),
+    heap: &LocalHeap,
+    log: &mut OriginLog<&LocalHeap>,
+) -> bool {
     // The first append makes the draft, with room for the long line below.
-    assert!(rt; bytes_of(&rt, &heap, &mut log, &[issue(1)]) < 70_000);
-    let room = nearly_fill(&rt, &mut log);
-    let moves = longer_by(rt.alloc(), room.saturating_sub(last_len(&log)))?;
-    assert!(rt; bytes_of(&rt, &heap, &mut log, &moves) == 0);
-    assert!(rt; last_len(&log) == room);
-    assert!(rt; bytes_of(&rt, &heap, &mut log, &[issue(7)]) == 65_536);
-    assert!(rt; ends_with(&log, &moves));
-    assert!(rt; bytes_of(&rt, &heap, &mut log, &[issue(8)]) == 0);
-    Ok(())
+    if bytes_of(rt, heap, log, &[issue(1)]) >= 70_000 {
+        return false;
+    }
+    let room = nearly_fill(rt, log);
+    let moves = longer_by(rt.alloc(), room.saturating_sub(last_len(log))).expect(rt, "memory");
+    fill_block(rt, heap, log, &moves, room)
+}
+
+/// A line ends at the last byte of a block, and the next one begins another.
+#[test]
+fn a_block_is_filled_to_its_last_byte(rt: HostRuntime) {
+    let heap = LocalHeap::new(rt.alloc(), 1 << 20).expect(&rt, "a heap");
+    let mut log = OriginLog::new(&heap, site(1));
+    assert!(rt; is_filled(&rt, &heap, &mut log));
 }
