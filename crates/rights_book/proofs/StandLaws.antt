@@ -22,6 +22,8 @@ use Rattle.rights_book.specs.Known.{logs_at, known_gifts, known}
 use Rattle.rights_book.specs.StandsFor.{StandsForOwn, StandsForApplied, StandsFor, own_entry}
 use Rattle.rights_book.specs.declared.account.Account.{Account}
 use Rattle.rights_book.specs.declared.peer.Peer.{Peer}
+use Rattle.rights_book.specs.declared.sums.SiteSums.{SiteSums}
+use Rattle.rights_book.specs.Sums.{sums_by, sums_of}
 use Rattle.rights_book.proofs.AccountLaws.{account_of-nil, account_of-push}
 use Rattle.rights_book.proofs.CheckLaws.{IsChecked, named_within}
 use Rattle.rights_book.proofs.BookLaws.{new_peer, IsApplied, received_risen}
@@ -273,10 +275,11 @@ account_stands b log applied j s =
       | inr ne ↦ rw (ne_eqb j b.me ne) (s.of_applied.sums j)
     ]
 
-known_me : (b : BookValue) (log : List EntryValue) (applied : ℕ → List EntryValue) (j : ℕ) → IsBook b
+-- what was given to a site is what the logs say
+given_to_me : (b : BookValue) (log : List EntryValue) (applied : ℕ → List EntryValue) (j : ℕ) → IsBook b
     → StandsFor log applied b → j ≡ b.me
-    → known_by b j ≡ known (sites b) j (logs_at b.me log applied)
-known_me b log applied j is s here =
+    → (peer b j).gifts + (peer b j).given ≡ known_gifts (sites b) j (logs_at b.me log applied)
+given_to_me b log applied j is s here =
     let n : ℕ = sites b in
     let logs : ℕ → List EntryValue = logs_at b.me log applied in
     let given : (peer b j).given ≡ 0 = ap (λ k. (peer b k).given) here ∙ is.nothing_given in
@@ -284,26 +287,52 @@ known_me b log applied j is s here =
     = s.of_applied.gifts_are j (omega (arith, here, is.member.0)) (omega (arith, here, is.member.1)) in
     let all : known_gifts n j logs ≡ known_gifts n j applied
     = subst (λ k. known_gifts n k logs ≡ known_gifts n k applied) (sym here) (gifts_me n b.me log applied) in
-    known_from (account b j) (peer b j) n j logs (account_stands b log applied j s) (omega (arith, given, gifts, all))
+    omega (arith, given, gifts, all)
 
-known_other : (b : BookValue) (log : List EntryValue) (applied : ℕ → List EntryValue) (j : ℕ) → IsBook b
+given_to_other : (b : BookValue) (log : List EntryValue) (applied : ℕ → List EntryValue) (j : ℕ) → IsBook b
     → StandsFor log applied b → 1 ≤ j → j ≤ sites b → j ≢ b.me
-    → known_by b j ≡ known (sites b) j (logs_at b.me log applied)
-known_other b log applied j is s low high ne =
-    let n : ℕ = sites b in
-    let logs : ℕ → List EntryValue = logs_at b.me log applied in
-    let all = gifts_other n b.me j log applied is.member.0 is.member.1 ne s.of_applied.none_own in
-    known_from (account b j) (peer b j) n j logs (account_stands b log applied j s)
-    (omega (arith, s.of_own.given_are j, s.of_applied.gifts_are j low high, all))
+    → (peer b j).gifts + (peer b j).given ≡ known_gifts (sites b) j (logs_at b.me log applied)
+given_to_other b log applied j is s low high ne =
+    let all = gifts_other (sites b) b.me j log applied is.member.0 is.member.1 ne s.of_applied.none_own in
+    omega (arith, s.of_own.given_are j, s.of_applied.gifts_are j low high, all)
+
+given_stands : (b : BookValue) (log : List EntryValue) (applied : ℕ → List EntryValue) (j : ℕ) → IsBook b
+    → StandsFor log applied b → 1 ≤ j → j ≤ sites b
+    → (peer b j).gifts + (peer b j).given ≡ known_gifts (sites b) j (logs_at b.me log applied)
+given_stands b log applied j is s low high =
+    elim (cases_eq j b.me) [
+      | inl here ↦ given_to_me b log applied j is s here
+      | inr ne ↦ given_to_other b log applied j is s low high ne
+    ]
 
 pub known_stands : (b : BookValue) (log : List EntryValue) (applied : ℕ → List EntryValue) (j : ℕ) → IsBook b
     → StandsFor log applied b → 1 ≤ j → j ≤ sites b
     → known_by b j ≡ known (sites b) j (logs_at b.me log applied)
 known_stands b log applied j is s low high =
-    elim (cases_eq j b.me) [
-      | inl here ↦ known_me b log applied j is s here
-      | inr ne ↦ known_other b log applied j is s low high ne
-    ]
+    known_from (account b j) (peer b j) (sites b) j (logs_at b.me log applied) (account_stands b log applied j s)
+    (given_stands b log applied j is s low high)
+
+-- the sums of a site, by its account and what was given to it
+abbrev sums_from : ℕ → Account → ℕ → SiteSums
+sums_from j a received = record {
+  site = j;
+  end = a.end;
+  issued = a.issued;
+  spent = a.spent;
+  given = a.given;
+  received = received;
+  taken_back = a.back;
+  closed = a.closed;
+}
+
+same_sums : (j : ℕ) {a b : Account} {r s : ℕ} → a ≡ b → r ≡ s → sums_from j a r ≡ sums_from j b s
+same_sums j {a} {b} {r} {s} its given = ap (λ x. sums_from j x r) its ∙ ap (λ x. sums_from j b x) given
+
+pub sums_stand : (b : BookValue) (log : List EntryValue) (applied : ℕ → List EntryValue) (j : ℕ) → IsBook b
+    → StandsFor log applied b → 1 ≤ j → j ≤ sites b
+    → sums_by b j ≡ sums_of (sites b) j (logs_at b.me log applied)
+sums_stand b log applied j is s low high =
+    same_sums j (account_stands b log applied j s) (given_stands b log applied j is s low high)
 
 -- what the book's site knows of itself is what it holds
 pub held_known : (b : BookValue) → IsBook b → pos (held_by b) ≡ known_by b b.me

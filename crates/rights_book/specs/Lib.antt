@@ -5,3 +5,4 @@ pub mod Leaves
 pub mod Checks
 pub mod Known
 pub mod StandsFor
+pub mod Sums

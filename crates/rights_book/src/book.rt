@@ -11,6 +11,7 @@ use crate::account::Account;
 use crate::check::{any_above, covers, gifts_to};
 use crate::fault::BookError;
 use crate::peer::{Peer, add_gifts, add_own};
+use crate::sums::SiteSums;
 use rights_types::{
     Entry, MAX_HELD_RIGHTS, MAX_MOVES, MAX_NUMBER, MAX_RECEIVED, MAX_SITES, MAX_TOTAL, MIN_SITES,
     Move, OutOfMemory, SiteId,
@@ -50,6 +51,7 @@ impl<A: Allocator> Book<A> {
     ghost use Rattle.rights_book.specs.Leaves.{OwnLeaves, ApplyLeaves};
     ghost use Rattle.rights_book.specs.Checks.{gives_to_closed, check_fault};
     ghost use Rattle.rights_book.specs.Known.{logs_at, known};
+    ghost use Rattle.rights_book.specs.Sums.{sums_by, sums_of};
     ghost use Rattle.rights_book.specs.StandsFor.{StandsForOwn, StandsForApplied, StandsFor, own_entry};
 
     /// The book of site `me` in a system of `sites` sites, 2 to 16, before anything was written or applied.
@@ -297,6 +299,27 @@ impl<A: Allocator> Book<A> {
             → result ≡ is_closed (logs_at self.now.me log applied site) }
     {
         self.account(site).closed
+    }
+
+    /// What this book knows of that site: the sums of its log as far as it was applied, and what was given to it. For
+    /// the book's own site, those of its own log.
+    pub fn sums(&self, site: SiteId) -> SiteSums
+        ensures value { result ≡ sums_by self.now site }
+        ensures stands { (log : List EntryValue) (applied : ℕ → List EntryValue) → StandsFor log applied self.now
+            → site ≤ sites self.now → result ≡ sums_of (sites self.now) site (logs_at self.now.me log applied) }
+    {
+        let peer = self.peer(site);
+        let log = self.account(site);
+        SiteSums {
+            site,
+            end: log.end,
+            issued: log.issued,
+            spent: log.spent,
+            given: log.given,
+            received: peer.gifts + peer.given,
+            taken_back: log.back,
+            closed: log.closed,
+        }
     }
 
     fn peer(&self, site: SiteId) -> Peer

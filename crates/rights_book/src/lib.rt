@@ -7,6 +7,8 @@ mod book;
 mod check;
 mod fault;
 mod peer;
+mod sums;
 
 pub use book::{Book, MAX_KNOWN};
 pub use fault::BookError;
+pub use sums::SiteSums;

@@ -9,6 +9,7 @@ ghost use Rattle.rights_types.specs.declared.limits.TheConstants.{MAX_TOTAL, MAX
 ghost use Rattle.transfer_manager.specs.Managers.{sites as asked_sites};
 ghost use Rattle.rights_book.specs.Books.{sites, peer, account, received_by, held_by, known_by};
 ghost use Rattle.rights_book.specs.Known.{logs_at, known};
+ghost use Rattle.rights_book.specs.Sums.{sums_by, sums_of};
 ghost use Rattle.rights_book.specs.StandsFor.{StandsForOwn, StandsForApplied};
 ghost use Rattle.request_queue.specs.Queues.{total_of};
 ghost use Rattle.request_queue.specs.declared.queue.TheConstants.{SLOTS};
@@ -19,6 +20,7 @@ ghost use Rattle.site_core.specs.Faults.{has_closed};
 use crate::desk::Desk;
 use origin_log::OriginLog;
 use request_queue::{Request, SLOTS};
+use rights_book::SiteSums;
 use rights_types::{
     MAX_AMOUNT, MAX_HELD_RIGHTS, MAX_NUMBER, MAX_RECEIVED, MAX_SITES, MAX_TOTAL, MIN_SITES, SiteId,
 };
@@ -225,5 +227,16 @@ impl<A: Allocator + Copy> Desk<A> {
             → result ≡ end (applied origin) }
     {
         self.ledger.book().applied(origin)
+    }
+
+    /// What this site knows of that one: the sums of its log as far as it was applied, and what was given to it.
+    pub fn sums(&self, site: SiteId) -> SiteSums
+        ensures value { result ≡ sums_by self.now.ledger.book site }
+        ensures applied { (applied : ℕ → List EntryValue) → StandsForApplied applied self.now.ledger.book
+            → site ≤ sites self.now.ledger.book
+            → result ≡ sums_of (sites self.now.ledger.book) site
+            (logs_at self.now.ledger.log.site self.now.ledger.log.entries applied) }
+    {
+        self.ledger.book().sums(site)
     }
 }

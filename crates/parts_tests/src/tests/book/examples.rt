@@ -3,10 +3,10 @@ use crate::tests::book::calls::{applies, refusal, write};
 use crate::tests::book::reported::{
     NO_TOTALS, Reported, Totals, UNREPORTED, held, known, new_book, reported_of, totals_of,
 };
-use rights_book::{Book, BookError};
+use rights_book::{Book, BookError, SiteSums};
 use rights_types::TypeError;
 use std::alloc::Global;
-use test_kit::{close_at, give, grant, issue, spend, take_back};
+use test_kit::{close_at, give, grant, issue, site, spend, take_back};
 
 /// A site's spend may arrive before the gift that it used.
 #[test]
@@ -68,6 +68,17 @@ fn gives_what_is_held(rt: HostRuntime) {
         ..UNREPORTED
     };
     assert!(rt; reported_of(&second, 1) == reported);
+    let sums = SiteSums {
+        site: site(1),
+        end: 3,
+        issued: 10,
+        spent: 4,
+        given: 3,
+        received: 0,
+        taken_back: 0,
+        closed: false,
+    };
+    assert!(rt; second.sums(site(1)) == sums);
 }
 
 /// A site asks, gets a grant, and spends.
