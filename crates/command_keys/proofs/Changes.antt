@@ -7,12 +7,13 @@ use Rattle.std.specs.Str.{bytes_eq}
 use Rattle.std.specs.Cmp.Lexicographic.{bytes_decides, nat_list_eq_equiv}
 use Rattle.std.proofs.lemmas.List.Sums.{sum_by-cons, sum_by_push, sum_by-take-le, sum_by-remove, get_or-le-sum_by}
 use Rattle.std.proofs.lemmas.List.Quantifiers.{position-Some}
-use Rattle.command_keys.specs.Last.{LastValue, newest_of}
+use Rattle.command_keys.specs.Last.{LastValue, newest_of, without}
 use Rattle.command_keys.specs.Keys.{KeysValue, outcome_by, outcome_of, times, serving, ending, IsKeys, place_of}
 use Rattle.command_keys.specs.declared.outcome.Waiting.{Waiting}
 use Rattle.command_keys.specs.declared.outcome.Written.{Written}
 use Rattle.command_keys.specs.declared.outcome.Ended.{Ended}
 use Rattle.command_keys.proofs.Lookups.{hits, hits-cons, none_hit, found_none}
+use Rattle.command_keys.proofs.Distinct.{put_once}
 
 abbrev pub one_if : Bool → ℕ
 one_if b = cond b 1 0
@@ -91,6 +92,22 @@ pub once_remembered : (k : KeysValue) (key : List ℕ) (entry : Written) → out
 once_remembered k key entry free once q =
     omega (arith, hits-put q k.cap (key, entry) k.written, once_more k key q free once)
 
+-- a key whose older entry was forgotten, where no spend waits or expired
+pub once_renewed : (cap : ℕ) (e : List ℕ × Written) (es : List (List ℕ × Written)) → ((r : List ℕ) → hits (bytes_eq r) es ≤ 1)
+    → (q : List ℕ) → times (newest_of cap (e ∷ without e.0 es)) [] [] q ≤ 1
+once_renewed cap e es once q =
+    omega (
+      arith,
+      sum_by-take-le (λ (f : List ℕ × Written). one_if (bytes_eq q f.0)) (e ∷ without e.0 es) cap,
+      put_once q e es (once q),
+    )
+
+pub once_replayed : (k : KeysValue) (key : List ℕ) (entry : Written)
+    → ((r : List ℕ) → times k.written k.waiting k.expired r ≤ 1)
+    → (q : List ℕ) → times (newest_of k.cap ((key, entry) ∷ without key k.written)) [] [] q ≤ 1
+once_replayed k key entry once q =
+    once_renewed k.cap (key, entry) k.written (λ r. omega (arith, once r)) q
+
 pub once_waiting : (k : KeysValue) (w : Waiting) → outcome_of k w.key ≡ None
     → ((r : List ℕ) → times k.written k.waiting k.expired r ≤ 1)
     → (q : List ℕ) → times k.written (k.waiting ++ w ∷ []) k.expired q ≤ 1
@@ -124,10 +141,10 @@ module _ (ws : List Waiting) (i : ℕ) (w : Waiting) (within : i < length ws) (a
   waits_left q = ap (λ (v : Waiting). waits q (remove ws i) + one_if (bytes_eq q v.key)) at
       ∙ sum_by-remove (λ (v : Waiting). one_if (bytes_eq q v.key)) ws i w within
 
-  pub once_served : (cap number : ℕ) (es : List (List ℕ × Written)) (fs : List (List ℕ × Ended)) → ((r : List ℕ) → times es ws fs r ≤ 1)
-      → (q : List ℕ) → times (newest_of cap ((w.key, serving w number) ∷ es)) (remove ws i) fs q ≤ 1
-  once_served cap number es fs once q =
-      omega (arith, hits-put q cap (w.key, serving w number) es, waits_left q, once q)
+  pub once_served : (cap number amount : ℕ) (es : List (List ℕ × Written)) (fs : List (List ℕ × Ended)) → ((r : List ℕ) → times es ws fs r ≤ 1)
+      → (q : List ℕ) → times (newest_of cap ((w.key, serving w number amount) ∷ es)) (remove ws i) fs q ≤ 1
+  once_served cap number amount es fs once q =
+      omega (arith, hits-put q cap (w.key, serving w number amount) es, waits_left q, once q)
 
   pub once_expired : (cap : ℕ) (es : List (List ℕ × Written)) (fs : List (List ℕ × Ended)) → ((r : List ℕ) → times es ws fs r ≤ 1)
       → (q : List ℕ) → times es (remove ws i) (newest_of cap ((w.key, ending w) ∷ fs)) q ≤ 1

@@ -1,5 +1,5 @@
 -- The spends that wait under keys, but not in the queue.
-use Rattle.std.proofs.Common.{◌≡◌, ℕ, ◌+◌, ◌<◌, Bool, true, false, cond, List, [], ◌∷◌, length, get_or, Option, Some, None, position}
+use Rattle.std.proofs.Common.{◌≡◌, ℕ, ◌+◌, ◌<◌, Bool, true, false, cond, List, length, get_or, Option, Some, None, position}
 use Rattle.std.proofs.Common.{refl, sym, ap, ◌∙◌, subst, arith}
 use Rattle.std.specs.Prelude.{◌==◌, not, nat_lt, slice_get, find, option_map, MatchOption}
 use Rattle.std.specs.List.{All, position_or_len}
@@ -59,9 +59,44 @@ is_found : (o : Option Waiting) (key : List ℕ) → option_map (λ (w : Waiting
 is_found (Some w) key h = (w, refl)
 is_found None key h = absurd cc
 
-pub served_fewer : (old new : KeysValue) (ticket number : ℕ) (key : List ℕ) → Some key ≡ key_of ticket old.waiting
-    → Serves old ticket number new → length new.waiting + 1 ≡ length old.waiting
-served_fewer old new ticket number key has serves =
+-- where it waited
+pub record ServedAt (old : KeysValue) (number amount : ℕ) (key : List ℕ) (new : KeysValue) : Type 0 where
+  pub place : ℕ
+  pub serves : ServesAt old place number amount new
+  pub same : serves.spend.key ≡ key
+
+found_or : {X : Type 0} → Option X → X → X
+found_or (Some x) d = x
+found_or None d = d
+
+same_found : {X : Type 0} (v w : X) → Some v ≡ Some w → v ≡ w
+unfolding found_or
+same_found v w same = ap (λ o. found_or o v) same
+
+pub served_at : (old new : KeysValue) (ticket number amount : ℕ) (key : List ℕ) → key_of ticket old.waiting ≡ Some key
+    → Serves old ticket number amount new → ServedAt old number amount key new
+served_at old new ticket number amount key has serves =
+    let p : Waiting → Bool = λ w. w.ticket == ticket in
+    let i = position_or_len p old.waiting in
+    let found = is_found (find p old.waiting) key has in
+    let at : slice_get old.waiting i ≡ Some found.0 = sym (find_at p old.waiting) ∙ found.1 in
+    let within : i < length old.waiting = slice_get_within old.waiting i found.0 at in
+    let placed : place_of ticket old.waiting ≡ Some i
+    = ap (λ (b : Bool). cond b (Some i) None) (lt-ltb i (length old.waiting) within) in
+    let s : ServesAt old i number amount new
+    = subst (λ (o : Option ℕ). MatchOption o (new ≡ old) (λ place. ServesAt old place number amount new)) placed serves in
+    let named : Some found.0.key ≡ Some key
+    = ap (option_map (λ (w : Waiting). w.key)) (sym found.1) ∙ has in
+    record {
+      place = i;
+      serves = s;
+      same = ap (λ (w : Waiting). w.key) (same_found s.spend found.0 (sym s.found ∙ at))
+          ∙ same_found found.0.key key named;
+    }
+
+pub served_fewer : (old new : KeysValue) (ticket number amount : ℕ) (key : List ℕ) → Some key ≡ key_of ticket old.waiting
+    → Serves old ticket number amount new → length new.waiting + 1 ≡ length old.waiting
+served_fewer old new ticket number amount key has serves =
     let p : Waiting → Bool = λ w. w.ticket == ticket in
     let i = position_or_len p old.waiting in
     let found = is_found (find p old.waiting) key (sym has) in
@@ -69,6 +104,6 @@ served_fewer old new ticket number key has serves =
     let within : i < length old.waiting = slice_get_within old.waiting i found.0 at in
     let placed : place_of ticket old.waiting ≡ Some i
     = ap (λ (b : Bool). cond b (Some i) None) (lt-ltb i (length old.waiting) within) in
-    let s : ServesAt old i number new
-    = subst (λ (o : Option ℕ). MatchOption o (new ≡ old) (λ place. ServesAt old place number new)) placed serves in
+    let s : ServesAt old i number amount new
+    = subst (λ (o : Option ℕ). MatchOption o (new ≡ old) (λ place. ServesAt old place number amount new)) placed serves in
     omega (arith, ap (λ (ws : List Waiting). length ws) s.others, length-remove old.waiting i within)

@@ -1,6 +1,9 @@
 pub mod Zeros
 pub mod Lookups
 pub mod Rings
+pub mod Orders
+pub mod Distinct
+pub mod Renewed
 pub mod Changes
 pub mod CallLaws
 pub mod Gone

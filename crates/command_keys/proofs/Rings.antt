@@ -1,13 +1,17 @@
 -- How a ring changes when a key is put.
-use Rattle.std.proofs.Common.{◌≡◌, ℕ, suc, ◌+◌, ◌-◌, ◌<◌, List, [], ◌∷◌, ◌++◌, length, get_or, set, take, drop}
-use Rattle.std.proofs.Common.{reverse, refl, sym, ap, ◌∙◌, arith, append-nil, add-one}
+use Rattle.std.proofs.Common.{◌≡◌, ℕ, suc, ◌+◌, ◌-◌, ◌<◌, ◌≤◌, List, [], ◌∷◌, ◌++◌, length, get_or, set, take, drop}
+use Rattle.std.proofs.Common.{reverse, refl, sym, ap, ◌∙◌, arith, append-nil, add-one, Some, inl, inr}
+use Rattle.std.specs.Prelude.{◌⊎◌, slice_get}
+use Rattle.std.proofs.lemmas.Option.{slice_get-get_or}
+use Rattle.std.proofs.lemmas.Bool.{cases_lt}
 use Rattle.std.specs.List.{swap_remove}
 use Rattle.std.proofs.Math.Seq.{drop-cons}
 use Rattle.std.proofs.lemmas.List.{reverse-append, length-reverse, length-append, length-drop, length-set}
 use Rattle.std.proofs.lemmas.List.{take_all, take_at, length-take-le, take_more_set, drop-set-lt, drop_all}
 use Rattle.std.proofs.lemmas.List.{set-append_left, get_or_push}
 use Rattle.std.proofs.lemmas.List.{length_push, append_assoc}
-use Rattle.command_keys.specs.Last.{newest_of, newest_first}
+use Rattle.std.proofs.lemmas.List.{get_or-reverse, get_or-append_right, get_or_append_left, get_or-take, get_or-drop}
+use Rattle.command_keys.specs.Last.{newest_of, newest_first, IsRing}
 
 module _ {X : Type 0} where
   -- a new entry at the end of a ring that is not full
@@ -82,3 +86,51 @@ module _ {X : Type 0} where
       let here : i < length es = omega arith in
       at_end es e i (omega arith) ∙ sym (forgets es e e i here)
       ∙ ap (λ (m : ℕ). newest_of m (e ∷ newest_first es i)) full
+
+  -- ---- by places
+
+  pub length-turned : (es : List X) (oldest : ℕ) → oldest ≤ length es → length (newest_first es oldest) ≡ length es
+  length-turned es oldest within =
+      length-reverse (drop oldest es ++ take oldest es) ∙ length-append (drop oldest es) (take oldest es)
+      ∙ omega (arith, length-drop oldest es, length-take-le oldest es within, within)
+
+  nth_at : (es : List X) (d : X) (oldest place at : ℕ) → oldest ≤ length es → place < length es
+      → ((place < oldest) × (at + (place + 1) ≡ oldest)) ⊎ ((oldest ≤ place) × (at + (place + 1) ≡ length es + oldest))
+      → slice_get (newest_first es oldest) place ≡ slice_get es at
+  nth_at es d oldest place at within there how =
+      let n = length es in
+      let back : List X = drop oldest es in
+      let front : List X = take oldest es in
+      let long_back : length back ≡ n - oldest = length-drop oldest es in
+      let long : length (back ++ front) ≡ n
+      = length-append back front ∙ omega (arith, long_back, length-take-le oldest es within, within) in
+      let turned : slice_get (newest_first es oldest) place ≡ Some (get_or (back ++ front) (n - 1 - place) d)
+      = slice_get-get_or (newest_first es oldest) place d (omega (arith, there, length-turned es oldest within))
+      ∙ ap Some (get_or-reverse (back ++ front) place d (omega (arith, there, long))
+      ∙ ap (λ (m : ℕ). get_or (back ++ front) (m - 1 - place) d) long) in
+      turned ∙ elim how [
+        | inl h ↦ ap Some (get_or-append_right back front (n - oldest) (n - 1 - place) d long_back (omega (arith, h.0, within, there))
+            ∙ ap (λ (m : ℕ). get_or front m d) (omega (arith, h.1, h.0, within, there))
+            ∙ get_or-take oldest es at d (omega (arith, h.1)))
+            ∙ sym (slice_get-get_or es at d (omega (arith, h.1, within)))
+        | inr h ↦ ap Some (get_or_append_left back front d (n - 1 - place) (omega (arith, h.0, long_back, within, there))
+            ∙ get_or-drop oldest es (n - 1 - place) d
+            ∙ ap (λ (m : ℕ). get_or es m d) (omega (arith, h.1, within, there)))
+            ∙ sym (slice_get-get_or es at d (omega (arith, h.1, h.0, within, there)))
+      ]
+
+  pub nth_turned : (es : List X) (oldest place at : ℕ) → oldest ≤ length es → place < length es
+      → ((place < oldest) × (at + (place + 1) ≡ oldest)) ⊎ ((oldest ≤ place) × (at + (place + 1) ≡ length es + oldest))
+      → slice_get (newest_first es oldest) place ≡ slice_get es at
+  nth_turned [] oldest place at within there how = absurd (omega (arith, there))
+  nth_turned (x ∷ es) oldest place at within there how = nth_at (x ∷ es) x oldest place at within there how
+
+  pub oldest_within : (es : List X) (oldest cap : ℕ) → IsRing es oldest cap → oldest ≤ length es
+  oldest_within es oldest cap ring =
+      elim ring.within [
+        | inl none ↦ omega (arith, none)
+        | inr below ↦ elim (cases_lt (length es) cap) [
+          | inl room ↦ omega (arith, ring.first room)
+          | inr full ↦ omega (arith, below, full)
+        ]
+      ]

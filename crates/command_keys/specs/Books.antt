@@ -1,5 +1,5 @@
 -- The keys of commands at a site that may keep a journal.
-use Rattle.std.specs.Prelude.{◌≡◌, ℕ, ◌≤◌, Bool, true, false, List, [], ◌∷◌, ◌++◌, Option, Some, None, MatchOption}
+use Rattle.std.specs.Prelude.{◌≡◌, ℕ, ◌≤◌, Bool, true, false, List, [], ◌∷◌, ◌++◌, MatchOption}
 use Rattle.command_keys.specs.Keys.{KeysValue, Serves, key_of}
 
 -- The keys; whether a journal is kept; the keys that are not in it yet, in order, each with the number of its entry; and
@@ -23,13 +23,13 @@ record_if false unrecorded key number = unrecorded
 abbrev pub with_record : KeyBookValue → List ℕ → ℕ → List (List ℕ × ℕ)
 with_record b key number = record_if b.is_recorded b.unrecorded key number
 
--- the waiting spend of this key was served by the entry of this number
-pub record ServesOne (old : KeyBookValue) (ticket number : ℕ) (key : List ℕ) (new : KeyBookValue) : Type 0 where
-  pub keys : Serves old.keys ticket number new.keys
+-- the waiting spend of this key was served by the entry of this number, with so many rights
+pub record ServesOne (old : KeyBookValue) (ticket number amount : ℕ) (key : List ℕ) (new : KeyBookValue) : Type 0 where
+  pub keys : Serves old.keys ticket number amount new.keys
   pub unrecorded : new.unrecorded ≡ with_record old key number
   pub is_recorded : new.is_recorded ≡ old.is_recorded
 
 -- the waiting spend with this ticket was, if it has a key
-abbrev pub ServesKey : KeyBookValue → ℕ → ℕ → KeyBookValue → Type 0
-ServesKey old ticket number new =
-    MatchOption (key_of ticket old.keys.waiting) (new ≡ old) (λ key. ServesOne old ticket number key new)
+abbrev pub ServesKey : KeyBookValue → ℕ → ℕ → ℕ → KeyBookValue → Type 0
+ServesKey old ticket number amount new =
+    MatchOption (key_of ticket old.keys.waiting) (new ≡ old) (λ key. ServesOne old ticket number amount key new)

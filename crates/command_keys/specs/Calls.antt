@@ -1,7 +1,7 @@
 -- What any list of calls makes of the keys.
 use Rattle.std.specs.Prelude.{◌≡◌, ◌⊎◌, ℕ, List, [], ◌∷◌, ◌++◌, None}
-use Rattle.command_keys.specs.Last.{newest_of}
-use Rattle.command_keys.specs.Keys.{KeysValue, no_keys, outcome_of, remembered, serving, ServesAt, ExpiresAt, IsOnce}
+use Rattle.command_keys.specs.Last.{last_of}
+use Rattle.command_keys.specs.Keys.{KeysValue, no_keys, outcome_of, remembered, replayed, serving, ServesAt, ExpiresAt, IsOnce}
 use Rattle.command_keys.specs.declared.outcome.Waiting.{Waiting}
 use Rattle.command_keys.specs.declared.outcome.Written.{Written}
 
@@ -14,6 +14,12 @@ pub record Remembers (old : KeysValue) (added : List (List ℕ × Written)) (new
   pub adds : added ≡ (key, entry) ∷ []
   pub becomes : new ≡ record (remembered old key entry) { room = new.room }
 
+pub record Replays (old : KeysValue) (added : List (List ℕ × Written)) (new : KeysValue) : Type 0 where
+  pub key : List ℕ
+  pub entry : Written
+  pub adds : added ≡ (key, entry) ∷ []
+  pub becomes : new ≡ record (replayed old key entry) { room = new.room }
+
 pub record Waits (old : KeysValue) (added : List (List ℕ × Written)) (new : KeysValue) : Type 0 where
   pub spend : Waiting
   pub free : outcome_of old spend.key ≡ None
@@ -23,8 +29,9 @@ pub record Waits (old : KeysValue) (added : List (List ℕ × Written)) (new : K
 pub record Serves (old : KeysValue) (added : List (List ℕ × Written)) (new : KeysValue) : Type 0 where
   pub place : ℕ
   pub number : ℕ
-  pub serves : ServesAt old place number new
-  pub adds : added ≡ (serves.spend.key, serving serves.spend number) ∷ []
+  pub amount : ℕ
+  pub serves : ServesAt old place number amount new
+  pub adds : added ≡ (serves.spend.key, serving serves.spend number amount) ∷ []
 
 pub record Expires (old : KeysValue) (added : List (List ℕ × Written)) (new : KeysValue) : Type 0 where
   pub place : ℕ
@@ -39,7 +46,8 @@ pub record Keeps (old : KeysValue) (added : List (List ℕ × Written)) (new : K
 abbrev pub Calls : KeysValue → List (List ℕ × Written) → KeysValue → Type 0
 Calls old added new =
     Remembers old added new
-    ⊎ (Waits old added new ⊎ (Serves old added new ⊎ (Expires old added new ⊎ Keeps old added new)))
+    ⊎ (Replays old added new
+    ⊎ (Waits old added new ⊎ (Serves old added new ⊎ (Expires old added new ⊎ Keeps old added new))))
 
 -- ---- one after another
 
@@ -52,9 +60,10 @@ abbrev pub all_added : List (List (List ℕ × Written)) → List (List ℕ × W
 all_added [] = []
 all_added (added ∷ calls) = all_added calls ++ added
 
--- The keys that wrote entries and are remembered are the last that were added, and none occurs twice.
+-- The keys that wrote entries and are remembered are the last that were added, each with its last entry, and none occurs
+-- twice.
 pub record AreLast (cap : ℕ) (added : List (List ℕ × Written)) (k : KeysValue) : Type 0 where
-  pub last : k.written ≡ newest_of cap added
+  pub last : k.written ≡ last_of cap added
   pub once : IsOnce k
 
 abbrev pub LastAreRemembered : Type 0

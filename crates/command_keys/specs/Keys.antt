@@ -1,11 +1,11 @@
 -- The keys of commands, with where each command ended.
-use Rattle.std.specs.Prelude.{◌≡◌, ℕ, zero, suc, ◌+◌, ◌≤◌, ◌==◌, Bool, true, false, List, [], ◌∷◌, length, Option, Some, None, position}
-use Rattle.std.specs.Prelude.{MatchOption, slice_get, remove, find, count_by, option_map}
+use Rattle.std.specs.Prelude.{◌≡◌, ℕ, zero, suc, ◌+◌, ◌<◌, ◌≤◌, ◌==◌, Bool, true, false, List, [], ◌∷◌, length, Option, Some, None, position}
+use Rattle.std.specs.Prelude.{MatchOption, slice_get, slice_index_or, remove, find, count_by, option_map, if◌then◌else◌}
 use Rattle.std.specs.List.{All, list_any}
 use Rattle.std.specs.Map.{lookup}
 use Rattle.std.specs.Str.{bytes_eq}
 use Rattle.request_queue.specs.declared.request.Request.{Request}
-use Rattle.command_keys.specs.Last.{LastValue, newest_of}
+use Rattle.command_keys.specs.Last.{LastValue, newest_of, without}
 use Rattle.command_keys.specs.declared.keys.TheConstants.{MAX_EXPIRED}
 use Rattle.command_keys.specs.declared.outcome.Waiting.{Waiting}
 use Rattle.command_keys.specs.declared.outcome.Written.{Written}
@@ -43,6 +43,20 @@ outcome_of k key = outcome_by (lookup (bytes_eq key) k.written) (find (λ (w : W
 abbrev pub key_of : ℕ → List Waiting → Option (List ℕ)
 key_of ticket waiting = option_map (λ (w : Waiting). w.key) (find (λ (w : Waiting). w.ticket == ticket) waiting)
 
+-- the key whose command wrote the entry of this number; the newest, if there are several
+abbrev pub entry_key : ℕ → List (List ℕ × Written) → Option (List ℕ)
+entry_key number written = option_map (λ e. e.0) (find (λ (e : List ℕ × Written). e.1.number == number) written)
+
+-- the key of a row, if its entry has this number
+abbrev pub key_if : ℕ → Option (List ℕ × Written) → Option (List ℕ)
+key_if number (Some row) = if row.1.number == number then Some row.0 else None
+key_if number None = None
+
+-- the numbers of the entries do not rise towards the oldest
+abbrev pub AreInOrder : List (List ℕ × Written) → Type 0
+AreInOrder written = (i j : ℕ) (none : List ℕ × Written) → i ≤ j → j < length written
+    → (slice_index_or written j none).1.number ≤ (slice_index_or written i none).1.number
+
 -- ---- no key twice
 
 -- how often a key occurs
@@ -67,18 +81,26 @@ pub record IsKeys (written : LastValue Written) (waiting : List Waiting) (expire
 abbrev pub remembered : KeysValue → List ℕ → Written → KeysValue
 remembered k key entry = record k { written = newest_of k.cap ((key, entry) ∷ k.written) }
 
--- the entry of this number, which served a spend
-abbrev pub serving : Waiting → ℕ → Written
-serving spend number = record { number = number; effect = Spend spend.amount; ticket = spend.ticket }
+-- a key wrote this entry before a start, which forgets an older entry under it, and the spends that wait or expired
+abbrev pub replayed : KeysValue → List ℕ → Written → KeysValue
+replayed k key entry = record k {
+  written = newest_of k.cap ((key, entry) ∷ without key k.written);
+  waiting = [];
+  expired = [];
+}
+
+-- the entry of this number, which served a spend with so many rights
+abbrev pub serving : Waiting → ℕ → ℕ → Written
+serving spend number amount = record { number = number; effect = Spend amount; ticket = spend.ticket }
 
 abbrev pub ending : Waiting → Ended
 ending spend = record { ticket = spend.ticket; amount = spend.amount }
 
--- the waiting spend with this place was served by the entry of this number
-pub record ServesAt (old : KeysValue) (place number : ℕ) (new : KeysValue) : Type 0 where
+-- the waiting spend with this place was served by the entry of this number, with so many rights
+pub record ServesAt (old : KeysValue) (place number amount : ℕ) (new : KeysValue) : Type 0 where
   pub spend : Waiting
   pub found : slice_get old.waiting place ≡ Some spend
-  pub wrote : new.written ≡ newest_of old.cap ((spend.key, serving spend number) ∷ old.written)
+  pub wrote : new.written ≡ newest_of old.cap ((spend.key, serving spend number amount) ∷ old.written)
   pub others : new.waiting ≡ remove old.waiting place
   pub cap : new.cap ≡ old.cap
   pub expired : new.expired ≡ old.expired
@@ -96,9 +118,9 @@ pub record ExpiresAt (old : KeysValue) (place : ℕ) (new : KeysValue) : Type 0 
 abbrev pub place_of : ℕ → List Waiting → Option ℕ
 place_of ticket waiting = position (λ (w : Waiting). w.ticket == ticket) waiting
 
-abbrev pub Serves : KeysValue → ℕ → ℕ → KeysValue → Type 0
-Serves old ticket number new =
-    MatchOption (place_of ticket old.waiting) (new ≡ old) (λ place. ServesAt old place number new)
+abbrev pub Serves : KeysValue → ℕ → ℕ → ℕ → KeysValue → Type 0
+Serves old ticket number amount new =
+    MatchOption (place_of ticket old.waiting) (new ≡ old) (λ place. ServesAt old place number amount new)
 
 abbrev pub Expires : KeysValue → ℕ → KeysValue → Type 0
 Expires old ticket new = MatchOption (place_of ticket old.waiting) (new ≡ old) (λ place. ExpiresAt old place new)

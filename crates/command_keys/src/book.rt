@@ -1,6 +1,6 @@
 //! The keys of commands at a site that may keep a journal.
 ghost use Rattle.std.specs.Prelude.{◌≡◌, ◌≤◌, ◌++◌, [], ◌∷◌, false, true, None, OnOk, OnErr};
-ghost use Rattle.command_keys.specs.Keys.{outcome_of, remembered, Settles};
+ghost use Rattle.command_keys.specs.Keys.{outcome_of, remembered, replayed, Settles};
 ghost use Rattle.command_keys.specs.Books.{HasRoom, ServesKey, with_record};
 
 use crate::key::Key;
@@ -109,6 +109,20 @@ impl<A: Allocator> KeyBook<A> {
         self.record(key, number);
     }
 
+    /// Remembers that the command of this key wrote this entry before the site started, as `Keys::replay`.
+    pub fn replay(&mut self, key: Key, written: Written)
+        requires room { HasRoom self.old }
+        ensures { self.new ≡ record self.old {
+          keys = record (replayed self.old.keys key written) { room = self.new.keys.room };
+          unrecorded = with_record self.old key written.number;
+          room = self.new.room;
+        } }
+    {
+        let number = written.number;
+        self.keys.replay(key, written);
+        self.record(key, number);
+    }
+
     /// Remembers that the spend of this free key waits, as `Keys::wait`.
     pub fn wait(&mut self, key: Key, ticket: u64, amount: u64)
         requires room { HasRoom self.old }
@@ -124,12 +138,12 @@ impl<A: Allocator> KeyBook<A> {
         self.keys.wait(key, ticket, amount);
     }
 
-    /// The waiting spend with this ticket was served by the entry of this number, as `Keys::serve`.
-    pub fn serve(&mut self, ticket: u64, number: u64)
-        ensures { ServesKey self.old ticket number self.new }
+    /// The waiting spend with this ticket was served by the entry of this number, with so many rights, as `Keys::serve`.
+    pub fn serve(&mut self, ticket: u64, number: u64, amount: u64)
+        ensures { ServesKey self.old ticket number amount self.new }
     {
         if let Some(key) = self.keys.key_of(ticket) {
-            self.keys.serve(ticket, number);
+            self.keys.serve(ticket, number, amount);
             self.record(key, number);
         }
     }

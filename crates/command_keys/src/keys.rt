@@ -2,9 +2,10 @@
 ghost use Rattle.std.specs.Prelude.{◌≡◌, ◌+◌, ◌≤◌, ◌==◌, ◌++◌, [], ◌∷◌, length, None, OnOk, IsOk, position, find};
 ghost use Rattle.std.specs.Str.{bytes_eq};
 ghost use Rattle.std.specs.Prelude.{◌<◌, not};
-ghost use Rattle.command_keys.specs.Keys.{no_keys, outcome_of, key_of, remembered, has_ticket, Serves, Expires, ExpiresAt, Settles, IsOnce};
+ghost use Rattle.command_keys.specs.Keys.{no_keys, outcome_of, key_of, remembered, entry_key, replayed, has_ticket, Serves, Expires, ExpiresAt, Settles, IsOnce};
 ghost use Rattle.command_keys.specs.declared.outcome.Waiting.{Waiting};
 
+use crate::entry_keys::EntryKeys;
 use crate::key::Key;
 use crate::last::LastKeys;
 use crate::outcome::{Effect, Ended, Outcome, Waiting, Written};
@@ -21,7 +22,7 @@ pub const MAX_EXPIRED: usize = 10_000;
 /// waits; and the last 10,000 whose spend expired. No key occurs twice. A key that was forgotten is free again.
 #[derive(Drop)]
 pub struct Keys<A: Allocator = Global> {
-    written: LastKeys<Written, A>,
+    written: EntryKeys<A>,
     waiting: Vec<Waiting, A>,
     expired: LastKeys<Ended, A>,
 }
@@ -52,7 +53,7 @@ impl<A: Allocator + Copy> Keys<A> {
         ensures { result ≡ record (no_keys cap) { room = result.room } }
     {
         Keys {
-            written: LastKeys::new(alloc, hasher, cap),
+            written: EntryKeys::new(alloc, hasher, cap),
             waiting: Vec::new(alloc),
             expired: LastKeys::new(alloc, hasher, MAX_EXPIRED),
         }
@@ -104,6 +105,14 @@ impl<A: Allocator> Keys<A> {
         Some(spend_of_ticket(&self.waiting, ticket)?.key)
     }
 
+    /// The key whose command wrote the entry of this number. None if there was none, or it was forgotten. It takes
+    /// logarithmic time if the numbers came in their order.
+    pub fn entry_key(&self, number: u64) -> Option<Key>
+        ensures { result ≡ entry_key number self.now.written }
+    {
+        self.written.entry_key(number)
+    }
+
     /// Makes room for one more key, whatever becomes of its command and of those that wait: once this has succeeded,
     /// `remember` or `wait` asks for no memory. `OutOfMemory` if it is refused.
     pub fn reserve(&mut self) -> Result<(), OutOfMemory>
@@ -128,6 +137,18 @@ impl<A: Allocator> Keys<A> {
         self.written.put(key, written);
     }
 
+    /// Remembers that the command of this key wrote this entry before the site started. A key that is remembered already
+    /// was forgotten then, when fewer were remembered: its older entry is forgotten now. Spends that wait or expired are
+    /// forgotten, as at any start.
+    pub fn replay(&mut self, key: Key, written: Written)
+        requires room { 1 ≤ self.old.room }
+        ensures { self.new ≡ record (replayed self.old key written) { room = self.new.room } }
+    {
+        self.waiting.clear();
+        self.expired.clear();
+        self.written.renew(key, written);
+    }
+
     /// Remembers that the spend of this free key waits, with its ticket and its amount.
     pub fn wait(&mut self, key: Key, ticket: u64, amount: u64)
         requires room { 1 ≤ self.old.room }
@@ -146,10 +167,10 @@ impl<A: Allocator> Keys<A> {
             .unwrap();
     }
 
-    /// The waiting spend with this ticket was served by the entry of this number: if it has a key, that key wrote the
-    /// entry. It asks for no memory.
-    pub fn serve(&mut self, ticket: u64, number: u64)
-        ensures { Serves self.old ticket number self.new }
+    /// The waiting spend with this ticket was served by the entry of this number, with so many rights: if it has a key, that
+    /// key wrote the entry. It asks for no memory.
+    pub fn serve(&mut self, ticket: u64, number: u64, amount: u64)
+        ensures { Serves self.old ticket number amount self.new }
     {
         let Some(index) = index_of(&self.waiting, ticket) else {
             return;
@@ -157,7 +178,7 @@ impl<A: Allocator> Keys<A> {
         let spend = self.waiting.remove(index);
         let written = Written {
             number,
-            effect: Effect::Spend(spend.amount),
+            effect: Effect::Spend(amount),
             ticket: spend.ticket,
         };
         self.written.put(spend.key, written);

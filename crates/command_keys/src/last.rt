@@ -1,8 +1,11 @@
 //! The keys that were put last, each with a value.
-ghost use Rattle.std.specs.Prelude.{◌≡◌, ◌+◌, ◌<◌, ◌≤◌, [], ◌∷◌, length, None, OnOk, OnErr, IsOk};
+ghost use Rattle.std.specs.Prelude.{◌≡◌, ◌+◌, ◌<◌, ◌≤◌, [], ◌∷◌, length, None, OnOk, OnErr, IsOk, slice_get};
+ghost use Rattle.std.specs.Option.{option_map};
 ghost use Rattle.std.specs.Map.{lookup};
 ghost use Rattle.std.specs.Str.{bytes_eq};
-ghost use Rattle.command_keys.specs.Last.{newest_of};
+ghost use Rattle.std.specs.Prelude.{remove, slice_get, IfSome};
+ghost use Rattle.indexmap.specs.IndexMap.{spare};
+ghost use Rattle.command_keys.specs.Last.{newest_of, newest_first, place_left, without};
 
 use crate::key::Key;
 use indexmap::IndexMap;
@@ -75,6 +78,22 @@ impl<V: Copy, A: Allocator> LastKeys<V, A> {
         self.map.get(key).copied()
     }
 
+    /// The key at a place, from 0, and its value. The newest comes first.
+    pub fn nth(&self, place: usize) -> Option<(&Key, &V)>
+        ensures { option_map (λ e. (e.0.now, e.1.now)) result ≡ slice_get self.now.entries place }
+    {
+        let len = self.map.len();
+        if place >= len {
+            return None;
+        }
+        let back = place + 1;
+        if back <= self.oldest {
+            self.map.get_index(self.oldest - back)
+        } else {
+            self.map.get_index(len - back + self.oldest)
+        }
+    }
+
     /// Makes room for so many more keys, so that as many calls of `put` need no memory. `OutOfMemory` if it is refused.
     pub fn reserve(&mut self, additional: usize) -> Result<(), OutOfMemory>
         ensures same { self.new ≡ record self.old { spare = self.new.spare } }
@@ -104,4 +123,57 @@ impl<V: Copy, A: Allocator> LastKeys<V, A> {
             self.oldest = if oldest + 1 < self.cap { oldest + 1 } else { 0 };
         }
     }
+
+    /// Puts a key as the newest. If it is there already, it gets this value, and the others keep their order. If there are
+    /// more than the cap then, the oldest is forgotten.
+    pub fn renew(&mut self, key: Key, value: V)
+        requires room { 0 < self.old.spare }
+        ensures entries { self.new.entries ≡ newest_of self.old.cap ((key, value) ∷ without key self.old.entries) }
+        ensures cap { self.new.cap ≡ self.old.cap }
+        ensures spare { self.old.spare ≤ self.new.spare + 1 }
+    {
+        let Some(index) = self.map.get_index_of(&key) else {
+            self.put(key, value);
+            return;
+        };
+        let _old = self.map.insert(key, value).unwrap();
+        self.oldest = make_newest(&mut self.map, self.oldest, index);
+    }
+
+    /// Forgets all keys. It gives no memory back.
+    pub fn clear(&mut self)
+        ensures { self.new ≡ record self.old { entries = []; spare = self.new.spare } }
+    {
+        self.map.clear();
+        self.oldest = 0;
+    }
+}
+
+// The entry at this index becomes the newest of a ring whose oldest entry has this place, and the others keep their order.
+// The place of the oldest is returned. It takes time by how many entries it moves.
+fn make_newest<V, A: Allocator>(
+    map: &mut IndexMap<Key, V, RandomState, A>,
+    oldest: usize,
+    index: usize,
+) -> usize
+    requires index { index < length map.old.entries }
+    requires oldest { oldest < length map.old.entries }
+    ensures order { IfSome (slice_get map.old.entries index)
+        (λ e. newest_first map.new.entries result ≡ e ∷ newest_first (remove map.old.entries index) (place_left oldest index)) }
+    ensures many { length map.new.entries ≡ length map.old.entries }
+    ensures within { result < length map.old.entries }
+    ensures first { oldest ≡ 0 → result ≡ 0 }
+    ensures spare { spare map.new ≡ spare map.old }
+{
+    let last = map.len() - 1;
+    if oldest == 0 {
+        map.move_index(index, last);
+        return 0;
+    }
+    if index < oldest {
+        map.move_index(index, oldest - 1);
+        return oldest;
+    }
+    map.move_index(index, oldest);
+    if oldest < last { oldest + 1 } else { 0 }
 }

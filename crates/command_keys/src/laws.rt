@@ -2,8 +2,8 @@
 ghost use Rattle.command_keys.specs.Calls.{LastAreRemembered};
 
 /// After any calls, the keys that wrote entries and are remembered are the last of all that ever wrote one, at most as
-/// many as the cap, each with the number that it had then; and no key occurs twice. So of each of them one number was
-/// remembered since it was last forgotten.
+/// many as the cap, each with its last entry; and no key occurs twice. How many were remembered when they wrote makes no
+/// difference.
 pub fn last_are_remembered()
     ensures { LastAreRemembered }
 {}

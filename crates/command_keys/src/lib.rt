@@ -7,6 +7,7 @@
 #![tactic(auto)]
 
 mod book;
+mod entry_keys;
 mod key;
 mod keys;
 mod last;

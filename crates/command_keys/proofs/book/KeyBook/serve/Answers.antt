@@ -4,6 +4,6 @@ use Rattle.command_keys.proofs.book.KeyBook.serve.Goals as goal
 
 pub record-requires : goal.record-requires
 record-requires g c =
-    let fewer = served_fewer c.self.inside.keys c.serve.new.self c.args.ticket c.args.number c.in-Some.key
+    let fewer = served_fewer c.self.inside.keys c.serve.new.self c.args.ticket c.args.number c.args.amount c.in-Some.key
     (sym c.in-Some.is ∙ c.key_of.ensures) c.serve.ensures in
     omega (arith, fewer, c.self.invariant)

@@ -23,7 +23,7 @@ invariant_of-self g c =
     let long = ap (λ (vs : List Waiting). length vs) c.remove-spend.ensures.items in
     record {
       once = λ q. rw (c.put.ensures.entries, c.remove-spend.ensures.items)
-          (once_served ws i w place.1 c.remove-spend.ensures.value c.self.inside.written.cap c.args.number
+          (once_served ws i w place.1 c.remove-spend.ensures.value c.self.inside.written.cap c.args.number c.args.amount
           c.self.inside.written.entries c.self.inside.expired.entries c.self.invariant.once q);
       may_write = omega (arith, c.self.invariant.may_write, fewer, long, c.put.ensures.spare);
       may_expire = omega (arith, c.self.invariant.may_expire, fewer, long, c.put.ensures.spare);
