@@ -9,5 +9,6 @@ pub mod JournalLaws
 pub mod RecordLaws
 pub mod Walks
 pub mod CrashLaws
+pub mod RestartLaws
 pub mod AskLaws
 pub mod RecorderLaws

@@ -9,5 +9,6 @@ pub mod Appliers
 pub mod Steps
 pub mod Journals
 pub mod Batches
+pub mod Restarts
 pub mod Stops
 pub mod Between

@@ -6,6 +6,7 @@ ghost use Rattle.link_intake.specs.Intakes.{Sends, IsIntake};
 ghost use Rattle.apply_lanes.specs.Between.{IsBetween};
 ghost use Rattle.apply_lanes.specs.Steps.{EverySchedule};
 ghost use Rattle.apply_lanes.specs.Journals.{CallIsDeskStep, EveryCrashUnderLocks};
+ghost use Rattle.apply_lanes.specs.Restarts.{AllAreRecorded, AllReplay, JournalRestoresKept};
 
 use crate::applier::Applier;
 use crate::gate::Gate;
@@ -51,4 +52,21 @@ pub fn call_is_desk_step()
 /// desk applies is durable at its origin by then, and a crash leaves what was durable.
 pub fn every_crash_under_locks()
     ensures { EveryCrashUnderLocks }
+{}
+
+/// Each call under the lock is a step of the desk with a record or without, or several, as a plan is; and exactly their
+/// records are appended.
+pub fn calls_are_recorded()
+    ensures { AllAreRecorded }
+{}
+
+/// What an applier applies as the site starts again is replayed; tickets, keys, seats and appliers change nothing of it.
+pub fn starts_replay()
+    ensures { AllReplay }
+{}
+
+/// Whatever calls are made under the lock of a new desk: a new value, whose start replays the records, has the same log,
+/// the same book and the same sums, and the same asks but for denials. What is lost is in `IsKeptAgain`.
+pub fn journal_restores_kept()
+    ensures { JournalRestoresKept }
 {}

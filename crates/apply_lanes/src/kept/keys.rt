@@ -112,24 +112,25 @@ impl<D: DeskNames, A: Allocator + Copy> Kept<D, A> {
         book.wait(key, ticket, amount);
     }
 
-    /// The spend with this ticket was served by the entry of this number: if it waited under a key, that key wrote the
-    /// entry, and it is recorded.
-    pub fn serve_key(&mut self, ticket: u64, number: u64)
-        ensures keys { ServesKey self.old.keys ticket number self.new.keys }
+    /// The spend with this ticket was served by the entry of this number, with so many rights: if it waited under a key,
+    /// that key wrote the entry, and it is recorded.
+    pub fn serve_key(&mut self, ticket: u64, number: u64, amount: u64)
+        ensures keys { ServesKey self.old.keys ticket number amount self.new.keys }
         ensures rest { self.new ≡ record self.old { keys = self.new.keys } }
     {
         if let Some(book) = &mut self.keys {
-            book.serve(ticket, number);
+            book.serve(ticket, number, amount);
         }
     }
 
     /// Remembers the key of a record of the journal again, with the number of its entry, and with what that entry of the
-    /// desk's log did. A site that takes no keys remembers none. Errors, in this order: `NoEntry`, `Repeated`,
-    /// `OutOfMemory`; but `OutOfMemory` comes first where memory to read the entry is refused.
+    /// desk's log did. An older entry under this key is forgotten, and so are the spends that wait or expired. A site that
+    /// takes no keys remembers none. Errors, in this order: `NoEntry`, `OutOfMemory`; but `OutOfMemory` comes first where
+    /// memory to read the entry is refused.
     pub fn replay_key(&mut self, key: Key, number: u64) -> Result<(), KeyFault>
         ensures ok { OnOk result (ReplaysKey (nat_lt 0 self.old.keys.keys.cap) self.old key number self.new) }
         ensures refused { IfErr result
-            (RefusesKey self.old.keys.keys self.old.desk.ledger.log.entries key number) }
+            (RefusesKey self.old.desk.ledger.log.entries number) }
         ensures err { OnErr result (self.new ≡ with_room self.old self.new.keys) }
     {
         if !self.takes_keys() {
@@ -138,11 +139,11 @@ impl<D: DeskNames, A: Allocator + Copy> Kept<D, A> {
         let Some(effect) = effect_at(self.desk.log(), number)? else {
             return Err(KeyFault::NoEntry);
         };
-        if self.key_outcome(&key).is_some() {
-            return Err(KeyFault::Repeated);
-        }
         self.reserve_key()?;
-        self.remember_key(
+        let Some(book) = &mut self.keys else {
+            unreachable!()
+        };
+        book.replay(
             key,
             Written {
                 number,

@@ -37,6 +37,7 @@ impl<D: DeskNames, A: Allocator + Copy> Kept<D, A> {
     ghost use Rattle.apply_lanes.specs.Kepts.{without_amount, amount_of, IsFront};
 
     /// Creates rights, with one entry, whose number is returned.
+    #[inline(always)]
     pub fn issue(&mut self, seat: &mut Seat<D>, amount: u64) -> Result<u64, DeskError>
         ensures refused { DeskRefuses (issue_fault self.old.desk amount) result }
         ensures ok { OnOk result (DeskWrites self.old.desk (Issues amount ∷ []) self.new.desk) }
@@ -63,6 +64,7 @@ impl<D: DeskNames, A: Allocator + Copy> Kept<D, A> {
 
     /// Spends `amount` rights at once if no spend waits and that many are held; else the spend waits until its
     /// deadline. Errors: see `Desk::spend`.
+    #[inline(always)]
     pub fn spend(
         &mut self,
         seat: &mut Seat<D>,
