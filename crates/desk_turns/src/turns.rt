@@ -119,7 +119,7 @@ impl<D: DeskNames> TurnDesk<D> {
     /// Waits until no other thread holds the desk, and holds it, for turns that make room for records or for others.
     #[inline(always)]
     fn hold<'a, R: Wait>(&'a self, rt: &R, makes_room: bool) -> MutexGuard<'a, Kept<D>> {
-        if makes_room {
+        if makes_room || self.durability.is_none() {
             self.desk.lock(rt)
         } else {
             self.hold_with_room(rt)
@@ -127,7 +127,7 @@ impl<D: DeskNames> TurnDesk<D> {
     }
 
     /// The same, once there is room for more records, with a journal.
-    #[inline(always)]
+    #[inline(never)]
     fn hold_with_room<'a, R: Wait>(&'a self, rt: &R) -> MutexGuard<'a, Kept<D>> {
         for _ in rt.forever() {
             let kept = self.desk.lock(rt);

@@ -33,8 +33,6 @@ fault_text record_fault.OtherSize = codes "it is the journal of a system of anot
 fault_text record_fault.OtherSystem = codes "it is the journal of another system"
 fault_text (record_fault.Unreadable error) = codes "it spells no record"
 fault_text record_fault.NoKeyEntry = codes "the log has no entry of a client's command with this number"
-fault_text record_fault.KeyRepeated =
-    codes "its key is remembered already: the site remembered fewer keys, so give a smaller --keys"
 fault_text (record_fault.NotPermitted error) = replay_text error
 fault_text record_fault.OutOfMemory = codes "there is no memory for it"
 

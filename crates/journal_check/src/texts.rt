@@ -26,9 +26,6 @@ fn put_fault(out: &mut Replies<Global>, fault: RecordFault) -> Result<(), OutOfM
         RecordFault::NoKeyEntry => out.put(
             b"the log has no entry of a client's command with this number",
         ),
-        RecordFault::KeyRepeated => out.put(
-            b"its key is remembered already: the site remembered fewer keys, so give a smaller --keys",
-        ),
         RecordFault::NotPermitted(error) => put_replay_error(out, error),
         RecordFault::OutOfMemory => out.put(b"there is no memory for it"),
     }

@@ -28,6 +28,7 @@ target_of path =
     ∷ (codes "/wait", Targets.Wait)
     ∷ (codes "/status", Targets.Status)
     ∷ (codes "/queue", Targets.Queue)
+    ∷ (codes "/peers", Targets.Peers)
     ∷ (codes "/metrics", Targets.Metrics)
     ∷ (codes "/healthz", Targets.Health) ∷ []
     ) path) Targets.Unknown
@@ -60,6 +61,7 @@ route_by true foreign Post Targets.Wait = Routes.Wait
 route_by true foreign verb Targets.Wait = Routes.NotAllowed Only.Post
 route_by true foreign Get Targets.Status = Routes.Status
 route_by true foreign Get Targets.Queue = Routes.Queue
+route_by true foreign Get Targets.Peers = Routes.Peers
 route_by true foreign Get Targets.Metrics = Routes.Metrics
 route_by true foreign Get Targets.Health = Routes.Health
 route_by true foreign verb target = Routes.NotAllowed Only.Get

@@ -27,6 +27,9 @@ pub trait Backend {
     // The text is the report of the spends that wait.
     ghost queue: { Self → List ℕ → Type 0 };
 
+    // The text is the report of what is known of each other site.
+    ghost known: { Self → List ℕ → Type 0 };
+
     // The text is the site's metrics, up to and including the line feed at their end.
     ghost metrics: { Self → List ℕ → Type 0 };
 
@@ -65,6 +68,11 @@ pub trait Backend {
     fn put_queue(&self, replies: &mut Replies<Global>) -> Result<(), OutOfMemory>
         requires { IsEmpty replies.old }
         ensures { OnOk result ((text : List ℕ) × queue self.now text × AddsReply replies.old replies.new text) };
+
+    /// Appends the report of what is known of each other site and a line feed to the whole replies.
+    fn put_peers(&self, replies: &mut Replies<Global>) -> Result<(), OutOfMemory>
+        requires { IsEmpty replies.old }
+        ensures { OnOk result ((text : List ℕ) × known self.now text × AddsReply replies.old replies.new text) };
 
     /// Appends the metrics, which end in a line feed, to the whole replies.
     fn put_metrics(&self, replies: &mut Replies<Global>) -> Result<(), OutOfMemory>

@@ -142,11 +142,21 @@ ul { list-style: none; margin: 0; padding: 0; }
       <tbody role="rowgroup" id="peers"></tbody>
     </table>
   </section>
+  <section class="card" aria-labelledby="sums-name">
+    <div class="head"><h2 id="sums-name">Rights of the peers</h2><span class="small soft">as far as this site applied their logs</span></div>
+    <table role="table">
+      <thead role="rowgroup"><tr role="row">
+        <th scope="col" role="columnheader">Peer</th><th scope="col" role="columnheader">Applied</th><th scope="col" role="columnheader">Issued</th><th scope="col" role="columnheader">Spent</th><th scope="col" role="columnheader">Given</th>
+        <th scope="col" role="columnheader">Received</th><th scope="col" role="columnheader">Taken back</th><th scope="col" role="columnheader">Held</th><th scope="col" role="columnheader">Log</th>
+      </tr></thead>
+      <tbody role="rowgroup" id="sums"></tbody>
+    </table>
+  </section>
   <section class="card" aria-labelledby="refused-name" id="refused-card" hidden>
     <div class="head"><h2 id="refused-name">Refused commands</h2></div>
     <ul class="refused" id="refused"></ul>
   </section>
-  <noscript><p class="notice warn">This page needs JavaScript. <code>GET /status</code> and <code>GET /metrics</code> have the same values as text.</p></noscript>
+  <noscript><p class="notice warn">This page needs JavaScript. <code>GET /status</code>, <code>/peers</code> and <code>/metrics</code> have the same values as text.</p></noscript>
 </main>
 <script>
 "use strict";
@@ -167,7 +177,7 @@ const number = value => grouped.format(BigInt(value));
 const many = (count, one, more) => `${number(count)} ${count == 1 ? one : more}`;
 
 // Values may exceed what a double represents exactly, so they remain strings of digits.
-const readStatus = text => JSON.parse(text.replace(/:(\d+)/g, ':"$1"'));
+const readObject = text => JSON.parse(text.replace(/:(-?\d+)/g, ':"$1"'));
 
 // By name: the value, or the values by the value of their only label.
 function readMetrics(text) {
@@ -274,9 +284,21 @@ function rowOf(peer, metric, findings) {
     ["Lines", count("lines_total")], ["Refused", count("lines_refused_total")], ["Dropped", count("lines_dropped_total")],
     ["Waiting", count("lines_waiting")], ["State", make("ul", {}, ...marks)],
   ];
-  // The roles are given because at a phone's width the style makes these no table cells.
-  return make("tr", { role: "row" }, make("th", { scope: "row", role: "rowheader" }, `Site ${peer.site}`),
+  return rowWith(peer.site, cells);
+}
+
+// The roles are given because at a phone's width the style makes these no table cells.
+function rowWith(site, cells) {
+  return make("tr", { role: "row" }, make("th", { scope: "row", role: "rowheader" }, `Site ${site}`),
     ...cells.map(([name, value]) => make("td", { role: "cell", "data-name": name }, value)));
+}
+
+function sumsRowOf(peer) {
+  return rowWith(peer.site, [
+    ["Applied", number(peer.applied)], ["Issued", number(peer.issued)], ["Spent", number(peer.spent)], ["Given", number(peer.given)],
+    ["Received", number(peer.received)], ["Taken back", number(peer.taken_back)], ["Held", number(peer.held)],
+    ["Log", peer.closed ? "closed" : "open"],
+  ]);
 }
 
 function showPeers(status, metric, now) {
@@ -347,7 +369,7 @@ function showNotices(notices) {
 
 const clock = time => new Date(time).toLocaleTimeString("en-GB");
 
-function show(status, metric, now) {
+function show(status, sums, metric, now) {
   if (last && (last.site !== status.site || BigInt(status.number) < BigInt(last.number))) wentBack = true;
   const stuck = stuckSince(status, now);
   const behind = metric.rights_clock_behind_seconds ?? 0;
@@ -356,6 +378,7 @@ function show(status, metric, now) {
   lostAt = 0;
   samples.push({ at: now, held: Number(status.held), spent: Number(status.spent) });
   const troubled = showPeers(status, metric, now);
+  byId("sums").replaceChildren(...sums.peers.map(sumsRowOf));
   showNumbers(status, metric, now);
   const notices = [];
   if (wentBack) notices.push(["bad", "The log of this site went back while this page was open: it was started anew under its number."]);
@@ -519,9 +542,10 @@ function causeOf(error) {
 // One after the other, so that the page takes only one of the site's connections.
 async function poll() {
   try {
-    const status = readStatus(await get("/status"));
+    const status = readObject(await get("/status"));
+    const sums = readObject(await get("/peers"));
     const metric = readMetrics(await get("/metrics"));
-    show(status, metric, Date.now());
+    show(status, sums, metric, Date.now());
   } catch (error) {
     showLost(causeOf(error), Date.now());
   }

@@ -29,8 +29,8 @@ pub(crate) fn respond<C: Backend>(
     response: &mut Response,
 ) -> Result<(), AllocError>
     requires { IsBlank response.old }
-    ensures ok { OnOk result (Responds C.answers C.status C.queue C.metrics C.closed (map string_bytes names.now) client.old
-        request.now response.new client.new) }
+    ensures ok { OnOk result (Responds C.answers C.status C.queue C.known C.metrics C.closed (map string_bytes names.now)
+        client.old request.now response.new client.new) }
     ensures err { OnErr result (client.new ≡ client.old) }
 {
     match route_of(names, request) {
@@ -38,6 +38,7 @@ pub(crate) fn respond<C: Backend>(
         Route::Wait => reply_to_lines(client, true, replies, request, response),
         Route::Status => tell_status(client, replies, response),
         Route::Queue => tell_queue(client, replies, response),
+        Route::Peers => tell_peers(client, replies, response),
         Route::Metrics => tell_metrics(client, replies, response),
         Route::Health => tell_health(client, response),
         Route::Page => show_page(response),
@@ -97,6 +98,25 @@ fn tell_queue<C: Backend>(
 {
     replies.clear();
     let Ok(()) = client.put_queue(replies) else {
+        return Err(AllocError);
+    };
+    tell(
+        response,
+        HeaderValue::from_static("application/json"),
+        replies,
+    )
+}
+
+fn tell_peers<C: Backend>(
+    client: &C,
+    replies: &mut Replies<Global>,
+    response: &mut Response,
+) -> Result<(), AllocError>
+    requires { IsBlank response.old }
+    ensures { OnOk result (TellsLine C.known (codes "application/json") client.now response.new) }
+{
+    replies.clear();
+    let Ok(()) = client.put_peers(replies) else {
         return Err(AllocError);
     };
     tell(

@@ -29,6 +29,7 @@ pub(crate) enum Target {
     Wait,
     Status,
     Queue,
+    Peers,
     Metrics,
     Health,
     Unknown,
@@ -51,6 +52,7 @@ pub enum Route {
     Wait,
     Status,
     Queue,
+    Peers,
     Metrics,
     Health,
     Page,
@@ -157,11 +159,12 @@ fn verb_of(method: &str) -> Verb
     named(&VERBS, method.as_bytes()).unwrap_or(Verb::Other)
 }
 
-const TARGETS: [(&[u8], Target); 6] = [
+const TARGETS: [(&[u8], Target); 7] = [
     (b"/", Target::Root),
     (b"/wait", Target::Wait),
     (b"/status", Target::Status),
     (b"/queue", Target::Queue),
+    (b"/peers", Target::Peers),
     (b"/metrics", Target::Metrics),
     (b"/healthz", Target::Health),
 ];
@@ -189,6 +192,7 @@ fn route_by(own: bool, foreign: bool, verb: Verb, target: Target) -> Route
         (_, Target::Wait) => Route::NotAllowed(Allowed::Post),
         (Verb::Get, Target::Status) => Route::Status,
         (Verb::Get, Target::Queue) => Route::Queue,
+        (Verb::Get, Target::Peers) => Route::Peers,
         (Verb::Get, Target::Metrics) => Route::Metrics,
         (Verb::Get, Target::Health) => Route::Health,
         _ => Route::NotAllowed(Allowed::Get),

@@ -1,7 +1,12 @@
 pub mod Lines
+pub mod PeerRows
 pub mod Serving
 pub mod Publishing
 pub mod ConfirmedLaws
 pub mod Beside
 pub mod TellingLaws
 pub mod KeyedLaws
+pub mod RememberLaws
+pub mod RepeatLaws
+pub mod RestartLaws
+pub mod OutliveLaws

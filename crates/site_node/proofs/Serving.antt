@@ -71,7 +71,7 @@ pub serves_next : (old mid new : KeptValue) (was now : SeatValue) (ticket number
       spent = raised old.spent amount;
       records = with_written old.records mid.desk;
     } → now ≡ told_served was amount
-    → ServesKey mid.keys ticket number new.keys → new ≡ record mid { keys = new.keys }
+    → ServesKey mid.keys ticket number amount new.keys → new ≡ record mid { keys = new.keys }
     → (request : Request) × ServesNext old was request new now
 unfolding in_front
 serves_next old mid new was now ticket number amount serves keeps front counter counted key rest =
@@ -88,8 +88,8 @@ serves_next old mid new was now ticket number amount serves keeps front counter 
         number = number;
         desk = subst (λ (n : ℕ). ServesFront old.desk n number mid.desk) t serves;
         keeps = subst (λ (n : ℕ). ServeKeeps old.desk (Some (n, number)) mid.desk) t keeps;
-        key = subst (λ (n : ℕ). ServesKey old.keys n number new.keys) t
-            (subst (λ (b : KeyBookValue). ServesKey b ticket number new.keys) keys key);
+        key = subst (λ (f : ℕ × ℕ). ServesKey old.keys f.0 number f.1 new.keys) (λ i. (t i, a i))
+            (subst (λ (b : KeyBookValue). ServesKey b ticket number amount new.keys) keys key);
         counter = ap (λ (k : KeptValue). record k { keys = new.keys }) counter
             ∙ ap (λ (n : ℕ). record old {
               desk = mid.desk;

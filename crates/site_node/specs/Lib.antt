@@ -7,5 +7,8 @@ pub mod Sending
 pub mod ToPeers
 pub mod Hearing
 pub mod Texts
+pub mod PeerSums
 pub mod Confirmed
 pub mod Telling
+pub mod Remembering
+pub mod Outliving

@@ -21,7 +21,7 @@ pub record ServesNext (old : KeptValue) (was : SeatValue) (request : Request) (n
   pub number : ℕ
   pub desk : ServesFront old.desk request.ticket number new.desk
   pub keeps : ServeKeeps old.desk (Some (request.ticket, number)) new.desk
-  pub key : ServesKey old.keys request.ticket number new.keys
+  pub key : ServesKey old.keys request.ticket number request.amount new.keys
   pub counter : new ≡ record old {
     desk = new.desk;
     spent = raised old.spent request.amount;

@@ -17,6 +17,7 @@ use std::alloc::Allocator;
 
 /// Appends the reply to a command, and returns how that is answered. Its memory was reserved before the command was
 /// carried out.
+#[inline(always)]
 pub fn answer_reply<A: Allocator>(replies: &mut Replies<A>, reply: Reply) -> Answered
     requires room { REPLY_ROOM ≤ replies.old.room }
     requires fresh { replies.old.part ≡ [] }

@@ -11,6 +11,7 @@ use site_core::{DeskError, Spending};
 use site_words::DeskCommand;
 
 /// Carries out a command at the desk, for this seat, and returns the reply.
+#[inline(always)]
 pub fn act<D: DeskNames>(kept: &mut Kept<D>, seat: &mut Seat<D>, command: DeskCommand) -> Reply
     ensures { Acts kept.old seat.old command result kept.new seat.new }
 {
@@ -27,6 +28,7 @@ pub fn act<D: DeskNames>(kept: &mut Kept<D>, seat: &mut Seat<D>, command: DeskCo
     }
 }
 
+#[inline(always)]
 fn issue<D: DeskNames>(kept: &mut Kept<D>, seat: &mut Seat<D>, amount: u64) -> Reply
     ensures { ActsIssue kept.old seat.old amount result kept.new seat.new }
 {
@@ -45,6 +47,7 @@ fn give<D: DeskNames>(kept: &mut Kept<D>, peer: SiteId, amount: u64) -> Reply
     }
 }
 
+#[inline(always)]
 fn spend<D: DeskNames>(
     kept: &mut Kept<D>,
     seat: &mut Seat<D>,
@@ -87,6 +90,7 @@ fn refuse_far<D: DeskNames>(kept: &Kept<D>, amount: u64) -> Reply
     }
 }
 
+#[inline(always)]
 fn take<D: DeskNames>(kept: &mut Kept<D>, seat: &mut Seat<D>, amount: u64) -> Reply
     ensures { ActsTake kept.old seat.old amount result kept.new seat.new }
 {

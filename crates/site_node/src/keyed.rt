@@ -18,6 +18,7 @@ use site_words::DeskCommand;
 /// Carries out a command under a key at the desk, for this seat, and returns the reply. If the key is that of a command
 /// that was carried out, nothing changes: its repeat gets the reply of the first time, or what has become of the spend
 /// that waited; another command is refused. A command that is refused leaves its key free.
+#[inline(never)]
 pub fn act_keyed<D: DeskNames>(
     kept: &mut Kept<D>,
     seat: &mut Seat<D>,

@@ -19,6 +19,7 @@ use std::alloc::Allocator;
 pub const TICK_ROOM: usize = 128;
 
 /// Appends the text of a reply to a command.
+#[inline(always)]
 pub(crate) fn put_reply<A: Allocator>(
     replies: &mut Replies<A>,
     reply: Reply,

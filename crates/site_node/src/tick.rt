@@ -76,9 +76,9 @@ fn serve_next<D: DeskNames>(kept: &mut Kept<D>, seat: &mut Seat<D>) -> Result<bo
     ensures ok { IfOk result (λ served. ServesNextIf served kept.old seat.old kept.new seat.new) }
     ensures err { IfErr result (λ fault. ServingFails kept.old seat.old [] fault kept.new seat.new) }
 {
-    let Some((ticket, number, _)) = kept.serve(seat)? else {
+    let Some((ticket, number, amount)) = kept.serve(seat)? else {
         return Ok(false);
     };
-    kept.serve_key(ticket, number);
+    kept.serve_key(ticket, number, amount);
     Ok(true)
 }

@@ -25,10 +25,10 @@ use Rattle.site_http.specs.Replying.{Answering, AnswersEach, RepliesTo, RepliesT
 use Rattle.site_http.specs.Replying.{text_of}
 use Rattle.site_http.specs.Responding.{RespondsBy}
 use Rattle.site_http.specs.declared.route.Route.{Route}
-use Rattle.site_http.specs.declared.route.Route.TheVariants.{Commands, Wait, Status as Shows, Queue as ShowsQueue, Metrics}
+use Rattle.site_http.specs.declared.route.Route.TheVariants.{Commands, Wait, Status as Shows, Queue as ShowsQueue, Peers as ShowsPeers, Metrics}
 use Rattle.site_http.specs.declared.route.Route.TheVariants.{Health, Page, Foreign, Misdirected, NotAllowed, NotFound}
 use Rattle.desk_turns.specs.Seated.{SeatedValue}
-use Rattle.site_server.specs.Replying.{asked_under, TellsStatus, TellsQueue}
+use Rattle.site_server.specs.Replying.{asked_under, TellsStatus, TellsQueue, TellsPeers}
 use Rattle.site_server.specs.Measuring.{TellsMetrics, TellsClosed}
 use Rattle.site_server.specs.Settling.{Settles, is_unknown}
 use Rattle.site_server.specs.Connections.{ClientValue, Tells, TellsSettled, TellsBy, Answers, Responded}
@@ -255,7 +255,8 @@ module _ {P : Type 0} (size : P → ℕ) (sends : P → ℕ → ℕ → P → Ty
     turns_of_route : (old : ClientValue P B) (route : Route) (key : RequestKey) (body : List ℕ) (r : Response)
         (new : ClientValue P B)
         → RespondsBy (Answers size sends stops has_ended has_left shows id) (λ client text. TellsStatus id text)
-        (λ client text. TellsQueue id text) (λ client text. TellsMetrics id text) (λ client is_closed. TellsClosed id is_closed) old route key body r new
+        (λ client text. TellsQueue id text) (λ client text. TellsPeers id text) (λ client text. TellsMetrics id text)
+        (λ client is_closed. TellsClosed id is_closed) old route key body r new
         → (turns : List Turn) × AreRouteTurns route key body r turns × HasTurns old.seat.told turns new.seat.told
     turns_of_route old Commands key body r new h =
         turns_of_commands key old body h.code h.given r new h.replied h.response.body
@@ -263,6 +264,7 @@ module _ {P : Type 0} (size : P → ℕ) (sends : P → ℕ → ℕ → P → Ty
         turns_of_wait key old body h.code h.given r new h.replied h.response.body
     turns_of_route old Shows key body r new h = ([], refl, ap (λ (c : ClientValue P B). c.seat.told) h.1)
     turns_of_route old ShowsQueue key body r new h = ([], refl, ap (λ (c : ClientValue P B). c.seat.told) h.1)
+    turns_of_route old ShowsPeers key body r new h = ([], refl, ap (λ (c : ClientValue P B). c.seat.told) h.1)
     turns_of_route old Metrics key body r new h = ([], refl, ap (λ (c : ClientValue P B). c.seat.told) h.1)
     turns_of_route old Health key body r new h = ([], refl, ap (λ (c : ClientValue P B). c.seat.told) h.1)
     turns_of_route old Page key body r new h = ([], refl, ap (λ (c : ClientValue P B). c.seat.told) h.1)

@@ -9,7 +9,7 @@ use Rattle.site_words.specs.declared.commands.SiteCommand.TheVariants.{AtDesk, K
 use Rattle.site_http.specs.Responding.{Responds}
 use Rattle.site_server.specs.Measuring.{TellsMetrics, TellsClosed}
 use Rattle.desk_turns.specs.Seated.{SeatedValue}
-use Rattle.site_server.specs.Replying.{asked_under, Says, TellsStatus, TellsQueue}
+use Rattle.site_server.specs.Replying.{asked_under, Says, TellsStatus, TellsQueue, TellsPeers}
 use Rattle.site_server.specs.Settling.{SettlesCommand, SettlesKeyedCommand}
 
 -- a client, as plain data: its seat with its turns, its peers, and what notifies it of ticks
@@ -53,4 +53,4 @@ module _ {P : Type 0} (size : P → ℕ) (sends : P → ℕ → ℕ → P → Ty
     -- the response to a request of a client over a connection, at a site whose host has these names
     abbrev pub Responded : List (List ℕ) → ClientValue P B → Request (List ℕ) → Response → ClientValue P B → Type 0
     Responded = Responds Answers (λ client text. TellsStatus id text) (λ client text. TellsQueue id text)
-        (λ client text. TellsMetrics id text) (λ client is_closed. TellsClosed id is_closed)
+        (λ client text. TellsPeers id text) (λ client text. TellsMetrics id text) (λ client is_closed. TellsClosed id is_closed)

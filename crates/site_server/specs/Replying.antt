@@ -28,6 +28,7 @@ use Rattle.site_words.specs.declared.status_object.JournalView.{JournalView}
 use Rattle.site_words.specs.declared.status_object.PeerView.{PeerView}
 use Rattle.site_sockets.specs.declared.peer.PeerState.{PeerState}
 use Rattle.desk_turns.specs.Seated.{SeatedValue, ActsAtDesk, ActsKeyedAtDesk, TicksAtDesk}
+use Rattle.site_node.specs.PeerSums.{peers_text}
 use Rattle.site_node.specs.Texts.{reply_text, reply_answered, tick_text, tick_answered, queue_text}
 use Rattle.site_node.specs.ToPeers.{SendsToFirst, StopsAtPeer}
 use Rattle.site_node.specs.declared.reply.Reply.{Reply}
@@ -100,6 +101,12 @@ pub record TellsQueue (id : DeskId) (text : List ℕ) : Type 0 where
   pub kept : KeptValue
   pub valid : IsKept id kept
   pub says : text ≡ queue_text kept.desk.queue.waiting (length kept.desk.queue.outcomes)
+
+-- what the desk knows of each other site at one moment
+pub record TellsPeers (id : DeskId) (text : List ℕ) : Type 0 where
+  pub kept : KeptValue
+  pub valid : IsKept id kept
+  pub says : text ≡ peers_text kept.desk
 
 -- the conversation continues after a line that was answered
 abbrev pub goes_by : Option Answered → Goes

@@ -1,5 +1,6 @@
 mod CheckLaws
 mod CommandWords
+mod DeadlineLaws
 mod Entrances
 mod Found
 mod Parsers

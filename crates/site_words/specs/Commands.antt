@@ -15,7 +15,18 @@ use Rattle.site_words.specs.declared.commands.DeskCommand.TheVariants.{Issue, Gi
 use Rattle.site_words.specs.declared.commands.SiteCommand.{SiteCommand}
 use Rattle.site_words.specs.declared.commands.SiteCommand.TheVariants.{AtDesk, Keyed, BadKey, Tick, RefusedTick, Status}
 use Rattle.site_words.specs.declared.commands.SiteCommand.TheVariants.{Queue, Quit}
+use Rattle.site_words.specs.declared.commands.BareCommand.{BareCommand}
+use Rattle.site_words.specs.declared.commands.BareCommand.TheVariants as bare
 use Rattle.site_words.specs.declared.commands.TheConstants.{MAX_AHEAD}
+
+-- a command that has no key, as the command of its line
+abbrev pub whole : BareCommand → SiteCommand
+whole (bare.AtDesk command) = AtDesk command
+whole (bare.Tick time) = Tick time
+whole bare.RefusedTick = RefusedTick
+whole bare.Status = Status
+whole bare.Queue = Queue
+whole bare.Quit = Quit
 
 -- a command by the words after its name
 
@@ -150,3 +161,12 @@ command_in time (first ∷ words) =
 -- the command of a line without its line feed
 abbrev pub command_of : Option ℕ → List ℕ → Option SiteCommand
 command_of time line = command_in time (words_of line)
+
+-- .. if no key comes before it
+abbrev pub unkeyed_in : Option ℕ → List (List ℕ) → Option SiteCommand
+unkeyed_in time [] = None
+unkeyed_in time (first ∷ words) =
+    if bytes_eq first (codes "key") then None else command_with time (first ∷ words)
+
+abbrev pub unkeyed_of : Option ℕ → List ℕ → Option SiteCommand
+unkeyed_of time line = unkeyed_in time (words_of line)

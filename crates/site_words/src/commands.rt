@@ -1,9 +1,9 @@
 //! The commands of a running site.
-ghost use Rattle.std.specs.Prelude.{◌≡◌, ◌∷◌};
+ghost use Rattle.std.specs.Prelude.{◌≡◌, ◌∷◌, Some, IfSome, option_map};
 ghost use Rattle.line_streams.specs.Words.{words_left};
 ghost use Rattle.site_words.specs.Commands.{issue_in, give_in, spend_in, take_in, ahead_of, deadline_of, deadline_in};
 ghost use Rattle.site_words.specs.Commands.{latest_at, outcome_in, cancel_in, tick_by, close_in, command_by, name_of};
-ghost use Rattle.site_words.specs.Commands.{command_of, command_with, keyed, keyed_at_desk, keyed_in, may_have_key};
+ghost use Rattle.site_words.specs.Commands.{whole, unkeyed_of, command_of, command_with, keyed, keyed_at_desk, keyed_in, may_have_key};
 
 use command_keys::Key;
 use entry_codec::read_decimal;
@@ -56,6 +56,23 @@ pub enum SiteCommand {
     Quit,
 }
 
+/// The command of a line that has no key.
+#[derive(Clone, Copy)]
+pub enum BareCommand {
+    /// A command that is one call of the desk.
+    AtDesk(DeskCommand),
+    /// Do everything that is due at this time.
+    Tick(u64),
+    /// A tick at a site that has a clock of its own, which refuses it.
+    RefusedTick,
+    /// Report the state of the site and of its links.
+    Status,
+    /// Report the spends that wait.
+    Queue,
+    /// End the program.
+    Quit,
+}
+
 /// The first word of a command.
 #[derive(Clone, Copy)]
 enum Name {
@@ -89,32 +106,62 @@ const NAMES: [(&[u8], Name); 11] = [
 /// The word before a key.
 const KEY: &[u8] = b"key";
 
-fn read_issue(words: Option<&[u8]>) -> Option<SiteCommand>
-    ensures { result ≡ issue_in (words_left words.entry) }
+/// A command that has no key, as the command of its line.
+pub fn whole(command: BareCommand) -> SiteCommand
+    ensures { result ≡ whole command }
 {
-    let amount = only_number(words)?;
-    Some(SiteCommand::AtDesk(DeskCommand::Issue(amount)))
+    match command {
+        BareCommand::AtDesk(command) => SiteCommand::AtDesk(command),
+        BareCommand::Tick(time) => SiteCommand::Tick(time),
+        BareCommand::RefusedTick => SiteCommand::RefusedTick,
+        BareCommand::Status => SiteCommand::Status,
+        BareCommand::Queue => SiteCommand::Queue,
+        BareCommand::Quit => SiteCommand::Quit,
+    }
 }
 
-fn read_give(words: Option<&[u8]>) -> Option<SiteCommand>
-    ensures { result ≡ give_in (words_left words.entry) }
+#[inline(always)]
+fn read_issue(words: Option<&[u8]>) -> Option<BareCommand>
+    ensures { option_map whole result ≡ issue_in (words_left words.entry) }
+{
+    let amount = only_number(words)?;
+    Some(BareCommand::AtDesk(DeskCommand::Issue(amount)))
+}
+
+#[inline(always)]
+fn read_give(words: Option<&[u8]>) -> Option<BareCommand>
+    ensures { option_map whole result ≡ give_in (words_left words.entry) }
 {
     let (peer, amount) = site_and_number(words)?;
-    Some(SiteCommand::AtDesk(DeskCommand::Give(peer, amount)))
+    Some(BareCommand::AtDesk(DeskCommand::Give(peer, amount)))
 }
 
 #[tactic(auto, unfolding(crate::specs::Commands::spend_in))]
-fn read_spend(words: Option<&[u8]>, time: Option<u64>) -> Option<SiteCommand>
-    ensures { result ≡ spend_in time (words_left words.entry) }
+#[inline(always)]
+fn read_spend(words: Option<&[u8]>, time: Option<u64>) -> Option<BareCommand>
+    ensures { option_map whole result ≡ spend_in time (words_left words.entry) }
 {
     let (amount, words) = first_number(words)?;
     let deadline = read_deadline(words, time)?;
-    Some(SiteCommand::AtDesk(DeskCommand::Spend(amount, deadline, latest_at(time))))
+    Some(BareCommand::AtDesk(DeskCommand::Spend(amount, deadline, latest_at(time))))
 }
 
 /// The deadline that the only word spells.
+#[inline(always)]
+#[tactic(auto, using(crate::proofs::DeadlineLaws::plain_deadline))]
 fn read_deadline(words: Option<&[u8]>, time: Option<u64>) -> Option<u64>
     ensures { result ≡ deadline_in time (words_left words.entry) }
+{
+    match time {
+        None => only_number(words),
+        Some(time) => deadline_by(words, time),
+    }
+}
+
+/// The same at a site whose own clock shows this time.
+#[inline(never)]
+fn deadline_by(words: Option<&[u8]>, time: u64) -> Option<u64>
+    ensures { result ≡ deadline_in (Some time) (words_left words.entry) }
 {
     let (word, rest) = split_word(words?);
     match rest {
@@ -123,13 +170,12 @@ fn read_deadline(words: Option<&[u8]>, time: Option<u64>) -> Option<u64>
     }
 }
 
-/// The deadline that a word spells: a time; or, at a site with a clock of its own, `+` and how many milliseconds ahead
-/// of its time the deadline is.
-fn deadline_of(word: &[u8], time: Option<u64>) -> Option<u64>
-    ensures { result ≡ deadline_of time word.now }
+/// The deadline that a word spells: a time; or `+` and how many milliseconds ahead of this time the deadline is.
+fn deadline_of(word: &[u8], time: u64) -> Option<u64>
+    ensures { result ≡ deadline_of (Some time) word.now }
 {
-    match (time, word) {
-        (Some(time), [first, ahead @ ..]) if *first == b'+' => ahead_of(time, ahead),
+    match word {
+        [first, ahead @ ..] if *first == b'+' => ahead_of(time, ahead),
         _ => read_decimal(word, 0, u64::MAX),
     }
 }
@@ -152,47 +198,53 @@ fn latest_at(time: Option<u64>) -> Option<u64>
     }
 }
 
-fn read_take(words: Option<&[u8]>) -> Option<SiteCommand>
-    ensures { result ≡ take_in (words_left words.entry) }
+#[inline(always)]
+fn read_take(words: Option<&[u8]>) -> Option<BareCommand>
+    ensures { option_map whole result ≡ take_in (words_left words.entry) }
 {
     let amount = only_number(words)?;
-    Some(SiteCommand::AtDesk(DeskCommand::Take(amount)))
+    Some(BareCommand::AtDesk(DeskCommand::Take(amount)))
 }
 
-fn read_cancel(words: Option<&[u8]>) -> Option<SiteCommand>
-    ensures { result ≡ cancel_in (words_left words.entry) }
+#[inline(always)]
+fn read_cancel(words: Option<&[u8]>) -> Option<BareCommand>
+    ensures { option_map whole result ≡ cancel_in (words_left words.entry) }
 {
     let ticket = only_number(words)?;
-    Some(SiteCommand::AtDesk(DeskCommand::Cancel(ticket)))
+    Some(BareCommand::AtDesk(DeskCommand::Cancel(ticket)))
 }
 
-fn read_outcome(words: Option<&[u8]>) -> Option<SiteCommand>
-    ensures { result ≡ outcome_in (words_left words.entry) }
+#[inline(always)]
+fn read_outcome(words: Option<&[u8]>) -> Option<BareCommand>
+    ensures { option_map whole result ≡ outcome_in (words_left words.entry) }
 {
     let ticket = only_number(words)?;
-    Some(SiteCommand::AtDesk(DeskCommand::Outcome(ticket)))
+    Some(BareCommand::AtDesk(DeskCommand::Outcome(ticket)))
 }
 
 /// A tick at a time. A site that has a clock of its own ticks by it alone.
-fn tick_by(time: Option<u64>, at: u64) -> SiteCommand
-    ensures { result ≡ tick_by time at }
+#[inline(always)]
+fn tick_by(time: Option<u64>, at: u64) -> BareCommand
+    ensures { whole result ≡ tick_by time at }
 {
     match time {
-        Some(_) => SiteCommand::RefusedTick,
-        None => SiteCommand::Tick(at),
+        Some(_) => BareCommand::RefusedTick,
+        None => BareCommand::Tick(at),
     }
 }
 
-fn read_close(words: Option<&[u8]>) -> Option<SiteCommand>
-    ensures { result ≡ close_in (words_left words.entry) }
+#[inline(always)]
+fn read_close(words: Option<&[u8]>) -> Option<BareCommand>
+    ensures { option_map whole result ≡ close_in (words_left words.entry) }
 {
     let heir = optional_site(words)?;
-    Some(SiteCommand::AtDesk(DeskCommand::Close(heir)))
+    Some(BareCommand::AtDesk(DeskCommand::Close(heir)))
 }
 
 /// The command with this name, given the words after it, at a site whose own clock shows this time.
-fn command_by(name: Name, words: Option<&[u8]>, time: Option<u64>) -> Option<SiteCommand>
-    ensures { result ≡ command_by name time (words_left words.entry) }
+#[inline(always)]
+fn command_by(name: Name, words: Option<&[u8]>, time: Option<u64>) -> Option<BareCommand>
+    ensures { option_map whole result ≡ command_by name time (words_left words.entry) }
 {
     match name {
         Name::Issue => read_issue(words),
@@ -202,14 +254,15 @@ fn command_by(name: Name, words: Option<&[u8]>, time: Option<u64>) -> Option<Sit
         Name::Outcome => read_outcome(words),
         Name::Cancel => read_cancel(words),
         Name::Tick => Some(tick_by(time, only_number(words)?)),
-        Name::Status => alone(SiteCommand::Status, words),
-        Name::Queue => alone(SiteCommand::Queue, words),
+        Name::Status => alone(BareCommand::Status, words),
+        Name::Queue => alone(BareCommand::Queue, words),
         Name::Close => read_close(words),
-        Name::Quit => alone(SiteCommand::Quit, words),
+        Name::Quit => alone(BareCommand::Quit, words),
     }
 }
 
 #[tactic(auto, unfolding(crate::specs::Commands::name_of))]
+#[inline(always)]
 fn name_of(text: &[u8]) -> Option<Name>
     ensures { result ≡ name_of text.now }
 {
@@ -217,8 +270,9 @@ fn name_of(text: &[u8]) -> Option<Name>
 }
 
 /// The command with no key that these words spell: the first one, and those after it.
-fn read_bare(first: &[u8], words: Option<&[u8]>, time: Option<u64>) -> Option<SiteCommand>
-    ensures { result ≡ command_with time (first.now ∷ words_left words.entry) }
+#[inline(always)]
+fn read_bare(first: &[u8], words: Option<&[u8]>, time: Option<u64>) -> Option<BareCommand>
+    ensures { option_map whole result ≡ command_with time (first.now ∷ words_left words.entry) }
 {
     command_by(name_of(first)?, words, time)
 }
@@ -261,6 +315,15 @@ pub fn with_key(command: Option<SiteCommand>, key: Key) -> Option<SiteCommand>
     Some(under_key)
 }
 
+/// The same as the command of a line.
+#[inline(never)]
+fn read_whole(first: &[u8], words: Option<&[u8]>, time: Option<u64>) -> Option<SiteCommand>
+    ensures { result ≡ command_with time (first.now ∷ words_left words.entry) }
+{
+    let command = read_bare(first, words, time)?;
+    Some(whole(command))
+}
+
 /// The command under a key that these words spell: the key, and a command with none.
 #[inline(never)]
 fn read_keyed(words: Option<&[u8]>, time: Option<u64>) -> Option<SiteCommand>
@@ -271,7 +334,7 @@ fn read_keyed(words: Option<&[u8]>, time: Option<u64>) -> Option<SiteCommand>
         return Some(SiteCommand::BadKey);
     };
     let (first, words) = split_word(words?);
-    with_key(read_bare(first, words, time), key)
+    with_key(read_whole(first, words, time), key)
 }
 
 /// The command that a line spells, given without its line feed; None if it spells none. Words are separated by single
@@ -285,6 +348,21 @@ pub fn read_command(line: &[u8], time: Option<u64>) -> Option<SiteCommand>
     let (first, words) = split_word(line);
     if first == KEY {
         read_keyed(words, time)
+    } else {
+        read_whole(first, words, time)
+    }
+}
+
+/// The command that a line with no key spells; None if it spells none, or has a key. It is the one that `read_command`
+/// reads, but has no room for a key, so it is read and handed on faster.
+#[inline(always)]
+pub fn read_unkeyed(line: &[u8], time: Option<u64>) -> Option<BareCommand>
+    ensures value { option_map whole result ≡ unkeyed_of time line.now }
+    ensures same { IfSome result (λ command. Some (whole command) ≡ command_of time line.now) }
+{
+    let (first, words) = split_word(line);
+    if first == KEY {
+        None
     } else {
         read_bare(first, words, time)
     }

@@ -11,7 +11,9 @@ mod status_object;
 mod words;
 
 pub use check::JournalCheck;
-pub use commands::{DeskCommand, SiteCommand, read_command, with_key};
+pub use commands::{
+    BareCommand, DeskCommand, SiteCommand, read_command, read_unkeyed, whole, with_key,
+};
 pub use config::{Config, MAX_KEYS, MAX_TICK, MIN_TICK, PeerAddress, USUAL_KEYS};
 pub use fault::{CheckFault, SiteFault};
 pub use name::{MAX_SYSTEM, is_system_name};

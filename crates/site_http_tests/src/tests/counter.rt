@@ -143,6 +143,8 @@ impl Backend for Counter {
 
     ghost queue = { λ client text. ⊤ };
 
+    ghost known = { λ client text. ⊤ };
+
     ghost metrics = { λ client text. ⊤ };
 
     ghost closed = { λ client is_closed. ⊤ };
@@ -171,6 +173,10 @@ impl Backend for Counter {
 
     fn put_queue(&self, replies: &mut Replies<Global>) -> Result<(), OutOfMemory> {
         put_line(replies, b"{\"requests\":[],\"unread\":0}")
+    }
+
+    fn put_peers(&self, replies: &mut Replies<Global>) -> Result<(), OutOfMemory> {
+        put_line(replies, b"{\"peers\":[],\"site\":1}")
     }
 
     fn put_metrics(&self, replies: &mut Replies<Global>) -> Result<(), OutOfMemory> {

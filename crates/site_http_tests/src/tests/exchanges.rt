@@ -216,13 +216,14 @@ fn a_byte_at_a_time_makes_no_difference(rt: HostRuntime) -> Result<(), Fail> {
 }
 
 /// Targets of `GET`, and the content type and body of their responses.
-const SHOWN: [(&str, &str, &str); 4] = [
+const SHOWN: [(&str, &str, &str); 5] = [
     ("/status", "application/json", "{\"held\":0}\n"),
     (
         "/queue",
         "application/json",
         "{\"requests\":[],\"unread\":0}\n",
     ),
+    ("/peers", "application/json", "{\"peers\":[],\"site\":1}\n"),
     ("/metrics", "text/plain; version=0.0.4", "rights_held 0\n"),
     ("/healthz", "text/plain; charset=utf-8", "ok\n"),
 ];

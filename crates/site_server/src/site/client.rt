@@ -1,17 +1,20 @@
 //! The replies to a client of a site. site_node decides what is done and replied; this module decides under which
 //! lock of the desk it is done.
-ghost use Rattle.std.specs.Prelude.{◌≡◌, ◌++◌, ◌+◌, ◌≤◌, ◌⊎◌, false, List, ℕ, [], length, is_some, IfOk, OnOk, OnErr, Option, Some, Ok};
+ghost use Rattle.std.specs.Prelude.{◌≡◌, ◌++◌, ◌+◌, ◌≤◌, ◌⊎◌, false, List, ℕ, [], length, is_some, IfOk, OnOk, OnErr};
+ghost use Rattle.std.specs.Prelude.{IfSome, Option, Some, Ok};
 ghost use Rattle.std.specs.Io.KnownBytes.{IsAtEnd};
 ghost use Rattle.line_streams.specs.Handling.{IsGiven};
 ghost use Rattle.line_streams.specs.Talk.{Talk, EndsBy};
 ghost use Rattle.line_streams.specs.Waiting.{AddsReply};
 ghost use Rattle.refusals.specs.Refusals.{refusal_text};
 ghost use Rattle.refusals.specs.declared.answered.Answered.TheVariants.{Refused};
+ghost use Rattle.site_words.specs.Commands.{whole};
 ghost use Rattle.site_words.specs.Status.{status_text};
 ghost use Rattle.transfer_manager.specs.SiteSets.{has_site};
 ghost use Rattle.desk_turns.specs.Seated.{ActsAtDesk, ActsKeyedAtDesk, TicksAtDesk};
 ghost use Rattle.site_server.specs.Replying.{asked, CarriesOut, CarriesOutKeyed, AreOfPeers, AreViews};
-ghost use Rattle.site_server.specs.Replying.{TellsStatus, TellsQueue, ThenSends, TicksAndSends, DoesDue, GetsBy, GetsLine};
+ghost use Rattle.site_server.specs.Replying.{TellsStatus, TellsQueue, TellsPeers, ThenSends, TicksAndSends, DoesDue};
+ghost use Rattle.site_server.specs.Replying.{GetsBy, GetsLine};
 ghost use Rattle.site_server.specs.Replying.{IsReportOf, goes_by};
 ghost use Rattle.site_server.specs.Connections.{Tells};
 ghost use Rattle.site_server.specs.Conversations.{CountsReplies};
@@ -29,10 +32,14 @@ use reply_texts::{REPLY_ROOM, put_refusal};
 use rights_types::OutOfMemory;
 use site_core::{Desk, DeskError};
 use site_node::{
-    Peers, Reply, TICK_ROOM, Ticked, answer_queue, answer_reply, answer_tick, send_to_all,
+    Peers, Reply, TICK_ROOM, Ticked, answer_peers, answer_queue, answer_reply, answer_tick,
+    send_to_all,
 };
 use site_sockets::{PeerState, SiteSockets};
-use site_words::{DeskCommand, JournalView, PeerView, SiteCommand, read_command, status_text};
+use site_words::{
+    BareCommand, DeskCommand, JournalView, PeerView, SiteCommand, read_command, read_unkeyed,
+    status_text, whole,
+};
 use std::alloc::{Allocator, Global};
 use std::io::{Read, Write};
 use std::marker::Model;
@@ -122,6 +129,15 @@ fn command_in(text: Option<&[u8]>, time: Option<u64>) -> Option<SiteCommand>
     ensures { (line : List ℕ) → IsGiven line text.entry → result ≡ asked time line }
 {
     read_command(text?, time)
+}
+
+/// The same if no key comes before the command; else `None`.
+#[inline(always)]
+fn unkeyed_in(text: Option<&[u8]>, time: Option<u64>) -> Option<BareCommand>
+    ensures { (line : List ℕ) → IsGiven line text.entry
+        → IfSome result (λ command. Some (whole command) ≡ asked time line) }
+{
+    read_unkeyed(text?, time)
 }
 
 /// Adds the reply that a line is refused, and why.
@@ -231,6 +247,7 @@ impl<'a, D: DeskNames, R: Wait, P: Peers + Drop, B: TickSignal + Drop> SiteClien
     }
 
     /// Carries out a command, and adds its reply.
+    #[inline(always)]
     fn carry_out<A: Allocator>(
         &mut self,
         command: DeskCommand,
@@ -251,6 +268,7 @@ impl<'a, D: DeskNames, R: Wait, P: Peers + Drop, B: TickSignal + Drop> SiteClien
     }
 
     /// Carries out a command under a key, or replies to its repeat, and adds the reply.
+    #[inline(never)]
     fn carry_out_keyed<A: Allocator>(
         &mut self,
         key: Key,
@@ -383,6 +401,19 @@ impl<'a, D: DeskNames, R: Wait, P: Peers + Drop, B: TickSignal + Drop> SiteClien
         answer_queue(replies, desk.requests(), desk.outcomes_unread() as u64)
     }
 
+    /// Adds the report of what is known of each other site.
+    pub(crate) fn tell_peers<A: Allocator>(
+        &self,
+        replies: &mut Replies<A>,
+    ) -> Result<(), OutOfMemory>
+        requires { replies.old.part ≡ [] }
+        ensures ok { OnOk result ((text : List ℕ) × TellsPeers D.id text × AddsReply replies.old replies.new text) }
+        ensures err { OnErr result (replies.new.whole ≡ replies.old.whole) }
+    {
+        let look = self.seat.look(self.rt);
+        answer_peers(replies, look.kept().desk())
+    }
+
     /// The command that a line spells now, which is passed without its line feed; `None` is passed for a line that is
     /// too long.
     pub(crate) fn command_in(&self, text: Option<&[u8]>) -> Option<SiteCommand>
@@ -390,6 +421,15 @@ impl<'a, D: DeskNames, R: Wait, P: Peers + Drop, B: TickSignal + Drop> SiteClien
             → (time : Option ℕ) × B.shows self.now.signal time × (result ≡ asked time line) }
     {
         command_in(text, self.signal.time())
+    }
+
+    /// The same if no key comes before the command; else `None`.
+    #[inline(always)]
+    fn unkeyed_in(&self, text: Option<&[u8]>) -> Option<BareCommand>
+        ensures { (line : List ℕ) → IsGiven line text.entry → (time : Option ℕ) × B.shows self.now.signal time
+            × IfSome result (λ command. Some (whole command) ≡ asked time line) }
+    {
+        unkeyed_in(text, self.signal.time())
     }
 
     /// The views of the desk and of its peers, and how many keys are remembered.
@@ -507,6 +547,86 @@ impl<'a, D: DeskNames, R: Wait, P: Peers + Drop, B: TickSignal + Drop> SiteClien
             }
         }
     }
+
+    /// The same for a command with no key.
+    #[inline(always)]
+    fn answer_bare<A: Allocator>(
+        &mut self,
+        command: BareCommand,
+        replies: &mut Replies<A>,
+    ) -> Result<Option<Answered>, OutOfMemory>
+        requires { replies.old.part ≡ [] }
+        ensures ok { IfOk result (λ how. GetsBy P.size P.sends P.stops how D.id (Some (whole command)) self.old.seat
+            self.old.peers replies.old self.new.seat self.new.peers replies.new) }
+        ensures err { OnErr result ((self.new ≡ self.old) × (replies.new.whole ≡ replies.old.whole)) }
+    {
+        match command {
+            BareCommand::AtDesk(command) => {
+                let answered = self.carry_out(command, replies)?;
+                Ok(Some(answered))
+            }
+            BareCommand::Tick(time) => {
+                let answered = self.tick(time, replies)?;
+                Ok(Some(answered))
+            }
+            other => self.answer_rest(other, replies),
+        }
+    }
+
+    /// The same, apart from the commands that come most.
+    #[inline(never)]
+    fn answer_rest<A: Allocator>(
+        &mut self,
+        command: BareCommand,
+        replies: &mut Replies<A>,
+    ) -> Result<Option<Answered>, OutOfMemory>
+        requires { replies.old.part ≡ [] }
+        ensures ok { IfOk result (λ how. GetsBy P.size P.sends P.stops how D.id (Some (whole command)) self.old.seat
+            self.old.peers replies.old self.new.seat self.new.peers replies.new) }
+        ensures err { OnErr result ((self.new ≡ self.old) × (replies.new.whole ≡ replies.old.whole)) }
+    {
+        self.answer_or_end(Some(whole(command)), replies)
+    }
+
+    /// Answers a line, whatever it spells. `quit` gets no answer.
+    #[inline(never)]
+    fn answer_any<A: Allocator>(
+        &mut self,
+        text: Option<&[u8]>,
+        replies: &mut Replies<A>,
+    ) -> Result<Option<Answered>, OutOfMemory>
+        requires { replies.old.part ≡ [] }
+        ensures ok { IfOk result (λ how. (line : List ℕ) → IsGiven line text.entry
+            → (time : Option ℕ) × B.shows self.old.signal time
+            × GetsBy P.size P.sends P.stops how D.id (asked time line) self.old.seat self.old.peers replies.old
+            self.new.seat self.new.peers replies.new) }
+        ensures ready { OnOk result (replies.new.part ≡ []) }
+        ensures err { OnErr result ((self.new ≡ self.old) × (replies.new.whole ≡ replies.old.whole)) }
+    {
+        let command = self.command_in(text);
+        self.answer_or_end(command, replies)
+    }
+
+    /// The same. A command with no key is read and handed on without room for one, which takes less time.
+    #[inline(always)]
+    fn answer_line<A: Allocator>(
+        &mut self,
+        text: Option<&[u8]>,
+        replies: &mut Replies<A>,
+    ) -> Result<Option<Answered>, OutOfMemory>
+        requires { replies.old.part ≡ [] }
+        ensures ok { IfOk result (λ how. (line : List ℕ) → IsGiven line text.entry
+            → (time : Option ℕ) × B.shows self.old.signal time
+            × GetsBy P.size P.sends P.stops how D.id (asked time line) self.old.seat self.old.peers replies.old
+            self.new.seat self.new.peers replies.new) }
+        ensures ready { OnOk result (replies.new.part ≡ []) }
+        ensures err { OnErr result ((self.new ≡ self.old) × (replies.new.whole ≡ replies.old.whole)) }
+    {
+        match self.unkeyed_in(text) {
+            Some(command) => self.answer_bare(command, replies),
+            None => self.answer_any(text, replies),
+        }
+    }
 }
 
 impl<D: DeskNames, R: Wait, P: Peers + Drop, B: TickSignal + Drop> LineHandler
@@ -529,8 +649,7 @@ impl<D: DeskNames, R: Wait, P: Peers + Drop, B: TickSignal + Drop> LineHandler
         text: Option<&[u8]>,
         replies: &mut Replies<A>,
     ) -> Result<Goes, OutOfMemory> {
-        let command = self.command_in(text);
-        let answered = self.answer_or_end(command, replies)?;
+        let answered = self.answer_line(text, replies)?;
         Ok(self.counted(answered))
     }
 }

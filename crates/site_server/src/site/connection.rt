@@ -116,7 +116,7 @@ fn under(key: Option<Key>, command: Option<SiteCommand>) -> Option<SiteCommand>
 
 impl<D: DeskNames, R: Wait, P: Peers + Drop, B: TickSignal + Drop> Backend
     for SiteClient<'_, D, R, P, B> {
-    ghost use Rattle.site_server.specs.Replying.{TellsQueue, TellsStatus};
+    ghost use Rattle.site_server.specs.Replying.{TellsPeers, TellsQueue, TellsStatus};
     ghost use Rattle.site_server.specs.Connections.{Answers};
     ghost use Rattle.site_server.specs.Measuring.{TellsMetrics, TellsClosed};
 
@@ -125,6 +125,8 @@ impl<D: DeskNames, R: Wait, P: Peers + Drop, B: TickSignal + Drop> Backend
     ghost status = { λ _ text. TellsStatus D.id text };
 
     ghost queue = { λ _ text. TellsQueue D.id text };
+
+    ghost known = { λ _ text. TellsPeers D.id text };
 
     ghost metrics = { λ _ text. TellsMetrics D.id text };
 
@@ -153,6 +155,10 @@ impl<D: DeskNames, R: Wait, P: Peers + Drop, B: TickSignal + Drop> Backend
 
     fn put_queue(&self, replies: &mut Replies<Global>) -> Result<(), OutOfMemory> {
         self.tell_queue(replies)
+    }
+
+    fn put_peers(&self, replies: &mut Replies<Global>) -> Result<(), OutOfMemory> {
+        self.tell_peers(replies)
     }
 
     fn put_metrics(&self, replies: &mut Replies<Global>) -> Result<(), OutOfMemory> {
