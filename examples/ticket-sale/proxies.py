@@ -1,6 +1,7 @@
 """What is between the sites: proxies that pass lines on or lose them, and a witness that reads them. And what is between
 buyers and a site: a proxy that breaks their connections now and then."""
 
+import collections
 import random
 import socket
 import threading
@@ -151,13 +152,20 @@ class Front(Proxy):
                 end.shutdown(socket.SHUT_RDWR)
 
 
+# The ports that were given out last. Who asks twice before its sites listen gets no port twice.
+given_ports = collections.deque(maxlen=4_000)
+
+
 def free_ports(count):
     """Ports on which no process listened a moment ago, of those that the system gives to no connection that goes out."""
-    sockets = []
-    while len(sockets) < count:
-        with suppress(OSError):
-            sockets.append(socket.create_server(("127.0.0.1", random.SystemRandom().randrange(10_000, 32_000))))
-    ports = [each.getsockname()[1] for each in sockets]
+    sockets, ports = [], []
+    while len(ports) < count:
+        port = random.SystemRandom().randrange(10_000, 32_000)
+        if port not in given_ports:
+            with suppress(OSError):
+                sockets.append(socket.create_server(("127.0.0.1", port)))
+                ports.append(port)
+    given_ports.extend(ports)
     for each in sockets:
         each.close()
     return ports
