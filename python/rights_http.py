@@ -147,6 +147,28 @@ class Queue(TypedDict):
     unread: int
 
 
+class PeerSums(TypedDict):
+    """What a site knows of another one: the sums of its log up to the entry with the number `applied`, what others gave to
+    it, and what it holds by these. `held` is negative if it used gifts that are not known yet."""
+
+    applied: int
+    closed: bool
+    given: int
+    held: int
+    issued: int
+    received: int
+    site: int
+    spent: int
+    taken_back: int
+
+
+class Peers(TypedDict):
+    """What a site knows of each other one, by number."""
+
+    peers: list[PeerSums]
+    site: int
+
+
 # ---- what may go wrong
 
 
@@ -297,6 +319,11 @@ class SiteClient:
     def queue(self) -> Queue:
         """The spends that wait at the site, of all its clients."""
         found: Queue = json.loads(self._get("/queue"))
+        return found
+
+    def peers(self) -> Peers:
+        """What the site knows of each other one. If one is lost for good, its sales are settled by it."""
+        found: Peers = json.loads(self._get("/peers"))
         return found
 
     def metrics(self) -> dict[str, int | dict[str, int]]:

@@ -234,7 +234,6 @@ def steps_that_are_not_permitted():
         (["E 1 3 4 G:3:5:7", "X a 4"], NO_ENTRY),
         (["E 3 0 1 K:1:0:0", "X a 4"], NO_ENTRY),
         (["E 2 2 5 I:1 I:1 I:1", "X a 5"], NO_ENTRY),
-        (["X a 1", "X a 1"], "its key is remembered already: the site remembered fewer keys, so give a smaller --keys"),
     ]:
         refused(WHOLE + batch(*records), f"record {7 + len(records)} refused: {why}")
 

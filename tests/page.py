@@ -60,6 +60,11 @@ class Situation:
         return {"closed": False, "held": held, "issued": 12000, "number": 3 + n * 4, "peers": peers, "queued": 0,
                 "received": 1500 if n > 120 else 0, "site": 1, "spent": spent}
 
+    def sums(self, n):
+        peers = [{"applied": peer["applied"], "closed": False, "given": n, "held": 4000 - 3 * n, "issued": 0, "received": 4000,
+                  "site": peer["site"], "spent": 2 * n, "taken_back": 0} for peer in self.status(n)["peers"]]
+        return {"peers": peers, "site": 1}
+
     def spent(self, n):
         return int(4200 / (1 + math.exp(-(n - 160) / 45)))
 
@@ -87,7 +92,7 @@ class Situation:
 
 
 class Healthy(Situation):
-    shows = [*Situation.shows, "open", "Held 6,", "all in order", "in order", "QueueFull"]
+    shows = [*Situation.shows, "open", "Held 6,", "all in order", "in order", "QueueFull", "Rights of the peers", "4,000 0"]
     hides = [*Situation.hides, "needs attention"]
 
 
@@ -200,7 +205,7 @@ SITUATIONS = {each.__name__.lower(): each for each in (Healthy, Cut, Silent, Stu
 
 
 class StandIn:
-    """Serves the page, and the status and metrics of a situation, at each `step`th of its polls."""
+    """Serves the page, and what a site says of a situation, at each `step`th of its polls."""
 
     def __init__(self, situation, step=1):
         self.polls = 0
@@ -223,6 +228,9 @@ class StandIn:
                     return None
                 if self.path == "/status":
                     body = json.dumps(situation.status(n), separators=(",", ":")) + "\n"
+                    return self.say(body.encode(), "application/json")
+                if self.path == "/peers":
+                    body = json.dumps(situation.sums(n), separators=(",", ":")) + "\n"
                     return self.say(body.encode(), "application/json")
                 if self.path == "/metrics":
                     return self.say(situation.metrics(n).encode(), "text/plain; version=0.0.4")
@@ -279,7 +287,7 @@ def try_situation(browser, name):
     for text in situation.hides:
         if text in said:
             raise AssertionError(f"it shows {text!r}: {said}")
-    if set(stand_in.asked) - {"/", "/status", "/metrics"}:
+    if set(stand_in.asked) - {"/", "/status", "/peers", "/metrics"}:
         raise AssertionError(f"it asks for {sorted(set(stand_in.asked))}")
     # The browser's minutes have sixty seconds, and a poll comes at least one after the one before.
     if not 30 <= stand_in.polls <= MINUTES * 60 + 2:
@@ -300,7 +308,8 @@ def try_program(browser, program):
         address = f"http://{sites.address()}/"
         said = shown_by(browser, address)
         for text in ("Site 1 of 3", "open, needs attention", "Held 58", "Spent 12", "Queued 500", "Issued 100", "Received 0",
-                     "1 of 2 needs attention", "Cut off: nothing comes from it", "in order", "Short 1"):
+                     "1 of 2 needs attention", "Cut off: nothing comes from it", "in order", "Short 1",
+                     "Site 2 0 0 0 0 30 0 30 open", "Site 3 0 0 0 0 0 0 0 open"):
             expect(text in said, True, f"{text!r} in {said}")
         sites.command("tick 10", "close")
         said = shown_by(browser, address)

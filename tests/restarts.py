@@ -258,7 +258,7 @@ def keys_that_wait_or_expired_have_no_record():
 
 
 def a_site_is_told_to_remember_more_keys():
-    """All that the journal has are remembered then. If one was used twice, the start is refused."""
+    """All that the journal has are remembered then. If one was used twice, it is remembered with its last entry."""
     with Journaled(2, started=[1], keys=2) as sites:
         sites[1].ask_all(["issue 100", "key a take 1", "key b take 2", "key c take 3"])
         sites.agrees(1)
@@ -274,17 +274,14 @@ def a_site_is_told_to_remember_more_keys():
         # Its record stands twice from now on, and the two keys that are remembered are c and a.
         sites.again(1)
         expect(sites[1].ask_all(["key a take 9", "key c take 3"]), ["spent 5", "spent 4"])
-        sites[1].kill()
-        before = sites.content(1)
-        for sites.keys in (3, 4, None):
-            try:
-                sites.start(1).kill()
-                raise AssertionError("a key that stands twice is taken")
-            except rights_site.SiteEnded as ended:
-                expect("so give a smaller --keys" in str(ended), True, ended)
-            expect(sites.content(1), before)
-        sites.keys = 2
-        expect(sites.start(1).ask_all(["key a take 9", "key c take 3"]), ["spent 5", "spent 4"])
+        for sites.keys in (3, 4, None, 3):
+            sites.again(1)
+            expect(sites[1].status()["keys"], 3)
+            expect(sites[1].ask_all(["key a take 9", "key c take 3", "key b take 2"]), ["spent 5", "spent 4", "spent 3"])
+            expect(sites[1].ask_all(["key a take 1", "key b take 1"]), ["error KeyReused", "error KeyReused"])
+        # With three, b is the oldest now, and a, which wrote last, the newest.
+        expect(sites[1].ask_all(["key d take 4", "key b take 2", "key a take 9"]), ["spent 6", "spent 7", "spent 5"])
+        expect(sites[1].ask_all(["key e take 1", "key d take 4", "key b take 2", "key a take 9"]), ["spent 8", "spent 6", "spent 7", "spent 9"])
 
 
 def keys_may_stand_anywhere_behind_their_entries():

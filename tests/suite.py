@@ -107,6 +107,7 @@ if __name__ == "__main__":
     import documents
     import ends
     import journal_refusals
+    import journal_runs
     import journals
     import kills
     import lane_orders
@@ -130,9 +131,9 @@ if __name__ == "__main__":
     import upgrades
 
     modules = [
-        repository, documents, builds, lane_orders, program, journals, journal_refusals, told_checks, scripts, loopback,
-        over_http, restarts, power_cuts, kills, upgrades, spares, ends, silence, timing, schedules, lockstep, shops,
-        tunnels, behind_nginx, many_stocks, packages,
+        repository, documents, builds, lane_orders, program, journals, journal_runs, journal_refusals, told_checks,
+        scripts, loopback, over_http, restarts, power_cuts, kills, upgrades, spares, ends, silence, timing, schedules,
+        lockstep, shops, tunnels, behind_nginx, many_stocks, packages,
     ]  # fmt: skip
     CASES = [case for module in modules for case in module.CASES]
     for each in CASES:

@@ -24,7 +24,7 @@ LONGEST_HEAD = 16_384
 MOST_FIELDS = 64
 # The server closes a connection that says nothing for so many seconds.
 IDLE = 60
-GETS = {"/": "text/html; charset=utf-8", "/status": "application/json", "/queue": "application/json", "/metrics": "text/plain; version=0.0.4", "/healthz": TEXT}
+GETS = {"/": "text/html; charset=utf-8", "/status": "application/json", "/queue": "application/json", "/peers": "application/json", "/metrics": "text/plain; version=0.0.4", "/healthz": TEXT}
 
 # ---- requests
 

@@ -12,6 +12,7 @@ import time
 from contextlib import ExitStack, suppress
 
 from cluster import PATIENCE, TOP, Cluster, at, expect, free_ports, processor_seconds, sees, wait_for
+from site_model import RunningSite
 from web_driver import Client, WebCluster, alone, expect_served, post, request, samples, seats
 
 from rights_http import in_seconds
@@ -498,6 +499,31 @@ def the_spends_that_wait_are_listed():
         expect(expected, b'{"requests":[{"amount":2,"deadline":6,"ticket":3}],"unread":2}\n')
 
 
+def what_is_known_of_the_other_sites():
+    """The sums of what was written and applied, as an independent model has them."""
+    model = RunningSite(1, 3)
+    with WebCluster(3, started=[1]) as sites, sites.client() as client:
+        for peer, line in [
+            (None, "issue 50"), (3, "E 3 0 1 S:15"), (2, "E 2 0 3 I:100 R:1:30 S:7"), (2, "E 2 3 4 R:3:20"), (None, "give 2 10"),
+            (None, "give 3 8"), (None, "spend 5 0"), (3, "E 3 1 4 I:1000000000 V:2:1000000000 G:2:4:9"), (2, "E 2 4 5 K:0:0:1"),
+            (3, "E 3 4 5 S:1"),
+        ]:  # fmt: skip
+            if peer is None:
+                expect(sites[1].ask(line).encode(), model.reply(line.encode()), line)
+            else:
+                with Client(at(sites.ports[0])) as speaker:
+                    speaker.send(f"H {peer}\n{line}\n".encode())
+                model.hear(peer, line.encode())
+                wait_for(f"site 1 applied {line!r}", sees(sites[1], peer, applied=int(line.split(" ")[3])))
+            answer = client.ask(request("GET", "/peers"))
+            expect_served(answer, 200, model.sums().encode() + b"\n", "application/json", line)
+        expect(json.loads(answer.body), {"peers": [
+            {"applied": 5, "closed": True, "given": 50, "held": 57, "issued": 100, "received": 14, "site": 2, "spent": 7, "taken_back": 0},
+            {"applied": 5, "closed": False, "given": 4, "held": 2000000008, "issued": 1000000000, "received": 28, "site": 3, "spent": 16,
+             "taken_back": 1000000000},
+        ], "site": 1})  # fmt: skip
+
+
 def a_site_that_gets_no_handles():
     """Connections that cannot be accepted wait for a handle, and so does the site, without using the processor."""
     with alone() as sites:
@@ -642,7 +668,7 @@ TESTS = [
     waits_whose_clients_have_gone, a_wait_whose_client_sends_no_more, waits_at_the_end, the_form_of_metrics, metrics_are_the_status,
     lines_of_a_peer_are_counted, lines_for_a_dead_peer_are_dropped, what_is_said_of_a_peer, nothing_is_said_unless_asked_for, a_peer_that_is_started_anew,
     entries_that_no_peer_was_sent, addresses_of_peers_that_cannot_be_resolved, a_site_is_started_once, addresses_that_cannot_be_listened_on, words_that_are_refused, a_site_without_http,
-    a_site_that_ticks_by_itself, nobody_else_ticks_a_site_that_ticks_by_itself, the_spends_that_wait_are_listed,
+    a_site_that_ticks_by_itself, nobody_else_ticks_a_site_that_ticks_by_itself, the_spends_that_wait_are_listed, what_is_known_of_the_other_sites,
     a_site_that_gets_no_handles, requests_that_have_begun_are_answered, the_end_with_clients_that_never_end,
     a_site_at_rest_ends_at_once, the_report_adds_up, a_service_that_is_stopped,
 ]
