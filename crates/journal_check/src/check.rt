@@ -1,6 +1,5 @@
 //! A journal is read, and what it holds is printed.
-ghost use Rattle.std.specs.Prelude.{◌≡◌, ◌⊎◌, ◌++◌, ℕ, Err, IfOk, List, OnOk};
-ghost use Rattle.journal_device.specs.Calls.{Event, IsHonest};
+ghost use Rattle.std.specs.Prelude.{◌≡◌, ◌<◌, ◌++◌, [], ℕ, IfErr, IfOk, List, OnOk};
 ghost use Rattle.site_words.specs.declared.fault.CheckFault.TheVariants.{Explained};
 ghost use Rattle.journal_check.specs.Checks.{Checks, Describes, EndsBy, IsSaid, IsWhole};
 ghost use Rattle.journal_check.specs.Texts.{nobody_text, site_text, why_front, why_line};
@@ -11,33 +10,28 @@ use crate::reading::{Reading, Restored, restore};
 use crate::table::{put_empty_table, put_table};
 use crate::texts::put_cause;
 use journal_device::Device;
-use journal_file::{Start, open_to_read};
+use journal_file::{FileDevice, Start, open_to_read};
 use line_streams::{OutputError, Replies, write_whole};
 use rights_types::OutOfMemory;
-use site_words::{CheckFault, JournalCheck};
+use site_words::CheckFault;
 use std::alloc::Global;
 use std::fs::{File, Files};
 use std::io::Write;
 
-/// Reads the journal at this path, and prints what it holds; if that is not all of the file, why, to `errors`.
-pub fn check_file<R: Files<File = File> + AllocGlobal, S: Start, W: Write, E: Write>(
+/// Opens the journal at this path, to read it only. If the system refuses that, the cause is written to `errors`.
+pub fn open_journal<R: Files<File = File> + AllocGlobal, S: Start, E: Write>(
     rt: &R,
     start: S,
-    check: &JournalCheck,
-    writer: &mut W,
+    path: &str,
     errors: &mut E,
-) -> Result<(), CheckFault>
-    // Either the file could not be opened, or if each read returned what the file held as it was opened, what was
-    // printed is what those bytes stand for.
-    ensures { ((result ≡ Err Explained) × (writer.new ≡ writer.old))
-        ⊎ ((calls : List Event) × (IsHonest S.first calls → Checks S.first check.now.json (W.contents writer.old)
-        (W.contents writer.new) (E.contents errors.old) (E.contents errors.new) result)) }
+) -> Result<FileDevice<S>, CheckFault>
+    ensures opened { IfOk result (λ device. (device.log.events ≡ []) × (errors.new ≡ errors.old)) }
+    ensures refused { IfErr result (λ fault. fault ≡ Explained) }
 {
-    let alloc = rt.alloc();
-    match open_to_read(rt, check.path(), start) {
-        Ok(mut device) => check_device(alloc, &mut device, check.json(), writer, errors),
+    match open_to_read(rt, path, start) {
+        Ok(device) => Ok(device),
         Err(error) => {
-            let line = format!(in alloc; "rights-site: cannot read the journal: {error}\n");
+            let line = format!(in rt.alloc(); "rights-site: cannot read the journal: {error}\n");
             if let Ok(line) = line {
                 let _ = write_whole(errors, line.as_bytes());
             }
@@ -46,7 +40,8 @@ pub fn check_file<R: Files<File = File> + AllocGlobal, S: Start, W: Write, E: Wr
     }
 }
 
-/// The same for a journal on this device, as a table or as an object of JSON.
+/// Reads the journal on this device, and prints what it holds, as a table or as an object of JSON; if that is not all of
+/// the file, why, to `errors`.
 pub fn check_device<D: Device, W: Write, E: Write>(
     alloc: Global,
     device: &mut D,
@@ -54,8 +49,8 @@ pub fn check_device<D: Device, W: Write, E: Write>(
     writer: &mut W,
     errors: &mut E,
 ) -> Result<(), CheckFault>
-    ensures { D.is_honest device.new → Checks (D.seen device.old) json (W.contents writer.old)
-        (W.contents writer.new) (E.contents errors.old) (E.contents errors.new) result }
+    ensures { D.is_honest device.new → Checks (D.faults device.old < D.faults device.new) (D.seen device.old) json
+        (W.contents writer.old) (W.contents writer.new) (E.contents errors.old) (E.contents errors.new) result }
 {
     let mut out = Replies::new(alloc);
     let reading = put_journal(alloc, device, json, &mut out)?;
@@ -108,7 +103,8 @@ fn put_journal<D: Device>(
     out: &mut Replies<Global>,
 ) -> Result<Reading, OutOfMemory>
     ensures says { IfOk result (λ reading. D.is_honest device.new → (text : List ℕ)
-        × Describes (D.seen device.old) json reading text × (out.new.part ≡ out.old.part ++ text)) }
+        × Describes (D.faults device.old < D.faults device.new) (D.seen device.old) json reading text
+        × (out.new.part ≡ out.old.part ++ text)) }
     ensures kept { out.new.whole ≡ out.old.whole }
 {
     match read_first(alloc, device)? {

@@ -5,11 +5,13 @@
 mod check;
 mod first;
 mod json;
+mod laws;
 mod reading;
 mod table;
 mod texts;
 
-pub use check::{check_device, check_file};
+pub use check::{check_device, open_journal};
 pub use first::{First, Owner};
+pub use laws::reads_records;
 pub use reading::{Reading, Restored, restore};
 pub use texts::put_cause;

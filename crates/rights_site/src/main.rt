@@ -1,7 +1,7 @@
 //! The program `rights-site`, on the words and the streams of its process.
 #![tactic(auto)]
 
-use journal_check::check_file;
+use journal_check::{check_device, open_journal};
 use journal_file::Unknown;
 use rights_program::run_given;
 use site_server::run_site;
@@ -44,7 +44,8 @@ fn main(rt: HostRuntime) -> ExitCode {
         },
         |check, writer| {
             let mut errors = TimedStream::new(rt.stderr(), CAUSE_MILLISECONDS);
-            check_file(&rt, Unknown, &check, writer, &mut errors)
+            let mut journal = open_journal(&rt, Unknown, check.path(), &mut errors)?;
+            check_device(rt.alloc(), &mut journal, check.json(), writer, &mut errors)
         },
         &rt,
         &mut rt.stdin(),
