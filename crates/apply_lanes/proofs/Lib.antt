@@ -12,3 +12,5 @@ pub mod CrashLaws
 pub mod RestartLaws
 pub mod AskLaws
 pub mod RecorderLaws
+pub mod SameLaws
+pub mod AgainLaws

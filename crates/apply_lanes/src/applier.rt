@@ -8,6 +8,7 @@ ghost use Rattle.apply_lanes.specs.declared.applier.StepError.TheVariants.{OutOf
 ghost use Rattle.apply_lanes.specs.declared.applier.StepError.TheVariants.{LaneClosed as NothingCame};
 
 mod batch;
+mod replaying;
 
 use crate::gate::Gate;
 use crate::kept::Kept;

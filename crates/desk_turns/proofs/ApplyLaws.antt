@@ -1,11 +1,12 @@
 -- The turns of an applier.
-use Rattle.std.proofs.Common.{◌≡◌, ℕ, zero, suc, Bool, true, List, Result, Ok, inl, inr, refl}
+use Rattle.std.proofs.Common.{◌≡◌, ℕ, zero, suc, Bool, true, List, Result, Ok, Err, OnOk, inl, inr, refl}
+use Rattle.rights_types.specs.Entries.{EntryValue}
 use Rattle.apply_lanes.specs.Names.{DeskId}
 use Rattle.apply_lanes.specs.Kepts.{KeptValue}
 use Rattle.apply_lanes.specs.Appliers.{ApplierValue, Fills}
 use Rattle.apply_lanes.specs.declared.applier.StepError.{StepError}
 use Rattle.desk_turns.specs.Turns.{TakesTurn}
-use Rattle.desk_turns.specs.Applying.{AppliesReady, NoneCame, AppliesBatch, HasApplied, AppliesAll}
+use Rattle.desk_turns.specs.Applying.{AppliesReady, NoneCame, AppliesBatch, HasApplied, AppliesAll, AppliesHand, TakesAgain}
 
 module _ {G A : Type 0} (id : DeskId) (was : List KeptValue) (old : ApplierValue G A) where
   -- an entry came, and a turn was taken
@@ -35,3 +36,23 @@ module _ {G A : Type 0} (id : DeskId) (was : List KeptValue) (old : ApplierValue
       (now : List KeptValue) (new : ApplierValue G A) → HasApplied id was old mid last
       → AppliesBatch id mid last result now new → AppliesAll id was old result now new
   applies_all mid last result now new h one = record { mid = mid; last = last; before = h; ends = one }
+
+  -- an entry came, and was applied again
+  pub takes_again : (e : EntryValue) (taken : ApplierValue G A) (result : Result (Unit {0}) StepError) (now : List KeptValue)
+      (new : ApplierValue G A) → Fills old true taken
+      → TakesTurn id (λ k l. AppliesHand id e taken k result new l) was now → OnOk result (TakesAgain id e was old now new)
+  takes_again e taken (Ok done) now new fills turn = record {
+    taken = taken;
+    fills = fills;
+    hand = turn.does.0;
+    leaves = turn.does.1;
+    turn = record {
+      old = turn.old;
+      new = turn.new;
+      one = turn.one;
+      before = turn.before;
+      after = turn.after;
+      does = turn.does.2;
+    };
+  }
+  takes_again e taken (Err fault) now new fills turn = tt

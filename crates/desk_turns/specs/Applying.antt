@@ -1,9 +1,11 @@
--- The turns of an applier at a desk: a batch of entries in each.
-use Rattle.std.specs.Prelude.{◌≡◌, ℕ, zero, suc, ◌⊎◌, Bool, true, false, List, None, Result, Ok, Err, IfOk, IfErr}
+-- The turns of an applier at a desk: a batch of entries in each; or one entry, as a site starts again.
+use Rattle.std.specs.Prelude.{◌≡◌, ℕ, zero, suc, ◌⊎◌, Bool, true, false, List, Some, None, Result, Ok, Err, IfOk, IfErr}
+use Rattle.rights_types.specs.Entries.{EntryValue}
 use Rattle.apply_lanes.specs.Names.{DeskId}
 use Rattle.apply_lanes.specs.Kepts.{KeptValue}
-use Rattle.apply_lanes.specs.Appliers.{ApplierValue, Fills}
+use Rattle.apply_lanes.specs.Appliers.{ApplierValue, Fills, applied}
 use Rattle.apply_lanes.specs.Batches.{HandlesBatch, BatchFails}
+use Rattle.apply_lanes.specs.Restarts.{AppliesAgain}
 use Rattle.apply_lanes.specs.declared.applier.StepError.{StepError}
 use Rattle.apply_lanes.specs.declared.applier.StepError.TheVariants.{LaneClosed}
 use Rattle.desk_turns.specs.Turns.{TakesTurn}
@@ -54,3 +56,20 @@ module _ {G A : Type 0} where
     pub last : ApplierValue G A
     pub before : HasApplied id was old mid last
     pub ends : AppliesBatch id mid last result now new
+
+  -- ---- a start from a journal
+
+  -- the entry in hand was this one, and it was applied again; or it was refused, and nothing changed
+  abbrev pub AppliesHand : DeskId → EntryValue → ApplierValue G A → KeptValue → Result (Unit {0}) StepError
+      → ApplierValue G A → KeptValue → Type 0
+  AppliesHand id e was old (Ok done) now new = (was.hand ≡ Some e) × (now ≡ applied id was e) × AppliesAgain id old e new
+  AppliesHand id e was old (Err fault) now new = (now ≡ was) × (new ≡ old)
+
+  -- the next entry was this one, and in one turn it was applied again
+  pub record TakesAgain (id : DeskId) (e : EntryValue) (was : List KeptValue) (old : ApplierValue G A)
+      (now : List KeptValue) (new : ApplierValue G A) : Type 0 where
+    pub taken : ApplierValue G A
+    pub fills : Fills old true taken
+    pub hand : taken.hand ≡ Some e
+    pub leaves : new ≡ applied id taken e
+    pub turn : TakesTurn id (λ k l. AppliesAgain id k e l) was now

@@ -10,6 +10,6 @@ mod work;
 pub use seats::{Seated, Seats};
 pub use turns::{Look, TurnDesk, Turns};
 pub use work::{
-    Act, ActKeyed, ApplyReady, HandOver, HandedOver, KeepJournal, ReplayAsk, ReplayKey, ReplayOwn,
-    SkipTickets, SkipUnpublished, Tick, TickBeside, Work,
+    Act, ActKeyed, ApplyReady, HandOver, HandedOver, KeepJournal, ReplayApplied, ReplayAsk,
+    ReplayKey, ReplayOwn, SkipTickets, SkipUnpublished, Tick, TickBeside, Work,
 };

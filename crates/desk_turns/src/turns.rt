@@ -4,9 +4,9 @@ ghost use Rattle.std.specs.Prelude.{◌≡◌, ℕ, [], false, Ok, Err, IfOk, On
 ghost use Rattle.apply_lanes.specs.Names.{id_of, AreBlank, IsUnused};
 ghost use Rattle.apply_lanes.specs.Kepts.{told_nothing};
 ghost use Rattle.desk_turns.specs.Turns.{TakesTurn};
-ghost use Rattle.desk_turns.specs.Applying.{AppliesBatch, AppliesAll};
+ghost use Rattle.desk_turns.specs.Applying.{AppliesBatch, AppliesAll, TakesAgain};
 
-use crate::work::{ApplyReady, Work};
+use crate::work::{ApplyReady, ReplayApplied, Work};
 use apply_lanes::{
     AdmitError, Applier, Blanks, DeskNames, Free, Kept, Outlet, Seat, SeatsFull, SharedDesk,
     StepError, pause,
@@ -14,7 +14,7 @@ use apply_lanes::{
 use command_keys::KeyBook;
 use durability::Durability;
 use histories::History;
-use rights_types::SiteId;
+use rights_types::{Entry, SiteId};
 use site_core::Desk;
 use std::marker::Model;
 use std::sync::{Arc, MutexGuard, Wait};
@@ -240,6 +240,23 @@ impl<D: DeskNames> Turns<D> {
             }
         }
         unreachable!()
+    }
+
+    /// Waits for an entry of this applier's lane, and then applies it again in one turn, if it is this one, and nothing
+    /// else. Errors: `LaneClosed`, without a turn; those of `Applier::apply_again`.
+    pub fn apply_again<R: Wait>(
+        &mut self,
+        rt: &R,
+        applier: &mut Applier<D, Free>,
+        entry: &Entry,
+    ) -> Result<(), StepError>
+        ensures { OnOk result (TakesAgain D.id entry.now self.old applier.old self.new applier.new) }
+    {
+        match applier.fill_soon(rt) {
+            Ok(true) => self.take(rt, ReplayApplied(entry), applier),
+            Ok(false) => Err(StepError::LaneClosed),
+            Err(fault) => Err(fault),
+        }
     }
 
     /// Waits until no other thread holds the desk, and holds it for reading.

@@ -144,6 +144,26 @@ impl<D: DeskNames> Work<D> for ApplyReady {
     }
 }
 
+/// To apply an entry of another site again, which its applier has in hand.
+#[derive(Drop)]
+pub struct ReplayApplied<'a>(pub &'a Entry);
+
+impl<'a, D: DeskNames> Work<D> for ReplayApplied<'a> {
+    ghost use Rattle.desk_turns.specs.Applying.{AppliesHand};
+
+    type With = Applier<D, Free>;
+
+    type Told = Result<(), StepError>;
+
+    ghost may = { λ _. Unit {0} };
+
+    ghost does = { λ work was old told now new. AppliesHand D.id work.0.now was old told now new };
+
+    fn work(self, kept: &mut Kept<D>, with: &mut Applier<D, Free>) -> Result<(), StepError> {
+        with.apply_again(kept, self.0)
+    }
+}
+
 /// To keep a journal from now on, which has all records so far.
 #[derive(Drop)]
 pub struct KeepJournal {

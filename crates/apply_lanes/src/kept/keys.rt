@@ -1,6 +1,6 @@
 //! The keys of commands under the lock.
 ghost use Rattle.std.specs.Prelude.{◌≡◌, ◌≤◌, ◌++◌, ◌∷◌, [], length, nat_lt, Option, None, IfErr, OnOk, OnErr};
-ghost use Rattle.command_keys.specs.Keys.{outcome_of, remembered, Settles};
+ghost use Rattle.command_keys.specs.Keys.{entry_key, outcome_of, remembered, Settles};
 ghost use Rattle.command_keys.specs.Books.{KeyBookValue, HasRoom, ServesKey, with_record};
 ghost use Rattle.site_records.specs.KeyRecords.{RefusesKey};
 ghost use Rattle.apply_lanes.specs.Kepts.{book_of};
@@ -49,6 +49,13 @@ impl<D: DeskNames, A: Allocator + Copy> Kept<D, A> {
         ensures { result ≡ outcome_of self.now.keys.keys key.now }
     {
         self.keys.as_ref()?.keys().lookup(key)
+    }
+
+    /// The key whose command wrote the entry of this number. `None` if there was none, or it was forgotten.
+    pub fn entry_key(&self, number: u64) -> Option<Key>
+        ensures { result ≡ entry_key number self.now.keys.keys.written }
+    {
+        self.keys.as_ref()?.keys().entry_key(number)
     }
 
     /// The spends that wait under keys but not in the desk's queue expired: their keys are remembered so.

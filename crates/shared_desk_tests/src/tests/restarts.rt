@@ -3,7 +3,7 @@ use crate::tests::desks::{alone, applier_at, report_of, seat_at, with_applied, w
 use crate::tests::links::{feed, link};
 use crate::tests::scenes::{Host, Scene, play};
 use apply_lanes::laws::taken_in;
-use apply_lanes::{Applied, DeskNames, Free, Report, Seat, SharedDesk};
+use apply_lanes::{Applied, Applier, DeskNames, Free, Report, Seat, SharedDesk, StepError};
 use entry_codec::read_line;
 use rights_types::{Ask, Message, SiteId};
 use site_core::{DeskError, ReplayError};
@@ -13,6 +13,9 @@ use std::alloc::Allocator;
 const BEFORE: [&str; 3] = ["E 1 0 1 I:10\n", "W 1 2 1 5\n", "E 1 1 3 S:4 R:2:6\n"];
 
 const GIFT: &str = "E 2 0 2 I:20 R:1:7\n";
+
+// As many moves, one of which is another.
+const OTHER: &str = "E 2 0 2 I:20 R:1:8\n";
 
 // What it wrote afterwards.
 const AFTER: [&str; 2] = ["E 1 3 4 S:5\n", "E 1 4 6 S:1 I:2\n"];
@@ -62,12 +65,31 @@ fn replay_all<D: DeskNames, R: Host>(
     }
 }
 
-// What the peer's applier reports, once it has applied the gift.
+// The applier applies the entry of that line again.
+fn apply_again<D: DeskNames, R: Host>(
+    rt: &R,
+    desk: &SharedDesk<D>,
+    applier: &mut Applier<D, Free>,
+    line: &str,
+) -> Result<(), StepError> {
+    match read_line(rt.alloc(), line.as_bytes()) {
+        Ok(Message::Push(entry)) => {
+            let mut kept = desk.lock(rt);
+            applier.apply_again(&mut *kept, &entry)
+        }
+        _ => Err(StepError::OutOfStep),
+    }
+}
+
+// What the peer's applier reports, once it has applied the gift again, and no other entry.
 fn gift<D: DeskNames, R: Host>(rt: &R, desk: &SharedDesk<D>) -> Applied<D> {
     let (intake, outlet) = link(rt, rt.alloc(), 2, 2);
     let intake = feed(rt, intake, GIFT);
     let mut applier = applier_at(rt, desk, 2, outlet, Free);
-    assert!(rt; applier.run(rt, desk) == Ok(1));
+    assert!(rt; applier.fill_soon(rt) == Ok(true));
+    assert!(rt; apply_again(rt, desk, &mut applier, OTHER) == Err(StepError::OutOfStep));
+    assert!(rt; apply_again(rt, desk, &mut applier, GIFT) == Ok(()));
+    assert!(rt; apply_again(rt, desk, &mut applier, GIFT) == Err(StepError::OutOfStep));
     taken_in(intake, applier).done()
 }
 
