@@ -6,6 +6,7 @@ mod conversation;
 mod endings;
 mod links;
 mod log;
+mod options;
 mod outbox;
 mod status;
 mod words;

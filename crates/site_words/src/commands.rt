@@ -1,9 +1,9 @@
 //! The commands of a running site.
-ghost use Rattle.std.specs.Prelude.{◌≡◌, ◌∷◌, Some, IfSome, option_map};
+ghost use Rattle.std.specs.Prelude.{◌≡◌, ◌∷◌};
 ghost use Rattle.line_streams.specs.Words.{words_left};
 ghost use Rattle.site_words.specs.Commands.{issue_in, give_in, spend_in, take_in, ahead_of, deadline_of, deadline_in};
 ghost use Rattle.site_words.specs.Commands.{latest_at, outcome_in, cancel_in, tick_by, close_in, command_by, name_of};
-ghost use Rattle.site_words.specs.Commands.{whole, unkeyed_of, command_of, command_with, keyed, keyed_at_desk, keyed_in, may_have_key};
+ghost use Rattle.site_words.specs.Commands.{command_of, command_left, command_with, keyed, keyed_in, may_have_key, under_key};
 
 use command_keys::Key;
 use entry_codec::read_decimal;
@@ -35,15 +35,11 @@ pub enum DeskCommand {
     Close(Option<SiteId>),
 }
 
-/// The command of a line.
+/// A command with no key.
 #[derive(Clone, Copy)]
-pub enum SiteCommand {
+pub enum BareCommand {
     /// A command that is one call of the desk.
     AtDesk(DeskCommand),
-    /// A command of the desk under a key: one that writes an entry.
-    Keyed(Key, DeskCommand),
-    /// A key that is none, or a line that may have none: it is refused.
-    BadKey,
     /// Do everything that is due at this time: expire, serve, plan, and send to the peers.
     Tick(u64),
     /// A tick at a site that has a clock of its own, which refuses it.
@@ -56,21 +52,24 @@ pub enum SiteCommand {
     Quit,
 }
 
-/// The command of a line that has no key.
+/// The command of a line.
 #[derive(Clone, Copy)]
-pub enum BareCommand {
-    /// A command that is one call of the desk.
-    AtDesk(DeskCommand),
-    /// Do everything that is due at this time.
-    Tick(u64),
-    /// A tick at a site that has a clock of its own, which refuses it.
-    RefusedTick,
-    /// Report the state of the site and of its links.
-    Status,
-    /// Report the spends that wait.
-    Queue,
-    /// End the program.
-    Quit,
+pub enum SiteCommand {
+    /// A command with no key.
+    Bare(BareCommand),
+    /// A command of the desk under a key: one that writes an entry.
+    Keyed(Key, DeskCommand),
+    /// A key that is none, or a line that may have none: it is refused.
+    BadKey,
+}
+
+/// A line whose key is not read yet. It has no room for one, so it is handed on faster than a `SiteCommand`.
+#[derive(Clone, Copy)]
+pub enum SiteLine<'a> {
+    /// A command with no key.
+    Command(BareCommand),
+    /// The words after `key`.
+    AfterKey(Option<&'a [u8]>),
 }
 
 /// The first word of a command.
@@ -106,23 +105,9 @@ const NAMES: [(&[u8], Name); 11] = [
 /// The word before a key.
 const KEY: &[u8] = b"key";
 
-/// A command that has no key, as the command of its line.
-pub fn whole(command: BareCommand) -> SiteCommand
-    ensures { result ≡ whole command }
-{
-    match command {
-        BareCommand::AtDesk(command) => SiteCommand::AtDesk(command),
-        BareCommand::Tick(time) => SiteCommand::Tick(time),
-        BareCommand::RefusedTick => SiteCommand::RefusedTick,
-        BareCommand::Status => SiteCommand::Status,
-        BareCommand::Queue => SiteCommand::Queue,
-        BareCommand::Quit => SiteCommand::Quit,
-    }
-}
-
 #[inline(always)]
 fn read_issue(words: Option<&[u8]>) -> Option<BareCommand>
-    ensures { option_map whole result ≡ issue_in (words_left words.entry) }
+    ensures { result ≡ issue_in (words_left words.entry) }
 {
     let amount = only_number(words)?;
     Some(BareCommand::AtDesk(DeskCommand::Issue(amount)))
@@ -130,7 +115,7 @@ fn read_issue(words: Option<&[u8]>) -> Option<BareCommand>
 
 #[inline(always)]
 fn read_give(words: Option<&[u8]>) -> Option<BareCommand>
-    ensures { option_map whole result ≡ give_in (words_left words.entry) }
+    ensures { result ≡ give_in (words_left words.entry) }
 {
     let (peer, amount) = site_and_number(words)?;
     Some(BareCommand::AtDesk(DeskCommand::Give(peer, amount)))
@@ -139,7 +124,7 @@ fn read_give(words: Option<&[u8]>) -> Option<BareCommand>
 #[tactic(auto, unfolding(crate::specs::Commands::spend_in))]
 #[inline(always)]
 fn read_spend(words: Option<&[u8]>, time: Option<u64>) -> Option<BareCommand>
-    ensures { option_map whole result ≡ spend_in time (words_left words.entry) }
+    ensures { result ≡ spend_in time (words_left words.entry) }
 {
     let (amount, words) = first_number(words)?;
     let deadline = read_deadline(words, time)?;
@@ -200,7 +185,7 @@ fn latest_at(time: Option<u64>) -> Option<u64>
 
 #[inline(always)]
 fn read_take(words: Option<&[u8]>) -> Option<BareCommand>
-    ensures { option_map whole result ≡ take_in (words_left words.entry) }
+    ensures { result ≡ take_in (words_left words.entry) }
 {
     let amount = only_number(words)?;
     Some(BareCommand::AtDesk(DeskCommand::Take(amount)))
@@ -208,7 +193,7 @@ fn read_take(words: Option<&[u8]>) -> Option<BareCommand>
 
 #[inline(always)]
 fn read_cancel(words: Option<&[u8]>) -> Option<BareCommand>
-    ensures { option_map whole result ≡ cancel_in (words_left words.entry) }
+    ensures { result ≡ cancel_in (words_left words.entry) }
 {
     let ticket = only_number(words)?;
     Some(BareCommand::AtDesk(DeskCommand::Cancel(ticket)))
@@ -216,7 +201,7 @@ fn read_cancel(words: Option<&[u8]>) -> Option<BareCommand>
 
 #[inline(always)]
 fn read_outcome(words: Option<&[u8]>) -> Option<BareCommand>
-    ensures { option_map whole result ≡ outcome_in (words_left words.entry) }
+    ensures { result ≡ outcome_in (words_left words.entry) }
 {
     let ticket = only_number(words)?;
     Some(BareCommand::AtDesk(DeskCommand::Outcome(ticket)))
@@ -225,7 +210,7 @@ fn read_outcome(words: Option<&[u8]>) -> Option<BareCommand>
 /// A tick at a time. A site that has a clock of its own ticks by it alone.
 #[inline(always)]
 fn tick_by(time: Option<u64>, at: u64) -> BareCommand
-    ensures { whole result ≡ tick_by time at }
+    ensures { result ≡ tick_by time at }
 {
     match time {
         Some(_) => BareCommand::RefusedTick,
@@ -235,7 +220,7 @@ fn tick_by(time: Option<u64>, at: u64) -> BareCommand
 
 #[inline(always)]
 fn read_close(words: Option<&[u8]>) -> Option<BareCommand>
-    ensures { option_map whole result ≡ close_in (words_left words.entry) }
+    ensures { result ≡ close_in (words_left words.entry) }
 {
     let heir = optional_site(words)?;
     Some(BareCommand::AtDesk(DeskCommand::Close(heir)))
@@ -244,7 +229,7 @@ fn read_close(words: Option<&[u8]>) -> Option<BareCommand>
 /// The command with this name, given the words after it, at a site whose own clock shows this time.
 #[inline(always)]
 fn command_by(name: Name, words: Option<&[u8]>, time: Option<u64>) -> Option<BareCommand>
-    ensures { option_map whole result ≡ command_by name time (words_left words.entry) }
+    ensures { result ≡ command_by name time (words_left words.entry) }
 {
     match name {
         Name::Issue => read_issue(words),
@@ -272,7 +257,7 @@ fn name_of(text: &[u8]) -> Option<Name>
 /// The command with no key that these words spell: the first one, and those after it.
 #[inline(always)]
 fn read_bare(first: &[u8], words: Option<&[u8]>, time: Option<u64>) -> Option<BareCommand>
-    ensures { option_map whole result ≡ command_with time (first.now ∷ words_left words.entry) }
+    ensures { result ≡ command_with time (first.now ∷ words_left words.entry) }
 {
     command_by(name_of(first)?, words, time)
 }
@@ -292,41 +277,30 @@ fn may_have_key(command: &DeskCommand) -> bool
     }
 }
 
-/// A command of the desk under this key, if it may have one.
-fn keyed_at_desk(command: DeskCommand, key: Key) -> SiteCommand
-    ensures { result ≡ keyed_at_desk command key }
+/// A command under this key; `BadKey` if it may have none.
+fn under_key(command: BareCommand, key: Key) -> SiteCommand
+    ensures { result ≡ under_key command key }
 {
-    if may_have_key(&command) {
-        SiteCommand::Keyed(key, command)
-    } else {
-        SiteCommand::BadKey
+    match command {
+        BareCommand::AtDesk(command) if may_have_key(&command) => SiteCommand::Keyed(key, command),
+        _ => SiteCommand::BadKey,
     }
 }
 
-/// The command of a line under this key, which came with the line or beside it. `BadKey` if it is a command that may
-/// have none: one that writes no entry, or has a key already. None if the line spells no command.
+/// The command of a line under this key, which came beside it. `BadKey` if it is a command that may have none: one that
+/// writes no entry, or has a key already. None if the line spells no command.
 pub fn with_key(command: Option<SiteCommand>, key: Key) -> Option<SiteCommand>
     ensures { result ≡ keyed command key }
 {
-    let under_key = match command? {
-        SiteCommand::AtDesk(command) => keyed_at_desk(command, key),
-        _ => SiteCommand::BadKey,
-    };
-    Some(under_key)
+    match command? {
+        SiteCommand::Bare(command) => Some(under_key(command, key)),
+        _ => Some(SiteCommand::BadKey),
+    }
 }
 
-/// The same as the command of a line.
+/// The command that the words after `key` spell: the key, and a command with none.
 #[inline(never)]
-fn read_whole(first: &[u8], words: Option<&[u8]>, time: Option<u64>) -> Option<SiteCommand>
-    ensures { result ≡ command_with time (first.now ∷ words_left words.entry) }
-{
-    let command = read_bare(first, words, time)?;
-    Some(whole(command))
-}
-
-/// The command under a key that these words spell: the key, and a command with none.
-#[inline(never)]
-fn read_keyed(words: Option<&[u8]>, time: Option<u64>) -> Option<SiteCommand>
+pub fn read_keyed(words: Option<&[u8]>, time: Option<u64>) -> Option<SiteCommand>
     ensures { result ≡ keyed_in time (words_left words.entry) }
 {
     let (word, words) = split_word(words?);
@@ -334,7 +308,20 @@ fn read_keyed(words: Option<&[u8]>, time: Option<u64>) -> Option<SiteCommand>
         return Some(SiteCommand::BadKey);
     };
     let (first, words) = split_word(words?);
-    with_key(read_whole(first, words, time), key)
+    Some(under_key(read_bare(first, words, time)?, key))
+}
+
+/// What a line spells, as `read_command` reads it, but for its key: `read_keyed` reads that and the command after it.
+#[inline(always)]
+pub fn read_line(line: &[u8], time: Option<u64>) -> Option<SiteLine<'_>>
+    ensures { command_left time result ≡ command_of time line.now }
+{
+    let (first, words) = split_word(line);
+    if first == KEY {
+        Some(SiteLine::AfterKey(words))
+    } else {
+        Some(SiteLine::Command(read_bare(first, words, time)?))
+    }
 }
 
 /// The command that a line spells, given without its line feed; None if it spells none. Words are separated by single
@@ -345,25 +332,9 @@ fn read_keyed(words: Option<&[u8]>, time: Option<u64>) -> Option<SiteCommand>
 pub fn read_command(line: &[u8], time: Option<u64>) -> Option<SiteCommand>
     ensures { result ≡ command_of time line.now }
 {
-    let (first, words) = split_word(line);
-    if first == KEY {
-        read_keyed(words, time)
-    } else {
-        read_whole(first, words, time)
-    }
-}
-
-/// The command that a line with no key spells; None if it spells none, or has a key. It is the one that `read_command`
-/// reads, but has no room for a key, so it is read and handed on faster.
-#[inline(always)]
-pub fn read_unkeyed(line: &[u8], time: Option<u64>) -> Option<BareCommand>
-    ensures value { option_map whole result ≡ unkeyed_of time line.now }
-    ensures same { IfSome result (λ command. Some (whole command) ≡ command_of time line.now) }
-{
-    let (first, words) = split_word(line);
-    if first == KEY {
-        None
-    } else {
-        read_bare(first, words, time)
+    match read_line(line, time) {
+        Some(SiteLine::Command(command)) => Some(SiteCommand::Bare(command)),
+        Some(SiteLine::AfterKey(words)) => read_keyed(words, time),
+        None => None,
     }
 }

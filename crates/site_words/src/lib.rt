@@ -12,7 +12,7 @@ mod words;
 
 pub use check::JournalCheck;
 pub use commands::{
-    BareCommand, DeskCommand, SiteCommand, read_command, read_unkeyed, whole, with_key,
+    BareCommand, DeskCommand, SiteCommand, SiteLine, read_command, read_keyed, read_line, with_key,
 };
 pub use config::{Config, MAX_KEYS, MAX_TICK, MIN_TICK, PeerAddress, USUAL_KEYS};
 pub use fault::{CheckFault, SiteFault};

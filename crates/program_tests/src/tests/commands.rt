@@ -1,7 +1,7 @@
 //! The command that a line of a running site's input spells.
 use command_keys::Key;
 use rights_types::SiteId;
-use site_words::{DeskCommand, SiteCommand, read_command, with_key};
+use site_words::{BareCommand, DeskCommand, SiteCommand, read_command, with_key};
 use std::process::Abort;
 
 /// A command, with its name and its values; 0 for a value that is absent.
@@ -93,14 +93,20 @@ const OTHERS: [&str; 58] = [
 
 fn shown(command: SiteCommand) -> Shown {
     match command {
-        SiteCommand::AtDesk(command) => shown_at_desk(command),
+        SiteCommand::Bare(command) => shown_bare(command),
         SiteCommand::Keyed(_, _) => ("under a key", 0, 0),
         SiteCommand::BadKey => BAD_KEY,
-        SiteCommand::Tick(time) => ("tick", time, 0),
-        SiteCommand::RefusedTick => ("refused tick", 0, 0),
-        SiteCommand::Status => ("status", 0, 0),
-        SiteCommand::Queue => ("queue", 0, 0),
-        SiteCommand::Quit => ("quit", 0, 0),
+    }
+}
+
+fn shown_bare(command: BareCommand) -> Shown {
+    match command {
+        BareCommand::AtDesk(command) => shown_at_desk(command),
+        BareCommand::Tick(time) => ("tick", time, 0),
+        BareCommand::RefusedTick => ("refused tick", 0, 0),
+        BareCommand::Status => ("status", 0, 0),
+        BareCommand::Queue => ("queue", 0, 0),
+        BareCommand::Quit => ("quit", 0, 0),
     }
 }
 
