@@ -1,14 +1,12 @@
 -- What a connection's calls say of the client that is served.
-use Rattle.std.proofs.Common.{◌≡◌, ◌∙◌, ◌⊎◌, ℕ, Bool, List, [], ◌∷◌, ◌++◌, Option, Some, None, inl, inr, refl, ap, sym}
+use Rattle.std.proofs.Common.{◌≡◌, ◌∙◌, ◌⊎◌, ℕ, Bool, List, [], ◌∷◌, ◌++◌, Option, Some, None, ap, sym}
 use Rattle.std.proofs.lemmas.List.{take-append-drop}
 use Rattle.std.proofs.Common.{subst, append-nil, take, drop, Result, IfSome, Ok, Err, OnOk, OnErr}
 use Rattle.std.specs.Io.KnownBytes.{Appends, Consumes}
 use Rattle.line_streams.specs.Fronts.{FallsShort}
-use Rattle.http.specs.declared.request.Request.{Request}
 use Rattle.http_server.specs.Exchange.{Call, Calls, Chain}
 use Rattle.http_server.specs.History.{History, IsServed, new_history}
 use Rattle.http_server.specs.declared.state.Config.{Config}
-use Rattle.http_server.specs.declared.response.Response.{Response}
 use Rattle.http_server.proofs.KnownLemmas.{Appends-then}
 use Rattle.site_http.specs.Replying.{Answering}
 use Rattle.site_http.specs.Responding.{Named, Responds, Serves}
@@ -31,17 +29,17 @@ written_part held new text (Ok done) whole front = (text, whole, [], append-nil 
 written_part held new text (Err error) whole front =
     (take front.0 text, front.2, drop front.0 text, take-append-drop front.0 text)
 
-module _ {S : Type 0} (answers : Option (List ℕ) → Bool → Answering S) (status queue known metrics : S → List ℕ → Type 0)
-    (closed : S → Bool → Type 0) where
+module _ {S : Type 0} (answers : Option (List ℕ) → Bool → Answering S) (status queue known : S → List ℕ → Type 0)
+    (listed : S → ℕ → List ℕ → Type 0) (metrics : S → List ℕ → Type 0) (closed : S → Bool → Type 0) where
   -- the names stay the same
   calls_of_client : (old : Named S) (calls : List Call) (new : Named S)
-      → Chain (Serves answers status queue known metrics closed) old calls new
-      → Chain (Responds answers status queue known metrics closed old.names) old.client calls new.client
+      → Chain (Serves answers status queue known listed metrics closed) old calls new
+      → Chain (Responds answers status queue known listed metrics closed old.names) old.client calls new.client
   calls_of_client old [] new h = ap (λ (s : Named S). s.client) h
   calls_of_client old (call ∷ calls) new h = (
     h.0.client,
     h.1.0,
-    subst (λ (names : List (List ℕ)). Chain (Responds answers status queue known metrics closed names) h.0.client calls new.client)
+    subst (λ (names : List (List ℕ)). Chain (Responds answers status queue known listed metrics closed names) h.0.client calls new.client)
         h.1.1 (calls_of_client h.0 calls new h.2),
   )
 
@@ -51,13 +49,13 @@ module _ {S : Type 0} (answers : Option (List ℕ) → Bool → Answering S) (st
       → first ≡ record { client = client; names = names } → result ≡ final.client → before ≡ new_history → ∥ IsServed config after ∥₁
       → (more : List ℕ) × Consumes given left more × (after.received ≡ before.received ++ more)
       → (more : List ℕ) × Appends held mid more × (after.sent ≡ before.sent ++ more)
-      → Calls (Serves answers status queue known metrics closed) first final before.calls after.calls
+      → Calls (Serves answers status queue known listed metrics closed) first final before.calls after.calls
       → Appends mid holds last → (last ≡ []) ⊎ AnswersFault after last
-      → Conversed (Responds answers status queue known metrics closed names) given left held holds client result
+      → Conversed (Responds answers status queue known listed metrics closed names) given left held holds client result
   conversed config given left held mid holds client names first final result before after last begins same fresh served
       read written calls appended ends =
-      let chain : Chain (Serves answers status queue known metrics closed) first after.calls final
-      = subst (λ (cs : List Call). Chain (Serves answers status queue known metrics closed) first cs final)
+      let chain : Chain (Serves answers status queue known listed metrics closed) first after.calls final
+      = subst (λ (cs : List Call). Chain (Serves answers status queue known listed metrics closed) first cs final)
       (sym (calls.1 ∙ ap (λ (h : History). h.calls ++ calls.0) fresh)) calls.2 in
       record {
         config = config;
@@ -71,7 +69,7 @@ module _ {S : Type 0} (answers : Option (List ℕ) → Bool → Answering S) (st
             (subst (λ (m : List ℕ). Appends held mid m)
             (sym (written.2 ∙ ap (λ (h : History). h.sent ++ written.0) fresh)) written.1) appended;
         calls =
-            subst (λ (s : S). Chain (Responds answers status queue known metrics closed names) client after.calls s) (sym same)
-            (subst (λ (s : Named S). Chain (Responds answers status queue known metrics closed s.names) s.client after.calls
+            subst (λ (s : S). Chain (Responds answers status queue known listed metrics closed names) client after.calls s) (sym same)
+            (subst (λ (s : Named S). Chain (Responds answers status queue known listed metrics closed s.names) s.client after.calls
             final.client) begins (calls_of_client first after.calls final chain));
       }

@@ -11,8 +11,8 @@ use Rattle.site_http.specs.declared.page.TheConstants.{PAGE}
 use Rattle.site_http.specs.declared.route.Allowed.{Allowed}
 use Rattle.site_http.specs.declared.route.Allowed.TheVariants as Only
 use Rattle.site_http.specs.declared.route.Route.{Route}
-use Rattle.site_http.specs.declared.route.Route.TheVariants.{Commands, Wait, Status, Queue, Peers, Metrics, Health, Page}
-use Rattle.site_http.specs.declared.route.Route.TheVariants.{Foreign, Misdirected, NotAllowed, NotFound}
+use Rattle.site_http.specs.declared.route.Route.TheVariants.{Commands, Wait, Status, Queue, Peers, Log, Metrics, Health, Page}
+use Rattle.site_http.specs.declared.route.Route.TheVariants.{Foreign, Misdirected, NotAllowed, NotFound, BadQuery}
 use Rattle.site_http.specs.declared.request_key.RequestKey.{RequestKey}
 use Rattle.site_http.specs.Keys.{key_of}
 use Rattle.site_http.specs.Replying.{Answering, RepliesToBody, text_of}
@@ -65,13 +65,14 @@ module _ {S : Type 0} where
   TellsLine says content_type old r = (text : List ℕ) × says old text
       × IsResponse 200 (headers_for content_type) (text ++ 10 ∷ []) r
 
-module _ {S : Type 0} (answers : Option (List ℕ) → Bool → Answering S) (status queue known metrics : S → List ℕ → Type 0)
-    (closed : S → Bool → Type 0) where
+module _ {S : Type 0} (answers : Option (List ℕ) → Bool → Answering S) (status queue known : S → List ℕ → Type 0)
+    (listed : S → ℕ → List ℕ → Type 0) (metrics : S → List ℕ → Type 0) (closed : S → Bool → Type 0) where
   -- the response to a request that changes nothing
   abbrev pub Shows : S → Route → Response → Type 0
   Shows old Status r = TellsLine status (codes "application/json") old r
   Shows old Queue r = TellsLine queue (codes "application/json") old r
   Shows old Peers r = TellsLine known (codes "application/json") old r
+  Shows old (Log first) r = Tells (λ s text. listed s first text) (codes "text/plain; charset=utf-8") old r
   Shows old Metrics r = Tells metrics (codes "text/plain; version=0.0.4") old r
   Shows old Health r = (is_closed : Bool) × closed old is_closed × IsHealth is_closed r
   Shows old Page r = IsResponse 200 (headers_for (codes "text/html; charset=utf-8")) PAGE.now r
@@ -80,6 +81,7 @@ module _ {S : Type 0} (answers : Option (List ℕ) → Bool → Answering S) (st
   Shows old (NotAllowed allowed) r =
       IsResponse 405 (plain ++ (codes "allow", methods_of allowed) ∷ []) (codes "error Method" ++ 10 ∷ []) r
   Shows old NotFound r = IsResponse 404 plain (codes "error Target" ++ 10 ∷ []) r
+  Shows old BadQuery r = IsResponse 400 plain (codes "error Query" ++ 10 ∷ []) r
   Shows old route r = ⊥
 
   -- in the first state, a request with this route and body, which says this of a key, gets this response and leads to

@@ -1,11 +1,14 @@
 -- How requests are told apart.
-use Rattle.std.specs.Prelude.{◌≡◌, ◌↔◌, ◌⊎◌, ℕ, Bool, true, false, List, [], ◌∷◌, Option, Some, codes, option_map}
-use Rattle.std.specs.Prelude.{unwrap_or, IfSome, IsTrue}
+use Rattle.std.specs.Prelude.{◌≡◌, ◌↔◌, ◌⊎◌, ℕ, ◌-◌, ◌^◌, Bool, true, false, List, [], ◌∷◌, Option, Some, None, codes}
+use Rattle.std.specs.Prelude.{option_map, unwrap_or, if◌then◌else◌, IfSome, IsTrue}
+use Rattle.std.specs.Str.{bytes_eq}
+use Rattle.entry_codec.specs.Moves.{only_number}
+use Rattle.entry_codec.specs.Parts.{split_at}
 use Rattle.line_streams.specs.Words.{named}
 use Rattle.http.specs.declared.request.Request.{Request}
 use Rattle.http.specs.Request.{head_of}
 use Rattle.http.specs.HeaderMap.{ContainsKey, get}
-use Rattle.http.specs.Uri.{uri_authority, uri_path}
+use Rattle.http.specs.Uri.{uri_authority, uri_path, uri_query}
 use Rattle.http_uri.specs.Grammar.{authority_host}
 use Rattle.site_http.specs.Hosts.{IsOwnHost}
 use Rattle.site_http.specs.declared.route.Verb.{Verb}
@@ -20,7 +23,7 @@ use Rattle.site_http.specs.declared.route.Route.TheVariants as Routes
 unfoldable pub verb_of : List ℕ → Verb
 verb_of method = unwrap_or (named ((codes "POST", Post) ∷ (codes "GET", Get) ∷ (codes "HEAD", Get) ∷ []) method) Other
 
--- what a path stands for; the query is ignored
+-- what a path stands for
 unfoldable pub target_of : List ℕ → Target
 target_of path =
     unwrap_or (named (
@@ -29,6 +32,7 @@ target_of path =
     ∷ (codes "/status", Targets.Status)
     ∷ (codes "/queue", Targets.Queue)
     ∷ (codes "/peers", Targets.Peers)
+    ∷ (codes "/log", Targets.Log)
     ∷ (codes "/metrics", Targets.Metrics)
     ∷ (codes "/healthz", Targets.Health) ∷ []
     ) path) Targets.Unknown
@@ -49,22 +53,38 @@ IsForeign request =
     ContainsKey (head_of request).headers (codes "origin")
     ⊎ (field_of request (codes "sec-fetch-site") ≡ Some (codes "cross-site"))
 
--- the route of a request, by whether it is for this site, and whether it comes from a page of another one
-abbrev pub route_by : Bool → Bool → Verb → Target → Route
-route_by false foreign verb target = Routes.Misdirected
-route_by true true Post target = Routes.Foreign
-route_by true foreign verb Targets.Unknown = Routes.NotFound
-route_by true foreign Post Targets.Root = Routes.Commands
-route_by true foreign Get Targets.Root = Routes.Page
-route_by true foreign Other Targets.Root = Routes.NotAllowed Only.GetAndPost
-route_by true foreign Post Targets.Wait = Routes.Wait
-route_by true foreign verb Targets.Wait = Routes.NotAllowed Only.Post
-route_by true foreign Get Targets.Status = Routes.Status
-route_by true foreign Get Targets.Queue = Routes.Queue
-route_by true foreign Get Targets.Peers = Routes.Peers
-route_by true foreign Get Targets.Metrics = Routes.Metrics
-route_by true foreign Get Targets.Health = Routes.Health
-route_by true foreign verb target = Routes.NotAllowed Only.Get
+-- the number after `from=`
+abbrev pub first_by : List (List ℕ) → Option ℕ
+first_by [] = None
+first_by (name ∷ values) = if bytes_eq name (codes "from") then only_number 0 (2 ^ 64 - 1) values else None
+
+-- the number from which a query asks for the log; without a query, from the first
+abbrev pub first_asked : Option (List ℕ) → Option ℕ
+first_asked None = Some 0
+first_asked (Some query) = first_by (split_at 61 query)
+
+abbrev pub log_route : Option ℕ → Route
+log_route None = Routes.BadQuery
+log_route (Some first) = Routes.Log first
+
+-- The route of a request, by whether it is for this site, and whether it comes from a page of another one. The number
+-- from which it asks for the log counts only there.
+abbrev pub route_by : Bool → Bool → Verb → Target → Option ℕ → Route
+route_by false foreign verb target first = Routes.Misdirected
+route_by true true Post target first = Routes.Foreign
+route_by true foreign verb Targets.Unknown first = Routes.NotFound
+route_by true foreign Post Targets.Root first = Routes.Commands
+route_by true foreign Get Targets.Root first = Routes.Page
+route_by true foreign Other Targets.Root first = Routes.NotAllowed Only.GetAndPost
+route_by true foreign Post Targets.Wait first = Routes.Wait
+route_by true foreign verb Targets.Wait first = Routes.NotAllowed Only.Post
+route_by true foreign Get Targets.Status first = Routes.Status
+route_by true foreign Get Targets.Queue first = Routes.Queue
+route_by true foreign Get Targets.Peers first = Routes.Peers
+route_by true foreign Get Targets.Log first = log_route first
+route_by true foreign Get Targets.Metrics first = Routes.Metrics
+route_by true foreign Get Targets.Health first = Routes.Health
+route_by true foreign verb target first = Routes.NotAllowed Only.Get
 
 -- the route of a request to a site whose host has these names
 pub record Leads (names : List (List ℕ)) (request : Request (List ℕ)) (route : Route) : Type 0 where
@@ -73,3 +93,4 @@ pub record Leads (names : List (List ℕ)) (request : Request (List ℕ)) (route
   pub foreign : Bool
   pub is_foreign : IsTrue foreign ↔ IsForeign request
   pub by : route ≡ route_by own foreign (verb_of (head_of request).method) (target_of (uri_path (head_of request).uri))
+      (first_asked (uri_query (head_of request).uri))

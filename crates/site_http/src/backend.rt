@@ -30,6 +30,9 @@ pub trait Backend {
     // The text is the report of what is known of each other site.
     ghost known: { Self → List ℕ → Type 0 };
 
+    // The text is the export of the site's log from this number on.
+    ghost listed: { Self → ℕ → List ℕ → Type 0 };
+
     // The text is the site's metrics, up to and including the line feed at their end.
     ghost metrics: { Self → List ℕ → Type 0 };
 
@@ -73,6 +76,12 @@ pub trait Backend {
     fn put_peers(&self, replies: &mut Replies<Global>) -> Result<(), OutOfMemory>
         requires { IsEmpty replies.old }
         ensures { OnOk result ((text : List ℕ) × known self.now text × AddsReply replies.old replies.new text) };
+
+    /// Appends the export of the log from this number on, whose lines end in a line feed each, to the whole replies.
+    fn put_log(&self, first: u64, replies: &mut Replies<Global>) -> Result<(), OutOfMemory>
+        requires { IsEmpty replies.old }
+        ensures { OnOk result ((text : List ℕ) × listed self.now first text
+            × (replies.new.whole ≡ replies.old.whole ++ text)) };
 
     /// Appends the metrics, which end in a line feed, to the whole replies.
     fn put_metrics(&self, replies: &mut Replies<Global>) -> Result<(), OutOfMemory>

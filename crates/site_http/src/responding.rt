@@ -29,7 +29,7 @@ pub(crate) fn respond<C: Backend>(
     response: &mut Response,
 ) -> Result<(), AllocError>
     requires { IsBlank response.old }
-    ensures ok { OnOk result (Responds C.answers C.status C.queue C.known C.metrics C.closed (map string_bytes names.now)
+    ensures ok { OnOk result (Responds C.answers C.status C.queue C.known C.listed C.metrics C.closed (map string_bytes names.now)
         client.old request.now response.new client.new) }
     ensures err { OnErr result (client.new ≡ client.old) }
 {
@@ -39,6 +39,7 @@ pub(crate) fn respond<C: Backend>(
         Route::Status => tell_status(client, replies, response),
         Route::Queue => tell_queue(client, replies, response),
         Route::Peers => tell_peers(client, replies, response),
+        Route::Log(first) => tell_log(client, first, replies, response),
         Route::Metrics => tell_metrics(client, replies, response),
         Route::Health => tell_health(client, response),
         Route::Page => show_page(response),
@@ -46,6 +47,7 @@ pub(crate) fn respond<C: Backend>(
         Route::Misdirected => say(response, StatusCode::MISDIRECTED_REQUEST, b"error Host\n"),
         Route::NotAllowed(allowed) => refuse_method(response, allowed),
         Route::NotFound => say(response, StatusCode::NOT_FOUND, b"error Target\n"),
+        Route::BadQuery => say(response, StatusCode::BAD_REQUEST, b"error Query\n"),
     }
 }
 
@@ -124,6 +126,23 @@ fn tell_peers<C: Backend>(
         HeaderValue::from_static("application/json"),
         replies,
     )
+}
+
+fn tell_log<C: Backend>(
+    client: &C,
+    first: u64,
+    replies: &mut Replies<Global>,
+    response: &mut Response,
+) -> Result<(), AllocError>
+    requires { IsBlank response.old }
+    ensures { OnOk result (Tells (λ s text. C.listed s first text) (codes "text/plain; charset=utf-8") client.now
+        response.new) }
+{
+    replies.clear();
+    let Ok(()) = client.put_log(first, replies) else {
+        return Err(AllocError);
+    };
+    tell(response, HeaderValue::from_static(PLAIN), replies)
 }
 
 fn tell_metrics<C: Backend>(

@@ -1,15 +1,20 @@
 //! How requests are told apart.
-ghost use Rattle.std.specs.Prelude.{◌≡◌, ◌↔◌, ℕ, List, map, codes, option_map, IfSome, IsTrue, Some};
+ghost use Rattle.std.specs.Prelude.{◌≡◌, ◌↔◌, ℕ, ◌-◌, ◌^◌, List, map, codes, option_map, IfSome, IsTrue, Some};
+ghost use Rattle.std.specs.Option.{option_copied};
 ghost use Rattle.std.specs.String.{string_bytes};
+ghost use Rattle.entry_codec.specs.Moves.{only_number};
+ghost use Rattle.entry_codec.specs.Parts.{left, split_at};
 ghost use Rattle.http.specs.Request.{head_of};
 ghost use Rattle.http.specs.HeaderMap.{ContainsKey};
 ghost use Rattle.http.specs.Uri.{uri_authority};
 ghost use Rattle.http_uri.specs.Grammar.{authority_host};
 ghost use Rattle.site_http.specs.Hosts.{IsOwnHost};
 ghost use Rattle.site_http.specs.Routing.{verb_of, target_of, field_of, route_by, IsForSite, IsForeign, Leads};
+ghost use Rattle.site_http.specs.Routing.{first_asked, first_by, log_route};
 
 use crate::hosts::is_own_host;
 use bytes::Bytes;
+use entry_codec::{first_decimal, split_first};
 use http::{HeaderName, Request, header};
 use line_streams::named;
 
@@ -30,6 +35,7 @@ pub(crate) enum Target {
     Status,
     Queue,
     Peers,
+    Log,
     Metrics,
     Health,
     Unknown,
@@ -53,6 +59,8 @@ pub enum Route {
     Status,
     Queue,
     Peers,
+    /// List the log from this number on.
+    Log(u64),
     Metrics,
     Health,
     Page,
@@ -62,9 +70,10 @@ pub enum Route {
     Misdirected,
     NotAllowed(Allowed),
     NotFound,
+    BadQuery,
 }
 
-/// The route of a request to a site whose host has these names. A query after the path is ignored.
+/// The route of a request to a site whose host has these names. A query after the path counts only for the log.
 pub(crate) fn route_of(names: &[String], request: &Request<Bytes>) -> Route
     ensures { Leads (map string_bytes names.now) request.now result }
 {
@@ -72,7 +81,8 @@ pub(crate) fn route_of(names: &[String], request: &Request<Bytes>) -> Route
     let foreign = is_foreign(request);
     let verb = verb_of(request.method().as_str());
     let target = target_of(request.uri().path());
-    route_by(own, foreign, verb, target)
+    let first = first_asked(request.uri().query());
+    route_by(own, foreign, verb, target, first)
 }
 
 /// Whether the request names no host besides the site's own.
@@ -159,12 +169,13 @@ fn verb_of(method: &str) -> Verb
     named(&VERBS, method.as_bytes()).unwrap_or(Verb::Other)
 }
 
-const TARGETS: [(&[u8], Target); 7] = [
+const TARGETS: [(&[u8], Target); 8] = [
     (b"/", Target::Root),
     (b"/wait", Target::Wait),
     (b"/status", Target::Status),
     (b"/queue", Target::Queue),
     (b"/peers", Target::Peers),
+    (b"/log", Target::Log),
     (b"/metrics", Target::Metrics),
     (b"/healthz", Target::Health),
 ];
@@ -176,8 +187,50 @@ fn target_of(path: &str) -> Target
     named(&TARGETS, path.as_bytes()).unwrap_or(Target::Unknown)
 }
 
-fn route_by(own: bool, foreign: bool, verb: Verb, target: Target) -> Route
-    ensures { result ≡ route_by own foreign verb target }
+/// The number from which a query asks for the log: all of it, if there is none. `None` if it is no such query.
+fn first_asked(query: Option<&str>) -> Option<u64>
+    ensures { result ≡ first_asked (option_copied query.entry) }
+{
+    match query {
+        Some(query) => first_in(query.as_bytes()),
+        None => Some(0),
+    }
+}
+
+fn first_in(query: &[u8]) -> Option<u64>
+    ensures { result ≡ first_by (split_at 61 query.now) }
+{
+    let (name, value) = split_first(query, b'=');
+    if name != b"from".as_slice() {
+        return None;
+    }
+    only_decimal(value)
+}
+
+/// The number that the only value spells.
+#[tactic(auto, unfolding(entry_codec::specs::Moves::only_number))]
+fn only_decimal(value: Option<&[u8]>) -> Option<u64>
+    ensures { result ≡ only_number 0 (2 ^ 64 - 1) (left 61 value.entry) }
+{
+    let (number, rest) = first_decimal(value, b'=', 0, u64::MAX)?;
+    match rest {
+        None => Some(number),
+        Some(_) => None,
+    }
+}
+
+fn log_route(first: Option<u64>) -> Route
+    ensures { result ≡ log_route first }
+{
+    match first {
+        Some(first) => Route::Log(first),
+        None => Route::BadQuery,
+    }
+}
+
+/// The route, also by the number from which the query asks for the log.
+fn route_by(own: bool, foreign: bool, verb: Verb, target: Target, first: Option<u64>) -> Route
+    ensures { result ≡ route_by own foreign verb target first }
 {
     if !own {
         return Route::Misdirected;
@@ -193,6 +246,7 @@ fn route_by(own: bool, foreign: bool, verb: Verb, target: Target) -> Route
         (Verb::Get, Target::Status) => Route::Status,
         (Verb::Get, Target::Queue) => Route::Queue,
         (Verb::Get, Target::Peers) => Route::Peers,
+        (Verb::Get, Target::Log) => log_route(first),
         (Verb::Get, Target::Metrics) => Route::Metrics,
         (Verb::Get, Target::Health) => Route::Health,
         _ => Route::NotAllowed(Allowed::Get),

@@ -54,7 +54,7 @@ impl<'a, C: Backend> ClientService<'a, C> {
 }
 
 impl<C: Backend> Service for ClientService<'_, C> {
-    ghost answers = { Serves C.answers C.status C.queue C.known C.metrics C.closed };
+    ghost answers = { Serves C.answers C.status C.queue C.known C.listed C.metrics C.closed };
 
     fn call(
         &mut self,

@@ -33,7 +33,7 @@ pub fn converse<C: Backend + Drop, I: Read, W: Write>(
     reader: &mut I,
     writer: &mut W,
 ) -> C
-    ensures { Conversed (Responds C.answers C.status C.queue C.known C.metrics C.closed (map string_bytes names.now))
+    ensures { Conversed (Responds C.answers C.status C.queue C.known C.listed C.metrics C.closed (map string_bytes names.now))
         (I.remaining reader.old) (I.remaining reader.new) (W.contents writer.old)
         (W.contents writer.new) client result }
 {

@@ -1,5 +1,6 @@
 pub mod Lines
 pub mod PeerRows
+pub mod LogRows
 pub mod Serving
 pub mod Publishing
 pub mod ConfirmedLaws

@@ -8,6 +8,7 @@ pub mod ToPeers
 pub mod Hearing
 pub mod Texts
 pub mod PeerSums
+pub mod LogTexts
 pub mod Confirmed
 pub mod Telling
 pub mod Remembering

@@ -1,5 +1,5 @@
 //! A client that counts the lines that it carries out.
-ghost use Rattle.std.specs.Prelude.{◌≡◌, ◌+◌, ◌≤◌, ◌⊎◌, ⊤, ℕ, List, length, OnOk, OnErr};
+ghost use Rattle.std.specs.Prelude.{◌≡◌, ◌+◌, ◌++◌, ◌≤◌, ◌⊎◌, ⊤, ℕ, List, length, OnOk, OnErr};
 ghost use Rattle.line_streams.specs.Waiting.{IsEmpty, AddsReply};
 ghost use Rattle.site_http.specs.declared.backend.TheConstants.{LONGEST_REPLY};
 
@@ -136,6 +136,15 @@ fn put_key(replies: &mut Replies<Global>, key: Option<Key>) -> Result<(), OutOfM
     replies.put(key.bytes())
 }
 
+/// Adds the number from which the log is asked for.
+fn put_first(replies: &mut Replies<Global>, first: u64) -> Result<(), OutOfMemory>
+    requires { IsEmpty replies.old }
+    ensures { OnOk result ((text : List ℕ) × (replies.new.whole ≡ replies.old.whole ++ text)) }
+{
+    replies.put_field(b"from ", first)?;
+    replies.finish()
+}
+
 impl Backend for Counter {
     ghost answers = { λ key waits old line answer new. ⊤ };
 
@@ -144,6 +153,8 @@ impl Backend for Counter {
     ghost queue = { λ client text. ⊤ };
 
     ghost known = { λ client text. ⊤ };
+
+    ghost listed = { λ client first text. ⊤ };
 
     ghost metrics = { λ client text. ⊤ };
 
@@ -177,6 +188,10 @@ impl Backend for Counter {
 
     fn put_peers(&self, replies: &mut Replies<Global>) -> Result<(), OutOfMemory> {
         put_line(replies, b"{\"peers\":[],\"site\":1}")
+    }
+
+    fn put_log(&self, first: u64, replies: &mut Replies<Global>) -> Result<(), OutOfMemory> {
+        put_first(replies, first)
     }
 
     fn put_metrics(&self, replies: &mut Replies<Global>) -> Result<(), OutOfMemory> {

@@ -17,7 +17,7 @@ type Case = (
     &'static str,
 );
 
-const CASES: [Case; 28] = [
+const CASES: [Case; 30] = [
     ("POST /", "", "spend 1 1\n", "200 OK", "", "number 0\n"),
     ("POST /", "", "spend 1 1", "200 OK", "", "number 0\n"),
     ("POST /?a=b", "", "x\n", "200 OK", "", "number 0\n"),
@@ -172,6 +172,15 @@ const CASES: [Case; 28] = [
         "error Method\n",
     ),
     (
+        "POST /log?from=x",
+        "",
+        "",
+        "405 Method Not Allowed",
+        "allow: GET, HEAD\r\n",
+        "error Method\n",
+    ),
+    ("GET /healthz?from=x", "", "", "200 OK", "", "ok\n"),
+    (
         "DELETE /metrics",
         "",
         "",
@@ -216,7 +225,7 @@ fn a_byte_at_a_time_makes_no_difference(rt: HostRuntime) -> Result<(), Fail> {
 }
 
 /// Targets of `GET`, and the content type and body of their responses.
-const SHOWN: [(&str, &str, &str); 5] = [
+const SHOWN: [(&str, &str, &str); 9] = [
     ("/status", "application/json", "{\"held\":0}\n"),
     (
         "/queue",
@@ -224,6 +233,14 @@ const SHOWN: [(&str, &str, &str); 5] = [
         "{\"requests\":[],\"unread\":0}\n",
     ),
     ("/peers", "application/json", "{\"peers\":[],\"site\":1}\n"),
+    ("/log", PLAIN, "from 0\n"),
+    ("/log?from=0", PLAIN, "from 0\n"),
+    ("/log?from=1001", PLAIN, "from 1001\n"),
+    (
+        "/log?from=18446744073709551615",
+        PLAIN,
+        "from 18446744073709551615\n",
+    ),
     ("/metrics", "text/plain; version=0.0.4", "rights_held 0\n"),
     ("/healthz", "text/plain; charset=utf-8", "ok\n"),
 ];
@@ -250,6 +267,41 @@ fn is_shown(rt: &HostRuntime, target: &str, content_type: &str, body: &str) -> R
 fn head_is_get_without_its_body(rt: HostRuntime) -> Result<(), Fail> {
     for (target, content_type, body) in SHOWN.iter() {
         assert!(rt; is_shown(&rt, *target, *content_type, *body)?);
+    }
+    Ok(())
+}
+
+/// Queries for which the log is not listed.
+const BAD_QUERIES: [&str; 12] = [
+    "",
+    "from",
+    "from=",
+    "from=-1",
+    "from=+1",
+    "from=01",
+    "from=1=",
+    "from=1&from=2",
+    "From=1",
+    "to=1",
+    "from=1x",
+    "from=18446744073709551616",
+];
+
+/// Whether the log is not listed for this query.
+fn is_refused(rt: &HostRuntime, query: &str) -> Result<bool, Fail> {
+    let alloc = rt.alloc();
+    let line = format!(in alloc; "GET /log?{query}")?;
+    let asked = request(alloc, line.as_str(), "", "")?;
+    let expected = response(alloc, "400 Bad Request", PLAIN, "", "error Query\n")?;
+    let mut service = ClientService::new(alloc, Counter::new(u8::MAX), &[]);
+    let sent = said(rt, &mut service, asked.as_bytes(), 100)?;
+    Ok(sent.as_slice() == expected.as_bytes())
+}
+
+#[test]
+fn other_queries_for_the_log_are_refused(rt: HostRuntime) -> Result<(), Fail> {
+    for query in BAD_QUERIES.iter() {
+        assert!(rt; is_refused(&rt, *query)?);
     }
     Ok(())
 }
