@@ -8,9 +8,9 @@ use Rattle.line_streams.specs.Talk.{lines_of}
 use Rattle.refusals.specs.Refusals.{LineAnswer}
 use Rattle.apply_lanes.specs.Names.{DeskId}
 use Rattle.apply_lanes.specs.Kepts.{SeatValue}
+use Rattle.site_words.specs.declared.commands.BareCommand.TheVariants.{AtDesk, Tick, RefusedTick, Status, Queue, Quit}
 use Rattle.site_words.specs.declared.commands.SiteCommand.{SiteCommand}
-use Rattle.site_words.specs.declared.commands.SiteCommand.TheVariants.{AtDesk, Keyed, BadKey, Tick, RefusedTick}
-use Rattle.site_words.specs.declared.commands.SiteCommand.TheVariants.{Status, Queue, Quit}
+use Rattle.site_words.specs.declared.commands.SiteCommand.TheVariants.{Bare, Keyed, BadKey}
 use Rattle.site_node.specs.Texts.{reply_text}
 use Rattle.site_node.specs.Confirmed.{Turn, ACommand, HasTurns}
 use Rattle.site_node.specs.declared.reply.Reply.{Reply}
@@ -25,10 +25,10 @@ use Rattle.site_http.specs.Replying.{Answering, AnswersEach, RepliesTo, RepliesT
 use Rattle.site_http.specs.Replying.{text_of}
 use Rattle.site_http.specs.Responding.{RespondsBy}
 use Rattle.site_http.specs.declared.route.Route.{Route}
-use Rattle.site_http.specs.declared.route.Route.TheVariants.{Commands, Wait, Status as Shows, Queue as ShowsQueue, Peers as ShowsPeers, Metrics}
-use Rattle.site_http.specs.declared.route.Route.TheVariants.{Health, Page, Foreign, Misdirected, NotAllowed, NotFound}
+use Rattle.site_http.specs.declared.route.Route.TheVariants.{Commands, Wait, Status as Shows, Queue as ShowsQueue, Peers as ShowsPeers}
+use Rattle.site_http.specs.declared.route.Route.TheVariants.{Log, Metrics, Health, Page, Foreign, Misdirected, NotAllowed, NotFound, BadQuery}
 use Rattle.desk_turns.specs.Seated.{SeatedValue}
-use Rattle.site_server.specs.Replying.{asked_under, TellsStatus, TellsQueue, TellsPeers}
+use Rattle.site_server.specs.Replying.{asked_under, TellsStatus, TellsQueue, TellsPeers, TellsLog}
 use Rattle.site_server.specs.Measuring.{TellsMetrics, TellsClosed}
 use Rattle.site_server.specs.Settling.{Settles, is_unknown}
 use Rattle.site_server.specs.Connections.{ClientValue, Tells, TellsSettled, TellsBy, Answers, Responded}
@@ -139,28 +139,28 @@ module _ {P : Type 0} (size : P → ℕ) (sends : P → ℕ → ℕ → P → Ty
       → Tells size sends stops id command was before answer now after
       → (turns : List Turn) × IsTurn command answer.text turns × HasTurns was.told turns now.told
   tells_turns None was before answer now after h = turns_of_line size sends stops id None was before answer now after h
-  tells_turns (Some (AtDesk command)) was before answer now after h
-      = turns_of_line size sends stops id (Some (AtDesk command)) was before answer now after h
+  tells_turns (Some (Bare (AtDesk command))) was before answer now after h
+      = turns_of_line size sends stops id (Some (Bare (AtDesk command))) was before answer now after h
   tells_turns (Some (Keyed key command)) was before answer now after h
       = turns_of_line size sends stops id (Some (Keyed key command)) was before answer now after h
   tells_turns (Some BadKey) was before answer now after h
       = turns_of_line size sends stops id (Some BadKey) was before answer now after h
-  tells_turns (Some (Tick time)) was before answer now after h
-      = turns_of_line size sends stops id (Some (Tick time)) was before answer now after h
-  tells_turns (Some RefusedTick) was before answer now after h
-      = turns_of_line size sends stops id (Some RefusedTick) was before answer now after h
-  tells_turns (Some Queue) was before answer now after h
-      = turns_of_line size sends stops id (Some Queue) was before answer now after h
-  tells_turns (Some Status) was before answer now after h
-      = turns_of_line size sends stops id (Some Status) was before answer now after h
-  tells_turns (Some Quit) was before answer now after h = ([], refl, ap (λ (s : SeatedValue). s.told) h.1)
+  tells_turns (Some (Bare (Tick time))) was before answer now after h
+      = turns_of_line size sends stops id (Some (Bare (Tick time))) was before answer now after h
+  tells_turns (Some (Bare RefusedTick)) was before answer now after h
+      = turns_of_line size sends stops id (Some (Bare RefusedTick)) was before answer now after h
+  tells_turns (Some (Bare Queue)) was before answer now after h
+      = turns_of_line size sends stops id (Some (Bare Queue)) was before answer now after h
+  tells_turns (Some (Bare Status)) was before answer now after h
+      = turns_of_line size sends stops id (Some (Bare Status)) was before answer now after h
+  tells_turns (Some (Bare Quit)) was before answer now after h = ([], refl, ap (λ (s : SeatedValue). s.told) h.1)
 
   settled_turns : (HasEnded HasLeft : Type 0) (command : Option SiteCommand) (was : SeatedValue) (before : P) (answer : LineAnswer)
       (now : SeatedValue) (after : P)
       → TellsSettled size sends stops HasEnded HasLeft id command was before answer now after
       → (turns : List Turn) × IsSettledTurn command answer.text turns × HasTurns was.told turns now.told
   settled_turns HasEnded HasLeft None was before answer now after h = tells_turns None was before answer now after h
-  settled_turns HasEnded HasLeft (Some (AtDesk command)) was before answer now after h =
+  settled_turns HasEnded HasLeft (Some (Bare (AtDesk command))) was before answer now after h =
       let c = h.0 in (
         ACommand command c.reply ∷ [],
         (c.reply, refl, settled_text HasEnded HasLeft id c.half c.reply c.settled now answer.text c.settles c.says),
@@ -178,15 +178,15 @@ module _ {P : Type 0} (size : P → ℕ) (sends : P → ℕ → ℕ → P → Ty
       )
   settled_turns HasEnded HasLeft (Some BadKey) was before answer now after h
       = tells_turns (Some BadKey) was before answer now after h
-  settled_turns HasEnded HasLeft (Some (Tick time)) was before answer now after h
-      = tells_turns (Some (Tick time)) was before answer now after h
-  settled_turns HasEnded HasLeft (Some RefusedTick) was before answer now after h
-      = tells_turns (Some RefusedTick) was before answer now after h
-  settled_turns HasEnded HasLeft (Some Queue) was before answer now after h
-      = tells_turns (Some Queue) was before answer now after h
-  settled_turns HasEnded HasLeft (Some Status) was before answer now after h
-      = tells_turns (Some Status) was before answer now after h
-  settled_turns HasEnded HasLeft (Some Quit) was before answer now after h = tells_turns (Some Quit) was before answer now after h
+  settled_turns HasEnded HasLeft (Some (Bare (Tick time))) was before answer now after h
+      = tells_turns (Some (Bare (Tick time))) was before answer now after h
+  settled_turns HasEnded HasLeft (Some (Bare RefusedTick)) was before answer now after h
+      = tells_turns (Some (Bare RefusedTick)) was before answer now after h
+  settled_turns HasEnded HasLeft (Some (Bare Queue)) was before answer now after h
+      = tells_turns (Some (Bare Queue)) was before answer now after h
+  settled_turns HasEnded HasLeft (Some (Bare Status)) was before answer now after h
+      = tells_turns (Some (Bare Status)) was before answer now after h
+  settled_turns HasEnded HasLeft (Some (Bare Quit)) was before answer now after h = tells_turns (Some (Bare Quit)) was before answer now after h
 
   module _ {B : Type 0} (has_ended has_left : B → Type 0) (shows : B → Option ℕ → Type 0) where
     -- the command of a line had this effect
@@ -255,8 +255,8 @@ module _ {P : Type 0} (size : P → ℕ) (sends : P → ℕ → ℕ → P → Ty
     turns_of_route : (old : ClientValue P B) (route : Route) (key : RequestKey) (body : List ℕ) (r : Response)
         (new : ClientValue P B)
         → RespondsBy (Answers size sends stops has_ended has_left shows id) (λ client text. TellsStatus id text)
-        (λ client text. TellsQueue id text) (λ client text. TellsPeers id text) (λ client text. TellsMetrics id text)
-        (λ client is_closed. TellsClosed id is_closed) old route key body r new
+        (λ client text. TellsQueue id text) (λ client text. TellsPeers id text) (λ client first text. TellsLog id first text)
+        (λ client text. TellsMetrics id text) (λ client is_closed. TellsClosed id is_closed) old route key body r new
         → (turns : List Turn) × AreRouteTurns route key body r turns × HasTurns old.seat.told turns new.seat.told
     turns_of_route old Commands key body r new h =
         turns_of_commands key old body h.code h.given r new h.replied h.response.body
@@ -265,6 +265,7 @@ module _ {P : Type 0} (size : P → ℕ) (sends : P → ℕ → ℕ → P → Ty
     turns_of_route old Shows key body r new h = ([], refl, ap (λ (c : ClientValue P B). c.seat.told) h.1)
     turns_of_route old ShowsQueue key body r new h = ([], refl, ap (λ (c : ClientValue P B). c.seat.told) h.1)
     turns_of_route old ShowsPeers key body r new h = ([], refl, ap (λ (c : ClientValue P B). c.seat.told) h.1)
+    turns_of_route old (Log first) key body r new h = ([], refl, ap (λ (c : ClientValue P B). c.seat.told) h.1)
     turns_of_route old Metrics key body r new h = ([], refl, ap (λ (c : ClientValue P B). c.seat.told) h.1)
     turns_of_route old Health key body r new h = ([], refl, ap (λ (c : ClientValue P B). c.seat.told) h.1)
     turns_of_route old Page key body r new h = ([], refl, ap (λ (c : ClientValue P B). c.seat.told) h.1)
@@ -272,6 +273,7 @@ module _ {P : Type 0} (size : P → ℕ) (sends : P → ℕ → ℕ → P → Ty
     turns_of_route old Misdirected key body r new h = ([], refl, ap (λ (c : ClientValue P B). c.seat.told) h.1)
     turns_of_route old (NotAllowed allowed) key body r new h = ([], refl, ap (λ (c : ClientValue P B). c.seat.told) h.1)
     turns_of_route old NotFound key body r new h = ([], refl, ap (λ (c : ClientValue P B). c.seat.told) h.1)
+    turns_of_route old BadQuery key body r new h = ([], refl, ap (λ (c : ClientValue P B). c.seat.told) h.1)
 
     turns_of_calls : (names : List (List ℕ)) (old : ClientValue P B) (calls : List Call) (new : ClientValue P B)
         → Chain (Responded size sends stops has_ended has_left shows id names) old calls new

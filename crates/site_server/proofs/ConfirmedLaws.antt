@@ -15,9 +15,9 @@ use Rattle.refusals.specs.Refusals.{LineAnswer}
 use Rattle.refusals.specs.declared.answered.Answered.{Answered}
 use Rattle.apply_lanes.specs.Names.{DeskId}
 use Rattle.apply_lanes.specs.Kepts.{SeatValue}
+use Rattle.site_words.specs.declared.commands.BareCommand.TheVariants.{AtDesk, Tick, RefusedTick, Status, Queue, Quit}
 use Rattle.site_words.specs.declared.commands.SiteCommand.{SiteCommand}
-use Rattle.site_words.specs.declared.commands.SiteCommand.TheVariants.{AtDesk, Keyed, BadKey, Tick, RefusedTick}
-use Rattle.site_words.specs.declared.commands.SiteCommand.TheVariants.{Status, Queue, Quit}
+use Rattle.site_words.specs.declared.commands.SiteCommand.TheVariants.{Bare, Keyed, BadKey}
 use Rattle.site_node.specs.Confirmed.{Turn, ACommand, ATick, HasTurns}
 use Rattle.site_node.proofs.ConfirmedLaws.{turns_count}
 use Rattle.desk_turns.specs.Seated.{SeatedValue}
@@ -46,7 +46,7 @@ module _ {P : Type 0} (size : P → ℕ) (sends : P → ℕ → ℕ → P → Ty
       → Says size sends stops id command was before answer now after
       → (turns : List Turn) × IsTurn command answer.text turns × HasTurns was.told turns now.told
   turns_of_line None was before answer now after h = ([], refl, ap (λ (s : SeatedValue). s.told) h.1)
-  turns_of_line (Some (AtDesk command)) was before answer now after h =
+  turns_of_line (Some (Bare (AtDesk command))) was before answer now after h =
       let c = h.0 in (
         ACommand command c.reply ∷ [],
         (c.reply, refl, c.says),
@@ -57,16 +57,16 @@ module _ {P : Type 0} (size : P → ℕ) (sends : P → ℕ → ℕ → P → Ty
       let found = keyed_turns id was key command c.reply now c.at_desk in
       (found.0, (c.reply, found.1, c.says), found.2)
   turns_of_line (Some BadKey) was before answer now after h = ([], refl, ap (λ (s : SeatedValue). s.told) h.1)
-  turns_of_line (Some (Tick time)) was before answer now after h =
+  turns_of_line (Some (Bare (Tick time))) was before answer now after h =
       let t = h.does.at_desk in (
         ATick time t.does.served h.does.ticked ∷ [],
         (t.does.served, h.does.ticked, refl, tells_tick before after h.does.ticked h.result answer.text h.does.then_sends h.says),
         (now.told, (t.old, t.new, t.does.ticks), refl),
       )
-  turns_of_line (Some RefusedTick) was before answer now after h = ([], refl, ap (λ (s : SeatedValue). s.told) h.1)
-  turns_of_line (Some Queue) was before answer now after h = ([], refl, ap (λ (s : SeatedValue). s.told) h.1)
-  turns_of_line (Some Status) was before answer now after h = ([], refl, ap (λ (s : SeatedValue). s.told) h.1)
-  turns_of_line (Some Quit) was before answer now after h = absurd h
+  turns_of_line (Some (Bare RefusedTick)) was before answer now after h = ([], refl, ap (λ (s : SeatedValue). s.told) h.1)
+  turns_of_line (Some (Bare Queue)) was before answer now after h = ([], refl, ap (λ (s : SeatedValue). s.told) h.1)
+  turns_of_line (Some (Bare Status)) was before answer now after h = ([], refl, ap (λ (s : SeatedValue). s.told) h.1)
+  turns_of_line (Some (Bare Quit)) was before answer now after h = absurd h
 
   module _ {S : Type 0} (seat : S → SeatedValue) (peers : S → P) (shows : S → Option ℕ → Type 0) where
     -- the replies of a handler with such a seat, such peers and such a clock, and its state after a memory refusal

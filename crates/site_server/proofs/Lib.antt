@@ -3,6 +3,8 @@ pub mod KeyedLaws
 mod CallLaws
 mod SendLaws
 mod SettleLaws
+mod KeyedLines
+mod ListingLaws
 mod ConfirmedLaws
 mod EndingLaws
 mod StartLaws

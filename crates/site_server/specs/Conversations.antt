@@ -4,8 +4,9 @@ use Rattle.request_queue.specs.declared.request.Request.{Request}
 use Rattle.site_core.specs.declared.fault.DeskError.{DeskError}
 use Rattle.site_core.specs.declared.fault.DeskError.TheVariants.{OutOfMemory}
 use Rattle.apply_lanes.specs.Kepts.{SeatValue}
+use Rattle.site_words.specs.declared.commands.BareCommand.TheVariants.{AtDesk, Tick}
 use Rattle.site_words.specs.declared.commands.SiteCommand.{SiteCommand}
-use Rattle.site_words.specs.declared.commands.SiteCommand.TheVariants.{AtDesk, Keyed, Tick}
+use Rattle.site_words.specs.declared.commands.SiteCommand.TheVariants.{Bare, Keyed}
 use Rattle.site_node.specs.Texts.{reply_text, tick_text}
 use Rattle.site_node.specs.Confirmed.{Turn, HasTurns, CountsConfirmed}
 use Rattle.site_node.specs.Confirmed.{ACommand, ATick}
@@ -22,11 +23,11 @@ TellsTick (Err fault) text = text ≡ tick_text (Err fault)
 -- A line is one turn if the desk carries out its command or it is a tick; otherwise it is none. A command under a key is
 -- one if it is carried out, and none if the reply is to its repeat, or it is refused for its key.
 abbrev pub IsTurn : Option SiteCommand → List ℕ → List Turn → Type 0
-IsTurn (Some (AtDesk command)) text turns = (reply : Reply) × (turns ≡ ACommand command reply ∷ [])
+IsTurn (Some (Bare (AtDesk command))) text turns = (reply : Reply) × (turns ≡ ACommand command reply ∷ [])
     × (text ≡ reply_text reply)
 IsTurn (Some (Keyed key command)) text turns =
     (reply : Reply) × ((turns ≡ ACommand command reply ∷ []) ⊎ (turns ≡ [])) × (text ≡ reply_text reply)
-IsTurn (Some (Tick time)) text turns =
+IsTurn (Some (Bare (Tick time))) text turns =
     (served : List Request) × (ticked : Result Ticked DeskError) × (turns ≡ ATick time served ticked ∷ [])
     × TellsTick ticked text
 IsTurn command text turns = turns ≡ []

@@ -1,6 +1,7 @@
 -- The answer to each line of a client at a running site, and its effect on the client's seat and on the peers.
 use Rattle.std.specs.Prelude.{◌≡◌, ℕ, ◌-◌, nat_le, Bool, false, List, [], ◌∷◌, length, take, Option, Some, None, Result, Ok, Err}
 use Rattle.std.specs.Prelude.{if◌then◌else◌}
+use Rattle.std.specs.Borrow.{Bor}
 use Rattle.rights_types.specs.declared.limits.TheConstants.{MAX_LINE}
 use Rattle.rights_book.specs.Books.{peer}
 use Rattle.site_core.specs.Desks.{DeskValue}
@@ -20,15 +21,16 @@ use Rattle.refusals.specs.declared.refusal.Refusal.TheVariants.{BadCommand, OwnC
 use Rattle.refusals.specs.declared.refusal.Refusal.TheVariants as refusal
 use Rattle.site_words.specs.Commands.{command_of, keyed}
 use Rattle.site_words.specs.Status.{status_text}
+use Rattle.site_words.specs.declared.commands.BareCommand.TheVariants.{AtDesk, Tick, RefusedTick, Status, Queue, Quit}
 use Rattle.site_words.specs.declared.commands.DeskCommand.{DeskCommand}
 use Rattle.site_words.specs.declared.commands.SiteCommand.{SiteCommand}
-use Rattle.site_words.specs.declared.commands.SiteCommand.TheVariants.{AtDesk, Keyed, BadKey, Tick, RefusedTick}
-use Rattle.site_words.specs.declared.commands.SiteCommand.TheVariants.{Status, Queue, Quit}
+use Rattle.site_words.specs.declared.commands.SiteCommand.TheVariants.{Bare, Keyed, BadKey}
 use Rattle.site_words.specs.declared.status_object.JournalView.{JournalView}
 use Rattle.site_words.specs.declared.status_object.PeerView.{PeerView}
 use Rattle.site_sockets.specs.declared.peer.PeerState.{PeerState}
 use Rattle.desk_turns.specs.Seated.{SeatedValue, ActsAtDesk, ActsKeyedAtDesk, TicksAtDesk}
 use Rattle.site_node.specs.PeerSums.{peers_text}
+use Rattle.site_node.specs.LogTexts.{log_text}
 use Rattle.site_node.specs.Texts.{reply_text, reply_answered, tick_text, tick_answered, queue_text}
 use Rattle.site_node.specs.ToPeers.{SendsToFirst, StopsAtPeer}
 use Rattle.site_node.specs.declared.reply.Reply.{Reply}
@@ -39,6 +41,11 @@ use Rattle.site_server.specs.Journals.{IsJournalView}
 -- none, or has more bytes than a line may have
 abbrev pub asked : Option ℕ → List ℕ → Option SiteCommand
 asked time line = if nat_le (length line) MAX_LINE then command_of time (take (length line - 1) line) else None
+
+-- the same by its text, as a handler is given it
+abbrev pub given : Option ℕ → Option (Bor (List ℕ)) → Option SiteCommand
+given time None = None
+given time (Some text) = command_of time text.now
 
 -- .. under the key of its request, if that has one
 abbrev pub under : Option (List ℕ) → Option SiteCommand → Option SiteCommand
@@ -108,6 +115,12 @@ pub record TellsPeers (id : DeskId) (text : List ℕ) : Type 0 where
   pub valid : IsKept id kept
   pub says : text ≡ peers_text kept.desk
 
+-- the export of the log from this number on, at one moment
+pub record TellsLog (id : DeskId) (first : ℕ) (text : List ℕ) : Type 0 where
+  pub kept : KeptValue
+  pub valid : IsKept id kept
+  pub says : text ≡ log_text kept first
+
 -- the conversation continues after a line that was answered
 abbrev pub goes_by : Option Answered → Goes
 goes_by (Some how) = On
@@ -149,21 +162,21 @@ module _ {P : Type 0} (size : P → ℕ) (sends : P → ℕ → ℕ → P → Ty
   -- the answer to a line, and its effect on the seat and the peers; `quit` has no answer
   abbrev pub Says : DeskId → Option SiteCommand → SeatedValue → P → LineAnswer → SeatedValue → P → Type 0
   Says id None was before answer now after = IsRefusedFor BadCommand answer × (now ≡ was) × (after ≡ before)
-  Says id (Some (AtDesk command)) was before answer now after = CarriesOut id was command answer now × (after ≡ before)
+  Says id (Some (Bare (AtDesk command))) was before answer now after = CarriesOut id was command answer now × (after ≡ before)
   Says id (Some (Keyed key command)) was before answer now after =
       CarriesOutKeyed id was key command answer now × (after ≡ before)
   Says id (Some BadKey) was before answer now after = IsRefusedFor refusal.BadKey answer × (now ≡ was) × (after ≡ before)
-  Says id (Some (Tick time)) was before answer now after = DoesDue id was before time answer now after
-  Says id (Some RefusedTick) was before answer now after = IsRefusedFor OwnClock answer × (now ≡ was) × (after ≡ before)
-  Says id (Some Queue) was before answer now after = IsReportOf (TellsQueue id) answer × (now ≡ was) × (after ≡ before)
-  Says id (Some Status) was before answer now after = IsReportOf (TellsStatus id) answer × (now ≡ was) × (after ≡ before)
-  Says id (Some Quit) was before answer now after = ⊥
+  Says id (Some (Bare (Tick time))) was before answer now after = DoesDue id was before time answer now after
+  Says id (Some (Bare RefusedTick)) was before answer now after = IsRefusedFor OwnClock answer × (now ≡ was) × (after ≡ before)
+  Says id (Some (Bare Queue)) was before answer now after = IsReportOf (TellsQueue id) answer × (now ≡ was) × (after ≡ before)
+  Says id (Some (Bare Status)) was before answer now after = IsReportOf (TellsStatus id) answer × (now ≡ was) × (after ≡ before)
+  Says id (Some (Bare Quit)) was before answer now after = ⊥
 
   -- .. by the text of the reply; `quit` ends the conversation, and no other line does
   abbrev pub Gets : DeskId → Option SiteCommand → SeatedValue → P → Option (List ℕ) → SeatedValue → P → Type 0
   Gets id command was before (Some text) now after =
       (how : Answered) × Says id command was before (record { text = text; how = how }) now after
-  Gets id command was before None now after = (command ≡ Some Quit) × (now ≡ was) × (after ≡ before)
+  Gets id command was before None now after = (command ≡ Some (Bare Quit)) × (now ≡ was) × (after ≡ before)
 
   -- the same for a line, by the command that it spells at a time that the site's own clock may show
   pub record GetsLine (shows : Option ℕ → Type 0) (id : DeskId) (line : List ℕ) (was : SeatedValue) (before : P)

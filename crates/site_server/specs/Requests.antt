@@ -9,8 +9,9 @@ use Rattle.refusals.specs.Refusals.{LineAnswer}
 use Rattle.site_core.specs.declared.desk.requests.Spending.TheVariants.{Queued}
 use Rattle.apply_lanes.specs.Kepts.{SeatValue}
 use Rattle.site_words.specs.declared.commands.DeskCommand.{DeskCommand}
+use Rattle.site_words.specs.declared.commands.BareCommand.TheVariants.{AtDesk}
 use Rattle.site_words.specs.declared.commands.SiteCommand.{SiteCommand}
-use Rattle.site_words.specs.declared.commands.SiteCommand.TheVariants.{AtDesk, Keyed}
+use Rattle.site_words.specs.declared.commands.SiteCommand.TheVariants.{Bare, Keyed}
 use Rattle.site_node.specs.Texts.{reply_text}
 use Rattle.site_node.specs.Confirmed.{Turn, ACommand, HasTurns, CountsConfirmed}
 use Rattle.site_node.specs.declared.reply.Reply.{Reply}
@@ -35,7 +36,7 @@ MayCarryOut command turns = (reply : Reply) × ((turns ≡ ACommand command repl
 
 -- the turns of a line whose client waits: it gets the reply, or for a queued spend the outcome; under a key it may ask twice
 abbrev pub IsSettledTurn : Option SiteCommand → List ℕ → List Turn → Type 0
-IsSettledTurn (Some (AtDesk command)) text turns =
+IsSettledTurn (Some (Bare (AtDesk command))) text turns =
     (reply : Reply) × (turns ≡ ACommand command reply ∷ []) × ((text ≡ reply_text reply) ⊎ IsQueued reply)
 IsSettledTurn (Some (Keyed key command)) text turns =
     (told : Reply) × (first : List Turn) × (last : List Turn) × MayCarryOut command first × MayCarryOut command last

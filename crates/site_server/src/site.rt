@@ -11,6 +11,7 @@ mod connection;
 mod ending;
 mod journaling;
 mod keeping;
+mod listing;
 mod locked_outbox;
 mod logging;
 mod measuring;

@@ -1,20 +1,22 @@
 //! The replies to a client of a site. site_node decides what is done and replied; this module decides under which
 //! lock of the desk it is done.
 ghost use Rattle.std.specs.Prelude.{◌≡◌, ◌++◌, ◌+◌, ◌≤◌, ◌⊎◌, false, List, ℕ, [], length, is_some, IfOk, OnOk, OnErr};
-ghost use Rattle.std.specs.Prelude.{IfSome, Option, Some, Ok};
+ghost use Rattle.std.specs.Prelude.{Option, Some, Ok};
 ghost use Rattle.std.specs.Io.KnownBytes.{IsAtEnd};
 ghost use Rattle.line_streams.specs.Handling.{IsGiven};
 ghost use Rattle.line_streams.specs.Talk.{Talk, EndsBy};
 ghost use Rattle.line_streams.specs.Waiting.{AddsReply};
+ghost use Rattle.line_streams.specs.Words.{words_left};
 ghost use Rattle.refusals.specs.Refusals.{refusal_text};
 ghost use Rattle.refusals.specs.declared.answered.Answered.TheVariants.{Refused};
-ghost use Rattle.site_words.specs.Commands.{whole};
+ghost use Rattle.site_words.specs.Commands.{command_left, keyed_in};
+ghost use Rattle.site_words.specs.declared.commands.SiteCommand.TheVariants.{Bare};
 ghost use Rattle.site_words.specs.Status.{status_text};
 ghost use Rattle.transfer_manager.specs.SiteSets.{has_site};
 ghost use Rattle.desk_turns.specs.Seated.{ActsAtDesk, ActsKeyedAtDesk, TicksAtDesk};
-ghost use Rattle.site_server.specs.Replying.{asked, CarriesOut, CarriesOutKeyed, AreOfPeers, AreViews};
+ghost use Rattle.site_server.specs.Replying.{asked, given, CarriesOut, CarriesOutKeyed, AreOfPeers, AreViews};
 ghost use Rattle.site_server.specs.Replying.{TellsStatus, TellsQueue, TellsPeers, ThenSends, TicksAndSends, DoesDue};
-ghost use Rattle.site_server.specs.Replying.{GetsBy, GetsLine};
+ghost use Rattle.site_server.specs.Replying.{Says, GetsBy, GetsLine};
 ghost use Rattle.site_server.specs.Replying.{IsReportOf, goes_by};
 ghost use Rattle.site_server.specs.Connections.{Tells};
 ghost use Rattle.site_server.specs.Conversations.{CountsReplies};
@@ -37,8 +39,8 @@ use site_node::{
 };
 use site_sockets::{PeerState, SiteSockets};
 use site_words::{
-    BareCommand, DeskCommand, JournalView, PeerView, SiteCommand, read_command, read_unkeyed,
-    status_text, whole,
+    BareCommand, DeskCommand, JournalView, PeerView, SiteCommand, SiteLine, read_command,
+    read_keyed, read_line, status_text,
 };
 use std::alloc::{Allocator, Global};
 use std::io::{Read, Write};
@@ -131,13 +133,12 @@ fn command_in(text: Option<&[u8]>, time: Option<u64>) -> Option<SiteCommand>
     read_command(text?, time)
 }
 
-/// The same if no key comes before the command; else `None`.
+/// The same, read up to its key.
 #[inline(always)]
-fn unkeyed_in(text: Option<&[u8]>, time: Option<u64>) -> Option<BareCommand>
-    ensures { (line : List ℕ) → IsGiven line text.entry
-        → IfSome result (λ command. Some (whole command) ≡ asked time line) }
+fn line_in(text: Option<&[u8]>, time: Option<u64>) -> Option<SiteLine<'_>>
+    ensures { command_left time result ≡ given time text.entry }
 {
-    read_unkeyed(text?, time)
+    read_line(text?, time)
 }
 
 /// Adds the reply that a line is refused, and why.
@@ -423,15 +424,6 @@ impl<'a, D: DeskNames, R: Wait, P: Peers + Drop, B: TickSignal + Drop> SiteClien
         command_in(text, self.signal.time())
     }
 
-    /// The same if no key comes before the command; else `None`.
-    #[inline(always)]
-    fn unkeyed_in(&self, text: Option<&[u8]>) -> Option<BareCommand>
-        ensures { (line : List ℕ) → IsGiven line text.entry → (time : Option ℕ) × B.shows self.now.signal time
-            × IfSome result (λ command. Some (whole command) ≡ asked time line) }
-    {
-        unkeyed_in(text, self.signal.time())
-    }
-
     /// The views of the desk and of its peers, and how many keys are remembered.
     pub(crate) fn views(&self) -> Result<(DeskView, Vec<PeerView>, u64), OutOfMemory>
         ensures { IfOk result (λ views. AreViews D.id views.0 views.1.items views.2) }
@@ -482,7 +474,32 @@ impl<'a, D: DeskNames, R: Wait, P: Peers + Drop, B: TickSignal + Drop> SiteClien
         Ok(Answered::Done)
     }
 
-    /// Answers a line, by its command; `None` and `quit` are not commands.
+    /// Answers a line, by its command with no key. `quit` is not a command.
+    #[inline(always)]
+    fn answer_bare<A: Allocator>(
+        &mut self,
+        command: BareCommand,
+        replies: &mut Replies<A>,
+    ) -> Result<Answered, OutOfMemory>
+        requires { replies.old.part ≡ [] }
+        ensures ok { IfOk result (λ how. (text : List ℕ)
+            × Tells P.size P.sends P.stops D.id (Some (Bare command)) self.old.seat self.old.peers
+            (record { text = text; how = how }) self.new.seat self.new.peers × AddsReply replies.old replies.new text) }
+        ensures short { OnOk result ((length replies.new.whole ≤ length replies.old.whole + TICK_ROOM)
+            ⊎ (self.new ≡ self.old)) }
+        ensures err { OnErr result ((self.new ≡ self.old) × (replies.new.whole ≡ replies.old.whole)) }
+    {
+        match command {
+            BareCommand::AtDesk(command) => self.carry_out(command, replies),
+            BareCommand::Tick(time) => self.tick(time, replies),
+            BareCommand::RefusedTick => refuse(replies, Refusal::OwnClock),
+            BareCommand::Status => self.answer_status(replies),
+            BareCommand::Queue => self.answer_queue(replies),
+            BareCommand::Quit => refuse(replies, Refusal::BadCommand),
+        }
+    }
+
+    /// The same for any command; `None` is not a command either.
     pub(crate) fn answer_command<A: Allocator>(
         &mut self,
         command: Option<SiteCommand>,
@@ -517,114 +534,57 @@ impl<'a, D: DeskNames, R: Wait, P: Peers + Drop, B: TickSignal + Drop> SiteClien
         ensures err { OnErr result ((self.new ≡ self.old) × (replies.new.whole ≡ replies.old.whole)) }
     {
         match command {
-            SiteCommand::Quit => refuse(replies, Refusal::BadCommand),
-            SiteCommand::AtDesk(command) => self.carry_out(command, replies),
+            SiteCommand::Bare(command) => self.answer_bare(command, replies),
             SiteCommand::Keyed(key, command) => self.carry_out_keyed(key, command, replies),
             SiteCommand::BadKey => refuse(replies, Refusal::BadKey),
-            SiteCommand::Tick(time) => self.tick(time, replies),
-            SiteCommand::RefusedTick => refuse(replies, Refusal::OwnClock),
-            SiteCommand::Status => self.answer_status(replies),
-            SiteCommand::Queue => self.answer_queue(replies),
         }
     }
 
-    /// Answers a line, by its command; `None` is not a command. `quit` gets no answer.
+    /// Answers a line with a key, by the words after `key`.
+    #[inline(never)]
+    fn answer_keyed<A: Allocator>(
+        &mut self,
+        words: Option<&[u8]>,
+        time: Option<u64>,
+        replies: &mut Replies<A>,
+    ) -> Result<Answered, OutOfMemory>
+        requires { replies.old.part ≡ [] }
+        ensures ok { IfOk result (λ how. (text : List ℕ)
+            × Says P.size P.sends P.stops D.id (keyed_in time (words_left words.entry)) self.old.seat self.old.peers
+            (record { text = text; how = how }) self.new.seat self.new.peers × AddsReply replies.old replies.new text) }
+        ensures err { OnErr result ((self.new ≡ self.old) × (replies.new.whole ≡ replies.old.whole)) }
+    {
+        self.answer_command(read_keyed(words, time), replies)
+    }
+
+    /// Answers a line at this time, by its text; `None` is passed for a line that is too long. `quit` gets no answer.
+    #[inline(always)]
     fn answer_or_end<A: Allocator>(
         &mut self,
-        command: Option<SiteCommand>,
-        replies: &mut Replies<A>,
-    ) -> Result<Option<Answered>, OutOfMemory>
-        requires { replies.old.part ≡ [] }
-        ensures ok { IfOk result (λ how. GetsBy P.size P.sends P.stops how D.id command self.old.seat self.old.peers
-            replies.old self.new.seat self.new.peers replies.new) }
-        ensures err { OnErr result ((self.new ≡ self.old) × (replies.new.whole ≡ replies.old.whole)) }
-    {
-        match command {
-            Some(SiteCommand::Quit) => Ok(None),
-            _ => {
-                let answered = self.answer_command(command, replies)?;
-                Ok(Some(answered))
-            }
-        }
-    }
-
-    /// The same for a command with no key.
-    #[inline(always)]
-    fn answer_bare<A: Allocator>(
-        &mut self,
-        command: BareCommand,
-        replies: &mut Replies<A>,
-    ) -> Result<Option<Answered>, OutOfMemory>
-        requires { replies.old.part ≡ [] }
-        ensures ok { IfOk result (λ how. GetsBy P.size P.sends P.stops how D.id (Some (whole command)) self.old.seat
-            self.old.peers replies.old self.new.seat self.new.peers replies.new) }
-        ensures err { OnErr result ((self.new ≡ self.old) × (replies.new.whole ≡ replies.old.whole)) }
-    {
-        match command {
-            BareCommand::AtDesk(command) => {
-                let answered = self.carry_out(command, replies)?;
-                Ok(Some(answered))
-            }
-            BareCommand::Tick(time) => {
-                let answered = self.tick(time, replies)?;
-                Ok(Some(answered))
-            }
-            other => self.answer_rest(other, replies),
-        }
-    }
-
-    /// The same, apart from the commands that come most.
-    #[inline(never)]
-    fn answer_rest<A: Allocator>(
-        &mut self,
-        command: BareCommand,
-        replies: &mut Replies<A>,
-    ) -> Result<Option<Answered>, OutOfMemory>
-        requires { replies.old.part ≡ [] }
-        ensures ok { IfOk result (λ how. GetsBy P.size P.sends P.stops how D.id (Some (whole command)) self.old.seat
-            self.old.peers replies.old self.new.seat self.new.peers replies.new) }
-        ensures err { OnErr result ((self.new ≡ self.old) × (replies.new.whole ≡ replies.old.whole)) }
-    {
-        self.answer_or_end(Some(whole(command)), replies)
-    }
-
-    /// Answers a line, whatever it spells. `quit` gets no answer.
-    #[inline(never)]
-    fn answer_any<A: Allocator>(
-        &mut self,
         text: Option<&[u8]>,
+        time: Option<u64>,
         replies: &mut Replies<A>,
     ) -> Result<Option<Answered>, OutOfMemory>
         requires { replies.old.part ≡ [] }
-        ensures ok { IfOk result (λ how. (line : List ℕ) → IsGiven line text.entry
-            → (time : Option ℕ) × B.shows self.old.signal time
-            × GetsBy P.size P.sends P.stops how D.id (asked time line) self.old.seat self.old.peers replies.old
-            self.new.seat self.new.peers replies.new) }
-        ensures ready { OnOk result (replies.new.part ≡ []) }
+        ensures ok { IfOk result (λ how. GetsBy P.size P.sends P.stops how D.id (given time text.entry)
+            self.old.seat self.old.peers replies.old self.new.seat self.new.peers replies.new) }
         ensures err { OnErr result ((self.new ≡ self.old) × (replies.new.whole ≡ replies.old.whole)) }
     {
-        let command = self.command_in(text);
-        self.answer_or_end(command, replies)
-    }
-
-    /// The same. A command with no key is read and handed on without room for one, which takes less time.
-    #[inline(always)]
-    fn answer_line<A: Allocator>(
-        &mut self,
-        text: Option<&[u8]>,
-        replies: &mut Replies<A>,
-    ) -> Result<Option<Answered>, OutOfMemory>
-        requires { replies.old.part ≡ [] }
-        ensures ok { IfOk result (λ how. (line : List ℕ) → IsGiven line text.entry
-            → (time : Option ℕ) × B.shows self.old.signal time
-            × GetsBy P.size P.sends P.stops how D.id (asked time line) self.old.seat self.old.peers replies.old
-            self.new.seat self.new.peers replies.new) }
-        ensures ready { OnOk result (replies.new.part ≡ []) }
-        ensures err { OnErr result ((self.new ≡ self.old) × (replies.new.whole ≡ replies.old.whole)) }
-    {
-        match self.unkeyed_in(text) {
-            Some(command) => self.answer_bare(command, replies),
-            None => self.answer_any(text, replies),
+        // A command with no key is read and handed on without room for one, which takes less time.
+        match line_in(text, time) {
+            Some(SiteLine::Command(BareCommand::Quit)) => Ok(None),
+            Some(SiteLine::Command(command)) => {
+                let answered = self.answer_bare(command, replies)?;
+                Ok(Some(answered))
+            }
+            Some(SiteLine::AfterKey(words)) => {
+                let answered = self.answer_keyed(words, time, replies)?;
+                Ok(Some(answered))
+            }
+            None => {
+                let answered = refuse(replies, Refusal::BadCommand)?;
+                Ok(Some(answered))
+            }
         }
     }
 }
@@ -649,7 +609,8 @@ impl<D: DeskNames, R: Wait, P: Peers + Drop, B: TickSignal + Drop> LineHandler
         text: Option<&[u8]>,
         replies: &mut Replies<A>,
     ) -> Result<Goes, OutOfMemory> {
-        let answered = self.answer_line(text, replies)?;
+        let time = self.signal.time();
+        let answered = self.answer_or_end(text, time, replies)?;
         Ok(self.counted(answered))
     }
 }

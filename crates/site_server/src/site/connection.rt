@@ -13,7 +13,7 @@ use refusals::Answered;
 use rights_types::OutOfMemory;
 use site_http::Backend;
 use site_node::{Peers, TICK_ROOM};
-use site_words::{SiteCommand, with_key};
+use site_words::{BareCommand, SiteCommand, with_key};
 use std::alloc::Global;
 use std::sync::Wait;
 
@@ -75,7 +75,9 @@ impl<D: DeskNames, R: Wait, P: Peers + Drop, B: TickSignal + Drop> SiteClient<'_
         ensures err { OnErr result (self.new ≡ self.old) }
     {
         match command {
-            SiteCommand::AtDesk(command) => self.settle_command(command, replies),
+            SiteCommand::Bare(BareCommand::AtDesk(command)) => self.settle_command(
+                command, replies,
+            ),
             SiteCommand::Keyed(key, command) => self.settle_keyed(key, command, replies),
             other => self.tell(Some(other), replies),
         }
@@ -116,7 +118,7 @@ fn under(key: Option<Key>, command: Option<SiteCommand>) -> Option<SiteCommand>
 
 impl<D: DeskNames, R: Wait, P: Peers + Drop, B: TickSignal + Drop> Backend
     for SiteClient<'_, D, R, P, B> {
-    ghost use Rattle.site_server.specs.Replying.{TellsPeers, TellsQueue, TellsStatus};
+    ghost use Rattle.site_server.specs.Replying.{TellsLog, TellsPeers, TellsQueue, TellsStatus};
     ghost use Rattle.site_server.specs.Connections.{Answers};
     ghost use Rattle.site_server.specs.Measuring.{TellsMetrics, TellsClosed};
 
@@ -127,6 +129,8 @@ impl<D: DeskNames, R: Wait, P: Peers + Drop, B: TickSignal + Drop> Backend
     ghost queue = { λ _ text. TellsQueue D.id text };
 
     ghost known = { λ _ text. TellsPeers D.id text };
+
+    ghost listed = { λ _ first text. TellsLog D.id first text };
 
     ghost metrics = { λ _ text. TellsMetrics D.id text };
 
@@ -159,6 +163,10 @@ impl<D: DeskNames, R: Wait, P: Peers + Drop, B: TickSignal + Drop> Backend
 
     fn put_peers(&self, replies: &mut Replies<Global>) -> Result<(), OutOfMemory> {
         self.tell_peers(replies)
+    }
+
+    fn put_log(&self, first: u64, replies: &mut Replies<Global>) -> Result<(), OutOfMemory> {
+        self.tell_log(first, replies)
     }
 
     fn put_metrics(&self, replies: &mut Replies<Global>) -> Result<(), OutOfMemory> {

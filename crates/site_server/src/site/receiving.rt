@@ -1,7 +1,8 @@
 //! Taking in the lines of the peers.
 ghost use Rattle.std.specs.Prelude.{◌≡◌, ◌≢◌, ◌≤◌, false, [], IfOk, OnOk};
 ghost use Rattle.site_server.specs.Hearing.{IsBufferAt, IsForDesk, HandlesAtDesk};
-ghost use Rattle.site_server.specs.Starting.{AppliesOne};
+ghost use Rattle.apply_lanes.specs.Restarts.{AppliesAgain};
+ghost use Rattle.desk_turns.specs.Turns.{TakesTurn};
 
 use crate::site::outboxes::{PeerOutbox, QuerySink};
 use crate::site::shared::Shared;
@@ -13,7 +14,7 @@ use apply_lanes::{
 use desk_turns::{TurnDesk, Turns, Work};
 use inbound::{Inbound, InboundError};
 use peer_links::{DeskMessage, Port, Skipped, read_link};
-use rights_types::{Beat, OutOfMemory, Query, SiteId};
+use rights_types::{Beat, Entry, OutOfMemory, Query, SiteId};
 use site_core::ReplayError;
 use site_node::{Sink, answer_ask, answer_query, note_denial};
 use site_records::RecordFault;
@@ -64,19 +65,19 @@ pub(crate) struct LaneEnd<D: DeskNames> {
 }
 
 impl<D: DeskNames> PeerLink<D> {
-    /// Takes in the line of the next entry of the peer, and applies it in one turn.
+    /// Takes in the line of an entry, which is the next one of the peer, and applies the entry in one turn.
     pub(crate) fn replay<R: Wait>(
         &mut self,
         rt: &R,
         turns: &mut Turns<D>,
+        entry: &Entry,
         line: &[u8],
     ) -> Result<(), RecordFault>
-        ensures { OnOk result (AppliesOne D.id turns.old turns.new) }
+        ensures { OnOk result (TakesTurn D.id (λ old new. AppliesAgain D.id old entry.now new) turns.old turns.new) }
     {
         self.receiver.take_next(rt, line)?;
-        match turns.apply_batch(rt, &mut self.applier.applier) {
-            Ok((1, _)) => Ok(()),
-            Ok(_) => Err(RecordFault::NotPermitted(ReplayError::OutOfOrder)),
+        match turns.apply_again(rt, &mut self.applier.applier, entry) {
+            Ok(()) => Ok(()),
             Err(StepError::OutOfMemory) => Err(RecordFault::OutOfMemory),
             Err(_) => Err(RecordFault::NotPermitted(ReplayError::OutOfOrder)),
         }
