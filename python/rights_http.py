@@ -7,6 +7,7 @@
     site.give(2, 10)                            # 4, or raises CommandRefused as well
     site.status()["held"]                       # 84
     site.queue()["requests"]                    # the spends that wait, in their order
+    [entry.line for entry in site.log()]        # ['E 1 0 1 I:100', 'E 1 1 2 S:3', ..], all that the site wrote
     site.take(1, key="order-4711")              # Spent(number=5), and the same each time that it is asked under this key
     site.close()
 
@@ -30,7 +31,7 @@ Several commands in one request (`ask_all`), and commands of a client with `retr
 again only if it is certain that the site did not carry them out: no connection was made, the request was not sent whole,
 or the site answered 503 because all its client connections were taken. If the whole request was sent and no answer
 comes, `AnswerLost` is raised at once: nobody on this side can tell whether the rights were spent. `spent` in the status is
-the total that the site spent. Requests for the status or the metrics are retried, since they change nothing.
+the total that the site spent. Requests for the status, the log or the metrics are retried, since they change nothing.
 """
 
 from __future__ import annotations
@@ -47,13 +48,15 @@ import ssl
 import threading
 import time
 import uuid
-from collections.abc import Callable, Iterable
+from collections.abc import Callable, Iterable, Iterator
 from contextlib import suppress
-from dataclasses import dataclass
+from dataclasses import dataclass, replace
 from typing import Any, TypedDict, Union
 
 # The greatest number of bytes of a body.
 LONGEST_BODY = 1_048_576
+# The greatest number of entries in one response.
+MOST_LISTED = 1_000
 # The site closes a connection on which nothing was sent for 60 seconds. Shortly before that, it is no longer used.
 IDLE = 50.0
 SAMPLE = re.compile(r'^([a-z_]+)(?:\{[a-z]+="([^"]*)"\})? (\d+)$', re.MULTILINE)
@@ -167,6 +170,16 @@ class Peers(TypedDict):
 
     peers: list[PeerSums]
     site: int
+
+
+@dataclass(frozen=True)
+class LogEntry:
+    """An entry of a site's log. `line` is its line as peers get it, without the line feed, and `key` that of the command
+    that wrote it, if the site remembers it."""
+
+    number: int
+    line: str
+    key: str | None = None
 
 
 # ---- what may go wrong
@@ -325,6 +338,16 @@ class SiteClient:
         """What the site knows of each other one. If one is lost for good, its sales are settled by it."""
         found: Peers = json.loads(self._get("/peers"))
         return found
+
+    def log(self, first: int = 0) -> Iterator[LogEntry]:
+        """The entries of the site's own log whose numbers are at least `first`, in order. The site lists at most 1,000 at a
+        time, so this asks again, as its entries are taken, until it has the last one."""
+        while True:
+            found = entries_in(self._get(f"/log?from={first}"))
+            yield from found
+            if len(found) < MOST_LISTED:
+                return
+            first = found[-1].number + 1
 
     def metrics(self) -> dict[str, int | dict[str, int]]:
         """The metrics by name: a number, or numbers by the value of their label, which is a peer or a refusal."""
@@ -506,6 +529,20 @@ def number_of(reply: str, word: str = "number") -> int:
     if found := re.fullmatch(word + r" ([0-9]+)", reply):
         return int(found[1])
     raise SiteRefused(f"not the reply of a site: {reply!r}")
+
+
+def entries_in(text: str) -> list[LogEntry]:
+    """The entries of an export of a log, each with its key, if that follows it."""
+    found: list[LogEntry] = []
+    for line in text.splitlines():
+        words = line.split(" ")
+        if words[0] == "E" and len(words) > 4 and words[3].isdecimal():
+            found.append(LogEntry(int(words[3]), line))
+        elif words[0] == "X" and len(words) == 3 and found and words[2] == str(found[-1].number):
+            found[-1] = replace(found[-1], key=words[1])
+        else:
+            raise SiteRefused(f"not the log of a site: {line!r}")
+    return found
 
 
 def result_of(reply: str) -> Reply:

@@ -32,8 +32,8 @@ from web_driver import alone, in_threads, seats
 from web_requests import MOST_CLIENTS
 
 from rights_http import (
-    AnswerLost, CommandRefused, Expired, KeyRefused, Queued, SiteClient, SiteRefused, SiteUnreachable, Spent, Unknown, Waiting,
-    in_seconds, number_of, result_of,
+    AnswerLost, CommandRefused, Expired, KeyRefused, LogEntry, Queued, SiteClient, SiteRefused, SiteUnreachable, Spent, Unknown,
+    Waiting, entries_in, in_seconds, number_of, result_of,
 )  # fmt: skip
 from rights_site import Site
 
@@ -159,6 +159,25 @@ def results_of_the_client_class():
         status = client.status()
         expect((status["held"], status["spent"], status["peers"][0]["site"]), (0, 13, 2))
         expect((client.close_site(), refusal_of(client.close_site, 2), refusal_of(client.spend, 1)), (8, "Closed", "Closed"))
+
+
+def the_log_by_the_client_class():
+    """All of it, in parts of 1,000 entries, also where the last part is full; and what is no log."""
+    with alone() as sites, SiteClient(sites.address()) as client:
+        expect(list(client.log()), [])
+        client.issue(5000, key="order-1")
+        client.ask_all(["take 1"] * 998 + ["key order-1000 take 2"])
+        rows = [LogEntry(1, "E 1 0 1 I:5000", "order-1"), *[LogEntry(n, f"E 1 {n - 1} {n} S:1") for n in range(2, 1000)],
+                LogEntry(1000, "E 1 999 1000 S:2", "order-1000")]  # fmt: skip
+        expect((list(client.log()), list(client.log(2)), list(client.log(1001))), (rows, rows[1:], []))
+        client.ask_all(["give 2 1"] * 1500)
+        rows += [LogEntry(n, f"E 1 {n - 1} {n} R:2:1") for n in range(1001, 2501)]
+        expect((list(client.log()), list(client.log(1500))), (rows, rows[1499:]))
+    for text in ("x", "X a 1", "E 1 0 x I:1", "E 1 0 1", "E 1 0 1 I:5\nX a 2", "error Query\n"):
+        try:
+            raise AssertionError(f"{text!r} is taken for {entries_in(text)}")
+        except SiteRefused:
+            pass
 
 
 def replies_as_results():
@@ -422,7 +441,7 @@ CASES = [
     case("WebSites", web_sites.TESTS),
     case("WebKeys", web_keys.TESTS),
     case("WebClients", [
-        pythons_clients, curl, wrk, the_client_class, results_of_the_client_class, replies_as_results, calls_as_commands,
+        pythons_clients, curl, wrk, the_client_class, results_of_the_client_class, the_log_by_the_client_class, replies_as_results, calls_as_commands,
         commands_under_keys, names_and_ipv6, a_lost_answer_is_asked_for_again, a_lost_answer_without_a_key_is_not_asked_for_again,
         examples_to_copy, many_clients_of_three_sites, idle_connections,
     ]),

@@ -7,7 +7,7 @@ import time
 
 from cases import case
 from cluster import PATIENCE, Proxy, at, expect, reset_at_its_end, sees, wait_for
-from journal_kit import ENDS, Journaled, at_rest, batch, fault_of_keys, read_batches, records_of, shown
+from journal_kit import ENDS, Entry, Journaled, at_rest, batch, fault_of_keys, read_batches, records_of, shown
 from web_driver import WebCluster, request
 
 import rights_site
@@ -217,6 +217,40 @@ def keys_outlive_a_site(end):
         expect(keyed(sites), {"a": 1, "b": 2, "c": 3, "d": 4, "e": 6, "f": 7})
         sites.again(1, end)
         expect(sites[1].ask_all(["key f close", "key e issue 7", "close"]), ["number 7", "number 6", "error Closed"])
+
+
+def export_of(records):
+    """The export of the log of site 1 that keeps these records: each of its entries, and directly behind it its key."""
+    keys = {int(record.split(" ")[2]): record for record in records if record[0] == "X"}
+    entries = [record for record in records if record.startswith("E 1 ")]
+    return "".join(f"{entry}\n" + "".join(f"{key}\n" for key in [keys.get(Entry(entry).own)] if key) for entry in entries)
+
+
+@in_each_way
+def the_log_is_listed_as_the_journal_has_it(end):
+    """All that is listed is in the file already."""
+    with Journaled(2, started=[1]) as sites:
+
+        def listed():
+            with sites.client(1) as client:
+                answer = client.ask(request("GET", "/log"))
+            records = records_of(sites.content(1))
+            expect((answer.status, answer.body.decode()), (200, export_of(records)), f"with {end}")
+            return answer.body.decode()
+
+        for _ in range(2):
+            sites[1].ask_all(["issue 100", "key a issue 50", "key b spend 3 0", "take 1", "key c give 2 3", "key d spend 200 9", "key e issue 90", "tick 1"])
+            before = listed()
+            sites.again(1, end)
+            expect(listed(), before)
+        expect(before.splitlines()[:6], ["E 1 0 1 I:100", "E 1 1 2 I:50", "X a 2", "E 1 2 3 S:3", "X b 3", "E 1 3 4 S:1"])
+        sites.keys = 1
+        sites.again(1, end)
+        with sites.client(1) as client:
+            text = client.ask(request("GET", "/log")).body.decode()
+        lines = [line for line in before.splitlines() if line[0] == "E"]
+        expect([line for line in text.splitlines() if line[0] == "E"], lines, "without keys that were forgotten")
+        expect(("X d 7\n" in text, text.count("X ")), (True, 1))
 
 
 def keys_have_the_batches_of_their_entries():
@@ -612,7 +646,7 @@ CASES = [
         what_was_served_by_a_tick_stays, a_closed_site_stays_closed, metrics_are_those_of_the_journal,
         a_site_tells_how_far_its_journal_is,
         commands_at_the_end_are_kept, many_entries_are_read_again,
-        a_site_that_does_nothing_writes_nothing, keys_outlive_a_site, keys_have_the_batches_of_their_entries,
+        a_site_that_does_nothing_writes_nothing, keys_outlive_a_site, the_log_is_listed_as_the_journal_has_it, keys_have_the_batches_of_their_entries,
         keys_of_what_its_own_ticks_serve, keys_that_wait_or_expired_have_no_record, a_site_is_told_to_remember_more_keys,
         keys_may_stand_anywhere_behind_their_entries, many_keys_are_read_again, rights_that_were_given_are_received_once,
         a_peer_that_was_down_catches_up, an_entry_that_was_told_before_its_gift_was_lost, an_ask_outlives_its_site,

@@ -24,7 +24,7 @@ LONGEST_HEAD = 16_384
 MOST_FIELDS = 64
 # The server closes a connection that says nothing for so many seconds.
 IDLE = 60
-GETS = {"/": "text/html; charset=utf-8", "/status": "application/json", "/queue": "application/json", "/peers": "application/json", "/metrics": "text/plain; version=0.0.4", "/healthz": TEXT}
+GETS = {"/": "text/html; charset=utf-8", "/status": "application/json", "/queue": "application/json", "/peers": "application/json", "/log": TEXT, "/metrics": "text/plain; version=0.0.4", "/healthz": TEXT}
 
 # ---- requests
 
@@ -37,7 +37,8 @@ def each_target():
             head = client.ask(request("HEAD", target), is_head=True)
             expect_served(head, 200, b"", what=f"HEAD {target}")
             expect(head.headers.get("content-type"), kind, f"HEAD {target}")
-            if target != "/metrics":
+            # Where the body is empty, as that of a log without entries, `HEAD` says no length.
+            if target != "/metrics" and answer.body:
                 expect(head.headers.get("content-length"), str(len(answer.body)), f"HEAD {target}")
         expect(client.ask(request("GET", "/status")).body.decode(), sites[1].ask("status") + "\n")
         expect(client.ask(request("GET", "/healthz")).body.strip(), b"ok")

@@ -524,6 +524,60 @@ def what_is_known_of_the_other_sites():
         ], "site": 1})  # fmt: skip
 
 
+def listed(client, model, first=None):
+    """The export of the log from this number on, which is that of the model."""
+    target = "/log" if first is None else f"/log?from={first}"
+    answer = client.ask(request("GET", target))
+    expect_served(answer, 200, model.listing(first or 0), what=target)
+    head = client.ask(request("HEAD", target), is_head=True)
+    expect_served(head, 200, b"", what=f"HEAD {target}")
+    expect(head.headers.get("content-length"), str(len(answer.body)) if answer.body else None, f"HEAD {target}")
+    return answer.body.decode()
+
+
+def the_log_is_listed():
+    """As an independent model lists it, from each number on, with the keys that are remembered."""
+    model = RunningSite(1, 2, keys=3)
+    with alone(programs={1: [Cluster.program, "run", "--keys", "3"]}) as sites, sites.client() as client:
+        expect(listed(client, model), "")
+        for commands in (["issue 50", "key a give 2 5"], ["key b take 3", "spend 4 0", "x", "key c spend 60 9"],
+                         ["key d issue 40", "tick 1"], ["key e take 1", "key b take 3", "give 2 7"], ["close 2"]):  # fmt: skip
+            for command in commands:
+                expect(sites[1].ask(command).encode(), model.reply(command.encode()), command)
+            for first in (None, *range(sites[1].status()["number"] + 3), 2**63, 2**64 - 1):
+                listed(client, model, first)
+        expect(listed(client, model, 4), "E 1 3 4 S:4\nE 1 4 5 I:40\nE 1 5 6 S:60\nX c 6\nE 1 6 7 S:1\nX e 7\nE 1 7 8 S:3\nX b 8\n"
+               "E 1 8 9 R:2:7\nE 1 9 11 R:2:7 K:0:0\n")  # fmt: skip
+
+
+def a_long_log_is_listed_in_parts():
+    """Each part has 1,000 entries, and the next one begins behind it. What peers sent is not in it."""
+    with alone() as sites, sites.client() as client:
+        with Client(at(sites.ports[0])) as speaker:
+            speaker.send(b"H 2\nE 2 0 1 I:9\n")
+            wait_for("site 1 applied it", sees(sites[1], 2, applied=1))
+        commands, entries = ["issue 5000"], ["E 1 0 1 I:5000\n"]
+        for number in range(2, 2502, 2):
+            commands += ["take 1", f"key order-{number} take 2"]
+            entries += [f"E 1 {number - 1} {number} S:1\n", f"E 1 {number} {number + 1} S:2\nX order-{number} {number + 1}\n"]
+        expect(sites[1].ask_all(commands)[-1], "spent 2501")
+        for first, last in ((0, 1000), (1, 1000), (2, 1001), (1001, 2000), (1500, 2499), (1502, 2501), (2001, 2501), (2502, 2501)):
+            answer = client.ask(request("GET", f"/log?from={first}"))
+            expect_served(answer, 200, "".join(entries[max(first, 1) - 1 : last]).encode(), what=f"from {first} on")
+
+
+def queries_for_no_log():
+    """400, whatever else they have. Other targets have no queries."""
+    with alone() as sites, sites.client() as client:
+        client.command("issue 5")
+        for query in ("", "from", "from=", "from=-1", "from=+1", "from=01", "from=00", "from=1.0", "from=1=", "from==1", "from=1&", "from=1&from=1",
+                      "to=1", "From=1", "from=%31", "from=x", "from=18446744073709551616", "from=1?", "&from=1", "from=0x1"):  # fmt: skip
+            expect_served(client.ask(request("GET", f"/log?{query}")), 400, b"error Query\n", what=query)
+            expect_served(client.ask(request("HEAD", f"/log?{query}"), is_head=True), 400, b"", what=f"HEAD {query}")
+            expect_served(client.ask(request("POST", f"/log?{query}", b"")), 405, b"error Method\n", what=f"POST {query}")
+            expect_served(client.ask(request("GET", f"/healthz?{query}")), 200, b"ok\n", what=query)
+
+
 def a_site_that_gets_no_handles():
     """Connections that cannot be accepted wait for a handle, and so does the site, without using the processor."""
     with alone() as sites:
@@ -668,7 +722,7 @@ TESTS = [
     waits_whose_clients_have_gone, a_wait_whose_client_sends_no_more, waits_at_the_end, the_form_of_metrics, metrics_are_the_status,
     lines_of_a_peer_are_counted, lines_for_a_dead_peer_are_dropped, what_is_said_of_a_peer, nothing_is_said_unless_asked_for, a_peer_that_is_started_anew,
     entries_that_no_peer_was_sent, addresses_of_peers_that_cannot_be_resolved, a_site_is_started_once, addresses_that_cannot_be_listened_on, words_that_are_refused, a_site_without_http,
-    a_site_that_ticks_by_itself, nobody_else_ticks_a_site_that_ticks_by_itself, the_spends_that_wait_are_listed, what_is_known_of_the_other_sites,
+    a_site_that_ticks_by_itself, nobody_else_ticks_a_site_that_ticks_by_itself, the_spends_that_wait_are_listed, what_is_known_of_the_other_sites, the_log_is_listed, a_long_log_is_listed_in_parts, queries_for_no_log,
     a_site_that_gets_no_handles, requests_that_have_begun_are_answered, the_end_with_clients_that_never_end,
     a_site_at_rest_ends_at_once, the_report_adds_up, a_service_that_is_stopped,
 ]
