@@ -1,6 +1,7 @@
 //! A client of a site over a connection.
 ghost use Rattle.std.specs.Prelude.{◌≡◌, ◌+◌, ◌≤◌, ◌⊎◌, [], List, ℕ, length, Some, IfOk, OnOk, OnErr};
 ghost use Rattle.line_streams.specs.Waiting.{AddsReply};
+ghost use Rattle.site_words.specs.declared.commands.SiteCommand.TheVariants.{Bare};
 ghost use Rattle.site_server.specs.Connections.{Tells, TellsSettled, TellsBy};
 ghost use Rattle.site_server.specs.Replying.{under};
 
@@ -75,11 +76,30 @@ impl<D: DeskNames, R: Wait, P: Peers + Drop, B: TickSignal + Drop> SiteClient<'_
         ensures err { OnErr result (self.new ≡ self.old) }
     {
         match command {
-            SiteCommand::Bare(BareCommand::AtDesk(command)) => self.settle_command(
-                command, replies,
-            ),
+            SiteCommand::Bare(command) => self.settle_bare(command, replies),
             SiteCommand::Keyed(key, command) => self.settle_keyed(key, command, replies),
-            other => self.tell(Some(other), replies),
+            SiteCommand::BadKey => self.tell(Some(SiteCommand::BadKey), replies),
+        }
+    }
+
+    /// The same for a command with no key.
+    fn settle_bare(
+        &mut self,
+        command: BareCommand,
+        replies: &mut Replies<Global>,
+    ) -> Result<Answered, OutOfMemory>
+        requires { replies.old.part ≡ [] }
+        ensures ok { IfOk result (λ how. (text : List ℕ)
+            × TellsSettled P.size P.sends P.stops (B.has_ended self.old.signal) (B.has_left self.old.signal) D.id
+            (Some (Bare command)) self.old.seat self.old.peers
+            (record { text = text; how = how }) self.new.seat self.new.peers × AddsReply replies.old replies.new text) }
+        ensures short { OnOk result ((length replies.new.whole ≤ length replies.old.whole + TICK_ROOM)
+            ⊎ (self.new ≡ self.old)) }
+        ensures err { OnErr result (self.new ≡ self.old) }
+    {
+        match command {
+            BareCommand::AtDesk(command) => self.settle_command(command, replies),
+            other => self.tell(Some(SiteCommand::Bare(other)), replies),
         }
     }
 
