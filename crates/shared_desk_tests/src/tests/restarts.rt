@@ -2,7 +2,6 @@
 use crate::tests::desks::{alone, applier_at, report_of, seat_at, with_applied, with_seat};
 use crate::tests::links::{feed, link};
 use crate::tests::scenes::{Host, Scene, play};
-use apply_lanes::laws::taken_in;
 use apply_lanes::{Applied, Applier, DeskNames, Free, Report, Seat, SharedDesk, StepError};
 use entry_codec::read_line;
 use rights_types::{Ask, Message, SiteId};
@@ -84,13 +83,13 @@ fn apply_again<D: DeskNames, R: Host>(
 // What the peer's applier reports, once it has applied the gift again, and no other entry.
 fn gift<D: DeskNames, R: Host>(rt: &R, desk: &SharedDesk<D>) -> Applied<D> {
     let (intake, outlet) = link(rt, rt.alloc(), 2, 2);
-    let intake = feed(rt, intake, GIFT);
+    let _intake = feed(rt, intake, GIFT);
     let mut applier = applier_at(rt, desk, 2, outlet, Free);
     assert!(rt; applier.fill_soon(rt) == Ok(true));
     assert!(rt; apply_again(rt, desk, &mut applier, OTHER) == Err(StepError::OutOfStep));
     assert!(rt; apply_again(rt, desk, &mut applier, GIFT) == Ok(()));
     assert!(rt; apply_again(rt, desk, &mut applier, GIFT) == Err(StepError::OutOfStep));
-    taken_in(intake, applier).done()
+    applier.done()
 }
 
 // Whether the ask to the peer is outstanding again.
